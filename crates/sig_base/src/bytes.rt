@@ -1,0 +1,54 @@
+//! `Bytes`: bytes that own their memory.
+ghost use Rattle.std.specs.Prelude.{◌≡◌, IfOk};
+
+use crate::memory::OutOfMemory;
+use std::alloc::Global;
+use std::marker::Model;
+
+/// Bytes that own their memory. Contracts see the list of them.
+#[derive(Drop)]
+pub struct Bytes {
+    held: Vec<u8>,
+}
+
+impl Model for Bytes {
+    ghost use Rattle.std.specs.Prelude.{ℕ, List};
+
+    ghost Value = { List ℕ };
+
+    ghost view = { λ b. b.held.items };
+}
+
+impl Bytes {
+    /// A copy of these bytes. Refuses for want of memory alone.
+    pub fn copy_of(alloc: Global, bytes: &[u8]) -> Result<Bytes, OutOfMemory>
+        ensures { IfOk result (λ b. b ≡ bytes.now) }
+    {
+        let held = Vec::from_slice(alloc, bytes)?;
+        Ok(Bytes { held })
+    }
+
+    /// The bytes.
+    pub fn as_slice(&self) -> &[u8]
+        ensures { result.now ≡ self.now }
+    {
+        self.held.as_slice()
+    }
+
+    /// The same bytes in memory of their own. Refuses for want of memory alone.
+    pub fn copy(&self, alloc: Global) -> Result<Bytes, OutOfMemory>
+        ensures { IfOk result (λ b. b ≡ self.now) }
+    {
+        Bytes::copy_of(alloc, self.as_slice())
+    }
+}
+
+impl From<Vec<u8>> for Bytes {
+    ghost from_gives = { λ v b. b ≡ v.items };
+
+    fn from(held: Vec<u8>) -> Bytes
+        ensures { result ≡ held.items }
+    {
+        Bytes { held }
+    }
+}

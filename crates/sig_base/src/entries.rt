@@ -1,0 +1,72 @@
+//! `Entries`: a list of byte strings that own their memory, as the entries of a log.
+ghost use Rattle.std.specs.Prelude.{◌≡◌, ◌++◌, [], ◌∷◌, length, IfOk, OnOk, OnErr, slice_get, option_map};
+
+use crate::bytes::Bytes;
+use crate::memory::OutOfMemory;
+use crate::register::Register;
+use std::alloc::Global;
+use std::marker::Model;
+
+/// Byte strings in order. Contracts see the list of their bytes.
+#[derive(Drop)]
+pub struct Entries {
+    alloc: Global,
+    items: Register<Bytes>,
+}
+
+impl Model for Entries {
+    ghost use Rattle.std.specs.Prelude.{ℕ, List};
+
+    ghost Value = { List (List ℕ) };
+
+    ghost view = { λ e. e.items };
+}
+
+impl Entries {
+    /// A list without entries. It takes no memory.
+    pub fn new(alloc: Global) -> Entries
+        ensures { result ≡ [] }
+    {
+        Entries {
+            alloc,
+            items: Register::new(alloc),
+        }
+    }
+
+    /// Adds a copy of an entry at the end. Refuses for want of memory alone; the list is then as before.
+    pub fn push(&mut self, entry: &[u8]) -> Result<(), OutOfMemory>
+        ensures ok { OnOk result (self.new ≡ self.old ++ entry.now ∷ []) }
+        ensures err { OnErr result (self.new ≡ self.old) }
+    {
+        let copied = Bytes::copy_of(self.alloc, entry)?;
+        self.items.push(copied)
+    }
+
+    /// How many entries there are.
+    pub fn len(&self) -> usize
+        ensures { result ≡ length self.now }
+    {
+        self.items.len()
+    }
+
+    /// The entry at a place, counted from 0; none where the place is not below the length.
+    pub fn get(&self, place: usize) -> Option<&[u8]>
+        ensures { option_map (λ e. e.now) result ≡ slice_get self.now place }
+    {
+        match self.items.get(place) {
+            Some(entry) => Some(entry.as_slice()),
+            None => None,
+        }
+    }
+
+    /// The same list in memory of its own. Refuses for want of memory alone.
+    pub fn copy(&self, alloc: Global) -> Result<Entries, OutOfMemory>
+        ensures { IfOk result (λ e. e ≡ self.now) }
+    {
+        let mut copied = Entries::new(alloc);
+        for entry in self.items.as_slice() {
+            copied.push(entry.as_slice())?;
+        }
+        Ok(copied)
+    }
+}

@@ -1,0 +1,116 @@
+//! The small errors that more than one crate names: each variant is one cause.
+use thiserror::Error;
+
+/// Why bytes are no DER element, or no value of the wanted kind. No memory is taken where it comes from.
+#[derive(Clone, Copy, Debug, PartialEq, Eq, Error)]
+pub enum DerError {
+    /// Bytes are missing.
+    #[error("Truncated")]
+    Truncated,
+    /// The tag's low five bits are all ones: it would go on in further bytes.
+    #[error("LongTag")]
+    LongTag,
+    /// The length is indefinite, longer than four bytes, or not minimal.
+    #[error("Length")]
+    Length,
+    /// Bytes follow the element.
+    #[error("Trailing")]
+    Trailing,
+    /// The element has another tag.
+    #[error("WrongTag")]
+    WrongTag,
+    /// The content is no value of the element's type.
+    #[error("Value")]
+    Value,
+}
+
+/// Why a text is no signed checkpoint: the rule of the checkpoint format that is broken first.
+#[derive(Clone, Copy, Debug, PartialEq, Eq, Error)]
+pub enum CheckpointFault {
+    /// No empty line ends a note text.
+    #[error("Format")]
+    Format,
+    /// A signature does not start with an em dash (U+2014).
+    #[error("NoDash")]
+    NoDash,
+    /// A signature does not have three parts between single spaces.
+    #[error("SignatureFormat")]
+    SignatureFormat,
+    /// A signature's third part is not base64.
+    #[error("SignatureBase64")]
+    SignatureBase64,
+    /// A signature has fewer than four bytes.
+    #[error("SignatureLength")]
+    SignatureLength,
+    /// The note has fewer than three lines.
+    #[error("NoteFormat")]
+    NoteFormat,
+    /// The origin is only white space.
+    #[error("EmptyOrigin")]
+    EmptyOrigin,
+    /// The size is no decimal below 2^64.
+    #[error("Size")]
+    Size,
+    /// The hash is not base64.
+    #[error("HashBase64")]
+    HashBase64,
+    /// The hash does not have 32 bytes.
+    #[error("HashLength")]
+    HashLength,
+}
+
+/// Why a pool has no issuing anchor for a certificate, or could not be made.
+#[derive(Clone, Copy, Debug, PartialEq, Eq, Error)]
+pub enum PoolError {
+    /// The certificate at this place of the list is no anchor.
+    #[error("Anchor")]
+    Anchor(usize),
+    /// The leaf does not meet the certificate profile.
+    #[error("Malformed")]
+    Malformed,
+    /// No anchor issued the leaf.
+    #[error("VerificationFailed")]
+    VerificationFailed,
+    /// No memory could be had.
+    #[error("OutOfMemory")]
+    OutOfMemory,
+}
+
+/// Why a text is no identity token of Sigstore.
+#[derive(Clone, Copy, Debug, PartialEq, Eq, Error)]
+pub enum TokenFault {
+    /// The text is not three parts joined by points.
+    #[error("NotThreeParts")]
+    NotThreeParts,
+    /// The second part is not unpadded base64.
+    #[error("ClaimsBase64")]
+    ClaimsBase64,
+    /// The second part's bytes are no object of claims.
+    #[error("ClaimsJson")]
+    ClaimsJson,
+    /// The audience is not `sigstore`.
+    #[error("NotSigstore")]
+    NotSigstore,
+}
+
+/// Why a client's trust configuration could not be used.
+#[derive(Clone, Copy, Debug, PartialEq, Eq, Error)]
+pub enum PkiFault {
+    /// The bytes are no client configuration.
+    #[error("NotReadable")]
+    NotReadable,
+    /// The configuration has no trusted root.
+    #[error("TrustedRootMissing")]
+    TrustedRootMissing,
+}
+
+/// The part of a trusted root that has nothing to offer at the time asked.
+#[derive(Clone, Copy, Debug, PartialEq, Eq, Error)]
+pub enum TrustPart {
+    /// No certificate authority.
+    #[error("Fulcio")]
+    Fulcio,
+    /// No certificate log.
+    #[error("Ctfe")]
+    Ctfe,
+}

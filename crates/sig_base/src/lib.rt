@@ -1,0 +1,21 @@
+//! What every crate of the house stands on: bytes, texts and lists that own their memory, the errors, and the traits of the outside.
+//!
+//! The layer above uses three facts. A register is the list of what was pushed, and a refused push changes nothing. A fault of a source or a
+//! sink comes only where its count of faults rose. A signature check is a predicate of the bytes that it is handed.
+#![tactic(auto)]
+
+mod bytes;
+mod entries;
+mod fault;
+mod memory;
+mod register;
+mod text;
+mod unexpected;
+
+pub use bytes::Bytes;
+pub use entries::Entries;
+pub use fault::{CheckpointFault, DerError, PkiFault, PoolError, TokenFault, TrustPart};
+pub use memory::OutOfMemory;
+pub use register::{Hashes, Numbers, Register};
+pub use text::Text;
+pub use unexpected::UnexpectedKind;

@@ -1,0 +1,83 @@
+//! `Register`: a list of values that own their memory, as hashes, numbers, signatures.
+ghost use Rattle.std.specs.Prelude.{◌≡◌, ◌++◌, [], ◌∷◌, length, IfOk, OnOk, OnErr, slice_get};
+ghost use Rattle.std.specs.Option.{option_copied};
+
+use crate::memory::OutOfMemory;
+use std::alloc::Global;
+use std::marker::Model;
+
+/// A list that grows at its end. Contracts see the list of what was pushed.
+#[derive(Drop)]
+pub struct Register<T> {
+    items: Vec<T>,
+}
+
+/// SHA-256 hashes in order.
+pub type Hashes = Register<[u8; 32]>;
+
+/// Places and counts in order.
+pub type Numbers = Register<usize>;
+
+impl<T> Model for Register<T> {
+    ghost use Rattle.std.specs.Prelude.{List};
+    ghost use Rattle.std.specs.Coded.{coded_list};
+
+    ghost Value = { List T };
+
+    ghost coded = { coded_list T.code };
+
+    ghost view = { λ r. r.items.items };
+}
+
+impl<T> Register<T> {
+    /// A list without elements. It takes no memory.
+    pub fn new(alloc: Global) -> Register<T>
+        ensures { result ≡ [] }
+    {
+        Register {
+            items: Vec::new(alloc),
+        }
+    }
+
+    /// How many elements there are.
+    pub fn len(&self) -> usize
+        ensures { result ≡ length self.now }
+    {
+        self.items.len()
+    }
+
+    /// The elements in order.
+    pub fn as_slice(&self) -> &[T]
+        ensures { result.now ≡ self.now }
+    {
+        self.items.as_slice()
+    }
+
+    /// The element at a place, counted from 0; none where the place is not below the length.
+    pub fn get(&self, place: usize) -> Option<&T>
+        ensures { option_copied result ≡ slice_get self.now place }
+    {
+        self.items.as_slice().get(place)
+    }
+}
+
+impl<T: Drop> Register<T> {
+    /// Adds an element at the end. Refuses for want of memory alone; the list is then as before.
+    pub fn push(&mut self, item: T) -> Result<(), OutOfMemory>
+        ensures ok { OnOk result (self.new ≡ self.old ++ item ∷ []) }
+        ensures err { OnErr result (self.new ≡ self.old) }
+    {
+        self.items.push(item)?;
+        Ok(())
+    }
+}
+
+impl<T: Copy> Register<T> {
+    /// The same list in memory of its own. Refuses for want of memory alone.
+    pub fn copy(&self, alloc: Global) -> Result<Register<T>, OutOfMemory>
+        ensures { IfOk result (λ r. r ≡ self.now) }
+    {
+        let items = Vec::from_slice(alloc, self.items.as_slice())?;
+        Ok(Register { items })
+    }
+}

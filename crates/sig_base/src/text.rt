@@ -1,0 +1,54 @@
+//! `Text`: text that owns its memory.
+ghost use Rattle.std.specs.Prelude.{◌≡◌, IfOk, string_bytes};
+
+use crate::memory::OutOfMemory;
+use std::alloc::Global;
+use std::marker::Model;
+
+/// Text that owns its memory. Contracts see the list of its UTF-8 bytes.
+#[derive(Drop)]
+pub struct Text {
+    held: String,
+}
+
+impl Model for Text {
+    ghost use Rattle.std.specs.Prelude.{ℕ, List, string_bytes};
+
+    ghost Value = { List ℕ };
+
+    ghost view = { λ t. string_bytes t.held };
+}
+
+impl Text {
+    /// A copy of this text. Refuses for want of memory alone.
+    pub fn copy_of(alloc: Global, text: &str) -> Result<Text, OutOfMemory>
+        ensures { IfOk result (λ t. t ≡ text.now) }
+    {
+        let held = String::from_str(alloc, text)?;
+        Ok(Text { held })
+    }
+
+    /// The text.
+    pub fn as_str(&self) -> &str
+        ensures { result.now ≡ self.now }
+    {
+        self.held.as_str()
+    }
+
+    /// The same text in memory of its own. Refuses for want of memory alone.
+    pub fn copy(&self, alloc: Global) -> Result<Text, OutOfMemory>
+        ensures { IfOk result (λ t. t ≡ self.now) }
+    {
+        Text::copy_of(alloc, self.as_str())
+    }
+}
+
+impl From<String> for Text {
+    ghost from_gives = { λ s t. t ≡ string_bytes s };
+
+    fn from(held: String) -> Text
+        ensures { result ≡ string_bytes held }
+    {
+        Text { held }
+    }
+}

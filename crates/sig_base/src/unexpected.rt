@@ -1,0 +1,105 @@
+//! `UnexpectedKind`: what was not as a call expects it.
+use std::fmt;
+
+/// What was not as the call expects it, in the order in which the calls of a bundle look at it.
+#[derive(Clone, Copy, Debug, PartialEq, Eq)]
+pub enum UnexpectedKind {
+    /// The bytes are no bundle.
+    BundleUnreadable,
+    /// The content is no envelope.
+    ContentNotDsse,
+    /// The envelope's payload type is another one.
+    PayloadType,
+    /// The payload is no in-toto statement.
+    Statement,
+    /// The statement's type is another one.
+    StatementType,
+    /// The predicate's type is another one.
+    PredicateType,
+    /// The statement has no subject.
+    NoSubjects,
+    /// The first subject has no SHA-256 digest.
+    FirstSubjectWithoutSha256,
+    /// The subject's digest is another one.
+    SubjectDigest,
+    /// The envelope has this number of signatures, which is not one.
+    SignatureCount(usize),
+    /// The bundle has no verification material.
+    MaterialMissing,
+    /// The verification material is no single certificate.
+    MaterialNotCertificate,
+    /// The bundle has this number of log entries, which is not one.
+    EntryCount(usize),
+    /// No keys of a log were handed in.
+    KeysMissing,
+    /// The log entry has no log id.
+    LogIdMissing,
+    /// The log entry has no inclusion promise.
+    PromiseMissing,
+    /// An integer of the promise has no exact spelling in canonical JSON.
+    PromiseInteger,
+    /// The checker refuses the inclusion promise.
+    Promise,
+    /// There is no inclusion proof.
+    ProofMissing,
+    /// The proof's root does not have 32 bytes.
+    RootLength,
+    /// The hash at this place of the proof does not have 32 bytes.
+    HashLength(usize),
+    /// The tree size is negative.
+    TreeSize,
+    /// The proof has no checkpoint.
+    CheckpointMissing,
+    /// The proof's texts could not be read.
+    ProofConversion,
+    /// The body has no canonical JSON.
+    CanonicalBody,
+    /// The log body speaks of another signature, key or digest.
+    Body,
+    /// The layer's bytes are no simple signing document.
+    LayerUnreadable,
+    /// The layer speaks of another image.
+    ImageDigest,
+}
+
+impl UnexpectedKind {
+    /// The variant's name, which is also what Display writes.
+    pub fn name(self) -> &'static str {
+        match self {
+            UnexpectedKind::BundleUnreadable => "BundleUnreadable",
+            UnexpectedKind::ContentNotDsse => "ContentNotDsse",
+            UnexpectedKind::PayloadType => "PayloadType",
+            UnexpectedKind::Statement => "Statement",
+            UnexpectedKind::StatementType => "StatementType",
+            UnexpectedKind::PredicateType => "PredicateType",
+            UnexpectedKind::NoSubjects => "NoSubjects",
+            UnexpectedKind::FirstSubjectWithoutSha256 => "FirstSubjectWithoutSha256",
+            UnexpectedKind::SubjectDigest => "SubjectDigest",
+            UnexpectedKind::SignatureCount(_) => "SignatureCount",
+            UnexpectedKind::MaterialMissing => "MaterialMissing",
+            UnexpectedKind::MaterialNotCertificate => "MaterialNotCertificate",
+            UnexpectedKind::EntryCount(_) => "EntryCount",
+            UnexpectedKind::KeysMissing => "KeysMissing",
+            UnexpectedKind::LogIdMissing => "LogIdMissing",
+            UnexpectedKind::PromiseMissing => "PromiseMissing",
+            UnexpectedKind::PromiseInteger => "PromiseInteger",
+            UnexpectedKind::Promise => "Promise",
+            UnexpectedKind::ProofMissing => "ProofMissing",
+            UnexpectedKind::RootLength => "RootLength",
+            UnexpectedKind::HashLength(_) => "HashLength",
+            UnexpectedKind::TreeSize => "TreeSize",
+            UnexpectedKind::CheckpointMissing => "CheckpointMissing",
+            UnexpectedKind::ProofConversion => "ProofConversion",
+            UnexpectedKind::CanonicalBody => "CanonicalBody",
+            UnexpectedKind::Body => "Body",
+            UnexpectedKind::LayerUnreadable => "LayerUnreadable",
+            UnexpectedKind::ImageDigest => "ImageDigest",
+        }
+    }
+}
+
+impl fmt::Display for UnexpectedKind {
+    fn fmt<W: fmt::Write>(&self, f: &mut fmt::Formatter<W>) -> fmt::Result {
+        f.write_str(self.name())
+    }
+}
