@@ -6,16 +6,20 @@
 
 mod bytes;
 mod entries;
+mod error;
 mod fault;
 mod memory;
+mod merkle_error;
 mod register;
 mod text;
 mod unexpected;
 
 pub use bytes::Bytes;
 pub use entries::Entries;
+pub use error::{Result, SigstoreError};
 pub use fault::{CheckpointFault, DerError, PkiFault, PoolError, TokenFault, TrustPart};
 pub use memory::OutOfMemory;
+pub use merkle_error::{MerkleProofError, RootHex};
 pub use register::{Hashes, Numbers, Register};
 pub use text::Text;
 pub use unexpected::UnexpectedKind;

@@ -3,6 +3,7 @@ ghost use Rattle.std.specs.Prelude.{◌≡◌, IfOk, string_bytes};
 
 use crate::memory::OutOfMemory;
 use std::alloc::Global;
+use std::fmt;
 use std::marker::Model;
 
 /// Text that owns its memory. Contracts see the list of its UTF-8 bytes.
@@ -50,5 +51,11 @@ impl From<String> for Text {
         ensures { result ≡ string_bytes held }
     {
         Text { held }
+    }
+}
+
+impl fmt::Debug for Text {
+    fn fmt<W: fmt::Write>(&self, f: &mut fmt::Formatter<W>) -> fmt::Result {
+        fmt::Debug::fmt(self.as_str(), f)
     }
 }

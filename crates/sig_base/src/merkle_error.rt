@@ -1,0 +1,68 @@
+//! Why a proof in an RFC 6962 tree is refused.
+use std::fmt;
+use thiserror::Error;
+
+/// A refusal of an inclusion or a consistency proof (RFC 6962 sections 2.1.1 and 2.1.2).
+///
+/// Its text is the name of its variant; what it keeps is in its fields.
+#[derive(Clone, Copy, Debug, PartialEq, Eq, Error)]
+pub enum MerkleProofError {
+    /// The root that the proof leads to, `expected`, is not the root that was handed in, `got`.
+    #[error("MismatchedRoot")]
+    MismatchedRoot { expected: RootHex, got: RootHex },
+    /// The index is not below the size of the tree.
+    #[error("IndexGtTreeSize")]
+    IndexGtTreeSize,
+    /// The trees leave nothing to prove, and the proof has hashes.
+    #[error("UnexpectedNonEmptyProof")]
+    UnexpectedNonEmptyProof,
+    /// The trees differ, and the proof has no hash.
+    #[error("UnexpectedEmptyProof")]
+    UnexpectedEmptyProof,
+    /// The new tree has fewer leaves than the old.
+    #[error("NewTreeSmaller")]
+    NewTreeSmaller { new: u64, old: u64 },
+    /// The proof has `got` hashes, and a proof for these sizes has `want`.
+    #[error("WrongProofSize")]
+    WrongProofSize { got: u64, want: u64 },
+    /// The old tree is empty, and its root is not the hash of nothing.
+    #[error("WrongEmptyTreeHash")]
+    WrongEmptyTreeHash,
+}
+
+/// A root as an error shows it: 64 lower case hexadecimal digits.
+#[derive(Clone, Copy, Debug, PartialEq, Eq)]
+pub struct RootHex {
+    /// The 32 bytes of the root.
+    pub root: [u8; 32],
+}
+
+impl fmt::Display for RootHex {
+    fn fmt<W: fmt::Write>(&self, f: &mut fmt::Formatter<W>) -> fmt::Result {
+        for byte in self.root {
+            write!(f, "{byte:02x}")?;
+        }
+        Ok(())
+    }
+}
+
+#[cfg(test)]
+mod tests {
+    use super::*;
+    use std::test::Fail;
+
+    #[test]
+    fn shows_digits_and_names(rt: HostRuntime) -> Result<(), Fail> {
+        let mut root = [0xa0; 32];
+        root[0] = 0x0f;
+        let shown = format!(in rt.alloc(); "{}", RootHex { root })?;
+        assert_eq!(rt; shown.len(), 64);
+        assert_eq!(rt; shown.as_str().starts_with("0fa0a0"), true);
+        let refusal = MerkleProofError::WrongProofSize { got: 1, want: 2 };
+        assert_eq!(rt;
+            format!(in rt.alloc(); "{refusal}")?.as_str(),
+            "WrongProofSize"
+        );
+        Ok(())
+    }
+}
