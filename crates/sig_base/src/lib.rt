@@ -6,6 +6,7 @@
 
 mod bytes;
 mod entries;
+mod equality;
 mod error;
 mod fault;
 mod memory;
