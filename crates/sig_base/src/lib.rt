@@ -12,6 +12,8 @@ mod fault;
 mod memory;
 mod merkle_error;
 mod register;
+#[cfg(test)]
+mod tests;
 mod text;
 mod unexpected;
 
