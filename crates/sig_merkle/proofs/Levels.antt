@@ -1,0 +1,76 @@
+-- Recursions on the size of a tree that go down by levels: any level that is high enough gives
+-- the same, and every size is made of its halves.
+use Rattle.std.proofs.Common.{◌≡◌, ℕ, zero, suc, ◌+◌, ◌-◌, ◌*◌, ◌^◌, ◌<◌, ◌≤◌, ◌⊎◌, refl, sym, ◌∙◌, ap, subst, inl, inr, arith, add-zero, add-suc}
+use Rattle.std.proofs.Math.Nat.{pow-suc, pow-le-pow_right}
+use Rattle.std.proofs.lemmas.Bool.{cases_lt}
+use Rattle.std.proofs.lemmas.Nat.{pow_below}
+use Rattle.sig_merkle.specs.Split.{IsSplit}
+
+-- n is below 2 to the power n, so a tree of n leaves needs n levels at most
+pub below_pow : (n : ℕ) → n < 2 ^ n
+below_pow zero = omega arith
+below_pow (suc n) = omega (arith, pow-suc 2 n, below_pow n)
+
+pub within_pow : (n : ℕ) → n ≤ 2 ^ n
+within_pow n = omega (arith, below_pow n)
+
+higher_level : {X : Type 0} (f : ℕ → X) (n : ℕ) → ((e : ℕ) → n ≤ 2 ^ e → f (suc e) ≡ f e) → (k e : ℕ) → n ≤ 2 ^ e → f (e + k) ≡ f e
+higher_level f n step zero e fits = ap f (add-zero e)
+higher_level f n step (suc k) e fits =
+    let grown : 2 ^ e ≤ 2 ^ (e + k) = pow-le-pow_right (omega arith) (omega arith) in
+    rw add-suc (step (e + k) (omega arith) ∙ higher_level f n step k e fits)
+
+-- where one level more changes nothing, all levels that are high enough give the same
+pub same_level : {X : Type 0} (f : ℕ → X) (n : ℕ) → ((e : ℕ) → n ≤ 2 ^ e → f (suc e) ≡ f e) → (d e : ℕ) → n ≤ 2 ^ d → n ≤ 2 ^ e → f d ≡ f e
+same_level f n step d e fits_d fits_e =
+    elim (cases_lt d e) [
+        inl d_lt ↦ (let same : d + (e - d) ≡ e = omega arith in sym (higher_level f n step (e - d) d fits_d) ∙ ap f same)
+        | inr e_le ↦ (let same : e + (d - e) ≡ d = omega arith in sym (ap f same) ∙ higher_level f n step (d - e) e fits_e)
+    ]
+
+split_below : (e n : ℕ) → n ≤ 2 ^ e → 1 < n → (k : ℕ) × IsSplit n k
+split_below zero n fits more = absurd (omega arith)
+split_below (suc e) n fits more =
+    let double = pow-suc 2 e in
+    elim (cases_lt (2 ^ e) n) [
+        inl below ↦ (2 ^ e, record { exponent = e; power = refl; below = below; largest = omega arith })
+        | inr within ↦ split_below e n within more
+    ]
+
+pub split_of : (n : ℕ) → 1 < n → (k : ℕ) × IsSplit n k
+split_of n more = split_below n n (within_pow n) more
+
+exponent_le : (n d e : ℕ) → 2 ^ d < n → n ≤ 2 * 2 ^ e → d ≤ e
+exponent_le n d e below largest =
+    elim (cases_lt e d) [
+        inl e_lt ↦ absurd (let grown : 2 ^ suc e ≤ 2 ^ d = pow-le-pow_right (omega arith) (omega arith) in omega (arith, pow-suc 2 e))
+        | inr d_le ↦ d_le
+    ]
+
+pub split_unique : (n j k : ℕ) → IsSplit n j → IsSplit n k → j ≡ k
+split_unique n j k s t =
+    let s_below : 2 ^ s.exponent < n = rw (← s.power) s.below in
+    let t_below : 2 ^ t.exponent < n = rw (← t.power) t.below in
+    let s_largest : n ≤ 2 * 2 ^ s.exponent = rw (← s.power) s.largest in
+    let t_largest : n ≤ 2 * 2 ^ t.exponent = rw (← t.power) t.largest in
+    let up = exponent_le n s.exponent t.exponent s_below t_largest in
+    let down = exponent_le n t.exponent s.exponent t_below s_largest in
+    let same : s.exponent ≡ t.exponent = omega arith in
+    s.power ∙ ap (λ e. 2 ^ e) same ∙ sym t.power
+
+halves : (P : ℕ → Type 0) → P 0 → P 1 → ((n k : ℕ) → IsSplit n k → P k → P (n - k) → P n) → (e n : ℕ) → n ≤ 2 ^ e → P n
+halves P none one join zero n fits =
+    elim (cases_lt n 1) [
+        inl empty ↦ (let is : 0 ≡ n = omega arith in subst P is none)
+        | inr single ↦ (let is : 1 ≡ n = omega arith in subst P is one)
+    ]
+halves P none one join (suc e) n fits =
+    let double = pow-suc 2 e in
+    elim (cases_lt (2 ^ e) n) [
+        inl below ↦ join n (2 ^ e) (record { exponent = e; power = refl; below = below; largest = omega arith }) (halves P none one join e (2 ^ e) (omega arith)) (halves P none one join e (n - 2 ^ e) (omega arith))
+        | inr within ↦ halves P none one join e n within
+    ]
+
+-- what holds of no leaf and of one, and of a tree where it holds of both halves, holds of all
+pub by_size : (P : ℕ → Type 0) → P 0 → P 1 → ((n k : ℕ) → IsSplit n k → P k → P (n - k) → P n) → (n : ℕ) → P n
+by_size P none one join n = halves P none one join n n (within_pow n)

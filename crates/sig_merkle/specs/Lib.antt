@@ -1,0 +1,4 @@
+pub mod Split
+pub mod Root
+pub mod Path
+pub mod Inclusion

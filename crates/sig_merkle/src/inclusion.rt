@@ -1,0 +1,114 @@
+//! The check that a leaf is in a tree (RFC 6962 section 2.1.1).
+ghost use Rattle.std.specs.Prelude.{◌≡◌, ◌+◌, ◌<◌, ◌≤◌, ◌↔◌, length, Some, IsOk, OnOk, OnErr};
+ghost use Rattle.sig_merkle.specs.Path.{path_root, path_len};
+ghost use Rattle.sig_merkle.specs.Inclusion.{IsIncluded, inclusion_root, inclusion_answer, IsRootAnswer, IsInclusionAnswer, inclusion_steps};
+
+use crate::hashing::hash_step;
+use crate::split::split_point;
+use sig_base::{MerkleProofError, RootHex, Steps};
+use std::sync::ledger::Ledger;
+
+/// The root that an audit path leads to from the hash of the leaf at the index, in a tree of
+/// this size (RFC 6962 section 2.1.1). A step is one hash of two children.
+///
+/// `IndexGtTreeSize` where the index is not below the size; then `WrongProofSize` where the
+/// number of hashes is not that of such a path, with both numbers. A refusal takes no step.
+#[tactic(auto, using(crate::proofs::InclusionLaws::finds_root))]
+pub fn root_from_inclusion_proof<L: Ledger>(
+    index: u64,
+    leaf_hash: &[u8; 32],
+    tree_size: u64,
+    proof_hashes: &[[u8; 32]],
+    steps: &mut Steps<L>,
+) -> Result<[u8; 32], MerkleProofError>
+    ensures answer { result ≡ inclusion_root index leaf_hash.now tree_size proof_hashes.now }
+    ensures causes { IsRootAnswer index leaf_hash.now tree_size proof_hashes.now result }
+    ensures steps { OnOk result (steps.new ≡ steps.old + length proof_hashes.now) }
+    ensures no_steps { OnErr result (steps.new ≡ steps.old) }
+{
+    if index >= tree_size {
+        return Err(MerkleProofError::IndexGtTreeSize);
+    }
+    let got = proof_hashes.len() as u64;
+    let want = proof_len(index, tree_size);
+    if got != want {
+        return Err(MerkleProofError::WrongProofSize { got, want });
+    }
+    Ok(fold_path(index, leaf_hash, tree_size, proof_hashes, steps))
+}
+
+/// Checks that the leaf of this hash stands at the index of the tree of this size and root
+/// (RFC 6962 section 2.1.1). A step is one hash of two children.
+///
+/// `IndexGtTreeSize` where the index is not below the size; then `WrongProofSize` where the
+/// number of hashes is not that of such a path, with both numbers; then `MismatchedRoot` where
+/// the root that the path leads to, `expected`, is not the handed one, `got`.
+#[tactic(auto, using(crate::proofs::InclusionLaws::judges_root))]
+pub fn verify_inclusion<L: Ledger>(
+    index: u64,
+    leaf_hash: &[u8; 32],
+    tree_size: u64,
+    proof_hashes: &[[u8; 32]],
+    root_hash: &[u8; 32],
+    steps: &mut Steps<L>,
+) -> Result<(), MerkleProofError>
+    ensures answer { result
+        ≡ inclusion_answer index leaf_hash.now tree_size proof_hashes.now root_hash.now }
+    ensures ok { IsOk result
+        ↔ IsIncluded index leaf_hash.now tree_size proof_hashes.now root_hash.now }
+    ensures causes { IsInclusionAnswer index leaf_hash.now tree_size proof_hashes.now root_hash.now result }
+    ensures steps { steps.new ≡ steps.old + inclusion_steps result (length proof_hashes.now) }
+{
+    let root = root_from_inclusion_proof(index, leaf_hash, tree_size, proof_hashes, steps)?;
+    if root != *root_hash {
+        return Err(MerkleProofError::MismatchedRoot {
+            expected: RootHex { root },
+            got: RootHex { root: *root_hash },
+        });
+    }
+    Ok(())
+}
+
+/// The number of hashes of the path of the leaf at the index, at most 64.
+#[tactic(auto, using(crate::proofs::PathSteps::counts_path))]
+fn proof_len(index: u64, size: u64) -> u64
+    requires { index < size }
+    ensures value { result ≡ path_len index size }
+    ensures bound { result ≤ 64 }
+{
+    if size == 1 {
+        return 0;
+    }
+    let half = split_point(size);
+    if index < half {
+        proof_len(index, half) + 1
+    } else {
+        proof_len(index - half, size - half) + 1
+    }
+}
+
+/// The root of a path of the right number of hashes, from the root's children downward.
+fn fold_path<L: Ledger>(
+    index: u64,
+    leaf_hash: &[u8; 32],
+    size: u64,
+    proof_hashes: &[[u8; 32]],
+    steps: &mut Steps<L>,
+) -> [u8; 32]
+    requires index { index < size }
+    requires count { length proof_hashes.now ≡ path_len index size }
+    ensures root { path_root index leaf_hash.now size proof_hashes.now ≡ Some result }
+    ensures steps { steps.new ≡ steps.old + length proof_hashes.now }
+{
+    let Some((last, rest)) = proof_hashes.split_last() else {
+        return *leaf_hash;
+    };
+    let half = split_point(size);
+    if index < half {
+        let left = fold_path(index, leaf_hash, half, rest, steps);
+        hash_step(&left, last, steps)
+    } else {
+        let right = fold_path(index - half, leaf_hash, size - half, rest, steps);
+        hash_step(last, &right, steps)
+    }
+}

@@ -1,0 +1,55 @@
+//! The check of an inclusion proof for a caller that counts no steps.
+ghost use Rattle.std.specs.Prelude.{◌≡◌, ◌<◌, ◌↔◌, IsOk};
+ghost use Rattle.sig_merkle.specs.Inclusion.{IsIncluded, inclusion_answer, IsInclusionAnswer};
+
+use sig_base::{MerkleProofError, Steps};
+use std::marker::Brand;
+use std::sync::ledger::{Blank, Ledger};
+
+/// Checks that the leaf of this hash stands at the index of the tree of this size and root, as
+/// `verify_inclusion` of this crate does, with the same refusals.
+pub fn verify_inclusion(
+    index: u64,
+    leaf_hash: &[u8; 32],
+    tree_size: u64,
+    proof_hashes: &[[u8; 32]],
+    root_hash: &[u8; 32],
+) -> Result<(), MerkleProofError>
+    ensures answer { result
+        ≡ inclusion_answer index leaf_hash.now tree_size proof_hashes.now root_hash.now }
+    ensures ok { IsOk result
+        ↔ IsIncluded index leaf_hash.now tree_size proof_hashes.now root_hash.now }
+    ensures causes { IsInclusionAnswer index leaf_hash.now tree_size proof_hashes.now root_hash.now result }
+{
+    let blank = Blank::new(1);
+    verify_on::<Brand>(blank, index, leaf_hash, tree_size, proof_hashes, root_hash)
+}
+
+/// The check over a ledger of its own.
+fn verify_on<L: Ledger>(
+    blank: Blank,
+    index: u64,
+    leaf_hash: &[u8; 32],
+    tree_size: u64,
+    proof_hashes: &[[u8; 32]],
+    root_hash: &[u8; 32],
+) -> Result<(), MerkleProofError>
+    requires name { blank.name ≡ L.name }
+    requires parts { blank.parts ≡ L.parts }
+    requires some { 0 < blank.parts }
+    ensures answer { result
+        ≡ inclusion_answer index leaf_hash.now tree_size proof_hashes.now root_hash.now }
+    ensures ok { IsOk result
+        ↔ IsIncluded index leaf_hash.now tree_size proof_hashes.now root_hash.now }
+    ensures causes { IsInclusionAnswer index leaf_hash.now tree_size proof_hashes.now root_hash.now result }
+{
+    let mut steps = Steps::<L>::new(blank);
+    crate::inclusion::verify_inclusion(
+        index,
+        leaf_hash,
+        tree_size,
+        proof_hashes,
+        root_hash,
+        &mut steps,
+    )
+}
