@@ -5,6 +5,7 @@
 #![tactic(auto)]
 
 mod bytes;
+mod checker;
 mod entries;
 mod equality;
 mod error;
@@ -12,15 +13,18 @@ mod fault;
 mod memory;
 mod merkle_error;
 mod register;
+mod scheme;
 mod text;
 mod unexpected;
 
 pub use bytes::Bytes;
+pub use checker::{AcceptedRow, Operation, SignatureChecker, TableChecker};
 pub use entries::Entries;
 pub use error::{Result, SigstoreError};
 pub use fault::{CheckpointFault, DerError, PkiFault, PoolError, TokenFault, TrustPart};
 pub use memory::OutOfMemory;
 pub use merkle_error::{MerkleProofError, RootHex};
 pub use register::{Hashes, Numbers, Register};
+pub use scheme::{DEFAULT_KEY_SIZE, SigningScheme, UnknownScheme, VerifyScheme};
 pub use text::Text;
 pub use unexpected::UnexpectedKind;
