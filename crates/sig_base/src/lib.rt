@@ -5,28 +5,38 @@
 #![tactic(auto)]
 
 mod bytes;
+mod checker;
 mod entries;
 mod equality;
 mod error;
 mod fault;
 mod hash;
 mod memory;
+mod memory_sink;
+mod memory_source;
 mod merkle_error;
 mod register;
+mod scheme;
 mod steps;
+mod stream;
 #[cfg(test)]
 mod tests;
 mod text;
 mod unexpected;
 
 pub use bytes::Bytes;
+pub use checker::{AcceptedRow, Operation, SignatureChecker, TableChecker};
 pub use entries::Entries;
 pub use error::{Result, SigstoreError};
 pub use fault::{CheckpointFault, DerError, PkiFault, PoolError, TokenFault, TrustPart};
 pub use hash::sha256;
 pub use memory::OutOfMemory;
+pub use memory_sink::MemorySink;
+pub use memory_source::MemorySource;
 pub use merkle_error::{MerkleProofError, RootHex};
 pub use register::{Hashes, Numbers, Register};
+pub use scheme::{DEFAULT_KEY_SIZE, SigningScheme, UnknownScheme, VerifyScheme};
 pub use steps::Steps;
+pub use stream::{Failed, Sink, Source};
 pub use text::Text;
 pub use unexpected::UnexpectedKind;

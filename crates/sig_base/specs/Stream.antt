@@ -1,0 +1,35 @@
+-- What a source gives and a sink takes, and what a fault of either rests on. A source means the bytes that it has left, a sink those that
+-- it took so far, where they are told; and each a count of faults.
+use Rattle.std.specs.Prelude.{◌≡◌, ℕ, ◌+◌, ◌-◌, ◌^◌, ◌<◌, ◌≤◌, min, List, ◌++◌, length, drop, ⊤, Option, None, Some, Result, IfOk, OnErr}
+use Rattle.std.specs.Io.KnownBytes.{Consumes, Appends, IsAtEnd}
+
+-- the count of faults rose, or stood at its greatest value
+abbrev pub Rose : ℕ → ℕ → Type 0
+Rose before now = min (before + 1) (2 ^ 64 - 1) ≤ now
+
+-- the count of faults never falls, and a fault comes only where it rose
+pub record HasCause {T E : Type 0} (before now : ℕ) (result : Result T E) : Type 0 where
+  pub later : before ≤ now
+  pub failed : OnErr result (Rose before now)
+
+-- a piece that is not empty moves a byte
+abbrev pub Moves : {E : Type 0} → Result ℕ E → List ℕ → Type 0
+Moves result piece = IfOk result (λ count. 0 < length piece → 0 < count)
+
+-- these are all the bytes that were left, and the source is at its end
+pub record HandsOver (old new : Option (List ℕ)) (bytes : List ℕ) : Type 0 where
+  pub taken : Consumes old new bytes
+  pub ended : IsAtEnd new
+
+-- this many bytes were taken
+abbrev pub TookCount : Option (List ℕ) → Option (List ℕ) → ℕ → Type 0
+TookCount old new count = (bytes : List ℕ) × Consumes old new bytes × (length bytes ≡ count)
+
+-- the bytes that were taken are all that were left, or, where those are more, the first n of them: then the others are still left
+abbrev pub TakesUpTo : ℕ → Option (List ℕ) → Option (List ℕ) → List ℕ → Type 0
+TakesUpTo n None new bytes = ⊤
+TakesUpTo n (Some all) new bytes = (bytes ≡ all) × (new ≡ Some (drop n all))
+
+-- a prefix of the bytes was written, and nothing else
+abbrev pub AppendsFront : Option (List ℕ) → Option (List ℕ) → List ℕ → Type 0
+AppendsFront old new bytes = (front : List ℕ) × (rest : List ℕ) × (bytes ≡ front ++ rest) × Appends old new front

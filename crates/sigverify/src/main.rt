@@ -1,0 +1,7 @@
+//! `sigverify`
+#![tactic(auto)]
+
+mod read;
+mod write;
+
+fn main(_rt: HostRuntime) {}

@@ -1,0 +1,76 @@
+//! Reading a request.
+ghost use Rattle.std.specs.Prelude.{◌≡◌, ◌<◌, ◌≤◌, length, IfOk, IsErrOf};
+ghost use Rattle.sig_base.specs.Stream.{HandsOver, TookCount, Rose};
+
+use sig_base::{Bytes, Failed, Source};
+use std::alloc::{AllocError, Global};
+use thiserror::Error;
+
+/// A request has at most this many bytes, 2^24.
+pub const MOST_BYTES: usize = 16_777_216;
+
+/// No more bytes than this are ever taken: one more than a request may have shows that there are too many.
+pub const READ_LIMIT: usize = 16_777_217;
+
+/// How many bytes are asked for at a time.
+const PIECE: usize = 16_384;
+
+/// Why a request could not be read.
+#[derive(Clone, Copy, Debug, PartialEq, Eq, Error)]
+pub enum ReadFault {
+    /// A read failed; the source's count of faults rose.
+    #[error("Failed")]
+    Failed,
+    /// More than 2^24 bytes were left: 2^24 + 1 of them were taken.
+    #[error("TooLong")]
+    TooLong,
+    /// Memory ran out.
+    #[error("OutOfMemory")]
+    OutOfMemory,
+}
+
+impl From<Failed> for ReadFault {
+    ghost use Rattle.std.specs.Prelude.{◌≡◌};
+    ghost use Rattle.sigverify.specs.declared.read.ReadFault.TheVariants.{Failed as failed};
+
+    ghost from_gives = { λ _ fault. fault ≡ failed };
+
+    fn from(_failed: Failed) -> ReadFault {
+        ReadFault::Failed
+    }
+}
+
+impl From<AllocError> for ReadFault {
+    ghost use Rattle.std.specs.Prelude.{◌≡◌};
+    ghost use Rattle.sigverify.specs.declared.read.ReadFault.TheVariants.{OutOfMemory};
+
+    ghost from_gives = { λ _ fault. fault ≡ OutOfMemory };
+
+    fn from(_error: AllocError) -> ReadFault {
+        ReadFault::OutOfMemory
+    }
+}
+
+/// Reads all that the source has left, if that is at most 2^24 bytes. Each turn takes a byte, so that it ends for every source.
+///
+/// Refuses `TooLong` exactly after 2^24 + 1 bytes were taken, `Failed` only where the source's count of faults rose, and for want of memory.
+#[tactic(auto, using(crate::proofs::Reading::turns))]
+pub fn read_request<S: Source>(alloc: Global, source: &mut S) -> Result<Bytes, ReadFault>
+    ensures ok { IfOk result (λ bytes. HandsOver (S.left source.old) (S.left source.new) bytes) }
+    ensures short { IfOk result (λ bytes. length bytes < READ_LIMIT) }
+    ensures long { IsErrOf result ReadFault.TooLong → TookCount (S.left source.old) (S.left source.new) READ_LIMIT }
+    ensures failed { IsErrOf result ReadFault.Failed → Rose (S.faults source.old) (S.faults source.new) }
+    ensures later { S.faults source.old ≤ S.faults source.new }
+{
+    let mut bytes = Vec::new(alloc);
+    let mut buf = [0; PIECE];
+    'turns: while bytes.len() < READ_LIMIT {
+        let room = (READ_LIMIT - bytes.len()).min(PIECE);
+        let count = source.read(&mut buf[..room])?;
+        if count == 0 {
+            return Ok(Bytes::from(bytes));
+        }
+        bytes.extend_from_slice(&buf[..count])?;
+    }
+    Err(ReadFault::TooLong)
+}
