@@ -1,5 +1,5 @@
 -- The laws `path_roots` and `path_lens`: both are the recursion of RFC 6962 section 2.1.1.
-use Rattle.std.proofs.Common.{◌≡◌, ◌≢◌, ℕ, zero, suc, ◌+◌, ◌-◌, ◌*◌, ◌^◌, ◌<◌, ◌≤◌, ◌↔◌, true, false, Option, Some, None, option_map, MatchOption, IsSome, IsNone, List, [], ◌∷◌, ◌++◌, reverse, length, refl, sym, ◌∙◌, ap, subst, inl, inr, arith}
+use Rattle.std.proofs.Common.{◌≡◌, ◌≢◌, ℕ, zero, suc, ◌+◌, ◌-◌, ◌*◌, ◌^◌, ◌<◌, ◌≤◌, ◌↔◌, Option, Some, None, option_map, MatchOption, IsSome, IsNone, List, [], ◌∷◌, ◌++◌, reverse, length, refl, sym, ◌∙◌, inl, inr, arith}
 use Rattle.std.proofs.Math.Nat.{pow-suc}
 use Rattle.std.proofs.lemmas.Bool.{le-ltb, lt-ltb, cases_lt, false≢true}
 use Rattle.std.proofs.lemmas.List.{reverse-append, length-reverse}
@@ -99,11 +99,11 @@ unfolding path_len_at
 path_len_at-within zero index size = omega arith
 path_len_at-within (suc e) index size =
     elim (cases_lt (2 ^ e) size) [
-        inl below ↦ elim (cases_lt index (2 ^ e)) [
-            inl left ↦ rw (lt-ltb (2 ^ e) size below, lt-ltb index (2 ^ e) left) (omega (arith, path_len_at-within e index (2 ^ e)))
-            | inr right ↦ rw (lt-ltb (2 ^ e) size below, le-ltb index (2 ^ e) right) (omega (arith, path_len_at-within e (index - 2 ^ e) (size - 2 ^ e)))
-        ]
-        | inr within ↦ rw (le-ltb (2 ^ e) size within) (omega (arith, path_len_at-within e index size))
+      | inl below ↦ elim (cases_lt index (2 ^ e)) [
+        | inl left ↦ rw (lt-ltb (2 ^ e) size below, lt-ltb index (2 ^ e) left) (omega (arith, path_len_at-within e index (2 ^ e)))
+        | inr right ↦ rw (lt-ltb (2 ^ e) size below, le-ltb index (2 ^ e) right) (omega (arith, path_len_at-within e (index - 2 ^ e) (size - 2 ^ e)))
+      ]
+      | inr within ↦ rw (le-ltb (2 ^ e) size within) (omega (arith, path_len_at-within e index size))
     ]
 
 -- a size that is a `u64` needs 64 levels
@@ -136,11 +136,11 @@ unfolding path_root_at path_len_at
 path_root_at-fits zero index leaf size hashes = Fits-leaf leaf hashes
 path_root_at-fits (suc e) index leaf size hashes =
     elim (cases_lt (2 ^ e) size) [
-        inl below ↦ elim (cases_lt index (2 ^ e)) [
-            inl left ↦ rw (lt-ltb (2 ^ e) size below, lt-ltb index (2 ^ e) left) (Fits-right hashes (λ rest. path_root_at e index leaf (2 ^ e) rest) (path_len_at e index (2 ^ e)) (path_root_at-fits e index leaf (2 ^ e)))
-            | inr right ↦ rw (lt-ltb (2 ^ e) size below, le-ltb index (2 ^ e) right) (Fits-left hashes (λ rest. path_root_at e (index - 2 ^ e) leaf (size - 2 ^ e) rest) (path_len_at e (index - 2 ^ e) (size - 2 ^ e)) (path_root_at-fits e (index - 2 ^ e) leaf (size - 2 ^ e)))
-        ]
-        | inr within ↦ rw (le-ltb (2 ^ e) size within) (path_root_at-fits e index leaf size hashes)
+      | inl below ↦ elim (cases_lt index (2 ^ e)) [
+        | inl left ↦ rw (lt-ltb (2 ^ e) size below, lt-ltb index (2 ^ e) left) (Fits-right hashes (λ rest. path_root_at e index leaf (2 ^ e) rest) (path_len_at e index (2 ^ e)) (path_root_at-fits e index leaf (2 ^ e)))
+        | inr right ↦ rw (lt-ltb (2 ^ e) size below, le-ltb index (2 ^ e) right) (Fits-left hashes (λ rest. path_root_at e (index - 2 ^ e) leaf (size - 2 ^ e) rest) (path_len_at e (index - 2 ^ e) (size - 2 ^ e)) (path_root_at-fits e (index - 2 ^ e) leaf (size - 2 ^ e)))
+      ]
+      | inr within ↦ rw (le-ltb (2 ^ e) size within) (path_root_at-fits e index leaf size hashes)
     ]
 
 pub path_root-fits : (index size : ℕ) (leaf : List ℕ) (hashes : List (List ℕ)) → MatchOption (path_root index leaf size hashes) (length hashes ≢ path_len index size) (λ _. length hashes ≡ path_len index size)

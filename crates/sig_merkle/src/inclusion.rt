@@ -43,7 +43,7 @@ pub fn root_from_inclusion_proof<L: Ledger>(
 /// `IndexGtTreeSize` where the index is not below the size; then `WrongProofSize` where the
 /// number of hashes is not that of such a path, with both numbers; then `MismatchedRoot` where
 /// the root that the path leads to, `expected`, is not the handed one, `got`.
-#[tactic(auto, using(crate::proofs::InclusionLaws::judges_root))]
+#[tactic(auto, using(crate::proofs::InclusionLaws::passes_refusal))]
 pub fn verify_inclusion<L: Ledger>(
     index: u64,
     leaf_hash: &[u8; 32],
