@@ -1,0 +1,5 @@
+pub mod Reading
+pub mod Floatless
+pub mod Lists
+pub mod Numerals
+pub mod Elements
