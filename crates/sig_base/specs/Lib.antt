@@ -5,3 +5,4 @@ pub mod MemoryStream
 pub mod Scheme
 pub mod Stream
 pub mod Hex
+pub mod ByText
