@@ -1,0 +1,4 @@
+//! Checkpoints.
+#![tactic(auto)]
+
+mod cuts;
