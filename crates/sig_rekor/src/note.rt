@@ -1,0 +1,1 @@
+//! The note of a checkpoint as text.

@@ -1,0 +1,1 @@
+//! A signature of a checkpoint as text.
