@@ -35,14 +35,14 @@ pub record IsCheckpoint (text : List ℕ) (checkpoint : SignedCheckpoint) : Type
   pub note : IsNote note_part checkpoint.note
 
 -- the signatures of the pieces, from the left
-unfoldable pub signatures_of : List ℕ → Result (List CheckpointSignature) CheckpointFault
-signatures_of rest = each signature_of (filter is_written (parts empty_line rest))
+unfoldable pub signatures_by : List (List ℕ) → Result (List CheckpointSignature) CheckpointFault
+signatures_by pieces = each signature_of (filter is_written pieces)
 
 -- the checkpoint of a text that was cut: the signatures, then the note
 abbrev pub checkpoint_by : Option (List ℕ × List ℕ) → Result SignedCheckpoint CheckpointFault
 checkpoint_by None = Err Format
 checkpoint_by (Some cut) = do
-  signatures ← signatures_of cut.1
+  signatures ← signatures_by (parts empty_line cut.1)
   note ← note_of cut.0
   Ok (record { note = note; signatures = signatures })
 

@@ -5,16 +5,14 @@ use Rattle.std.specs.List.{AllZip, list_all, flat_map}
 use Rattle.std.specs.Char.{is_ascii_digit}
 use Rattle.std.specs.Str.{trim}
 use Rattle.std.specs.Str.Parse.{IsNumeral, digits_value, without_leading_plus}
-use Rattle.base64.specs.GeneralPurpose.{encode_of, decode_of, IsBytes}
-use Rattle.base64.specs.Engines.{standard}
-use Rattle.base64.specs.declared.decode.DecodeError.{DecodeError}
+use Rattle.base64.specs.GeneralPurpose.{IsBytes}
 use Rattle.sig_base.specs.declared.fault.CheckpointFault.{CheckpointFault}
 use Rattle.sig_base.specs.declared.fault.CheckpointFault.TheVariants.{NoteFormat, EmptyOrigin, Size, HashBase64, HashLength}
 use Rattle.sig_rekor.specs.declared.checkpoint.Checkpoint.{Checkpoint}
 use Rattle.sig_rekor.specs.declared.checkpoint.OtherContent.{OtherContent}
 use Rattle.sig_rekor.specs.declared.checkpoint.OtherContent.TheVariants.{KeyValue, Value}
 use Rattle.sig_rekor.specs.Cut.{IsCut, IsParts, Lacks, cut_at, parts}
-use Rattle.sig_rekor.specs.Reading.{◌>>=◌}
+use Rattle.sig_rekor.specs.Reading.{◌>>=◌, base64_of, base64_text}
 
 abbrev pub newline : List ℕ
 newline = 10 ∷ []
@@ -47,7 +45,7 @@ pub record IsNote (text : List ℕ) (note : Checkpoint) : Type 0 where
   pub lines : IsParts newline text (note.origin ∷ size_line ∷ hash_line ∷ others)
   pub origin : is_blank note.origin ≡ false
   pub size : IsSize size_line note.size
-  pub hash : (hash_line ≡ encode_of standard note.hash) × (length note.hash ≡ 32) × IsBytes note.hash
+  pub hash : (hash_line ≡ base64_text note.hash) × (length note.hash ≡ 32) × IsBytes note.hash
   pub contents : AllZip IsContent (filter is_not_empty others) note.other_content
 
 -- the content of a line, from its cut
@@ -70,14 +68,13 @@ unfoldable pub size_of : List ℕ → Result ℕ CheckpointFault
 size_of line = size_by (without_leading_plus line)
 
 -- the hash that a line stands for
-abbrev pub hash_by : Result (List ℕ) DecodeError → Result (List ℕ) CheckpointFault
-hash_by (Err _) = Err HashBase64
-hash_by (Ok bytes) = if length bytes == 32 then Ok bytes else Err HashLength
+abbrev pub hash_by : List ℕ → Result (List ℕ) CheckpointFault
+hash_by bytes = if length bytes == 32 then Ok bytes else Err HashLength
 
 unfoldable pub hash_of : List ℕ → Result (List ℕ) CheckpointFault
-hash_of line = hash_by (decode_of standard line)
+hash_of line = base64_of HashBase64 line >>= hash_by
 
-abbrev pub origin_of : List ℕ → Result (List ℕ) CheckpointFault
+unfoldable pub origin_of : List ℕ → Result (List ℕ) CheckpointFault
 origin_of line = if is_blank line then Err EmptyOrigin else Ok line
 
 -- the note of so many lines, or the first rule that is broken
@@ -102,4 +99,4 @@ content_line content = content_text content ++ newline
 
 -- *Note text*: origin, size in decimal, base64 of the hash and the contents, each ended by a newline
 unfoldable pub note_text : Checkpoint → List ℕ
-note_text note = note.origin ++ (newline ++ (decimal note.size ++ (newline ++ (encode_of standard note.hash ++ (newline ++ flat_map content_line note.other_content)))))
+note_text note = note.origin ++ (newline ++ (decimal note.size ++ (newline ++ (base64_text note.hash ++ (newline ++ flat_map content_line note.other_content)))))

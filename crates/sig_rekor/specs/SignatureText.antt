@@ -3,14 +3,12 @@
 use Rattle.std.specs.Prelude.{◌≡◌, ℕ, ◌<◌, nat_lt, nat_eq, if◌then◌else◌, List, [], ◌∷◌, ◌++◌, length, take, drop, Result, Ok, Err}
 use Rattle.std.specs.List.{starts_with}
 use Rattle.std.specs.Str.{trim_end}
-use Rattle.base64.specs.GeneralPurpose.{encode_of, decode_of, IsBytes}
-use Rattle.base64.specs.Engines.{standard}
-use Rattle.base64.specs.declared.decode.DecodeError.{DecodeError}
+use Rattle.base64.specs.GeneralPurpose.{IsBytes}
 use Rattle.sig_base.specs.declared.fault.CheckpointFault.{CheckpointFault}
 use Rattle.sig_base.specs.declared.fault.CheckpointFault.TheVariants.{NoDash, SignatureFormat, SignatureBase64, SignatureLength}
 use Rattle.sig_rekor.specs.declared.checkpoint.CheckpointSignature.{CheckpointSignature}
 use Rattle.sig_rekor.specs.Cut.{IsTrimmed, IsParts, trimmed, parts}
-use Rattle.sig_rekor.specs.Reading.{◌>>=◌}
+use Rattle.sig_rekor.specs.Reading.{◌>>=◌, base64_of, base64_text}
 use Rattle.sig_rekor.specs.NoteText.{newline}
 
 -- U+2014 in UTF-8
@@ -34,11 +32,11 @@ pub record IsSignature (text : List ℕ) (signature : CheckpointSignature) : Typ
   pub newlines : IsTrimmed 10 text line
   pub dash : line ≡ em_dash ++ behind_dash
   pub parts : IsParts space line (first ∷ signature.name ∷ coded ∷ [])
-  pub bytes : (trim_end coded ≡ encode_of standard (signed_bytes signature)) × IsBytes (signed_bytes signature)
+  pub bytes : (trim_end coded ≡ base64_text (signed_bytes signature)) × IsBytes (signed_bytes signature)
   pub fingerprint : length signature.key_fingerprint ≡ 4
 
 -- the line, where it starts with the dash
-abbrev pub line_of : List ℕ → Result (List ℕ) CheckpointFault
+unfoldable pub line_of : List ℕ → Result (List ℕ) CheckpointFault
 line_of text = if starts_with nat_eq (trimmed 10 text) em_dash then Ok (trimmed 10 text) else Err NoDash
 
 -- the second and the third of three parts
@@ -46,13 +44,12 @@ abbrev pub name_and_bytes : List (List ℕ) → Result (List ℕ × List ℕ) Ch
 name_and_bytes (first ∷ name ∷ coded ∷ []) = Ok (name, coded)
 name_and_bytes _ = Err SignatureFormat
 
--- the bytes of the third part
-abbrev pub bytes_by : Result (List ℕ) DecodeError → Result (List ℕ) CheckpointFault
-bytes_by (Err _) = Err SignatureBase64
-bytes_by (Ok bytes) = if nat_lt (length bytes) 4 then Err SignatureLength else Ok bytes
+-- the bytes of the third part, at least four
+abbrev pub bytes_by : List ℕ → Result (List ℕ) CheckpointFault
+bytes_by bytes = if nat_lt (length bytes) 4 then Err SignatureLength else Ok bytes
 
 unfoldable pub bytes_of : List ℕ → Result (List ℕ) CheckpointFault
-bytes_of coded = bytes_by (decode_of standard (trim_end coded))
+bytes_of coded = base64_of SignatureBase64 (trim_end coded) >>= bytes_by
 
 -- the signature that a text stands for, or the first rule that is broken
 unfoldable pub signature_of : List ℕ → Result CheckpointSignature CheckpointFault
@@ -64,4 +61,4 @@ signature_of text = do
 
 -- how a signature is written: em dash, space, name, space, base64, newline
 unfoldable pub signature_text : CheckpointSignature → List ℕ
-signature_text signature = em_dash ++ (space ++ (signature.name ++ (space ++ (encode_of standard (signed_bytes signature) ++ newline))))
+signature_text signature = em_dash ++ (space ++ (signature.name ++ (space ++ (base64_text (signed_bytes signature) ++ newline))))

@@ -1,10 +1,7 @@
 //! A checkpoint, also known as a signed tree head: what a log says of its tree, and the signatures over it.
-ghost use Rattle.std.specs.Prelude.{◌≡◌, IfOk, Ok};
 
-use crate::cuts::{cut, trimmed};
-use crate::fault::ParseCheckpointError;
-use sig_base::{Bytes, CheckpointFault, OutOfMemory, Register, Text};
-use std::alloc::Global;
+
+use sig_base::{Bytes, Register, Text};
 use std::fmt;
 
 /// A note and the signatures over it.

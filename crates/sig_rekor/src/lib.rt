@@ -6,6 +6,7 @@
 #![tactic(auto)]
 
 mod checkpoint;
+mod coding;
 mod cuts;
 mod fault;
 mod note;
