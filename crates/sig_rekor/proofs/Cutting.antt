@@ -228,3 +228,14 @@ front_stops mark (b ∷ text) rest w = elim (cases_eq b mark) [
     inl same ↦ front_stops mark text rest (rw (eq-eqb b mark same) at w)
   | inr other ↦ other (let t = rw (ne_eqb b mark other) at w in cc)
   ]
+
+-- there is always a part
+pub parts-first : (separator text : List ℕ) → (part : List ℕ) × (ps : List (List ℕ)) × (parts separator text ≡ part ∷ ps)
+unfolding parts parts_within
+parts-first separator text = within (length text) text where
+  within : (n : ℕ) (t : List ℕ) → (part : List ℕ) × (ps : List (List ℕ)) × (parts_within n separator t ≡ part ∷ ps)
+  within zero t = (t, [], refl)
+  within (suc n) t = of_cut (cut_at separator t) where
+    of_cut : (o : Option (List ℕ × List ℕ)) → (part : List ℕ) × (ps : List (List ℕ)) × (parts_of_cut t (parts_within n separator) o ≡ part ∷ ps)
+    of_cut None = (t, [], refl)
+    of_cut (Some cut) = (cut.0, parts_within n separator cut.1, refl)

@@ -38,6 +38,10 @@ pub record IsCheckpoint (text : List ℕ) (checkpoint : SignedCheckpoint) : Type
 unfoldable pub signatures_by : List (List ℕ) → Result (List CheckpointSignature) CheckpointFault
 signatures_by pieces = each signature_of (filter is_written pieces)
 
+-- the same behind those that were read before
+abbrev pub signatures_on : List CheckpointSignature → List (List ℕ) → Result (List CheckpointSignature) CheckpointFault
+signatures_on before pieces = signatures_by pieces >>= λ signatures. Ok (before ++ signatures)
+
 -- the checkpoint of a text that was cut: the signatures, then the note
 abbrev pub checkpoint_by : Option (List ℕ × List ℕ) → Result SignedCheckpoint CheckpointFault
 checkpoint_by None = Err Format

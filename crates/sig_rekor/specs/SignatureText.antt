@@ -44,20 +44,18 @@ abbrev pub name_and_bytes : List (List ℕ) → Result (List ℕ × List ℕ) Ch
 name_and_bytes (first ∷ name ∷ coded ∷ []) = Ok (name, coded)
 name_and_bytes _ = Err SignatureFormat
 
--- the bytes of the third part, at least four
-abbrev pub bytes_by : List ℕ → Result (List ℕ) CheckpointFault
-bytes_by bytes = if nat_lt (length bytes) 4 then Err SignatureLength else Ok bytes
-
-unfoldable pub bytes_of : List ℕ → Result (List ℕ) CheckpointFault
-bytes_of coded = base64_of SignatureBase64 (trim_end coded) >>= bytes_by
+-- the signature of a name and of the decoded bytes, at least four
+abbrev pub signature_by : List ℕ → List ℕ → Result CheckpointSignature CheckpointFault
+signature_by name bytes = if nat_lt (length bytes) 4 then Err SignatureLength
+    else Ok (record { key_fingerprint = take 4 bytes; raw = drop 4 bytes; name = name })
 
 -- the signature that a text stands for, or the first rule that is broken
 unfoldable pub signature_of : List ℕ → Result CheckpointSignature CheckpointFault
 signature_of text = do
   line ← line_of text
   named ← name_and_bytes (parts space line)
-  bytes ← bytes_of named.1
-  Ok (record { key_fingerprint = take 4 bytes; raw = drop 4 bytes; name = named.0 })
+  bytes ← base64_of SignatureBase64 (trim_end named.1)
+  signature_by named.0 bytes
 
 -- how a signature is written: em dash, space, name, space, base64, newline
 unfoldable pub signature_text : CheckpointSignature → List ℕ

@@ -11,6 +11,7 @@ mod cuts;
 mod fault;
 mod note;
 mod signature;
+mod signed;
 
 pub use checkpoint::{
     Checkpoint, CheckpointSignature, CheckpointSignatures, OtherContent, OtherContents,
