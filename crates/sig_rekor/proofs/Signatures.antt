@@ -5,7 +5,9 @@ use Rattle.sig_base.specs.declared.fault.CheckpointFault.{CheckpointFault}
 use Rattle.sig_base.specs.declared.fault.CheckpointFault.TheVariants.{SignatureFormat}
 use Rattle.sig_rekor.specs.declared.checkpoint.CheckpointSignature.{CheckpointSignature}
 use Rattle.sig_rekor.specs.Cut.{cut_at, parts}
-use Rattle.sig_rekor.specs.Reading.{◌>>=◌, each}
+use Rattle.sig_rekor.specs.declared.fault.ParseCheckpointError.{ParseCheckpointError}
+use Rattle.sig_rekor.specs.declared.fault.ParseCheckpointError.TheVariants.{DecodeError, OutOfMemory}
+use Rattle.sig_rekor.specs.Reading.{◌>>=◌, each, Reads}
 use Rattle.sig_rekor.specs.NoteText.{is_blank}
 use Rattle.sig_rekor.specs.SignatureText.{space, name_and_bytes, signature_of}
 use Rattle.sig_rekor.specs.CheckpointText.{empty_line, is_written, signatures_by, signatures_on}
@@ -98,3 +100,10 @@ more_parts line first behind name coded more last e f g =
 pub ruleset three_parts = (no_part, two_parts, just_three, more_parts)
 pub ruleset one_signature = (signatures_on-blank, signatures_on-read, signatures_on-refused)
 pub ruleset all_signatures = (signatures_on-cut, signatures_on-cut_refused, signatures_on-end, signatures_on-nothing)
+
+-- a refusal at a cut is the refusal of the whole
+pub refused_at_cut : (error : ParseCheckpointError) (before after : List CheckpointSignature) (text piece rest : List ℕ) (whole : Result (List CheckpointSignature) CheckpointFault)
+    → signatures_on before (parts empty_line text) ≡ whole → Some (piece, rest) ≡ cut_at empty_line text
+    → Reads {X = Unit {0}} (λ _. after) (Err error) (signatures_on before (piece ∷ [])) → Reads {X = List CheckpointSignature} (λ x. x) (Err error) whole
+refused_at_cut (DecodeError fault) before after text piece rest whole same e f = sym same ∙ signatures_on-cut_refused before text piece rest fault e f
+refused_at_cut OutOfMemory before after text piece rest whole same e f = tt

@@ -1,11 +1,11 @@
 //! Base64 as checkpoints use it: standard, padded and canonical (RFC 4648 section 4).
-ghost use Rattle.std.specs.Prelude.{◌≡◌, ◌++◌, OnOk, string_bytes};
+ghost use Rattle.std.specs.Prelude.{◌≡◌, IfOk};
 ghost use Rattle.sig_rekor.specs.Reading.{Reads, base64_of, base64_text};
 
 use crate::fault::ParseCheckpointError;
 use base64::DecodeAllocError;
 use base64::engine::general_purpose::STANDARD;
-use sig_base::{CheckpointFault, OutOfMemory};
+use sig_base::{CheckpointFault, OutOfMemory, Text};
 use std::alloc::Global;
 
 /// The bytes of a base64 text, or the fault that the caller names.
@@ -24,11 +24,11 @@ pub(crate) fn decode_base64(
     }
 }
 
-/// Writes bytes in base64 at the end of a text.
+/// Bytes in base64.
 #[tactic(auto, unfolding(crate::specs::Reading::base64_text))]
-pub(crate) fn push_base64(text: &mut String, bytes: &[u8]) -> Result<(), OutOfMemory>
-    ensures { OnOk result (string_bytes text.new ≡ string_bytes text.old ++ base64_text bytes.now) }
+pub(crate) fn encode_base64(alloc: Global, bytes: &[u8]) -> Result<Text, OutOfMemory>
+    ensures { IfOk result (λ text. text ≡ base64_text bytes.now) }
 {
-    STANDARD.encode_string(bytes, text)?;
-    Ok(())
+    let text = STANDARD.encode(alloc, bytes)?;
+    Ok(Text::from(text))
 }

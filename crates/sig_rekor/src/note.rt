@@ -8,7 +8,7 @@ ghost use Rattle.sig_rekor.specs.Reading.{Reads};
 ghost use Rattle.sig_rekor.specs.NoteText.{newline, content_of, contents_of, content_line, origin_of, size_of, hash_of, note_by, note_of, note_text, IsNote};
 
 use crate::checkpoint::{Checkpoint, OtherContent, OtherContents};
-use crate::coding::{decode_base64, push_base64};
+use crate::coding::{decode_base64, encode_base64};
 use crate::cuts::{cut, is_blank};
 use crate::fault::ParseCheckpointError;
 use sig_base::{CheckpointFault, OutOfMemory, Text};
@@ -34,9 +34,8 @@ impl Checkpoint {
     pub fn marshal(&self, alloc: Global) -> Result<Text, OutOfMemory>
         ensures { IfOk result (λ text. text ≡ note_text self.now) }
     {
-        let mut text = format!(in alloc; "{}\n{}\n", self.origin.as_str(), self.size)?;
-        push_base64(&mut text, &self.hash)?;
-        text.push('\n')?;
+        let hash = encode_base64(alloc, &self.hash)?;
+        let mut text = format!(in alloc; "{}\n{}\n{}\n", self.origin.as_str(), self.size, hash.as_str())?;
         push_contents(&mut text, self.other_content.as_slice())?;
         Ok(Text::from(text))
     }

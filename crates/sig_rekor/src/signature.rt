@@ -4,11 +4,11 @@ ghost use Rattle.std.specs.Option.{ok_or};
 ghost use Rattle.sig_base.specs.declared.fault.CheckpointFault.TheVariants.{SignatureFormat};
 ghost use Rattle.sig_rekor.specs.declared.checkpoint.CheckpointSignature.{CheckpointSignature as Signature};
 ghost use Rattle.sig_rekor.specs.Cut.{parts};
-ghost use Rattle.sig_rekor.specs.Reading.{Reads};
+ghost use Rattle.sig_rekor.specs.Reading.{Reads, base64_text};
 ghost use Rattle.sig_rekor.specs.SignatureText.{space, line_of, name_and_bytes, signature_by, signature_of, signature_text, signed_bytes, IsSignature};
 
 use crate::checkpoint::CheckpointSignature;
-use crate::coding::{decode_base64, push_base64};
+use crate::coding::{decode_base64, encode_base64};
 use crate::cuts::{cut, trimmed};
 use crate::fault::ParseCheckpointError;
 use sig_base::{Bytes, CheckpointFault, OutOfMemory, Text};
@@ -33,22 +33,18 @@ impl CheckpointSignature {
     pub fn encode(&self, alloc: Global) -> Result<Text, OutOfMemory>
         ensures { IfOk result (λ text. text ≡ signature_text self.now) }
     {
-        let signed = self.signed_bytes(alloc)?;
-        let mut text = String::from_str(alloc, "\u{2014} ")?;
-        text.push_str(self.name.as_str())?;
-        text.push(' ')?;
-        push_base64(&mut text, signed.as_slice())?;
-        text.push('\n')?;
+        let coded = self.coded(alloc)?;
+        let text = format!(in alloc; "\u{2014} {} {}\n", self.name.as_str(), coded.as_str())?;
         Ok(Text::from(text))
     }
 
-    /// The fingerprint and the signature in one.
-    fn signed_bytes(&self, alloc: Global) -> Result<Bytes, OutOfMemory>
-        ensures { IfOk result (λ bytes. bytes ≡ signed_bytes self.now) }
+    /// The fingerprint and the signature in one, in base64.
+    fn coded(&self, alloc: Global) -> Result<Text, OutOfMemory>
+        ensures { IfOk result (λ text. text ≡ base64_text (signed_bytes self.now)) }
     {
         let mut bytes = Vec::from_slice(alloc, &self.key_fingerprint)?;
         bytes.extend_from_slice(self.raw.as_slice())?;
-        Ok(Bytes::from(bytes))
+        encode_base64(alloc, bytes.as_slice())
     }
 }
 
