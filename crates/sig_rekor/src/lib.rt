@@ -9,12 +9,15 @@ mod checkpoint;
 mod coding;
 mod cuts;
 mod fault;
+mod inclusion_proof;
 mod note;
 mod signature;
 mod signed;
+mod verify;
 
 pub use checkpoint::{
     Checkpoint, CheckpointSignature, CheckpointSignatures, OtherContent, OtherContents,
     SignedCheckpoint,
 };
 pub use fault::ParseCheckpointError;
+pub use inclusion_proof::InclusionProof;
