@@ -1,0 +1,6 @@
+pub mod Element
+pub mod Reading
+pub mod Lent
+pub mod Taking
+pub mod Places
+pub mod Joined
