@@ -6,3 +6,5 @@ pub mod Faults
 pub mod Ranges
 pub mod Takings
 pub mod Many
+pub mod Wholes
+pub mod Childs

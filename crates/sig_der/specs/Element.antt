@@ -31,3 +31,19 @@ pub record IsElement (text : List ℕ) (tag : ℕ) (content : List ℕ) : Type 0
 pub record StandsFirst (whole : List ℕ) (tag : ℕ) (content rest text : List ℕ) : Type 0 where
   pub is : IsElement whole tag content
   pub parts : text ≡ whole ++ rest
+
+-- Bytes follow the element at the front.
+pub record IsFollowed (text : List ℕ) : Type 0 where
+  pub whole : List ℕ
+  pub tag : ℕ
+  pub content : List ℕ
+  pub rest : List ℕ
+  pub first : StandsFirst whole tag content rest text
+  pub more : 0 < length rest
+
+-- The text is an element of another tag.
+pub record IsOfAnother (tag : ℕ) (text : List ℕ) : Type 0 where
+  pub other : ℕ
+  pub content : List ℕ
+  pub is : IsElement text other content
+  pub differs : other ≢ tag

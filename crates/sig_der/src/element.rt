@@ -1,7 +1,7 @@
 //! One element: X.690 section 8.1.1.
 
-ghost use Rattle.std.specs.Prelude.{◌≡◌, ℕ, List, Ok, IfOk, IfErr};
-ghost use Rattle.sig_der.specs.Element.{StandsFirst};
+ghost use Rattle.std.specs.Prelude.{◌≡◌, ◌↔◌, ℕ, List, Ok, IfOk, IfErr, IsErrOf};
+ghost use Rattle.sig_der.specs.Element.{IsElement, StandsFirst, IsFollowed, IsOfAnother};
 ghost use Rattle.sig_der.specs.Reading.{Gives, Piece, element_at, all_at, fault_of};
 ghost use Rattle.sig_der.specs.Lent.{piece_of, front_of};
 
@@ -62,4 +62,35 @@ pub fn read_element(bytes: &[u8]) -> Result<(Element<'_>, &[u8]), DerError>
     ensures exact { Gives front_of result (element_at bytes.now) }
 {
     cut(bytes)
+}
+
+#[tactic(auto, unfolding(crate::specs::Reading::all_at))]
+fn cut_all(bytes: &[u8], tag: u8) -> Result<Element<'_>, DerError>
+    ensures { Gives piece_of result (all_at tag bytes.now) }
+{
+    let (element, rest) = read_element(bytes)?;
+    if !rest.is_empty() {
+        return Err(DerError::Trailing);
+    }
+    if element.tag != tag {
+        return Err(DerError::WrongTag);
+    }
+    Ok(element)
+}
+
+/// The one element of this tag that the bytes are.
+///
+/// The refusals of `read_element`; then `Trailing` where bytes follow the element; then `WrongTag` where it has another tag.
+pub fn read_all(bytes: &[u8], tag: u8) -> Result<Element<'_>, DerError>
+    // What is answered is the whole text.
+    ensures found { IfOk result (λ e. IsElement bytes.now tag e.content.now × (e.whole.now ≡ bytes.now) × (e.tag ≡ tag)) }
+    // An element of the tag is answered.
+    ensures only { (content : List ℕ) → IsElement bytes.now tag content
+        → Gives piece_of result (Ok (record { tag = tag; whole = bytes.now; content = content })) }
+    ensures trailing { IsErrOf result DerError.Trailing ↔ IsFollowed bytes.now }
+    ensures wrong_tag { IsErrOf result DerError.WrongTag ↔ IsOfAnother tag bytes.now }
+    // What the plain reader answers.
+    ensures exact { Gives piece_of result (all_at tag bytes.now) }
+{
+    cut_all(bytes, tag)
 }

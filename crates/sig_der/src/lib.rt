@@ -3,8 +3,12 @@
 #![tactic(auto)]
 
 mod element;
+mod iter;
 mod length;
 mod place;
+mod walk;
 
-pub use element::{Element, read_element};
+pub use element::{Element, read_all, read_element};
+pub use iter::Children;
 pub use place::{Place, optional_at, place_at, tagged_at, whole_at};
+pub use walk::children;
