@@ -5,10 +5,14 @@
 mod element;
 mod iter;
 mod length;
+mod out;
 mod place;
 mod walk;
+mod write;
 
 pub use element::{Element, read_all, read_element};
 pub use iter::Children;
+pub use out::DerOut;
 pub use place::{Place, optional_at, place_at, tagged_at, whole_at};
 pub use walk::children;
+pub use write::{DerWriteError, write_element, write_short};
