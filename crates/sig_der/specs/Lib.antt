@@ -6,3 +6,6 @@ pub mod Walks
 pub mod Taking
 pub mod Places
 pub mod Joined
+pub mod Moment
+pub mod Digits
+pub mod DerTime

@@ -2,11 +2,14 @@
 //! first, read and written exactly (X.690 sections 8.1 and 10.1), and texts of times.
 #![tactic(auto)]
 
+mod digits;
 mod element;
 mod iter;
 mod length;
+mod moment;
 mod out;
 mod place;
+mod time;
 mod walk;
 mod write;
 
