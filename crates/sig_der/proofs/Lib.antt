@@ -8,3 +8,6 @@ pub mod Takings
 pub mod Many
 pub mod Wholes
 pub mod Childs
+pub mod DigitRuns
+pub mod DigitTexts
+pub mod TimeTexts

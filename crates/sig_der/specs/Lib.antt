@@ -9,3 +9,4 @@ pub mod Joined
 pub mod Moment
 pub mod Digits
 pub mod DerTime
+pub mod Stamp
