@@ -1,0 +1,12 @@
+pub mod Element
+pub mod Reading
+pub mod Lent
+pub mod Children
+pub mod Walks
+pub mod Taking
+pub mod Places
+pub mod Joined
+pub mod Moment
+pub mod Digits
+pub mod DerTime
+pub mod Stamp
