@@ -1,0 +1,96 @@
+//! One element: X.690 section 8.1.1.
+
+ghost use Rattle.std.specs.Prelude.{◌≡◌, ◌↔◌, ℕ, List, Ok, IfOk, IfErr, IsErrOf};
+ghost use Rattle.sig_der.specs.Element.{IsElement, StandsFirst, IsFollowed, IsOfAnother};
+ghost use Rattle.sig_der.specs.Reading.{Gives, Piece, element_at, all_at, fault_of};
+ghost use Rattle.sig_der.specs.Lent.{piece_of, front_of};
+
+use crate::length::read_length;
+use sig_base::DerError;
+
+/// An element as it stands in a text.
+#[derive(Clone, Copy, Debug)]
+pub struct Element<'a> {
+    /// The identifier octet.
+    pub tag: u8,
+    /// The whole element: identifier, length and contents.
+    pub whole: &'a [u8],
+    /// The contents octets.
+    pub content: &'a [u8],
+}
+
+#[tactic(auto, unfolding(crate::specs::Reading::element_at))]
+fn cut(bytes: &[u8]) -> Result<(Element<'_>, &[u8]), DerError>
+    ensures { Gives front_of result (element_at bytes.now) }
+{
+    let (tag, after) = match bytes {
+        [] => return Err(DerError::Truncated),
+        [tag, after @ ..] => (*tag, after),
+    };
+    if tag % 32 == 31 {
+        return Err(DerError::LongTag);
+    }
+    let (len, rest) = read_length(after)?;
+    if rest.len() < len {
+        return Err(DerError::Truncated);
+    }
+    let (content, rest) = rest.split_at(len);
+    let (whole, _) = bytes.split_at(bytes.len() - rest.len());
+    Ok((
+        Element {
+            tag,
+            whole,
+            content,
+        },
+        rest,
+    ))
+}
+
+/// The element at the front of the bytes, and what follows it.
+///
+/// `LongTag` where the tag's low five bits are all ones; else `Length` where the length is indefinite, has more than four bytes
+/// after the first, or is not written in the fewest; else `Truncated` where bytes are missing.
+pub fn read_element(bytes: &[u8]) -> Result<(Element<'_>, &[u8]), DerError>
+    // What is answered stands at the front.
+    ensures found { IfOk result (λ x. StandsFirst x.0.whole.now x.0.tag x.0.content.now x.1.now bytes.now) }
+    // What stands at the front is answered.
+    ensures only { (whole content rest : List ℕ) (tag : ℕ) → StandsFirst whole tag content rest bytes.now
+        → Gives front_of result (Ok (record { tag = tag; whole = whole; content = content }, rest)) }
+    // Which fault it is.
+    ensures fault { IfErr result (λ e. e ≡ fault_of bytes.now) }
+    // What the plain reader answers.
+    ensures exact { Gives front_of result (element_at bytes.now) }
+{
+    cut(bytes)
+}
+
+#[tactic(auto, unfolding(crate::specs::Reading::all_at))]
+fn cut_all(bytes: &[u8], tag: u8) -> Result<Element<'_>, DerError>
+    ensures { Gives piece_of result (all_at tag bytes.now) }
+{
+    let (element, rest) = read_element(bytes)?;
+    if !rest.is_empty() {
+        return Err(DerError::Trailing);
+    }
+    if element.tag != tag {
+        return Err(DerError::WrongTag);
+    }
+    Ok(element)
+}
+
+/// The one element of this tag that the bytes are.
+///
+/// The refusals of `read_element`; then `Trailing` where bytes follow the element; then `WrongTag` where it has another tag.
+pub fn read_all(bytes: &[u8], tag: u8) -> Result<Element<'_>, DerError>
+    // What is answered is the whole text.
+    ensures found { IfOk result (λ e. IsElement bytes.now tag e.content.now × (e.whole.now ≡ bytes.now) × (e.tag ≡ tag)) }
+    // An element of the tag is answered.
+    ensures only { (content : List ℕ) → IsElement bytes.now tag content
+        → Gives piece_of result (Ok (record { tag = tag; whole = bytes.now; content = content })) }
+    ensures trailing { IsErrOf result DerError.Trailing ↔ IsFollowed bytes.now }
+    ensures wrong_tag { IsErrOf result DerError.WrongTag ↔ IsOfAnother tag bytes.now }
+    // What the plain reader answers.
+    ensures exact { Gives piece_of result (all_at tag bytes.now) }
+{
+    cut_all(bytes, tag)
+}

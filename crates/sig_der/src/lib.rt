@@ -1,0 +1,18 @@
+//! DER, the encoding of certificates and keys: elements of one identifier octet with lengths of at most four octets after the
+//! first, read and written exactly (X.690 sections 8.1 and 10.1), and texts of times.
+#![tactic(auto)]
+
+mod element;
+mod iter;
+mod length;
+mod out;
+mod place;
+mod walk;
+mod write;
+
+pub use element::{Element, read_all, read_element};
+pub use iter::Children;
+pub use out::DerOut;
+pub use place::{Place, optional_at, place_at, tagged_at, whole_at};
+pub use walk::children;
+pub use write::{DerWriteError, write_element, write_short};
