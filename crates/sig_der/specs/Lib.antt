@@ -6,3 +6,5 @@ pub mod Walks
 pub mod Taking
 pub mod Places
 pub mod Joined
+pub mod KeyInfo
+pub mod KeyInfoPlaces

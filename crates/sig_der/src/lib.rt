@@ -4,6 +4,7 @@
 
 mod element;
 mod iter;
+mod key_info;
 mod length;
 mod out;
 mod place;
@@ -12,6 +13,7 @@ mod write;
 
 pub use element::{Element, read_all, read_element};
 pub use iter::Children;
+pub use key_info::{AlgorithmPlaces, KeyInfoPlaces, algorithm_at, bits_at, key_info_at};
 pub use out::DerOut;
 pub use place::{Place, optional_at, place_at, tagged_at, whole_at};
 pub use walk::children;
