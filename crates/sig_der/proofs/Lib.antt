@@ -8,3 +8,4 @@ pub mod Takings
 pub mod Many
 pub mod Wholes
 pub mod Childs
+pub mod KeyInfos
