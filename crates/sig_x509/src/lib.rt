@@ -1,0 +1,7 @@
+//! Certificates of RFC 5280 in the profile of Sigstore: read exactly, with every field lent from one buffer; the values of the
+//! extensions that decide what a certificate may be used for; and the checks that stand on them.
+#![tactic(auto)]
+
+mod extensions;
+mod parts;
+mod span;
