@@ -8,3 +8,6 @@ pub mod Places
 pub mod Joined
 pub mod KeyInfo
 pub mod KeyInfoPlaces
+pub mod Moment
+pub mod Digits
+pub mod DerTime

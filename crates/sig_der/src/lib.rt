@@ -2,12 +2,15 @@
 //! first, read and written exactly (X.690 sections 8.1 and 10.1), and texts of times.
 #![tactic(auto)]
 
+mod digits;
 mod element;
 mod iter;
 mod key_info;
 mod length;
+mod moment;
 mod out;
 mod place;
+mod time;
 mod walk;
 mod write;
 

@@ -118,8 +118,146 @@ fn head_at(bytes: &[u8], at: usize, end: usize) -> Option<Head>
 }
 
 /// The second since 1970 of the time at the place. None where no time stands there.
-fn seconds_at(_bytes: &[u8], place: Place) -> Option<i64>
-    ensures { result ≡ seconds_of place.tag _bytes.now }
+#[tactic(auto, unfolding(crate::specs::Times::seconds_of))]
+fn seconds_at(bytes: &[u8], place: Place) -> Option<i64>
+    requires filled { place.content ≤ place.end }
+    requires to { place.end ≤ length bytes.now }
+    ensures { result ≡ seconds_of place.tag (slice_range bytes.now place.content place.end) }
 {
+    let _content = &bytes[place.content..place.end];
     None
+}
+
+/// The time at `at` in seconds since 1970, and where what follows it begins.
+#[tactic(auto, unfolding(crate::specs::Cutting::time_at))]
+fn time_at(bytes: &[u8], at: usize, end: usize) -> Option<(i64, usize)>
+    requires from { at ≤ end }
+    requires to { end ≤ length bytes.now }
+    ensures cut { time_at (slice_range bytes.now at end) ≡ option_map (placed_value bytes.now end) result }
+    ensures within { IfSome result (GoesTo at end) }
+{
+    let place = place_at(bytes, at, end)?;
+    let second = seconds_at(bytes, place)?;
+    Some((second, place.end))
+}
+
+/// The validity at `at`, its two times in seconds since 1970, and where what follows it begins.
+#[tactic(auto, unfolding(crate::specs::Cutting::validity_at))]
+fn validity_at(bytes: &[u8], at: usize, end: usize) -> Option<((i64, i64), usize)>
+    requires from { at ≤ end }
+    requires to { end ≤ length bytes.now }
+    ensures cut { validity_at (slice_range bytes.now at end) ≡ option_map (placed_value bytes.now end) result }
+    ensures within { IfSome result (GoesTo at end) }
+{
+    let whole = tagged_at(bytes, at, end, SEQUENCE)?;
+    let (not_before, next) = time_at(bytes, whole.content, whole.end)?;
+    let (not_after, next) = time_at(bytes, next, whole.end)?;
+    if bytes[next..whole.end].is_empty() {
+        Some(((not_before, not_after), whole.end))
+    } else {
+        None
+    }
+}
+
+#[tactic(auto, unfolding(crate::specs::Cutting::body_at))]
+fn body_at(bytes: &[u8], at: usize, end: usize) -> Option<Body>
+    requires from { at ≤ end }
+    requires to { end ≤ length bytes.now }
+    ensures cut { body_at (slice_range bytes.now at end) ≡ option_map (placed_body bytes.now end) result }
+    ensures within { IfSome result (IsBodyWithin at end) }
+{
+    let ((not_before, not_after), next) = validity_at(bytes, at, end)?;
+    let subject = tagged_at(bytes, next, end, SEQUENCE)?;
+    let key = key_info_at(bytes, subject.end, end)?;
+    Some(Body {
+        not_before,
+        not_after,
+        subject: whole_of(subject),
+        spki: whole_of(key.whole),
+    })
+}
+
+/// Where what follows the two unique identifiers begins. Both are optional.
+#[tactic(auto, unfolding(crate::specs::Cutting::after_ids))]
+fn after_ids(bytes: &[u8], at: usize, end: usize) -> Option<usize>
+    requires from { at ≤ end }
+    requires to { end ≤ length bytes.now }
+    ensures cut { after_ids (slice_range bytes.now at end) ≡ option_map (rest_from bytes.now end) result }
+    ensures after { IfSome result (λ next. at ≤ next) }
+    ensures before { IfSome result (λ next. next ≤ end) }
+{
+    let (_, next) = optional_at(bytes, at, end, ISSUER_UNIQUE_ID)?;
+    let (_, next) = optional_at(bytes, next, end, SUBJECT_UNIQUE_ID)?;
+    Some(next)
+}
+
+/// The extensions from `at` to `end` itself: whether they are there, and the content of their SEQUENCE. None where something
+/// else stands there.
+#[tactic(auto, unfolding(crate::specs::Cutting::list_at))]
+fn list_at(bytes: &[u8], at: usize, end: usize) -> Option<(bool, Span)>
+    requires from { at ≤ end }
+    requires to { end ≤ length bytes.now }
+    ensures cut { list_at (slice_range bytes.now at end) ≡ option_map (listed_of bytes.now) result }
+    ensures within { IfSome result (IsListedWithin end) }
+{
+    let (place, next) = optional_at(bytes, at, end, EXTENSIONS)?;
+    if !bytes[next..end].is_empty() {
+        return None;
+    }
+    match place {
+        None => Some((false, Span { start: end, end })),
+        Some(place) => {
+            let sequence = whole_at(bytes, place.content, place.end, SEQUENCE)?;
+            Some((true, content_of(sequence)))
+        }
+    }
+}
+
+/// The three parts of the certificate from `at` to `end` itself.
+#[tactic(auto, unfolding(crate::specs::Cutting::outer_at))]
+fn outer_at(bytes: &[u8], at: usize, end: usize) -> Option<Outer>
+    requires from { at ≤ end }
+    requires to { end ≤ length bytes.now }
+    ensures cut { outer_at (slice_range bytes.now at end) ≡ option_map (outer_of bytes.now) result }
+    ensures within { IfSome result (IsOuterWithin at end) }
+{
+    let whole = whole_at(bytes, at, end, SEQUENCE)?;
+    let tbs = tagged_at(bytes, whole.content, whole.end, SEQUENCE)?;
+    let algorithm = algorithm_at(bytes, tbs.end, whole.end)?;
+    let bits = bits_at(bytes, algorithm.whole.end, whole.end)?;
+    Some(Outer {
+        tbs,
+        algorithm: whole_of(algorithm.whole),
+        signature: Span {
+            start: bits,
+            end: whole.end,
+        },
+    })
+}
+
+/// The parts of the certificate from `at` to `end` itself, but for what its extensions are. None where there is none.
+#[tactic(auto, unfolding(crate::specs::Cutting::parts_at), using(crate::proofs::Fronts::front_is))]
+pub(crate) fn parts_at(bytes: &[u8], at: usize, end: usize) -> Option<Places>
+    requires from { at ≤ end }
+    requires to { end ≤ length bytes.now }
+    ensures cut { parts_at (slice_range bytes.now at end) ≡ option_map (parts_of bytes.now) result }
+    ensures within { IfSome result (ArePlaces end) }
+{
+    let outer = outer_at(bytes, at, end)?;
+    let head = head_at(bytes, outer.tbs.content, outer.tbs.end)?;
+    let body = body_at(bytes, head.issuer.end, outer.tbs.end)?;
+    let next = after_ids(bytes, body.spki.end, outer.tbs.end)?;
+    let (listed, list) = list_at(bytes, next, outer.tbs.end)?;
+    let front = Span {
+        start: outer.tbs.content,
+        end: next,
+    };
+    Some(Places {
+        outer,
+        front,
+        head,
+        body,
+        listed,
+        list,
+    })
 }
