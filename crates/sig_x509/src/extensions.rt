@@ -1,6 +1,6 @@
 //! Extensions by their places in one text: RFC 5280 section 4.1.
 
-ghost use Rattle.std.specs.Prelude.{◌≡◌, ◌≤◌, length, slice_range, option_map, IfSome};
+ghost use Rattle.std.specs.Prelude.{◌≡◌, ◌<◌, ◌≤◌, length, slice_range, option_map, IfSome};
 ghost use Rattle.sig_x509.specs.Cutting.{boolean_of, flag_at, extension_at};
 ghost use Rattle.sig_x509.specs.Places.{placed_value, placed_extension, GoesTo, AreSpans};
 
@@ -59,7 +59,7 @@ pub(crate) fn extension_at(bytes: &[u8], at: usize, end: usize) -> Option<Extens
     requires to { end ≤ length bytes.now }
     ensures cut { extension_at (slice_range bytes.now at end) ≡ option_map (placed_extension bytes.now end) result }
     ensures within { IfSome result (AreSpans end) }
-    ensures after { IfSome result (λ e. at ≤ e.whole.end) }
+    ensures after { IfSome result (λ e. at < e.whole.end) }
 {
     let whole = tagged_at(bytes, at, end, SEQUENCE)?;
     let oid = tagged_at(bytes, whole.content, whole.end, OBJECT_IDENTIFIER)?;
