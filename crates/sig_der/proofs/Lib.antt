@@ -11,3 +11,4 @@ pub mod Childs
 pub mod DigitRuns
 pub mod DigitTexts
 pub mod TimeTexts
+pub mod KeyInfos

@@ -6,6 +6,8 @@ pub mod Walks
 pub mod Taking
 pub mod Places
 pub mod Joined
+pub mod KeyInfo
+pub mod KeyInfoPlaces
 pub mod Moment
 pub mod Digits
 pub mod DerTime

@@ -5,6 +5,7 @@
 mod digits;
 mod element;
 mod iter;
+mod key_info;
 mod length;
 mod moment;
 mod out;
@@ -16,6 +17,7 @@ mod write;
 
 pub use element::{Element, read_all, read_element};
 pub use iter::Children;
+pub use key_info::{AlgorithmPlaces, KeyInfoPlaces, algorithm_at, bits_at, key_info_at};
 pub use out::DerOut;
 pub use place::{Place, optional_at, place_at, tagged_at, whole_at};
 pub use walk::children;

@@ -1,0 +1,58 @@
+-- Places of algorithms and key infos in one text, and what they stand for.
+use Rattle.std.specs.Prelude.{◌≡◌, ℕ, ◌≤◌, List, Option, Some, None, slice_range, option_map}
+use Rattle.sig_der.specs.declared.place.Place.{Place}
+use Rattle.sig_der.specs.declared.key_info.AlgorithmPlaces.{AlgorithmPlaces}
+use Rattle.sig_der.specs.declared.key_info.KeyInfoPlaces.{KeyInfoPlaces}
+use Rattle.sig_der.specs.Reading.{Piece}
+use Rattle.sig_der.specs.Places.{piece_at, IsWithin}
+use Rattle.sig_der.specs.KeyInfo.{Algorithm, KeyInfo}
+
+abbrev pub placed_option : List ℕ → Option Place → Option Piece
+placed_option bytes p = option_map (piece_at bytes) p
+
+-- the algorithm at the places
+abbrev pub algorithm_of : List ℕ → AlgorithmPlaces → Algorithm
+algorithm_of bytes a =
+    record {
+      whole = slice_range bytes a.whole.start a.whole.end;
+      oid = slice_range bytes a.oid.content a.oid.end;
+      parameters = placed_option bytes a.parameters;
+    }
+
+-- the algorithm at the places, and what follows it up to the end
+abbrev pub placed_algorithm : List ℕ → ℕ → AlgorithmPlaces → Algorithm × List ℕ
+placed_algorithm bytes end a = (algorithm_of bytes a, slice_range bytes a.whole.end end)
+
+-- what stands from the second number on up to the first
+abbrev pub part_from : List ℕ → ℕ → ℕ → List ℕ
+part_from bytes end n = slice_range bytes n end
+
+-- the key info at the places
+abbrev pub key_info_of : List ℕ → KeyInfoPlaces → KeyInfo
+key_info_of bytes k =
+    record {
+      whole = slice_range bytes k.whole.start k.whole.end;
+      algorithm = algorithm_of bytes k.algorithm;
+      bits = slice_range bytes k.bits k.whole.end;
+    }
+
+-- the key info at the places, and what follows it up to the end
+abbrev pub placed_key_info : List ℕ → ℕ → KeyInfoPlaces → KeyInfo × List ℕ
+placed_key_info bytes end k = (key_info_of bytes k, slice_range bytes k.whole.end end)
+
+-- the place, if there is one, lies between the two numbers
+abbrev pub IsOneWithin : ℕ → ℕ → Option Place → Type 0
+IsOneWithin at end None = Unit {0}
+IsOneWithin at end (Some p) = IsWithin at end p
+
+-- the algorithm begins at the first number and ends at the second or before it, and its parts lie within
+pub record IsAlgorithmWithin (at end : ℕ) (a : AlgorithmPlaces) : Type 0 where
+  pub whole : IsWithin at end a.whole
+  pub oid : IsWithin a.whole.content a.whole.end a.oid
+  pub parameters : IsOneWithin a.oid.end a.whole.end a.parameters
+
+pub record IsKeyInfoWithin (at end : ℕ) (k : KeyInfoPlaces) : Type 0 where
+  pub whole : IsWithin at end k.whole
+  pub algorithm : IsAlgorithmWithin k.whole.content k.whole.end k.algorithm
+  pub after : k.algorithm.whole.end ≤ k.bits
+  pub before : k.bits ≤ k.whole.end

@@ -1,0 +1,21 @@
+use Rattle.std.proofs.Common.{◌≡◌, ℕ, ◌-◌, ◌≤◌, map}
+use Rattle.std.specs.Prelude.{slice_range}
+use Rattle.std.specs.List.{All}
+use Rattle.sig_der.specs.Taking.{many_at}
+use Rattle.sig_der.proofs.Many.{with_front}
+use Rattle.sig_x509.specs.Cutting.{extension_at}
+use Rattle.sig_x509.specs.Places.{extension_of, AreSpans}
+use Rattle.sig_x509.proofs.certificate.extensions_at.Given as goal
+
+-- what was found, and then what is left, is all
+abbrev pub invariant-loop-next : goal.invariant-loop-next
+invariant-loop-next l =
+    record {
+      inside : l.next ≤ l.end;
+      all : with_front (map (extension_of l.bytes) l.found.items) (many_at extension_at (slice_range l.bytes l.next l.end))
+          ≡ many_at extension_at (slice_range l.bytes l.at l.end);
+      within : All (AreSpans l.end) l.found.items;
+    }
+
+abbrev pub decreases-loop-next : goal.decreases-loop-next
+decreases-loop-next l = l.end - l.next

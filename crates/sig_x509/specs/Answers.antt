@@ -1,0 +1,10 @@
+-- The answer of a reader that takes memory.
+use Rattle.std.specs.Prelude.{◌≡◌, ℕ, Option, Some, None, Result, Ok, Err}
+use Rattle.sig_x509.specs.declared.error.X509ReadError.{X509ReadError}
+use Rattle.sig_x509.specs.declared.error.X509ReadError.TheVariants.{Der, OutOfMemory}
+
+-- what was read, seen by the view, is what is meant; `Der` comes only where nothing is; want of memory is free
+abbrev pub Reads : {X Y : Type 0} → (X → Y) → Result X X509ReadError → Option Y → Type 0
+Reads view (Ok x) meant = meant ≡ Some (view x)
+Reads view (Err Der) meant = meant ≡ None
+Reads view (Err OutOfMemory) meant = Unit {0}

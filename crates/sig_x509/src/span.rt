@@ -1,0 +1,42 @@
+//! A part of a text by its ends.
+
+ghost use Rattle.std.specs.Prelude.{◌≡◌, ◌≤◌, length};
+ghost use Rattle.sig_x509.specs.Places.{part};
+
+use sig_der::Place;
+
+/// Where a part of a text begins and ends.
+#[derive(Clone, Copy, Debug)]
+pub(crate) struct Span {
+    pub(crate) start: usize,
+    pub(crate) end: usize,
+}
+
+/// The whole element at the place.
+pub(crate) fn whole_of(place: Place) -> Span
+    ensures { result ≡ record { start = place.start; end = place.end } }
+{
+    Span {
+        start: place.start,
+        end: place.end,
+    }
+}
+
+/// The contents octets at the place.
+pub(crate) fn content_of(place: Place) -> Span
+    ensures { result ≡ record { start = place.content; end = place.end } }
+{
+    Span {
+        start: place.content,
+        end: place.end,
+    }
+}
+
+/// The part of the text.
+pub(crate) fn part(bytes: &[u8], span: Span) -> &[u8]
+    requires ordered { span.start ≤ span.end }
+    requires below { span.end ≤ length bytes.now }
+    ensures { result.now ≡ part bytes.now span }
+{
+    &bytes[span.start..span.end]
+}
