@@ -36,9 +36,11 @@ split_below (suc e) n fits more =
       | inr within ↦ split_below e n within more
     ]
 
+-- a tree of more than one leaf has a split
 pub split_of : (n : ℕ) → 1 < n → (k : ℕ) × IsSplit n k
 split_of n more = split_below n n (within_pow n) more
 
+-- a power below n is at most one whose double is not
 exponent_le : (n d e : ℕ) → 2 ^ d < n → n ≤ 2 * 2 ^ e → d ≤ e
 exponent_le n d e below largest =
     elim (cases_lt e d) [
@@ -46,6 +48,7 @@ exponent_le n d e below largest =
       | inr d_le ↦ d_le
     ]
 
+-- and no other
 pub split_unique : (n j k : ℕ) → IsSplit n j → IsSplit n k → j ≡ k
 split_unique n j k s t =
     let s_below : 2 ^ s.exponent < n = rw (← s.power) s.below in

@@ -56,7 +56,8 @@ pub fn verify_inclusion<L: Ledger>(
         ≡ inclusion_answer index leaf_hash.now tree_size proof_hashes.now root_hash.now }
     ensures ok { IsOk result
         ↔ IsIncluded index leaf_hash.now tree_size proof_hashes.now root_hash.now }
-    ensures causes { IsInclusionAnswer index leaf_hash.now tree_size proof_hashes.now root_hash.now result }
+    ensures causes { IsInclusionAnswer
+        index leaf_hash.now tree_size proof_hashes.now root_hash.now result }
     ensures steps { steps.new ≡ steps.old + inclusion_steps result (length proof_hashes.now) }
 {
     let root = root_from_inclusion_proof(index, leaf_hash, tree_size, proof_hashes, steps)?;
