@@ -1,3 +1,5 @@
 pub mod Cutting
 pub mod Notes
 pub mod Signatures
+pub mod Steps
+pub mod NoteLaws
