@@ -23,7 +23,21 @@ both_accepted (Err refusal) next e = cc
 
 -- a note of the same tree
 of_tree : (checkpoint : SignedCheckpoint) (root : List ℕ) (size : ℕ) → tree_answer checkpoint root size ≡ Ok tt → IsOfTree checkpoint root size
-of_tree checkpoint root size e = ?
+of_tree checkpoint root size e =
+    let note = checkpoint.note in
+    let apart : Result (Unit {0}) SigstoreError = Err (ConsistencyProofError (MismatchedRoot (record { root = note.hash }) (record { root = root }))) in
+    let same : Result (Unit {0}) SigstoreError = cond (bytes_eq note.hash root) (Ok tt) apart in
+    let smaller : Result (Unit {0}) SigstoreError = cond (nat_lt note.size size) (Err (ConsistencyProofError UnexpectedEmptyProof)) same in
+    elim (chosen (nat_lt size note.size) (Err (ConsistencyProofError (NewTreeSmaller size note.size))) smaller (Ok tt) e) [
+      inl larger ↦ (let f = larger.1 in cc)
+    | inr not_larger ↦ elim (chosen (nat_lt note.size size) (Err (ConsistencyProofError UnexpectedEmptyProof)) same (Ok tt) not_larger.1) [
+        inl below ↦ (let f = below.1 in cc)
+      | inr not_below ↦ elim (chosen (bytes_eq note.hash root) (Ok tt) apart (Ok tt) not_below.1) [
+          inl equal ↦ (omega (arith, ltb-false size note.size not_larger.0, ltb-false note.size size not_below.0), (bytes_decides note.hash root).0 equal.0)
+        | inr other ↦ (let f = other.1 in cc)
+        ]
+      ]
+    ]
 
 tree_accepted : (checkpoint : SignedCheckpoint) (root : List ℕ) (size : ℕ) → IsOfTree checkpoint root size → tree_answer checkpoint root size ≡ Ok tt
 tree_accepted checkpoint root size is =
@@ -76,5 +90,8 @@ vouched_ok accepts entry proof (Ok _) is = vouched accepts entry proof is
 vouched_ok accepts entry proof (Err e) is = tt
 
 pub accepted_only : (accepts : List ℕ → List ℕ → Bool) (entry : List ℕ) (proof : InclusionProof) (r : Result (Unit {0}) SigstoreError) → Answers OutOfMemory (λ x. x) r (proof_answer accepts entry proof) → IsVouched accepts entry proof → IsOkUnless r OutOfMemory
-accepted_only accepts entry proof (Ok _) is vouches = ?
-accepted_only accepts entry proof (Err e) is vouches = ?
+accepted_only accepts entry proof (Ok _) is vouches = tt
+accepted_only accepts entry proof (Err e) is vouches = elim is [
+    inl memory ↦ memory
+  | inr refused ↦ (let f = accepted accepts entry proof vouches in cc)
+  ]
