@@ -5,7 +5,7 @@ use Rattle.std.specs.Cmp.Lexicographic.{slice_cmp}
 use Rattle.std.specs.declared.cmp.Ordering.{Ordering}
 use Rattle.std.specs.declared.cmp.Ordering.TheVariants.{Less, Equal, Greater}
 use Rattle.serde_json.specs.Data.{Data, null, boolean, number, string, array, object, Items, no_items, item, Members, no_members, member}
-use Rattle.serde_json.specs.Find.{get, at, get_member, get_item}
+use Rattle.serde_json.specs.Find.{get, at, get_member, get_item, as_object}
 use Rattle.serde_json.specs.Written.{has_float, items_have_float, members_have_float}
 
 -- no part of a disjunction that is false is true
@@ -50,4 +50,17 @@ at_floatless place (string s) found none e = cc
 at_floatless place (array ds) found none e = get_item_floatless place ds none found (cc)
 at_floatless place (object ms) found none e = cc
 
-pub ruleset floatless = (get_floatless, at_floatless)
+-- the members of an object without floats
+pub as_object_floatless : (d : Data) (ms : Members) → has_float d ≡ false → Some ms ≡ as_object d → members_have_float ms ≡ false
+as_object_floatless null ms none e = cc
+as_object_floatless (boolean b) ms none e = cc
+as_object_floatless (number n) ms none e = cc
+as_object_floatless (string s) ms none e = cc
+as_object_floatless (array ds) ms none e = cc
+as_object_floatless (object ns) ms none e = let same : ms ≡ ns = cc in rw same none
+
+-- a walk's next member, and what is left of it
+pub next_floatless : (d : Data) (ms : Members) (name : List ℕ) → members_have_float (member name d ms) ≡ false → (has_float d ≡ false) × (members_have_float ms ≡ false)
+next_floatless d ms name none = or_false (has_float d) (members_have_float ms) none
+
+pub ruleset floatless = (get_floatless, at_floatless, as_object_floatless, next_floatless)

@@ -3,3 +3,4 @@ pub mod Floatless
 pub mod Lists
 pub mod Numerals
 pub mod Elements
+pub mod Building

@@ -1,9 +1,11 @@
+pub mod Builders
 pub mod Causes
 pub mod Document
 pub mod Integer
 pub mod Kinds
 pub mod List
 pub mod Member
+pub mod Members
 pub mod Numerals
 pub mod Reads
 pub mod Tree

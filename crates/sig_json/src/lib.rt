@@ -4,6 +4,9 @@
 //! the member means by its row of a table, and `Member` exactly where it breaks that row.
 #![tactic(auto)]
 
+mod build;
+mod change;
+mod compact_form;
 mod document;
 mod element;
 mod error;
@@ -12,7 +15,9 @@ mod integer;
 mod json;
 mod kind;
 mod member;
+mod members;
 
+pub use compact_form::compact;
 pub use document::Document;
 pub use element::{ElementReader, optional, optional_list, required, required_list};
 pub use error::{CanonicalError, DocumentError, JsonError, MemberError};
@@ -22,3 +27,4 @@ pub use member::{
     read_bytes, read_i64, read_text, read_u64, required_bytes, required_hash, required_i64,
     required_text, required_u64,
 };
+pub use members::Members;
