@@ -4,3 +4,4 @@ pub mod Lists
 pub mod Numerals
 pub mod Elements
 pub mod Building
+pub mod CanonicalTexts

@@ -5,6 +5,7 @@
 #![tactic(auto)]
 
 mod build;
+mod canonical_form;
 mod change;
 mod compact_form;
 mod document;
@@ -12,19 +13,20 @@ mod element;
 mod error;
 mod floats;
 mod integer;
-mod json;
 mod kind;
 mod member;
 mod members;
+mod view;
 
+pub use canonical_form::canonical;
 pub use compact_form::compact;
 pub use document::Document;
 pub use element::{ElementReader, optional, optional_list, required, required_list};
 pub use error::{CanonicalError, DocumentError, JsonError, MemberError};
-pub use json::Json;
 pub use kind::{BytesReader, HashReader, TextReader};
 pub use member::{
     read_bytes, read_i64, read_text, read_u64, required_bytes, required_hash, required_i64,
     required_text, required_u64,
 };
 pub use members::Members;
+pub use view::Json;
