@@ -6,3 +6,5 @@ pub mod NoteLaws
 pub mod SignatureLaws
 pub mod CheckpointLaws
 pub mod VerifyLaws
+pub mod Graphic
+pub mod WrittenCuts
