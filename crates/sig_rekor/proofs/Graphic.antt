@@ -94,7 +94,7 @@ symbols (a ∷ b ∷ []) all = and_from _ _ (symbol (a / 4) (omega arith)) (and_
 symbols (a ∷ b ∷ c ∷ rest) all =
     graphic-append (encode_group alphabet a b c) (encode_symbols alphabet rest)
     (and_from _ _ (symbol (a / 4) (omega arith)) (and_from _ _ (symbol (a % 4 * 16 + b / 16) (omega arith)) (and_from _ _ (symbol (b % 16 * 4 + c / 64) (omega arith)) (and_from _ _ (symbol (c % 64) (omega arith)) refl))))
-    (symbols rest all.2.2)
+    (symbols rest all.1.1.1)
 
 pads : (n : ℕ) → IsGraphic (replicate n 61)
 pads zero = refl

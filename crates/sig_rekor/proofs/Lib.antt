@@ -8,3 +8,4 @@ pub mod CheckpointLaws
 pub mod VerifyLaws
 pub mod Graphic
 pub mod WrittenCuts
+pub mod ReadBackLaws

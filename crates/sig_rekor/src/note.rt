@@ -44,7 +44,8 @@ impl Checkpoint {
         ensures value { OnOk result (IsNoteValue self.now) }
     {
         let hash = encode_base64(alloc, &self.hash)?;
-        let mut text = format!(in alloc; "{}\n{}\n{}\n", self.origin.as_str(), self.size, hash.as_str())?;
+        let (origin, size) = (self.origin.as_str(), self.size);
+        let mut text = format!(in alloc; "{origin}\n{size}\n{}\n", hash.as_str())?;
         push_contents(&mut text, self.other_content.as_slice())?;
         Ok(text)
     }
