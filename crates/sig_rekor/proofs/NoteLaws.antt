@@ -46,7 +46,7 @@ origin-found line origin e = elim (chosen (is_blank line) (Err EmptyOrigin) (Ok 
   | inr written ↦ ((let f = written.1 in cc), written.0)
   ]
 
-origin-only : (line : List ℕ) → is_blank line ≡ false → origin_of line ≡ Ok line
+pub origin-only : (line : List ℕ) → is_blank line ≡ false → origin_of line ≡ Ok line
 unfolding origin_of
 origin-only line written = rw written refl
 
@@ -78,7 +78,7 @@ hash-found line hash e =
     | inr other ↦ (let f = other.1 in cc)
     ]
 
-hash-only : (line hash : List ℕ) → (base64_bytes line ≡ Some hash) × (length hash ≡ 32) → hash_of line ≡ Ok hash
+pub hash-only : (line hash : List ℕ) → (base64_bytes line ≡ Some hash) × (length hash ≡ 32) → hash_of line ≡ Ok hash
 unfolding hash_of base64_of
 hash-only line hash is = rw (is.0, eq-eqb (length hash) 32 is.1) refl
 

@@ -14,15 +14,15 @@ use Rattle.sig_rekor.specs.CheckpointText.{empty_line, is_written, signatures_by
 use Rattle.sig_rekor.proofs.Cutting.{parts-whole, parts-cut, parts-first}
 
 -- a piece of white space alone gives none, and any other one
-signatures_by-blank : (piece : List ℕ) (pieces : List (List ℕ)) → is_blank piece ≡ true → signatures_by (piece ∷ pieces) ≡ signatures_by pieces
+pub signatures_by-blank : (piece : List ℕ) (pieces : List (List ℕ)) → is_blank piece ≡ true → signatures_by (piece ∷ pieces) ≡ signatures_by pieces
 unfolding signatures_by
 signatures_by-blank piece pieces blank = rw blank refl
 
-signatures_by-written : (piece : List ℕ) (pieces : List (List ℕ)) → is_blank piece ≡ false → signatures_by (piece ∷ pieces) ≡ (signature_of piece >>= λ first. signatures_by pieces >>= λ others. Ok (first ∷ others))
+pub signatures_by-written : (piece : List ℕ) (pieces : List (List ℕ)) → is_blank piece ≡ false → signatures_by (piece ∷ pieces) ≡ (signature_of piece >>= λ first. signatures_by pieces >>= λ others. Ok (first ∷ others))
 unfolding signatures_by
 signatures_by-written piece pieces written = rw written refl
 
-signatures_by-none : signatures_by [] ≡ Ok []
+pub signatures_by-none : signatures_by [] ≡ Ok []
 unfolding signatures_by
 signatures_by-none = refl
 

@@ -6,6 +6,7 @@ ghost use Rattle.std.specs.List.{flat_map};
 ghost use Rattle.sig_rekor.specs.Cut.{parts};
 ghost use Rattle.sig_rekor.specs.Reading.{Reads};
 ghost use Rattle.sig_rekor.specs.NoteText.{newline, content_of, contents_of, content_line, origin_of, size_of, hash_of, note_by, note_of, note_text, IsNote};
+ghost use Rattle.sig_rekor.specs.ReadBack.{IsNoteValue};
 
 use crate::checkpoint::{Checkpoint, OtherContent, OtherContents};
 use crate::coding::{decode_base64, encode_base64};
@@ -30,14 +31,23 @@ impl Checkpoint {
 
     /// Writes the note: origin, size in decimal, base64 of the hash and the contents, each ended by a newline.
     /// Refuses for want of memory alone.
-    #[tactic(auto, using(std::proofs::lemmas::List::append_assoc), unfolding(crate::specs::NoteText::note_text))]
     pub fn marshal(&self, alloc: Global) -> Result<Text, OutOfMemory>
         ensures { IfOk result (λ text. text ≡ note_text self.now) }
     {
+        Ok(Text::from(self.write(alloc)?))
+    }
+
+    /// The note's text, to write on behind it.
+    #[tactic(auto, using(std::proofs::lemmas::List::append_assoc), unfolding(crate::specs::NoteText::note_text))]
+    pub(crate) fn write(&self, alloc: Global) -> Result<String, OutOfMemory>
+        ensures text { IfOk result (λ text. string_bytes text ≡ note_text self.now) }
+        ensures value { OnOk result (IsNoteValue self.now) }
+    {
         let hash = encode_base64(alloc, &self.hash)?;
-        let mut text = format!(in alloc; "{}\n{}\n{}\n", self.origin.as_str(), self.size, hash.as_str())?;
+        let (origin, size) = (self.origin.as_str(), self.size);
+        let mut text = format!(in alloc; "{origin}\n{size}\n{}\n", hash.as_str())?;
         push_contents(&mut text, self.other_content.as_slice())?;
-        Ok(Text::from(text))
+        Ok(text)
     }
 }
 
