@@ -8,6 +8,7 @@ mod iter;
 mod key_info;
 mod length;
 mod moment;
+pub mod oid;
 mod out;
 mod place;
 mod stamp;
@@ -20,5 +21,10 @@ pub use iter::Children;
 pub use key_info::{AlgorithmPlaces, KeyInfoPlaces, algorithm_at, bits_at, key_info_at};
 pub use out::DerOut;
 pub use place::{Place, optional_at, place_at, tagged_at, whole_at};
+pub use stamp::rfc3339_second;
+pub use time::time_of;
 pub use walk::children;
 pub use write::{DerWriteError, write_element, write_short};
+
+#[cfg(test)]
+mod tests;
