@@ -9,3 +9,6 @@ pub mod Many
 pub mod Wholes
 pub mod Childs
 pub mod KeyInfos
+pub mod DigitRuns
+pub mod DigitTexts
+pub mod TimeTexts

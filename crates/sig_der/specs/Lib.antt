@@ -11,3 +11,4 @@ pub mod KeyInfoPlaces
 pub mod Moment
 pub mod Digits
 pub mod DerTime
+pub mod Stamp

@@ -10,6 +10,7 @@ mod length;
 mod moment;
 mod out;
 mod place;
+mod stamp;
 mod time;
 mod walk;
 mod write;

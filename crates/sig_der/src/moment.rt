@@ -1,7 +1,7 @@
 //! A second of the calendar.
 
 ghost use Rattle.std.specs.Prelude.{◌≡◌, ◌<◌, ◌↔◌, pos, IsSome, IfSome};
-ghost use Rattle.jiff_core.specs.Calendar.{IsDate, IsEpochDay, days_from_civil};
+ghost use Rattle.jiff_core.specs.Calendar.{IsDate, IsEpochDay, IsWithin, days_from_civil};
 ghost use Rattle.sig_der.specs.Moment.{IsReal, IsDecimal, second_of};
 
 use jiff_core::civil::Date;
@@ -38,6 +38,7 @@ pub(crate) fn second_at(moment: Moment) -> Option<i64>
     requires { IsDecimal moment }
     ensures real { IsSome result ↔ IsReal moment }
     ensures value { IfSome result (λ s. s ≡ second_of moment) }
+    ensures bound { IfSome result (IsWithin 1_000_000_000_000) }
 {
     if moment.hour >= 24 || moment.minute >= 60 || moment.second >= 60 {
         return None;
