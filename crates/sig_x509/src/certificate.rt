@@ -5,7 +5,7 @@ ghost use Rattle.std.specs.List.{All};
 ghost use Rattle.sig_der.specs.Taking.{many_at};
 ghost use Rattle.sig_x509.specs.Answers.{Reads};
 ghost use Rattle.sig_x509.specs.Certificate.{Cert, IsCertificate};
-ghost use Rattle.sig_x509.specs.Cutting.{extension_at, certificate_at};
+ghost use Rattle.sig_x509.specs.Cutting.{extension_at};
 ghost use Rattle.sig_x509.specs.Places.{extension_of, AreSpans};
 
 use crate::error::X509ReadError;

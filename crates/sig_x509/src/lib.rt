@@ -7,6 +7,7 @@ mod error;
 mod extensions;
 mod lookup;
 mod parts;
+mod seconds;
 mod span;
 
 pub use error::X509ReadError;
