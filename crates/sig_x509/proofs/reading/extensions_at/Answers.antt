@@ -9,7 +9,7 @@ use Rattle.sig_x509.specs.Certificate.{Extension}
 use Rattle.sig_x509.specs.Cutting.{extension_at}
 use Rattle.sig_x509.specs.Places.{extension_of, placed_extension, AreSpans}
 use Rattle.sig_x509.proofs.ExtensionLaws.{extension_at_shrinks}
-use Rattle.sig_x509.proofs.certificate.extensions_at.Goals as goal
+use Rattle.sig_x509.proofs.reading.extensions_at.Goals as goal
 
 pub returns-in-None-clause-exact : goal.returns-in-None-clause-exact
 returns-in-None-clause-exact c =
