@@ -4,3 +4,5 @@ pub mod Checker
 pub mod MemoryStream
 pub mod Scheme
 pub mod Stream
+pub mod Hex
+pub mod ByText

@@ -4,6 +4,7 @@ ghost use Rattle.sig_base.specs.declared.scheme.VerifyScheme.{VerifyScheme as sc
 
 use crate::bytes::Bytes;
 use crate::memory::OutOfMemory;
+use crate::register::Register;
 use crate::scheme::VerifyScheme;
 use std::alloc::Global;
 use std::marker::Model;
@@ -85,7 +86,7 @@ pub struct AcceptedRow {
 /// A checker that accepts exactly the rows of a table.
 #[derive(Drop)]
 pub struct TableChecker {
-    rows: Vec<AcceptedRow>,
+    rows: Register<AcceptedRow>,
 }
 
 impl Model for TableChecker {
@@ -94,7 +95,7 @@ impl Model for TableChecker {
 
     ghost Value = { List AcceptedRow };
 
-    ghost view = { λ t. t.rows.items };
+    ghost view = { λ t. t.rows };
 }
 
 impl TableChecker {
@@ -105,7 +106,7 @@ impl TableChecker {
         ensures { result ≡ [] }
     {
         TableChecker {
-            rows: Vec::new(alloc),
+            rows: Register::new(alloc),
         }
     }
 
@@ -114,8 +115,7 @@ impl TableChecker {
         ensures ok { OnOk result (self.new ≡ self.old ++ row ∷ []) }
         ensures err { OnErr result (self.new ≡ self.old) }
     {
-        self.rows.push(row)?;
-        Ok(())
+        self.rows.push(row)
     }
 
     /// Whether a row of the table equals all five parts.
@@ -136,13 +136,24 @@ impl TableChecker {
           signature = signature.now;
         }) }
     {
-        self.rows.iter().any(|row| {
+        self.rows.as_slice().iter().any(|row| {
             row.operation == operation
                 && row.scheme.as_slice() == scheme
                 && row.key.as_slice() == key
                 && row.message.as_slice() == message
                 && row.signature.as_slice() == signature
         })
+    }
+}
+
+/// The table of these rows.
+impl From<Register<AcceptedRow>> for TableChecker {
+    ghost from_gives = { λ rows table. table ≡ rows };
+
+    fn from(rows: Register<AcceptedRow>) -> TableChecker
+        ensures { result ≡ rows }
+    {
+        TableChecker { rows }
     }
 }
 

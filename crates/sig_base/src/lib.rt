@@ -4,6 +4,7 @@
 //! sink comes only where its count of faults rose. A signature check is a predicate of the bytes that it is handed.
 #![tactic(auto)]
 
+mod by_text;
 mod bytes;
 mod checker;
 mod entries;
@@ -24,6 +25,7 @@ mod tests;
 mod text;
 mod unexpected;
 
+pub use by_text::ByText;
 pub use bytes::Bytes;
 pub use checker::{AcceptedRow, Operation, SignatureChecker, TableChecker};
 pub use entries::Entries;

@@ -1,4 +1,7 @@
 //! Why a proof in an RFC 6962 tree is refused.
+ghost use Rattle.std.specs.Prelude.{◌≡◌, ◌<◌, Some, slice_index};
+ghost use Rattle.sig_base.specs.Hex.{digits, hex};
+
 use std::fmt;
 use thiserror::Error;
 
@@ -38,12 +41,24 @@ pub struct RootHex {
 }
 
 impl fmt::Display for RootHex {
+    ghost output = { λ shown. Some (hex shown.root) };
+
     fn fmt<W: fmt::Write>(&self, f: &mut fmt::Formatter<W>) -> fmt::Result {
         for byte in self.root {
-            write!(f, "{byte:02x}")?;
+            f.write_char(digit(byte / 16))?;
+            f.write_char(digit(byte % 16))?;
         }
         Ok(())
     }
+}
+
+/// The hexadecimal digit of a number below 16, in lower case.
+fn digit(value: u8) -> char
+    requires { value < 16 }
+    ensures value { result ≡ slice_index digits value }
+    ensures ascii { result < 128 }
+{
+    char::from(b"0123456789abcdef"[usize::from(value)])
 }
 
 #[cfg(test)]

@@ -1,7 +1,7 @@
 //! What no clause says: that each call succeeds where memory is ample, and the texts of the errors.
 use crate::{
-    Bytes, CheckpointFault, DerError, Entries, Hashes, MerkleProofError, Numbers, OutOfMemory,
-    PkiFault, PoolError, SigstoreError, Text, TokenFault, TrustPart, UnexpectedKind,
+    ByText, Bytes, CheckpointFault, DerError, Entries, Hashes, MerkleProofError, Numbers,
+    OutOfMemory, PkiFault, PoolError, SigstoreError, Text, TokenFault, TrustPart, UnexpectedKind,
 };
 use std::alloc::Global;
 use std::fmt::{Debug, Display};
@@ -42,6 +42,18 @@ fn entries_keep_what_is_pushed(rt: HostRuntime) -> Result<(), Fail> {
     assert_eq!(rt; entries.len(), 2);
     assert_eq!(rt; entries.get(0), Some(b"first".as_slice()));
     assert!(rt; entries.get(2).is_none());
+    Ok(())
+}
+
+#[test]
+fn a_map_keeps_the_last_value_of_a_text(rt: HostRuntime) -> Result<(), Fail> {
+    let mut map = ByText::new(rt.alloc());
+    map.insert("b", 1u8)?;
+    map.insert("a", 2)?;
+    map.insert("b", 3)?;
+    assert_eq!(rt; map.len(), 2);
+    assert_eq!(rt; map.get("b").copied(), Some(3));
+    assert!(rt; map.get("").is_none());
     Ok(())
 }
 

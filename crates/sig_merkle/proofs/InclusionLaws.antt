@@ -1,12 +1,12 @@
 -- The law `inclusion_answers`: an answer to an inclusion proof is the one whose cause holds.
-use Rattle.std.proofs.Common.{◌≡◌, ◌≢◌, ℕ, ◌+◌, ◌<◌, ◌≤◌, ◌↔◌, Bool, true, false, Option, Some, None, MatchOption, IsNone, Result, Ok, Err, IsOk, List, length, refl, sym, ◌∙◌, ap, subst, inl, inr, arith}
+use Rattle.std.proofs.Common.{◌≡◌, ◌≢◌, ℕ, ◌<◌, ◌≤◌, ◌↔◌, Bool, true, false, Option, Some, None, MatchOption, IsNone, Result, Ok, Err, IsOk, List, length, refl, sym, ◌∙◌, ap, subst, inl, inr}
 use Rattle.std.specs.Prelude.{bytes_eq, is_ok}
 use Rattle.std.proofs.lemmas.Bool.{le-leb, lt-leb, cases_lt, false≢true}
 use Rattle.std.proofs.lemmas.Slice.Eq.{bytes_eq-Decides}
 use Rattle.sig_base.specs.declared.merkle_error.MerkleProofError.{MerkleProofError}
 use Rattle.sig_base.specs.declared.merkle_error.MerkleProofError.TheVariants.{MismatchedRoot, IndexGtTreeSize, UnexpectedNonEmptyProof, UnexpectedEmptyProof, NewTreeSmaller, WrongProofSize, WrongEmptyTreeHash}
 use Rattle.sig_merkle.specs.Path.{path_root, path_len}
-use Rattle.sig_merkle.specs.Inclusion.{IsIncluded, IsWrongSize, root_or_wrong_size, inclusion_root, match_root, inclusion_answer, IsRootAnswer, IsInclusionAnswer}
+use Rattle.sig_merkle.specs.Inclusion.{IsIncluded, root_or_wrong_size, inclusion_root, match_root, inclusion_answer, IsRootAnswer, IsInclusionAnswer}
 use Rattle.sig_merkle.proofs.PathLaws.{path_root-fits, path_root-none}
 
 -- the root that a proof leads to
@@ -39,8 +39,8 @@ root-cause_led index leaf size hashes (Some root) within led same = (within, led
 root-cause : (index : ℕ) (leaf : List ℕ) (size : ℕ) (hashes : List (List ℕ)) → IsRootAnswer index leaf size hashes (inclusion_root index leaf size hashes)
 root-cause index leaf size hashes =
     elim (cases_lt index size) [
-        inl within ↦ subst (IsRootAnswer index leaf size hashes) (sym (inclusion_root-within index leaf size hashes within)) (root-cause_led index leaf size hashes (path_root index leaf size hashes) within refl (path_root-fits index size leaf hashes))
-        | inr beyond ↦ subst (IsRootAnswer index leaf size hashes) (sym (inclusion_root-beyond index leaf size hashes beyond)) beyond
+      | inl within ↦ subst (IsRootAnswer index leaf size hashes) (sym (inclusion_root-within index leaf size hashes within)) (root-cause_led index leaf size hashes (path_root index leaf size hashes) within refl (path_root-fits index size leaf hashes))
+      | inr beyond ↦ subst (IsRootAnswer index leaf size hashes) (sym (inclusion_root-beyond index leaf size hashes beyond)) beyond
     ]
 
 root-by_cause : (index : ℕ) (leaf : List ℕ) (size : ℕ) (hashes : List (List ℕ)) (answer : Result (List ℕ) MerkleProofError) → IsRootAnswer index leaf size hashes answer → inclusion_root index leaf size hashes ≡ answer
@@ -138,6 +138,17 @@ inclusion_answer-ok index leaf size hashes root =
 pub answer-ok : (index : ℕ) (leaf : List ℕ) (size : ℕ) (hashes : List (List ℕ)) (root : List ℕ) (answer : Result (Unit {0}) MerkleProofError) → answer ≡ inclusion_answer index leaf size hashes root → IsOk answer ↔ IsIncluded index leaf size hashes root
 answer-ok index leaf size hashes root answer is = rw is (inclusion_answer-ok index leaf size hashes root)
 
--- what the checks cite
+-- the same, as the check meets them: the root that was led to is given, not looked for
+
+pub answered_same : (index : ℕ) (leaf : List ℕ) (size : ℕ) (hashes : List (List ℕ)) (root computed : List ℕ) → Ok computed ≡ inclusion_root index leaf size hashes → computed ≡ root → Ok tt ≡ inclusion_answer index leaf size hashes root
+answered_same index leaf size hashes root computed led same =
+    sym (inclusion_answer-same index leaf size hashes root computed (sym led) same)
+
+pub answered_apart : (index : ℕ) (leaf : List ℕ) (size : ℕ) (hashes : List (List ℕ)) (root computed : List ℕ) → Ok computed ≡ inclusion_root index leaf size hashes → computed ≢ root → Err (MismatchedRoot (record { root = computed }) (record { root = root })) ≡ inclusion_answer index leaf size hashes root
+answered_apart index leaf size hashes root computed led apart =
+    sym (inclusion_answer-apart index leaf size hashes root computed (sym led) apart)
+
+-- what the checks cite where they refuse, or find the root
 pub ruleset finds_root = (inclusion_root-beyond, inclusion_root-wrong_size, inclusion_root-led)
-pub ruleset judges_root = (inclusion_answer-refused, inclusion_answer-same, inclusion_answer-apart)
+
+pub ruleset passes_refusal = (inclusion_answer-refused)

@@ -1,9 +1,8 @@
 -- Recursions on the size of a tree that go down by levels: any level that is high enough gives
 -- the same, and every size is made of its halves.
-use Rattle.std.proofs.Common.{◌≡◌, ℕ, zero, suc, ◌+◌, ◌-◌, ◌*◌, ◌^◌, ◌<◌, ◌≤◌, ◌⊎◌, refl, sym, ◌∙◌, ap, subst, inl, inr, arith, add-zero, add-suc}
+use Rattle.std.proofs.Common.{◌≡◌, ℕ, zero, suc, ◌+◌, ◌-◌, ◌*◌, ◌^◌, ◌<◌, ◌≤◌, refl, sym, ◌∙◌, ap, subst, inl, inr, arith, add-zero, add-suc}
 use Rattle.std.proofs.Math.Nat.{pow-suc, pow-le-pow_right}
 use Rattle.std.proofs.lemmas.Bool.{cases_lt}
-use Rattle.std.proofs.lemmas.Nat.{pow_below}
 use Rattle.sig_merkle.specs.Split.{IsSplit}
 
 -- n is below 2 to the power n, so a tree of n leaves needs n levels at most
@@ -24,8 +23,8 @@ higher_level f n step (suc k) e fits =
 pub same_level : {X : Type 0} (f : ℕ → X) (n : ℕ) → ((e : ℕ) → n ≤ 2 ^ e → f (suc e) ≡ f e) → (d e : ℕ) → n ≤ 2 ^ d → n ≤ 2 ^ e → f d ≡ f e
 same_level f n step d e fits_d fits_e =
     elim (cases_lt d e) [
-        inl d_lt ↦ (let same : d + (e - d) ≡ e = omega arith in sym (higher_level f n step (e - d) d fits_d) ∙ ap f same)
-        | inr e_le ↦ (let same : e + (d - e) ≡ d = omega arith in sym (ap f same) ∙ higher_level f n step (d - e) e fits_e)
+      | inl d_lt ↦ (let same : d + (e - d) ≡ e = omega arith in sym (higher_level f n step (e - d) d fits_d) ∙ ap f same)
+      | inr e_le ↦ (let same : e + (d - e) ≡ d = omega arith in sym (ap f same) ∙ higher_level f n step (d - e) e fits_e)
     ]
 
 split_below : (e n : ℕ) → n ≤ 2 ^ e → 1 < n → (k : ℕ) × IsSplit n k
@@ -33,20 +32,23 @@ split_below zero n fits more = absurd (omega arith)
 split_below (suc e) n fits more =
     let double = pow-suc 2 e in
     elim (cases_lt (2 ^ e) n) [
-        inl below ↦ (2 ^ e, record { exponent = e; power = refl; below = below; largest = omega arith })
-        | inr within ↦ split_below e n within more
+      | inl below ↦ (2 ^ e, record { exponent = e; power = refl; below = below; largest = omega arith })
+      | inr within ↦ split_below e n within more
     ]
 
+-- a tree of more than one leaf has a split
 pub split_of : (n : ℕ) → 1 < n → (k : ℕ) × IsSplit n k
 split_of n more = split_below n n (within_pow n) more
 
+-- a power below n is at most one whose double is not
 exponent_le : (n d e : ℕ) → 2 ^ d < n → n ≤ 2 * 2 ^ e → d ≤ e
 exponent_le n d e below largest =
     elim (cases_lt e d) [
-        inl e_lt ↦ absurd (let grown : 2 ^ suc e ≤ 2 ^ d = pow-le-pow_right (omega arith) (omega arith) in omega (arith, pow-suc 2 e))
-        | inr d_le ↦ d_le
+      | inl e_lt ↦ absurd (let grown : 2 ^ suc e ≤ 2 ^ d = pow-le-pow_right (omega arith) (omega arith) in omega (arith, pow-suc 2 e))
+      | inr d_le ↦ d_le
     ]
 
+-- and no other
 pub split_unique : (n j k : ℕ) → IsSplit n j → IsSplit n k → j ≡ k
 split_unique n j k s t =
     let s_below : 2 ^ s.exponent < n = rw (← s.power) s.below in
@@ -61,14 +63,14 @@ split_unique n j k s t =
 halves : (P : ℕ → Type 0) → P 0 → P 1 → ((n k : ℕ) → IsSplit n k → P k → P (n - k) → P n) → (e n : ℕ) → n ≤ 2 ^ e → P n
 halves P none one join zero n fits =
     elim (cases_lt n 1) [
-        inl empty ↦ (let is : 0 ≡ n = omega arith in subst P is none)
-        | inr single ↦ (let is : 1 ≡ n = omega arith in subst P is one)
+      | inl empty ↦ (let is : 0 ≡ n = omega arith in subst P is none)
+      | inr single ↦ (let is : 1 ≡ n = omega arith in subst P is one)
     ]
 halves P none one join (suc e) n fits =
     let double = pow-suc 2 e in
     elim (cases_lt (2 ^ e) n) [
-        inl below ↦ join n (2 ^ e) (record { exponent = e; power = refl; below = below; largest = omega arith }) (halves P none one join e (2 ^ e) (omega arith)) (halves P none one join e (n - 2 ^ e) (omega arith))
-        | inr within ↦ halves P none one join e n within
+      | inl below ↦ join n (2 ^ e) (record { exponent = e; power = refl; below = below; largest = omega arith }) (halves P none one join e (2 ^ e) (omega arith)) (halves P none one join e (n - 2 ^ e) (omega arith))
+      | inr within ↦ halves P none one join e n within
     ]
 
 -- what holds of no leaf and of one, and of a tree where it holds of both halves, holds of all

@@ -1,5 +1,5 @@
 -- The laws `path_roots` and `path_lens`: both are the recursion of RFC 6962 section 2.1.1.
-use Rattle.std.proofs.Common.{◌≡◌, ◌≢◌, ℕ, zero, suc, ◌+◌, ◌-◌, ◌*◌, ◌^◌, ◌<◌, ◌≤◌, ◌↔◌, true, false, Option, Some, None, option_map, MatchOption, IsSome, IsNone, List, [], ◌∷◌, ◌++◌, reverse, length, refl, sym, ◌∙◌, ap, subst, inl, inr, arith}
+use Rattle.std.proofs.Common.{◌≡◌, ◌≢◌, ℕ, zero, suc, ◌+◌, ◌-◌, ◌*◌, ◌^◌, ◌<◌, ◌≤◌, ◌↔◌, Option, Some, None, option_map, MatchOption, IsSome, IsNone, List, [], ◌∷◌, ◌++◌, reverse, length, refl, sym, ◌∙◌, inl, inr, arith}
 use Rattle.std.proofs.Math.Nat.{pow-suc}
 use Rattle.std.proofs.lemmas.Bool.{le-ltb, lt-ltb, cases_lt, false≢true}
 use Rattle.std.proofs.lemmas.List.{reverse-append, length-reverse}
@@ -13,6 +13,7 @@ path_root_at-step : (index : ℕ) (leaf : List ℕ) (size : ℕ) (hashes : List 
 unfolding path_root_at
 path_root_at-step index leaf size hashes e fits = rw (le-ltb (2 ^ e) size fits) refl
 
+-- where the leaf is in the left half, and where it is in the right
 path_root_at-left : (index : ℕ) (leaf : List ℕ) (size : ℕ) (hashes : List (List ℕ)) (e : ℕ) → 2 ^ e < size → index < 2 ^ e → path_root_at (suc e) index leaf size hashes ≡ with_right hashes (λ rest. path_root_at e index leaf (2 ^ e) rest)
 unfolding path_root_at
 path_root_at-left index leaf size hashes e below left =
@@ -45,6 +46,7 @@ path_root-cut_right index size e leaf hash rest below largest right =
     ∙ path_root_at-right index leaf size (reverse (rest ++ hash ∷ [])) e below right
     ∙ rw (reverse-append rest (hash ∷ []), path_root_is (index - 2 ^ e) leaf (size - 2 ^ e) rest e (omega arith)) refl
 
+-- the recursion of the standard
 pub path_root-left : (index size k : ℕ) (leaf hash : List ℕ) (rest : List (List ℕ)) → IsSplit size k → index < k → path_root index leaf size (rest ++ hash ∷ []) ≡ option_map (λ child. node_of child hash) (path_root index leaf k rest)
 path_root-left index size k leaf hash rest s left =
     rw (s.power) (path_root-cut_left index size s.exponent leaf hash rest (rw (← s.power) s.below) (rw (← s.power) s.largest) (rw (← s.power) left))
@@ -99,11 +101,11 @@ unfolding path_len_at
 path_len_at-within zero index size = omega arith
 path_len_at-within (suc e) index size =
     elim (cases_lt (2 ^ e) size) [
-        inl below ↦ elim (cases_lt index (2 ^ e)) [
-            inl left ↦ rw (lt-ltb (2 ^ e) size below, lt-ltb index (2 ^ e) left) (omega (arith, path_len_at-within e index (2 ^ e)))
-            | inr right ↦ rw (lt-ltb (2 ^ e) size below, le-ltb index (2 ^ e) right) (omega (arith, path_len_at-within e (index - 2 ^ e) (size - 2 ^ e)))
-        ]
-        | inr within ↦ rw (le-ltb (2 ^ e) size within) (omega (arith, path_len_at-within e index size))
+      | inl below ↦ elim (cases_lt index (2 ^ e)) [
+        | inl left ↦ rw (lt-ltb (2 ^ e) size below, lt-ltb index (2 ^ e) left) (omega (arith, path_len_at-within e index (2 ^ e)))
+        | inr right ↦ rw (lt-ltb (2 ^ e) size below, le-ltb index (2 ^ e) right) (omega (arith, path_len_at-within e (index - 2 ^ e) (size - 2 ^ e)))
+      ]
+      | inr within ↦ rw (le-ltb (2 ^ e) size within) (omega (arith, path_len_at-within e index size))
     ]
 
 -- a size that is a `u64` needs 64 levels
@@ -112,6 +114,7 @@ path_len-within index size fits = rw (path_len_is index size 64 fits) (path_len_
 
 -- a path leads to a root exactly where the number of its hashes fits
 
+-- there is a root where the count is the wanted one, and none elsewhere
 abbrev Fits : Option (List ℕ) → ℕ → ℕ → Type 0
 Fits led count wanted = MatchOption led (count ≢ wanted) (λ _. count ≡ wanted)
 
@@ -136,11 +139,11 @@ unfolding path_root_at path_len_at
 path_root_at-fits zero index leaf size hashes = Fits-leaf leaf hashes
 path_root_at-fits (suc e) index leaf size hashes =
     elim (cases_lt (2 ^ e) size) [
-        inl below ↦ elim (cases_lt index (2 ^ e)) [
-            inl left ↦ rw (lt-ltb (2 ^ e) size below, lt-ltb index (2 ^ e) left) (Fits-right hashes (λ rest. path_root_at e index leaf (2 ^ e) rest) (path_len_at e index (2 ^ e)) (path_root_at-fits e index leaf (2 ^ e)))
-            | inr right ↦ rw (lt-ltb (2 ^ e) size below, le-ltb index (2 ^ e) right) (Fits-left hashes (λ rest. path_root_at e (index - 2 ^ e) leaf (size - 2 ^ e) rest) (path_len_at e (index - 2 ^ e) (size - 2 ^ e)) (path_root_at-fits e (index - 2 ^ e) leaf (size - 2 ^ e)))
-        ]
-        | inr within ↦ rw (le-ltb (2 ^ e) size within) (path_root_at-fits e index leaf size hashes)
+      | inl below ↦ elim (cases_lt index (2 ^ e)) [
+        | inl left ↦ rw (lt-ltb (2 ^ e) size below, lt-ltb index (2 ^ e) left) (Fits-right hashes (λ rest. path_root_at e index leaf (2 ^ e) rest) (path_len_at e index (2 ^ e)) (path_root_at-fits e index leaf (2 ^ e)))
+        | inr right ↦ rw (lt-ltb (2 ^ e) size below, le-ltb index (2 ^ e) right) (Fits-left hashes (λ rest. path_root_at e (index - 2 ^ e) leaf (size - 2 ^ e) rest) (path_len_at e (index - 2 ^ e) (size - 2 ^ e)) (path_root_at-fits e (index - 2 ^ e) leaf (size - 2 ^ e)))
+      ]
+      | inr within ↦ rw (le-ltb (2 ^ e) size within) (path_root_at-fits e index leaf size hashes)
     ]
 
 pub path_root-fits : (index size : ℕ) (leaf : List ℕ) (hashes : List (List ℕ)) → MatchOption (path_root index leaf size hashes) (length hashes ≢ path_len index size) (λ _. length hashes ≡ path_len index size)

@@ -1,10 +1,10 @@
 -- The law `tree_roots`: `root` is the recursion of RFC 6962 section 2.1.
-use Rattle.std.proofs.Common.{◌≡◌, ℕ, zero, suc, ◌+◌, ◌-◌, ◌*◌, ◌^◌, ◌<◌, ◌≤◌, true, false, List, [], ◌∷◌, length, take, drop, refl, sym, ◌∙◌, ap, arith, length-take, length-drop}
+use Rattle.std.proofs.Common.{◌≡◌, ℕ, suc, ◌*◌, ◌^◌, ◌<◌, ◌≤◌, List, [], ◌∷◌, length, take, drop, refl, sym, ◌∙◌, arith, length-take, length-drop}
 use Rattle.std.proofs.Math.Nat.{pow-suc}
 use Rattle.std.proofs.lemmas.Bool.{le-ltb, lt-ltb}
 use Rattle.sig_base.specs.Sha256.{sha256}
 use Rattle.sig_merkle.specs.Split.{IsSplit}
-use Rattle.sig_merkle.specs.Root.{leaf_of, node_of, short_root, root_at, root}
+use Rattle.sig_merkle.specs.Root.{leaf_of, node_of, root_at, root}
 use Rattle.sig_merkle.proofs.Levels.{same_level, within_pow}
 
 root_at-step : (entries : List (List ℕ)) (e : ℕ) → length entries ≤ 2 ^ e → root_at (suc e) entries ≡ root_at e entries

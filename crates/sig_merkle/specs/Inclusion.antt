@@ -1,5 +1,5 @@
 -- What an inclusion proof shows, and the answer to one (RFC 6962 section 2.1.1).
-use Rattle.std.specs.Prelude.{◌≡◌, ◌≢◌, ℕ, ◌+◌, ◌<◌, ◌≤◌, List, length, nat_le, bytes_eq, if◌then◌else◌, Option, Some, None, Result, Ok, Err}
+use Rattle.std.specs.Prelude.{◌≡◌, ◌≢◌, ℕ, ◌<◌, ◌≤◌, List, length, nat_le, bytes_eq, if◌then◌else◌, Option, Some, None, Result, Ok, Err}
 use Rattle.sig_base.specs.declared.merkle_error.MerkleProofError.{MerkleProofError}
 use Rattle.sig_base.specs.declared.merkle_error.MerkleProofError.TheVariants.{MismatchedRoot, IndexGtTreeSize, UnexpectedNonEmptyProof, UnexpectedEmptyProof, NewTreeSmaller, WrongProofSize, WrongEmptyTreeHash}
 use Rattle.sig_merkle.specs.Path.{path_root, path_len}

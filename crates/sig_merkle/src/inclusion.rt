@@ -43,7 +43,7 @@ pub fn root_from_inclusion_proof<L: Ledger>(
 /// `IndexGtTreeSize` where the index is not below the size; then `WrongProofSize` where the
 /// number of hashes is not that of such a path, with both numbers; then `MismatchedRoot` where
 /// the root that the path leads to, `expected`, is not the handed one, `got`.
-#[tactic(auto, using(crate::proofs::InclusionLaws::judges_root))]
+#[tactic(auto, using(crate::proofs::InclusionLaws::passes_refusal))]
 pub fn verify_inclusion<L: Ledger>(
     index: u64,
     leaf_hash: &[u8; 32],
@@ -56,7 +56,8 @@ pub fn verify_inclusion<L: Ledger>(
         ≡ inclusion_answer index leaf_hash.now tree_size proof_hashes.now root_hash.now }
     ensures ok { IsOk result
         ↔ IsIncluded index leaf_hash.now tree_size proof_hashes.now root_hash.now }
-    ensures causes { IsInclusionAnswer index leaf_hash.now tree_size proof_hashes.now root_hash.now result }
+    ensures causes { IsInclusionAnswer
+        index leaf_hash.now tree_size proof_hashes.now root_hash.now result }
     ensures steps { steps.new ≡ steps.old + inclusion_steps result (length proof_hashes.now) }
 {
     let root = root_from_inclusion_proof(index, leaf_hash, tree_size, proof_hashes, steps)?;

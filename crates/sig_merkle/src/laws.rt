@@ -12,8 +12,7 @@ ghost use Rattle.sig_merkle.specs.Inclusion.{inclusion_root, inclusion_answer, I
 pub fn splits()
     ensures exists { (n : ℕ) → 1 < n → (k : ℕ) × IsSplit n k }
     ensures unique { (n j k : ℕ) → IsSplit n j → IsSplit n k → j ≡ k }
-{
-}
+{}
 
 /// The Merkle tree hash, by the recursion of RFC 6962 section 2.1.
 pub fn tree_roots()
@@ -21,8 +20,7 @@ pub fn tree_roots()
     ensures one { (entry : List ℕ) → root (entry ∷ []) ≡ leaf_of entry }
     ensures more { (k : ℕ) (entries : List (List ℕ)) → IsSplit (length entries) k
         → root entries ≡ node_of (root (take k entries)) (root (drop k entries)) }
-{
-}
+{}
 
 /// Where a path leads, by the recursion of RFC 6962 section 2.1.1: `hash` is the last of the
 /// hashes.
@@ -40,8 +38,7 @@ pub fn path_roots()
         → IsSome (path_root index leaf size hashes) ↔ (length hashes ≡ path_len index size) }
     ensures none { (index size : ℕ) (leaf : List ℕ) (hashes : List (List ℕ))
         → IsNone (path_root index leaf size hashes) ↔ (length hashes ≢ path_len index size) }
-{
-}
+{}
 
 /// The number of hashes of a path: one for each cut above the leaf, and never more than 64 in a
 /// tree whose size is a `u64`.
@@ -52,8 +49,7 @@ pub fn path_lens()
     ensures right { (index size k : ℕ) → IsSplit size k → k ≤ index
         → path_len index size ≡ path_len (index - k) (size - k) + 1 }
     ensures bound { (index size : ℕ) → size ≤ 2 ^ 64 → path_len index size ≤ 64 }
-{
-}
+{}
 
 /// An answer to an inclusion proof is the one whose cause holds.
 pub fn inclusion_answers()
@@ -65,5 +61,4 @@ pub fn inclusion_answers()
         (answer : Result (Unit {0}) MerkleProofError)
         → (inclusion_answer index leaf size hashes root ≡ answer)
         ↔ IsInclusionAnswer index leaf size hashes root answer }
-{
-}
+{}

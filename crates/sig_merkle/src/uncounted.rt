@@ -19,7 +19,8 @@ pub fn verify_inclusion(
         ≡ inclusion_answer index leaf_hash.now tree_size proof_hashes.now root_hash.now }
     ensures ok { IsOk result
         ↔ IsIncluded index leaf_hash.now tree_size proof_hashes.now root_hash.now }
-    ensures causes { IsInclusionAnswer index leaf_hash.now tree_size proof_hashes.now root_hash.now result }
+    ensures causes { IsInclusionAnswer
+        index leaf_hash.now tree_size proof_hashes.now root_hash.now result }
 {
     let blank = Blank::new(1);
     verify_on::<Brand>(blank, index, leaf_hash, tree_size, proof_hashes, root_hash)
@@ -41,7 +42,8 @@ fn verify_on<L: Ledger>(
         ≡ inclusion_answer index leaf_hash.now tree_size proof_hashes.now root_hash.now }
     ensures ok { IsOk result
         ↔ IsIncluded index leaf_hash.now tree_size proof_hashes.now root_hash.now }
-    ensures causes { IsInclusionAnswer index leaf_hash.now tree_size proof_hashes.now root_hash.now result }
+    ensures causes { IsInclusionAnswer
+        index leaf_hash.now tree_size proof_hashes.now root_hash.now result }
 {
     let mut steps = Steps::<L>::new(blank);
     crate::inclusion::verify_inclusion(

@@ -1,2 +1,4 @@
 pub mod Reading
+pub mod Replies
+pub mod Runs
 pub mod Writing

@@ -1,5 +1,5 @@
 -- What a source gives over several reads.
-use Rattle.std.proofs.Common.{◌≡◌, ℕ, List, [], ◌++◌, Option, None, Some, ◌∙◌, refl, ap, append_assoc, sym}
+use Rattle.std.proofs.Common.{ℕ, List, [], ◌++◌, Option, None, Some, ◌∙◌, refl, ap, append_assoc, sym}
 use Rattle.std.specs.Io.KnownBytes.{Consumes}
 
 -- no byte is taken at first

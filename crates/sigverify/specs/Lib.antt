@@ -1,1 +1,5 @@
 pub mod Limit
+pub mod Link
+pub mod Reply
+pub mod Request
+pub mod Run

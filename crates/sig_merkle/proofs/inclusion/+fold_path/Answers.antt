@@ -1,4 +1,4 @@
-use Rattle.std.proofs.Common.{◌+◌, length, ◌∙◌, ap, sym, Some, arith}
+use Rattle.std.proofs.Common.{◌∙◌, ap, sym, Some, arith}
 use Rattle.sig_merkle.proofs.PathLaws.{path_len-left, path_len-right}
 use Rattle.sig_merkle.proofs.PathSteps.{fold_leaf, fold_several, fold_left, fold_right}
 use Rattle.sig_merkle.proofs.inclusion.+fold_path.Goals as goal

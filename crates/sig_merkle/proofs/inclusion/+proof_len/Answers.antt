@@ -1,4 +1,4 @@
-use Rattle.std.proofs.Common.{◌+◌, ◌≤◌, arith}
+use Rattle.std.proofs.Common.{arith}
 use Rattle.sig_merkle.proofs.PathLaws.{path_len-left, path_len-right, path_len-within}
 use Rattle.sig_merkle.proofs.inclusion.+proof_len.Goals as goal
 

@@ -1,0 +1,9 @@
+-- What was written so far are the digits of the bytes that were passed.
+use Rattle.std.proofs.Common.{take}
+use Rattle.std.specs.Fmt.{HasWritten, IsPlainFormatter}
+use Rattle.sig_base.specs.Hex.{hex}
+use Rattle.sig_base.proofs.merkle_error.RootHexDisplay.fmt.Given as goal
+
+abbrev pub invariant-loop-byte : goal.invariant-loop-byte
+invariant-loop-byte g l =
+    IsPlainFormatter l.initial.f → HasWritten g.W.Write.write_str_gives l.initial.f (hex (take l.byte-index l.byte-items)) l.f

@@ -1,0 +1,69 @@
+//! `ByText`: a map from texts to values that own their memory, as a log's keys by their ids.
+ghost use Rattle.std.specs.Prelude.{◌≡◌, [], length, OnOk, OnErr};
+ghost use Rattle.std.specs.Option.{option_copied};
+ghost use Rattle.sig_base.specs.ByText.{text_lookup, text_put};
+
+use crate::memory::OutOfMemory;
+use std::alloc::Global;
+use std::collections::BTreeMap;
+use std::marker::Model;
+
+/// A map from texts to values. Contracts see the list of its entries, each text once, in byte order of the texts.
+#[derive(Drop)]
+pub struct ByText<V> {
+    alloc: Global,
+    entries: BTreeMap<String, V>,
+}
+
+impl<V> Model for ByText<V> {
+    ghost use Rattle.std.specs.Prelude.{ℕ, List};
+    ghost use Rattle.std.specs.Coded.{coded_list, coded×, coded_ℕ};
+    ghost use Rattle.sig_base.specs.ByText.{text_entries};
+
+    ghost Value = { List (List ℕ × V) };
+
+    ghost coded = { coded_list (coded× (coded_list coded_ℕ) V.code) };
+
+    ghost view = { λ m. text_entries m.entries.entries };
+}
+
+impl<V> ByText<V> {
+    /// A map without entries. It takes no memory.
+    pub fn new(alloc: Global) -> ByText<V>
+        ensures { result ≡ [] }
+    {
+        ByText {
+            alloc,
+            entries: BTreeMap::new(alloc),
+        }
+    }
+
+    /// How many entries there are.
+    #[tactic(auto, using(crate::proofs::Texts::text_maps))]
+    pub fn len(&self) -> usize
+        ensures { result ≡ length self.now }
+    {
+        self.entries.len()
+    }
+
+    /// The value of a text; none where the text is not there.
+    #[tactic(auto, using(crate::proofs::Texts::text_maps))]
+    pub fn get(&self, key: &str) -> Option<&V>
+        ensures { option_copied result ≡ text_lookup key.now self.now }
+    {
+        self.entries.get(key)
+    }
+}
+
+impl<V: Drop> ByText<V> {
+    /// Gives a text this value, in place of the one that it may have. Refuses for want of memory alone; the map is then as before.
+    #[tactic(auto, using(crate::proofs::Texts::text_maps))]
+    pub fn insert(&mut self, key: &str, value: V) -> Result<(), OutOfMemory>
+        ensures ok { OnOk result (self.new ≡ text_put key.now value self.old) }
+        ensures err { OnErr result (self.new ≡ self.old) }
+    {
+        let key = String::from_str(self.alloc, key)?;
+        self.entries.insert(key, value)?;
+        Ok(())
+    }
+}

@@ -1,0 +1,101 @@
+-- What the builders make of a tree.
+use Rattle.std.proofs.Common.{String, Vec, BTreeMap, Global, ◌≡◌, ℕ, List, [], ◌∷◌, ◌++◌, Option, Some, None, Bool, true, false, ◌||◌, refl, sym, ap, ◌∙◌}
+use Rattle.std.proofs.lemmas.Bool.{or_parts, or_from}
+use Rattle.std.specs.Cmp.Lexicographic.{slice_cmp}
+use Rattle.std.specs.Ordering.{nat_cmp, match_ordering}
+use Rattle.std.specs.declared.cmp.Ordering.{Ordering}
+use Rattle.std.specs.declared.cmp.Ordering.TheVariants.{Less, Equal, Greater}
+use Rattle.serde_json.specs.Data.{Data, null, boolean, number, string, array, object, Items, no_items, item, Members, no_members, member, put}
+use Rattle.serde_json.specs.Find.{as_array, as_object}
+use Rattle.serde_json.proofs.Views.{view-Array, view-Object}
+use Rattle.serde_json.specs.View.{view, items_view, members_view}
+use Rattle.serde_json.specs.Written.{has_float, items_have_float, members_have_float}
+use Rattle.serde_json.specs.declared.value.Value.{Value, Array, Object}
+use Rattle.sig_json.specs.Builders.{with_member, with_last, items_with_last}
+
+either_floatless : (o : Ordering) (a b c : Members) → members_have_float a ≡ false → members_have_float b ≡ false → members_have_float c ≡ false → members_have_float (match_ordering o a b c) ≡ false
+either_floatless Less a b c p q r = p
+either_floatless Equal a b c p q r = q
+either_floatless Greater a b c p q r = r
+
+put_floatless : (name : List ℕ) (value : Data) (ms : Members) → has_float value ≡ false → members_have_float ms ≡ false → members_have_float (put name value ms) ≡ false
+put_floatless name value no_members one rest = or_from (has_float value) false one refl
+put_floatless name value (member k d ms) one rest =
+    let parts = or_parts (has_float d) (members_have_float ms) rest in
+    either_floatless (slice_cmp nat_cmp name k) (member name value (member k d ms)) (member k value ms) (member k d (put name value ms))
+    (or_from (has_float value) (has_float d || members_have_float ms) one rest)
+    (or_from (has_float value) (members_have_float ms) one parts.1)
+    (or_from (has_float d) (members_have_float (put name value ms)) parts.0 (put_floatless name value ms one parts.1))
+
+pub with_member_floatless : (name : List ℕ) (value tree : Data) → has_float value ≡ false → has_float tree ≡ false → has_float (with_member name value tree) ≡ false
+with_member_floatless name value null one whole = refl
+with_member_floatless name value (boolean b) one whole = refl
+with_member_floatless name value (number n) one whole = whole
+with_member_floatless name value (string s) one whole = refl
+with_member_floatless name value (array ds) one whole = whole
+with_member_floatless name value (object ms) one whole = put_floatless name value ms one whole
+
+pub with_member-object : (name : List ℕ) (value tree : Data) (ms : Members) → Some ms ≡ as_object tree → with_member name value tree ≡ object (put name value ms)
+with_member-object name value null ms e = cc
+with_member-object name value (boolean b) ms e = cc
+with_member-object name value (number n) ms e = cc
+with_member-object name value (string s) ms e = cc
+with_member-object name value (array ds) ms e = cc
+with_member-object name value (object ns) ms e = let same : ms ≡ ns = cc in rw same refl
+
+pub with_member-other : (name : List ℕ) (value tree : Data) → None ≡ as_object tree → with_member name value tree ≡ tree
+with_member-other name value null e = refl
+with_member-other name value (boolean b) e = refl
+with_member-other name value (number n) e = refl
+with_member-other name value (string s) e = refl
+with_member-other name value (array ds) e = refl
+with_member-other name value (object ns) e = cc
+
+last_floatless : (ds : Items) (value : Data) → has_float value ≡ false → items_have_float ds ≡ false → items_have_float (items_with_last ds value) ≡ false
+last_floatless no_items value one rest = or_from (has_float value) false one refl
+last_floatless (item d ds) value one rest =
+    let parts = or_parts (has_float d) (items_have_float ds) rest in
+    or_from (has_float d) (items_have_float (items_with_last ds value)) parts.0 (last_floatless ds value one parts.1)
+
+pub with_last_floatless : (value tree : Data) → has_float value ≡ false → has_float tree ≡ false → has_float (with_last value tree) ≡ false
+with_last_floatless value null one whole = refl
+with_last_floatless value (boolean b) one whole = refl
+with_last_floatless value (number n) one whole = whole
+with_last_floatless value (string s) one whole = refl
+with_last_floatless value (array ds) one whole = last_floatless ds value one whole
+with_last_floatless value (object ms) one whole = whole
+
+items_view-append : (values : List Value) (last : Value) → items_view (values ++ last ∷ []) ≡ items_with_last (items_view values) (view last)
+items_view-append [] last = refl
+items_view-append (v ∷ vs) last = ap (λ rest. item (view v) rest) (items_view-append vs last)
+
+with_last-array : (tree : Data) (values : List Value) (last : Value) → Some (items_view values) ≡ as_array tree → with_last (view last) tree ≡ array (items_view (values ++ last ∷ []))
+with_last-array null values last e = cc
+with_last-array (boolean b) values last e = cc
+with_last-array (number n) values last e = cc
+with_last-array (string s) values last e = cc
+with_last-array (array ds) values last e = let same : ds ≡ items_view values = cc in rw (same, items_view-append values last) refl
+with_last-array (object ms) values last e = cc
+
+pub with_last-other : (value tree : Data) → None ≡ as_array tree → with_last value tree ≡ tree
+with_last-other value null e = refl
+with_last-other value (boolean b) e = refl
+with_last-other value (number n) e = refl
+with_last-other value (string s) e = refl
+with_last-other value (array ds) e = cc
+with_last-other value (object ms) e = refl
+
+-- what the code's change of a value is, where it made one
+pub pushed : (tree : Data) (values after : Vec Value Global) (last : Value) → Some (items_view values.items) ≡ as_array tree → after.items ≡ values.items ++ last ∷ [] → view (Array after) ≡ with_last (view last) tree
+pushed tree values after last e pushes = rw (view-Array after, pushes) (sym (with_last-array tree values.items last e))
+
+pub pushed_floatless : (tree : Data) (values after : Vec Value Global) (last : Value) → Some (items_view values.items) ≡ as_array tree → after.items ≡ values.items ++ last ∷ [] → has_float tree ≡ false → has_float (view last) ≡ false → has_float (view (Array after)) ≡ false
+pushed_floatless tree values after last e pushes whole one =
+    rw (pushed tree values after last e pushes) (with_last_floatless (view last) tree one whole)
+
+pub put_in_floatless : (name : List ℕ) (value tree : Data) (ms : Members) (after : BTreeMap (String Global) Value) → Some ms ≡ as_object tree → members_view after.entries ≡ put name value ms → has_float tree ≡ false → has_float value ≡ false → has_float (view (Object after)) ≡ false
+put_in_floatless name value tree ms after e puts whole one =
+    let made = rw (with_member-object name value tree ms e) at (with_member_floatless name value tree one whole) in
+    rw (view-Object after, puts) made
+
+pub ruleset building = (with_member_floatless, with_member-object, with_member-other, with_last_floatless, with_last-other, pushed, pushed_floatless, put_in_floatless)

@@ -1,0 +1,6 @@
+pub mod Reading
+pub mod Floatless
+pub mod Lists
+pub mod Numerals
+pub mod Elements
+pub mod Building

@@ -1,0 +1,11 @@
+-- The tree that a document holds, and that a view shows.
+use Rattle.serde_json.specs.Data.{Data}
+use Rattle.serde_json.specs.View.{view}
+use Rattle.sig_json.specs.declared.document.Document.{Document}
+use Rattle.sig_json.specs.declared.json.Json.{Json}
+
+abbrev pub document_tree : Document → Data
+document_tree document = view document.value
+
+abbrev pub tree : Json → Data
+tree json = view json.value.now

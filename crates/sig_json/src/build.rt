@@ -1,0 +1,85 @@
+//! Documents built from their parts.
+use crate::change::{push_last, put_member};
+use crate::document::Document;
+use crate::json::Json;
+use serde_json::{Map, Value};
+use sig_base::OutOfMemory;
+use std::alloc::Global;
+
+#[tactic(auto, using(crate::proofs::Building::building))]
+impl Document {
+    ghost use Rattle.std.specs.Prelude.{◌≡◌, IfOk, OnOk, OnErr, IsSome};
+    ghost use Rattle.serde_json.specs.Data.{object, array, string, number, no_members, no_items};
+    ghost use Rattle.serde_json.specs.Find.{as_object, as_array, of_integer};
+    ghost use Rattle.sig_json.specs.Builders.{with_member, with_last};
+    ghost use Rattle.sig_json.specs.Tree.{document_tree};
+
+    /// An object without members. It takes no memory.
+    pub fn object(alloc: Global) -> Document
+        ensures { document_tree result ≡ object no_members }
+    {
+        Document {
+            value: Value::Object(Map::new(alloc)),
+        }
+    }
+
+    /// A list without elements. It takes no memory.
+    pub fn list(alloc: Global) -> Document
+        ensures { document_tree result ≡ array no_items }
+    {
+        Document {
+            value: Value::Array(Vec::new(alloc)),
+        }
+    }
+
+    /// A text. Refuses for want of memory alone.
+    pub fn of_text(alloc: Global, text: &str) -> Result<Document, OutOfMemory>
+        ensures { IfOk result (λ document. document_tree document ≡ string text.now) }
+    {
+        let value = Value::try_from_str(alloc, text)?;
+        Ok(Document { value })
+    }
+
+    /// An integer. It takes no memory.
+    pub fn of_integer(integer: i64) -> Document
+        ensures { document_tree result ≡ number (of_integer integer) }
+    {
+        Document {
+            value: Value::from(integer),
+        }
+    }
+
+    /// Sets the member of this name of an object, new or in place of the old one; all other members stay. Refuses for want of memory alone; the
+    /// object is then as before.
+    pub fn insert(&mut self, alloc: Global, name: &str, value: Document) -> Result<(), OutOfMemory>
+        requires { IsSome (as_object (document_tree self.old)) }
+        ensures ok { OnOk result (document_tree self.new
+            ≡ with_member name.now (document_tree value) (document_tree self.old)) }
+        ensures err { OnErr result (document_tree self.new ≡ document_tree self.old) }
+    {
+        put_member(&mut self.value, alloc, name, value.value)
+    }
+
+    /// Adds a value at the end of a list. Refuses for want of memory alone; the list is then as before.
+    pub fn push(&mut self, value: Document) -> Result<(), OutOfMemory>
+        requires { IsSome (as_array (document_tree self.old)) }
+        ensures ok { OnOk result (document_tree self.new
+            ≡ with_last (document_tree value) (document_tree self.old)) }
+        ensures err { OnErr result (document_tree self.new ≡ document_tree self.old) }
+    {
+        push_last(&mut self.value, value.value)
+    }
+}
+
+impl Json<'_> {
+    ghost use Rattle.std.specs.Prelude.{◌≡◌, IfOk};
+    ghost use Rattle.sig_json.specs.Tree.{document_tree, tree};
+
+    /// The value in memory of its own. Refuses for want of memory alone.
+    pub fn copy(self, _alloc: Global) -> Result<Document, OutOfMemory>
+        ensures { IfOk result (λ document. document_tree document ≡ tree self.entry) }
+    {
+        let value = self.value.clone()?;
+        Ok(Document { value })
+    }
+}

@@ -1,0 +1,115 @@
+//! `ElementReader`: readers of one kind of value, and the one reader of lists over them.
+ghost use Rattle.std.specs.Prelude.{Option};
+ghost use Rattle.serde_json.specs.Data.{Data};
+ghost use Rattle.sig_json.specs.Member.{list_each, required, optional, optional_list, required_list};
+ghost use Rattle.sig_json.specs.Reads.{Reads};
+ghost use Rattle.sig_json.specs.Tree.{tree};
+
+use crate::error::MemberError;
+use crate::json::Json;
+use crate::member::member;
+use sig_base::Register;
+use std::alloc::Global;
+
+/// A reader of one kind of value: of the elements of a list, and of a member.
+pub trait ElementReader {
+    /// What a value of the kind is read as.
+    type Item: Drop;
+
+    ghost meaning: { Data → Option Self.Item };
+
+    /// Reads a value. Refuses with `Member` exactly where it is not of the kind.
+    fn read(alloc: Global, json: Json<'_>) -> Result<Self::Item, MemberError>
+        ensures { Reads (λ x. x) result (meaning (tree json.entry)) };
+}
+
+/// Reads every element of a list. Refuses with `Member` where the value is no list or an element is not of the kind.
+#[tactic(auto, using(crate::proofs::Elements::elements))]
+fn read_list<T: ElementReader>(
+    alloc: Global,
+    list: Json<'_>,
+) -> Result<Register<T::Item>, MemberError>
+    ensures { Reads (λ x. x) result (list_each T.meaning (tree list.entry)) }
+{
+    let Some(len) = list.list_len() else {
+        return Err(MemberError::Member);
+    };
+    let mut found = Register::new(alloc);
+    'elements: for place in 0..len {
+        let Some(element) = list.item(place) else {
+            return Err(MemberError::Member);
+        };
+        let item = match T::read(alloc, element) {
+            Ok(item) => item,
+            Err(error) => return Err(error),
+        };
+        found.push(item)?;
+    }
+    Ok(found)
+}
+
+/// A required member of one kind. Refuses with `Member` where the value is no object, or the member is absent, null or not of the kind.
+#[tactic(auto, unfolding(crate::specs::Member::required))]
+pub fn required<T: ElementReader>(
+    alloc: Global,
+    json: Json<'_>,
+    name: &str,
+) -> Result<T::Item, MemberError>
+    ensures { Reads (λ x. x) result (required T.meaning name.now (tree json.entry)) }
+{
+    match member(json, name)? {
+        Some(value) => T::read(alloc, value),
+        None => Err(MemberError::Member),
+    }
+}
+
+/// An optional member of one kind; none where it is absent or null. Refuses with `Member` where the value is no object or the member is not
+/// of the kind.
+#[tactic(auto, unfolding(crate::specs::Member::optional_or))]
+pub fn optional<T: ElementReader>(
+    alloc: Global,
+    json: Json<'_>,
+    name: &str,
+) -> Result<Option<T::Item>, MemberError>
+    ensures { Reads (λ x. x) result (optional T.meaning name.now (tree json.entry)) }
+{
+    match member(json, name)? {
+        Some(value) => match T::read(alloc, value) {
+            Ok(item) => Ok(Some(item)),
+            Err(error) => Err(error),
+        },
+        None => Ok(None),
+    }
+}
+
+/// A required list of one kind. Refuses with `Member` where the value is no object, the member is absent, null or no list, or an element is not
+/// of the kind; a null in the list is an element as any other.
+#[tactic(auto, unfolding(crate::specs::Member::required))]
+pub fn required_list<T: ElementReader>(
+    alloc: Global,
+    json: Json<'_>,
+    name: &str,
+) -> Result<Register<T::Item>, MemberError>
+    ensures { Reads (λ x. x) result (required_list T.meaning name.now (tree json.entry)) }
+{
+    match member(json, name)? {
+        Some(value) => read_list::<T>(alloc, value),
+        None => Err(MemberError::Member),
+    }
+}
+
+/// An optional list of one kind; empty where it is absent or null. Refuses with `Member` where the value is no object, the member is no list, or
+/// an element is not of the kind; a null in the list is an element as any other.
+#[tactic(auto, unfolding(crate::specs::Member::optional_or))]
+pub fn optional_list<T: ElementReader>(
+    alloc: Global,
+    json: Json<'_>,
+    name: &str,
+) -> Result<Register<T::Item>, MemberError>
+    ensures { Reads (λ x. x) result (optional_list T.meaning name.now (tree json.entry)) }
+{
+    match member(json, name)? {
+        Some(value) => read_list::<T>(alloc, value),
+        None => Ok(Register::new(alloc)),
+    }
+}

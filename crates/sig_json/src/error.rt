@@ -1,0 +1,129 @@
+//! Why a text is no document, and why a member is not what it has to be.
+use sig_base::OutOfMemory;
+use thiserror::Error;
+
+/// Why a text is no document.
+#[derive(Clone, Copy, Debug, PartialEq, Eq, Error)]
+pub enum DocumentError {
+    /// The text is not UTF-8, or has no reading as JSON of at most 127 nested lists and objects.
+    #[error("NotJson")]
+    NotJson,
+    /// A number of the tree is no integer from -2^63 to 2^64 - 1 in plain digits.
+    #[error("Float")]
+    Float,
+    /// No memory could be had.
+    #[error("OutOfMemory")]
+    OutOfMemory,
+}
+
+/// Why a member could not be read.
+#[derive(Clone, Copy, Debug, PartialEq, Eq, Error)]
+pub enum MemberError {
+    /// The value is no object, or the member breaks its row of the table.
+    #[error("Member")]
+    Member,
+    /// No memory could be had.
+    #[error("OutOfMemory")]
+    OutOfMemory,
+}
+
+/// Why a text is no record of a table.
+#[derive(Clone, Copy, Debug, PartialEq, Eq, Error)]
+pub enum JsonError {
+    /// The text is no JSON.
+    #[error("NotJson")]
+    NotJson,
+    /// A number of the tree is a float.
+    #[error("Float")]
+    Float,
+    /// A member breaks its row of the table.
+    #[error("Member")]
+    Member,
+    /// No memory could be had.
+    #[error("OutOfMemory")]
+    OutOfMemory,
+}
+
+/// Why a tree has no canonical text.
+#[derive(Clone, Copy, Debug, PartialEq, Eq, Error)]
+pub enum CanonicalError {
+    /// An integer is beyond plus or minus 2^53 - 1.
+    #[error("IntegerTooLarge")]
+    IntegerTooLarge,
+    /// No memory could be had.
+    #[error("OutOfMemory")]
+    OutOfMemory,
+}
+
+impl From<OutOfMemory> for DocumentError {
+    ghost use Rattle.std.specs.Prelude.{◌≡◌};
+    ghost use Rattle.sig_json.specs.declared.error.DocumentError.TheVariants.{OutOfMemory};
+
+    ghost from_gives = { λ _ e. e ≡ OutOfMemory };
+
+    fn from(_error: OutOfMemory) -> DocumentError {
+        DocumentError::OutOfMemory
+    }
+}
+
+impl From<OutOfMemory> for MemberError {
+    ghost use Rattle.std.specs.Prelude.{◌≡◌};
+    ghost use Rattle.sig_json.specs.declared.error.MemberError.TheVariants.{OutOfMemory};
+
+    ghost from_gives = { λ _ e. e ≡ OutOfMemory };
+
+    fn from(_error: OutOfMemory) -> MemberError {
+        MemberError::OutOfMemory
+    }
+}
+
+impl From<OutOfMemory> for CanonicalError {
+    ghost use Rattle.std.specs.Prelude.{◌≡◌};
+    ghost use Rattle.sig_json.specs.declared.error.CanonicalError.TheVariants.{OutOfMemory};
+
+    ghost from_gives = { λ _ e. e ≡ OutOfMemory };
+
+    fn from(_error: OutOfMemory) -> CanonicalError {
+        CanonicalError::OutOfMemory
+    }
+}
+
+impl From<OutOfMemory> for JsonError {
+    ghost use Rattle.std.specs.Prelude.{◌≡◌};
+    ghost use Rattle.sig_json.specs.declared.error.JsonError.TheVariants.{OutOfMemory};
+
+    ghost from_gives = { λ _ e. e ≡ OutOfMemory };
+
+    fn from(_error: OutOfMemory) -> JsonError {
+        JsonError::OutOfMemory
+    }
+}
+
+impl From<DocumentError> for JsonError {
+    ghost use Rattle.std.specs.Prelude.{◌≡◌};
+    ghost use Rattle.sig_json.specs.Causes.{cause_of_document};
+
+    ghost from_gives = { λ cause e. e ≡ cause_of_document cause };
+
+    fn from(error: DocumentError) -> JsonError {
+        match error {
+            DocumentError::NotJson => JsonError::NotJson,
+            DocumentError::Float => JsonError::Float,
+            DocumentError::OutOfMemory => JsonError::OutOfMemory,
+        }
+    }
+}
+
+impl From<MemberError> for JsonError {
+    ghost use Rattle.std.specs.Prelude.{◌≡◌};
+    ghost use Rattle.sig_json.specs.Causes.{cause_of_member};
+
+    ghost from_gives = { λ cause e. e ≡ cause_of_member cause };
+
+    fn from(error: MemberError) -> JsonError {
+        match error {
+            MemberError::Member => JsonError::Member,
+            MemberError::OutOfMemory => JsonError::OutOfMemory,
+        }
+    }
+}

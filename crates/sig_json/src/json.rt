@@ -1,0 +1,83 @@
+//! `Json`: a view of a value of a document.
+ghost use Rattle.std.specs.Prelude.{◌≡◌, false};
+ghost use Rattle.serde_json.specs.View.{view};
+ghost use Rattle.serde_json.specs.Written.{has_float};
+
+use serde_json::Value;
+
+/// A value of a document, lent. Its calls take no memory, and answer `None` exactly where the value is of another kind or what is asked for
+/// is not there.
+#[derive(Clone, Copy)]
+pub struct Json<'a> {
+    pub(crate) value: &'a Value,
+    ghost without_float: { has_float (view value.now) ≡ false },
+}
+
+#[tactic(auto, using(crate::proofs::Floatless::floatless, crate::proofs::Lists::lengths))]
+impl<'a> Json<'a> {
+    ghost use Rattle.std.specs.Prelude.{is_some, option_map, option_and_then, length};
+    ghost use Rattle.serde_json.specs.Find.{get as member_in, at, as_null, as_bool, as_str, as_number, as_integer};
+    ghost use Rattle.sig_json.specs.List.{list_of};
+    ghost use Rattle.sig_json.specs.Tree.{tree};
+
+    /// The member of this name of an object.
+    pub fn get(self, name: &str) -> Option<Json<'a>>
+        ensures { option_map tree result ≡ member_in name.now (tree self.entry) }
+    {
+        match self.value.get(name) {
+            Some(value) => Some(Json { value }),
+            None => None,
+        }
+    }
+
+    /// Whether the value is null.
+    pub fn is_null(self) -> bool
+        ensures { result ≡ is_some (as_null (tree self.entry)) }
+    {
+        self.value.is_null()
+    }
+
+    /// A text.
+    pub fn text(self) -> Option<&'a str>
+        ensures { option_map (λ text. text.now) result ≡ as_str (tree self.entry) }
+    {
+        self.value.as_str()
+    }
+
+    /// A number, from -2^63 to 2^64 - 1.
+    pub fn integer(self) -> Option<i128>
+        ensures { result ≡ option_and_then as_integer (as_number (tree self.entry)) }
+    {
+        match self.value.as_number() {
+            Some(number) => number.as_i128(),
+            None => None,
+        }
+    }
+
+    /// A truth value.
+    pub fn boolean(self) -> Option<bool>
+        ensures { result ≡ as_bool (tree self.entry) }
+    {
+        self.value.as_bool()
+    }
+
+    /// How many elements a list has.
+    pub fn list_len(self) -> Option<usize>
+        ensures { result ≡ option_map (λ elements. length elements) (list_of (tree self.entry)) }
+    {
+        match self.value.as_array() {
+            Some(items) => Some(items.len()),
+            None => None,
+        }
+    }
+
+    /// The element of a list at a place, counted from 0.
+    pub fn item(self, place: usize) -> Option<Json<'a>>
+        ensures { option_map tree result ≡ at place (tree self.entry) }
+    {
+        match self.value.get(place) {
+            Some(value) => Some(Json { value }),
+            None => None,
+        }
+    }
+}

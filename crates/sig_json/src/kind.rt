@@ -1,0 +1,82 @@
+//! The kinds of the values of member tables: text, bytes, hash.
+ghost use Rattle.std.specs.Prelude.{◌≡◌};
+ghost use Rattle.sig_json.specs.Kinds.{hash_of};
+ghost use Rattle.sig_json.specs.Tree.{tree};
+
+use crate::element::ElementReader;
+use crate::error::MemberError;
+use crate::json::Json;
+use base64::DecodeAllocError;
+use base64::engine::general_purpose::STANDARD;
+use hex::FromHex;
+use sig_base::{Bytes, Text};
+use std::alloc::Global;
+
+/// Reads texts.
+pub enum TextReader {}
+
+/// Reads bytes written as padded standard base64 (RFC 4648 section 4).
+pub enum BytesReader {}
+
+/// Reads 32 bytes written as 64 hexadecimal digits in either case (RFC 4648 section 8).
+pub enum HashReader {}
+
+impl ElementReader for TextReader {
+    ghost use Rattle.sig_json.specs.Kinds.{text_of};
+
+    type Item = Text;
+
+    ghost meaning = { text_of };
+
+    #[tactic(auto, unfolding(crate::specs::Kinds::text_of))]
+    fn read(alloc: Global, json: Json<'_>) -> Result<Text, MemberError> {
+        match json.text() {
+            Some(text) => Ok(Text::copy_of(alloc, text)?),
+            None => Err(MemberError::Member),
+        }
+    }
+}
+
+impl ElementReader for BytesReader {
+    ghost use Rattle.sig_json.specs.Kinds.{bytes_of};
+
+    type Item = Bytes;
+
+    ghost meaning = { bytes_of };
+
+    #[tactic(auto, unfolding(crate::specs::Kinds::bytes_of))]
+    fn read(alloc: Global, json: Json<'_>) -> Result<Bytes, MemberError> {
+        let Some(text) = json.text() else {
+            return Err(MemberError::Member);
+        };
+        match STANDARD.decode(alloc, text.as_bytes()) {
+            Ok(bytes) => Ok(Bytes::from(bytes)),
+            Err(DecodeAllocError::DecodeError(_)) => Err(MemberError::Member),
+            Err(DecodeAllocError::OutOfMemory) => Err(MemberError::OutOfMemory),
+        }
+    }
+}
+
+impl ElementReader for HashReader {
+    ghost use Rattle.std.specs.Prelude.{ℕ, List};
+    ghost use Rattle.sig_json.specs.Kinds.{hash_of};
+
+    type Item = [u8; 32];
+
+    ghost meaning = { hash_of };
+
+    fn read(_alloc: Global, json: Json<'_>) -> Result<[u8; 32], MemberError> {
+        hash(json).ok_or(MemberError::Member)
+    }
+}
+
+/// The hash that a value is.
+#[tactic(auto, unfolding(crate::specs::Kinds::hash_of))]
+pub(crate) fn hash(json: Json<'_>) -> Option<[u8; 32]>
+    ensures { result ≡ hash_of (tree json.entry) }
+{
+    match json.text() {
+        Some(text) => <[u8; 32] as FromHex>::from_hex(text).ok(),
+        None => None,
+    }
+}

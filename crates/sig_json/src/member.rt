@@ -1,0 +1,130 @@
+//! Members by the rows of a table: a name, a kind, and whether the member is required. Null stands for absent.
+ghost use Rattle.std.specs.Prelude.{◌≡◌, IfErr, option_map};
+ghost use Rattle.sig_json.specs.Member.{member_of, optional_i64, optional_u64, optional_text, optional_bytes, required_i64, required_u64, required_text, required_bytes, required_hash};
+ghost use Rattle.sig_json.specs.Reads.{Reads};
+ghost use Rattle.sig_json.specs.Tree.{tree};
+
+use crate::element::{ElementReader, required};
+use crate::error::MemberError;
+use crate::integer::{signed, unsigned};
+use crate::json::Json;
+use crate::kind::{BytesReader, TextReader, hash};
+use sig_base::{Bytes, Text};
+use std::alloc::Global;
+
+/// The member of an object, none where it is absent or null. Refuses with `Member` where the value is no object.
+#[tactic(auto, unfolding(crate::specs::Member::member_of))]
+pub(crate) fn member<'a>(json: Json<'a>, name: &str) -> Result<Option<Json<'a>>, MemberError>
+    ensures value { Reads (λ m. option_map tree m) result (member_of name.now (tree json.entry)) }
+    ensures no_memory { IfErr result (λ e. e ≡ MemberError.Member) }
+{
+    if !json.value.is_object() {
+        return Err(MemberError::Member);
+    }
+    match json.get(name) {
+        Some(value) if !value.is_null() => Ok(Some(value)),
+        _ => Ok(None),
+    }
+}
+
+/// An integer from -2^63 to 2^63 - 1: a whole JSON number, or a text of an optional `-` and digits; 0 where the member is absent or null. Refuses
+/// with `Member` where the value is no object or the member is no such integer. It takes no memory.
+#[tactic(auto, unfolding(crate::specs::Member::optional_or))]
+pub fn read_i64(json: Json<'_>, name: &str) -> Result<i64, MemberError>
+    ensures value { Reads (λ x. x) result (optional_i64 name.now (tree json.entry)) }
+    ensures no_memory { IfErr result (λ e. e ≡ MemberError.Member) }
+{
+    match member(json, name)? {
+        Some(value) => signed(value).ok_or(MemberError::Member),
+        None => Ok(0),
+    }
+}
+
+/// An integer from 0 to 2^64 - 1: a whole JSON number, or a text of an optional `-` and digits; 0 where the member is absent or null. Refuses
+/// with `Member` where the value is no object or the member is no such integer. It takes no memory.
+#[tactic(auto, unfolding(crate::specs::Member::optional_or))]
+pub fn read_u64(json: Json<'_>, name: &str) -> Result<u64, MemberError>
+    ensures value { Reads (λ x. x) result (optional_u64 name.now (tree json.entry)) }
+    ensures no_memory { IfErr result (λ e. e ≡ MemberError.Member) }
+{
+    match member(json, name)? {
+        Some(value) => unsigned(value).ok_or(MemberError::Member),
+        None => Ok(0),
+    }
+}
+
+/// A text, empty where the member is absent or null. Refuses with `Member` where the value is no object or the member is no text.
+#[tactic(auto, unfolding(crate::specs::Member::optional_or))]
+pub fn read_text(alloc: Global, json: Json<'_>, name: &str) -> Result<Text, MemberError>
+    ensures { Reads (λ x. x) result (optional_text name.now (tree json.entry)) }
+{
+    match member(json, name)? {
+        Some(value) => TextReader::read(alloc, value),
+        None => Ok(Text::copy_of(alloc, "")?),
+    }
+}
+
+/// Bytes in padded standard base64, empty where the member is absent or null. Refuses with `Member` where the value is no object or the member
+/// is no such text.
+#[tactic(auto, unfolding(crate::specs::Member::optional_or))]
+pub fn read_bytes(alloc: Global, json: Json<'_>, name: &str) -> Result<Bytes, MemberError>
+    ensures { Reads (λ x. x) result (optional_bytes name.now (tree json.entry)) }
+{
+    match member(json, name)? {
+        Some(value) => BytesReader::read(alloc, value),
+        None => Ok(Bytes::copy_of(alloc, &[])?),
+    }
+}
+
+/// A required integer from -2^63 to 2^63 - 1. Refuses with `Member` where the value is no object, or the member is absent, null or no such
+/// integer. It takes no memory.
+#[tactic(auto, unfolding(crate::specs::Member::required))]
+pub fn required_i64(json: Json<'_>, name: &str) -> Result<i64, MemberError>
+    ensures value { Reads (λ x. x) result (required_i64 name.now (tree json.entry)) }
+    ensures no_memory { IfErr result (λ e. e ≡ MemberError.Member) }
+{
+    match member(json, name)? {
+        Some(value) => signed(value).ok_or(MemberError::Member),
+        None => Err(MemberError::Member),
+    }
+}
+
+/// A required integer from 0 to 2^64 - 1. Refuses with `Member` where the value is no object, or the member is absent, null or no such
+/// integer. It takes no memory.
+#[tactic(auto, unfolding(crate::specs::Member::required))]
+pub fn required_u64(json: Json<'_>, name: &str) -> Result<u64, MemberError>
+    ensures value { Reads (λ x. x) result (required_u64 name.now (tree json.entry)) }
+    ensures no_memory { IfErr result (λ e. e ≡ MemberError.Member) }
+{
+    match member(json, name)? {
+        Some(value) => unsigned(value).ok_or(MemberError::Member),
+        None => Err(MemberError::Member),
+    }
+}
+
+/// A required hash: 64 hexadecimal digits in either case. Refuses with `Member` where the value is no object, or the member is absent, null or
+/// no such text. It takes no memory.
+#[tactic(auto, unfolding(crate::specs::Member::required))]
+pub fn required_hash(json: Json<'_>, name: &str) -> Result<[u8; 32], MemberError>
+    ensures value { Reads (λ x. x) result (required_hash name.now (tree json.entry)) }
+    ensures no_memory { IfErr result (λ e. e ≡ MemberError.Member) }
+{
+    match member(json, name)? {
+        Some(value) => hash(value).ok_or(MemberError::Member),
+        None => Err(MemberError::Member),
+    }
+}
+
+/// A required text. Refuses with `Member` where the value is no object, or the member is absent, null or no text.
+pub fn required_text(alloc: Global, json: Json<'_>, name: &str) -> Result<Text, MemberError>
+    ensures { Reads (λ x. x) result (required_text name.now (tree json.entry)) }
+{
+    required::<TextReader>(alloc, json, name)
+}
+
+/// Required bytes in padded standard base64. Refuses with `Member` where the value is no object, or the member is absent, null or no such text.
+pub fn required_bytes(alloc: Global, json: Json<'_>, name: &str) -> Result<Bytes, MemberError>
+    ensures { Reads (λ x. x) result (required_bytes name.now (tree json.entry)) }
+{
+    required::<BytesReader>(alloc, json, name)
+}

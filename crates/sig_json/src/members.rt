@@ -1,0 +1,53 @@
+//! `Members`: the members of an object in the byte order of their names.
+ghost use Rattle.std.specs.Prelude.{◌≡◌, false};
+ghost use Rattle.serde_json.specs.View.{members_view};
+ghost use Rattle.serde_json.specs.Written.{members_have_float};
+
+use crate::json::Json;
+use serde_json::Value;
+use std::collections::btree_map::Iter;
+
+/// A walk over the members of an object, in the byte order of their names.
+#[derive(Drop)]
+pub struct Members<'a> {
+    inner: Iter<'a, String, Value>,
+    ghost without_float: { members_have_float (members_view inner) ≡ false },
+}
+
+impl<'a> Iterator for Members<'a> {
+    ghost use Rattle.std.specs.Iterator.{YieldsFirstBy, item_count};
+    ghost use Rattle.sig_json.specs.Members.{shown, members_left};
+
+    type Item = (&'a str, Json<'a>);
+
+    ghost next_gives = { YieldsFirstBy shown members_left };
+
+    ghost remaining = { item_count members_left };
+
+    #[tactic(auto, using(crate::proofs::Floatless::floatless))]
+    fn next(&mut self) -> Option<(&'a str, Json<'a>)> {
+        match self.inner.next() {
+            Some((name, value)) => Some((name.as_str(), Json { value })),
+            None => None,
+        }
+    }
+}
+
+#[tactic(auto, using(crate::proofs::Floatless::floatless))]
+impl<'a> Json<'a> {
+    ghost use Rattle.std.specs.Prelude.{option_map};
+    ghost use Rattle.sig_json.specs.Members.{members_of, members_left};
+    ghost use Rattle.sig_json.specs.Tree.{tree};
+
+    /// The members of an object, in the byte order of their names; none where the value is no object. It takes no memory.
+    pub fn members(self) -> Option<Members<'a>>
+        ensures { option_map members_left result ≡ members_of (tree self.entry) }
+    {
+        match self.value.as_object() {
+            Some(members) => Some(Members {
+                inner: members.iter(),
+            }),
+            None => None,
+        }
+    }
+}

@@ -1,0 +1,37 @@
+-- The bytes of a signature that is handed as bytes or as base64 text.
+use Rattle.std.specs.Prelude.{ℕ, Bool, not, ◌||◌, ◌==◌, List, filter, Option, Some, None, Result, Ok, Err}
+use Rattle.std.specs.Result.{result_ok}
+use Rattle.base64.specs.GeneralPurpose.{decode_of}
+use Rattle.base64.specs.Engines.{standard}
+use Rattle.sig_key.specs.declared.signature.Signature.{Signature}
+use Rattle.sig_key.specs.declared.signature.Signature.TheVariants.{Raw, Base64Encoded}
+
+-- the bytes of a text in standard base64, padded and canonical (RFC 4648 section 4)
+unfoldable pub strict_bytes : List ℕ → Option (List ℕ)
+strict_bytes text = result_ok (decode_of standard text)
+
+-- neither a line feed nor a carriage return
+abbrev pub is_no_line_end : ℕ → Bool
+is_no_line_end byte = not (byte == 10 || byte == 13)
+
+abbrev pub without_line_ends : List ℕ → List ℕ
+without_line_ends text = filter is_no_line_end text
+
+-- the first, or else the second
+abbrev pub or_else : Option (List ℕ) → Option (List ℕ) → Option (List ℕ)
+or_else (Some bytes) other = Some bytes
+or_else None other = other
+
+-- the bytes of a text, or else of the text without its line ends
+unfoldable pub text_bytes : List ℕ → Option (List ℕ)
+text_bytes text = or_else (strict_bytes text) (strict_bytes (without_line_ends text))
+
+-- *Signature text*: the bytes as they are, or those of the text
+abbrev pub signature_bytes : Signature → Option (List ℕ)
+signature_bytes (Raw bytes) = Some bytes.now
+signature_bytes (Base64Encoded text) = text_bytes text.now
+
+-- it is handed as bytes
+abbrev pub IsRaw : Signature → Type 0
+IsRaw (Raw _) = Unit {0}
+IsRaw (Base64Encoded _) = ⊥

@@ -1,0 +1,75 @@
+//! `Signature`: a signature as bytes or as base64 text.
+ghost use Rattle.std.specs.Prelude.{◌≡◌, IfOk, Ok, Err};
+ghost use Rattle.std.specs.Option.{ok_or};
+ghost use Rattle.sig_base.specs.Answers.{Answers};
+ghost use Rattle.sig_base.specs.declared.error.SigstoreError.{SigstoreError as Refusal};
+ghost use Rattle.sig_base.specs.declared.error.SigstoreError.TheVariants.{Base64DecodeError, OutOfMemory as Memory};
+ghost use Rattle.sig_key.specs.Signature.{strict_bytes, text_bytes, without_line_ends};
+
+use base64::DecodeAllocError;
+use base64::engine::general_purpose::STANDARD;
+use sig_base::{Bytes, OutOfMemory, Result, SigstoreError};
+use std::alloc::Global;
+
+/// A signature, as it is handed in.
+#[derive(Clone, Copy)]
+pub enum Signature<'a> {
+    /// The signature's bytes.
+    Raw(&'a [u8]),
+    /// The signature in standard base64 (RFC 4648 section 4), maybe in lines.
+    Base64Encoded(&'a [u8]),
+}
+
+impl<'a> Signature<'a> {
+    ghost use Rattle.sig_key.specs.Signature.{signature_bytes};
+
+    /// The signature's bytes: raw ones unchanged; those of a text in strict base64 (padded and canonical); else those of the text without
+    /// line feeds and carriage returns. Refuses with `Base64DecodeError` exactly where neither is strict base64.
+    pub fn decode_bytes(&self, alloc: Global) -> Result<Bytes>
+        ensures { Answers Memory (λ b. b) result (ok_or (signature_bytes self.now) Base64DecodeError) }
+    {
+        match self {
+            Signature::Raw(bytes) => Ok(Bytes::copy_of(alloc, bytes)?),
+            Signature::Base64Encoded(text) => decode_text(alloc, text),
+        }
+    }
+}
+
+/// The bytes of a base64 text, maybe in lines.
+#[tactic(auto, unfolding(crate::specs::Signature::text_bytes))]
+pub(crate) fn decode_text(alloc: Global, text: &[u8]) -> Result<Bytes>
+    ensures { Answers Memory (λ b. b) result (ok_or (text_bytes text.now) Base64DecodeError) }
+{
+    if let Some(bytes) = decode_strictly(alloc, text)? {
+        return Ok(bytes);
+    }
+    let joined = join_lines(alloc, text)?;
+    match decode_strictly(alloc, joined.as_slice())? {
+        Some(bytes) => Ok(bytes),
+        None => Err(SigstoreError::Base64DecodeError),
+    }
+}
+
+/// The text without line feeds and carriage returns.
+fn join_lines(alloc: Global, text: &[u8]) -> std::result::Result<Vec<u8>, OutOfMemory>
+    ensures { IfOk result (λ v. v.items ≡ without_line_ends text.now) }
+{
+    let joined = text
+        .iter()
+        .filter(|byte| !(**byte == b'\n' || **byte == b'\r'))
+        .copied()
+        .collect(alloc)?;
+    Ok(joined)
+}
+
+/// The bytes of a strict base64 text, where it is one.
+#[tactic(auto, unfolding(crate::specs::Signature::strict_bytes))]
+fn decode_strictly(alloc: Global, text: &[u8]) -> std::result::Result<Option<Bytes>, OutOfMemory>
+    ensures { IfOk result (λ found. found ≡ strict_bytes text.now) }
+{
+    match STANDARD.decode(alloc, text) {
+        Ok(bytes) => Ok(Some(Bytes::from(bytes))),
+        Err(DecodeAllocError::DecodeError(_)) => Ok(None),
+        Err(DecodeAllocError::OutOfMemory) => Err(OutOfMemory),
+    }
+}

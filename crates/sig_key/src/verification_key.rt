@@ -1,0 +1,140 @@
+//! `CosignVerificationKey`: a key that checks signatures.
+ghost use Rattle.std.specs.Prelude.{◌≡◌, IfOk, IsOkUnless, Ok, Err};
+ghost use Rattle.sig_base.specs.Answers.{Answers};
+ghost use Rattle.sig_base.specs.Scheme.{scheme_of};
+ghost use Rattle.sig_base.specs.declared.error.SigstoreError.TheVariants.{OutOfMemory as Memory};
+ghost use Rattle.sig_key.specs.Key.{key_scheme, key_info, key_accepts, check_answer};
+ghost use Rattle.sig_key.specs.Signature.{signature_bytes, text_bytes, IsRaw};
+
+use crate::signature::{Signature, decode_text};
+use sig_base::{Bytes, Result, SignatureChecker, SigningScheme, SigstoreError, VerifyScheme};
+use std::alloc::Global;
+
+/// A key that checks signatures: the scheme, over the DER of its key info (SubjectPublicKeyInfo, RFC 5280 section 4.1).
+#[allow(non_camel_case_types)]
+#[derive(Drop)]
+pub enum CosignVerificationKey {
+    /// RSA with PSS padding and SHA-256.
+    RSA_PSS_SHA256(Bytes),
+    /// RSA with PKCS1 padding and SHA-256.
+    RSA_PKCS1_SHA256(Bytes),
+    /// ECDSA over P-256 with SHA-256, signatures in DER.
+    ECDSA_P256_SHA256_ASN1(Bytes),
+    /// ECDSA over P-384 with SHA-384, signatures in DER.
+    ECDSA_P384_SHA384_ASN1(Bytes),
+    /// ECDSA over P-521 with SHA-512, signatures in DER.
+    ECDSA_P521_SHA512_ASN1(Bytes),
+    /// Ed25519.
+    ED25519(Bytes),
+}
+
+impl CosignVerificationKey {
+    /// The key of this scheme with a copy of this DER, whatever it holds. Refuses for want of memory alone.
+    pub fn from_der(
+        alloc: Global,
+        der: &[u8],
+        signing_scheme: &SigningScheme,
+    ) -> Result<CosignVerificationKey>
+        ensures scheme { IfOk result (λ key. key_scheme key ≡ scheme_of signing_scheme.now) }
+        ensures info { IfOk result (λ key. key_info key ≡ der.now) }
+        ensures only_memory { IsOkUnless result Memory }
+    {
+        let spki = Bytes::copy_of(alloc, der)?;
+        Ok(CosignVerificationKey::of_scheme(spki, signing_scheme))
+    }
+
+    /// The key of this scheme over the DER.
+    fn of_scheme(spki: Bytes, signing_scheme: &SigningScheme) -> CosignVerificationKey
+        ensures scheme { key_scheme result ≡ scheme_of signing_scheme.now }
+        ensures info { key_info result ≡ spki }
+    {
+        match signing_scheme {
+            SigningScheme::RSA_PSS_SHA256(_) => CosignVerificationKey::RSA_PSS_SHA256(spki),
+            SigningScheme::RSA_PKCS1_SHA256(_) => CosignVerificationKey::RSA_PKCS1_SHA256(spki),
+            SigningScheme::ECDSA_P256_SHA256_ASN1 => CosignVerificationKey::ECDSA_P256_SHA256_ASN1(
+                spki,
+            ),
+            SigningScheme::ECDSA_P384_SHA384_ASN1 => CosignVerificationKey::ECDSA_P384_SHA384_ASN1(
+                spki,
+            ),
+            SigningScheme::ECDSA_P521_SHA512_ASN1 => CosignVerificationKey::ECDSA_P521_SHA512_ASN1(
+                spki,
+            ),
+            SigningScheme::ED25519 => CosignVerificationKey::ED25519(spki),
+        }
+    }
+
+    /// The scheme that signatures are checked under.
+    pub fn scheme(&self) -> VerifyScheme
+        ensures { result ≡ key_scheme self.now }
+    {
+        match self {
+            CosignVerificationKey::RSA_PSS_SHA256(_) => VerifyScheme::RSA_PSS_SHA256,
+            CosignVerificationKey::RSA_PKCS1_SHA256(_) => VerifyScheme::RSA_PKCS1_SHA256,
+            CosignVerificationKey::ECDSA_P256_SHA256_ASN1(_) =>
+                VerifyScheme::ECDSA_P256_SHA256_ASN1,
+            CosignVerificationKey::ECDSA_P384_SHA384_ASN1(_) =>
+                VerifyScheme::ECDSA_P384_SHA384_ASN1,
+            CosignVerificationKey::ECDSA_P521_SHA512_ASN1(_) =>
+                VerifyScheme::ECDSA_P521_SHA512_ASN1,
+            CosignVerificationKey::ED25519(_) => VerifyScheme::ED25519,
+        }
+    }
+
+    /// The DER of the key info.
+    pub fn spki(&self) -> &[u8]
+        ensures { result.now ≡ key_info self.now }
+    {
+        match self {
+            CosignVerificationKey::RSA_PSS_SHA256(spki) => spki.as_slice(),
+            CosignVerificationKey::RSA_PKCS1_SHA256(spki) => spki.as_slice(),
+            CosignVerificationKey::ECDSA_P256_SHA256_ASN1(spki) => spki.as_slice(),
+            CosignVerificationKey::ECDSA_P384_SHA384_ASN1(spki) => spki.as_slice(),
+            CosignVerificationKey::ECDSA_P521_SHA512_ASN1(spki) => spki.as_slice(),
+            CosignVerificationKey::ED25519(spki) => spki.as_slice(),
+        }
+    }
+
+    /// Whether the checker takes `signature` over `msg` for this key's. It takes no memory.
+    pub fn accepts<C: SignatureChecker>(&self, signature: &[u8], msg: &[u8], checker: &C) -> bool
+        ensures { result ≡ key_accepts (C.spki_accepts checker.now) self.now msg.now signature.now }
+    {
+        checker.verify_spki(self.scheme(), self.spki(), msg, signature)
+    }
+
+    /// Checks that `signature` over `msg` is this key's. A raw signature is checked where it lies, and then no memory is taken.
+    ///
+    /// Refuses with `Base64DecodeError` where the signature's text has no bytes, as [`Signature::decode_bytes`] does; else with
+    /// `PublicKeyVerificationError` exactly where the checker refuses them.
+    pub fn verify_signature<C: SignatureChecker>(
+        &self,
+        alloc: Global,
+        signature: Signature<'_>,
+        msg: &[u8],
+        checker: &C,
+    ) -> Result<()>
+        ensures answer { Answers Memory (λ x. x) result
+            (check_answer (key_accepts (C.spki_accepts checker.now) self.now msg.now) (signature_bytes signature.entry)) }
+        ensures raw { IsRaw signature.entry → result
+            ≡ check_answer (key_accepts (C.spki_accepts checker.now) self.now msg.now) (signature_bytes signature.entry) }
+    {
+        match signature {
+            Signature::Raw(bytes) => self.check(bytes, msg, checker),
+            Signature::Base64Encoded(text) => {
+                let bytes = decode_text(alloc, text)?;
+                self.check(bytes.as_slice(), msg, checker)
+            }
+        }
+    }
+
+    /// Checks the bytes of a signature.
+    fn check<C: SignatureChecker>(&self, signature: &[u8], msg: &[u8], checker: &C) -> Result<()>
+        ensures { result ≡ check_answer (key_accepts (C.spki_accepts checker.now) self.now msg.now) (Some signature.now) }
+    {
+        if self.accepts(signature, msg, checker) {
+            Ok(())
+        } else {
+            Err(SigstoreError::PublicKeyVerificationError)
+        }
+    }
+}

@@ -1,0 +1,41 @@
+-- What a reader of the checkpoint format answers: the value, or the first rule that is broken.
+use Rattle.std.specs.Prelude.{◌≡◌, ℕ, Option, Result, Ok, Err, List, [], ◌∷◌}
+use Rattle.base64.specs.GeneralPurpose.{encode_of, decode_of}
+use Rattle.base64.specs.Engines.{standard}
+use Rattle.std.specs.Option.{ok_or}
+use Rattle.std.specs.Result.{result_ok}
+use Rattle.sig_base.specs.declared.fault.CheckpointFault.{CheckpointFault}
+use Rattle.sig_rekor.specs.declared.fault.ParseCheckpointError.{ParseCheckpointError}
+use Rattle.sig_rekor.specs.declared.fault.ParseCheckpointError.TheVariants.{DecodeError, OutOfMemory}
+
+infixl 10 ◌>>=◌
+
+-- go on with the value; a fault stays
+abbrev pub ◌>>=◌ : {A B : Type 0} → Result A CheckpointFault → (A → Result B CheckpointFault) → Result B CheckpointFault
+(Ok x) >>= f = f x
+(Err fault) >>= f = Err fault
+
+-- each of a list read in order
+abbrev pub each : {A B : Type 0} → (A → Result B CheckpointFault) → List A → Result (List B) CheckpointFault
+each read [] = Ok []
+each read (x ∷ xs) = do
+  first ← read x
+  others ← each read xs
+  Ok (first ∷ others)
+
+-- bytes in base64 (RFC 4648 section 4, padded), and the bytes of a text that is exactly such
+unfoldable pub base64_text : List ℕ → List ℕ
+base64_text bytes = encode_of standard bytes
+
+unfoldable pub base64_bytes : List ℕ → Option (List ℕ)
+base64_bytes text = result_ok (decode_of standard text)
+
+-- the bytes of a text, or the fault
+unfoldable pub base64_of : CheckpointFault → List ℕ → Result (List ℕ) CheckpointFault
+base64_of fault text = ok_or (base64_bytes text) fault
+
+-- a call answers what reading gives, and wants memory at any input
+abbrev pub Reads : {X Y : Type 0} → (X → Y) → Result X ParseCheckpointError → Result Y CheckpointFault → Type 0
+Reads view (Ok x) read = read ≡ Ok (view x)
+Reads view (Err (DecodeError fault)) read = read ≡ Err fault
+Reads view (Err OutOfMemory) read = Unit {0}

@@ -1,0 +1,61 @@
+-- A signature line of a checkpoint, both ways: an em dash, the name of the key, and in base64 the key's fingerprint and the signature
+-- (the checkpoint format of transparency-dev, "Signed Envelope"; Go's sumdb/note).
+use Rattle.std.specs.Prelude.{◌≡◌, ℕ, ◌<◌, nat_lt, nat_eq, if◌then◌else◌, List, [], ◌∷◌, ◌++◌, length, take, drop, Some, Result, Ok, Err}
+use Rattle.std.specs.List.{starts_with}
+use Rattle.std.specs.Str.{trim_end}
+use Rattle.sig_base.specs.declared.fault.CheckpointFault.{CheckpointFault}
+use Rattle.sig_base.specs.declared.fault.CheckpointFault.TheVariants.{NoDash, SignatureFormat, SignatureBase64, SignatureLength}
+use Rattle.sig_rekor.specs.declared.checkpoint.CheckpointSignature.{CheckpointSignature}
+use Rattle.sig_rekor.specs.Cut.{IsTrimmed, IsParts, trimmed, parts}
+use Rattle.sig_rekor.specs.Reading.{◌>>=◌, base64_of, base64_bytes, base64_text}
+use Rattle.sig_rekor.specs.NoteText.{newline}
+
+-- U+2014 in UTF-8
+abbrev pub em_dash : List ℕ
+em_dash = 226 ∷ 128 ∷ 148 ∷ []
+
+abbrev pub space : List ℕ
+space = 32 ∷ []
+
+-- the fingerprint's four bytes and the signature's, in one
+abbrev pub signed_bytes : CheckpointSignature → List ℕ
+signed_bytes signature = signature.key_fingerprint ++ signature.raw
+
+-- *Signature*: with newlines trimmed, the text starts with an em dash and has three parts between single spaces.
+-- The second is the name, and the third, white space at its end dropped, the base64 of the fingerprint's four bytes and the signature's
+pub record IsSignature (text : List ℕ) (signature : CheckpointSignature) : Type 0 where
+  pub line : List ℕ
+  pub behind_dash : List ℕ
+  pub first : List ℕ
+  pub coded : List ℕ
+  pub newlines : IsTrimmed 10 text line
+  pub dash : line ≡ em_dash ++ behind_dash
+  pub parts : IsParts space line (first ∷ signature.name ∷ coded ∷ [])
+  pub bytes : base64_bytes (trim_end coded) ≡ Some (signed_bytes signature)
+  pub fingerprint : length signature.key_fingerprint ≡ 4
+
+-- the line, where it starts with the dash
+unfoldable pub line_of : List ℕ → Result (List ℕ) CheckpointFault
+line_of text = if starts_with nat_eq (trimmed 10 text) em_dash then Ok (trimmed 10 text) else Err NoDash
+
+-- the second and the third of three parts
+abbrev pub name_and_bytes : List (List ℕ) → Result (List ℕ × List ℕ) CheckpointFault
+name_and_bytes (first ∷ name ∷ coded ∷ []) = Ok (name, coded)
+name_and_bytes _ = Err SignatureFormat
+
+-- the signature of a name and of the decoded bytes, at least four
+abbrev pub signature_by : List ℕ → List ℕ → Result CheckpointSignature CheckpointFault
+signature_by name bytes = if nat_lt (length bytes) 4 then Err SignatureLength
+    else Ok (record { key_fingerprint = take 4 bytes; raw = drop 4 bytes; name = name })
+
+-- the signature that a text stands for, or the first rule that is broken
+unfoldable pub signature_of : List ℕ → Result CheckpointSignature CheckpointFault
+signature_of text = do
+  line ← line_of text
+  named ← name_and_bytes (parts space line)
+  bytes ← base64_of SignatureBase64 (trim_end named.1)
+  signature_by named.0 bytes
+
+-- how a signature is written: em dash, space, name, space, base64, newline
+unfoldable pub signature_text : CheckpointSignature → List ℕ
+signature_text signature = em_dash ++ (space ++ (signature.name ++ (space ++ (base64_text (signed_bytes signature) ++ newline))))

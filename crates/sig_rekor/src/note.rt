@@ -1,0 +1,193 @@
+//! The note of a checkpoint as text: origin, size, root hash and further contents, a line each.
+ghost use Rattle.std.specs.Prelude.{◌≡◌, ◌++◌, [], ◌∷◌, List, ℕ, IfOk, OnOk, Ok, Err, MatchOption, string_bytes};
+ghost use Rattle.sig_base.specs.declared.fault.CheckpointFault.TheVariants.{NoteFormat};
+ghost use Rattle.sig_rekor.specs.declared.checkpoint.Checkpoint.{Checkpoint as Note};
+ghost use Rattle.std.specs.List.{flat_map};
+ghost use Rattle.sig_rekor.specs.Cut.{parts};
+ghost use Rattle.sig_rekor.specs.Reading.{Reads};
+ghost use Rattle.sig_rekor.specs.NoteText.{newline, content_of, contents_of, content_line, origin_of, size_of, hash_of, note_by, note_of, note_text, IsNote};
+
+use crate::checkpoint::{Checkpoint, OtherContent, OtherContents};
+use crate::coding::{decode_base64, encode_base64};
+use crate::cuts::{cut, is_blank};
+use crate::fault::ParseCheckpointError;
+use sig_base::{CheckpointFault, OutOfMemory, Text};
+use std::alloc::Global;
+
+impl Checkpoint {
+    /// Reads a note: lines for the origin, the size and the root hash, and each further line that is not empty as a content.
+    ///
+    /// Refuses in this order: `NoteFormat` for fewer than three lines, `EmptyOrigin` where the origin is only white space, `Size` where the
+    /// second line is not digits of a number below 2^64 after an optional plus sign, `HashBase64` where the third is no base64, `HashLength`
+    /// where it is not 32 bytes.
+    pub fn unmarshal(alloc: Global, s: &str) -> Result<Checkpoint, ParseCheckpointError>
+        ensures found { IfOk result (λ note. IsNote s.now note) }
+        ensures only { (note : Note) → IsNote s.now note → Reads (λ n. n) result (Ok note) }
+        ensures exact { Reads (λ n. n) result (note_of s.now) }
+    {
+        read_note(alloc, s)
+    }
+
+    /// Writes the note: origin, size in decimal, base64 of the hash and the contents, each ended by a newline.
+    /// Refuses for want of memory alone.
+    #[tactic(auto, using(std::proofs::lemmas::List::append_assoc), unfolding(crate::specs::NoteText::note_text))]
+    pub fn marshal(&self, alloc: Global) -> Result<Text, OutOfMemory>
+        ensures { IfOk result (λ text. text ≡ note_text self.now) }
+    {
+        let hash = encode_base64(alloc, &self.hash)?;
+        let mut text = format!(in alloc; "{}\n{}\n{}\n", self.origin.as_str(), self.size, hash.as_str())?;
+        push_contents(&mut text, self.other_content.as_slice())?;
+        Ok(Text::from(text))
+    }
+}
+
+/// The first three lines of a note, and what stands behind them.
+#[derive(Drop)]
+struct Lines<'a> {
+    origin: &'a str,
+    size: &'a str,
+    hash: &'a str,
+    others: &'a str,
+}
+
+fn read_note(alloc: Global, text: &str) -> Result<Checkpoint, ParseCheckpointError>
+    ensures { Reads (λ n. n) result (note_of text.now) }
+{
+    let Some(lines) = lines_of(text) else {
+        return Err(ParseCheckpointError::DecodeError(
+            CheckpointFault::NoteFormat,
+        ));
+    };
+    let origin = read_origin(alloc, lines.origin)?;
+    let size = read_size(lines.size)?;
+    let hash = read_hash(alloc, lines.hash)?;
+    let other_content = read_contents(alloc, lines.others)?;
+    Ok(Checkpoint {
+        origin,
+        size,
+        hash,
+        other_content,
+    })
+}
+
+#[tactic(auto, using(crate::proofs::Notes::all_lines))]
+fn lines_of(text: &str) -> Option<Lines<'_>>
+    ensures { MatchOption result (note_of text.now ≡ Err NoteFormat)
+        (λ lines. note_of text.now ≡ note_by (lines.origin.now ∷ lines.size.now ∷ lines.hash.now ∷ parts newline lines.others.now)) }
+{
+    let (origin, rest) = cut(text, "\n")?;
+    let (size, rest) = cut(rest, "\n")?;
+    let (hash, others) = match cut(rest, "\n") {
+        Some(ended) => ended,
+        None => (rest, ""),
+    };
+    Some(Lines {
+        origin,
+        size,
+        hash,
+        others,
+    })
+}
+
+#[tactic(auto, unfolding(crate::specs::NoteText::origin_of))]
+fn read_origin(alloc: Global, line: &str) -> Result<Text, ParseCheckpointError>
+    ensures { Reads (λ t. t) result (origin_of line.now) }
+{
+    if is_blank(line) {
+        return Err(ParseCheckpointError::DecodeError(
+            CheckpointFault::EmptyOrigin,
+        ));
+    }
+    Ok(Text::copy_of(alloc, line)?)
+}
+
+#[tactic(auto, unfolding(crate::specs::NoteText::size_of))]
+fn read_size(line: &str) -> Result<u64, ParseCheckpointError>
+    ensures { Reads (λ n. n) result (size_of line.now) }
+{
+    match line.parse::<u64>() {
+        Ok(size) => Ok(size),
+        Err(_) => Err(ParseCheckpointError::DecodeError(CheckpointFault::Size)),
+    }
+}
+
+#[tactic(auto, unfolding(crate::specs::NoteText::hash_of))]
+fn read_hash(alloc: Global, line: &str) -> Result<[u8; 32], ParseCheckpointError>
+    ensures { Reads (λ h. h) result (hash_of line.now) }
+{
+    let bytes = decode_base64(alloc, line, CheckpointFault::HashBase64)?;
+    match <[u8; 32]>::try_from(bytes.as_slice()) {
+        Ok(hash) => Ok(hash),
+        Err(_) => Err(ParseCheckpointError::DecodeError(
+            CheckpointFault::HashLength,
+        )),
+    }
+}
+
+#[tactic(auto, using(crate::proofs::Notes::all_contents))]
+fn read_contents(alloc: Global, text: &str) -> Result<OtherContents, OutOfMemory>
+    ensures { IfOk result (λ contents. contents ≡ contents_of (parts newline text.now)) }
+{
+    let mut contents = OtherContents::new(alloc);
+    let mut rest = text;
+    'lines: while let Some((line, after)) = cut(rest, "\n") {
+        add_content(alloc, line, &mut contents)?;
+        rest = after;
+    }
+    add_content(alloc, rest, &mut contents)?;
+    Ok(contents)
+}
+
+/// Adds what a line says, unless it is empty.
+#[tactic(auto, using(crate::proofs::Notes::one_content))]
+fn add_content(
+    alloc: Global,
+    line: &str,
+    contents: &mut OtherContents,
+) -> Result<(), OutOfMemory>
+    ensures { OnOk result (contents.new ≡ contents.old ++ contents_of (line.now ∷ [])) }
+{
+    if line.is_empty() {
+        return Ok(());
+    }
+    let content = read_content(alloc, line)?;
+    contents.push(content)
+}
+
+#[tactic(auto, unfolding(crate::specs::NoteText::content_of))]
+fn read_content(alloc: Global, line: &str) -> Result<OtherContent, OutOfMemory>
+    ensures { IfOk result (λ content. content ≡ content_of line.now) }
+{
+    match cut(line, ": ") {
+        Some((key, value)) => Ok(OtherContent::KeyValue(
+            Text::copy_of(alloc, key)?,
+            Text::copy_of(alloc, value)?,
+        )),
+        None => Ok(OtherContent::Value(Text::copy_of(alloc, line)?)),
+    }
+}
+
+#[tactic(auto, using(std::proofs::lemmas::List::flat_map_more, std::proofs::lemmas::List::take_more, std::proofs::lemmas::List::append_assoc))]
+fn push_contents(text: &mut String, contents: &[OtherContent]) -> Result<(), OutOfMemory>
+    ensures { OnOk result (string_bytes text.new ≡ string_bytes text.old ++ flat_map content_line contents.now) }
+{
+    for content in contents {
+        push_content(text, content)?;
+    }
+    Ok(())
+}
+
+fn push_content(text: &mut String, content: &OtherContent) -> Result<(), OutOfMemory>
+    ensures { OnOk result (string_bytes text.new ≡ string_bytes text.old ++ content_line content.now) }
+{
+    match content {
+        OtherContent::KeyValue(key, value) => {
+            text.push_str(key.as_str())?;
+            text.push_str(": ")?;
+            text.push_str(value.as_str())?;
+        }
+        OtherContent::Value(value) => text.push_str(value.as_str())?,
+    }
+    text.push('\n')?;
+    Ok(())
+}

@@ -1,0 +1,99 @@
+//! What a checkpoint vouches for: a tree, under the log's key.
+ghost use Rattle.std.specs.Prelude.{◌≡◌, ◌<◌, ◌↔◌, IsOk, OnOk, IfOk, IsTrue, Ok, Err};
+ghost use Rattle.std.specs.List.{list_any};
+ghost use Rattle.sig_base.specs.Answers.{Answers};
+ghost use Rattle.sig_base.specs.declared.error.SigstoreError.TheVariants.{OutOfMemory as Memory};
+ghost use Rattle.sig_key.specs.Key.{key_accepts};
+ghost use Rattle.sig_rekor.specs.NoteText.{note_text};
+ghost use Rattle.sig_rekor.specs.Verify.{is_signed, IsOfTree, signed_answer, tree_answer};
+
+use crate::checkpoint::{CheckpointSignature, SignedCheckpoint};
+use sig_base::{MerkleProofError, OutOfMemory, Result, RootHex, SignatureChecker, SigstoreError};
+use sig_key::CosignVerificationKey;
+use std::alloc::Global;
+
+impl SignedCheckpoint {
+    /// Checks that one of the signatures is the log's over the marshalled note.
+    /// Refuses with `CheckpointSignatureVerificationError` exactly where the checker accepts none of them.
+    pub fn verify_signature<C: SignatureChecker>(
+        &self,
+        alloc: Global,
+        rekor_key: &CosignVerificationKey,
+        checker: &C,
+    ) -> Result<()>
+        ensures answer { Answers Memory (λ x. x) result (signed_answer (key_accepts (C.spki_accepts checker.now) rekor_key.now) self.now) }
+        ensures ok { OnOk result (IsTrue (is_signed (key_accepts (C.spki_accepts checker.now) rekor_key.now) self.now)) }
+    {
+        if self.is_signed_by(alloc, rekor_key, checker)? {
+            Ok(())
+        } else {
+            Err(SigstoreError::CheckpointSignatureVerificationError)
+        }
+    }
+
+    /// Whether one of the signatures is the key's over the marshalled note.
+    #[tactic(auto, unfolding(crate::specs::Verify::is_signed))]
+    fn is_signed_by<C: SignatureChecker>(
+        &self,
+        alloc: Global,
+        key: &CosignVerificationKey,
+        checker: &C,
+    ) -> std::result::Result<bool, OutOfMemory>
+        ensures { IfOk result (λ signed. signed ≡ is_signed (key_accepts (C.spki_accepts checker.now) key.now) self.now) }
+    {
+        let note = self.note.marshal(alloc)?;
+        let message = note.as_str().as_bytes();
+        Ok(accepts_one(
+            self.signatures.as_slice(),
+            message,
+            key,
+            checker,
+        ))
+    }
+
+    /// Checks that the note speaks of the tree of a proof, whose root and number of leaves these are. It takes no memory.
+    ///
+    /// Refuses with `ConsistencyProofError` of `NewTreeSmaller` where the note's tree is larger, of `UnexpectedEmptyProof` where it is
+    /// smaller, and of `MismatchedRoot` where the sizes are equal and the roots differ; `old` and `expected` are the note's, `new` and
+    /// `got` the proof's. Between two trees of one size the only consistency proof is the empty one (RFC 6962 section 2.1.2).
+    pub fn is_valid_for_proof(&self, proof_root_hash: &[u8; 32], proof_tree_size: u64) -> Result<()>
+        ensures answer { result ≡ tree_answer self.now proof_root_hash.now proof_tree_size }
+        ensures ok { IsOk result ↔ IsOfTree self.now proof_root_hash.now proof_tree_size }
+    {
+        let note = &self.note;
+        if proof_tree_size < note.size {
+            return Err(SigstoreError::ConsistencyProofError(MerkleProofError::NewTreeSmaller {
+                new: proof_tree_size,
+                old: note.size,
+            }));
+        }
+        if note.size < proof_tree_size {
+            return Err(SigstoreError::ConsistencyProofError(
+                MerkleProofError::UnexpectedEmptyProof,
+            ));
+        }
+        if note.hash == *proof_root_hash {
+            return Ok(());
+        }
+        Err(SigstoreError::ConsistencyProofError(MerkleProofError::MismatchedRoot {
+            expected: RootHex { root: note.hash },
+            got: RootHex {
+                root: *proof_root_hash,
+            },
+        }))
+    }
+}
+
+/// Whether the checker takes one of the signatures for the key's over the message.
+fn accepts_one<C: SignatureChecker>(
+    signatures: &[CheckpointSignature],
+    message: &[u8],
+    key: &CosignVerificationKey,
+    checker: &C,
+) -> bool
+    ensures { result ≡ list_any (λ s. key_accepts (C.spki_accepts checker.now) key.now message.now s.raw) signatures.now }
+{
+    signatures
+        .iter()
+        .any(|signature| key.accepts(signature.raw.as_slice(), message, checker))
+}

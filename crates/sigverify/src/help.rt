@@ -1,0 +1,51 @@
+//! What the program says of itself.
+use sig_base::Text;
+
+const HELP: &str = "\
+sigverify - decides without a network whether a signed artifact may be trusted
+
+usage: sigverify log < REQUEST
+       sigverify --help | --version
+
+commands:
+  log    Is an entry in a transparency log? The request on standard input is a
+         JSON object with the members
+           entry       base64, the entry
+           logIndex    its place in the log, from 0
+           treeSize    how many entries the log has
+           rootHash    64 hex digits, the log's root hash
+           hashes      list of 64 hex digits, the audit path from the leaf up
+           checkpoint  text, a signed note with that size and root
+           scheme      ECDSA_P256_SHA256_ASN1, ECDSA_P384_SHA384_ASN1,
+                       ECDSA_P521_SHA512_ASN1, ED25519, RSA_PSS_SHA256
+                       or RSA_PKCS1_SHA256
+           key         base64, the log's key (DER)
+           accepted    list of the signatures that are taken for genuine, each
+                       with operation, scheme, key, message and signature
+         The reply is one line on standard output:
+           logged INDEX SIZE   every link of the chain holds
+           refused LINK        the first that fails: request, checkpoint,
+                               note-key, note-match or inclusion
+
+status:
+  0   every link holds
+  1   a link other than request fails
+  2   the link request fails
+  64  the words are no command
+  71  memory ran out
+  74  reading or writing failed
+";
+
+const VERSION: &str = "sigverify 0.1.0\n";
+
+/// The text for the one word `--help`, and for the one word `--version`.
+pub fn answer_of(words: &[Text]) -> Option<&'static str> {
+    match words {
+        [word] => match word.as_str() {
+            "--help" => Some(HELP),
+            "--version" => Some(VERSION),
+            _ => None,
+        },
+        _ => None,
+    }
+}

@@ -1,0 +1,44 @@
+//! The texts of replies, all of them.
+ghost use Rattle.std.specs.Prelude.{◌≡◌, IfOk};
+
+use crate::link::Link;
+use crate::request::LogRequest;
+use sig_base::{OutOfMemory, Text};
+use std::alloc::Global;
+
+/// The line for words that are no command.
+pub const USAGE_LINE: &str = "usage\n";
+
+/// What a command answers: the status of the program, and the text that it writes.
+#[derive(Drop)]
+pub struct Reply {
+    pub status: u8,
+    pub text: Text,
+}
+
+impl Reply {
+    ghost use Rattle.sigverify.specs.Reply.{refusal, success};
+
+    /// `refused NAME`, for the first link that fails: status 2 for the link `request`, else 1. Refuses for want of memory alone.
+    pub fn refused(alloc: Global, link: Link) -> Result<Reply, OutOfMemory>
+        ensures { IfOk result (λ reply. reply ≡ refusal link) }
+    {
+        let status = match link {
+            Link::Request => 2,
+            Link::Checkpoint | Link::NoteKey | Link::NoteMatch | Link::Inclusion => 1,
+        };
+        let name = link.name();
+        let text = Text::from(format!(in alloc; "refused {name}\n")?);
+        Ok(Reply { status, text })
+    }
+
+    /// `logged I N`, the index and the size of the inclusion proof, with status 0. Refuses for want of memory alone.
+    pub fn logged(alloc: Global, request: &LogRequest) -> Result<Reply, OutOfMemory>
+        ensures { IfOk result (λ reply. reply ≡ success request.now) }
+    {
+        let index = request.log_index;
+        let size = request.tree_size;
+        let text = Text::from(format!(in alloc; "logged {index} {size}\n")?);
+        Ok(Reply { status: 0, text })
+    }
+}

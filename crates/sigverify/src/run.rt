@@ -1,0 +1,113 @@
+//! The program but for its words and streams: it reads a request, answers it, and writes the reply.
+ghost use Rattle.std.specs.Prelude.{◌≡◌, ◌⊎◌, ◌<◌, ◌≤◌, ◌↔◌, IsTrue, IfOk, IsErrOf};
+ghost use Rattle.std.specs.Io.KnownBytes.{Appends};
+ghost use Rattle.sig_base.specs.Stream.{Rose, AppendsFront};
+ghost use Rattle.sigverify.specs.Run.{IsLog, RepliesTo, Answered, ReadFaulted, WriteFaulted, usage_line};
+
+use crate::link::Link;
+use crate::log::log_reply;
+use crate::read::{ReadFault, read_request};
+use crate::reply::{Reply, USAGE_LINE};
+use crate::write::write_reply;
+use sig_base::{OutOfMemory, Sink, Source, Text};
+use std::alloc::Global;
+
+/// The status for words that are no command (EX_USAGE of sysexits.h).
+pub const USAGE: u8 = 64;
+
+/// The status for want of memory (EX_OSERR).
+pub const NO_MEMORY: u8 = 71;
+
+/// The status for a fault of the source or of the sink (EX_IOERR).
+pub const FAULT: u8 = 74;
+
+/// Why there is no reply to write.
+#[derive(Clone, Copy)]
+enum NoReply {
+    Failed,
+    OutOfMemory,
+}
+
+impl From<OutOfMemory> for NoReply {
+    ghost use Rattle.std.specs.Prelude.{◌≡◌};
+    ghost use Rattle.sigverify.specs.declared.run.NoReply.TheVariants.{OutOfMemory};
+
+    ghost from_gives = { λ _ e. e ≡ OutOfMemory };
+
+    fn from(_error: OutOfMemory) -> NoReply {
+        NoReply::OutOfMemory
+    }
+}
+
+/// Runs the command that the words name, and answers the program's status.
+///
+/// `log` reads a request, at most 2^24 + 1 bytes of what the source has left, and writes one line: `logged I N` with status 0 where every link of
+/// the request holds, else `refused NAME` for the first that fails, with status 1, or 2 for the link `request`. The reply is whole before its first
+/// byte is written. Other words are a usage error: nothing is read, no memory is taken, `usage` is written, and the status is 64.
+/// The status is 74 only where the count of faults of the source or of the sink rose: nothing is written after a fault of the source, and after
+/// one of the sink a prefix of the reply was. For want of memory it is 71, and nothing is written.
+#[tactic(auto, using(crate::proofs::Runs::runs))]
+pub fn run<S: Source, K: Sink>(alloc: Global, words: &[Text], source: &mut S, sink: &mut K) -> u8
+    ensures status { (result < 3) ⊎ (result ≡ USAGE) ⊎ (result ≡ NO_MEMORY) ⊎ (result ≡ FAULT) }
+
+    // The headline: what `Answered` says of the reply is that every link holds where the status is 0, and that it shows the first that fails else.
+    ensures answered { result < 3 → IsLog words.now
+        × Answered (S.left source.old) (S.left source.new) (K.taken sink.old) (K.taken sink.new) result }
+    ensures usage { result ≡ USAGE → ¬ IsLog words.now × (source.new ≡ source.old)
+        × Appends (K.taken sink.old) (K.taken sink.new) usage_line }
+    ensures memory { result ≡ NO_MEMORY → IsLog words.now × (sink.new ≡ sink.old) }
+    ensures fault { result ≡ FAULT →
+        ReadFaulted words.now (S.faults source.old) (S.faults source.new) sink.old sink.new
+        ⊎ WriteFaulted words.now (S.left source.old) (S.left source.new)
+        (K.faults sink.old) (K.faults sink.new) (K.taken sink.old) (K.taken sink.new) }
+    ensures later { (S.faults source.old ≤ S.faults source.new) × (K.faults sink.old ≤ K.faults sink.new) }
+{
+    if !is_log(words) {
+        return finish(sink, USAGE, USAGE_LINE.as_bytes());
+    }
+    match reply_to(alloc, source) {
+        Ok(reply) => finish(sink, reply.status, reply.text.as_str().as_bytes()),
+        Err(NoReply::Failed) => FAULT,
+        Err(NoReply::OutOfMemory) => NO_MEMORY,
+    }
+}
+
+/// Whether the words are the one word `log`.
+#[tactic(auto, using(crate::proofs::Runs::runs))]
+fn is_log(words: &[Text]) -> bool
+    ensures { IsTrue result ↔ IsLog words.now }
+{
+    match words {
+        [word] => word.as_str() == "log",
+        _ => false,
+    }
+}
+
+/// The reply to the request that the source has left.
+#[tactic(auto, using(crate::proofs::Runs::runs))]
+fn reply_to<S: Source>(alloc: Global, source: &mut S) -> Result<Reply, NoReply>
+    ensures ok { IfOk result (RepliesTo (S.left source.old) (S.left source.new)) }
+    ensures failed { IsErrOf result NoReply.Failed → Rose (S.faults source.old) (S.faults source.new) }
+    ensures later { S.faults source.old ≤ S.faults source.new }
+{
+    match read_request(alloc, source) {
+        Ok(text) => Ok(log_reply(alloc, text.as_slice())?),
+        Err(ReadFault::TooLong) => Ok(Reply::refused(alloc, Link::Request)?),
+        Err(ReadFault::Failed) => Err(NoReply::Failed),
+        Err(ReadFault::OutOfMemory) => Err(NoReply::OutOfMemory),
+    }
+}
+
+/// Writes the text, and answers the status, or that of a fault where a write failed.
+fn finish<K: Sink>(sink: &mut K, status: u8, text: &[u8]) -> u8
+    requires { status < NO_MEMORY }
+    ensures written { result < NO_MEMORY → (result ≡ status) × Appends (K.taken sink.old) (K.taken sink.new) text.now }
+    ensures fault { NO_MEMORY ≤ result → (result ≡ FAULT) × Rose (K.faults sink.old) (K.faults sink.new)
+        × AppendsFront (K.taken sink.old) (K.taken sink.new) text.now }
+    ensures later { K.faults sink.old ≤ K.faults sink.new }
+{
+    match write_reply(sink, text) {
+        Ok(()) => status,
+        Err(_) => FAULT,
+    }
+}
