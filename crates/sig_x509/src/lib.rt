@@ -7,7 +7,10 @@ mod error;
 mod extensions;
 mod lookup;
 mod parts;
+mod reading;
+mod seconds;
 mod span;
 
+pub use certificate::Certificate;
 pub use error::X509ReadError;
 pub use lookup::{ExtensionRef, Lookup};
