@@ -5,3 +5,4 @@ pub mod Numerals
 pub mod Elements
 pub mod Building
 pub mod CanonicalTexts
+pub mod SameTrees

@@ -10,12 +10,15 @@ mod change;
 mod compact_form;
 mod document;
 mod element;
+mod equality;
 mod error;
 mod floats;
 mod integer;
 mod kind;
 mod member;
 mod members;
+#[cfg(test)]
+mod tests;
 mod view;
 
 pub use canonical_form::canonical;
