@@ -1,4 +1,5 @@
 pub mod Reading
 pub mod Replies
+pub mod Requests
 pub mod Runs
 pub mod Writing
