@@ -1,0 +1,64 @@
+-- The first failing link of a request, from what holds under its checkpoint.
+use Rattle.std.proofs.Common.{◌≡◌, ◌<◌, ℕ, List, Option, Some, None, Result, Ok, subst, sym, arith}
+use Rattle.sig_base.specs.declared.fault.CheckpointFault.{CheckpointFault}
+use Rattle.sig_rekor.specs.declared.checkpoint.SignedCheckpoint.{SignedCheckpoint}
+use Rattle.sig_rekor.specs.CheckpointText.{IsCheckpoint}
+use Rattle.sigverify.specs.declared.link.Link.{Link}
+use Rattle.sigverify.specs.declared.link.Link.TheVariants.{Request, Checkpoint, NoteKey, NoteMatch, Inclusion}
+use Rattle.sigverify.specs.declared.request.LogRequest.{LogRequest}
+use Rattle.sigverify.specs.Link.{place_of, HoldsOf, FailsFirstOf, IsVerdict, IsVerdictUnder, OfCheckpoint, IsSigned, IsMatched, IsLogged}
+
+-- the text has no reading
+pub unread-verdict : (request : LogRequest) → ((checkpoint : SignedCheckpoint) → ¬ IsCheckpoint request.checkpoint checkpoint)
+    → IsVerdict request (Some Checkpoint)
+unread-verdict request none = record { earlier = before; fails = λ holds. none holds.0 holds.1 } where
+  before : (other : Link) → place_of other < place_of Checkpoint → HoldsOf request other
+  before Request lt = tt
+  before Checkpoint lt = absurd (omega arith)
+  before NoteKey lt = absurd (omega arith)
+  before NoteMatch lt = absurd (omega arith)
+  before Inclusion lt = absurd (omega arith)
+
+-- what does not hold of the one reading holds of none
+other-reading : (request : LogRequest) (checkpoint : SignedCheckpoint) (P : SignedCheckpoint → Type 0)
+    → ((other : SignedCheckpoint) → IsCheckpoint request.checkpoint other → other ≡ checkpoint) → ¬ P checkpoint → ¬ OfCheckpoint request P
+other-reading request checkpoint P only fails holds = fails (subst P (only holds.0 holds.1) holds.2)
+
+-- the verdict under the one reading is that of the request
+pub under-verdict : (request : LogRequest) (checkpoint : SignedCheckpoint) (verdict : Option Link) → IsCheckpoint request.checkpoint checkpoint
+    → ((other : SignedCheckpoint) → IsCheckpoint request.checkpoint other → other ≡ checkpoint)
+    → IsVerdictUnder request checkpoint verdict → IsVerdict request verdict
+under-verdict request checkpoint None is only under = every where
+  every : (link : Link) → HoldsOf request link
+  every Request = tt
+  every Checkpoint = (checkpoint, is, tt)
+  every NoteKey = (checkpoint, is, under.0)
+  every NoteMatch = (checkpoint, is, under.1)
+  every Inclusion = under.2
+under-verdict request checkpoint (Some Request) is only under = absurd under
+under-verdict request checkpoint (Some Checkpoint) is only under = absurd under
+under-verdict request checkpoint (Some NoteKey) is only under =
+    record { earlier = before; fails = other-reading request checkpoint (IsSigned request) only under } where
+  before : (other : Link) → place_of other < place_of NoteKey → HoldsOf request other
+  before Request lt = tt
+  before Checkpoint lt = (checkpoint, is, tt)
+  before NoteKey lt = absurd (omega arith)
+  before NoteMatch lt = absurd (omega arith)
+  before Inclusion lt = absurd (omega arith)
+under-verdict request checkpoint (Some NoteMatch) is only under =
+    record { earlier = before; fails = other-reading request checkpoint (IsMatched request) only under.1 } where
+  before : (other : Link) → place_of other < place_of NoteMatch → HoldsOf request other
+  before Request lt = tt
+  before Checkpoint lt = (checkpoint, is, tt)
+  before NoteKey lt = (checkpoint, is, under.0)
+  before NoteMatch lt = absurd (omega arith)
+  before Inclusion lt = absurd (omega arith)
+under-verdict request checkpoint (Some Inclusion) is only under = record { earlier = before; fails = under.2 } where
+  before : (other : Link) → place_of other < place_of Inclusion → HoldsOf request other
+  before Request lt = tt
+  before Checkpoint lt = (checkpoint, is, tt)
+  before NoteKey lt = (checkpoint, is, under.0)
+  before NoteMatch lt = (checkpoint, is, under.1)
+  before Inclusion lt = absurd (omega arith)
+
+pub ruleset verdicts = (unread-verdict, under-verdict)
