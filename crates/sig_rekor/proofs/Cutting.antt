@@ -1,6 +1,6 @@
 -- What `cut_at`, `parts` and `trimmed` find is what the relations say, and only that.
-use Rattle.std.proofs.Common.{◌≡◌, ◌≢◌, ℕ, zero, suc, ◌+◌, ◌-◌, ◌<◌, ◌≤◌, Bool, true, false, ◌==◌, eqb, cond, List, [], ◌∷◌, ◌++◌, length, take, drop, Option, Some, None, refl, sym, ◌∙◌, ap, subst, inl, inr, arith, add-zero, option_map, MatchOption, IfSome, append_assoc, length-append, take-append-drop, reverse, replicate}
-use Rattle.std.proofs.lemmas.List.{drop_at, drop_all, reverse-append, reverse-reverse}
+use Rattle.std.proofs.Common.{◌≡◌, ◌≢◌, ℕ, zero, suc, ◌+◌, ◌-◌, ◌<◌, ◌≤◌, Bool, true, false, ◌==◌, eqb, cond, List, [], ◌∷◌, ◌++◌, length, take, drop, Option, Some, None, refl, sym, ◌∙◌, ap, subst, inl, inr, arith, add-one, option_map, MatchOption, IfSome, append_assoc, length-append, take-append-drop, reverse, replicate}
+use Rattle.std.proofs.lemmas.List.{drop_at, drop_all, reverse-append, reverse-reverse, replicate_more, append-nil}
 use Rattle.std.proofs.lemmas.Str.Pattern.{drop_at_char}
 use Rattle.std.proofs.lemmas.Str.{encode_ascii, len_utf8_bounds}
 use denote.Ref.{Bor}
@@ -239,3 +239,59 @@ parts-first separator text = within (length text) text where
     of_cut : (o : Option (List ℕ × List ℕ)) → (part : List ℕ) × (ps : List (List ℕ)) × (parts_of_cut t (parts_within n separator) o ≡ part ∷ ps)
     of_cut None = (t, [], refl)
     of_cut (Some cut) = (cut.0, parts_within n separator cut.1, refl)
+
+-- copies of a mark, turned round and one more
+reverse-marks : (mark n : ℕ) → reverse (replicate n mark) ≡ replicate n mark
+reverse-marks mark zero = refl
+reverse-marks mark (suc n) = reverse-append (mark ∷ []) (replicate n mark) ∙ ap (λ t. t ++ mark ∷ []) (reverse-marks mark n) ∙ replicate_more n mark ∙ rw add-one refl
+
+back_marks : (mark : ℕ) (text : List ℕ) → (n : ℕ) × (text ≡ without_back mark text ++ replicate n mark)
+unfolding without_back
+back_marks mark text =
+    let turned = front_marks mark (reverse text) in
+    (turned.0, sym (reverse-reverse text) ∙ ap reverse turned.1 ∙ reverse-append (replicate turned.0 mark) (without_front mark (reverse text)) ∙ ap (λ t. reverse (without_front mark (reverse text)) ++ t) (reverse-marks mark turned.0))
+
+back_stops : (mark : ℕ) (text rest : List ℕ) → without_back mark text ≢ rest ++ mark ∷ []
+unfolding without_back
+back_stops mark text rest w =
+    front_stops mark (reverse text) (reverse rest) (sym (reverse-reverse (without_front mark (reverse text))) ∙ ap reverse w ∙ reverse-append rest (mark ∷ []))
+
+-- what is trimmed stands between marks
+pub trimmed-found : (mark : ℕ) (text : List ℕ) → IsTrimmed mark text (trimmed mark text)
+unfolding trimmed
+trimmed-found mark text =
+    let inner = without_front mark text in
+    let front = front_marks mark text in
+    let back = back_marks mark inner in
+    record {
+      before = front.0;
+      after = back.0;
+      whole = front.1 ∙ ap (λ t. replicate front.0 mark ++ t) back.1;
+      front = λ rest w. front_stops mark text (rest ++ replicate back.0 mark) (back.1 ∙ ap (λ t. t ++ replicate back.0 mark) w);
+      back = back_stops mark inner;
+    }
+
+front_marks-off : (mark n : ℕ) (text : List ℕ) → without_front mark (replicate n mark ++ text) ≡ without_front mark text
+front_marks-off mark zero text = refl
+front_marks-off mark (suc n) text = without_front-mark mark (replicate n mark ++ text) ∙ front_marks-off mark n text
+
+back_marks-off : (mark n : ℕ) (text : List ℕ) → without_back mark (text ++ replicate n mark) ≡ without_back mark text
+back_marks-off mark zero text = ap (without_back mark) (append-nil text)
+back_marks-off mark (suc n) text =
+    let longer : text ++ replicate (suc n) mark ≡ (text ++ replicate n mark) ++ mark ∷ [] = ap (λ t. text ++ t) (sym (replicate_more n mark ∙ rw add-one refl)) ∙ sym (append_assoc text (replicate n mark) (mark ∷ [])) in
+    ap (without_back mark) longer ∙ without_back-mark mark (text ++ replicate n mark) ∙ back_marks-off mark n text
+
+without_back-nil : (mark : ℕ) → without_back mark [] ≡ []
+unfolding without_back
+without_back-nil mark = refl
+
+-- what stands between marks is what is trimmed
+pub trimmed-only : (mark : ℕ) (text body : List ℕ) → IsTrimmed mark text body → trimmed mark text ≡ body
+unfolding trimmed
+trimmed-only mark text body is =
+    ap (λ t. without_back mark (without_front mark t)) is.whole ∙ ap (without_back mark) (front_marks-off mark is.before (body ++ replicate is.after mark)) ∙ behind body is.front is.back where
+  behind : (t : List ℕ) → ((rest : List ℕ) → t ≢ mark ∷ rest) → ((rest : List ℕ) → t ≢ rest ++ mark ∷ []) → without_back mark (without_front mark (t ++ replicate is.after mark)) ≡ t
+  behind [] front back = ap (without_back mark) (ap (without_front mark) (sym (append-nil (replicate is.after mark))) ∙ front_marks-off mark is.after []) ∙ without_back-nil mark
+  behind (x ∷ t) front back =
+      let kept : without_front mark ((x ∷ t) ++ replicate is.after mark) ≡ (x ∷ t) ++ replicate is.after mark = rw (ne_eqb x mark (λ same. front t (ap (λ y. y ∷ t) same))) refl in
+      ap (without_back mark) kept ∙ back_marks-off mark is.after (x ∷ t) ∙ without_back-kept mark (x ∷ t) back

@@ -23,7 +23,7 @@ digits_tell : (ds : List ℕ) → AllDigits 10 ds → list_all is_ascii_digit ds
 digits_tell [] all = refl
 digits_tell (d ∷ ds) all = and_from (is_ascii_digit d) (list_all is_ascii_digit ds) (digit_tells d all.0) (digits_tell ds all.1)
 
-digits_mean : (ds : List ℕ) → list_all is_ascii_digit ds ≡ true → AllDigits 10 ds
+pub digits_mean : (ds : List ℕ) → list_all is_ascii_digit ds ≡ true → AllDigits 10 ds
 digits_mean [] all = tt
 digits_mean (d ∷ ds) all =
     let both = and_parts (is_ascii_digit d) (list_all is_ascii_digit ds) all in

@@ -5,14 +5,13 @@ use Rattle.std.specs.List.{AllZip, list_all, flat_map}
 use Rattle.std.specs.Char.{is_ascii_digit}
 use Rattle.std.specs.Str.{trim}
 use Rattle.std.specs.Str.Parse.{IsNumeral, digits_value, without_leading_plus}
-use Rattle.base64.specs.GeneralPurpose.{IsBytes}
 use Rattle.sig_base.specs.declared.fault.CheckpointFault.{CheckpointFault}
 use Rattle.sig_base.specs.declared.fault.CheckpointFault.TheVariants.{NoteFormat, EmptyOrigin, Size, HashBase64, HashLength}
 use Rattle.sig_rekor.specs.declared.checkpoint.Checkpoint.{Checkpoint}
 use Rattle.sig_rekor.specs.declared.checkpoint.OtherContent.{OtherContent}
 use Rattle.sig_rekor.specs.declared.checkpoint.OtherContent.TheVariants.{KeyValue, Value}
 use Rattle.sig_rekor.specs.Cut.{IsCut, IsParts, Lacks, cut_at, parts}
-use Rattle.sig_rekor.specs.Reading.{◌>>=◌, base64_of, base64_text}
+use Rattle.sig_rekor.specs.Reading.{◌>>=◌, base64_of, base64_bytes, base64_text}
 
 abbrev pub newline : List ℕ
 newline = 10 ∷ []
@@ -45,7 +44,7 @@ pub record IsNote (text : List ℕ) (note : Checkpoint) : Type 0 where
   pub lines : IsParts newline text (note.origin ∷ size_line ∷ hash_line ∷ others)
   pub origin : is_blank note.origin ≡ false
   pub size : IsSize size_line note.size
-  pub hash : (hash_line ≡ base64_text note.hash) × (length note.hash ≡ 32) × IsBytes note.hash
+  pub hash : (base64_bytes hash_line ≡ Some note.hash) × (length note.hash ≡ 32)
   pub contents : AllZip IsContent (filter is_not_empty others) note.other_content
 
 -- the content of a line, from its cut

@@ -1,14 +1,13 @@
 -- A signature line of a checkpoint, both ways: an em dash, the name of the key, and in base64 the key's fingerprint and the signature
 -- (the checkpoint format of transparency-dev, "Signed Envelope"; Go's sumdb/note).
-use Rattle.std.specs.Prelude.{◌≡◌, ℕ, ◌<◌, nat_lt, nat_eq, if◌then◌else◌, List, [], ◌∷◌, ◌++◌, length, take, drop, Result, Ok, Err}
+use Rattle.std.specs.Prelude.{◌≡◌, ℕ, ◌<◌, nat_lt, nat_eq, if◌then◌else◌, List, [], ◌∷◌, ◌++◌, length, take, drop, Some, Result, Ok, Err}
 use Rattle.std.specs.List.{starts_with}
 use Rattle.std.specs.Str.{trim_end}
-use Rattle.base64.specs.GeneralPurpose.{IsBytes}
 use Rattle.sig_base.specs.declared.fault.CheckpointFault.{CheckpointFault}
 use Rattle.sig_base.specs.declared.fault.CheckpointFault.TheVariants.{NoDash, SignatureFormat, SignatureBase64, SignatureLength}
 use Rattle.sig_rekor.specs.declared.checkpoint.CheckpointSignature.{CheckpointSignature}
 use Rattle.sig_rekor.specs.Cut.{IsTrimmed, IsParts, trimmed, parts}
-use Rattle.sig_rekor.specs.Reading.{◌>>=◌, base64_of, base64_text}
+use Rattle.sig_rekor.specs.Reading.{◌>>=◌, base64_of, base64_bytes, base64_text}
 use Rattle.sig_rekor.specs.NoteText.{newline}
 
 -- U+2014 in UTF-8
@@ -32,7 +31,7 @@ pub record IsSignature (text : List ℕ) (signature : CheckpointSignature) : Typ
   pub newlines : IsTrimmed 10 text line
   pub dash : line ≡ em_dash ++ behind_dash
   pub parts : IsParts space line (first ∷ signature.name ∷ coded ∷ [])
-  pub bytes : (trim_end coded ≡ base64_text (signed_bytes signature)) × IsBytes (signed_bytes signature)
+  pub bytes : base64_bytes (trim_end coded) ≡ Some (signed_bytes signature)
   pub fingerprint : length signature.key_fingerprint ≡ 4
 
 -- the line, where it starts with the dash

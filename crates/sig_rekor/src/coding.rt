@@ -9,7 +9,7 @@ use sig_base::{CheckpointFault, OutOfMemory, Text};
 use std::alloc::Global;
 
 /// The bytes of a base64 text, or the fault that the caller names.
-#[tactic(auto, unfolding(crate::specs::Reading::base64_of))]
+#[tactic(auto, unfolding(crate::specs::Reading::base64_of, crate::specs::Reading::base64_bytes))]
 pub(crate) fn decode_base64(
     alloc: Global,
     text: &str,

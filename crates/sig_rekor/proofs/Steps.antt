@@ -1,0 +1,44 @@
+-- Readers in steps: what an answer says of each step.
+use Rattle.std.proofs.Common.{◌≡◌, Bool, true, false, ◌⊎◌, cond, Option, Some, None, Result, Ok, Err, refl, inl, inr, ok_or, List, [], ◌∷◌, subst, IfOk}
+use Rattle.sig_base.specs.declared.fault.CheckpointFault.{CheckpointFault}
+use Rattle.std.specs.List.{AllZip}
+use Rattle.sig_rekor.specs.declared.fault.ParseCheckpointError.{ParseCheckpointError}
+use Rattle.sig_rekor.specs.Reading.{◌>>=◌, each, Reads}
+
+-- both steps gave a value
+pub bind_ok : {A B : Type 0} (r : Result A CheckpointFault) (f : A → Result B CheckpointFault) (y : B) → (r >>= f) ≡ Ok y → (x : A) × (r ≡ Ok x) × (f x ≡ Ok y)
+bind_ok (Ok x) f y e = (x, refl, e)
+bind_ok (Err fault) f y e = cc
+
+-- which way a test went
+pub chosen : {A : Type 0} (b : Bool) (x y z : A) → cond b x y ≡ z → ((b ≡ true) × (x ≡ z)) ⊎ ((b ≡ false) × (y ≡ z))
+chosen true x y z e = inl (refl, e)
+chosen false x y z e = inr (refl, e)
+
+pub ok_or-ok : {A E : Type 0} (o : Option A) (fault : E) (x : A) → ok_or o fault ≡ Ok x → o ≡ Some x
+ok_or-ok (Some y) fault x e = (let same : y ≡ x = cc in cc)
+ok_or-ok None fault x e = cc
+
+-- a reading that gives a value of which P holds
+pub reads-found : {X : Type 0} (P : X → Type 0) (r : Result X ParseCheckpointError) (read : Result X CheckpointFault) → Reads (λ x. x) r read → ((x : X) → read ≡ Ok x → P x) → IfOk r P
+reads-found P (Ok x) read is found = found x is
+reads-found P (Err error) read is found = tt
+
+pub reads-only : {X : Type 0} (r : Result X ParseCheckpointError) (read : Result X CheckpointFault) (x : X) → Reads (λ x. x) r read → read ≡ Ok x → Reads (λ x. x) r (Ok x)
+reads-only r read x is same = subst (Reads (λ x. x) r) same is
+
+-- each of a list
+pub each-found : {A B : Type 0} (read : A → Result B CheckpointFault) (R : A → B → Type 0) → ((x : A) (y : B) → read x ≡ Ok y → R x y) → (xs : List A) (ys : List B) → each read xs ≡ Ok ys → AllZip R xs ys
+each-found read R found [] [] e = tt
+each-found read R found [] (y ∷ ys) e = cc
+each-found read R found (x ∷ xs) ys e =
+    let a = bind_ok (read x) _ ys e in
+    let b = bind_ok (each read xs) _ ys a.2 in
+    let same : a.0 ∷ b.0 ≡ ys = (let f = b.2 in cc) in
+    subst (AllZip R (x ∷ xs)) same (found x a.0 a.1, each-found read R found xs b.0 b.1)
+
+pub each-only : {A B : Type 0} (read : A → Result B CheckpointFault) (R : A → B → Type 0) → ((x : A) (y : B) → R x y → read x ≡ Ok y) → (xs : List A) (ys : List B) → AllZip R xs ys → each read xs ≡ Ok ys
+each-only read R only [] [] are = refl
+each-only read R only [] (y ∷ ys) are = absurd are
+each-only read R only (x ∷ xs) [] are = absurd are
+each-only read R only (x ∷ xs) (y ∷ ys) are = rw (only x y are.0, each-only read R only xs ys are.1) refl
