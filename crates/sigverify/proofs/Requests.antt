@@ -1,11 +1,11 @@
 -- Why a text is no request.
-use Rattle.std.proofs.Common.{◌≡◌, ◌<◌, ◌≤◌, ℕ, List, length, Option, Some, None, Ok, Err, arith}
+use Rattle.std.proofs.Common.{◌≡◌, ◌<◌, ◌≤◌, ℕ, List, length, Some, None, Ok, Err, arith}
 use Rattle.serde_json.specs.Data.{Data}
 use Rattle.sig_json.specs.declared.error.DocumentError.{DocumentError}
 use Rattle.sig_json.specs.Document.{document_of}
 use Rattle.sigverify.specs.declared.request.LogRequest.{LogRequest}
 use Rattle.sigverify.specs.Limit.{most_bytes}
-use Rattle.sigverify.specs.Request.{IsReadFrom, IsRequest, log_request}
+use Rattle.sigverify.specs.Request.{IsReadFrom, log_request}
 
 -- it is too long
 pub unread-long : (text : List ℕ) → most_bytes < length text → IsReadFrom text None

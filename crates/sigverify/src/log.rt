@@ -29,7 +29,6 @@ pub fn log_reply(alloc: Global, request: &[u8]) -> Result<Reply, OutOfMemory>
 }
 
 /// The first link that fails of a request, or none.
-#[tactic(auto, using(crate::proofs::Verdicts::verdicts))]
 fn failing_link(alloc: Global, request: &LogRequest) -> Result<Option<Link>, OutOfMemory>
     ensures { IfOk result (IsVerdict request.now) }
 {
@@ -61,7 +60,6 @@ fn failing_link_under(
 }
 
 /// Whether one of the checkpoint's signatures over its note is accepted under the log's scheme and key.
-#[tactic(auto, using(crate::proofs::Signed::signed))]
 fn is_signed(
     alloc: Global,
     request: &LogRequest,
@@ -69,14 +67,15 @@ fn is_signed(
 ) -> Result<bool, OutOfMemory>
     ensures { IfOk result (λ signed. IsTrue signed ↔ IsSigned request.now checkpoint.now) }
 {
-    let key = request.key.as_slice();
-    let Ok(key) = CosignVerificationKey::from_der(alloc, key, &request.scheme) else {
+    let der = request.key.as_slice();
+    // Both calls refuse otherwise for want of memory alone.
+    let Ok(key) = CosignVerificationKey::from_der(alloc, der, &request.scheme) else {
         return Err(OutOfMemory);
     };
     match checkpoint.verify_signature(alloc, &key, &request.accepted) {
         Ok(()) => Ok(true),
-        Err(SigstoreError::OutOfMemory) => Err(OutOfMemory),
-        Err(_) => Ok(false),
+        Err(SigstoreError::CheckpointSignatureVerificationError) => Ok(false),
+        Err(_) => Err(OutOfMemory),
     }
 }
 
