@@ -9,6 +9,7 @@ mod log;
 mod read;
 mod reply;
 mod request;
+mod row;
 mod run;
 mod std_stream;
 mod words;
