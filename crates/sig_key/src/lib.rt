@@ -5,6 +5,8 @@
 #![tactic(auto)]
 
 mod signature;
+#[cfg(test)]
+mod tests;
 mod verification_key;
 
 pub use signature::Signature;

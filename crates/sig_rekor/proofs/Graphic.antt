@@ -56,8 +56,8 @@ digits_graphic [] all = refl
 digits_graphic (d ∷ ds) all =
     let range : (47 < d) × (d < 58) = digit_range d all.0 in
     and_from (is_graphic d) (list_all is_graphic ds) (byte_graphic d (omega arith) (omega arith)) (digits_graphic ds all.1) where
-  digit_range : (d : ℕ) → digit_value d < 10 → (47 < d) × (d < 58)
-  digit_range d small = (grind (arith, nat_tests), grind (arith, nat_tests))
+      digit_range : (d : ℕ) → digit_value d < 10 → (47 < d) × (d < 58)
+      digit_range d small = (grind (arith, nat_tests), grind (arith, nat_tests))
 
 pub decimal-graphic : (n : ℕ) → n < 2 ^ 64 → IsGraphic (decimal n)
 decimal-graphic n small = digits_graphic (decimal n) (decimal_is_IsNumeral n small).0.1
@@ -119,8 +119,8 @@ no_trailing (b ∷ t) g =
     let both = and_parts (is_graphic b) (list_all is_graphic t) g in
     let here = graphic_byte b both.0 in
     rw (kept b here.0 here.1, no_trailing t both.1) refl where
-  kept : (b : ℕ) → 32 < b → b < 127 → is_whitespace b ≡ false
-  kept b low high = grind (arith, nat_tests)
+      kept : (b : ℕ) → 32 < b → b < 127 → is_whitespace b ≡ false
+      kept b low high = grind (arith, nat_tests)
 
 graphic-ascii : (t : List ℕ) → IsGraphic t → IsAscii t
 graphic-ascii [] g i = omega arith

@@ -40,14 +40,24 @@ line_parts s name value =
     let coded = base64_text (signed_bytes s) in
     parts-cut space (signature_line s) em_dash (s.name ++ (space ++ coded)) (omega arith) (cut_after 32 em_dash (s.name ++ (space ++ coded)) ((λ e. omega arith), ((λ e. omega arith), ((λ e. omega arith), tt))))
     ∙ ap (λ ps. em_dash ∷ ps) (parts-cut space (s.name ++ (space ++ coded)) s.name coded (omega arith) (cut_after 32 s.name coded (free-lacks 32 s.name name.word))
-      ∙ ap (λ ps. s.name ∷ ps) (parts-whole space coded (cut_none 32 [] coded (graphic-free 32 coded (omega arith) (base64-graphic (signed_bytes s) value.bytes)))))
+    ∙ ap (λ ps. s.name ∷ ps) (parts-whole space coded (cut_none 32 [] coded (graphic-free 32 coded (omega arith) (base64-graphic (signed_bytes s) value.bytes)))))
 
 -- no newline in it
 line_free : (s : CheckpointSignature) → IsName s.name → IsSignatureValue s → IsFreeOf 10 (signature_line s)
-line_free s name value =
-    ((λ e. omega arith), ((λ e. omega arith), ((λ e. omega arith), ((λ e. omega arith),
-      free-append 10 s.name (space ++ base64_text (signed_bytes s)) (free-lacks 10 s.name name.line)
-      ((λ e. omega arith), graphic-free 10 (base64_text (signed_bytes s)) (omega arith) (base64-graphic (signed_bytes s) value.bytes))))))
+line_free s name value = (
+  (λ e. omega arith),
+  (
+    (λ e. omega arith),
+    (
+      (λ e. omega arith),
+      (
+        (λ e. omega arith),
+        free-append 10 s.name (space ++ base64_text (signed_bytes s)) (free-lacks 10 s.name name.line)
+            ((λ e. omega arith), graphic-free 10 (base64_text (signed_bytes s)) (omega arith) (base64-graphic (signed_bytes s) value.bytes)),
+      ),
+    ),
+  ),
+)
 
 -- a text without the mark does not end in it
 not_last : (t rest : List ℕ) → IsFreeOf 10 t → t ≢ rest ++ 10 ∷ []
@@ -206,7 +216,7 @@ note_written note tail =
     let behind = flat_map content_line note.other_content in
     append_assoc note.origin (newline ++ (decimal note.size ++ (newline ++ (hash ++ (newline ++ behind))))) tail
     ∙ ap (λ t. note.origin ++ 10 ∷ t) (append_assoc (decimal note.size) (newline ++ (hash ++ (newline ++ behind))) tail
-      ∙ ap (λ t. decimal note.size ++ 10 ∷ t) (append_assoc hash (newline ++ behind) tail ∙ contents_written hash note.other_content tail))
+    ∙ ap (λ t. decimal note.size ++ 10 ∷ t) (append_assoc hash (newline ++ behind) tail ∙ contents_written hash note.other_content tail))
 
 base64-some : (m : List ℕ) → 0 < length m → 0 < length (base64_text m)
 unfolding base64_text encode_symbols
@@ -227,19 +237,24 @@ first_line : (origin : List ℕ) → is_blank origin ≡ false → Lacks newline
 first_line origin written lacks = record { free = free-lacks 10 origin lacks; some = origin_some origin written }
 
 further_lines : (note : Checkpoint) → IsNoteValue note → AllByRecursion IsLineOf note.other_content → AllByRecursion IsLine (further note)
-further_lines note value contents =
-    (record { free = graphic-free 10 (decimal note.size) (omega arith) (decimal-graphic note.size value.size); some = decimal_nonempty note.size value.size },
-      (record { free = graphic-free 10 (base64_text note.hash) (omega arith) (base64-graphic note.hash value.bytes); some = base64-some note.hash (omega (arith, value.hash)) },
-        content_lines note.other_content contents))
+further_lines note value contents = (
+  record { free = graphic-free 10 (decimal note.size) (omega arith) (decimal-graphic note.size value.size); some = decimal_nonempty note.size value.size },
+  (
+    record { free = graphic-free 10 (base64_text note.hash) (omega arith) (base64-graphic note.hash value.bytes); some = base64-some note.hash (omega (arith, value.hash)) },
+    content_lines note.other_content contents,
+  ),
+)
 
 note_back : (note : Checkpoint) → IsNoteValue note → is_blank note.origin ≡ false → Lacks newline note.origin → AllByRecursion IsLineOf note.other_content → note_of (written note.origin (further note) []) ≡ Ok note
 unfolding note_of
 note_back note value origin line contents =
-    rw (written_parts note.origin (further note) (first_line note.origin origin line) (further_lines note value contents),
+    rw (
+      written_parts note.origin (further note) (first_line note.origin origin line) (further_lines note value contents),
       origin-only note.origin origin,
       size_of-decimal note.size value.size,
       hash-only (base64_text note.hash) note.hash (base64-again note.hash value.bytes, value.hash),
-      contents_back note.other_content contents) refl
+      contents_back note.other_content contents,
+    ) refl
 
 -- ---- the whole
 
@@ -286,7 +301,7 @@ checkpoint_again checkpoint is value values =
     let note = checkpoint.note in
     let joined_all = join_by signature_text newline checkpoint.signatures in
     let cut : cut_at empty_line (checkpoint_text checkpoint) ≡ Some (written note.origin (further note) [], 10 ∷ joined_all) =
-        ap (cut_at empty_line) (text_written checkpoint) ∙ written_cut note.origin (further note) (10 ∷ joined_all) (first_line note.origin is.origin is.line) (further_lines note value is.contents) in
+    ap (cut_at empty_line) (text_written checkpoint) ∙ written_cut note.origin (further note) (10 ∷ joined_all) (first_line note.origin is.origin is.line) (further_lines note value is.contents) in
     rw (untrimmed checkpoint is, cut, rest_back checkpoint.signatures is.names values, note_back note value is.origin is.line is.contents) refl
 
 pub checkpoint_back : {E : Type 0} (checkpoint : SignedCheckpoint) (r : Result (List ℕ) E) → ReadsBack checkpoint → IfOk r (λ t. t ≡ checkpoint_text checkpoint) → OnOk r (IsNoteValue checkpoint.note) → OnOk r (AllByRecursion IsSignatureValue checkpoint.signatures)

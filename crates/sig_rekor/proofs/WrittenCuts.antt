@@ -82,8 +82,8 @@ written_cut line [] rest is are = cut_past 10 newline line (10 ∷ 10 ∷ rest) 
 written_cut line (next ∷ lines) rest is are =
     cut_past 10 newline line (10 ∷ written next lines (10 ∷ 10 ∷ rest)) is.free
     ∙ ap (onto_cut line) (next_line next lines are.0 (written_cut next lines rest are.0 are.1)) where
-  next_line : (next : List ℕ) (lines : List (List ℕ)) → IsLine next → cut_at empty_line (written next lines (10 ∷ 10 ∷ rest)) ≡ Some (written next lines [], rest)
-      → cut_at empty_line (10 ∷ written next lines (10 ∷ 10 ∷ rest)) ≡ Some (10 ∷ written next lines [], rest)
-  next_line [] lines is e = absurd (let some = is.some in omega arith)
-  next_line (b ∷ next) [] is e = cut_apart b (next ++ 10 ∷ 10 ∷ rest) is.free.0 ∙ ap (onto_cut (10 ∷ [])) e
-  next_line (b ∷ next) (y ∷ ys) is e = cut_apart b (next ++ 10 ∷ written y ys (10 ∷ 10 ∷ rest)) is.free.0 ∙ ap (onto_cut (10 ∷ [])) e
+      next_line : (next : List ℕ) (lines : List (List ℕ)) → IsLine next → cut_at empty_line (written next lines (10 ∷ 10 ∷ rest)) ≡ Some (written next lines [], rest)
+          → cut_at empty_line (10 ∷ written next lines (10 ∷ 10 ∷ rest)) ≡ Some (10 ∷ written next lines [], rest)
+      next_line [] lines is e = absurd (let some = is.some in omega arith)
+      next_line (b ∷ next) [] is e = cut_apart b (next ++ 10 ∷ 10 ∷ rest) is.free.0 ∙ ap (onto_cut (10 ∷ [])) e
+      next_line (b ∷ next) (y ∷ ys) is e = cut_apart b (next ++ 10 ∷ written y ys (10 ∷ 10 ∷ rest)) is.free.0 ∙ ap (onto_cut (10 ∷ [])) e

@@ -13,6 +13,8 @@ mod inclusion_proof;
 mod note;
 mod signature;
 mod signed;
+#[cfg(test)]
+mod tests;
 mod verify;
 
 pub use checkpoint::{

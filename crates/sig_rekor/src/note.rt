@@ -64,9 +64,7 @@ fn read_note(alloc: Global, text: &str) -> Result<Checkpoint, ParseCheckpointErr
     ensures { Reads (λ n. n) result (note_of text.now) }
 {
     let Some(lines) = lines_of(text) else {
-        return Err(ParseCheckpointError::DecodeError(
-            CheckpointFault::NoteFormat,
-        ));
+        return Err(ParseCheckpointError::DecodeError(CheckpointFault::NoteFormat));
     };
     let origin = read_origin(alloc, lines.origin)?;
     let size = read_size(lines.size)?;
@@ -104,9 +102,7 @@ fn read_origin(alloc: Global, line: &str) -> Result<Text, ParseCheckpointError>
     ensures { Reads (λ t. t) result (origin_of line.now) }
 {
     if is_blank(line) {
-        return Err(ParseCheckpointError::DecodeError(
-            CheckpointFault::EmptyOrigin,
-        ));
+        return Err(ParseCheckpointError::DecodeError(CheckpointFault::EmptyOrigin));
     }
     Ok(Text::copy_of(alloc, line)?)
 }
@@ -128,9 +124,7 @@ fn read_hash(alloc: Global, line: &str) -> Result<[u8; 32], ParseCheckpointError
     let bytes = decode_base64(alloc, line, CheckpointFault::HashBase64)?;
     match <[u8; 32]>::try_from(bytes.as_slice()) {
         Ok(hash) => Ok(hash),
-        Err(_) => Err(ParseCheckpointError::DecodeError(
-            CheckpointFault::HashLength,
-        )),
+        Err(_) => Err(ParseCheckpointError::DecodeError(CheckpointFault::HashLength)),
     }
 }
 
@@ -150,11 +144,7 @@ fn read_contents(alloc: Global, text: &str) -> Result<OtherContents, OutOfMemory
 
 /// Adds what a line says, unless it is empty.
 #[tactic(auto, using(crate::proofs::Notes::one_content))]
-fn add_content(
-    alloc: Global,
-    line: &str,
-    contents: &mut OtherContents,
-) -> Result<(), OutOfMemory>
+fn add_content(alloc: Global, line: &str, contents: &mut OtherContents) -> Result<(), OutOfMemory>
     ensures { OnOk result (contents.new ≡ contents.old ++ contents_of (line.now ∷ [])) }
 {
     if line.is_empty() {

@@ -60,23 +60,14 @@ impl CheckpointSignature {
 }
 
 #[tactic(auto, unfolding(crate::specs::SignatureText::signature_of))]
-fn read_signature(
-    alloc: Global,
-    text: &str,
-) -> Result<CheckpointSignature, ParseCheckpointError>
+fn read_signature(alloc: Global, text: &str) -> Result<CheckpointSignature, ParseCheckpointError>
     ensures { Reads (λ x. x) result (signature_of text.now) }
 {
     let line = read_line(text)?;
     let Some((name, coded)) = name_and_bytes(line) else {
-        return Err(ParseCheckpointError::DecodeError(
-            CheckpointFault::SignatureFormat,
-        ));
+        return Err(ParseCheckpointError::DecodeError(CheckpointFault::SignatureFormat));
     };
-    let bytes = decode_base64(
-        alloc,
-        coded.trim_end(),
-        CheckpointFault::SignatureBase64,
-    )?;
+    let bytes = decode_base64(alloc, coded.trim_end(), CheckpointFault::SignatureBase64)?;
     make_signature(alloc, name, bytes.as_slice())
 }
 
@@ -89,9 +80,7 @@ fn make_signature(
     ensures { Reads (λ x. x) result (signature_by name.now bytes.now) }
 {
     let Some((fingerprint, raw)) = bytes.split_first_chunk::<4>() else {
-        return Err(ParseCheckpointError::DecodeError(
-            CheckpointFault::SignatureLength,
-        ));
+        return Err(ParseCheckpointError::DecodeError(CheckpointFault::SignatureLength));
     };
     Ok(CheckpointSignature {
         key_fingerprint: *fingerprint,

@@ -57,9 +57,7 @@ fn read_checkpoint(alloc: Global, text: &str) -> Result<SignedCheckpoint, ParseC
     ensures { Reads (λ x. x) result (checkpoint_of text.now) }
 {
     let Some((note, rest)) = cut(trimmed(text, '"'), "\n\n") else {
-        return Err(ParseCheckpointError::DecodeError(
-            CheckpointFault::Format,
-        ));
+        return Err(ParseCheckpointError::DecodeError(CheckpointFault::Format));
     };
     let signatures = read_signatures(alloc, rest)?;
     let note = Checkpoint::unmarshal(alloc, note)?;
@@ -67,10 +65,7 @@ fn read_checkpoint(alloc: Global, text: &str) -> Result<SignedCheckpoint, ParseC
 }
 
 #[tactic(auto, using(crate::proofs::Signatures::all_signatures))]
-fn read_signatures(
-    alloc: Global,
-    text: &str,
-) -> Result<CheckpointSignatures, ParseCheckpointError>
+fn read_signatures(alloc: Global, text: &str) -> Result<CheckpointSignatures, ParseCheckpointError>
     ensures { Reads (λ x. x) result (signatures_by (parts empty_line text.now)) }
 {
     let mut signatures = CheckpointSignatures::new(alloc);
