@@ -4,10 +4,14 @@
 //! is the checker's own predicate of the key's scheme, the key info, the message and the signature.
 #![tactic(auto)]
 
+mod kind;
 mod signature;
 #[cfg(test)]
 mod tests;
 mod verification_key;
+mod verification_keys;
 
+pub use kind::{KeyKind, key_kind};
 pub use signature::Signature;
 pub use verification_key::CosignVerificationKey;
+pub use verification_keys::VerificationKeys;
