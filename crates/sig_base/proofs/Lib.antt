@@ -1,3 +1,2 @@
 pub mod Schemes
-pub mod Tables
 pub mod Texts
