@@ -12,6 +12,8 @@ mod request;
 mod row;
 mod run;
 mod std_stream;
+#[cfg(test)]
+mod tests;
 mod words;
 mod write;
 
