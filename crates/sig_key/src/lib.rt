@@ -5,6 +5,8 @@
 #![tactic(auto)]
 
 mod kind;
+#[cfg(test)]
+mod kind_tests;
 mod signature;
 #[cfg(test)]
 mod tests;
