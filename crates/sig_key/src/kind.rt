@@ -12,7 +12,7 @@ use sig_der::{Element, KeyInfoPlaces, key_info_at, oid};
 const OBJECT_IDENTIFIER: u8 = 6;
 
 /// What kind of key a text is.
-#[derive(Clone, Copy)]
+#[derive(Clone, Copy, PartialEq, Eq)]
 pub enum KeyKind {
     /// The text is no key info.
     NoKeyInfo,
