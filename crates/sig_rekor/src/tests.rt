@@ -11,12 +11,8 @@ use sig_key::CosignVerificationKey;
 use std::alloc::Global;
 use std::test::Fail;
 
-/// The base64 of 32 bytes 00, 01 and 02.
-const HASHES: [&str; 3] = [
-    "AAAAAAAAAAAAAAAAAAAAAAAAAAAAAAAAAAAAAAAAAAA=",
-    "AQEBAQEBAQEBAQEBAQEBAQEBAQEBAQEBAQEBAQEBAQE=",
-    "AgICAgICAgICAgICAgICAgICAgICAgICAgICAgICAgI=",
-];
+/// A note with the hash of 32 bytes 02.
+const BANANA: &str = "Banana Checkpoint v7\n9943\nAgICAgICAgICAgICAgICAgICAgICAgICAgICAgICAgI=\n";
 
 /// The base64 of four bytes 00 and 32 bytes 01.
 const CODED: &str = "AAAAAAEBAQEBAQEBAQEBAQEBAQEBAQEBAQEBAQEBAQEBAQEB";
@@ -64,36 +60,75 @@ fn key_value(alloc: Global, key: &str, text: &str) -> Result<OtherContent, OutOf
     Ok(OtherContent::KeyValue(Text::copy_of(alloc, key)?, Text::copy_of(alloc, text)?))
 }
 
+/// Whether the note is written as this text, and read from it.
+fn is_text_of(alloc: Global, note: &Checkpoint, text: &str) -> bool {
+    match note.marshal(alloc) {
+        Ok(written) => written.as_str() == text && is_read_as(alloc, text, note),
+        Err(_) => false,
+    }
+}
+
+/// Whether the text is read as this note.
+fn is_read_as(alloc: Global, text: &str, note: &Checkpoint) -> bool {
+    match Checkpoint::unmarshal(alloc, text) {
+        Ok(read) => read == *note,
+        Err(_) => false,
+    }
+}
+
 #[test]
 fn notes_are_written_and_read(rt: HostRuntime) -> Result<(), Fail> {
     let alloc = rt.alloc();
-    let banana = "Banana Checkpoint v7\n9943\nAgICAgICAgICAgICAgICAgICAgICAgICAgICAgICAgI=\n";
     let first = note(alloc, "Log Checkpoint v0", 123, 0)?;
-    let written = first.marshal(alloc)?;
-    assert_eq!(rt;
-        written.as_str(),
-        "Log Checkpoint v0\n123\nAAAAAAAAAAAAAAAAAAAAAAAAAAAAAAAAAAAAAAAAAAA=\n"
+    assert!(rt;
+        is_text_of(
+            alloc,
+            &first,
+            "Log Checkpoint v0\n123\nAAAAAAAAAAAAAAAAAAAAAAAAAAAAAAAAAAAAAAAAAAA=\n"
+        )
     );
-    assert!(rt; Checkpoint::unmarshal(alloc, written.as_str())? == first);
-    let mut words = note(alloc, "Banana Checkpoint v7", 9943, 2)?;
-    words.other_content.push(value(alloc, "foo")?)?;
-    words.other_content.push(value(alloc, "bar")?)?;
-    let text = format!(in alloc; "{banana}foo\nbar\n")?;
-    assert_eq!(rt; words.marshal(alloc)?.as_str(), text.as_str());
-    assert!(rt; Checkpoint::unmarshal(alloc, text.as_str())? == words);
-    let mut dated = note(alloc, "Banana Checkpoint v7", 9943, 2)?;
-    dated.other_content.push(key_value(alloc, "Timestamp", "1689748607742585419: late")?)?;
-    let text = format!(in alloc; "{banana}\nTimestamp: 1689748607742585419: late")?;
-    assert!(rt; Checkpoint::unmarshal(alloc, text.as_str())? == dated);
-    assert!(rt; dated != words);
     let plain = note(alloc, "Banana Checkpoint v7", 9943, 2)?;
-    let text = format!(in alloc; "{banana}\n\n\n")?;
-    assert!(rt; Checkpoint::unmarshal(alloc, text.as_str())? == plain);
-    assert_eq!(rt;
-        format!(in alloc; "{}|{}", key_value(alloc, "a", "b: c")?, value(alloc, "d")?)?.as_str(),
-        "a: b: c|d"
+    assert!(rt; is_text_of(alloc, &plain, BANANA));
+    assert!(rt;
+        is_read_as(
+            alloc,
+            "Banana Checkpoint v7\n9943\nAgICAgICAgICAgICAgICAgICAgICAgICAgICAgICAgI=\n\n\n\n",
+            &plain
+        )
     );
+    assert!(rt; !is_read_as(alloc, BANANA, &first));
     Ok(())
+}
+
+#[test]
+fn contents_are_written_and_read(rt: HostRuntime) -> Result<(), Fail> {
+    let alloc = rt.alloc();
+    let mut banana = note(alloc, "Banana Checkpoint v7", 9943, 2)?;
+    banana.other_content.push(value(alloc, "foo")?)?;
+    banana.other_content.push(key_value(alloc, "Timestamp", "1689748607742585419: late")?)?;
+    assert!(rt;
+        is_text_of(
+            alloc,
+            &banana,
+            "Banana Checkpoint v7\n9943\nAgICAgICAgICAgICAgICAgICAgICAgICAgICAgICAgI=\nfoo\nTimestamp: 1689748607742585419: late\n"
+        )
+    );
+    let shown = format!(in alloc; "{}", key_value(alloc, "a", "b: c")?)?;
+    assert_eq!(rt; shown.as_str(), "a: b: c");
+    Ok(())
+}
+
+/// The size of a note with this second line, where it has one; other faults are shown as the size 1.
+fn size_of(alloc: Global, line: &str) -> Option<u64> {
+    let Ok(text) = format!(in alloc; "o\n{line}\nAAAAAAAAAAAAAAAAAAAAAAAAAAAAAAAAAAAAAAAAAAA=")
+    else {
+        return Some(1);
+    };
+    match Checkpoint::unmarshal(alloc, text.as_str()) {
+        Ok(note) => Some(note.size),
+        Err(ParseCheckpointError::DecodeError(CheckpointFault::Size)) => None,
+        Err(_) => Some(1),
+    }
 }
 
 #[test]
@@ -113,24 +148,33 @@ fn sizes_take_a_plus_sign_and_zeros(rt: HostRuntime) -> Result<(), Fail> {
         ("bananas", None),
     ];
     for (line, wanted) in sizes {
-        let text = format!(in alloc; "o\n{line}\n{}\n", HASHES[0])?;
-        match Checkpoint::unmarshal(alloc, text.as_str()) {
-            Ok(note) => assert_eq!(rt; Some(note.size), wanted, "{line}"),
-            Err(error) => {
-                assert_eq!(rt; wanted, None, "{line}");
-                assert_eq!(rt;
-                    error,
-                    ParseCheckpointError::DecodeError(CheckpointFault::Size)
-                );
-            }
-        }
+        assert_eq!(rt; size_of(alloc, line), wanted, "{line}");
     }
     let read = Checkpoint::unmarshal(
         alloc,
         "o\n+007\nOVqgZKpMKfcBCs/j8l25SFu9S5GJe2rXrVR2OSUrTVY=\n",
     )?;
-    assert!(rt; read.marshal(alloc)?.as_str().starts_with("o\n7\nOVqg"));
+    assert_eq!(rt;
+        read.marshal(alloc)?.as_str(),
+        "o\n7\nOVqgZKpMKfcBCs/j8l25SFu9S5GJe2rXrVR2OSUrTVY=\n"
+    );
     Ok(())
+}
+
+/// Whether the signature is written as this text, and read from it.
+fn is_line_of(alloc: Global, made: &CheckpointSignature, line: &str) -> bool {
+    match made.encode(alloc) {
+        Ok(written) => written.as_str() == line && is_line_read_as(alloc, line, made),
+        Err(_) => false,
+    }
+}
+
+/// Whether the text is read as this signature.
+fn is_line_read_as(alloc: Global, line: &str, made: &CheckpointSignature) -> bool {
+    match CheckpointSignature::decode(alloc, line) {
+        Ok(read) => read == *made,
+        Err(_) => false,
+    }
 }
 
 #[test]
@@ -144,13 +188,10 @@ fn signatures_are_written_and_read(rt: HostRuntime) -> Result<(), Fail> {
     ] {
         let made = signature(alloc, name, [0; 4], &[1; 32])?;
         let line = format!(in alloc; "\u{2014} {name} {CODED}\n")?;
-        assert_eq!(rt; made.encode(alloc)?.as_str(), line.as_str());
-        assert!(rt; CheckpointSignature::decode(alloc, line.as_str())? == made);
+        assert!(rt; is_line_of(alloc, &made, line.as_str()), "{name}");
         let spaced = format!(in alloc; "\n\n\u{2014}any {name} {CODED}\t\u{a0}\u{3000}\n\n")?;
-        assert!(rt; CheckpointSignature::decode(alloc, spaced.as_str())? == made);
+        assert!(rt; is_line_read_as(alloc, spaced.as_str(), &made), "{name}");
     }
-    let bare = signature(alloc, "n", [1, 2, 3, 4], &[])?;
-    assert!(rt; CheckpointSignature::decode(alloc, "\u{2014} n AQIDBA==")? == bare);
     Ok(())
 }
 
@@ -249,45 +290,49 @@ fn checkpoints_name_the_first_fault(rt: HostRuntime) -> Result<(), Fail> {
     Ok(())
 }
 
+/// Whether the checkpoint is read back from its text.
+fn is_read_back(alloc: Global, checkpoint: &SignedCheckpoint) -> bool {
+    match checkpoint.encode(alloc) {
+        Ok(text) => is_checkpoint_of(alloc, text.as_str(), checkpoint),
+        Err(_) => false,
+    }
+}
+
+/// Whether the text is read as this checkpoint.
+fn is_checkpoint_of(alloc: Global, text: &str, checkpoint: &SignedCheckpoint) -> bool {
+    match SignedCheckpoint::decode(alloc, text) {
+        Ok(read) => read == *checkpoint,
+        Err(_) => false,
+    }
+}
+
 #[test]
-fn checkpoints_are_read_back(rt: HostRuntime) -> Result<(), Fail> {
+fn a_checkpoint_has_its_parts(rt: HostRuntime) -> Result<(), Fail> {
     let alloc = rt.alloc();
     let one = SignedCheckpoint::decode(alloc, ONE_LEAF)?;
     assert_eq!(rt; one.note.origin.as_str(), "log.example");
     assert_eq!(rt; one.note.size, 1);
     assert_eq!(rt; one.note.hash, ONE_LEAF_ROOT);
     assert_eq!(rt; one.signatures.len(), 1);
-    for form in ["\"{}\"", "{}\n\n\n\n\n\n"] {
-        let quoted = form.starts_with("\"");
-        let text = if quoted {
-            format!(in alloc; "\"\"{ONE_LEAF}\"")?
-        } else {
-            format!(in alloc; "{ONE_LEAF}\n\n\n\n\n\n")?
-        };
-        assert!(rt;
-            SignedCheckpoint::decode(alloc, text.as_str())? == one,
-            "{form}"
-        );
-    }
-    assert!(rt; SignedCheckpoint::decode(alloc, one.encode(alloc)?.as_str())? == one);
+    assert!(rt; is_read_back(alloc, &one));
+    let quoted = format!(in alloc; "\"\"{ONE_LEAF}\"")?;
+    assert!(rt; is_checkpoint_of(alloc, quoted.as_str(), &one));
+    let spaced = format!(in alloc; "{ONE_LEAF}\n\n\n\n\n\n")?;
+    assert!(rt; is_checkpoint_of(alloc, spaced.as_str(), &one));
+    Ok(())
+}
+
+#[test]
+fn checkpoints_are_read_back(rt: HostRuntime) -> Result<(), Fail> {
+    let alloc = rt.alloc();
     let mut many = SignedCheckpoint {
         note: note(alloc, "Test Log", 42, 7)?,
         signatures: CheckpointSignatures::new(alloc),
     };
-    assert!(rt; SignedCheckpoint::decode(alloc, many.encode(alloc)?.as_str())? == many);
-    many.note
-        .other_content
-        .push(key_value(alloc, "Timestamp", "1")?)?;
+    assert!(rt; is_read_back(alloc, &many));
     many.signatures.push(signature(alloc, "log1.example.org", [1, 2, 3, 4], &[5; 32])?)?;
     many.signatures.push(signature(alloc, "log2.example.org", [9, 8, 7, 6], &[6; 32])?)?;
-    let text = many.encode(alloc)?;
-    assert!(rt;
-        text.as_str().starts_with(
-            "Test Log\n42\nBwcHBwcHBwcHBwcHBwcHBwcHBwcHBwcHBwcHBwcHBwc=\nTimestamp: 1\n\n\n\u{2014} log1.example.org "
-        )
-    );
-    assert!(rt; SignedCheckpoint::decode(alloc, text.as_str())? == many);
-    assert!(rt; many != one);
+    assert!(rt; is_read_back(alloc, &many));
     Ok(())
 }
 
@@ -416,41 +461,50 @@ fn proofs_are_refused_in_order(rt: HostRuntime) -> Result<(), Fail> {
     Ok(())
 }
 
+/// The note text of one leaf, and so many copies of a piece behind it.
+fn with_pieces(alloc: Global, piece: &str, count: u32) -> Result<String, OutOfMemory> {
+    let mut text = String::from_str(alloc, ONE_LEAF_NOTE)?;
+    for _ in 0..count {
+        text.push_str(piece)?;
+    }
+    Ok(text)
+}
+
 #[test]
 fn hostile_texts_are_read_to_their_end(rt: HostRuntime) -> Result<(), Fail> {
     let alloc = rt.alloc();
-    let mut lines = String::from_str(alloc, ONE_LEAF_NOTE)?;
-    for _ in 0..1 << 20 {
-        lines.push_str("x\n")?;
-    }
+    let mut lines = with_pieces(alloc, "x\n", 1 << 20)?;
     lines.push_str("\n")?;
-    let read = SignedCheckpoint::decode(alloc, lines.as_str())?;
-    assert_eq!(rt; read.note.other_content.len(), 1 << 20);
-    let mut signed = String::from_str(alloc, ONE_LEAF_NOTE)?;
-    for _ in 0..100_000 {
-        signed.push_str("\n\u{2014} log.example AAAAAXNpZw==\n")?;
-    }
+    assert_eq!(rt;
+        SignedCheckpoint::decode(alloc, lines.as_str())?
+            .note
+            .other_content
+            .len(),
+        1 << 20
+    );
+    let signed = with_pieces(alloc, "\n\u{2014} log.example AAAAAXNpZw==\n", 100_000)?;
     assert_eq!(rt;
         SignedCheckpoint::decode(alloc, signed.as_str())?
             .signatures
             .len(),
         100_000
     );
-    let mut marks = String::new(alloc);
-    for _ in 0..1 << 20 {
-        marks.push('"')?;
-    }
+    let newlines = with_pieces(alloc, "\n", 1 << 20)?;
+    assert_eq!(rt;
+        SignedCheckpoint::decode(alloc, newlines.as_str())?
+            .signatures
+            .len(),
+        0
+    );
+    let marks = with_pieces(alloc, "\"", 1 << 20)?;
     assert_eq!(rt;
         fault_of(SignedCheckpoint::decode(alloc, marks.as_str())),
         Some(CheckpointFault::Format)
     );
-    let mut newlines = String::new(alloc);
-    for _ in 0..1 << 20 {
-        newlines.push('\n')?;
-    }
+    let only_marks = "\"\"\"\"\"\"\"\"\"\"\"\"\"\"\"\"";
     assert_eq!(rt;
-        fault_of(SignedCheckpoint::decode(alloc, newlines.as_str())),
-        Some(CheckpointFault::NoteFormat)
+        fault_of(SignedCheckpoint::decode(alloc, only_marks)),
+        Some(CheckpointFault::Format)
     );
     Ok(())
 }
