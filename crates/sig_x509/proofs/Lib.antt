@@ -4,3 +4,5 @@ pub mod HeadLaws
 pub mod BodyLaws
 pub mod CertificateLaws
 pub mod Readings
+pub mod HeldLaws
+pub mod WalkLaws

@@ -6,17 +6,23 @@ mod certificate;
 mod error;
 mod extensions;
 mod lookup;
+mod names;
 mod parts;
+mod profile;
 mod profile_error;
 mod reading;
 mod seconds;
 mod span;
+mod trust;
 mod values;
+mod walks;
 
 pub use certificate::Certificate;
 pub use error::X509ReadError;
 pub use lookup::{ExtensionRef, Lookup};
+pub use profile::{is_ca, is_leaf, is_root_ca};
 pub use profile_error::{
     CertificateValidationError, ExtensionErrorKind, NotCAErrorKind, NotLeafErrorKind, PartName,
 };
+pub use trust::{is_trusted, verify_expiration, verify_has_san, verify_key_usages, verify_validity};
 pub use values::{BasicConstraints, KeyUsage};
