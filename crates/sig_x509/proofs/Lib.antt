@@ -6,3 +6,4 @@ pub mod CertificateLaws
 pub mod Readings
 pub mod HeldLaws
 pub mod WalkLaws
+pub mod PemLaws

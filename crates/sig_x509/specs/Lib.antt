@@ -9,3 +9,4 @@ pub mod Names
 pub mod NamePlaces
 pub mod Profile
 pub mod Trust
+pub mod Pem

@@ -8,6 +8,7 @@ mod extensions;
 mod lookup;
 mod names;
 mod parts;
+mod pem;
 mod profile;
 mod profile_error;
 mod reading;
@@ -20,6 +21,7 @@ mod walks;
 pub use certificate::Certificate;
 pub use error::X509ReadError;
 pub use lookup::{ExtensionRef, Lookup};
+pub use pem::der_to_pem;
 pub use profile::{is_ca, is_leaf, is_root_ca};
 pub use profile_error::{
     CertificateValidationError, ExtensionErrorKind, NotCAErrorKind, NotLeafErrorKind, PartName,
