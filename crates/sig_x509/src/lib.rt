@@ -14,8 +14,12 @@ mod profile_error;
 mod reading;
 mod seconds;
 mod span;
+#[cfg(test)]
+mod tests;
 mod trust;
 mod values;
+#[cfg(test)]
+mod vectors;
 mod walks;
 
 pub use certificate::Certificate;

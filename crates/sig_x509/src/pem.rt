@@ -1,6 +1,8 @@
 //! A certificate as text: RFC 7468 section 5.1.
 
-ghost use Rattle.std.specs.Prelude.{◌≡◌, ◌++◌, IfOk, OnOk, string_bytes};
+ghost use Rattle.std.specs.Prelude.{◌≡◌, [], ◌∷◌, ◌++◌, IfOk, OnOk, string_bytes};
+ghost use Rattle.base64.specs.Engines.{standard};
+ghost use Rattle.base64.specs.GeneralPurpose.{encode_of};
 ghost use Rattle.sig_x509.specs.Pem.{lines_of, pem_of};
 
 use base64::engine::general_purpose::STANDARD;
@@ -30,9 +32,16 @@ fn push_lines(pem: &mut String, der: &[u8]) -> Result<(), AllocError>
     let mut rest = der;
     while !rest.is_empty() {
         let (line, after) = rest.split_at(rest.len().min(LINE));
-        STANDARD.encode_string(line, pem)?;
-        pem.push('\n')?;
+        push_line(pem, line)?;
         rest = after;
     }
     Ok(())
+}
+
+/// Appends one line.
+fn push_line(pem: &mut String, line: &[u8]) -> Result<(), AllocError>
+    ensures { OnOk result (string_bytes pem.new ≡ string_bytes pem.old ++ encode_of standard line.now ++ 10 ∷ []) }
+{
+    STANDARD.encode_string(line, pem)?;
+    pem.push('\n')
 }
