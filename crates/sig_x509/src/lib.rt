@@ -30,5 +30,7 @@ pub use profile::{is_ca, is_leaf, is_root_ca};
 pub use profile_error::{
     CertificateValidationError, ExtensionErrorKind, NotCAErrorKind, NotLeafErrorKind, PartName,
 };
-pub use trust::{is_trusted, verify_expiration, verify_has_san, verify_key_usages, verify_validity};
+pub use trust::{
+    is_trusted, verify_expiration, verify_has_san, verify_key_usages, verify_validity,
+};
 pub use values::{BasicConstraints, KeyUsage};

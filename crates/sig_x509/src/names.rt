@@ -11,9 +11,13 @@ use crate::values::content_at;
 use sig_der::{Place, place_at, tagged_at, whole_at};
 
 const EMAIL: u8 = 129;
+
 const URI: u8 = 134;
+
 const OTHER_NAME: u8 = 160;
+
 const EXPLICIT_0: u8 = 160;
+
 const OBJECT_IDENTIFIER: u8 = 6;
 
 /// A name, where it stands in a text.
@@ -84,16 +88,28 @@ fn name_of(bytes: &[u8], place: Place) -> Option<NamePlaces>
 {
     let content = &bytes[place.content..place.end];
     if place.tag == EMAIL {
-        return if is_ascii(content) { Some(NamePlaces::Email(content_of(place))) } else { None };
+        return if is_ascii(content) {
+            Some(NamePlaces::Email(content_of(place)))
+        } else {
+            None
+        };
     }
     if place.tag == URI {
-        return if is_ascii(content) { Some(NamePlaces::Uri(content_of(place))) } else { None };
+        return if is_ascii(content) {
+            Some(NamePlaces::Uri(content_of(place)))
+        } else {
+            None
+        };
     }
     if place.tag == OTHER_NAME {
         let (oid, value) = other_name(bytes, place.content, place.end)?;
         return Some(NamePlaces::Other(oid, value));
     }
-    if is_context(place.tag) { Some(NamePlaces::Unread) } else { None }
+    if is_context(place.tag) {
+        Some(NamePlaces::Unread)
+    } else {
+        None
+    }
 }
 
 /// The name at `at`, and where what follows it begins.

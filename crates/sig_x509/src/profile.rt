@@ -15,7 +15,9 @@ use sig_der::oid::{BASIC_CONSTRAINTS, CODE_SIGNING, EXTENDED_KEY_USAGE, KEY_USAG
 /// What the key usage of the certificate says: None where there is none, `Malformed` where it is malformed or stands several
 /// times.
 #[tactic(auto, using(crate::proofs::HeldLaws::held_absent, crate::proofs::HeldLaws::held_one, crate::proofs::HeldLaws::held_several))]
-pub(crate) fn key_usage(certificate: &Certificate) -> Result<Option<KeyUsage>, CertificateValidationError>
+pub(crate) fn key_usage(
+    certificate: &Certificate,
+) -> Result<Option<KeyUsage>, CertificateValidationError>
     ensures { result ≡ usage certificate.now }
 {
     match certificate.extension(KEY_USAGE) {
@@ -49,7 +51,9 @@ pub(crate) fn basic_constraints(
 /// Whether code signing is among the purposes of the certificate's extended key usage. None where there is none, `Malformed`
 /// where it is malformed or stands several times.
 #[tactic(auto, using(crate::proofs::HeldLaws::held_absent, crate::proofs::HeldLaws::held_one, crate::proofs::HeldLaws::held_several))]
-pub(crate) fn code_signing(certificate: &Certificate) -> Result<Option<bool>, CertificateValidationError>
+pub(crate) fn code_signing(
+    certificate: &Certificate,
+) -> Result<Option<bool>, CertificateValidationError>
     ensures { result ≡ code_signing certificate.now }
 {
     match certificate.extension(EXTENDED_KEY_USAGE) {

@@ -23,7 +23,9 @@ fn may_sign(usage: std::result::Result<Option<KeyUsage>, CertificateValidationEr
     }
 }
 
-fn may_sign_code(code_signing: std::result::Result<Option<bool>, CertificateValidationError>) -> bool
+fn may_sign_code(
+    code_signing: std::result::Result<Option<bool>, CertificateValidationError>,
+) -> bool
     ensures { result ≡ may_sign_code code_signing }
 {
     match code_signing {
@@ -65,7 +67,11 @@ fn is_named(certificate: &Certificate) -> bool
 pub fn verify_has_san(certificate: &Certificate) -> Result<()>
     ensures { refusal result ≡ names_refusal certificate.now }
 {
-    if is_named(certificate) { Ok(()) } else { Err(SigstoreError::CertificateWithoutSubjectAlternativeName) }
+    if is_named(certificate) {
+        Ok(())
+    } else {
+        Err(SigstoreError::CertificateWithoutSubjectAlternativeName)
+    }
 }
 
 /// Whether the validity has begun by now, in seconds since 1970: `CertificateValidityError` with its first second where it has
@@ -74,7 +80,11 @@ pub fn verify_validity(certificate: &Certificate, now: i64) -> Result<()>
     ensures { refusal result ≡ validity_refusal certificate.now now }
 {
     let not_before = certificate.not_before();
-    if now < not_before { Err(SigstoreError::CertificateValidityError(not_before)) } else { Ok(()) }
+    if now < not_before {
+        Err(SigstoreError::CertificateValidityError(not_before))
+    } else {
+        Ok(())
+    }
 }
 
 /// Whether the time at which the entry was logged, in seconds since 1970, is within the validity.
@@ -86,17 +96,21 @@ pub fn verify_expiration(certificate: &Certificate, integrated_time: i64) -> Res
 {
     let not_before = certificate.not_before();
     if integrated_time < not_before {
-        return Err(SigstoreError::CertificateExpiredBeforeSignaturesSubmittedToRekor {
-            integrated_time,
-            not_before,
-        });
+        return Err(
+            SigstoreError::CertificateExpiredBeforeSignaturesSubmittedToRekor {
+                integrated_time,
+                not_before,
+            },
+        );
     }
     let not_after = certificate.not_after();
     if integrated_time > not_after {
-        return Err(SigstoreError::CertificateIssuedAfterSignaturesSubmittedToRekor {
-            integrated_time,
-            not_after,
-        });
+        return Err(
+            SigstoreError::CertificateIssuedAfterSignaturesSubmittedToRekor {
+                integrated_time,
+                not_after,
+            },
+        );
     }
     Ok(())
 }

@@ -19,7 +19,7 @@ loop-next-preserved c =
     record {
       inside = c.in-Some.ensures.before;
       all = is_list_more name_at name_at_shrinks (slice_range c.args.bytes.now c.loop-next.next c.args.end) _ c.in-Some.ensures.cut
-      ∙ c.loop-next.invariant.all;
+          ∙ c.loop-next.invariant.all;
     }
 
 pub returns : goal.returns

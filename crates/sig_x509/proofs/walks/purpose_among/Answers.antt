@@ -25,8 +25,8 @@ loop-next-preserved c =
     record {
       inside = c.in-Some.ensures.within.below;
       all = rw (c.either-found.ensures, c.eq.ensures, c.part.ensures)
-      (any_goes_on oid_at oid_at_shrinks (λ (p : List ℕ). bytes_eq p c.args.purpose.now) c.loop-next.found (slice_range bytes c.loop-next.next c.args.end)
-      (placed_front bytes c.args.end c.in-Some.oid) c.in-Some.ensures.cut ∙ c.loop-next.invariant.all);
+          (any_goes_on oid_at oid_at_shrinks (λ (p : List ℕ). bytes_eq p c.args.purpose.now) c.loop-next.found (slice_range bytes c.loop-next.next c.args.end)
+          (placed_front bytes c.args.end c.in-Some.oid) c.in-Some.ensures.cut ∙ c.loop-next.invariant.all);
     }
 
 pub returns : goal.returns
