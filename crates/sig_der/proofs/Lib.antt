@@ -8,7 +8,7 @@ pub mod Takings
 pub mod Many
 pub mod Wholes
 pub mod Childs
+pub mod KeyInfos
 pub mod DigitRuns
 pub mod DigitTexts
 pub mod TimeTexts
-pub mod KeyInfos
