@@ -8,8 +8,8 @@ pub mod Takings
 pub mod Many
 pub mod Wholes
 pub mod Childs
-pub mod KeyInfos
 pub mod DigitRuns
 pub mod DigitTexts
 pub mod TimeTexts
+pub mod KeyInfos
 pub mod StampTexts

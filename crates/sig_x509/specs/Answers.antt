@@ -1,5 +1,6 @@
 -- The answer of a reader that takes memory.
-use Rattle.std.specs.Prelude.{◌≡◌, ℕ, Option, Some, None, Result, Ok, Err}
+use Rattle.std.specs.Prelude.{◌≡◌, ℕ, List, Option, Some, None, Result, Ok, Err}
+use Rattle.sig_x509.specs.Certificate.{Cert, IsCertificate}
 use Rattle.sig_x509.specs.declared.error.X509ReadError.{X509ReadError}
 use Rattle.sig_x509.specs.declared.error.X509ReadError.TheVariants.{Der, OutOfMemory}
 
@@ -8,3 +9,8 @@ abbrev pub Reads : {X Y : Type 0} → (X → Y) → Result X X509ReadError → O
 Reads view (Ok x) meant = meant ≡ Some (view x)
 Reads view (Err Der) meant = meant ≡ None
 Reads view (Err OutOfMemory) meant = Unit {0}
+
+-- `Der` says that the text is no certificate; want of memory says nothing
+abbrev pub IsRefusedOnlyWithout : List ℕ → X509ReadError → Type 0
+IsRefusedOnlyWithout text Der = (c : Cert) → ¬ IsCertificate text c
+IsRefusedOnlyWithout text OutOfMemory = Unit {0}

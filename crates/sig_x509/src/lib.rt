@@ -2,6 +2,7 @@
 //! extensions that decide what a certificate may be used for; and the checks that stand on them.
 #![tactic(auto)]
 
+mod certificate;
 mod error;
 mod extensions;
 mod lookup;
@@ -10,5 +11,6 @@ mod reading;
 mod seconds;
 mod span;
 
+pub use certificate::Certificate;
 pub use error::X509ReadError;
 pub use lookup::{ExtensionRef, Lookup};
