@@ -3,3 +3,4 @@ pub mod ExtensionLaws
 pub mod HeadLaws
 pub mod BodyLaws
 pub mod CertificateLaws
+pub mod Readings

@@ -4,3 +4,4 @@ pub mod Places
 pub mod Answers
 pub mod Held
 pub mod Lookups
+pub mod Values

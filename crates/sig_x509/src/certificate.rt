@@ -9,7 +9,7 @@ use crate::error::X509ReadError;
 use crate::extensions::ExtensionPlaces;
 use crate::lookup::{ExtensionRef, Lookup, lend, look_up};
 use crate::parts::Places;
-use crate::reading::{dated_at, extensions_at};
+use crate::reading::{dated_parts, extensions_at};
 use crate::span::part;
 use std::alloc::Global;
 use std::marker::Model;
@@ -52,19 +52,20 @@ impl Certificate {
         // `Der` comes only where the bytes are no certificate.
         ensures refused { IfErr result (IsRefusedOnlyWithout der.now) }
     {
-        let Some(dated) = dated_at(der, 0, der.len()) else {
+        let Some(dated) = dated_parts(der) else {
             return Err(X509ReadError::Der);
         };
         let list = dated.places.list;
-        let extensions = extensions_at(alloc, der, list.start, list.end)?;
-        let der = Vec::from_slice(alloc, der)?;
-        Ok(Certificate {
-            der,
-            places: dated.places,
-            not_before: dated.not_before,
-            not_after: dated.not_after,
-            extensions,
-        })
+        match extensions_at(alloc, der, list.start, list.end) {
+            Err(e) => Err(e),
+            Ok(extensions) => Ok(Certificate {
+                der: Vec::from_slice(alloc, der)?,
+                places: dated.places,
+                not_before: dated.not_before,
+                not_after: dated.not_after,
+                extensions,
+            }),
+        }
     }
 
     /// The whole text.

@@ -7,10 +7,16 @@ mod error;
 mod extensions;
 mod lookup;
 mod parts;
+mod profile_error;
 mod reading;
 mod seconds;
 mod span;
+mod values;
 
 pub use certificate::Certificate;
 pub use error::X509ReadError;
 pub use lookup::{ExtensionRef, Lookup};
+pub use profile_error::{
+    CertificateValidationError, ExtensionErrorKind, NotCAErrorKind, NotLeafErrorKind, PartName,
+};
+pub use values::{BasicConstraints, KeyUsage};

@@ -2,7 +2,7 @@ use Rattle.std.proofs.Common.{rules, ◌≡◌, ℤ, Option, Some, None, refl, s
 use Rattle.sig_der.specs.DerTime.{IsTimeOf}
 use Rattle.sig_der.proofs.Takings.{some_is}
 use Rattle.sig_x509.specs.Cutting.{Parts}
-use Rattle.sig_x509.proofs.reading.dated_at.Goals as goal
+use Rattle.sig_x509.proofs.reading.dated_parts.Goals as goal
 
 pub returns-in_err-not_before-clause-only : goal.returns-in_err-not_before-clause-only
 returns-in_err-not_before-clause-only c = λ p a b is. absurd (
