@@ -3,11 +3,19 @@
 
 mod failure;
 mod fulcio;
+mod identities;
+mod identity;
+mod request;
 mod single;
 mod utf8;
 
 pub use failure::{PolicyError, PolicyErrors};
-pub use fulcio::{GitHubWorkflowName, GitHubWorkflowRef, GitHubWorkflowRepository, GitHubWorkflowSHA, GitHubWorkflowTrigger, OIDCIssuer};
+pub use fulcio::{
+    GitHubWorkflowName, GitHubWorkflowRef, GitHubWorkflowRepository, GitHubWorkflowSHA,
+    GitHubWorkflowTrigger, OIDCIssuer,
+};
+pub use identity::Identity;
+pub use request::{LeafPolicies, LeafPolicy, RequestPolicy};
 pub use single::{SingleX509ExtPolicy, verify_single};
 
 ghost use Rattle.std.specs.Prelude.{Bool};

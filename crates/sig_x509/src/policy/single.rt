@@ -13,7 +13,7 @@ use sig_base::{OutOfMemory, Text};
 use std::alloc::Global;
 
 /// A policy that compares a text with the value of one extension, which is the text itself and no DER.
-pub trait SingleX509ExtPolicy: Drop {
+pub trait SingleX509ExtPolicy {
     // The policy's name, the contents octets of the extension's object identifier, and the text asked for.
     ghost title: { List ℕ };
 
@@ -78,7 +78,7 @@ pub(crate) fn check_failed(alloc: Global, extension: &str, expected: &str, actua
     })
 }
 
-impl<T: SingleX509ExtPolicy> VerificationPolicy for T {
+impl<T: SingleX509ExtPolicy + Drop> VerificationPolicy for T {
     ghost holds = { λ p c. is_text (T.asked p) (extension_text T.identifier c) };
 
     ghost refuses = { λ p c e. e ≡ single_refusal T.title (T.asked p) (extension_text T.identifier c) };
