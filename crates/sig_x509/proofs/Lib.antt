@@ -4,3 +4,6 @@ pub mod HeadLaws
 pub mod BodyLaws
 pub mod CertificateLaws
 pub mod Readings
+pub mod HeldLaws
+pub mod WalkLaws
+pub mod PemLaws

@@ -5,3 +5,8 @@ pub mod Answers
 pub mod Held
 pub mod Lookups
 pub mod Values
+pub mod Names
+pub mod NamePlaces
+pub mod Profile
+pub mod Trust
+pub mod Pem

@@ -6,17 +6,31 @@ mod certificate;
 mod error;
 mod extensions;
 mod lookup;
+mod names;
 mod parts;
+mod pem;
+mod profile;
 mod profile_error;
 mod reading;
 mod seconds;
 mod span;
+#[cfg(test)]
+mod tests;
+mod trust;
 mod values;
+#[cfg(test)]
+mod vectors;
+mod walks;
 
 pub use certificate::Certificate;
 pub use error::X509ReadError;
 pub use lookup::{ExtensionRef, Lookup};
+pub use pem::der_to_pem;
+pub use profile::{is_ca, is_leaf, is_root_ca};
 pub use profile_error::{
     CertificateValidationError, ExtensionErrorKind, NotCAErrorKind, NotLeafErrorKind, PartName,
+};
+pub use trust::{
+    is_trusted, verify_expiration, verify_has_san, verify_key_usages, verify_validity,
 };
 pub use values::{BasicConstraints, KeyUsage};
