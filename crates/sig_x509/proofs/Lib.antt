@@ -1,1 +1,5 @@
 pub mod Fronts
+pub mod ExtensionLaws
+pub mod HeadLaws
+pub mod BodyLaws
+pub mod CertificateLaws

@@ -4,7 +4,7 @@ use Rattle.std.specs.Prelude.{◌≡◌, ℕ, ◌+◌, ◌<◌, ℤ, List, [], �
 use Rattle.sig_der.specs.Element.{IsElement}
 use Rattle.sig_der.specs.Joined.{AreJoined}
 use Rattle.sig_der.specs.KeyInfo.{Algorithm, IsAlgorithm, KeyInfo, IsKeyInfo}
-use Rattle.sig_x509.specs.Times.{IsTimeOf}
+use Rattle.sig_der.specs.DerTime.{IsTimeOf}
 
 -- ---- the records
 

@@ -1,11 +1,12 @@
 -- Reading a certificate by computation: the plain program that the reader is equal to, in the same steps. That it reads exactly
 -- the texts of *Certificate* is in proofs/Certificates.
-use Rattle.std.specs.Prelude.{ℕ, ◌+◌, ◌-◌, ℤ, List, [], ◌∷◌, length, take, Bool, true, false, Option, Some, None, nat_lt, ◌==◌, if◌then◌else◌}
+-- The times are told by a relation, as sig_der tells them.
+use Rattle.std.specs.Prelude.{◌≡◌, ℕ, ◌+◌, ◌-◌, ℤ, List, [], ◌∷◌, length, take, Bool, true, false, Option, Some, None, nat_lt, ◌==◌, if◌then◌else◌}
 use Rattle.sig_der.specs.Reading.{Piece}
 use Rattle.sig_der.specs.Taking.{◌>>=◌, take_any, take_tag, take_whole, take_optional, many_at}
 use Rattle.sig_der.specs.KeyInfo.{is_empty, algorithm_at, bits_of, key_info_at}
 use Rattle.sig_x509.specs.Certificate.{Extension, Cert}
-use Rattle.sig_x509.specs.Times.{seconds_of}
+use Rattle.sig_der.specs.DerTime.{IsTimeOf}
 
 -- ---- extensions
 
@@ -71,25 +72,19 @@ head_at bytes = do
   if is_empty n.0.content then None
     else Some (record { version = v.0; algorithm = a.0.whole; issuer = i.0.whole }, i.1)
 
--- The parts from the validity to the key.
+-- The parts from the validity to the key; the two times are not read yet.
 pub record Body : Type 0 where
-  pub not_before : ℤ
-  pub not_after : ℤ
+  pub first : Piece
+  pub second : Piece
   pub subject : List ℕ
   pub spki : List ℕ
 
--- a time, and what follows it
-unfoldable pub time_at : List ℕ → Option (ℤ × List ℕ)
-time_at bytes = do
-  x ← take_any bytes
-  s ← seconds_of x.0.tag x.0.content
-  Some (s, x.1)
-
-unfoldable pub validity_at : List ℕ → Option ((ℤ × ℤ) × List ℕ)
+-- the two elements of a validity, and what follows it
+unfoldable pub validity_at : List ℕ → Option ((Piece × Piece) × List ℕ)
 validity_at bytes = do
   x ← take_tag 48 bytes
-  b ← time_at x.0.content
-  a ← time_at b.1
+  b ← take_any x.0.content
+  a ← take_any b.1
   if is_empty a.1 then Some ((b.0, a.0), x.1) else None
 
 unfoldable pub body_at : List ℕ → Option (Body × List ℕ)
@@ -97,7 +92,7 @@ body_at bytes = do
   v ← validity_at bytes
   s ← take_tag 48 v.1
   k ← key_info_at s.1
-  Some (record { not_before = v.0.0; not_after = v.0.1; subject = s.0.whole; spki = k.0.whole }, k.1)
+  Some (record { first = v.0.0; second = v.0.1; subject = s.0.whole; spki = k.0.whole }, k.1)
 
 -- what follows the two unique identifiers
 unfoldable pub after_ids : List ℕ → Option (List ℕ)
@@ -154,8 +149,9 @@ parts_at bytes = do
   l ← list_at r
   Some (record { outer = o; front = before o.tbs.content r; head = h.0; body = b.0; listed = l.0; list = l.1 })
 
-abbrev pub certificate_of : List ℕ → Parts → List Extension → Cert
-certificate_of text p extensions =
+-- the parts, the times of their validity, and the extensions that their list reads as
+abbrev pub certificate_of : List ℕ → Parts → ℤ → ℤ → List Extension → Cert
+certificate_of text p not_before not_after extensions =
     record {
       whole = text;
       tbs = p.outer.tbs.whole;
@@ -163,8 +159,8 @@ certificate_of text p extensions =
       version = p.head.version;
       inner_algorithm = p.head.algorithm;
       issuer = p.head.issuer;
-      not_before = p.body.not_before;
-      not_after = p.body.not_after;
+      not_before = not_before;
+      not_after = not_after;
       subject = p.body.subject;
       spki = p.body.spki;
       listed = p.listed;
@@ -173,8 +169,8 @@ certificate_of text p extensions =
       signature = p.outer.signature;
     }
 
-unfoldable pub certificate_at : List ℕ → Option Cert
-certificate_at bytes = do
-  p ← parts_at bytes
-  es ← many_at extension_at p.list
-  Some (certificate_of bytes p es)
+-- The text is cut into these parts, and the elements of their validity are these times.
+pub record IsCut (text : List ℕ) (p : Parts) (not_before not_after : ℤ) : Type 0 where
+  pub cut : parts_at text ≡ Some p
+  pub begins : IsTimeOf p.body.first.tag p.body.first.content not_before
+  pub ends : IsTimeOf p.body.second.tag p.body.second.content not_after

@@ -1,12 +1,20 @@
 -- What a certificate holds: its text, the places of its parts, the places of its extensions.
-use Rattle.std.specs.Prelude.{ℕ, List, length}
+use Rattle.std.specs.Prelude.{◌≡◌, ℕ, ℤ, List, length, Option, Some, None}
 use Rattle.std.specs.List.{All}
 use Rattle.sig_x509.specs.declared.parts.Places.{Places}
+use Rattle.sig_x509.specs.declared.reading.Dated.{Dated}
 use Rattle.sig_x509.specs.declared.extensions.ExtensionPlaces.{ExtensionPlaces}
 use Rattle.sig_x509.specs.Certificate.{IsCertificate}
-use Rattle.sig_x509.specs.Places.{ArePlaces, AreSpans, placed_certificate}
+use Rattle.sig_x509.specs.Cutting.{Parts}
+use Rattle.sig_x509.specs.Places.{parts_of, ArePlaces, AreSpans, placed_certificate}
 
-pub record HoldsCertificate (bytes : List ℕ) (p : Places) (es : List ExtensionPlaces) : Type 0 where
+pub record HoldsCertificate (bytes : List ℕ) (p : Places) (not_before not_after : ℤ) (es : List ExtensionPlaces) : Type 0 where
   pub within : ArePlaces (length bytes) p
   pub each_within : All (AreSpans (length bytes)) es
-  pub is : IsCertificate bytes (placed_certificate bytes p es)
+  pub is : IsCertificate bytes (placed_certificate bytes p not_before not_after es)
+
+-- the answer is these parts and these times
+abbrev pub IsDatedAs : List ℕ → Parts → ℤ → ℤ → Option Dated → Type 0
+IsDatedAs bytes p not_before not_after None = ⊥
+IsDatedAs bytes p not_before not_after (Some d) =
+    (parts_of bytes d.places ≡ p) × (d.not_before ≡ not_before) × (d.not_after ≡ not_after)

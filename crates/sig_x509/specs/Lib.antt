@@ -1,5 +1,4 @@
 pub mod Certificate
-pub mod Times
 pub mod Cutting
 pub mod Places
 pub mod Answers

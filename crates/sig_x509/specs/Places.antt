@@ -2,6 +2,7 @@
 use Rattle.std.specs.Prelude.{ℕ, ◌≤◌, ℤ, List, Bool, Option, Some, None, slice_range, map}
 use Rattle.std.specs.List.{All}
 use Rattle.sig_der.specs.declared.place.Place.{Place}
+use Rattle.sig_der.specs.Reading.{Piece}
 use Rattle.sig_der.specs.Places.{piece_at, IsWithin}
 use Rattle.sig_x509.specs.declared.span.Span.{Span}
 use Rattle.sig_x509.specs.declared.parts.Head.{Head as HeadPlaces}
@@ -19,6 +20,12 @@ part bytes s = slice_range bytes s.start s.end
 pub record IsSpan (end : ℕ) (s : Span) : Type 0 where
   pub ordered : s.start ≤ s.end
   pub below : s.end ≤ end
+
+-- the place of an element lies below the number
+pub record IsPlace (end : ℕ) (p : Place) : Type 0 where
+  pub headed : p.start ≤ p.content
+  pub filled : p.content ≤ p.end
+  pub below : p.end ≤ end
 
 -- ---- extensions
 
@@ -55,14 +62,28 @@ pub record IsHeadWithin (at end : ℕ) (h : HeadPlaces) : Type 0 where
   pub issuer : IsSpan end h.issuer
   pub after : at ≤ h.issuer.end
 
+-- the two elements of a validity, and what follows it
+abbrev pub placed_validity : List ℕ → ℕ → (Place × Place) × ℕ → (Piece × Piece) × List ℕ
+placed_validity bytes end x = ((piece_at bytes x.0.0, piece_at bytes x.0.1), slice_range bytes x.1 end)
+
+abbrev pub IsValidityWithin : ℕ → ℕ → (Place × Place) × ℕ → Type 0
+IsValidityWithin at end x = IsPlace end x.0.0 × IsPlace end x.0.1 × (at ≤ x.1) × (x.1 ≤ end)
+
 abbrev pub body_of : List ℕ → BodyPlaces → Body
 body_of bytes b =
-    record { not_before = b.not_before; not_after = b.not_after; subject = part bytes b.subject; spki = part bytes b.spki }
+    record {
+      first = piece_at bytes b.not_before;
+      second = piece_at bytes b.not_after;
+      subject = part bytes b.subject;
+      spki = part bytes b.spki;
+    }
 
 abbrev pub placed_body : List ℕ → ℕ → BodyPlaces → Body × List ℕ
 placed_body bytes end b = (body_of bytes b, slice_range bytes b.spki.end end)
 
 pub record IsBodyWithin (at end : ℕ) (b : BodyPlaces) : Type 0 where
+  pub not_before : IsPlace end b.not_before
+  pub not_after : IsPlace end b.not_after
   pub subject : IsSpan end b.subject
   pub spki : IsSpan end b.spki
   pub after : at ≤ b.spki.end
@@ -107,8 +128,9 @@ pub record ArePlaces (end : ℕ) (p : Places) : Type 0 where
   pub list : IsSpan end p.list
 
 -- the certificate at the places of its parts and of its extensions
-abbrev pub placed_certificate : List ℕ → Places → List ExtensionPlaces → Cert
-placed_certificate bytes p es = certificate_of bytes (parts_of bytes p) (map (extension_of bytes) es)
+abbrev pub placed_certificate : List ℕ → Places → ℤ → ℤ → List ExtensionPlaces → Cert
+placed_certificate bytes p not_before not_after es =
+    certificate_of bytes (parts_of bytes p) not_before not_after (map (extension_of bytes) es)
 
 -- what stands from a place on up to the end
 abbrev pub rest_from : List ℕ → ℕ → ℕ → List ℕ

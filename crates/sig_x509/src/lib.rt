@@ -2,11 +2,12 @@
 //! extensions that decide what a certificate may be used for; and the checks that stand on them.
 #![tactic(auto)]
 
-mod certificate;
 mod error;
 mod extensions;
 mod lookup;
 mod parts;
+mod reading;
+mod seconds;
 mod span;
 
 pub use error::X509ReadError;

@@ -1,9 +1,8 @@
 //! The parts of a certificate by their places in its text: RFC 5280 section 4.1. Each reader takes at most five steps.
 
 ghost use Rattle.std.specs.Prelude.{◌≡◌, ◌≤◌, length, slice_range, option_map, IfSome};
-ghost use Rattle.sig_x509.specs.Times.{seconds_of};
-ghost use Rattle.sig_x509.specs.Cutting.{version_number, explicit_version, version_at, head_at, time_at, validity_at, body_at, after_ids, list_at, outer_at, parts_at};
-ghost use Rattle.sig_x509.specs.Places.{placed_value, GoesTo, placed_head, IsHeadWithin, placed_body, IsBodyWithin, outer_of, IsOuterWithin, listed_of, IsListedWithin, parts_of, ArePlaces, rest_from};
+ghost use Rattle.sig_x509.specs.Cutting.{version_number, explicit_version, version_at, head_at, validity_at, body_at, after_ids, list_at, outer_at, parts_at};
+ghost use Rattle.sig_x509.specs.Places.{placed_value, GoesTo, placed_head, IsHeadWithin, placed_validity, IsValidityWithin, placed_body, IsBodyWithin, outer_of, IsOuterWithin, listed_of, IsListedWithin, parts_of, ArePlaces, rest_from};
 
 use crate::extensions::SEQUENCE;
 use crate::span::{Span, content_of, whole_of};
@@ -28,8 +27,8 @@ pub(crate) struct Head {
 /// The parts of the signed part from the validity to the key.
 #[derive(Clone, Copy, Debug)]
 pub(crate) struct Body {
-    pub(crate) not_before: i64,
-    pub(crate) not_after: i64,
+    pub(crate) not_before: Place,
+    pub(crate) not_after: Place,
     pub(crate) subject: Span,
     pub(crate) spki: Span,
 }
@@ -117,42 +116,18 @@ fn head_at(bytes: &[u8], at: usize, end: usize) -> Option<Head>
     })
 }
 
-/// The second since 1970 of the time at the place. None where no time stands there.
-#[tactic(auto, unfolding(crate::specs::Times::seconds_of))]
-fn seconds_at(bytes: &[u8], place: Place) -> Option<i64>
-    requires filled { place.content ≤ place.end }
-    requires to { place.end ≤ length bytes.now }
-    ensures { result ≡ seconds_of place.tag (slice_range bytes.now place.content place.end) }
-{
-    let _content = &bytes[place.content..place.end];
-    None
-}
-
-/// The time at `at` in seconds since 1970, and where what follows it begins.
-#[tactic(auto, unfolding(crate::specs::Cutting::time_at))]
-fn time_at(bytes: &[u8], at: usize, end: usize) -> Option<(i64, usize)>
-    requires from { at ≤ end }
-    requires to { end ≤ length bytes.now }
-    ensures cut { time_at (slice_range bytes.now at end) ≡ option_map (placed_value bytes.now end) result }
-    ensures within { IfSome result (GoesTo at end) }
-{
-    let place = place_at(bytes, at, end)?;
-    let second = seconds_at(bytes, place)?;
-    Some((second, place.end))
-}
-
-/// The validity at `at`, its two times in seconds since 1970, and where what follows it begins.
+/// The places of the two elements of the validity at `at`, and where what follows it begins.
 #[tactic(auto, unfolding(crate::specs::Cutting::validity_at))]
-fn validity_at(bytes: &[u8], at: usize, end: usize) -> Option<((i64, i64), usize)>
+fn validity_at(bytes: &[u8], at: usize, end: usize) -> Option<((Place, Place), usize)>
     requires from { at ≤ end }
     requires to { end ≤ length bytes.now }
-    ensures cut { validity_at (slice_range bytes.now at end) ≡ option_map (placed_value bytes.now end) result }
-    ensures within { IfSome result (GoesTo at end) }
+    ensures cut { validity_at (slice_range bytes.now at end) ≡ option_map (placed_validity bytes.now end) result }
+    ensures within { IfSome result (IsValidityWithin at end) }
 {
     let whole = tagged_at(bytes, at, end, SEQUENCE)?;
-    let (not_before, next) = time_at(bytes, whole.content, whole.end)?;
-    let (not_after, next) = time_at(bytes, next, whole.end)?;
-    if bytes[next..whole.end].is_empty() {
+    let not_before = place_at(bytes, whole.content, whole.end)?;
+    let not_after = place_at(bytes, not_before.end, whole.end)?;
+    if bytes[not_after.end..whole.end].is_empty() {
         Some(((not_before, not_after), whole.end))
     } else {
         None

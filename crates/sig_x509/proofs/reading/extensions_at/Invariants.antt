@@ -5,7 +5,7 @@ use Rattle.sig_der.specs.Taking.{many_at}
 use Rattle.sig_der.proofs.Many.{with_front}
 use Rattle.sig_x509.specs.Cutting.{extension_at}
 use Rattle.sig_x509.specs.Places.{extension_of, AreSpans}
-use Rattle.sig_x509.proofs.certificate.extensions_at.Given as goal
+use Rattle.sig_x509.proofs.reading.extensions_at.Given as goal
 
 -- what was found, and then what is left, is all
 abbrev pub invariant-loop-next : goal.invariant-loop-next

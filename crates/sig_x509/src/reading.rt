@@ -1,0 +1,63 @@
+//! Reading a certificate into places.
+
+ghost use Rattle.std.specs.Prelude.{◌≡◌, ◌≤◌, ℤ, length, slice_range, map, IfOk, IfSome};
+ghost use Rattle.std.specs.List.{All};
+ghost use Rattle.sig_der.specs.Taking.{many_at};
+ghost use Rattle.sig_x509.specs.Answers.{Reads};
+ghost use Rattle.sig_x509.specs.Cutting.{Parts, extension_at, IsCut};
+ghost use Rattle.sig_x509.specs.Places.{extension_of, parts_of, AreSpans, ArePlaces};
+ghost use Rattle.sig_x509.specs.Held.{IsDatedAs};
+
+use crate::error::X509ReadError;
+use crate::extensions::{ExtensionPlaces, extension_at};
+use crate::parts::{Places, parts_at};
+use crate::seconds::second_at;
+use std::alloc::Global;
+
+/// A certificate whose extensions are not read yet: the places of its parts, and the times of its validity in seconds since 1970.
+#[derive(Clone, Copy, Debug)]
+pub(crate) struct Dated {
+    pub(crate) places: Places,
+    pub(crate) not_before: i64,
+    pub(crate) not_after: i64,
+}
+
+/// The parts and the validity of the certificate from `at` to `end` itself. None where there is none.
+pub(crate) fn dated_at(bytes: &[u8], at: usize, end: usize) -> Option<Dated>
+    requires from { at ≤ end }
+    requires to { end ≤ length bytes.now }
+    ensures found { IfSome result (λ d. IsCut (slice_range bytes.now at end) (parts_of bytes.now d.places) d.not_before d.not_after) }
+    ensures only { (p : Parts) (not_before not_after : ℤ) → IsCut (slice_range bytes.now at end) p not_before not_after
+        → IsDatedAs bytes.now p not_before not_after result }
+    ensures within { IfSome result (λ d. ArePlaces end d.places) }
+{
+    let places = parts_at(bytes, at, end)?;
+    let not_before = second_at(bytes, places.body.not_before)?;
+    let not_after = second_at(bytes, places.body.not_after)?;
+    Some(Dated {
+        places,
+        not_before,
+        not_after,
+    })
+}
+
+/// Where the extensions from `at` to `end` itself stand. `Der` where something else stands there.
+pub(crate) fn extensions_at(alloc: Global, bytes: &[u8], at: usize, end: usize) -> Result<Vec<ExtensionPlaces>, X509ReadError>
+    requires from { at ≤ end }
+    requires to { end ≤ length bytes.now }
+    ensures exact { Reads (λ v. map (extension_of bytes.now) v.items) result (many_at extension_at (slice_range bytes.now at end)) }
+    ensures within { IfOk result (λ v. All (AreSpans end) v.items) }
+{
+    let mut found = Vec::new(alloc);
+    let mut next = at;
+    while next < end {
+        match extension_at(bytes, next, end) {
+            None => return Err(X509ReadError::Der),
+            Some(extension) => {
+                next = extension.whole.end;
+                found.push(extension)?;
+            }
+        }
+    }
+    Ok(found)
+}
