@@ -1,9 +1,8 @@
 -- Digits that are read are those that are written, and written ones are read again.
-use Rattle.std.proofs.Common.{◌≡◌, ◌≢◌, ℕ, zero, suc, ◌+◌, ◌-◌, ◌*◌, ◌/◌, ◌%◌, ◌<◌, ◌≤◌, Bool, true, false, cond, ltb, eqb, ◌&&◌, List, [], ◌∷◌, ◌++◌, Option, Some, None, refl, sym, ap, subst, ◌∙◌, append_assoc, arith}
-use Rattle.std.proofs.lemmas.Bool.{lt-ltb, le-ltb, ltb-true, eq-eqb, eqb-true, and_parts, and_from, cond-true}
+use Rattle.std.proofs.Common.{◌≡◌, ℕ, ◌+◌, ◌-◌, ◌*◌, ◌/◌, ◌%◌, ◌<◌, ◌≤◌, true, ltb, eqb, ◌&&◌, List, [], ◌∷◌, ◌++◌, Option, Some, None, refl, sym, ap, subst, ◌∙◌, append_assoc, arith}
+use Rattle.std.proofs.lemmas.Bool.{ltb-true, eq-eqb, eqb-true, and_parts, and_from, cond-true}
 use Rattle.sig_der.specs.Digits.{two_digits, four_digits, mark_text, day_text, clock_text, is_digit, two_at, four_at, skip, day_at, clock_at}
-use Rattle.sig_der.specs.Taking.{◌>>=◌}
-use Rattle.sig_der.proofs.Takings.{bind_is, bind_of_some, when_is, some_is, some}
+use Rattle.sig_der.proofs.Takings.{bind_is, bind_of_some, when_is, some_is}
 use Rattle.sig_der.proofs.DigitRuns.{is_digit-within}
 
 -- what a reader of a value took from the front of a text
@@ -48,7 +47,7 @@ unfolding two_at
 two_at_again n rest fits =
     let same : (48 + n / 10 - 48) * 10 + (48 + n % 10 - 48) ≡ n = omega arith in
     cond-true (is_digit (48 + n / 10) && is_digit (48 + n % 10)) _ _
-      (and_from _ _ (is_digit-within (48 + n / 10) (omega arith) (omega arith)) (is_digit-within (48 + n % 10) (omega arith) (omega arith)))
+    (and_from _ _ (is_digit-within (48 + n / 10) (omega arith) (omega arith)) (is_digit-within (48 + n % 10) (omega arith) (omega arith)))
     ∙ ap (λ (m : ℕ). two_read m rest) same
 
 -- ---- four digits
@@ -112,7 +111,7 @@ day_at_takes mark text y e =
     let tb = two_at_takes s.0 b.0 b.1 in
     subst (λ (w : (ℕ × ℕ) × List ℕ). Read (day_text mark) IsDayPair text w) (some_is _ y b.2) (record {
       parts = ta.parts ∙ ap (λ (w : List ℕ). two_digits a.0.0 ++ w)
-        (skip_takes mark a.0.1 s.0 s.1 ∙ ap (λ (w : List ℕ). mark_text mark ++ w) tb.parts ∙ sym (append_assoc (mark_text mark) (two_digits b.0.0) b.0.1));
+          (skip_takes mark a.0.1 s.0 s.1 ∙ ap (λ (w : List ℕ). mark_text mark ++ w) tb.parts ∙ sym (append_assoc (mark_text mark) (two_digits b.0.0) b.0.1));
       fits = record { month = ta.fits; day = tb.fits };
     })
 
@@ -146,7 +145,7 @@ clock_at_takes mark text y e =
     let last = skip_takes mark b.0.1 r.0 r.1 ∙ ap (λ (w : List ℕ). mark_text mark ++ w) td.parts ∙ sym (append_assoc (mark_text mark) (two_digits d.0.0) d.0.1) in
     let minutes = tb.parts ∙ ap (λ (w : List ℕ). two_digits b.0.0 ++ w) last in
     let middle = skip_takes mark a.0.1 s.0 s.1 ∙ ap (λ (w : List ℕ). mark_text mark ++ w) minutes
-      ∙ sym (append_assoc (mark_text mark) (two_digits b.0.0 ++ (mark_text mark ++ two_digits d.0.0)) d.0.1) in
+    ∙ sym (append_assoc (mark_text mark) (two_digits b.0.0 ++ (mark_text mark ++ two_digits d.0.0)) d.0.1) in
     subst (λ (w : (ℕ × ℕ × ℕ) × List ℕ). Read (clock_text mark) IsClockTriple text w) (some_is _ y d.2) (record {
       parts = ta.parts ∙ ap (λ (w : List ℕ). two_digits a.0.0 ++ w) middle;
       fits = record { hour = ta.fits; minute = tb.fits; second = td.fits };
@@ -160,7 +159,7 @@ clock_at_again mark clock rest fits =
     let inner = two_digits clock.1 ++ (mark_text mark ++ two_digits clock.2) in
     let inner_is : inner ++ rest ≡ minutes = ap (λ (w : List ℕ). two_digits clock.1 ++ w) (append_assoc (mark_text mark) (two_digits clock.2) rest) in
     let split : mark_text mark ++ inner ++ rest ≡ mark_text mark ++ minutes =
-      append_assoc (mark_text mark) inner rest ∙ ap (λ (w : List ℕ). mark_text mark ++ w) inner_is in
+    append_assoc (mark_text mark) inner rest ∙ ap (λ (w : List ℕ). mark_text mark ++ w) inner_is in
     bind_of_some (two_at (two_digits clock.0 ++ (mark_text mark ++ inner ++ rest))) _ _ (two_at_again clock.0 (mark_text mark ++ inner ++ rest) fits.hour)
     ∙ bind_of_some (skip mark (mark_text mark ++ inner ++ rest)) _ _ (ap (λ (w : List ℕ). skip mark w) split ∙ skip_again mark minutes)
     ∙ bind_of_some (two_at minutes) _ _ (two_at_again clock.1 (mark_text mark ++ seconds) fits.minute)

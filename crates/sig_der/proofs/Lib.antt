@@ -12,3 +12,4 @@ pub mod DigitRuns
 pub mod DigitTexts
 pub mod TimeTexts
 pub mod KeyInfos
+pub mod StampTexts

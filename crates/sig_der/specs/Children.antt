@@ -1,6 +1,6 @@
 -- The elements of a content, one after another: the answers of reading at the content and then at each rest. They end where
 -- the rest is empty, and after the first fault.
-use Rattle.std.specs.Prelude.{◌≡◌, ℕ, zero, suc, List, [], ◌∷◌, length, map, Result, Ok, Err}
+use Rattle.std.specs.Prelude.{ℕ, zero, suc, List, [], ◌∷◌, length, map, Result, Ok, Err}
 use Rattle.sig_base.specs.declared.fault.DerError.{DerError}
 use Rattle.sig_der.specs.Element.{IsElement}
 use Rattle.sig_der.specs.Reading.{Piece, element_at}

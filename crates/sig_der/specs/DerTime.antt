@@ -1,10 +1,10 @@
 -- Times in certificates: UTCTime and GeneralizedTime of X.690 section 11.7, 11.8 in the forms of RFC 5280 section 4.1.2.5, with
 -- two more bounds: a UTCTime of the years 50 to 69 is refused, and a GeneralizedTime is from 1970 on.
-use Rattle.std.specs.Prelude.{◌≡◌, ◌≢◌, ℕ, ◌+◌, ◌%◌, ◌<◌, ◌≤◌, List, [], ◌∷◌, ◌++◌, Bool, ◌||◌, nat_lt, Option, Some, None, ℤ, ◌==◌, if◌then◌else◌}
+use Rattle.std.specs.Prelude.{◌≡◌, ℕ, ◌+◌, ◌%◌, ◌<◌, ◌≤◌, List, [], ◌∷◌, ◌++◌, ◌⊎◌, Bool, ◌||◌, nat_lt, Option, Some, None, ℤ, ◌==◌, if◌then◌else◌}
 use Rattle.sig_base.specs.declared.fault.DerError.{DerError}
 use Rattle.sig_base.specs.declared.fault.DerError.TheVariants.{WrongTag, Value}
 use Rattle.sig_der.specs.declared.moment.Moment.{Moment}
-use Rattle.sig_der.specs.Moment.{IsReal, second_of}
+use Rattle.sig_der.specs.Moment.{IsReal, IsSecondOf}
 use Rattle.sig_der.specs.Digits.{two_digits, four_digits, day_text, clock_text, two_at, four_at, day_at, clock_at}
 use Rattle.std.specs.Str.{bytes_eq}
 use Rattle.sig_der.specs.Taking.{◌>>=◌}
@@ -26,10 +26,10 @@ pub record IsGeneralizedTime (text : List ℕ) (m : Moment) : Type 0 where
   pub from : 1970 ≤ m.year
   pub spelled : text ≡ four_digits m.year ++ after_year m
 
--- the time that an element of this tag and this content is, in seconds since 1970
-pub data IsTimeOf (tag : ℕ) (content : List ℕ) (second : ℤ) : Type 0 where
-  utc : (m : Moment) → tag ≡ 23 → IsUtcTime content m → second ≡ second_of m → IsTimeOf tag content second
-  generalized : (m : Moment) → tag ≡ 24 → IsGeneralizedTime content m → second ≡ second_of m → IsTimeOf tag content second
+-- the second since 1970 of an element of this tag and this content: a UTCTime or a GeneralizedTime
+abbrev pub IsTimeOf : ℕ → List ℕ → ℤ → Type 0
+IsTimeOf tag content second =
+    ((tag ≡ 23) × IsSecondOf (IsUtcTime content) second) ⊎ ((tag ≡ 24) × IsSecondOf (IsGeneralizedTime content) second)
 
 -- why an element is no time
 abbrev pub time_fault : ℕ → DerError

@@ -1,5 +1,5 @@
 -- A second of the calendar by its six numbers, and the second since 1970 that it is.
-use Rattle.std.specs.Prelude.{◌≡◌, ℕ, ◌+◌, ◌*◌, ◌<◌, ℤ, pos, ◌+ℤ◌, ◌*ℤ◌}
+use Rattle.std.specs.Prelude.{◌≡◌, ◌+◌, ◌*◌, ◌<◌, ℤ, pos, ◌+ℤ◌, ◌*ℤ◌}
 use Rattle.jiff_core.specs.Calendar.{IsDate, days_from_civil}
 use Rattle.sig_der.specs.declared.moment.Moment.{Moment}
 
@@ -21,3 +21,9 @@ pub record IsDecimal (m : Moment) : Type 0 where
   pub hour : m.hour < 100
   pub minute : m.minute < 100
   pub second : m.second < 100
+
+-- the second since 1970 of a moment of this kind
+pub record IsSecondOf (IsTime : Moment → Type 0) (second : ℤ) : Type 0 where
+  pub moment : Moment
+  pub time : IsTime moment
+  pub value : second ≡ second_of moment

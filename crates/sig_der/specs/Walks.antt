@@ -1,5 +1,5 @@
 -- What contracts see of an iterator over the elements of a content: the answers that it has left.
-use Rattle.std.specs.Prelude.{ℕ, List, Result, Ok, Err}
+use Rattle.std.specs.Prelude.{List, Result, Ok, Err}
 use Rattle.sig_base.specs.declared.fault.DerError.{DerError}
 use Rattle.sig_der.specs.declared.element.Element.{Element}
 use Rattle.sig_der.specs.declared.iter.Children.{Children}

@@ -10,8 +10,10 @@ pub(crate) fn read_two(text: &[u8]) -> Option<(u8, &[u8])>
     ensures below { IfSome result (λ x. x.0 < 100) }
 {
     match text {
-        [tens @ b'0'..=b'9', ones @ b'0'..=b'9', rest @ ..] =>
-            Some(((*tens - b'0') * 10 + (*ones - b'0'), rest)),
+        [tens @ b'0'..=b'9', ones @ b'0'..=b'9', rest @ ..] => Some((
+            (*tens - b'0') * 10 + (*ones - b'0'),
+            rest,
+        )),
         _ => None,
     }
 }

@@ -1,8 +1,8 @@
 //! Time texts: RFC 3339 section 5.6.
 
-ghost use Rattle.std.specs.Prelude.{◌≡◌, ◌<◌, ◌≤ℤ◌, ℤ, pos, neg_ℤ, Some, IfSome, option_map};
+ghost use Rattle.std.specs.Prelude.{◌≡◌, ◌<◌, ◌↔◌, ℤ, ◌-ℤ◌, Some, IsSome, IfSome, option_map};
 ghost use Rattle.jiff_core.specs.Calendar.{IsWithin};
-ghost use Rattle.sig_der.specs.Moment.{IsDecimal};
+ghost use Rattle.sig_der.specs.Moment.{IsDecimal, IsReal, second_of};
 ghost use Rattle.sig_der.specs.Stamp.{IsInstantOf, front_at, after_digit, after_digits, fraction_at, offset_at, zone_at, stamp_at, starts_with_digit};
 
 use crate::digits::{read_clock, read_day, read_four, read_two, skip_mark};
@@ -19,7 +19,17 @@ fn read_front(text: &[u8]) -> Option<(Moment, &[u8])>
     let ((month, day), text) = read_day(text, Some(b'-'))?;
     let text = skip_mark(text, Some(b'T'))?;
     let ((hour, minute, second), text) = read_clock(text, Some(b':'))?;
-    Some((Moment { year, month, day, hour, minute, second }, text))
+    Some((
+        Moment {
+            year,
+            month,
+            day,
+            hour,
+            minute,
+            second,
+        },
+        text,
+    ))
 }
 
 /// What follows a digit at the front, or the text where there is none.
@@ -97,5 +107,43 @@ fn read_stamp(text: &[u8]) -> Option<(Moment, i64)>
     let (moment, text) = read_front(text)?;
     let text = skip_fraction(text)?;
     let offset = read_zone(text)?;
-    if moment.year == 0 { None } else { Some((moment, offset)) }
+    if moment.year == 0 {
+        None
+    } else {
+        Some((moment, offset))
+    }
+}
+
+/// The second that is so many seconds before the moment.
+fn second_before(moment: Moment, offset: i64) -> Option<i64>
+    requires digits { IsDecimal moment }
+    requires day { IsWithin 86400 offset }
+    ensures real { IsSome result ↔ IsReal moment }
+    ensures value { IfSome result (λ s. s ≡ (second_of moment -ℤ offset)) }
+{
+    match second_at(moment) {
+        None => None,
+        Some(second) => Some(second - offset),
+    }
+}
+
+fn read_instant(text: &[u8]) -> Option<i64>
+    ensures found { IfSome result (IsInstantOf text.now) }
+    ensures only { (s : ℤ) → IsInstantOf text.now s → result ≡ Some s }
+{
+    match read_stamp(text) {
+        None => None,
+        Some((moment, offset)) => second_before(moment, offset),
+    }
+}
+
+/// The second since 1970 in which the instant of the text lies.
+///
+/// None where the text is not YYYY-MM-DDTHH:MM:SS of a real date and time of the years 1 to 9999, then nothing or a point and one
+/// to nine digits, then `Z` or the offset +HH:MM or -HH:MM with hours to 23 and minutes to 59.
+pub fn rfc3339_second(text: &str) -> Option<i64>
+    ensures found { IfSome result (IsInstantOf text.now) }
+    ensures only { (s : ℤ) → IsInstantOf text.now s → result ≡ Some s }
+{
+    read_instant(text.as_bytes())
 }

@@ -1,13 +1,18 @@
 //! Times in certificates: RFC 5280 section 4.1.2.5.
 
-ghost use Rattle.std.specs.Prelude.{◌≡◌, ◌<◌, ℤ, Ok, IfOk, IfErr, IfSome, option_map};
-ghost use Rattle.sig_der.specs.Moment.{IsDecimal};
-ghost use Rattle.sig_der.specs.DerTime.{IsTimeOf, time_fault, full_year, rest_at, utc_at, generalized_at};
+ghost use Rattle.std.specs.Prelude.{◌≡◌, ◌<◌, ℤ, Ok, Some, IfOk, IfErr, IfSome, option_map};
+ghost use Rattle.sig_der.specs.Moment.{IsDecimal, IsSecondOf};
+ghost use Rattle.sig_der.specs.DerTime.{IsUtcTime, IsGeneralizedTime, IsTimeOf, time_fault, full_year, rest_at, utc_at, generalized_at};
 
 use crate::digits::{read_clock, read_day, read_four, read_two};
 use crate::element::Element;
 use crate::moment::{Moment, second_at};
 use sig_base::DerError;
+
+/// The tag of a UTCTime.
+const UTC_TIME: u8 = 23;
+/// The tag of a GeneralizedTime.
+const GENERALIZED_TIME: u8 = 24;
 
 /// MMDDHHMMSSZ.
 #[tactic(auto, unfolding(crate::specs::DerTime::rest_at))]
@@ -21,7 +26,14 @@ fn read_rest(year: u16, text: &[u8]) -> Option<Moment>
     if text != b"Z".as_slice() {
         return None;
     }
-    Some(Moment { year, month, day, hour, minute, second })
+    Some(Moment {
+        year,
+        month,
+        day,
+        hour,
+        minute,
+        second,
+    })
 }
 
 /// The year of two digits: 70 to 99 are 1970 to 1999, 00 to 49 are 2000 to 2049.
@@ -58,4 +70,42 @@ fn read_generalized(text: &[u8]) -> Option<Moment>
         return None;
     }
     read_rest(year, text)
+}
+
+/// The second of a UTCTime.
+fn utc_second(text: &[u8]) -> Option<i64>
+    ensures found { IfSome result (IsSecondOf (IsUtcTime text.now)) }
+    ensures only { (s : ℤ) → IsSecondOf (IsUtcTime text.now) s → result ≡ Some s }
+{
+    match read_utc(text) {
+        None => None,
+        Some(moment) => second_at(moment),
+    }
+}
+
+/// The second of a GeneralizedTime.
+fn generalized_second(text: &[u8]) -> Option<i64>
+    ensures found { IfSome result (IsSecondOf (IsGeneralizedTime text.now)) }
+    ensures only { (s : ℤ) → IsSecondOf (IsGeneralizedTime text.now) s → result ≡ Some s }
+{
+    match read_generalized(text) {
+        None => None,
+        Some(moment) => second_at(moment),
+    }
+}
+
+/// The second since 1970 of a UTCTime or a GeneralizedTime.
+///
+/// `WrongTag` where the element is neither; `Value` where its content is no time of its kind: YYMMDDHHMMSSZ, where 70 to 99 are
+/// 1970 to 1999 and 00 to 49 are 2000 to 2049, or YYYYMMDDHHMMSSZ of the years 1970 to 9999.
+pub fn time_of(element: &Element<'_>) -> Result<i64, DerError>
+    ensures found { IfOk result (IsTimeOf element.now.tag element.now.content.now) }
+    ensures only { (s : ℤ) → IsTimeOf element.now.tag element.now.content.now s → result ≡ Ok s }
+    ensures fault { IfErr result (λ e. e ≡ time_fault element.now.tag) }
+{
+    match element.tag {
+        UTC_TIME => utc_second(element.content).ok_or(DerError::Value),
+        GENERALIZED_TIME => generalized_second(element.content).ok_or(DerError::Value),
+        _ => Err(DerError::WrongTag),
+    }
 }

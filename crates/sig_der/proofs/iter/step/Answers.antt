@@ -1,4 +1,4 @@
-use Rattle.std.proofs.Common.{◌≡◌, List, [], ◌∷◌, eqb, length, false, refl, ap, sym, ◌∙◌, arith}
+use Rattle.std.proofs.Common.{length, sym, ◌∙◌}
 use Rattle.std.proofs.lemmas.Bool.{eqb-false}
 use Rattle.sig_der.proofs.Childs.{children_nil, children_ok, children_err_first}
 use Rattle.sig_der.proofs.iter.step.Goals as goal
