@@ -3,3 +3,6 @@ pub mod ExtensionLaws
 pub mod HeadLaws
 pub mod BodyLaws
 pub mod CertificateLaws
+pub mod Spans
+pub mod KeyLaws
+pub mod KeyringLaws

@@ -4,3 +4,5 @@ pub mod Places
 pub mod Answers
 pub mod Held
 pub mod Lookups
+pub mod RingKey
+pub mod Keyring

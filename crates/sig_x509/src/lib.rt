@@ -4,6 +4,9 @@
 
 mod error;
 mod extensions;
+mod key;
+mod keyring;
+mod keyring_error;
 mod lookup;
 mod parts;
 mod reading;
@@ -11,4 +14,7 @@ mod seconds;
 mod span;
 
 pub use error::X509ReadError;
+pub use key::Key;
+pub use keyring::Keyring;
+pub use keyring_error::KeyringError;
 pub use lookup::{ExtensionRef, Lookup};
