@@ -6,3 +6,7 @@ pub mod Held
 pub mod Lookups
 pub mod RingKey
 pub mod Keyring
+pub mod Vectors
+pub mod SctList
+pub mod Timestamps
+pub mod Lent

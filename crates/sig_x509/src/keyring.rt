@@ -1,6 +1,6 @@
 //! `Keyring`: the keys of certificate logs by their ids.
 
-ghost use Rattle.std.specs.Prelude.{◌≡◌, ℕ, List, IfOk, IfErr, OnOk};
+ghost use Rattle.std.specs.Prelude.{◌≡◌, ℕ, option_map, List, IfOk, IfErr, OnOk};
 ghost use Rattle.std.specs.Option.{option_or};
 ghost use Rattle.sig_x509.specs.Keyring.{key_of, point_if, vouch};
 ghost use Rattle.sig_x509.specs.RingKey.{point_at};
@@ -39,8 +39,9 @@ impl Keyring {
             keys: BTreeMap::new(alloc),
         };
         for place in 0..keys.len() {
-            if let Some(spki) = keys.get(place) {
-                ring.add(alloc, spki)?;
+            match keys.get(place) {
+                None => {}
+                Some(spki) => ring.add(alloc, spki)?,
             }
         }
         Ok(ring)
@@ -61,6 +62,13 @@ impl Keyring {
         }
     }
 
+    /// The key of an id.
+    fn key(&self, id: &[u8; 32]) -> Option<&Key>
+        ensures { option_map (λ k. k.now.point) result ≡ point_at self.now id.now }
+    {
+        self.keys.get(id)
+    }
+
     /// Whether the signature over the message is genuine under the key of this id. `KeyNotFound` exactly where the keyring has no
     /// such key, `VerificationFailed` exactly where it has one and the checker refuses its point. Takes no memory.
     pub fn verify<C: SignatureChecker>(
@@ -72,7 +80,7 @@ impl Keyring {
     ) -> Result<(), KeyringError>
         ensures { result ≡ vouch (C.point_accepts checker.now) (point_at self.now key_id.now) message.now signature.now }
     {
-        match self.keys.get(key_id) {
+        match self.key(key_id) {
             None => Err(KeyringError::KeyNotFound),
             Some(key) => {
                 if key.verify(message, signature, checker) {

@@ -10,11 +10,15 @@ mod keyring_error;
 mod lookup;
 mod parts;
 mod reading;
+mod sct_error;
+mod sct_list;
 mod seconds;
 mod span;
+mod vectors;
 
 pub use error::X509ReadError;
 pub use key::Key;
 pub use keyring::Keyring;
 pub use keyring_error::KeyringError;
 pub use lookup::{ExtensionRef, Lookup};
+pub use sct_error::{CertificateErrorKind, SCTError};
