@@ -6,3 +6,4 @@ pub mod CertificateLaws
 pub mod Spans
 pub mod KeyLaws
 pub mod KeyringLaws
+pub mod Readings

@@ -1,10 +1,20 @@
 -- The answer of a reader that takes memory.
-use Rattle.std.specs.Prelude.{◌≡◌, ℕ, Option, Some, None, Result, Ok, Err}
+use Rattle.std.specs.Prelude.{◌≡◌, ℕ, List, Option, Some, None, Result, Ok, Err}
+use Rattle.sig_x509.specs.Certificate.{Cert, IsCertificate}
 use Rattle.sig_x509.specs.declared.error.X509ReadError.{X509ReadError}
 use Rattle.sig_x509.specs.declared.error.X509ReadError.TheVariants.{Der, OutOfMemory}
 
--- what was read, seen by the view, is what is meant; `Der` comes only where nothing is; want of memory is free
+-- `Der` comes only where nothing is meant; want of memory is free
+abbrev pub Refuses : {Y : Type 0} → X509ReadError → Option Y → Type 0
+Refuses Der meant = meant ≡ None
+Refuses OutOfMemory meant = Unit {0}
+
+-- what was read, seen by the view, is what is meant
 abbrev pub Reads : {X Y : Type 0} → (X → Y) → Result X X509ReadError → Option Y → Type 0
 Reads view (Ok x) meant = meant ≡ Some (view x)
-Reads view (Err Der) meant = meant ≡ None
-Reads view (Err OutOfMemory) meant = Unit {0}
+Reads view (Err e) meant = Refuses e meant
+
+-- `Der` says that the text is no certificate; want of memory says nothing
+abbrev pub IsRefusedOnlyWithout : List ℕ → X509ReadError → Type 0
+IsRefusedOnlyWithout text Der = (c : Cert) → ¬ IsCertificate text c
+IsRefusedOnlyWithout text OutOfMemory = Unit {0}

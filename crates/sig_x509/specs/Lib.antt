@@ -10,3 +10,4 @@ pub mod Vectors
 pub mod SctList
 pub mod Timestamps
 pub mod Lent
+pub mod Values

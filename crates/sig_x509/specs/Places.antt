@@ -1,5 +1,5 @@
 -- Places of a certificate's parts in its text, and what they stand for.
-use Rattle.std.specs.Prelude.{ℕ, ◌≤◌, ℤ, List, Bool, Option, Some, None, slice_range, map}
+use Rattle.std.specs.Prelude.{ℕ, ◌<◌, ◌≤◌, ℤ, List, Bool, Option, Some, None, slice_range, map}
 use Rattle.std.specs.List.{All}
 use Rattle.sig_der.specs.declared.place.Place.{Place}
 use Rattle.sig_der.specs.Reading.{Piece}
@@ -135,3 +135,18 @@ placed_certificate bytes p not_before not_after es =
 -- what stands from a place on up to the end
 abbrev pub rest_from : List ℕ → ℕ → ℕ → List ℕ
 rest_from bytes end next = slice_range bytes next end
+
+-- the content of a place lies below the number
+pub record IsContent (end : ℕ) (p : Place) : Type 0 where
+  pub filled : p.content ≤ p.end
+  pub below : p.end ≤ end
+
+-- the part at a span, and what follows it up to the end
+abbrev pub placed_front : List ℕ → ℕ → Span → List ℕ × List ℕ
+placed_front bytes end s = (part bytes s, slice_range bytes s.end end)
+
+-- the span lies after the first number, ends after it, and lies below the second
+pub record IsFrontWithin (at end : ℕ) (s : Span) : Type 0 where
+  pub ordered : s.start ≤ s.end
+  pub below : s.end ≤ end
+  pub after : at < s.end

@@ -2,6 +2,7 @@
 //! extensions that decide what a certificate may be used for; and the checks that stand on them.
 #![tactic(auto)]
 
+mod certificate;
 mod error;
 mod extensions;
 mod key;
@@ -9,16 +10,23 @@ mod keyring;
 mod keyring_error;
 mod lookup;
 mod parts;
+mod profile_error;
 mod reading;
 mod sct_error;
 mod sct_list;
 mod seconds;
 mod span;
 mod vectors;
+mod values;
 
+pub use certificate::Certificate;
 pub use error::X509ReadError;
 pub use key::Key;
 pub use keyring::Keyring;
 pub use keyring_error::KeyringError;
 pub use lookup::{ExtensionRef, Lookup};
 pub use sct_error::{CertificateErrorKind, SCTError};
+pub use profile_error::{
+    CertificateValidationError, ExtensionErrorKind, NotCAErrorKind, NotLeafErrorKind, PartName,
+};
+pub use values::{BasicConstraints, KeyUsage};

@@ -212,7 +212,7 @@ fn outer_at(bytes: &[u8], at: usize, end: usize) -> Option<Outer>
 
 /// The parts of the certificate from `at` to `end` itself, but for what its extensions are. None where there is none.
 #[tactic(auto, unfolding(crate::specs::Cutting::parts_at), using(crate::proofs::Fronts::front_is))]
-pub(crate) fn parts_at(bytes: &[u8], at: usize, end: usize) -> Option<Places>
+fn parts_at(bytes: &[u8], at: usize, end: usize) -> Option<Places>
     requires from { at ≤ end }
     requires to { end ≤ length bytes.now }
     ensures cut { parts_at (slice_range bytes.now at end) ≡ option_map (parts_of bytes.now) result }
@@ -235,4 +235,13 @@ pub(crate) fn parts_at(bytes: &[u8], at: usize, end: usize) -> Option<Places>
         listed,
         list,
     })
+}
+
+/// The parts of the certificate that the bytes are, but for what its extensions are. None where there is none.
+#[tactic(auto, using(crate::proofs::Fronts::part_whole))]
+pub(crate) fn parts_of(der: &[u8]) -> Option<Places>
+    ensures cut { parts_at der.now ≡ option_map (parts_of der.now) result }
+    ensures within { IfSome result (ArePlaces (length der.now)) }
+{
+    parts_at(der, 0, der.len())
 }

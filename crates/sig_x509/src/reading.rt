@@ -10,7 +10,7 @@ ghost use Rattle.sig_x509.specs.Held.{IsDatedAs};
 
 use crate::error::X509ReadError;
 use crate::extensions::{ExtensionPlaces, extension_at};
-use crate::parts::{Places, parts_at};
+use crate::parts::{Places, parts_of};
 use crate::seconds::second_at;
 use std::alloc::Global;
 
@@ -22,18 +22,16 @@ pub(crate) struct Dated {
     pub(crate) not_after: i64,
 }
 
-/// The parts and the validity of the certificate from `at` to `end` itself. None where there is none.
-pub(crate) fn dated_at(bytes: &[u8], at: usize, end: usize) -> Option<Dated>
-    requires from { at ≤ end }
-    requires to { end ≤ length bytes.now }
-    ensures found { IfSome result (λ d. IsCut (slice_range bytes.now at end) (parts_of bytes.now d.places) d.not_before d.not_after) }
-    ensures only { (p : Parts) (not_before not_after : ℤ) → IsCut (slice_range bytes.now at end) p not_before not_after
-        → IsDatedAs bytes.now p not_before not_after result }
-    ensures within { IfSome result (λ d. ArePlaces end d.places) }
+/// The parts and the validity of the certificate that the bytes are. None where there is none.
+pub(crate) fn dated_parts(der: &[u8]) -> Option<Dated>
+    ensures found { IfSome result (λ d. IsCut der.now (parts_of der.now d.places) d.not_before d.not_after) }
+    ensures only { (p : Parts) (not_before not_after : ℤ) → IsCut der.now p not_before not_after
+        → IsDatedAs der.now p not_before not_after result }
+    ensures within { IfSome result (λ d. ArePlaces (length der.now) d.places) }
 {
-    let places = parts_at(bytes, at, end)?;
-    let not_before = second_at(bytes, places.body.not_before)?;
-    let not_after = second_at(bytes, places.body.not_after)?;
+    let places = parts_of(der)?;
+    let not_before = second_at(der, places.body.not_before)?;
+    let not_after = second_at(der, places.body.not_after)?;
     Some(Dated {
         places,
         not_before,

@@ -1,0 +1,11 @@
+use Rattle.std.proofs.Common.{rules, ◌≡◌, ℤ, Result, Ok, Err, Some, None, sym, ap, ◌∙◌}
+use Rattle.sig_base.specs.declared.fault.DerError.{DerError}
+use Rattle.sig_der.specs.DerTime.{IsTimeOf}
+use Rattle.sig_der.proofs.Steps.{ok_is}
+use Rattle.sig_x509.proofs.seconds.second_at.Goals as goal
+
+pub returns-in-Ok-clause-only : goal.returns-in-Ok-clause-only
+returns-in-Ok-clause-only c = λ s is. let same = ok_is c.in-Ok.second s (c.in-Ok.ensures.only s is) in rw (← same) (search rules)
+
+pub returns-in-Err-clause-only : goal.returns-in-Err-clause-only
+returns-in-Err-clause-only c = λ s is. absurd (let no = c.in-Err.ensures.only s is in cc)

@@ -1,0 +1,186 @@
+//! `Certificate`: RFC 5280 section 4.1, in the profile of Sigstore.
+
+ghost use Rattle.std.specs.Prelude.{◌≡◌, ◌≤◌, ◌+◌, ℕ, pos, ◌≤ℤ◌, Some, length, slice_get, option_map, IfOk, IfErr};
+ghost use Rattle.sig_x509.specs.Answers.{Reads, IsRefusedOnlyWithout};
+ghost use Rattle.sig_x509.specs.Certificate.{Cert, IsCertificate};
+ghost use Rattle.sig_x509.specs.Lookups.{lent, with_oid, Finds};
+
+use crate::error::X509ReadError;
+use crate::extensions::ExtensionPlaces;
+use crate::lookup::{ExtensionRef, Lookup, lend, look_up};
+use crate::parts::Places;
+use crate::reading::{dated_parts, extensions_at};
+use crate::span::part;
+use std::alloc::Global;
+use std::marker::Model;
+
+/// A certificate. It owns its text and the places of its parts in it, and lends the parts. Contracts see the record of
+/// *Certificate*.
+#[derive(Drop)]
+pub struct Certificate {
+    der: Vec<u8>,
+    places: Places,
+    not_before: i64,
+    not_after: i64,
+    extensions: Vec<ExtensionPlaces>,
+}
+
+impl Model for Certificate {
+    ghost use Rattle.sig_x509.specs.Certificate.{Cert};
+
+    ghost Value = { Cert };
+
+    ghost use Rattle.sig_x509.specs.Places.{placed_certificate};
+    ghost use Rattle.sig_x509.specs.Held.{HoldsCertificate};
+
+    ghost view = { λ c. placed_certificate c.der.items c.places c.not_before c.not_after c.extensions.items };
+
+    ghost invariant = { λ c. HoldsCertificate c.der.items c.places c.not_before c.not_after c.extensions.items };
+}
+
+impl Certificate {
+    /// The certificate that the bytes are: one SEQUENCE of the signed part, an algorithm and the bits of the signature, and
+    /// nothing after it (RFC 5280 section 4.1).
+    ///
+    /// `Der` exactly where the bytes are no certificate. `OutOfMemory` where the copy of the bytes or the list of the extensions
+    /// could not be made.
+    pub fn try_from_der(alloc: Global, der: &[u8]) -> Result<Certificate, X509ReadError>
+        // What is answered is the certificate.
+        ensures found { IfOk result (IsCertificate der.now) }
+        // A certificate is answered, and there is one at most.
+        ensures only { (c : Cert) → IsCertificate der.now c → Reads (λ r. r) result (Some c) }
+        // `Der` comes only where the bytes are no certificate.
+        ensures refused { IfErr result (IsRefusedOnlyWithout der.now) }
+    {
+        let Some(dated) = dated_parts(der) else {
+            return Err(X509ReadError::Der);
+        };
+        let list = dated.places.list;
+        match extensions_at(alloc, der, list.start, list.end) {
+            Err(e) => Err(e),
+            Ok(extensions) => Ok(Certificate {
+                der: Vec::from_slice(alloc, der)?,
+                places: dated.places,
+                not_before: dated.not_before,
+                not_after: dated.not_after,
+                extensions,
+            }),
+        }
+    }
+
+    /// The whole text.
+    pub fn der(&self) -> &[u8]
+        ensures { result.now ≡ self.now.whole }
+    {
+        self.der.as_slice()
+    }
+
+    /// The signed part, a whole element.
+    pub fn tbs(&self) -> &[u8]
+        ensures { result.now ≡ self.now.tbs }
+    {
+        let place = self.places.outer.tbs;
+        &self.der[place.start..place.end]
+    }
+
+    /// The elements of the signed part before its extensions.
+    pub(crate) fn front(&self) -> &[u8]
+        ensures { result.now ≡ self.now.front }
+    {
+        part(&self.der, self.places.front)
+    }
+
+    /// The outer algorithm, a whole element.
+    pub fn algorithm(&self) -> &[u8]
+        ensures { result.now ≡ self.now.algorithm }
+    {
+        part(&self.der, self.places.outer.algorithm)
+    }
+
+    /// The algorithm that the signed part names, a whole element.
+    pub(crate) fn inner_algorithm(&self) -> &[u8]
+        ensures { result.now ≡ self.now.inner_algorithm }
+    {
+        part(&self.der, self.places.head.algorithm)
+    }
+
+    /// The issuer's name, a whole element.
+    pub fn issuer(&self) -> &[u8]
+        ensures { result.now ≡ self.now.issuer }
+    {
+        part(&self.der, self.places.head.issuer)
+    }
+
+    /// The subject's name, a whole element.
+    pub fn subject(&self) -> &[u8]
+        ensures { result.now ≡ self.now.subject }
+    {
+        part(&self.der, self.places.body.subject)
+    }
+
+    /// The subject's key info, a whole element.
+    pub fn spki(&self) -> &[u8]
+        ensures { result.now ≡ self.now.spki }
+    {
+        part(&self.der, self.places.body.spki)
+    }
+
+    /// The bits of the signature, without the count of unused bits.
+    pub fn signature(&self) -> &[u8]
+        ensures { result.now ≡ self.now.signature }
+    {
+        part(&self.der, self.places.outer.signature)
+    }
+
+    /// The version, 1 to 3.
+    pub fn version(&self) -> u8
+        ensures { result ≡ self.now.version }
+    {
+        self.places.head.version
+    }
+
+    /// The first second of the validity, in seconds since 1970.
+    pub fn not_before(&self) -> i64
+        ensures { result ≡ self.now.not_before }
+    {
+        self.not_before
+    }
+
+    /// The last second of the validity, in seconds since 1970.
+    pub fn not_after(&self) -> i64
+        ensures { result ≡ self.now.not_after }
+    {
+        self.not_after
+    }
+
+    /// Whether the element of the extensions is there.
+    pub(crate) fn is_listed(&self) -> bool
+        ensures { result ≡ self.now.listed }
+    {
+        self.places.listed
+    }
+
+    /// The number of extensions.
+    pub fn extension_count(&self) -> usize
+        ensures { result ≡ length self.now.extensions }
+    {
+        self.extensions.len()
+    }
+
+    /// The extension at this place, counted from 0. None exactly where the place is not below the number of extensions.
+    pub fn extension_at(&self, place: usize) -> Option<ExtensionRef<'_>>
+        ensures { option_map lent result ≡ slice_get self.now.extensions place }
+    {
+        match self.extensions.get(place) {
+            None => None,
+            Some(places) => Some(lend(&self.der, places)),
+        }
+    }
+
+    /// The extensions with this object identifier, which is given by its contents octets and compared byte for byte.
+    pub fn extension(&self, oid: &[u8]) -> Lookup<'_>
+        ensures { Finds (with_oid oid.now self.now.extensions) result }
+    {
+        look_up(&self.der, &self.extensions, oid)
+    }
+}
