@@ -6,4 +6,7 @@ pub mod CertificateLaws
 pub mod Spans
 pub mod KeyLaws
 pub mod KeyringLaws
+pub mod VectorLaws
+pub mod SctLaws
+pub mod OnlyOne
 pub mod Readings

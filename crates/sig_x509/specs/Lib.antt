@@ -11,3 +11,5 @@ pub mod SctList
 pub mod Timestamps
 pub mod Lent
 pub mod Values
+pub mod Precert
+pub mod SctBytes

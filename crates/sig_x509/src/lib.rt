@@ -9,14 +9,15 @@ mod key;
 mod keyring;
 mod keyring_error;
 mod lookup;
+mod opaque;
 mod parts;
 mod profile_error;
 mod reading;
 mod sct_error;
 mod sct_list;
 mod seconds;
+mod signed;
 mod span;
-mod vectors;
 mod values;
 
 pub use certificate::Certificate;
@@ -26,6 +27,7 @@ pub use keyring::Keyring;
 pub use keyring_error::KeyringError;
 pub use lookup::{ExtensionRef, Lookup};
 pub use sct_error::{CertificateErrorKind, SCTError};
+pub use signed::{DigitallySigned, verify_sct};
 pub use profile_error::{
     CertificateValidationError, ExtensionErrorKind, NotCAErrorKind, NotLeafErrorKind, PartName,
 };

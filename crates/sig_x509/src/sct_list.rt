@@ -9,7 +9,7 @@ ghost use Rattle.sig_x509.specs.Timestamps.{only_one};
 ghost use Rattle.sig_x509.specs.Lent.{both_now, sct_now, part_now};
 
 use crate::sct_error::CertificateErrorKind;
-use crate::vectors::{bytes_at, vector_at, whole_vector};
+use crate::opaque::{bytes_at, vector_at, whole_vector};
 use sig_der::whole_at;
 
 const OCTET_STRING: u8 = 4;
@@ -81,8 +81,14 @@ pub(crate) fn only_one(list: &[u8]) -> Result<&[u8], CertificateErrorKind>
         return Err(CertificateErrorKind::LeafSCTMalformed);
     }
     match vector_at(list) {
-        Some((text, [])) => Ok(text),
-        _ => Err(CertificateErrorKind::LeafSCTMissing),
+        None => Err(CertificateErrorKind::LeafSCTMissing),
+        Some((text, rest)) => {
+            if rest.is_empty() {
+                Ok(text)
+            } else {
+                Err(CertificateErrorKind::LeafSCTMissing)
+            }
+        }
     }
 }
 
