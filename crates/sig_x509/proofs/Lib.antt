@@ -3,6 +3,12 @@ pub mod ExtensionLaws
 pub mod HeadLaws
 pub mod BodyLaws
 pub mod CertificateLaws
+pub mod Spans
+pub mod KeyLaws
+pub mod KeyringLaws
+pub mod VectorLaws
+pub mod SctLaws
+pub mod OnlyOne
 pub mod Readings
 pub mod HeldLaws
 pub mod WalkLaws

@@ -4,9 +4,17 @@ pub mod Places
 pub mod Answers
 pub mod Held
 pub mod Lookups
+pub mod RingKey
+pub mod Keyring
+pub mod Vectors
+pub mod SctList
+pub mod Timestamps
+pub mod Lent
 pub mod Values
 pub mod Names
 pub mod NamePlaces
 pub mod Profile
 pub mod Trust
 pub mod Pem
+pub mod Precert
+pub mod SctBytes

@@ -5,14 +5,21 @@
 mod certificate;
 mod error;
 mod extensions;
+mod key;
+mod keyring;
+mod keyring_error;
 mod lookup;
 mod names;
+mod opaque;
 mod parts;
 mod pem;
 mod profile;
 mod profile_error;
 mod reading;
+mod sct_error;
+mod sct_list;
 mod seconds;
+mod signed;
 mod span;
 #[cfg(test)]
 mod tests;
@@ -24,9 +31,14 @@ mod walks;
 
 pub use certificate::Certificate;
 pub use error::X509ReadError;
+pub use key::Key;
+pub use keyring::Keyring;
+pub use keyring_error::KeyringError;
 pub use lookup::{ExtensionRef, Lookup};
 pub use pem::der_to_pem;
 pub use profile::{is_ca, is_leaf, is_root_ca};
+pub use sct_error::{CertificateErrorKind, SCTError};
+pub use signed::{DigitallySigned, verify_sct};
 pub use profile_error::{
     CertificateValidationError, ExtensionErrorKind, NotCAErrorKind, NotLeafErrorKind, PartName,
 };
