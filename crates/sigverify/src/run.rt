@@ -53,8 +53,9 @@ pub fn run<S: Source, K: Sink>(alloc: Global, words: &[Text], source: &mut S, si
     // The headline: what `Answered` says of the reply is that every link holds where the status is 0, and that it shows the first that fails else.
     ensures answered { result < 3 → IsLog words.now
         × Answered (S.left source.old) (S.left source.new) (K.taken sink.old) (K.taken sink.new) result }
-    ensures usage { result ≡ USAGE → ¬ IsLog words.now × (source.new ≡ source.old)
+    ensures usage { result ≡ USAGE → ¬ IsLog words.now
         × Appends (K.taken sink.old) (K.taken sink.new) usage_line }
+    ensures unread { ¬ IsLog words.now → source.new ≡ source.old }
     ensures memory { result ≡ NO_MEMORY → IsLog words.now × (sink.new ≡ sink.old) }
     ensures fault { result ≡ FAULT →
         ReadFaulted words.now (S.faults source.old) (S.faults source.new) sink.old sink.new
