@@ -1,5 +1,5 @@
 -- What the builders make of a tree.
-use Rattle.std.proofs.Common.{String, Vec, BTreeMap, Global, ◌≡◌, ℕ, List, [], ◌∷◌, ◌++◌, Option, Some, None, Bool, true, false, ◌||◌, refl, sym, ap, ◌∙◌}
+use Rattle.std.proofs.Common.{String, Vec, BTreeMap, Global, ◌≡◌, ℕ, List, [], ◌∷◌, ◌++◌, Some, None, false, ◌||◌, refl, sym, ap}
 use Rattle.std.proofs.lemmas.Bool.{or_parts, or_from}
 use Rattle.std.specs.Cmp.Lexicographic.{slice_cmp}
 use Rattle.std.specs.Ordering.{nat_cmp, match_ordering}

@@ -1,5 +1,5 @@
 -- *Canonical text*: the text of a tree without floats by the JSON Canonicalization Scheme (RFC 8785).
-use Rattle.std.specs.Prelude.{ℕ, ℤ, ◌++◌, ◌/◌, ◌%◌, ◌==◌, ◌||◌, nat_lt, nat_le, unsigned_abs, Bool, List, [], ◌∷◌, Option, Some, None, Result, Ok, Err, codes, chars, flat_map, if◌then◌else◌}
+use Rattle.std.specs.Prelude.{ℕ, ℤ, ◌++◌, ◌/◌, ◌%◌, ◌==◌, ◌||◌, nat_lt, nat_le, unsigned_abs, List, [], ◌∷◌, Option, Some, None, Result, Ok, Err, codes, chars, flat_map, if◌then◌else◌}
 use Rattle.std.specs.BTreeMap.{insert_entry}
 use Rattle.std.specs.Char.Escape.{encode_utf16}
 use Rattle.std.specs.Char.{digit_char}
@@ -8,7 +8,7 @@ use Rattle.std.specs.Fmt.{signed_decimal}
 use Rattle.std.specs.List.{join_by}
 use Rattle.std.specs.Map.{values_of}
 use Rattle.std.specs.Ordering.{nat_cmp}
-use Rattle.serde_json.specs.Data.{Num, Data, null, boolean, number, string, array, object, Items, no_items, item, Members, no_members, member}
+use Rattle.serde_json.specs.Data.{Data, null, boolean, number, string, array, object, Items, no_items, item, Members, no_members, member}
 use Rattle.serde_json.specs.Find.{as_integer}
 use Rattle.sig_json.specs.Reads.{◌>>=◌}
 use Rattle.sig_json.specs.declared.error.CanonicalError.{CanonicalError}

@@ -217,15 +217,11 @@ fn lists_and_hashes(rt: HostRuntime) -> Result<(), Fail> {
             Ok(hashes) => format!(in alloc; "{}", hashes.len())?,
             Err(_) => format!(in alloc; "-")?,
         };
-        assert!(rt; found.as_str() == expected, "{line}");
+        assert!(rt; found.as_str() == expected);
         assert!(rt;
             optional_list::<HashReader>(alloc, document.view(), "m").is_ok() == (expected != "-"),
-            "{line}"
         );
-        assert!(rt;
-            required_hash(document.view(), "m").is_ok() == (line == "- H"),
-            "{line}"
-        );
+        assert!(rt; required_hash(document.view(), "m").is_ok() == (line == "- H"),);
     }
     let document = Document::read(alloc, b"{\"m\":null}".as_slice())?;
     assert!(rt; optional::<BytesReader>(alloc, document.view(), "m").is_ok());
