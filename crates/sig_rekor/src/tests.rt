@@ -148,7 +148,7 @@ fn sizes_take_a_plus_sign_and_zeros(rt: HostRuntime) -> Result<(), Fail> {
         ("bananas", None),
     ];
     for (line, wanted) in sizes {
-        assert_eq!(rt; size_of(alloc, line), wanted, "{line}");
+        assert!(rt; size_of(alloc, line) == wanted);
     }
     let read = Checkpoint::unmarshal(
         alloc,
@@ -177,21 +177,21 @@ fn is_line_read_as(alloc: Global, line: &str, made: &CheckpointSignature) -> boo
     }
 }
 
+/// Whether a signature of this name is written as a line, and read from it and from a line with blanks around it.
+fn keeps_name(alloc: Global, name: &str) -> Result<bool, OutOfMemory> {
+    let made = signature(alloc, name, [0; 4], &[1; 32])?;
+    let line = format!(in alloc; "\u{2014} {name} {CODED}\n")?;
+    let spaced = format!(in alloc; "\n\n\u{2014}any {name} {CODED}\t\u{a0}\u{3000}\n\n")?;
+    Ok(is_line_of(alloc, &made, line.as_str()) && is_line_read_as(alloc, spaced.as_str(), &made))
+}
+
 #[test]
 fn signatures_are_written_and_read(rt: HostRuntime) -> Result<(), Fail> {
     let alloc = rt.alloc();
-    for name in [
-        "log.example.org",
-        "815f6c60aab9",
-        "https://log.example/path?q=1",
-        "",
-    ] {
-        let made = signature(alloc, name, [0; 4], &[1; 32])?;
-        let line = format!(in alloc; "\u{2014} {name} {CODED}\n")?;
-        assert!(rt; is_line_of(alloc, &made, line.as_str()), "{name}");
-        let spaced = format!(in alloc; "\n\n\u{2014}any {name} {CODED}\t\u{a0}\u{3000}\n\n")?;
-        assert!(rt; is_line_read_as(alloc, spaced.as_str(), &made), "{name}");
-    }
+    assert!(rt; keeps_name(alloc, "log.example.org")?);
+    assert!(rt; keeps_name(alloc, "815f6c60aab9")?);
+    assert!(rt; keeps_name(alloc, "https://log.example/path?q=1")?);
+    assert!(rt; keeps_name(alloc, "")?);
     Ok(())
 }
 
@@ -206,7 +206,7 @@ where
 }
 
 #[test]
-fn each_fault_has_its_name(rt: HostRuntime) -> Result<(), Fail> {
+fn each_fault_of_a_signature_has_its_name(rt: HostRuntime) {
     let alloc = rt.alloc();
     let lines = [
         ("", CheckpointFault::NoDash),
@@ -226,12 +226,13 @@ fn each_fault_has_its_name(rt: HostRuntime) -> Result<(), Fail> {
         ("\u{2014} n ", CheckpointFault::SignatureLength),
     ];
     for (line, wanted) in lines {
-        assert_eq!(rt;
-            fault_of(CheckpointSignature::decode(alloc, line)),
-            Some(wanted),
-            "{line}"
-        );
+        assert!(rt; fault_of(CheckpointSignature::decode(alloc, line)) == Some(wanted));
     }
+}
+
+#[test]
+fn each_fault_of_a_note_has_its_name(rt: HostRuntime) {
+    let alloc = rt.alloc();
     let notes = [
         ("", CheckpointFault::NoteFormat),
         ("o\n1", CheckpointFault::NoteFormat),
@@ -242,17 +243,12 @@ fn each_fault_has_its_name(rt: HostRuntime) -> Result<(), Fail> {
         ("o\n1\nYmFuYW5hcw==", CheckpointFault::HashLength),
     ];
     for (text, wanted) in notes {
-        assert_eq!(rt;
-            fault_of(Checkpoint::unmarshal(alloc, text)),
-            Some(wanted),
-            "{text}"
-        );
+        assert!(rt; fault_of(Checkpoint::unmarshal(alloc, text)) == Some(wanted));
     }
-    Ok(())
 }
 
 #[test]
-fn checkpoints_name_the_first_fault(rt: HostRuntime) -> Result<(), Fail> {
+fn checkpoints_name_the_first_fault(rt: HostRuntime) {
     let alloc = rt.alloc();
     let texts = [
         ("", CheckpointFault::Format),
@@ -275,17 +271,17 @@ fn checkpoints_name_the_first_fault(rt: HostRuntime) -> Result<(), Fail> {
         ("o\n1\nx\n\n", CheckpointFault::HashBase64),
     ];
     for (text, wanted) in texts {
-        assert_eq!(rt;
-            fault_of(SignedCheckpoint::decode(alloc, text)),
-            Some(wanted),
-            "{text}"
-        );
+        assert!(rt; fault_of(SignedCheckpoint::decode(alloc, text)) == Some(wanted));
     }
-    let (front, line) = (ONE_LEAF_NOTE, "\u{2014} log.example AAAAAXNpZw==\n");
-    let joined = format!(in alloc; "{front}\n{line}{line}")?;
-    assert_eq!(rt;
-        fault_of(SignedCheckpoint::decode(alloc, joined.as_str())),
-        Some(CheckpointFault::SignatureFormat)
+}
+
+#[test]
+fn signatures_joined_by_one_newline_are_malformed(rt: HostRuntime) -> Result<(), Fail> {
+    let alloc = rt.alloc();
+    let joined = format!(in alloc; "{ONE_LEAF}\u{2014} log.example AAAAAXNpZw==\n")?;
+    assert!(rt;
+        fault_of(SignedCheckpoint::decode(alloc, joined.as_str()))
+            == Some(CheckpointFault::SignatureFormat)
     );
     Ok(())
 }
@@ -350,113 +346,107 @@ fn one_row(alloc: Global, note: &str) -> Result<TableChecker, OutOfMemory> {
 }
 
 #[test]
-fn a_note_vouches_for_its_tree(rt: HostRuntime) -> Result<(), Fail> {
+fn a_note_is_signed_where_the_checker_accepts_a_signature(rt: HostRuntime) -> Result<(), Fail> {
     let alloc = rt.alloc();
     let one = SignedCheckpoint::decode(alloc, ONE_LEAF)?;
     let key = CosignVerificationKey::from_der(alloc, b"key", &SigningScheme::default())?;
-    assert!(rt;
-        one.verify_signature(alloc, &key, &one_row(alloc, ONE_LEAF_NOTE)?)
-            .is_ok()
-    );
+    let full = one_row(alloc, ONE_LEAF_NOTE)?;
+    assert!(rt; one.verify_signature(alloc, &key, &full).is_ok());
     assert!(rt;
         matches!(
             &one.verify_signature(alloc, &key, &TableChecker::new(alloc)),
             Err(SigstoreError::CheckpointSignatureVerificationError)
         )
     );
-    assert!(rt; one.is_valid_for_proof(&ONE_LEAF_ROOT, 1).is_ok());
-    let answers = [
-        (0, MerkleProofError::NewTreeSmaller { new: 0, old: 1 }),
-        (2, MerkleProofError::UnexpectedEmptyProof),
-        (
-            1,
-            MerkleProofError::MismatchedRoot {
-                expected: RootHex {
-                    root: ONE_LEAF_ROOT,
-                },
-                got: RootHex { root: [0; 32] },
-            },
-        ),
-    ];
-    for (size, wanted) in answers {
-        match one.is_valid_for_proof(&[0; 32], size) {
-            Err(SigstoreError::ConsistencyProofError(refusal)) => assert_eq!(rt; refusal, wanted),
-            _ => assert!(rt; false, "{size}"),
-        }
-    }
     Ok(())
 }
 
-/// The name of the first refusal of a proof of `L123456`, and of the Merkle refusal inside; both empty where it is accepted.
-fn refusal_of(
-    alloc: Global,
-    proof: &InclusionProof,
-    checker: &TableChecker,
-) -> Result<(&'static str, Option<MerkleProofError>), SigstoreError> {
-    let key = CosignVerificationKey::from_der(alloc, b"key", &SigningScheme::default())?;
-    match proof.verify(alloc, b"L123456", &key, checker) {
-        Ok(()) => Ok(("", None)),
-        Err(SigstoreError::UnexpectedError(UnexpectedKind::CheckpointMissing)) => Ok((
-            "missing", None,
-        )),
-        Err(SigstoreError::CheckpointSignatureVerificationError) => Ok(("note-key", None)),
-        Err(SigstoreError::ConsistencyProofError(refusal)) => Ok(("note-match", Some(refusal))),
-        Err(SigstoreError::InclusionProofError(refusal)) => Ok(("inclusion", Some(refusal))),
-        Err(other) => Err(other),
+/// Whether a note is refused for the tree of this size with a root of zeros, with this refusal.
+fn is_refused_for(checkpoint: &SignedCheckpoint, size: u64, wanted: MerkleProofError) -> bool {
+    match checkpoint.is_valid_for_proof(&[0; 32], size) {
+        Err(SigstoreError::ConsistencyProofError(refusal)) => refusal == wanted,
+        _ => false,
     }
+}
+
+#[test]
+fn a_note_vouches_for_its_tree(rt: HostRuntime) -> Result<(), Fail> {
+    let one = SignedCheckpoint::decode(rt.alloc(), ONE_LEAF)?;
+    assert!(rt; one.is_valid_for_proof(&ONE_LEAF_ROOT, 1).is_ok());
+    assert!(rt; is_refused_for(&one, 0, MerkleProofError::NewTreeSmaller { new: 0, old: 1 }));
+    assert!(rt; is_refused_for(&one, 2, MerkleProofError::UnexpectedEmptyProof));
+    let (expected, got) = (
+        RootHex {
+            root: ONE_LEAF_ROOT,
+        },
+        RootHex { root: [0; 32] },
+    );
+    assert!(rt; is_refused_for(&one, 1, MerkleProofError::MismatchedRoot { expected, got }));
+    Ok(())
+}
+
+/// What a proof of the entry `L123456` is answered.
+#[derive(Clone, Copy, PartialEq, Eq)]
+enum Answer {
+    Accepted,
+    Missing,
+    NoteKey,
+    NoteMatch(MerkleProofError),
+    Inclusion(MerkleProofError),
+    Other,
+}
+
+fn answer_to(alloc: Global, proof: &InclusionProof, checker: &TableChecker) -> Answer {
+    let Ok(key) = CosignVerificationKey::from_der(alloc, b"key", &SigningScheme::default()) else {
+        return Answer::Other;
+    };
+    match proof.verify(alloc, b"L123456", &key, checker) {
+        Ok(()) => Answer::Accepted,
+        Err(SigstoreError::UnexpectedError(UnexpectedKind::CheckpointMissing)) => Answer::Missing,
+        Err(SigstoreError::CheckpointSignatureVerificationError) => Answer::NoteKey,
+        Err(SigstoreError::ConsistencyProofError(refusal)) => Answer::NoteMatch(refusal),
+        Err(SigstoreError::InclusionProofError(refusal)) => Answer::Inclusion(refusal),
+        Err(_) => Answer::Other,
+    }
+}
+
+/// A proof of that entry in the tree of one leaf.
+fn proof_of(alloc: Global, hashes: Hashes) -> Result<InclusionProof, ParseCheckpointError> {
+    let checkpoint = SignedCheckpoint::decode(alloc, ONE_LEAF)?;
+    Ok(InclusionProof::new(0, ONE_LEAF_ROOT, 1, hashes, Some(checkpoint)))
 }
 
 #[test]
 fn proofs_are_refused_in_order(rt: HostRuntime) -> Result<(), Fail> {
     let alloc = rt.alloc();
     let (full, empty) = (one_row(alloc, ONE_LEAF_NOTE)?, TableChecker::new(alloc));
-    let mut proof = InclusionProof::new(
-        0,
-        ONE_LEAF_ROOT,
-        1,
-        Hashes::new(alloc),
-        Some(SignedCheckpoint::decode(alloc, ONE_LEAF)?),
-    );
-    assert_eq!(rt; refusal_of(alloc, &proof, &full)?, ("", None));
-    assert_eq!(rt; refusal_of(alloc, &proof, &empty)?, ("note-key", None));
-    for (index, wanted) in [
-        (1, MerkleProofError::IndexGtTreeSize),
-        (-1, MerkleProofError::IndexGtTreeSize),
-        (i64::MIN, MerkleProofError::IndexGtTreeSize),
-    ] {
-        proof.log_index = index;
-        assert_eq!(rt;
-            refusal_of(alloc, &proof, &full)?,
-            ("inclusion", Some(wanted))
-        );
-    }
+    let mut proof = proof_of(alloc, Hashes::new(alloc))?;
+    assert!(rt; answer_to(alloc, &proof, &full) == Answer::Accepted);
+    assert!(rt; answer_to(alloc, &proof, &empty) == Answer::NoteKey);
     proof.tree_size = 0;
-    assert_eq!(rt;
-        refusal_of(alloc, &proof, &full)?,
-        (
-            "note-match",
-            Some(MerkleProofError::NewTreeSmaller { new: 0, old: 1 })
-        )
-    );
-    assert_eq!(rt; refusal_of(alloc, &proof, &empty)?, ("note-key", None));
+    let smaller = MerkleProofError::NewTreeSmaller { new: 0, old: 1 };
+    assert!(rt; answer_to(alloc, &proof, &full) == Answer::NoteMatch(smaller));
+    assert!(rt; answer_to(alloc, &proof, &empty) == Answer::NoteKey);
     proof.checkpoint = None;
-    assert_eq!(rt; refusal_of(alloc, &proof, &empty)?, ("missing", None));
-    let mut long = Hashes::new(alloc);
-    long.push([0; 32])?;
-    let long = InclusionProof::new(
-        0,
-        ONE_LEAF_ROOT,
-        1,
-        long,
-        Some(SignedCheckpoint::decode(alloc, ONE_LEAF)?),
-    );
-    assert_eq!(rt;
-        refusal_of(alloc, &long, &full)?,
-        (
-            "inclusion",
-            Some(MerkleProofError::WrongProofSize { got: 1, want: 0 })
-        )
-    );
+    assert!(rt; answer_to(alloc, &proof, &empty) == Answer::Missing);
+    Ok(())
+}
+
+#[test]
+fn paths_are_refused_after_the_note(rt: HostRuntime) -> Result<(), Fail> {
+    let alloc = rt.alloc();
+    let full = one_row(alloc, ONE_LEAF_NOTE)?;
+    let mut proof = proof_of(alloc, Hashes::new(alloc))?;
+    let beyond = Answer::Inclusion(MerkleProofError::IndexGtTreeSize);
+    for index in [1, -1, i64::MIN] {
+        proof.log_index = index;
+        assert!(rt; answer_to(alloc, &proof, &full) == beyond);
+    }
+    let mut hashes = Hashes::new(alloc);
+    hashes.push([0; 32])?;
+    let long = proof_of(alloc, hashes)?;
+    let wrong = MerkleProofError::WrongProofSize { got: 1, want: 0 };
+    assert!(rt; answer_to(alloc, &long, &full) == Answer::Inclusion(wrong));
     assert!(rt; long != proof);
     Ok(())
 }
@@ -470,41 +460,36 @@ fn with_pieces(alloc: Global, piece: &str, count: u32) -> Result<String, OutOfMe
     Ok(text)
 }
 
+/// How many contents and signatures a text is read as.
+fn counts_of(alloc: Global, text: &str) -> Option<(usize, usize)> {
+    match SignedCheckpoint::decode(alloc, text) {
+        Ok(read) => Some((read.note.other_content.len(), read.signatures.len())),
+        Err(_) => None,
+    }
+}
+
 #[test]
-fn hostile_texts_are_read_to_their_end(rt: HostRuntime) -> Result<(), Fail> {
+fn many_lines_and_signatures_are_read(rt: HostRuntime) -> Result<(), Fail> {
     let alloc = rt.alloc();
     let mut lines = with_pieces(alloc, "x\n", 1 << 20)?;
     lines.push_str("\n")?;
-    assert_eq!(rt;
-        SignedCheckpoint::decode(alloc, lines.as_str())?
-            .note
-            .other_content
-            .len(),
-        1 << 20
-    );
+    assert!(rt; counts_of(alloc, lines.as_str()) == Some((1 << 20, 0)));
     let signed = with_pieces(alloc, "\n\u{2014} log.example AAAAAXNpZw==\n", 100_000)?;
-    assert_eq!(rt;
-        SignedCheckpoint::decode(alloc, signed.as_str())?
-            .signatures
-            .len(),
-        100_000
-    );
+    assert!(rt; counts_of(alloc, signed.as_str()) == Some((0, 100_000)));
+    Ok(())
+}
+
+#[test]
+fn many_newlines_and_marks_are_read(rt: HostRuntime) -> Result<(), Fail> {
+    let alloc = rt.alloc();
     let newlines = with_pieces(alloc, "\n", 1 << 20)?;
-    assert_eq!(rt;
-        SignedCheckpoint::decode(alloc, newlines.as_str())?
-            .signatures
-            .len(),
-        0
-    );
-    let marks = with_pieces(alloc, "\"", 1 << 20)?;
-    assert_eq!(rt;
-        fault_of(SignedCheckpoint::decode(alloc, marks.as_str())),
-        Some(CheckpointFault::Format)
-    );
-    let only_marks = "\"\"\"\"\"\"\"\"\"\"\"\"\"\"\"\"";
-    assert_eq!(rt;
-        fault_of(SignedCheckpoint::decode(alloc, only_marks)),
-        Some(CheckpointFault::Format)
+    assert!(rt; counts_of(alloc, newlines.as_str()) == Some((0, 0)));
+    let mut marks = String::new(alloc);
+    for _ in 0..1u32 << 20 {
+        marks.push('"')?;
+    }
+    assert!(rt;
+        fault_of(SignedCheckpoint::decode(alloc, marks.as_str())) == Some(CheckpointFault::Format)
     );
     Ok(())
 }
