@@ -7,3 +7,6 @@ pub mod Readings
 pub mod HeldLaws
 pub mod WalkLaws
 pub mod PemLaws
+pub mod Utf8
+pub mod IdentityLaws
+pub mod RequestLaws

@@ -10,3 +10,10 @@ pub mod NamePlaces
 pub mod Profile
 pub mod Trust
 pub mod Pem
+pub mod Texts
+pub mod Failures
+pub mod Verdict
+pub mod Single
+pub mod Claim
+pub mod Identities
+pub mod Requests

@@ -9,6 +9,9 @@ mod lookup;
 mod names;
 mod parts;
 mod pem;
+mod policy;
+#[cfg(test)]
+mod policy_tests;
 mod profile;
 mod profile_error;
 mod reading;
@@ -26,6 +29,12 @@ pub use certificate::Certificate;
 pub use error::X509ReadError;
 pub use lookup::{ExtensionRef, Lookup};
 pub use pem::der_to_pem;
+pub use policy::{
+    GitHubWorkflowName, GitHubWorkflowRef, GitHubWorkflowRepository, GitHubWorkflowSHA,
+    GitHubWorkflowTrigger, Identity, LeafPolicies, LeafPolicy, OIDCIssuer, PolicyError,
+    PolicyErrors, PolicyResult, RequestPolicy, SingleX509ExtPolicy, VerificationPolicy,
+    verify_single,
+};
 pub use profile::{is_ca, is_leaf, is_root_ca};
 pub use profile_error::{
     CertificateValidationError, ExtensionErrorKind, NotCAErrorKind, NotLeafErrorKind, PartName,
