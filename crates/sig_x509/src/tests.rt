@@ -173,19 +173,16 @@ fn cut_certificates_are_refused(rt: HostRuntime) -> Result<(), Fail> {
 fn text_is_base64_between_borders(rt: HostRuntime) -> Result<(), Fail> {
     let alloc = rt.alloc();
     let pem = der_to_pem(alloc, &bytes_of(alloc, LEAF)?)?;
-    let mut lines = pem.as_str().lines();
-    assert_eq!(rt; lines.next(), Some("-----BEGIN CERTIFICATE-----"));
+    let text = pem.as_str();
+    assert!(rt; text.starts_with("-----BEGIN CERTIFICATE-----\n"));
+    assert!(rt; text.ends_with("\n-----END CERTIFICATE-----\n"));
     let mut joined = String::new(alloc);
-    let mut last = "";
-    for line in lines {
-        if line.starts_with("-----") {
-            last = line;
-        } else {
+    for line in text.lines() {
+        if !line.starts_with("-----") {
             assert!(rt; line.len() == 64);
             joined.push_str(line)?;
         }
     }
-    assert_eq!(rt; last, "-----END CERTIFICATE-----");
     assert_eq!(rt; joined.as_str(), LEAF);
     Ok(())
 }
