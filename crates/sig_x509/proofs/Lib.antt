@@ -10,3 +10,4 @@ pub mod PemLaws
 pub mod Utf8
 pub mod IdentityLaws
 pub mod RequestLaws
+pub mod NameLaws

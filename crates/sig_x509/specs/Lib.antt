@@ -17,3 +17,4 @@ pub mod Single
 pub mod Claim
 pub mod Identities
 pub mod Requests
+pub mod AlternativeNames

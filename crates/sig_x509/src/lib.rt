@@ -6,6 +6,7 @@ mod certificate;
 mod error;
 mod extensions;
 mod lookup;
+pub mod name_laws;
 mod names;
 mod parts;
 mod pem;
