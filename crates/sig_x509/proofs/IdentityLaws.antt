@@ -5,17 +5,9 @@ use Rattle.std.specs.Prelude.{Bool, map}
 use Rattle.std.specs.List.{filter_map, flat_map, list_any, join_by}
 use Rattle.std.proofs.lemmas.List.{append-nil}
 use Rattle.std.proofs.lemmas.List.Elements.{filter_map-append}
-use Rattle.sig_der.specs.Taking.{◌>>=◌, take_any, many_at}
-use Rattle.sig_der.proofs.Takings.{bind_is, some, some_is, take_any_shrinks}
+use Rattle.sig_der.specs.Taking.{◌>>=◌, many_at}
+use Rattle.sig_der.proofs.Takings.{some}
 use Rattle.sig_der.proofs.Many.{Shrinks, many_at_none, many_at_more, many_at_stops}
-use Rattle.sig_x509.specs.Names.{Name, name_of, name_at}
-
-pub name_shrinks : Shrinks name_at
-unfolding name_at
-name_shrinks bytes y e =
-    let x = bind_is (take_any bytes) _ y e in
-    let n = bind_is (name_of x.0.0.tag x.0.0.content) _ y x.2 in
-    subst (λ (w : Name × List ℕ). length w.1 < length bytes) (some_is _ y n.2) (take_any_shrinks bytes x.0 x.1)
 
 -- what was kept before, and then what is kept of the rest
 abbrev pub kept : {A B : Type 0} → (A → Option B) → List B → Option (List A) → Option (List B)

@@ -13,3 +13,7 @@ pub mod Readings
 pub mod HeldLaws
 pub mod WalkLaws
 pub mod PemLaws
+pub mod Utf8
+pub mod IdentityLaws
+pub mod RequestLaws
+pub mod NameLaws

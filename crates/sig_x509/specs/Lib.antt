@@ -18,3 +18,11 @@ pub mod Trust
 pub mod Pem
 pub mod Precert
 pub mod SctBytes
+pub mod Texts
+pub mod Failures
+pub mod Verdict
+pub mod Single
+pub mod Claim
+pub mod Identities
+pub mod Requests
+pub mod AlternativeNames

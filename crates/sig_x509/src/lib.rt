@@ -9,10 +9,14 @@ mod key;
 mod keyring;
 mod keyring_error;
 mod lookup;
+pub mod name_laws;
 mod names;
 mod opaque;
 mod parts;
 mod pem;
+mod policy;
+#[cfg(test)]
+mod policy_tests;
 mod profile;
 mod profile_error;
 mod reading;
@@ -36,6 +40,12 @@ pub use keyring::Keyring;
 pub use keyring_error::KeyringError;
 pub use lookup::{ExtensionRef, Lookup};
 pub use pem::der_to_pem;
+pub use policy::{
+    GitHubWorkflowName, GitHubWorkflowRef, GitHubWorkflowRepository, GitHubWorkflowSHA,
+    GitHubWorkflowTrigger, Identity, LeafPolicies, LeafPolicy, OIDCIssuer, PolicyError,
+    PolicyErrors, PolicyResult, RequestPolicy, SingleX509ExtPolicy, VerificationPolicy,
+    verify_single,
+};
 pub use profile::{is_ca, is_leaf, is_root_ca};
 pub use sct_error::{CertificateErrorKind, SCTError};
 pub use signed::{DigitallySigned, verify_sct};

@@ -6,7 +6,8 @@ use Rattle.sig_der.proofs.Ranges.{part-none, part-some}
 use Rattle.sig_x509.specs.Names.{name_at}
 use Rattle.sig_x509.specs.NamePlaces.{placed_name}
 use Rattle.sig_x509.specs.Identities.{identity_of}
-use Rattle.sig_x509.proofs.IdentityLaws.{name_shrinks, kept_takes, kept_passes, kept_ends, kept_fails}
+use Rattle.sig_x509.proofs.WalkLaws.{name_at_shrinks}
+use Rattle.sig_x509.proofs.IdentityLaws.{kept_takes, kept_passes, kept_ends, kept_fails}
 use Rattle.sig_x509.proofs.policy.identities.identities_at.Goals as goal
 
 pub returns-in-None : goal.returns-in-None
@@ -26,8 +27,8 @@ loop-next-preserved-in-Continue-1 c =
     record {
       inside = c.in-Some.ensures.before;
       all = rw (c.in_ok-push-in-Some-identity_of.ensures.items, map-append (λ (t : Bor (List ℕ)). t.now) c.loop-next.found.items (text ∷ []))
-      (kept_takes name_at name_shrinks identity_of (map (λ (t : Bor (List ℕ)). t.now) c.loop-next.found.items) (slice_range bytes c.loop-next.next c.args.end)
-      (placed_name bytes c.args.end (c.in-Some.name, c.in-Some.after)) text.now c.in-Some.ensures.cut (sym c.in-Some-identity_of.ensures) ∙ c.loop-next.invariant.all);
+          (kept_takes name_at name_at_shrinks identity_of (map (λ (t : Bor (List ℕ)). t.now) c.loop-next.found.items) (slice_range bytes c.loop-next.next c.args.end)
+          (placed_name bytes c.args.end (c.in-Some.name, c.in-Some.after)) text.now c.in-Some.ensures.cut (sym c.in-Some-identity_of.ensures) ∙ c.loop-next.invariant.all);
     }
 
 pub loop-next-preserved : goal.loop-next-preserved
@@ -35,6 +36,6 @@ loop-next-preserved c =
     let bytes = c.args.bytes.now in
     record {
       inside = c.in-Some.ensures.before;
-      all = kept_passes name_at name_shrinks identity_of (map (λ (t : Bor (List ℕ)). t.now) c.loop-next.found.items) (slice_range bytes c.loop-next.next c.args.end)
-      (placed_name bytes c.args.end (c.in-Some.name, c.in-Some.after)) c.in-Some.ensures.cut (sym c.in-None-identity_of.ensures) ∙ c.loop-next.invariant.all;
+      all = kept_passes name_at name_at_shrinks identity_of (map (λ (t : Bor (List ℕ)). t.now) c.loop-next.found.items) (slice_range bytes c.loop-next.next c.args.end)
+          (placed_name bytes c.args.end (c.in-Some.name, c.in-Some.after)) c.in-Some.ensures.cut (sym c.in-None-identity_of.ensures) ∙ c.loop-next.invariant.all;
     }
