@@ -13,3 +13,4 @@ pub mod Readings
 pub mod HeldLaws
 pub mod WalkLaws
 pub mod PemLaws
+pub mod IssuanceLaws

@@ -18,3 +18,4 @@ pub mod Trust
 pub mod Pem
 pub mod Precert
 pub mod SctBytes
+pub mod Issuance
