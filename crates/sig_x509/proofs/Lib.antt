@@ -17,3 +17,4 @@ pub mod Utf8
 pub mod IdentityLaws
 pub mod RequestLaws
 pub mod NameLaws
+pub mod IssuanceLaws

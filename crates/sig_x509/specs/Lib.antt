@@ -26,3 +26,4 @@ pub mod Claim
 pub mod Identities
 pub mod Requests
 pub mod AlternativeNames
+pub mod Issuance

@@ -5,6 +5,7 @@
 mod certificate;
 mod error;
 mod extensions;
+mod issuance;
 mod key;
 mod keyring;
 mod keyring_error;
@@ -17,6 +18,7 @@ mod pem;
 mod policy;
 #[cfg(test)]
 mod policy_tests;
+mod pool;
 mod profile;
 mod profile_error;
 mod reading;
@@ -46,6 +48,7 @@ pub use policy::{
     PolicyErrors, PolicyResult, RequestPolicy, SingleX509ExtPolicy, VerificationPolicy,
     verify_single,
 };
+pub use pool::CertificatePool;
 pub use profile::{is_ca, is_leaf, is_root_ca};
 pub use sct_error::{CertificateErrorKind, SCTError};
 pub use signed::{DigitallySigned, verify_sct};

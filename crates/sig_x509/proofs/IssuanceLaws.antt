@@ -1,0 +1,109 @@
+-- How often an object identifier stands, by what a look-up finds; lists of extensions, and of anchors, that grow.
+use Rattle.std.proofs.Common.{◌≡◌, ℕ, ◌+◌, ◌<◌, ◌≤◌, Bool, true, false, ◌&&◌, cond, List, [], ◌∷◌, ◌++◌, length, take, get_or, ℤ, Option, Some, None, Result, Ok, Err, inr, refl, sym, ap, subst, ◌∙◌, arith}
+use Rattle.std.specs.Prelude.{nat_lt, nat_eq, slice_get, position, is_err, OnOk, MatchOption}
+use Rattle.std.specs.List.{list_all}
+use Rattle.std.proofs.lemmas.Bool.{le-ltb, ne_eqb}
+use Rattle.std.proofs.lemmas.List.{take_more}
+use Rattle.std.proofs.lemmas.List.Folds.{list_all_more, list_all_at}
+use Rattle.std.proofs.lemmas.Option.{slice_get_within, slice_get-get_or, get_or_from_slice_get}
+use Rattle.sig_x509.specs.declared.error.X509ReadError.{X509ReadError}
+use Rattle.sig_x509.specs.declared.error.X509ReadError.TheVariants.{Der, OutOfMemory as NoMemory}
+use Rattle.sig_x509.specs.Answers.{IsRefusedOnlyWithout}
+use Rattle.sig_x509.specs.Certificate.{Extension, Cert, IsCertificate}
+use Rattle.sig_base.specs.Answers.{Answers}
+use Rattle.sig_base.specs.declared.memory.OutOfMemory.{OutOfMemory as Memory}
+use Rattle.sig_base.specs.declared.fault.PoolError.{PoolError}
+use Rattle.sig_base.specs.declared.fault.PoolError.TheVariants.{Malformed, OutOfMemory}
+use Rattle.sig_x509.specs.Issuance.{Accepts, placed, is_issued, is_profiled, issuer_of, is_unconstrained, IsAnchor, IsNoAnchor, AreAnchors}
+
+pub single_absent : (es : List Extension) → es ≡ [] → nat_lt (length es) 2 ≡ true
+single_absent es is = rw is refl
+
+pub single_one : (es : List Extension) (e : Extension) → es ≡ e ∷ [] → nat_lt (length es) 2 ≡ true
+single_one es e is = rw is refl
+
+pub single_several : (es : List Extension) → 2 ≤ length es → nat_lt (length es) 2 ≡ false
+single_several es le = le-ltb (length es) 2 le
+
+pub none_absent : (es : List Extension) → es ≡ [] → nat_eq (length es) 0 ≡ true
+none_absent es is = rw is refl
+
+pub none_one : (es : List Extension) (e : Extension) → es ≡ e ∷ [] → nat_eq (length es) 0 ≡ false
+none_one es e is = rw is refl
+
+pub none_several : (es : List Extension) → 2 ≤ length es → nat_eq (length es) 0 ≡ false
+none_several es le = ne_eqb (length es) 0 (λ is. omega (arith, le, is))
+
+-- ---- a list up to a place
+
+pub within_list : {X : Type 0} (xs : List X) (place : ℕ) → place < length xs → slice_get xs place ≡ None → ⊥
+within_list [] place lt none = omega (arith, lt)
+within_list (x ∷ xs) place lt none = let some = slice_get-get_or (x ∷ xs) place x lt in let no = sym none ∙ some in absurd cc
+
+at_place : {X : Type 0} (xs : List X) (place : ℕ) (x : X) → slice_get xs place ≡ Some x → get_or xs place x ≡ x
+at_place xs place x got = get_or_from_slice_get xs place x x got
+
+pub all_more : {X : Type 0} (p : X → Bool) (xs : List X) (place : ℕ) (x : X) → slice_get xs place ≡ Some x → p x ≡ true
+    → list_all p (take place xs) ≡ true → list_all p (take (place + 1) xs) ≡ true
+all_more p xs place x got is before =
+    list_all_more p xs place x (slice_get_within xs place x got) ∙ rw (before, at_place xs place x got, is) refl
+
+pub all_fails : {X : Type 0} (p : X → Bool) (xs : List X) (place : ℕ) (x : X) → slice_get xs place ≡ Some x → p x ≡ false → list_all p xs ≡ false
+all_fails p xs place x got is = list_all_at p xs place x (slice_get_within xs place x got) (rw (at_place xs place x got) is)
+
+-- ---- anchors
+
+anchors_push : (ts : List (List ℕ)) (cs : List Cert) (t : List ℕ) (c : Cert) → AreAnchors ts cs → IsAnchor t c → AreAnchors (ts ++ t ∷ []) (cs ++ c ∷ [])
+anchors_push [] [] t c are is = (is, tt)
+anchors_push (u ∷ ts) (d ∷ cs) t c are is = (are.0, anchors_push ts cs t c are.1 is)
+anchors_push [] (d ∷ cs) t c are is = absurd are
+anchors_push (u ∷ ts) [] t c are is = absurd are
+
+pub anchors_more : (ts : List (List ℕ)) (place : ℕ) (t : List ℕ) (c : Cert) (before after : List Cert) → slice_get ts place ≡ Some t → IsAnchor t c
+    → after ≡ before ++ c ∷ [] → AreAnchors (take place ts) before → AreAnchors (take (place + 1) ts) after
+anchors_more ts place t c before after got is grown are =
+    rw (grown, take_more ts place t (slice_get_within ts place t got), at_place ts place t got) (anchors_push (take place ts) before t c are is)
+
+-- ---- what was read is the only certificate of its text
+
+read_same : (c d : Cert) → Some d ≡ Some c → d ≡ c
+read_same c d same = ap (λ (o : Option Cert). option_or_else c o) same
+  where
+    option_or_else : Cert → Option Cert → Cert
+    option_or_else x None = x
+    option_or_else x (Some y) = y
+
+pub no_anchor : (c d : Cert) (b : Bool) → Some d ≡ Some c → b ≡ false → b ≡ is_unconstrained c → is_unconstrained d ≡ true → ⊥
+no_anchor c d b same answer is un =
+    let wrong : true ≡ false = sym un ∙ ap (λ (x : Cert). is_unconstrained x) (read_same c d same) ∙ sym is ∙ answer in
+    absurd cc
+
+pub der_only : (text : List ℕ) (e : X509ReadError) → e ≡ Der → IsRefusedOnlyWithout text e → (d : Cert) → IsCertificate text d → ⊥
+der_only text Der is none = none
+der_only text NoMemory is none = absurd cc
+
+pub is_anchor : (text : List ℕ) (c : Cert) (o : Option Cert) → o ≡ Some c → MatchOption o (IsNoAnchor text) (IsAnchor text) → IsAnchor text c
+is_anchor text c (Some d) same is = subst (λ (x : Cert). IsAnchor text x) (read_same c d same) is
+is_anchor text c None same is = absurd cc
+
+pub pushed : {P : Type 0} (r : Result (Unit {0}) Memory) → OnOk r P → is_err r ≡ false → P
+pushed (Ok x) is done = is
+pushed (Err e) is done = absurd cc
+
+-- ---- the issuer
+
+pub judged : (accepts : Accepts) (anchors : List Cert) (c : Cert) (t s : ℤ) (b : Bool) (o : Option ℕ) → s ≡ t → b ≡ true → b ≡ is_profiled c
+    → o ≡ position (is_issued accepts c s) anchors → placed o ≡ issuer_of accepts anchors c t
+judged accepts anchors c t s b o time profiled is found =
+    ap placed (found ∙ ap (λ (x : ℤ). position (is_issued accepts c x) anchors) time)
+    ∙ sym (ap (λ (x : Bool). cond x (placed (position (is_issued accepts c t) anchors)) (Err Malformed)) (sym is ∙ profiled))
+
+answers_itself : (r m : Result ℕ PoolError) → r ≡ m → Answers OutOfMemory (λ (place : ℕ). place) r m
+answers_itself (Ok place) m e = sym e
+answers_itself (Err x) m e = inr (sym e)
+
+pub answered : (accepts : Accepts) (anchors : List Cert) (t s : ℤ) (leaf c : Cert) (r : Result ℕ PoolError) → s ≡ t → Some c ≡ Some leaf
+    → r ≡ issuer_of accepts anchors leaf s → Answers OutOfMemory (λ (place : ℕ). place) r (issuer_of accepts anchors c t)
+answered accepts anchors t s leaf c r time same is =
+    answers_itself r (issuer_of accepts anchors c t)
+    (is ∙ ap (λ (x : ℤ). issuer_of accepts anchors leaf x) time ∙ ap (λ (x : Cert). issuer_of accepts anchors x t) (sym (read_same leaf c same)))

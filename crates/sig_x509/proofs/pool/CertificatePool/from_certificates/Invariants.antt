@@ -1,0 +1,7 @@
+use Rattle.std.proofs.Common.{take}
+use Rattle.sig_x509.specs.Issuance.{AreAnchors}
+use Rattle.sig_x509.proofs.pool.CertificatePool.from_certificates.Given as goal
+
+-- the anchors so far are those of the texts so far
+abbrev pub invariant-loop-place : goal.invariant-loop-place
+invariant-loop-place l = AreAnchors (take l.place l.trusted_roots) l.anchors

@@ -1,0 +1,117 @@
+-- *Issuance*: which certificates may be issued, and by which anchor. RFC 5280 sections 4.2 and 6.1, in the profile of Sigstore.
+use Rattle.std.specs.Prelude.{⊤, ◌≡◌, ℕ, ℤ, List, [], ◌∷◌, length, take, slice_get, Bool, true, false, not, ◌&&◌, ◌||◌, Option, Some, None, Result, Ok, Err, position, int_le, nat_lt, ◌==◌, if◌then◌else◌}
+use Rattle.std.specs.Str.{bytes_eq}
+use Rattle.std.specs.List.{list_all}
+use Rattle.sig_base.specs.declared.fault.PoolError.{PoolError}
+use Rattle.sig_base.specs.declared.fault.PoolError.TheVariants.{Anchor, Malformed, VerificationFailed, OutOfMemory}
+use Rattle.sig_der.specs.declared.oid.TheConstants.{KEY_USAGE, EXTENDED_KEY_USAGE, BASIC_CONSTRAINTS, SUBJECT_ALTERNATIVE_NAME, NAME_CONSTRAINTS}
+use Rattle.sig_x509.specs.declared.values.BasicConstraints.{BasicConstraints as Constraints}
+use Rattle.sig_x509.specs.Certificate.{Extension, Cert, IsCertificate}
+use Rattle.sig_x509.specs.Lookups.{with_oid}
+use Rattle.sig_x509.specs.Profile.{Held, constraints, code_signing}
+use Rattle.sig_x509.specs.Trust.{may_sign_code}
+
+-- ---- extensions, RFC 5280 section 4.2
+
+-- the extensions that may be critical
+abbrev pub may_be_critical : List ℕ → Bool
+may_be_critical oid =
+    bytes_eq oid KEY_USAGE.now || (bytes_eq oid SUBJECT_ALTERNATIVE_NAME.now || (bytes_eq oid BASIC_CONSTRAINTS.now || bytes_eq oid EXTENDED_KEY_USAGE.now))
+
+-- a critical extension that is not known refuses the certificate
+abbrev pub is_understood : Extension → Bool
+is_understood e = not e.critical || may_be_critical e.oid
+
+-- no other of these extensions has the object identifier of this one
+abbrev pub is_single : List Extension → Extension → Bool
+is_single es e = nat_lt (length (with_oid e.oid es)) 2
+
+abbrev pub are_single : List Extension → Bool
+are_single es = list_all (is_single es) es
+
+abbrev pub are_understood : List Extension → Bool
+are_understood es = list_all is_understood es
+
+-- name constraints, section 4.2.1.10, are not read: no certificate here may have them
+abbrev pub is_unconstrained : Cert → Bool
+is_unconstrained c = length (with_oid NAME_CONSTRAINTS.now c.extensions) == 0
+
+-- ---- what may be issued
+
+-- *Fit*: version 3, the two algorithms equal byte for byte (section 4.1.1.2), and extensions that can be judged
+abbrev pub is_fit : Cert → Bool
+is_fit c =
+    (c.version == 3) && (bytes_eq c.inner_algorithm c.algorithm
+    && (is_unconstrained c && (are_understood c.extensions && are_single c.extensions)))
+
+-- basic constraints, section 4.2.1.9, are absent, or well formed and not cA
+abbrev pub is_no_authority : Held (Bool × Constraints) → Bool
+is_no_authority (Err e) = false
+is_no_authority (Ok None) = true
+is_no_authority (Ok (Some b)) = not b.1.ca
+
+-- *Profile*
+abbrev pub is_profiled : Cert → Bool
+is_profiled c = is_fit c && is_no_authority (constraints c)
+
+-- ---- who issued it
+
+-- the bodies and signatures that a checker accepts under a key info and an algorithm
+abbrev pub Accepts : Type 0
+Accepts = List ℕ → List ℕ → List ℕ → List ℕ → Bool
+
+-- *Signed*: the issuer is the subject of x byte for byte, and the signature is genuine under the key of x (section 6.1.3)
+abbrev pub is_signed : Accepts → Cert → Cert → Bool
+is_signed accepts c x = bytes_eq c.issuer x.subject && accepts x.spki c.algorithm c.tbs c.signature
+
+-- the time is within the validity, its first and its last second included (section 4.1.2.5)
+abbrev pub is_within : Cert → ℤ → Bool
+is_within c t = int_le c.not_before t && int_le t c.not_after
+
+-- a certificate of code signing, at a time of its validity
+abbrev pub signs_code_at : Cert → ℤ → Bool
+signs_code_at c t = is_within c t && may_sign_code (code_signing c)
+
+-- *Issued*: x issued c, which signs code at the time t
+abbrev pub is_issued : Accepts → Cert → ℤ → Cert → Bool
+is_issued accepts c t x = signs_code_at c t && is_signed accepts c x
+
+abbrev pub placed : Option ℕ → Result ℕ PoolError
+placed None = Err VerificationFailed
+placed (Some place) = Ok place
+
+-- the place of the first anchor that issued c, which signs code at the time t
+abbrev pub issuer_of : Accepts → List Cert → Cert → ℤ → Result ℕ PoolError
+issuer_of accepts anchors c t = if is_profiled c then placed (position (is_issued accepts c t) anchors) else Err Malformed
+
+-- ---- anchors
+
+-- the text of an anchor: a certificate without name constraints
+pub record IsAnchor (text : List ℕ) (c : Cert) : Type 0 where
+  pub certificate : IsCertificate text c
+  pub unconstrained : is_unconstrained c ≡ true
+
+abbrev pub IsNoAnchor : List ℕ → Type 0
+IsNoAnchor text = (c : Cert) → IsAnchor text c → ⊥
+
+-- the texts are those of the anchors, one by one
+abbrev pub AreAnchors : List (List ℕ) → List Cert → Type 0
+AreAnchors [] [] = ⊤
+AreAnchors (t ∷ ts) (c ∷ cs) = IsAnchor t c × AreAnchors ts cs
+AreAnchors [] (c ∷ cs) = ⊥
+AreAnchors (t ∷ ts) [] = ⊥
+
+-- the text at this place is the first that is no anchor
+pub record IsFirstNoAnchor (texts : List (List ℕ)) (place : ℕ) : Type 0 where
+  pub anchors : List Cert
+  pub before : AreAnchors (take place texts) anchors
+  pub text : List ℕ
+  pub there : slice_get texts place ≡ Some text
+  pub no : IsNoAnchor text
+
+-- why a pool of these texts is refused
+abbrev pub IsPoolRefusal : List (List ℕ) → PoolError → Type 0
+IsPoolRefusal texts (Anchor place) = IsFirstNoAnchor texts place
+IsPoolRefusal texts OutOfMemory = ⊤
+IsPoolRefusal texts Malformed = ⊥
+IsPoolRefusal texts VerificationFailed = ⊥

@@ -1,0 +1,164 @@
+//! Which certificates may be issued, and by which anchor: RFC 5280 sections 4.2 and 6.1, in the profile of Sigstore.
+
+ghost use Rattle.std.specs.Prelude.{◌≡◌};
+ghost use Rattle.sig_x509.specs.Lookups.{lent, with_oid};
+ghost use Rattle.sig_x509.specs.Profile.{constraints, code_signing};
+ghost use Rattle.sig_x509.specs.Trust.{may_sign_code};
+ghost use Rattle.sig_x509.specs.Issuance.{may_be_critical, is_understood, is_single, are_single, are_understood, is_unconstrained, is_fit, is_no_authority, is_profiled, is_signed, signs_code_at, is_issued};
+
+use crate::certificate::Certificate;
+use crate::lookup::{ExtensionRef, Lookup};
+use crate::profile::{basic_constraints, code_signing};
+use sig_base::SignatureChecker;
+use sig_der::oid::{
+    BASIC_CONSTRAINTS, EXTENDED_KEY_USAGE, KEY_USAGE, NAME_CONSTRAINTS, SUBJECT_ALTERNATIVE_NAME,
+};
+
+fn may_be_critical(oid: &[u8]) -> bool
+    ensures { result ≡ may_be_critical oid.now }
+{
+    oid == KEY_USAGE
+        || oid == SUBJECT_ALTERNATIVE_NAME
+        || oid == BASIC_CONSTRAINTS
+        || oid == EXTENDED_KEY_USAGE
+}
+
+/// Whether who does not know the extension may accept its certificate.
+fn is_understood(extension: &ExtensionRef<'_>) -> bool
+    ensures { result ≡ is_understood (lent extension.now) }
+{
+    !extension.critical || may_be_critical(extension.oid)
+}
+
+/// Whether no other extension of the certificate has the object identifier of this one.
+#[tactic(auto, using(crate::proofs::IssuanceLaws::single_absent, crate::proofs::IssuanceLaws::single_one, crate::proofs::IssuanceLaws::single_several))]
+fn is_single(certificate: &Certificate, extension: &ExtensionRef<'_>) -> bool
+    ensures { result ≡ is_single certificate.now.extensions (lent extension.now) }
+{
+    match certificate.extension(extension.oid) {
+        Lookup::Absent => true,
+        Lookup::One(_) => true,
+        Lookup::Several => false,
+    }
+}
+
+/// Whether each critical extension is one that may be critical.
+fn are_understood(certificate: &Certificate) -> bool
+    ensures { result ≡ are_understood certificate.now.extensions }
+{
+    for place in 0..certificate.extension_count() {
+        match certificate.extension_at(place) {
+            None => {}
+            Some(extension) => {
+                if !is_understood(&extension) {
+                    return false;
+                }
+            }
+        }
+    }
+    true
+}
+
+/// Whether no object identifier stands twice. It looks each one up among all: the time is quadratic, and no memory is taken.
+fn are_single(certificate: &Certificate) -> bool
+    ensures { result ≡ are_single certificate.now.extensions }
+{
+    for place in 0..certificate.extension_count() {
+        match certificate.extension_at(place) {
+            None => {}
+            Some(extension) => {
+                if !is_single(certificate, &extension) {
+                    return false;
+                }
+            }
+        }
+    }
+    true
+}
+
+/// Whether the certificate has no name constraints.
+#[tactic(auto, using(crate::proofs::IssuanceLaws::none_absent, crate::proofs::IssuanceLaws::none_one, crate::proofs::IssuanceLaws::none_several))]
+pub(crate) fn is_unconstrained(certificate: &Certificate) -> bool
+    ensures { result ≡ is_unconstrained certificate.now }
+{
+    match certificate.extension(NAME_CONSTRAINTS) {
+        Lookup::Absent => true,
+        Lookup::One(_) => false,
+        Lookup::Several => false,
+    }
+}
+
+fn is_fit(certificate: &Certificate) -> bool
+    ensures { result ≡ is_fit certificate.now }
+{
+    certificate.version() == 3
+        && certificate.inner_algorithm() == certificate.algorithm()
+        && is_unconstrained(certificate)
+        && are_understood(certificate)
+        && are_single(certificate)
+}
+
+fn is_no_authority(certificate: &Certificate) -> bool
+    ensures { result ≡ is_no_authority (constraints certificate.now) }
+{
+    match basic_constraints(certificate) {
+        Ok(Some((_, found))) => !found.ca,
+        Ok(None) => true,
+        Err(_) => false,
+    }
+}
+
+/// Whether the certificate has the profile of what an anchor may issue.
+pub(crate) fn is_profiled(certificate: &Certificate) -> bool
+    ensures { result ≡ is_profiled certificate.now }
+{
+    is_fit(certificate) && is_no_authority(certificate)
+}
+
+fn may_sign_code(certificate: &Certificate) -> bool
+    ensures { result ≡ may_sign_code (code_signing certificate.now) }
+{
+    match code_signing(certificate) {
+        Ok(Some(found)) => found,
+        Ok(None) => false,
+        Err(_) => false,
+    }
+}
+
+/// Whether the certificate may sign code at the time, in seconds since 1970.
+pub(crate) fn signs_code_at(certificate: &Certificate, time: i64) -> bool
+    ensures { result ≡ signs_code_at certificate.now time }
+{
+    certificate.not_before() <= time
+        && time <= certificate.not_after()
+        && may_sign_code(certificate)
+}
+
+/// Whether the anchor signed the certificate. The checker is asked only where the anchor's name is that of the issuer.
+pub(crate) fn is_signed<C: SignatureChecker>(
+    certificate: &Certificate,
+    anchor: &Certificate,
+    checker: &C,
+) -> bool
+    ensures { result ≡ is_signed (C.cert_accepts checker.now) certificate.now anchor.now }
+{
+    certificate.issuer() == anchor.subject()
+        && checker.verify_cert_signature(
+            anchor.spki(),
+            certificate.algorithm(),
+            certificate.tbs(),
+            certificate.signature(),
+        )
+}
+
+/// Whether the anchor issued the certificate, which signs code at the time, in seconds since 1970. The checker is asked last.
+pub(crate) fn is_issued<C: SignatureChecker>(
+    certificate: &Certificate,
+    time: i64,
+    anchor: &Certificate,
+    checker: &C,
+) -> bool
+    ensures { result ≡ is_issued (C.cert_accepts checker.now) certificate.now time anchor.now }
+{
+    signs_code_at(certificate, time) && is_signed(certificate, anchor, checker)
+}

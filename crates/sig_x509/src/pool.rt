@@ -1,0 +1,149 @@
+//! `CertificatePool`: the anchors that may have issued a certificate.
+
+ghost use Rattle.std.specs.Prelude.{◌≡◌, ℕ, Err, option_map, slice_get, position, MatchOption, IfOk, IfErr};
+ghost use Rattle.sig_base.specs.Answers.{Answers};
+ghost use Rattle.sig_x509.specs.Certificate.{Cert, IsCertificate};
+ghost use Rattle.sig_x509.specs.Issuance.{is_issued, issuer_of, IsAnchor, IsNoAnchor, AreAnchors, IsPoolRefusal};
+
+use crate::certificate::Certificate;
+use crate::error::X509ReadError;
+use crate::issuance::{is_issued, is_profiled, is_unconstrained};
+use sig_base::{Entries, OutOfMemory, PoolError, Register, SignatureChecker};
+use std::alloc::Global;
+use std::marker::Model;
+
+/// Anchors, in order: certificates that are trusted by themselves, and have no name constraints. Contracts see the list of their
+/// records.
+#[derive(Drop)]
+pub struct CertificatePool {
+    anchors: Register<Certificate>,
+}
+
+impl Model for CertificatePool {
+    ghost use Rattle.std.specs.Prelude.{List};
+    ghost use Rattle.sig_x509.specs.Certificate.{Cert};
+
+    ghost Value = { List Cert };
+
+    ghost view = { λ p. p.anchors };
+}
+
+/// The anchor that the bytes are. None exactly where they are none. Refuses for want of memory alone.
+fn read_anchor(alloc: Global, der: &[u8]) -> Result<Option<Certificate>, OutOfMemory>
+    ensures { IfOk result (λ o. MatchOption o (IsNoAnchor der.now) (IsAnchor der.now)) }
+{
+    match Certificate::try_from_der(alloc, der) {
+        Ok(anchor) => {
+            if is_unconstrained(&anchor) {
+                Ok(Some(anchor))
+            } else {
+                Ok(None)
+            }
+        }
+        Err(X509ReadError::Der) => Ok(None),
+        Err(X509ReadError::OutOfMemory) => Err(OutOfMemory),
+    }
+}
+
+impl CertificatePool {
+    /// The pool of these anchors (DER). `Anchor` with the place of the first that is no certificate or has name constraints;
+    /// `OutOfMemory` for want of memory.
+    pub fn from_certificates(
+        alloc: Global,
+        trusted_roots: &Entries,
+    ) -> Result<CertificatePool, PoolError>
+        // The anchors are those of the texts, one by one.
+        ensures anchors { IfOk result (AreAnchors trusted_roots.now) }
+        // A refusal names the first text that is no anchor, unless memory ran out.
+        ensures refusal { IfErr result (IsPoolRefusal trusted_roots.now) }
+    {
+        let mut anchors = Register::new(alloc);
+        for place in 0..trusted_roots.len() {
+            match trusted_roots.get(place) {
+                None => {}
+                Some(der) => match read_anchor(alloc, der) {
+                    Ok(Some(anchor)) => {
+                        if anchors.push(anchor).is_err() {
+                            return Err(PoolError::OutOfMemory);
+                        }
+                    }
+                    Ok(None) => return Err(PoolError::Anchor(place)),
+                    Err(OutOfMemory) => return Err(PoolError::OutOfMemory),
+                },
+            }
+        }
+        Ok(CertificatePool { anchors })
+    }
+
+    /// The place of the first anchor that issued the leaf, which signs code at the time.
+    fn first_issuer<C: SignatureChecker>(
+        &self,
+        leaf: &Certificate,
+        time: i64,
+        checker: &C,
+    ) -> Option<usize>
+        ensures { result ≡ position (is_issued (C.cert_accepts checker.now) leaf.now time) self.now }
+    {
+        self.anchors
+            .as_slice()
+            .iter()
+            .position(|anchor| is_issued(leaf, time, anchor, checker))
+    }
+
+    /// The place of the first anchor that issued the leaf, which signs code at the time, in seconds since 1970 (RFC 5280 section
+    /// 6.1). It takes no memory, and asks the checker only of anchors whose name is that of the leaf's issuer.
+    ///
+    /// `Malformed` exactly where the leaf has not the profile: version 3, two equal algorithms, no object identifier of
+    /// extensions twice, no critical extensions but key usage, alternative names, basic constraints and extended key usage, no name
+    /// constraints, and basic constraints that are absent, or well formed and not cA. Then `VerificationFailed` exactly where no
+    /// anchor issued it.
+    pub fn verify_cert_with_time<C: SignatureChecker>(
+        &self,
+        leaf: &Certificate,
+        verification_time: i64,
+        checker: &C,
+    ) -> Result<usize, PoolError>
+        ensures { result ≡ issuer_of (C.cert_accepts checker.now) self.now leaf.now verification_time }
+    {
+        if !is_profiled(leaf) {
+            return Err(PoolError::Malformed);
+        }
+        match self.first_issuer(leaf, verification_time, checker) {
+            Some(place) => Ok(place),
+            None => Err(PoolError::VerificationFailed),
+        }
+    }
+
+    /// The place of the first anchor that issued the certificate that the bytes are: the answers of `verify_cert_with_time`, and
+    /// `Malformed` also exactly where the bytes are no certificate. `OutOfMemory` where the certificate could not be read for want
+    /// of memory.
+    pub fn verify_der_cert<C: SignatureChecker>(
+        &self,
+        alloc: Global,
+        der: &[u8],
+        verification_time: i64,
+        checker: &C,
+    ) -> Result<usize, PoolError>
+        // Of a certificate, the answer is that of its record.
+        ensures certificate { (c : Cert) → IsCertificate der.now c → Answers PoolError.OutOfMemory (λ place. place) result (issuer_of (C.cert_accepts checker.now) self.now c verification_time) }
+        // Bytes that are no certificate are malformed.
+        ensures none { ((c : Cert) → IsCertificate der.now c → ⊥) → Answers PoolError.OutOfMemory (λ (place : ℕ). place) result (Err PoolError.Malformed) }
+    {
+        match Certificate::try_from_der(alloc, der) {
+            Ok(leaf) => self.verify_cert_with_time(&leaf, verification_time, checker),
+            Err(X509ReadError::Der) => Err(PoolError::Malformed),
+            Err(X509ReadError::OutOfMemory) => Err(PoolError::OutOfMemory),
+        }
+    }
+
+    /// The key info (DER) of the anchor at this place, counted from 0. None exactly where the place is not below the number of
+    /// anchors.
+    pub fn anchor_spki(&self, place: usize) -> Option<&[u8]>
+        ensures { option_map (λ s. s.now) result ≡ option_map (λ c. c.spki) (slice_get self.now place) }
+    {
+        match self.anchors.get(place) {
+            Some(anchor) => Some(anchor.spki()),
+            None => None,
+        }
+    }
+}
