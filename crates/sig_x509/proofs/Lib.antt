@@ -9,4 +9,5 @@ pub mod KeyringLaws
 pub mod VectorLaws
 pub mod SctLaws
 pub mod OnlyOne
+pub mod PrecertLaws
 pub mod Readings

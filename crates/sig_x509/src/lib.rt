@@ -11,6 +11,7 @@ mod keyring_error;
 mod lookup;
 mod opaque;
 mod parts;
+mod precert;
 mod profile_error;
 mod reading;
 mod sct_error;
@@ -28,6 +29,7 @@ pub use keyring_error::KeyringError;
 pub use lookup::{ExtensionRef, Lookup};
 pub use sct_error::{CertificateErrorKind, SCTError};
 pub use signed::{DigitallySigned, verify_sct};
+pub use precert::precert_tbs_der;
 pub use profile_error::{
     CertificateValidationError, ExtensionErrorKind, NotCAErrorKind, NotLeafErrorKind, PartName,
 };
