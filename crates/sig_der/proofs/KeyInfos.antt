@@ -73,14 +73,17 @@ algorithm_at_takes bytes fits y e =
     let inner = first_fits _ _ _ _ bytes tx fits in
     let to = (take_tag_takes 6 x.0.0.content inner o.0 o.1).0 in
     let tp = one_takes o.0.1 (rest_fits _ _ _ _ x.0.0.content to inner) p.0 p.1 in
-    subst (λ (w : Algorithm × List ℕ). TakesAlgorithm bytes w) (some_is _ y g.1) (record {
-      oid_text = o.0.0.whole;
-      parameters_text = o.0.1;
-      whole = subst (λ (w : List ℕ). IsElement x.0.0.whole 48 w) to.parts tx.is;
-      oid = to.is;
-      named = some_left o.0.0.content g.0;
-      parameters = tp;
-    }, tx.parts)
+    subst (λ (w : Algorithm × List ℕ). TakesAlgorithm bytes w) (some_is _ y g.1) (
+      record {
+        oid_text = o.0.0.whole;
+        parameters_text = o.0.1;
+        whole = subst (λ (w : List ℕ). IsElement x.0.0.whole 48 w) to.parts tx.is;
+        oid = to.is;
+        named = some_left o.0.0.content g.0;
+        parameters = tp;
+      },
+      tx.parts,
+    )
 
 pub algorithm_at_again : (a : Algorithm) (rest bytes : List ℕ) → IsAlgorithm a → bytes ≡ a.whole ++ rest → algorithm_at bytes ≡ Some (a, rest)
 unfolding algorithm_at
@@ -128,12 +131,15 @@ key_info_at_takes bytes fits y e =
     let inner = first_fits _ _ _ _ bytes tx fits in
     let ta = algorithm_at_takes x.0.0.content inner a.0 a.1 in
     let bits_fit = IsBytes-right a.0.0.whole a.0.1 (subst (λ (w : List ℕ). IsBytes w) ta.1 inner) in
-    subst (λ (w : KeyInfo × List ℕ). TakesKeyInfo bytes w) (some_is _ y b.2) (record {
-      bits_text = a.0.1;
-      whole = subst (λ (w : List ℕ). IsElement x.0.0.whole 48 w) ta.1 tx.is;
-      algorithm = ta.0;
-      bits = bits_of_takes a.0.1 bits_fit b.0 b.1;
-    }, tx.parts)
+    subst (λ (w : KeyInfo × List ℕ). TakesKeyInfo bytes w) (some_is _ y b.2) (
+      record {
+        bits_text = a.0.1;
+        whole = subst (λ (w : List ℕ). IsElement x.0.0.whole 48 w) ta.1 tx.is;
+        algorithm = ta.0;
+        bits = bits_of_takes a.0.1 bits_fit b.0 b.1;
+      },
+      tx.parts,
+    )
 
 pub key_info_at_again : (k : KeyInfo) (rest bytes : List ℕ) → IsKeyInfo k → bytes ≡ k.whole ++ rest → key_info_at bytes ≡ Some (k, rest)
 unfolding key_info_at

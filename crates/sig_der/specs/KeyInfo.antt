@@ -58,7 +58,7 @@ algorithm_at bytes = do
   o ← take_tag 6 x.0.content
   p ← at_most_one o.1
   if is_empty o.0.content then None
-    else Some (record { whole = x.0.whole; oid = o.0.content; parameters = p }, x.1)
+      else Some (record { whole = x.0.whole; oid = o.0.content; parameters = p }, x.1)
 
 -- the bits after a count of unused bits that is 0
 unfoldable pub after_zero : List ℕ → Option (List ℕ)

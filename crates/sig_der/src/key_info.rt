@@ -8,7 +8,9 @@ ghost use Rattle.sig_der.specs.KeyInfoPlaces.{placed_option, placed_algorithm, p
 use crate::place::{Place, place_at, tagged_at, whole_at};
 
 const SEQUENCE: u8 = 48;
+
 const OBJECT_IDENTIFIER: u8 = 6;
+
 const BIT_STRING: u8 = 3;
 
 /// Where an algorithm and its parts stand in a text.

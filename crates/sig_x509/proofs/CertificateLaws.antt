@@ -161,7 +161,7 @@ certificate_takes text p not_before not_after es fits is read =
     let t = parts_takes text fits p is.cut in
     let content = p.outer.tbs.content in
     let all = gather t.head.version_text t.head.serial_text p.head.algorithm p.head.issuer t.body.validity_text p.body.subject p.body.spki
-      t.ids.issuer_id_text t.ids.subject_id_text t.rest content t.after_head t.after_body t.head.parts t.body.parts t.ids.parts in
+    t.ids.issuer_id_text t.ids.subject_id_text t.rest content t.after_head t.after_body t.head.parts t.body.parts t.ids.parts in
     let front = t.front ∙ before_is _ t.rest content all in
     record {
       signature_text = t.outer.signature_text;
@@ -268,39 +268,39 @@ certificate_again text c is =
     let after_body = s.issuer_id_text ++ (s.subject_id_text ++ s.extensions_text) in
     let after_head = s.validity_text ++ (c.subject ++ (c.spki ++ after_body)) in
     let spelled = ap (λ (w : List ℕ). w ++ s.extensions_text) s.front
-      ∙ nine_then s.version_text s.serial_text c.inner_algorithm c.issuer s.validity_text c.subject c.spki s.issuer_id_text s.subject_id_text s.extensions_text in
+    ∙ nine_then s.version_text s.serial_text c.inner_algorithm c.issuer s.validity_text c.subject c.spki s.issuer_id_text s.subject_id_text s.extensions_text in
     record {
       parts = record { outer = outer; front = c.front; head = head; body = body; listed = c.listed; list = has.list };
       cut = record {
         cut = bind_of_some (outer_at text) _ outer
-          (outer_at_again text c.tbs content c.algorithm c.signature is.signature_text is.whole s.tbs is.algorithm is.signature)
-        ∙ bind_of_some (head_at content) _ (head, after_head) (head_at_again content (head, after_head) (record {
-            version_text = s.version_text;
-            serial_text = s.serial_text;
-            version = s.version;
-            serial = s.serial;
-            algorithm = s.algorithm;
-            issuer = s.issuer;
-            parts = spelled;
-          }))
-        ∙ bind_of_some (body_at after_head) _ (body, after_body) (body_at_again after_head (body, after_body) (record {
-            validity_text = s.validity_text;
-            validity = s.validity.is;
-            first = s.validity.begins.is;
-            second = s.validity.ends.is;
-            subject = s.subject;
-            key = s.key;
-            parts = refl;
-          }))
-        ∙ bind_of_some (after_ids after_body) _ s.extensions_text (after_ids_again after_body s.extensions_text (record {
-            issuer_id_text = s.issuer_id_text;
-            subject_id_text = s.subject_id_text;
-            issuer_id = s.issuer_id;
-            subject_id = s.subject_id;
-            parts = refl;
-          }) has.no_issuer_id has.no_subject_id)
-        ∙ bind_of_some (list_at s.extensions_text) _ (c.listed, has.list) (list_at_again s.extensions_text c.listed has.list has.is)
-        ∙ ap (λ (w : List ℕ). some_parts outer head body c.listed has.list w) (before_is c.front s.extensions_text content refl);
+            (outer_at_again text c.tbs content c.algorithm c.signature is.signature_text is.whole s.tbs is.algorithm is.signature)
+            ∙ bind_of_some (head_at content) _ (head, after_head) (head_at_again content (head, after_head) (record {
+              version_text = s.version_text;
+              serial_text = s.serial_text;
+              version = s.version;
+              serial = s.serial;
+              algorithm = s.algorithm;
+              issuer = s.issuer;
+              parts = spelled;
+            }))
+            ∙ bind_of_some (body_at after_head) _ (body, after_body) (body_at_again after_head (body, after_body) (record {
+              validity_text = s.validity_text;
+              validity = s.validity.is;
+              first = s.validity.begins.is;
+              second = s.validity.ends.is;
+              subject = s.subject;
+              key = s.key;
+              parts = refl;
+            }))
+            ∙ bind_of_some (after_ids after_body) _ s.extensions_text (after_ids_again after_body s.extensions_text (record {
+              issuer_id_text = s.issuer_id_text;
+              subject_id_text = s.subject_id_text;
+              issuer_id = s.issuer_id;
+              subject_id = s.subject_id;
+              parts = refl;
+            }) has.no_issuer_id has.no_subject_id)
+            ∙ bind_of_some (list_at s.extensions_text) _ (c.listed, has.list) (list_at_again s.extensions_text c.listed has.list has.is)
+            ∙ ap (λ (w : List ℕ). some_parts outer head body c.listed has.list w) (before_is c.front s.extensions_text content refl);
         begins = s.validity.begins.time;
         ends = s.validity.ends.time;
       };

@@ -94,16 +94,19 @@ extension_at_takes bytes fits y e =
     let last = IsBytes-right tf.text f.0.1 (subst (λ (w : List ℕ). IsBytes w) tf.parts after) in
     let tv = take_whole_takes 4 f.0.1 last v.0 v.1 in
     let spelled : x.0.0.content ≡ o.0.0.whole ++ (tf.text ++ f.0.1) = to.parts ∙ ap (λ (w : List ℕ). o.0.0.whole ++ w) tf.parts in
-    subst (λ (w : Extension × List ℕ). TakesExtension bytes w) (some_is _ y g.1) (record {
-      oid_text = o.0.0.whole;
-      flag_text = tf.text;
-      value_text = f.0.1;
-      whole = subst (λ (w : List ℕ). IsElement x.0.0.whole 48 w) spelled tx.is;
-      oid = to.is;
-      named = some_left o.0.0.content g.0;
-      flag = tf.is;
-      value = tv.0;
-    }, tx.parts)
+    subst (λ (w : Extension × List ℕ). TakesExtension bytes w) (some_is _ y g.1) (
+      record {
+        oid_text = o.0.0.whole;
+        flag_text = tf.text;
+        value_text = f.0.1;
+        whole = subst (λ (w : List ℕ). IsElement x.0.0.whole 48 w) spelled tx.is;
+        oid = to.is;
+        named = some_left o.0.0.content g.0;
+        flag = tf.is;
+        value = tv.0;
+      },
+      tx.parts,
+    )
 
 pub extension_at_again : (e : Extension) (rest bytes : List ℕ) → IsExtension e → bytes ≡ e.whole ++ rest → extension_at bytes ≡ Some (e, rest)
 unfolding extension_at

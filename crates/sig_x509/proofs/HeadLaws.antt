@@ -126,7 +126,7 @@ head_at_takes bytes fits y e =
       algorithm = (a.0.0, (ta.0, refl));
       issuer = (i.0.0.content, ti.is);
       parts = four tv.text n.0.0.whole a.0.0.whole i.0.0.whole i.0.1 bytes v.0.1 n.0.1 tv.parts tn.parts
-      (ta.1 ∙ ap (λ (w : List ℕ). a.0.0.whole ++ w) ti.parts);
+          (ta.1 ∙ ap (λ (w : List ℕ). a.0.0.whole ++ w) ti.parts);
     })
 
 abbrev some_head : ℕ → List ℕ → List ℕ → List ℕ → Option (Head × List ℕ)

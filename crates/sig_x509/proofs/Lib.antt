@@ -11,3 +11,6 @@ pub mod SctLaws
 pub mod OnlyOne
 pub mod PrecertLaws
 pub mod Readings
+pub mod HeldLaws
+pub mod WalkLaws
+pub mod PemLaws

@@ -34,7 +34,7 @@ extension_at bytes = do
   f ← flag_at o.1
   v ← take_whole 4 f.1
   if is_empty o.0.content then None
-    else Some (record { oid = o.0.content; critical = f.0; value = v.content; whole = x.0.whole }, x.1)
+      else Some (record { oid = o.0.content; critical = f.0; value = v.content; whole = x.0.whole }, x.1)
 
 -- ---- the signed part
 
@@ -70,7 +70,7 @@ head_at bytes = do
   a ← algorithm_at n.1
   i ← take_tag 48 a.1
   if is_empty n.0.content then None
-    else Some (record { version = v.0; algorithm = a.0.whole; issuer = i.0.whole }, i.1)
+      else Some (record { version = v.0; algorithm = a.0.whole; issuer = i.0.whole }, i.1)
 
 -- The parts from the validity to the key; the two times are not read yet.
 pub record Body : Type 0 where

@@ -13,3 +13,8 @@ pub mod Lent
 pub mod Values
 pub mod Precert
 pub mod SctBytes
+pub mod Names
+pub mod NamePlaces
+pub mod Profile
+pub mod Trust
+pub mod Pem

@@ -8,8 +8,11 @@ use crate::span::{Span, content_of, whole_of};
 use sig_der::{optional_at, tagged_at, whole_at};
 
 const BOOLEAN: u8 = 1;
+
 const OCTET_STRING: u8 = 4;
+
 const OBJECT_IDENTIFIER: u8 = 6;
+
 pub(crate) const SEQUENCE: u8 = 48;
 
 /// Where an extension and its parts stand in a text.

@@ -12,6 +12,10 @@ mod lookup;
 mod opaque;
 mod parts;
 mod precert;
+mod names;
+mod parts;
+mod pem;
+mod profile;
 mod profile_error;
 mod reading;
 mod sct_error;
@@ -19,7 +23,13 @@ mod sct_list;
 mod seconds;
 mod signed;
 mod span;
+#[cfg(test)]
+mod tests;
+mod trust;
 mod values;
+#[cfg(test)]
+mod vectors;
+mod walks;
 
 pub use certificate::Certificate;
 pub use error::X509ReadError;
@@ -30,7 +40,12 @@ pub use lookup::{ExtensionRef, Lookup};
 pub use sct_error::{CertificateErrorKind, SCTError};
 pub use signed::{DigitallySigned, verify_sct};
 pub use precert::precert_tbs_der;
+pub use pem::der_to_pem;
+pub use profile::{is_ca, is_leaf, is_root_ca};
 pub use profile_error::{
     CertificateValidationError, ExtensionErrorKind, NotCAErrorKind, NotLeafErrorKind, PartName,
+};
+pub use trust::{
+    is_trusted, verify_expiration, verify_has_san, verify_key_usages, verify_validity,
 };
 pub use values::{BasicConstraints, KeyUsage};

@@ -11,9 +11,13 @@ use sig_der::{
 };
 
 const INTEGER: u8 = 2;
+
 const VERSION: u8 = 160;
+
 const ISSUER_UNIQUE_ID: u8 = 129;
+
 const SUBJECT_UNIQUE_ID: u8 = 130;
+
 const EXTENSIONS: u8 = 163;
 
 /// The parts of the signed part up to the issuer.

@@ -40,7 +40,12 @@ pub(crate) fn dated_parts(der: &[u8]) -> Option<Dated>
 }
 
 /// Where the extensions from `at` to `end` itself stand. `Der` where something else stands there.
-pub(crate) fn extensions_at(alloc: Global, bytes: &[u8], at: usize, end: usize) -> Result<Vec<ExtensionPlaces>, X509ReadError>
+pub(crate) fn extensions_at(
+    alloc: Global,
+    bytes: &[u8],
+    at: usize,
+    end: usize,
+) -> Result<Vec<ExtensionPlaces>, X509ReadError>
     requires from { at ≤ end }
     requires to { end ≤ length bytes.now }
     ensures exact { Reads (λ v. map (extension_of bytes.now) v.items) result (many_at extension_at (slice_range bytes.now at end)) }

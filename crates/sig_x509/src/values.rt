@@ -11,7 +11,9 @@ use crate::span::Span;
 use sig_der::{Place, optional_at, tagged_at, whole_at};
 
 const BIT_STRING: u8 = 3;
+
 const INTEGER: u8 = 2;
+
 const OBJECT_IDENTIFIER: u8 = 6;
 
 /// The bits of a key usage that decide here: RFC 5280 section 4.2.1.3.

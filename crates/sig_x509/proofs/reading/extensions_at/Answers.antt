@@ -23,8 +23,8 @@ loop-next-preserved c =
     record {
       inside = c.in-Some.ensures.within.whole.below;
       all = rw (c.in_ok-push-in-Some.ensures.items, map-append (extension_of bytes) c.loop-next.found.items (e ∷ []))
-      (goes_on extension_at extension_at_shrinks (map (extension_of bytes) c.loop-next.found.items) (slice_range bytes c.loop-next.next c.args.end)
-      (placed_extension bytes c.args.end e) c.in-Some.ensures.cut ∙ c.loop-next.invariant.all);
+          (goes_on extension_at extension_at_shrinks (map (extension_of bytes) c.loop-next.found.items) (slice_range bytes c.loop-next.next c.args.end)
+          (placed_extension bytes c.args.end e) c.in-Some.ensures.cut ∙ c.loop-next.invariant.all);
       within = rw c.in_ok-push-in-Some.ensures.items (All-push (AreSpans c.args.end) c.loop-next.found.items e c.loop-next.invariant.within c.in-Some.ensures.within);
     }
 
