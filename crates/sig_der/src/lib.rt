@@ -25,3 +25,6 @@ pub use stamp::rfc3339_second;
 pub use time::time_of;
 pub use walk::children;
 pub use write::{DerWriteError, write_element, write_short};
+
+#[cfg(test)]
+mod tests;

@@ -4,3 +4,5 @@ pub mod Lists
 pub mod Numerals
 pub mod Elements
 pub mod Building
+pub mod CanonicalTexts
+pub mod SameTrees

@@ -1,4 +1,5 @@
 pub mod Builders
+pub mod Canonical
 pub mod Causes
 pub mod Document
 pub mod Integer
@@ -8,6 +9,7 @@ pub mod Member
 pub mod Members
 pub mod Numerals
 pub mod Reads
+pub mod Spells
 pub mod Tree
 -- the trees, and the words that look into them
 pub use Rattle.serde_json.specs.Data

@@ -5,7 +5,7 @@ use Rattle.serde_json.specs.Find.{as_object}
 use Rattle.serde_json.specs.View.{members_view}
 use Rattle.std.specs.Borrow.{Bor}
 use Rattle.sig_json.specs.Tree.{tree}
-use Rattle.sig_json.specs.declared.json.Json.{Json}
+use Rattle.sig_json.specs.declared.view.Json.{Json}
 use Rattle.sig_json.specs.declared.members.Members.{Members}
 
 abbrev pub members_list : Entries → List (List ℕ × Data)

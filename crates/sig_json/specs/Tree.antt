@@ -2,7 +2,7 @@
 use Rattle.serde_json.specs.Data.{Data}
 use Rattle.serde_json.specs.View.{view}
 use Rattle.sig_json.specs.declared.document.Document.{Document}
-use Rattle.sig_json.specs.declared.json.Json.{Json}
+use Rattle.sig_json.specs.declared.view.Json.{Json}
 
 abbrev pub document_tree : Document → Data
 document_tree document = view document.value

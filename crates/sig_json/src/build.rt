@@ -1,7 +1,7 @@
 //! Documents built from their parts.
 use crate::change::{push_last, put_member};
 use crate::document::Document;
-use crate::json::Json;
+use crate::view::Json;
 use serde_json::{Map, Value};
 use sig_base::OutOfMemory;
 use std::alloc::Global;

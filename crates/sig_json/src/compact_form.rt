@@ -5,7 +5,7 @@ ghost use Rattle.serde_json.specs.Read.{max_depth, read};
 ghost use Rattle.serde_json.specs.Written.{compact_text};
 ghost use Rattle.sig_json.specs.Tree.{tree};
 
-use crate::json::Json;
+use crate::view::Json;
 use sig_base::{OutOfMemory, Text};
 use std::alloc::Global;
 

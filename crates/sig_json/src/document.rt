@@ -5,7 +5,7 @@ ghost use Rattle.serde_json.specs.Written.{has_float};
 
 use crate::error::DocumentError;
 use crate::floats::is_float_in;
-use crate::json::Json;
+use crate::view::Json;
 use serde_json::Value;
 use std::alloc::Global;
 

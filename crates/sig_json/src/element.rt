@@ -6,8 +6,8 @@ ghost use Rattle.sig_json.specs.Reads.{Reads};
 ghost use Rattle.sig_json.specs.Tree.{tree};
 
 use crate::error::MemberError;
-use crate::json::Json;
 use crate::member::member;
+use crate::view::Json;
 use sig_base::Register;
 use std::alloc::Global;
 

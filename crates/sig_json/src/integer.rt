@@ -5,7 +5,7 @@ ghost use Rattle.sig_json.specs.Kinds.{u64_of, i64_of};
 ghost use Rattle.sig_json.specs.Numerals.{below_word};
 ghost use Rattle.sig_json.specs.Tree.{tree};
 
-use crate::json::Json;
+use crate::view::Json;
 
 /// Whether the text begins with a plus sign, which `parse` takes and no integer here has.
 fn has_plus(text: &str) -> bool

@@ -5,7 +5,7 @@ ghost use Rattle.sig_json.specs.Tree.{tree};
 
 use crate::element::ElementReader;
 use crate::error::MemberError;
-use crate::json::Json;
+use crate::view::Json;
 use base64::DecodeAllocError;
 use base64::engine::general_purpose::STANDARD;
 use hex::FromHex;

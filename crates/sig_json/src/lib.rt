@@ -1,30 +1,35 @@
 //! JSON documents (RFC 8259) without floats: one way in, a view of the tree, and readers of the members that the formats of Sigstore have.
 //!
 //! The layer above uses three facts. A document is the tree that its text is, exactly where it has one without floats. A reader answers what
-//! the member means by its row of a table, and `Member` exactly where it breaks that row.
+//! the member means by its row of a table, and `Member` exactly where it breaks that row. The canonical text of a tree is that of RFC 8785.
 #![tactic(auto)]
 
 mod build;
+mod canonical_form;
 mod change;
 mod compact_form;
 mod document;
 mod element;
+mod equality;
 mod error;
 mod floats;
 mod integer;
-mod json;
 mod kind;
 mod member;
 mod members;
+#[cfg(test)]
+mod tests;
+mod view;
 
+pub use canonical_form::canonical;
 pub use compact_form::compact;
 pub use document::Document;
 pub use element::{ElementReader, optional, optional_list, required, required_list};
 pub use error::{CanonicalError, DocumentError, JsonError, MemberError};
-pub use json::Json;
 pub use kind::{BytesReader, HashReader, TextReader};
 pub use member::{
     read_bytes, read_i64, read_text, read_u64, required_bytes, required_hash, required_i64,
     required_text, required_u64,
 };
 pub use members::Members;
+pub use view::Json;

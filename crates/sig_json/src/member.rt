@@ -7,8 +7,8 @@ ghost use Rattle.sig_json.specs.Tree.{tree};
 use crate::element::{ElementReader, required};
 use crate::error::MemberError;
 use crate::integer::{signed, unsigned};
-use crate::json::Json;
 use crate::kind::{BytesReader, TextReader, hash};
+use crate::view::Json;
 use sig_base::{Bytes, Text};
 use std::alloc::Global;
 

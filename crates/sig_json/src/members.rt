@@ -3,7 +3,7 @@ ghost use Rattle.std.specs.Prelude.{◌≡◌, false};
 ghost use Rattle.serde_json.specs.View.{members_view};
 ghost use Rattle.serde_json.specs.Written.{members_have_float};
 
-use crate::json::Json;
+use crate::view::Json;
 use serde_json::Value;
 use std::collections::btree_map::Iter;
 

@@ -1,2 +1,3 @@
 pub mod Signature
 pub mod Key
+pub mod Kind

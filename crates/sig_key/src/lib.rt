@@ -1,11 +1,20 @@
 //! Signatures and the keys that check them.
 //!
-//! The layer above uses two facts. [`Signature::decode_bytes`] is a function of the signature's text. A check with a [`CosignVerificationKey`]
-//! is the checker's own predicate of the key's scheme, the key info, the message and the signature.
+//! The layer above uses three facts. [`Signature::decode_bytes`] is a function of the signature's text. What kind of key a key info is, and so
+//! the scheme of its key, is a function of its bytes ([`key_kind`]). A check with a [`CosignVerificationKey`] is the checker's own predicate of
+//! the key's scheme, the key info, the message or its digest, and the signature.
 #![tactic(auto)]
 
+mod kind;
+#[cfg(test)]
+mod kind_tests;
 mod signature;
+#[cfg(test)]
+mod tests;
 mod verification_key;
+mod verification_keys;
 
+pub use kind::{KeyKind, key_kind};
 pub use signature::Signature;
 pub use verification_key::CosignVerificationKey;
+pub use verification_keys::VerificationKeys;

@@ -5,7 +5,10 @@ ghost use Rattle.sig_base.specs.Scheme.{scheme_of};
 ghost use Rattle.sig_base.specs.declared.error.SigstoreError.TheVariants.{OutOfMemory as Memory};
 ghost use Rattle.sig_key.specs.Key.{key_scheme, key_info, key_accepts, check_answer};
 ghost use Rattle.sig_key.specs.Signature.{signature_bytes, text_bytes, IsRaw};
+ghost use Rattle.sig_key.specs.declared.kind.KeyKind.{KeyKind as Kind};
+ghost use Rattle.sig_key.specs.Kind.{key_kind, key_parts, kind_answer, IsKind};
 
+use crate::kind::{KeyKind, key_kind};
 use crate::signature::{Signature, decode_text};
 use sig_base::{Bytes, Result, SignatureChecker, SigningScheme, SigstoreError, VerifyScheme};
 use std::alloc::Global;
@@ -40,27 +43,55 @@ impl CosignVerificationKey {
         ensures only_memory { IsOkUnless result Memory }
     {
         let spki = Bytes::copy_of(alloc, der)?;
-        Ok(CosignVerificationKey::of_scheme(spki, signing_scheme))
+        Ok(CosignVerificationKey::with_scheme(spki, signing_scheme.scheme()))
+    }
+
+    /// The key of the key info that the DER is, by its kind ([`key_kind`]).
+    ///
+    /// Refuses with `KeyParsingError` exactly where the DER is no key info, and with `PublicKeyUnsupportedAlgorithmError` exactly where it is
+    /// one of no scheme that is known.
+    pub fn try_from_der(alloc: Global, der: &[u8]) -> Result<CosignVerificationKey>
+        ensures answer { Answers Memory key_parts result (kind_answer der.now (key_kind der.now)) }
+        ensures kind { IsKind der.now (key_kind der.now) }
+        ensures only { (kind : Kind) → IsKind der.now kind → kind ≡ key_kind der.now }
+    {
+        match key_kind(der) {
+            KeyKind::NoKeyInfo => Err(SigstoreError::KeyParsingError),
+            KeyKind::Unsupported => Err(SigstoreError::PublicKeyUnsupportedAlgorithmError),
+            KeyKind::Scheme(scheme) => {
+                let spki = Bytes::copy_of(alloc, der)?;
+                Ok(CosignVerificationKey::with_scheme(spki, scheme))
+            }
+        }
+    }
+
+    /// The same as [`CosignVerificationKey::try_from_der`], as the crate names it for the key info of a certificate.
+    pub fn try_from_spki(alloc: Global, spki: &[u8]) -> Result<CosignVerificationKey>
+        ensures answer { Answers Memory key_parts result (kind_answer spki.now (key_kind spki.now)) }
+        ensures kind { IsKind spki.now (key_kind spki.now) }
+        ensures only { (kind : Kind) → IsKind spki.now kind → kind ≡ key_kind spki.now }
+    {
+        CosignVerificationKey::try_from_der(alloc, spki)
     }
 
     /// The key of this scheme over the DER.
-    fn of_scheme(spki: Bytes, signing_scheme: &SigningScheme) -> CosignVerificationKey
-        ensures scheme { key_scheme result ≡ scheme_of signing_scheme.now }
+    fn with_scheme(spki: Bytes, scheme: VerifyScheme) -> CosignVerificationKey
+        ensures scheme { key_scheme result ≡ scheme }
         ensures info { key_info result ≡ spki }
     {
-        match signing_scheme {
-            SigningScheme::RSA_PSS_SHA256(_) => CosignVerificationKey::RSA_PSS_SHA256(spki),
-            SigningScheme::RSA_PKCS1_SHA256(_) => CosignVerificationKey::RSA_PKCS1_SHA256(spki),
-            SigningScheme::ECDSA_P256_SHA256_ASN1 => CosignVerificationKey::ECDSA_P256_SHA256_ASN1(
+        match scheme {
+            VerifyScheme::RSA_PSS_SHA256 => CosignVerificationKey::RSA_PSS_SHA256(spki),
+            VerifyScheme::RSA_PKCS1_SHA256 => CosignVerificationKey::RSA_PKCS1_SHA256(spki),
+            VerifyScheme::ECDSA_P256_SHA256_ASN1 => CosignVerificationKey::ECDSA_P256_SHA256_ASN1(
                 spki,
             ),
-            SigningScheme::ECDSA_P384_SHA384_ASN1 => CosignVerificationKey::ECDSA_P384_SHA384_ASN1(
+            VerifyScheme::ECDSA_P384_SHA384_ASN1 => CosignVerificationKey::ECDSA_P384_SHA384_ASN1(
                 spki,
             ),
-            SigningScheme::ECDSA_P521_SHA512_ASN1 => CosignVerificationKey::ECDSA_P521_SHA512_ASN1(
+            VerifyScheme::ECDSA_P521_SHA512_ASN1 => CosignVerificationKey::ECDSA_P521_SHA512_ASN1(
                 spki,
             ),
-            SigningScheme::ED25519 => CosignVerificationKey::ED25519(spki),
+            VerifyScheme::ED25519 => CosignVerificationKey::ED25519(spki),
         }
     }
 
@@ -124,6 +155,48 @@ impl CosignVerificationKey {
                 let bytes = decode_text(alloc, text)?;
                 self.check(bytes.as_slice(), msg, checker)
             }
+        }
+    }
+
+    /// Checks that `signature` over the message of the digest `msg` is this key's. A raw signature is checked where it lies, and then no
+    /// memory is taken.
+    ///
+    /// Refuses with `Base64DecodeError` where the signature's text has no bytes, as [`Signature::decode_bytes`] does; else with
+    /// `PublicKeyVerificationError` exactly where the checker refuses them.
+    pub fn verify_prehash<C: SignatureChecker>(
+        &self,
+        alloc: Global,
+        signature: Signature<'_>,
+        msg: &[u8],
+        checker: &C,
+    ) -> Result<()>
+        ensures answer { Answers Memory (λ x. x) result
+            (check_answer (key_accepts (C.prehash_accepts checker.now) self.now msg.now) (signature_bytes signature.entry)) }
+        ensures raw { IsRaw signature.entry → result
+            ≡ check_answer (key_accepts (C.prehash_accepts checker.now) self.now msg.now) (signature_bytes signature.entry) }
+    {
+        match signature {
+            Signature::Raw(bytes) => self.check_prehash(bytes, msg, checker),
+            Signature::Base64Encoded(text) => {
+                let bytes = decode_text(alloc, text)?;
+                self.check_prehash(bytes.as_slice(), msg, checker)
+            }
+        }
+    }
+
+    /// Checks the bytes of a signature over the message of a digest.
+    fn check_prehash<C: SignatureChecker>(
+        &self,
+        signature: &[u8],
+        digest: &[u8],
+        checker: &C,
+    ) -> Result<()>
+        ensures { result ≡ check_answer (key_accepts (C.prehash_accepts checker.now) self.now digest.now) (Some signature.now) }
+    {
+        if checker.verify_spki_prehash(self.scheme(), self.spki(), digest, signature) {
+            Ok(())
+        } else {
+            Err(SigstoreError::PublicKeyVerificationError)
         }
     }
 

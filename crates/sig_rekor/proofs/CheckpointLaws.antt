@@ -38,8 +38,10 @@ checkpoint-found text checkpoint e = cut-found text checkpoint (cut_at empty_lin
 pub checkpoint-only : (text : List ℕ) (checkpoint : SignedCheckpoint) → IsCheckpoint text checkpoint → checkpoint_of text ≡ Ok checkpoint
 unfolding checkpoint_of signatures_by
 checkpoint-only text checkpoint is =
-    rw (trimmed-only quotation_mark text is.body is.quotes,
+    rw (
+      trimmed-only quotation_mark text is.body is.quotes,
       cut_at-cut empty_line is.body is.note_part is.rest (omega arith) is.split,
       parts-only empty_line is.rest is.pieces (omega arith) is.between,
       each-only signature_of IsSignature signature-only (filter is_written is.pieces) checkpoint.signatures is.signatures,
-      note-only is.note_part checkpoint.note is.note) refl
+      note-only is.note_part checkpoint.note is.note,
+    ) refl

@@ -18,8 +18,8 @@ after_separator-some [] text rest e = cc
 after_separator-some (s ∷ separator) [] rest e = cc
 after_separator-some (s ∷ separator) (b ∷ text) rest e =
     elim (cases_eq s b) [
-      inl same ↦ let t = rw (eq-eqb s b same) at e in let h = after_separator-some separator text rest t in cc
-    | inr other ↦ let t = rw (ne_eqb s b other) at e in cc
+      | inl same ↦ let t = rw (eq-eqb s b same) at e in let h = after_separator-some separator text rest t in cc
+      | inr other ↦ let t = rw (ne_eqb s b other) at e in cc
     ]
 
 pub after_separator-none : (separator text : List ℕ) → ((rest : List ℕ) → text ≢ separator ++ rest) → after_separator separator text ≡ None
@@ -107,9 +107,9 @@ cut_at-split_once separator text (Some x) some said = sym (cut_at-cut separator 
 })) where
   no_sooner : (front back : List ℕ) → text ≡ front ++ (separator ++ back) → length x.0.now ≤ length front
   no_sooner front back w = elim (cases_lt (length front) said.0) [
-      inl sooner ↦ absurd (said.2.0 (length front) sooner back (ap (drop (length front)) w ∙ drop_at front (separator ++ back) (length front) refl))
+    | inl sooner ↦ absurd (said.2.0 (length front) sooner back (ap (drop (length front)) w ∙ drop_at front (separator ++ back) (length front) refl))
     | inr later ↦ omega (arith, said.6)
-    ]
+  ]
 
 -- a mark at the front, and at the end
 without_front-mark : (mark : ℕ) (rest : List ℕ) → without_front mark (mark ∷ rest) ≡ without_front mark rest
@@ -218,16 +218,16 @@ parts-found separator text some = parts-found_within (suc (length text)) separat
 front_marks : (mark : ℕ) (text : List ℕ) → (n : ℕ) × (text ≡ replicate n mark ++ without_front mark text)
 front_marks mark [] = (0, refl)
 front_marks mark (b ∷ text) = elim (cases_eq b mark) [
-    inl same ↦ let deeper = front_marks mark text in (suc deeper.0, rw (eq-eqb b mark same) (ap (λ x. x ∷ text) same ∙ ap (λ t. mark ∷ t) deeper.1))
+  | inl same ↦ let deeper = front_marks mark text in (suc deeper.0, rw (eq-eqb b mark same) (ap (λ x. x ∷ text) same ∙ ap (λ t. mark ∷ t) deeper.1))
   | inr other ↦ (0, rw (ne_eqb b mark other) refl)
-  ]
+]
 
 front_stops : (mark : ℕ) (text rest : List ℕ) → without_front mark text ≢ mark ∷ rest
 front_stops mark [] rest w = cc
 front_stops mark (b ∷ text) rest w = elim (cases_eq b mark) [
-    inl same ↦ front_stops mark text rest (rw (eq-eqb b mark same) at w)
+  | inl same ↦ front_stops mark text rest (rw (eq-eqb b mark same) at w)
   | inr other ↦ other (let t = rw (ne_eqb b mark other) at w in cc)
-  ]
+]
 
 -- there is always a part
 pub parts-first : (separator text : List ℕ) → (part : List ℕ) × (ps : List (List ℕ)) × (parts separator text ≡ part ∷ ps)
@@ -290,8 +290,8 @@ pub trimmed-only : (mark : ℕ) (text body : List ℕ) → IsTrimmed mark text b
 unfolding trimmed
 trimmed-only mark text body is =
     ap (λ t. without_back mark (without_front mark t)) is.whole ∙ ap (without_back mark) (front_marks-off mark is.before (body ++ replicate is.after mark)) ∙ behind body is.front is.back where
-  behind : (t : List ℕ) → ((rest : List ℕ) → t ≢ mark ∷ rest) → ((rest : List ℕ) → t ≢ rest ++ mark ∷ []) → without_back mark (without_front mark (t ++ replicate is.after mark)) ≡ t
-  behind [] front back = ap (without_back mark) (ap (without_front mark) (sym (append-nil (replicate is.after mark))) ∙ front_marks-off mark is.after []) ∙ without_back-nil mark
-  behind (x ∷ t) front back =
-      let kept : without_front mark ((x ∷ t) ++ replicate is.after mark) ≡ (x ∷ t) ++ replicate is.after mark = rw (ne_eqb x mark (λ same. front t (ap (λ y. y ∷ t) same))) refl in
-      ap (without_back mark) kept ∙ back_marks-off mark is.after (x ∷ t) ∙ without_back-kept mark (x ∷ t) back
+      behind : (t : List ℕ) → ((rest : List ℕ) → t ≢ mark ∷ rest) → ((rest : List ℕ) → t ≢ rest ++ mark ∷ []) → without_back mark (without_front mark (t ++ replicate is.after mark)) ≡ t
+      behind [] front back = ap (without_back mark) (ap (without_front mark) (sym (append-nil (replicate is.after mark))) ∙ front_marks-off mark is.after []) ∙ without_back-nil mark
+      behind (x ∷ t) front back =
+          let kept : without_front mark ((x ∷ t) ++ replicate is.after mark) ≡ (x ∷ t) ++ replicate is.after mark = rw (ne_eqb x mark (λ same. front t (ap (λ y. y ∷ t) same))) refl in
+          ap (without_back mark) kept ∙ back_marks-off mark is.after (x ∷ t) ∙ without_back-kept mark (x ∷ t) back

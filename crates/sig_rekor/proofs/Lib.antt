@@ -6,3 +6,6 @@ pub mod NoteLaws
 pub mod SignatureLaws
 pub mod CheckpointLaws
 pub mod VerifyLaws
+pub mod Graphic
+pub mod WrittenCuts
+pub mod ReadBackLaws

@@ -42,11 +42,11 @@ contents-only (line ∷ lines) (content ∷ contents) are = rw (content-only lin
 origin-found : (line origin : List ℕ) → origin_of line ≡ Ok origin → (line ≡ origin) × (is_blank line ≡ false)
 unfolding origin_of
 origin-found line origin e = elim (chosen (is_blank line) (Err EmptyOrigin) (Ok line) (Ok origin) e) [
-    inl blank ↦ (let f = blank.1 in cc)
+  | inl blank ↦ (let f = blank.1 in cc)
   | inr written ↦ ((let f = written.1 in cc), written.0)
-  ]
+]
 
-origin-only : (line : List ℕ) → is_blank line ≡ false → origin_of line ≡ Ok line
+pub origin-only : (line : List ℕ) → is_blank line ≡ false → origin_of line ≡ Ok line
 unfolding origin_of
 origin-only line written = rw written refl
 
@@ -56,12 +56,12 @@ size-found line n e =
     let ds = without_leading_plus line in
     let big = is_not_empty ds && nat_lt (digits_value 10 ds) (2 ^ 64) in
     elim (chosen (list_all is_ascii_digit ds && big) (Ok (digits_value 10 ds)) (Err Size) (Ok n) e) [
-      inl all ↦
-        let both = and_parts (list_all is_ascii_digit ds) big all.0 in
-        let rest = and_parts (is_not_empty ds) (nat_lt (digits_value 10 ds) (2 ^ 64)) both.1 in
-        let same : digits_value 10 ds ≡ n = (let f = all.1 in cc) in
-        ((ltb-true 0 (length ds) rest.0, digits_mean ds both.0), sym same, subst (λ m. m < 2 ^ 64) same (ltb-true (digits_value 10 ds) (2 ^ 64) rest.1))
-    | inr none ↦ (let f = none.1 in cc)
+      | inl all ↦
+          let both = and_parts (list_all is_ascii_digit ds) big all.0 in
+          let rest = and_parts (is_not_empty ds) (nat_lt (digits_value 10 ds) (2 ^ 64)) both.1 in
+          let same : digits_value 10 ds ≡ n = (let f = all.1 in cc) in
+          ((ltb-true 0 (length ds) rest.0, digits_mean ds both.0), sym same, subst (λ m. m < 2 ^ 64) same (ltb-true (digits_value 10 ds) (2 ^ 64) rest.1))
+      | inr none ↦ (let f = none.1 in cc)
     ]
 
 size-only : (line : List ℕ) (n : ℕ) → IsSize line n → size_of line ≡ Ok n
@@ -72,13 +72,13 @@ unfolding hash_of base64_of
 hash-found line hash e =
     let read = bind_ok (base64_of HashBase64 line) hash_by hash e in
     elim (chosen (length read.0 == 32) (Ok read.0) (Err HashLength) (Ok hash) read.2) [
-      inl sized ↦
-        let same : read.0 ≡ hash = (let f = sized.1 in cc) in
-        (ok_or-ok (base64_bytes line) HashBase64 hash (read.1 ∙ ap Ok same), sym (ap length same) ∙ eqb-true (length read.0) 32 sized.0)
-    | inr other ↦ (let f = other.1 in cc)
+      | inl sized ↦
+          let same : read.0 ≡ hash = (let f = sized.1 in cc) in
+          (ok_or-ok (base64_bytes line) HashBase64 hash (read.1 ∙ ap Ok same), sym (ap length same) ∙ eqb-true (length read.0) 32 sized.0)
+      | inr other ↦ (let f = other.1 in cc)
     ]
 
-hash-only : (line hash : List ℕ) → (base64_bytes line ≡ Some hash) × (length hash ≡ 32) → hash_of line ≡ Ok hash
+pub hash-only : (line hash : List ℕ) → (base64_bytes line ≡ Some hash) × (length hash ≡ 32) → hash_of line ≡ Ok hash
 unfolding hash_of base64_of
 hash-only line hash is = rw (is.0, eq-eqb (length hash) 32 is.1) refl
 
@@ -113,8 +113,10 @@ note-found text note e = lines-found text (parts newline text) note (parts-found
 pub note-only : (text : List ℕ) (note : Checkpoint) → IsNote text note → note_of text ≡ Ok note
 unfolding note_of contents_of
 note-only text note is =
-    rw (parts-only newline text (note.origin ∷ is.size_line ∷ is.hash_line ∷ is.others) (omega arith) is.lines,
+    rw (
+      parts-only newline text (note.origin ∷ is.size_line ∷ is.hash_line ∷ is.others) (omega arith) is.lines,
       origin-only note.origin is.origin,
       size-only is.size_line note.size is.size,
       hash-only is.hash_line note.hash is.hash,
-      contents-only (filter is_not_empty is.others) note.other_content is.contents) refl
+      contents-only (filter is_not_empty is.others) note.other_content is.contents,
+    ) refl

@@ -43,9 +43,9 @@ size_of-none line not =
     let big = is_not_empty ds && nat_lt (digits_value 10 ds) (2 ^ 64) in
     cond_both (list_all is_ascii_digit ds && big) (Ok (digits_value 10 ds)) (Err Size) (λ r. r ≡ Err Size)
     (λ all.
-        let both = and_parts (list_all is_ascii_digit ds) big all in
-        let rest = and_parts (is_not_empty ds) (nat_lt (digits_value 10 ds) (2 ^ 64)) both.1 in
-        absurd (not ((ltb-true 0 (length ds) rest.0, digits_mean ds both.0), ltb-true (digits_value 10 ds) (2 ^ 64) rest.1)))
+    let both = and_parts (list_all is_ascii_digit ds) big all in
+    let rest = and_parts (is_not_empty ds) (nat_lt (digits_value 10 ds) (2 ^ 64)) both.1 in
+    absurd (not ((ltb-true 0 (length ds) rest.0, digits_mean ds both.0), ltb-true (digits_value 10 ds) (2 ^ 64) rest.1)))
     (λ none. refl)
 
 -- ---- the lines
@@ -101,5 +101,7 @@ pub contents_of-end : (text : List ℕ) → None ≡ cut_at newline text → con
 contents_of-end text e = ap contents_of (parts-whole newline text (sym e))
 
 pub ruleset all_lines = (note_of-short, note_of-two, note_of-ended, note_of-last)
+
 pub ruleset one_content = (contents_of-unchanged, contents_of-written)
+
 pub ruleset all_contents = (contents_of-step, contents_of-end, append_assoc)

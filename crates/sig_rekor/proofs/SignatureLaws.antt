@@ -18,11 +18,11 @@ use Rattle.sig_rekor.proofs.Steps.{bind_ok, chosen, ok_or-ok}
 line-found : (text line : List ℕ) → line_of text ≡ Ok line → IsTrimmed 10 text line × (line ≡ em_dash ++ drop 3 line)
 unfolding line_of
 line-found text line e = elim (chosen (starts_with nat_eq (trimmed 10 text) em_dash) (Ok (trimmed 10 text)) (Err NoDash) (Ok line) e) [
-    inl dash ↦
+  | inl dash ↦
       let same : trimmed 10 text ≡ line = (let f = dash.1 in cc) in
       (subst (IsTrimmed 10 text) same (trimmed-found 10 text), subst (λ t. t ≡ em_dash ++ drop 3 t) same ((starts_is Decides-eqb (trimmed 10 text) em_dash true (sym dash.0)).0 refl))
   | inr none ↦ (let f = none.1 in cc)
-  ]
+]
 
 line-only : (text line behind : List ℕ) → IsTrimmed 10 text line → line ≡ em_dash ++ behind → line_of text ≡ Ok line
 unfolding line_of
@@ -44,11 +44,11 @@ signature_by-found : (name bytes : List ℕ) (s : CheckpointSignature) → signa
 signature_by-found name bytes s e =
     let made : CheckpointSignature = record { key_fingerprint = take 4 bytes; raw = drop 4 bytes; name = name } in
     elim (chosen (nat_lt (length bytes) 4) (Err SignatureLength) (Ok made) (Ok s) e) [
-      inl short ↦ (let f = short.1 in cc)
-    | inr long ↦
-        let same : made ≡ s = (let f = long.1 in cc) in
-        subst (λ (x : CheckpointSignature). (x.name ≡ name) × (signed_bytes x ≡ bytes) × (length x.key_fingerprint ≡ 4)) same
-        (refl, take-append-drop 4 bytes, length-take-le 4 bytes (ltb-false (length bytes) 4 long.0))
+      | inl short ↦ (let f = short.1 in cc)
+      | inr long ↦
+          let same : made ≡ s = (let f = long.1 in cc) in
+          subst (λ (x : CheckpointSignature). (x.name ≡ name) × (signed_bytes x ≡ bytes) × (length x.key_fingerprint ≡ 4)) same
+          (refl, take-append-drop 4 bytes, length-take-le 4 bytes (ltb-false (length bytes) 4 long.0))
     ]
 
 signature_by-only : (s : CheckpointSignature) → length s.key_fingerprint ≡ 4 → signature_by s.name (signed_bytes s) ≡ Ok s
@@ -78,6 +78,8 @@ signature-found text s e =
 pub signature-only : (text : List ℕ) (s : CheckpointSignature) → IsSignature text s → signature_of text ≡ Ok s
 unfolding signature_of base64_of
 signature-only text s is =
-    rw (line-only text is.line is.behind_dash is.newlines is.dash,
+    rw (
+      line-only text is.line is.behind_dash is.newlines is.dash,
       parts-only space is.line (is.first ∷ s.name ∷ is.coded ∷ []) (omega arith) is.parts,
-      is.bytes) (signature_by-only s is.fingerprint)
+      is.bytes,
+    ) (signature_by-only s is.fingerprint)

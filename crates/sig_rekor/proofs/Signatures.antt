@@ -14,15 +14,15 @@ use Rattle.sig_rekor.specs.CheckpointText.{empty_line, is_written, signatures_by
 use Rattle.sig_rekor.proofs.Cutting.{parts-whole, parts-cut, parts-first}
 
 -- a piece of white space alone gives none, and any other one
-signatures_by-blank : (piece : List ℕ) (pieces : List (List ℕ)) → is_blank piece ≡ true → signatures_by (piece ∷ pieces) ≡ signatures_by pieces
+pub signatures_by-blank : (piece : List ℕ) (pieces : List (List ℕ)) → is_blank piece ≡ true → signatures_by (piece ∷ pieces) ≡ signatures_by pieces
 unfolding signatures_by
 signatures_by-blank piece pieces blank = rw blank refl
 
-signatures_by-written : (piece : List ℕ) (pieces : List (List ℕ)) → is_blank piece ≡ false → signatures_by (piece ∷ pieces) ≡ (signature_of piece >>= λ first. signatures_by pieces >>= λ others. Ok (first ∷ others))
+pub signatures_by-written : (piece : List ℕ) (pieces : List (List ℕ)) → is_blank piece ≡ false → signatures_by (piece ∷ pieces) ≡ (signature_of piece >>= λ first. signatures_by pieces >>= λ others. Ok (first ∷ others))
 unfolding signatures_by
 signatures_by-written piece pieces written = rw written refl
 
-signatures_by-none : signatures_by [] ≡ Ok []
+pub signatures_by-none : signatures_by [] ≡ Ok []
 unfolding signatures_by
 signatures_by-none = refl
 
@@ -43,9 +43,9 @@ put_before a b (Err fault) = refl
 
 pub signatures_on-more : (before after : List CheckpointSignature) (piece : List ℕ) (pieces : List (List ℕ)) → signatures_on before (piece ∷ []) ≡ Ok after → signatures_on before (piece ∷ pieces) ≡ signatures_on after pieces
 signatures_on-more before after piece pieces e = elim (cases_Bool (is_blank piece)) [
-    inl blank ↦ let same : before ≡ after = (let f = signatures_on-blank before piece blank in cc) in rw (signatures_by-blank piece pieces blank, same) refl
+  | inl blank ↦ let same : before ≡ after = (let f = signatures_on-blank before piece blank in cc) in rw (signatures_by-blank piece pieces blank, same) refl
   | inr written ↦ read _ refl written
-  ] where
+] where
   read : (r : Result CheckpointSignature CheckpointFault) → signature_of piece ≡ r → is_blank piece ≡ false → signatures_on before (piece ∷ pieces) ≡ signatures_on after pieces
   read (Ok s) is written =
       let same : before ++ s ∷ [] ≡ after = (let f = signatures_on-read before piece s written is in cc) in
@@ -54,9 +54,9 @@ signatures_on-more before after piece pieces e = elim (cases_Bool (is_blank piec
 
 pub signatures_on-stops : (before : List CheckpointSignature) (piece : List ℕ) (pieces : List (List ℕ)) (fault : CheckpointFault) → signatures_on before (piece ∷ []) ≡ Err fault → signatures_on before (piece ∷ pieces) ≡ Err fault
 signatures_on-stops before piece pieces fault e = elim (cases_Bool (is_blank piece)) [
-    inl blank ↦ let f = signatures_on-blank before piece blank in cc
+  | inl blank ↦ let f = signatures_on-blank before piece blank in cc
   | inr written ↦ read _ refl written
-  ] where
+] where
   read : (r : Result CheckpointSignature CheckpointFault) → signature_of piece ≡ r → is_blank piece ≡ false → signatures_on before (piece ∷ pieces) ≡ Err fault
   read (Ok s) is written = let f = signatures_on-read before piece s written is in cc
   read (Err other) is written =
@@ -98,7 +98,9 @@ more_parts line first behind name coded more last e f g =
     rw (parts-cut space line first behind (omega arith) (sym e), parts-cut space behind name coded (omega arith) (sym f), parts-cut space coded more last (omega arith) (sym g), p.2) refl
 
 pub ruleset three_parts = (no_part, two_parts, just_three, more_parts)
+
 pub ruleset one_signature = (signatures_on-blank, signatures_on-read, signatures_on-refused)
+
 pub ruleset all_signatures = (signatures_on-cut, signatures_on-cut_refused, signatures_on-end, signatures_on-nothing)
 
 -- a refusal at a cut is the refusal of the whole

@@ -1,7 +1,7 @@
 -- Readers in steps: what an answer says of each step.
-use Rattle.std.proofs.Common.{◌≡◌, Bool, true, false, ◌⊎◌, cond, Option, Some, None, Result, Ok, Err, refl, inl, inr, ok_or, List, [], ◌∷◌, subst, IfOk}
+use Rattle.std.proofs.Common.{◌≡◌, Bool, true, false, ◌⊎◌, cond, Option, Some, None, Result, Ok, Err, refl, inl, inr, ok_or, List, [], ◌∷◌, ◌++◌, subst, IfOk}
 use Rattle.sig_base.specs.declared.fault.CheckpointFault.{CheckpointFault}
-use Rattle.std.specs.List.{AllZip}
+use Rattle.std.specs.List.{AllZip, AllByRecursion}
 use Rattle.sig_rekor.specs.declared.fault.ParseCheckpointError.{ParseCheckpointError}
 use Rattle.sig_rekor.specs.Reading.{◌>>=◌, each, Reads}
 
@@ -42,3 +42,8 @@ each-only read R only [] [] are = refl
 each-only read R only [] (y ∷ ys) are = absurd are
 each-only read R only (x ∷ xs) [] are = absurd are
 each-only read R only (x ∷ xs) (y ∷ ys) are = rw (only x y are.0, each-only read R only xs ys are.1) refl
+
+-- one more element of which P holds
+pub all_push : {A : Type 0} (P : A → Type 0) (xs : List A) (x : A) → AllByRecursion P xs → P x → AllByRecursion P (xs ++ x ∷ [])
+all_push P [] x all here = (here, tt)
+all_push P (y ∷ xs) x all here = (all.0, all_push P xs x all.1 here)

@@ -29,12 +29,12 @@ of_tree checkpoint root size e =
     let same : Result (Unit {0}) SigstoreError = cond (bytes_eq note.hash root) (Ok tt) apart in
     let smaller : Result (Unit {0}) SigstoreError = cond (nat_lt note.size size) (Err (ConsistencyProofError UnexpectedEmptyProof)) same in
     elim (chosen (nat_lt size note.size) (Err (ConsistencyProofError (NewTreeSmaller size note.size))) smaller (Ok tt) e) [
-      inl larger ↦ (let f = larger.1 in cc)
-    | inr not_larger ↦ elim (chosen (nat_lt note.size size) (Err (ConsistencyProofError UnexpectedEmptyProof)) same (Ok tt) not_larger.1) [
-        inl below ↦ (let f = below.1 in cc)
-      | inr not_below ↦ elim (chosen (bytes_eq note.hash root) (Ok tt) apart (Ok tt) not_below.1) [
-          inl equal ↦ (omega (arith, ltb-false size note.size not_larger.0, ltb-false note.size size not_below.0), (bytes_decides note.hash root).0 equal.0)
-        | inr other ↦ (let f = other.1 in cc)
+      | inl larger ↦ (let f = larger.1 in cc)
+      | inr not_larger ↦ elim (chosen (nat_lt note.size size) (Err (ConsistencyProofError UnexpectedEmptyProof)) same (Ok tt) not_larger.1) [
+        | inl below ↦ (let f = below.1 in cc)
+        | inr not_below ↦ elim (chosen (bytes_eq note.hash root) (Ok tt) apart (Ok tt) not_below.1) [
+          | inl equal ↦ (omega (arith, ltb-false size note.size not_larger.0, ltb-false note.size size not_below.0), (bytes_decides note.hash root).0 equal.0)
+          | inr other ↦ (let f = other.1 in cc)
         ]
       ]
     ]
@@ -49,11 +49,11 @@ has_checkpoint accepts proof None e = cc
 has_checkpoint accepts proof (Some checkpoint) e =
     let both = both_accepted (signed_answer accepts checkpoint) (tree_answer checkpoint proof.root_hash proof.tree_size) e in
     (signed both.0, of_tree checkpoint proof.root_hash proof.tree_size both.1) where
-  signed : signed_answer accepts checkpoint ≡ Ok tt → is_signed accepts checkpoint ≡ true
-  signed f = elim (chosen (is_signed accepts checkpoint) (Ok tt) (Err CheckpointSignatureVerificationError) (Ok tt) f) [
-      inl is ↦ is.0
-    | inr none ↦ (let g = none.1 in cc)
-    ]
+      signed : signed_answer accepts checkpoint ≡ Ok tt → is_signed accepts checkpoint ≡ true
+      signed f = elim (chosen (is_signed accepts checkpoint) (Ok tt) (Err CheckpointSignatureVerificationError) (Ok tt) f) [
+        | inl is ↦ is.0
+        | inr none ↦ (let g = none.1 in cc)
+      ]
 
 checkpoint_accepted : (accepts : List ℕ → List ℕ → Bool) (proof : InclusionProof) (o : Option SignedCheckpoint) → HasCheckpoint accepts proof o → checkpoint_answer accepts proof o ≡ Ok tt
 checkpoint_accepted accepts proof None is = absurd is
@@ -92,6 +92,6 @@ vouched_ok accepts entry proof (Err e) is = tt
 pub accepted_only : (accepts : List ℕ → List ℕ → Bool) (entry : List ℕ) (proof : InclusionProof) (r : Result (Unit {0}) SigstoreError) → Answers OutOfMemory (λ x. x) r (proof_answer accepts entry proof) → IsVouched accepts entry proof → IsOkUnless r OutOfMemory
 accepted_only accepts entry proof (Ok _) is vouches = tt
 accepted_only accepts entry proof (Err e) is vouches = elim is [
-    inl memory ↦ memory
+  | inl memory ↦ memory
   | inr refused ↦ (let f = accepted accepts entry proof vouches in cc)
-  ]
+]

@@ -9,7 +9,6 @@ use Rattle.sig_rekor.specs.declared.fault.ParseCheckpointError.{ParseCheckpointE
 use Rattle.sig_rekor.specs.declared.fault.ParseCheckpointError.TheVariants.{DecodeError, OutOfMemory}
 
 infixl 10 ◌>>=◌
-
 -- go on with the value; a fault stays
 abbrev pub ◌>>=◌ : {A B : Type 0} → Result A CheckpointFault → (A → Result B CheckpointFault) → Result B CheckpointFault
 (Ok x) >>= f = f x

@@ -1,6 +1,5 @@
 //! A checkpoint, also known as a signed tree head: what a log says of its tree, and the signatures over it.
 
-
 use sig_base::{Bytes, Register, Text};
 use std::fmt;
 

@@ -1,5 +1,6 @@
 //! Base64 as checkpoints use it: standard, padded and canonical (RFC 4648 section 4).
 ghost use Rattle.std.specs.Prelude.{◌≡◌, IfOk};
+ghost use Rattle.base64.specs.GeneralPurpose.{IsBytes};
 ghost use Rattle.sig_rekor.specs.Reading.{Reads, base64_of, base64_text};
 
 use crate::fault::ParseCheckpointError;
@@ -27,7 +28,8 @@ pub(crate) fn decode_base64(
 /// Bytes in base64.
 #[tactic(auto, unfolding(crate::specs::Reading::base64_text))]
 pub(crate) fn encode_base64(alloc: Global, bytes: &[u8]) -> Result<Text, OutOfMemory>
-    ensures { IfOk result (λ text. text ≡ base64_text bytes.now) }
+    ensures text { IfOk result (λ text. text ≡ base64_text bytes.now) }
+    ensures bytes { IsBytes bytes.now }
 {
     let text = STANDARD.encode(alloc, bytes)?;
     Ok(Text::from(text))

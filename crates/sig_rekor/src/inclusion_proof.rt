@@ -84,9 +84,7 @@ impl InclusionProof {
         ensures { Answers Memory (λ x. x) result (proof_answer (key_accepts (C.spki_accepts checker.now) rekor_key.now) entry.now self.now) }
     {
         let Some(checkpoint) = &self.checkpoint else {
-            return Err(SigstoreError::UnexpectedError(
-                UnexpectedKind::CheckpointMissing,
-            ));
+            return Err(SigstoreError::UnexpectedError(UnexpectedKind::CheckpointMissing));
         };
         checkpoint.verify_signature(alloc, rekor_key, checker)?;
         checkpoint.is_valid_for_proof(&self.root_hash, self.tree_size)?;
@@ -98,9 +96,7 @@ impl InclusionProof {
         ensures { result ≡ inclusion_at self.now.log_index entry.now self.now }
     {
         let Ok(index) = u64::try_from(self.log_index) else {
-            return Err(SigstoreError::InclusionProofError(
-                MerkleProofError::IndexGtTreeSize,
-            ));
+            return Err(SigstoreError::InclusionProofError(MerkleProofError::IndexGtTreeSize));
         };
         match uncounted::verify_inclusion(
             index,

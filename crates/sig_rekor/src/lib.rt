@@ -10,9 +10,12 @@ mod coding;
 mod cuts;
 mod fault;
 mod inclusion_proof;
+pub mod laws;
 mod note;
 mod signature;
 mod signed;
+#[cfg(test)]
+mod tests;
 mod verify;
 
 pub use checkpoint::{

@@ -6,6 +6,7 @@ ghost use Rattle.std.specs.List.{flat_map};
 ghost use Rattle.sig_rekor.specs.Cut.{parts};
 ghost use Rattle.sig_rekor.specs.Reading.{Reads};
 ghost use Rattle.sig_rekor.specs.NoteText.{newline, content_of, contents_of, content_line, origin_of, size_of, hash_of, note_by, note_of, note_text, IsNote};
+ghost use Rattle.sig_rekor.specs.ReadBack.{IsNoteValue};
 
 use crate::checkpoint::{Checkpoint, OtherContent, OtherContents};
 use crate::coding::{decode_base64, encode_base64};
@@ -30,14 +31,23 @@ impl Checkpoint {
 
     /// Writes the note: origin, size in decimal, base64 of the hash and the contents, each ended by a newline.
     /// Refuses for want of memory alone.
-    #[tactic(auto, using(std::proofs::lemmas::List::append_assoc), unfolding(crate::specs::NoteText::note_text))]
     pub fn marshal(&self, alloc: Global) -> Result<Text, OutOfMemory>
         ensures { IfOk result (λ text. text ≡ note_text self.now) }
     {
+        Ok(Text::from(self.write(alloc)?))
+    }
+
+    /// The note's text, to write on behind it.
+    #[tactic(auto, using(std::proofs::lemmas::List::append_assoc), unfolding(crate::specs::NoteText::note_text))]
+    pub(crate) fn write(&self, alloc: Global) -> Result<String, OutOfMemory>
+        ensures text { IfOk result (λ text. string_bytes text ≡ note_text self.now) }
+        ensures value { OnOk result (IsNoteValue self.now) }
+    {
         let hash = encode_base64(alloc, &self.hash)?;
-        let mut text = format!(in alloc; "{}\n{}\n{}\n", self.origin.as_str(), self.size, hash.as_str())?;
+        let (origin, size) = (self.origin.as_str(), self.size);
+        let mut text = format!(in alloc; "{origin}\n{size}\n{}\n", hash.as_str())?;
         push_contents(&mut text, self.other_content.as_slice())?;
-        Ok(Text::from(text))
+        Ok(text)
     }
 }
 
@@ -54,9 +64,7 @@ fn read_note(alloc: Global, text: &str) -> Result<Checkpoint, ParseCheckpointErr
     ensures { Reads (λ n. n) result (note_of text.now) }
 {
     let Some(lines) = lines_of(text) else {
-        return Err(ParseCheckpointError::DecodeError(
-            CheckpointFault::NoteFormat,
-        ));
+        return Err(ParseCheckpointError::DecodeError(CheckpointFault::NoteFormat));
     };
     let origin = read_origin(alloc, lines.origin)?;
     let size = read_size(lines.size)?;
@@ -94,9 +102,7 @@ fn read_origin(alloc: Global, line: &str) -> Result<Text, ParseCheckpointError>
     ensures { Reads (λ t. t) result (origin_of line.now) }
 {
     if is_blank(line) {
-        return Err(ParseCheckpointError::DecodeError(
-            CheckpointFault::EmptyOrigin,
-        ));
+        return Err(ParseCheckpointError::DecodeError(CheckpointFault::EmptyOrigin));
     }
     Ok(Text::copy_of(alloc, line)?)
 }
@@ -118,9 +124,7 @@ fn read_hash(alloc: Global, line: &str) -> Result<[u8; 32], ParseCheckpointError
     let bytes = decode_base64(alloc, line, CheckpointFault::HashBase64)?;
     match <[u8; 32]>::try_from(bytes.as_slice()) {
         Ok(hash) => Ok(hash),
-        Err(_) => Err(ParseCheckpointError::DecodeError(
-            CheckpointFault::HashLength,
-        )),
+        Err(_) => Err(ParseCheckpointError::DecodeError(CheckpointFault::HashLength)),
     }
 }
 
@@ -140,11 +144,7 @@ fn read_contents(alloc: Global, text: &str) -> Result<OtherContents, OutOfMemory
 
 /// Adds what a line says, unless it is empty.
 #[tactic(auto, using(crate::proofs::Notes::one_content))]
-fn add_content(
-    alloc: Global,
-    line: &str,
-    contents: &mut OtherContents,
-) -> Result<(), OutOfMemory>
+fn add_content(alloc: Global, line: &str, contents: &mut OtherContents) -> Result<(), OutOfMemory>
     ensures { OnOk result (contents.new ≡ contents.old ++ contents_of (line.now ∷ [])) }
 {
     if line.is_empty() {

@@ -1,11 +1,12 @@
 //! A signature of a checkpoint as text: an em dash, the key's name, and in base64 the key's fingerprint and the signature.
-ghost use Rattle.std.specs.Prelude.{◌≡◌, Ok, IfOk, option_map};
+ghost use Rattle.std.specs.Prelude.{◌≡◌, Ok, IfOk, OnOk, option_map};
 ghost use Rattle.std.specs.Option.{ok_or};
 ghost use Rattle.sig_base.specs.declared.fault.CheckpointFault.TheVariants.{SignatureFormat};
 ghost use Rattle.sig_rekor.specs.declared.checkpoint.CheckpointSignature.{CheckpointSignature as Signature};
 ghost use Rattle.sig_rekor.specs.Cut.{parts};
 ghost use Rattle.sig_rekor.specs.Reading.{Reads, base64_text};
 ghost use Rattle.sig_rekor.specs.SignatureText.{space, line_of, name_and_bytes, signature_by, signature_of, signature_text, signed_bytes, IsSignature};
+ghost use Rattle.sig_rekor.specs.ReadBack.{IsName, IsSignatureValue};
 
 use crate::checkpoint::CheckpointSignature;
 use crate::coding::{decode_base64, encode_base64};
@@ -27,11 +28,20 @@ impl CheckpointSignature {
         read_signature(alloc, s)
     }
 
-    /// Writes the signature: em dash, space, name, space, base64 of fingerprint and signature, newline.
-    /// Refuses for want of memory alone.
-    #[tactic(auto, using(std::proofs::lemmas::List::append_assoc), unfolding(crate::specs::SignatureText::signature_text))]
+    /// Writes the signature: em dash, space, name, space, base64 of fingerprint and signature, newline. It is read back where the name has
+    /// neither a space nor a newline. Refuses for want of memory alone.
     pub fn encode(&self, alloc: Global) -> Result<Text, OutOfMemory>
-        ensures { IfOk result (λ text. text ≡ signature_text self.now) }
+        ensures text { IfOk result (λ text. text ≡ signature_text self.now) }
+        ensures reads_back { IsName self.now.name → IfOk result (λ text. signature_of text ≡ Ok self.now) }
+    {
+        self.write(alloc)
+    }
+
+    /// The signature's text.
+    #[tactic(auto, using(std::proofs::lemmas::List::append_assoc), unfolding(crate::specs::SignatureText::signature_text))]
+    pub(crate) fn write(&self, alloc: Global) -> Result<Text, OutOfMemory>
+        ensures text { IfOk result (λ text. text ≡ signature_text self.now) }
+        ensures value { OnOk result (IsSignatureValue self.now) }
     {
         let coded = self.coded(alloc)?;
         let text = format!(in alloc; "\u{2014} {} {}\n", self.name.as_str(), coded.as_str())?;
@@ -40,7 +50,8 @@ impl CheckpointSignature {
 
     /// The fingerprint and the signature in one, in base64.
     fn coded(&self, alloc: Global) -> Result<Text, OutOfMemory>
-        ensures { IfOk result (λ text. text ≡ base64_text (signed_bytes self.now)) }
+        ensures text { IfOk result (λ text. text ≡ base64_text (signed_bytes self.now)) }
+        ensures value { OnOk result (IsSignatureValue self.now) }
     {
         let mut bytes = Vec::from_slice(alloc, &self.key_fingerprint)?;
         bytes.extend_from_slice(self.raw.as_slice())?;
@@ -49,23 +60,14 @@ impl CheckpointSignature {
 }
 
 #[tactic(auto, unfolding(crate::specs::SignatureText::signature_of))]
-fn read_signature(
-    alloc: Global,
-    text: &str,
-) -> Result<CheckpointSignature, ParseCheckpointError>
+fn read_signature(alloc: Global, text: &str) -> Result<CheckpointSignature, ParseCheckpointError>
     ensures { Reads (λ x. x) result (signature_of text.now) }
 {
     let line = read_line(text)?;
     let Some((name, coded)) = name_and_bytes(line) else {
-        return Err(ParseCheckpointError::DecodeError(
-            CheckpointFault::SignatureFormat,
-        ));
+        return Err(ParseCheckpointError::DecodeError(CheckpointFault::SignatureFormat));
     };
-    let bytes = decode_base64(
-        alloc,
-        coded.trim_end(),
-        CheckpointFault::SignatureBase64,
-    )?;
+    let bytes = decode_base64(alloc, coded.trim_end(), CheckpointFault::SignatureBase64)?;
     make_signature(alloc, name, bytes.as_slice())
 }
 
@@ -78,9 +80,7 @@ fn make_signature(
     ensures { Reads (λ x. x) result (signature_by name.now bytes.now) }
 {
     let Some((fingerprint, raw)) = bytes.split_first_chunk::<4>() else {
-        return Err(ParseCheckpointError::DecodeError(
-            CheckpointFault::SignatureLength,
-        ));
+        return Err(ParseCheckpointError::DecodeError(CheckpointFault::SignatureLength));
     };
     Ok(CheckpointSignature {
         key_fingerprint: *fingerprint,

@@ -1,6 +1,6 @@
 //! A signed checkpoint as text: a note, an empty line, and signatures between empty lines.
 ghost use Rattle.std.specs.Prelude.{◌≡◌, ◌++◌, ◌∷◌, [], Ok, IfOk, OnOk, string_bytes};
-ghost use Rattle.std.specs.List.{join_by, flat_map};
+ghost use Rattle.std.specs.List.{AllByRecursion, join_by, flat_map};
 ghost use Rattle.std.specs.Option.{option_to_list};
 ghost use Rattle.sig_rekor.specs.declared.checkpoint.SignedCheckpoint.{SignedCheckpoint as Signed};
 ghost use Rattle.sig_rekor.specs.Cut.{parts};
@@ -8,6 +8,7 @@ ghost use Rattle.sig_rekor.specs.Reading.{Reads};
 ghost use Rattle.sig_rekor.specs.NoteText.{newline};
 ghost use Rattle.sig_rekor.specs.SignatureText.{signature_text};
 ghost use Rattle.sig_rekor.specs.CheckpointText.{empty_line, signatures_by, signatures_on, checkpoint_of, checkpoint_text, IsCheckpoint};
+ghost use Rattle.sig_rekor.specs.ReadBack.{IsNoteValue, IsSignatureValue, ReadsBack};
 
 use crate::checkpoint::{Checkpoint, CheckpointSignature, CheckpointSignatures, SignedCheckpoint};
 use crate::cuts::{cut, is_blank, trimmed};
@@ -28,14 +29,23 @@ impl SignedCheckpoint {
         read_checkpoint(alloc, s)
     }
 
-    /// Writes the checkpoint: the note, two newlines, and the signatures with a newline between each two.
-    /// Refuses for want of memory alone.
-    #[tactic(auto, using(std::proofs::lemmas::List::append_assoc), unfolding(crate::specs::CheckpointText::checkpoint_text))]
+    /// Writes the checkpoint: the note, two newlines, and the signatures with a newline between each two. It is read back where `ReadsBack`
+    /// holds. Refuses for want of memory alone.
     pub fn encode(&self, alloc: Global) -> Result<Text, OutOfMemory>
         ensures text { IfOk result (λ text. text ≡ checkpoint_text self.now) }
+        ensures reads_back { ReadsBack self.now → IfOk result (λ text. checkpoint_of text ≡ Ok self.now) }
     {
-        let note = self.note.marshal(alloc)?;
-        let mut text = String::from_str(alloc, note.as_str())?;
+        self.write(alloc)
+    }
+
+    /// The checkpoint's text.
+    #[tactic(auto, using(std::proofs::lemmas::List::append_assoc), unfolding(crate::specs::CheckpointText::checkpoint_text))]
+    fn write(&self, alloc: Global) -> Result<Text, OutOfMemory>
+        ensures text { IfOk result (λ text. text ≡ checkpoint_text self.now) }
+        ensures note { OnOk result (IsNoteValue self.now.note) }
+        ensures signatures { OnOk result (AllByRecursion IsSignatureValue self.now.signatures) }
+    {
+        let mut text = self.note.write(alloc)?;
         text.push_str("\n\n")?;
         push_signatures(alloc, &mut text, self.signatures.as_slice())?;
         Ok(Text::from(text))
@@ -47,9 +57,7 @@ fn read_checkpoint(alloc: Global, text: &str) -> Result<SignedCheckpoint, ParseC
     ensures { Reads (λ x. x) result (checkpoint_of text.now) }
 {
     let Some((note, rest)) = cut(trimmed(text, '"'), "\n\n") else {
-        return Err(ParseCheckpointError::DecodeError(
-            CheckpointFault::Format,
-        ));
+        return Err(ParseCheckpointError::DecodeError(CheckpointFault::Format));
     };
     let signatures = read_signatures(alloc, rest)?;
     let note = Checkpoint::unmarshal(alloc, note)?;
@@ -57,10 +65,7 @@ fn read_checkpoint(alloc: Global, text: &str) -> Result<SignedCheckpoint, ParseC
 }
 
 #[tactic(auto, using(crate::proofs::Signatures::all_signatures))]
-fn read_signatures(
-    alloc: Global,
-    text: &str,
-) -> Result<CheckpointSignatures, ParseCheckpointError>
+fn read_signatures(alloc: Global, text: &str) -> Result<CheckpointSignatures, ParseCheckpointError>
     ensures { Reads (λ x. x) result (signatures_by (parts empty_line text.now)) }
 {
     let mut signatures = CheckpointSignatures::new(alloc);
@@ -101,27 +106,29 @@ fn push_signatures(
     text: &mut String,
     signatures: &[CheckpointSignature],
 ) -> Result<(), OutOfMemory>
-    ensures { OnOk result (string_bytes text.new ≡ string_bytes text.old ++ join_by signature_text newline signatures.now) }
+    ensures text { OnOk result (string_bytes text.new ≡ string_bytes text.old ++ join_by signature_text newline signatures.now) }
+    ensures values { OnOk result (AllByRecursion IsSignatureValue signatures.now) }
 {
     let Some((first, others)) = signatures.split_first() else {
         return Ok(());
     };
-    let line = first.encode(alloc)?;
+    let line = first.write(alloc)?;
     text.push_str(line.as_str())?;
     push_others(alloc, text, others)
 }
 
 /// Writes signatures with a newline before each.
-#[tactic(auto, using(std::proofs::lemmas::List::flat_map_more, std::proofs::lemmas::List::take_more, std::proofs::lemmas::List::append_assoc))]
+#[tactic(auto, using(std::proofs::lemmas::List::flat_map_more, std::proofs::lemmas::List::take_more, std::proofs::lemmas::List::append_assoc, crate::proofs::Steps::all_push))]
 fn push_others(
     alloc: Global,
     text: &mut String,
     signatures: &[CheckpointSignature],
 ) -> Result<(), OutOfMemory>
-    ensures { OnOk result (string_bytes text.new ≡ string_bytes text.old ++ flat_map (λ s. newline ++ signature_text s) signatures.now) }
+    ensures text { OnOk result (string_bytes text.new ≡ string_bytes text.old ++ flat_map (λ s. newline ++ signature_text s) signatures.now) }
+    ensures values { OnOk result (AllByRecursion IsSignatureValue signatures.now) }
 {
     for signature in signatures {
-        let line = signature.encode(alloc)?;
+        let line = signature.write(alloc)?;
         text.push('\n')?;
         text.push_str(line.as_str())?;
     }

@@ -43,12 +43,7 @@ impl SignedCheckpoint {
     {
         let note = self.note.marshal(alloc)?;
         let message = note.as_str().as_bytes();
-        Ok(accepts_one(
-            self.signatures.as_slice(),
-            message,
-            key,
-            checker,
-        ))
+        Ok(accepts_one(self.signatures.as_slice(), message, key, checker))
     }
 
     /// Checks that the note speaks of the tree of a proof, whose root and number of leaves these are. It takes no memory.
@@ -93,7 +88,5 @@ fn accepts_one<C: SignatureChecker>(
 ) -> bool
     ensures { result ≡ list_any (λ s. key_accepts (C.spki_accepts checker.now) key.now message.now s.raw) signatures.now }
 {
-    signatures
-        .iter()
-        .any(|signature| key.accepts(signature.raw.as_slice(), message, checker))
+    signatures.iter().any(|signature| key.accepts(signature.raw.as_slice(), message, checker))
 }

@@ -2,4 +2,5 @@ pub mod Limit
 pub mod Link
 pub mod Reply
 pub mod Request
+pub mod Row
 pub mod Run

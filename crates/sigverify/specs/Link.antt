@@ -1,5 +1,14 @@
 -- The links of `log`. Each is stated for requests of which all links before it hold.
-use Rattle.std.specs.Prelude.{◌≡◌, ℕ, ◌<◌, List, codes, Option, Some, None}
+use Rattle.std.specs.Prelude.{◌≡◌, ℕ, ◌<◌, pos, List, Any, Contains, codes, Option, Some, None}
+use Rattle.sig_base.specs.declared.checker.AcceptedRow.{AcceptedRow}
+use Rattle.sig_base.specs.declared.checker.Operation.TheVariants.{Message}
+use Rattle.sig_base.specs.Scheme.{name_of, scheme_of}
+use Rattle.sig_merkle.specs.Path.{path_root}
+use Rattle.sig_merkle.specs.Root.{leaf_of}
+use Rattle.sig_rekor.specs.declared.checkpoint.CheckpointSignature.{CheckpointSignature}
+use Rattle.sig_rekor.specs.declared.checkpoint.SignedCheckpoint.{SignedCheckpoint}
+use Rattle.sig_rekor.specs.CheckpointText.{IsCheckpoint}
+use Rattle.sig_rekor.specs.NoteText.{note_text}
 use Rattle.sigverify.specs.declared.link.Link.{Link}
 use Rattle.sigverify.specs.declared.link.Link.TheVariants.{Request, Checkpoint, NoteKey, NoteMatch, Inclusion}
 use Rattle.sigverify.specs.declared.request.LogRequest.{LogRequest}
@@ -21,13 +30,42 @@ place_of NoteKey = 2
 place_of NoteMatch = 3
 place_of Inclusion = 4
 
+-- the row that says that the log's key signed the note
+abbrev pub note_row : LogRequest → SignedCheckpoint → CheckpointSignature → AcceptedRow
+note_row request checkpoint signature = record {
+  operation = Message;
+  scheme = name_of (scheme_of request.scheme);
+  key = request.key;
+  message = note_text checkpoint.note;
+  signature = signature.raw;
+}
+
+-- one of the signatures over the note text is accepted under the log's scheme and key
+abbrev pub IsSigned : LogRequest → SignedCheckpoint → Type 0
+IsSigned request checkpoint = Any (λ signature. Contains request.accepted (note_row request checkpoint signature)) checkpoint.signatures
+
+-- the note speaks of the proof's tree
+abbrev pub IsMatched : LogRequest → SignedCheckpoint → Type 0
+IsMatched request checkpoint = (checkpoint.note.size ≡ request.tree_size) × (checkpoint.note.hash ≡ request.root_hash)
+
+-- the hashes lead from the entry's leaf at the index to the root; no leaf has a negative index
+pub record IsLogged (request : LogRequest) : Type 0 where
+  pub index : ℕ
+  pub place : request.log_index ≡ pos index
+  pub within : index < request.tree_size
+  pub path : path_root index (leaf_of request.entry) request.tree_size request.hashes ≡ Some request.root_hash
+
+-- a link on the checkpoint: it has a reading, and this holds of it
+abbrev pub OfCheckpoint : LogRequest → (SignedCheckpoint → Type 0) → Type 0
+OfCheckpoint request P = (checkpoint : SignedCheckpoint) × IsCheckpoint request.checkpoint checkpoint × P checkpoint
+
 -- what a link asks of a request
 abbrev pub HoldsOf : LogRequest → Link → Type 0
 HoldsOf request Request = Unit {0}
-HoldsOf request Checkpoint = request.log_index ≡ request.log_index
-HoldsOf request NoteKey = Unit {0}
-HoldsOf request NoteMatch = Unit {0}
-HoldsOf request Inclusion = Unit {0}
+HoldsOf request Checkpoint = OfCheckpoint request (λ _. Unit {0})
+HoldsOf request NoteKey = OfCheckpoint request (IsSigned request)
+HoldsOf request NoteMatch = OfCheckpoint request (IsMatched request)
+HoldsOf request Inclusion = IsLogged request
 
 -- a link holds of a text: the text is a request, and the link holds of it
 abbrev pub Holds : List ℕ → Link → Type 0
@@ -51,3 +89,12 @@ pub record FailsFirstOf (request : LogRequest) (link : Link) : Type 0 where
 abbrev pub IsVerdict : LogRequest → Option Link → Type 0
 IsVerdict request None = (link : Link) → HoldsOf request link
 IsVerdict request (Some link) = FailsFirstOf request link
+
+-- the first failing link behind the checkpoint, or none, where this is the checkpoint's reading
+abbrev pub IsVerdictUnder : LogRequest → SignedCheckpoint → Option Link → Type 0
+IsVerdictUnder request checkpoint None = IsSigned request checkpoint × IsMatched request checkpoint × IsLogged request
+IsVerdictUnder request checkpoint (Some Request) = ⊥
+IsVerdictUnder request checkpoint (Some Checkpoint) = ⊥
+IsVerdictUnder request checkpoint (Some NoteKey) = ¬ IsSigned request checkpoint
+IsVerdictUnder request checkpoint (Some NoteMatch) = IsSigned request checkpoint × ¬ IsMatched request checkpoint
+IsVerdictUnder request checkpoint (Some Inclusion) = IsSigned request checkpoint × IsMatched request checkpoint × ¬ IsLogged request

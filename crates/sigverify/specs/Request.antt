@@ -1,15 +1,45 @@
 -- The request of `log`: what its text means.
-use Rattle.std.specs.Prelude.{◌≡◌, ℕ, ◌≤◌, List, length, Option, Some, None}
+use Rattle.std.specs.Prelude.{◌≡◌, ℕ, ◌≤◌, List, length, codes, Option, Some, None, Ok}
+use Rattle.serde_json.specs.Data.{Data}
+use Rattle.sig_json.specs.Document.{document_of}
+use Rattle.sig_json.specs.Kinds.{hash_of}
+use Rattle.sig_json.specs.Member.{required, required_bytes, required_hash, required_i64, required_text, required_u64, optional, optional_list}
+use Rattle.sig_json.specs.Reads.{◌>>=◌}
 use Rattle.sigverify.specs.declared.request.LogRequest.{LogRequest}
 use Rattle.sigverify.specs.Limit.{most_bytes}
+use Rattle.sigverify.specs.Row.{no_kind, row_of, scheme_kind}
 
-abbrev pub request_of : List ℕ → Option LogRequest
-request_of text = None
+-- the members of a request; one with `entries` is none
+unfoldable pub log_request : Data → Option LogRequest
+log_request d = do
+  entry ← required_bytes (codes "entry") d
+  log_index ← required_i64 (codes "logIndex") d
+  tree_size ← required_u64 (codes "treeSize") d
+  root_hash ← required_hash (codes "rootHash") d
+  hashes ← optional_list hash_of (codes "hashes") d
+  checkpoint ← required_text (codes "checkpoint") d
+  scheme ← required scheme_kind (codes "scheme") d
+  key ← required_bytes (codes "key") d
+  accepted ← optional_list row_of (codes "accepted") d
+  entries ← optional no_kind (codes "entries") d
+  Some (record {
+    entry = entry;
+    log_index = log_index;
+    tree_size = tree_size;
+    root_hash = root_hash;
+    hashes = hashes;
+    checkpoint = checkpoint;
+    scheme = scheme;
+    key = key;
+    accepted = accepted;
+  })
 
--- the text is this request: it has at most 2^24 bytes, and its members are these
+-- the text is this request: it has at most 2^24 bytes, it is a document, and its members are these
 pub record IsRequest (text : List ℕ) (request : LogRequest) : Type 0 where
+  pub tree : Data
   pub short : length text ≤ most_bytes
-  pub members : request_of text ≡ Some request
+  pub document : document_of text ≡ Ok tree
+  pub members : log_request tree ≡ Some request
 
 -- a request, exactly where the text is one
 abbrev pub IsReadFrom : List ℕ → Option LogRequest → Type 0

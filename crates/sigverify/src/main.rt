@@ -9,8 +9,11 @@ mod log;
 mod read;
 mod reply;
 mod request;
+mod row;
 mod run;
 mod std_stream;
+#[cfg(test)]
+mod tests;
 mod words;
 mod write;
 

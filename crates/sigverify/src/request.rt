@@ -1,7 +1,15 @@
-//! The request of `log`.
+//! `LogRequest`: the request of `log`.
 ghost use Rattle.std.specs.Prelude.{IfOk};
+ghost use Rattle.sig_json.specs.Reads.{Reads};
+ghost use Rattle.sig_json.specs.Tree.{tree};
 
+use crate::read::MOST_BYTES;
+use crate::row::{NoReader, RowReader, SchemeReader};
 use sig_base::{Bytes, Hashes, OutOfMemory, SigningScheme, TableChecker, Text};
+use sig_json::{
+    Document, DocumentError, HashReader, Json, MemberError, optional, optional_list, required,
+    required_bytes, required_hash, required_i64, required_text, required_u64,
+};
 use std::alloc::Global;
 
 /// The members of a request of `log`.
@@ -28,11 +36,54 @@ pub struct LogRequest {
 }
 
 impl LogRequest {
-    ghost use Rattle.sigverify.specs.Request.{IsReadFrom};
+    ghost use Rattle.sigverify.specs.Request.{IsReadFrom, log_request};
 
-    pub fn read(_alloc: Global, text: &[u8]) -> Result<Option<LogRequest>, OutOfMemory>
+    /// The request that a text is; none exactly where the text has more than 2^24 bytes, is no JSON document without floats, or has not the members
+    /// of a request. Refuses for want of memory alone.
+    #[tactic(auto, using(crate::proofs::Requests::unread))]
+    pub fn read(alloc: Global, text: &[u8]) -> Result<Option<LogRequest>, OutOfMemory>
         ensures { IfOk result (IsReadFrom text.now) }
     {
-        Err(OutOfMemory)
+        if text.len() > MOST_BYTES {
+            return Ok(None);
+        }
+        let document = match Document::read(alloc, text) {
+            Ok(document) => document,
+            Err(DocumentError::NotJson | DocumentError::Float) => return Ok(None),
+            Err(DocumentError::OutOfMemory) => return Err(OutOfMemory),
+        };
+        match LogRequest::of(alloc, document.view()) {
+            Ok(request) => Ok(Some(request)),
+            Err(MemberError::Member) => Ok(None),
+            Err(MemberError::OutOfMemory) => Err(OutOfMemory),
+        }
+    }
+
+    /// The request of these members. Refuses with `Member` where a member breaks its row of the table.
+    #[tactic(auto, unfolding(crate::specs::Request::log_request))]
+    fn of(alloc: Global, json: Json<'_>) -> Result<LogRequest, MemberError>
+        ensures { Reads (λ x. x) result (log_request (tree json.entry)) }
+    {
+        let entry = required_bytes(alloc, json, "entry")?;
+        let log_index = required_i64(json, "logIndex")?;
+        let tree_size = required_u64(json, "treeSize")?;
+        let root_hash = required_hash(json, "rootHash")?;
+        let hashes = optional_list::<HashReader>(alloc, json, "hashes")?;
+        let checkpoint = required_text(alloc, json, "checkpoint")?;
+        let scheme = required::<SchemeReader>(alloc, json, "scheme")?;
+        let key = required_bytes(alloc, json, "key")?;
+        let accepted = optional_list::<RowReader>(alloc, json, "accepted")?;
+        let _ = optional::<NoReader>(alloc, json, "entries")?;
+        Ok(LogRequest {
+            entry,
+            log_index,
+            tree_size,
+            root_hash,
+            hashes,
+            checkpoint,
+            scheme,
+            key,
+            accepted: TableChecker::from(accepted),
+        })
     }
 }

@@ -1,0 +1,152 @@
+-- Canonical texts, part by part, as the code writes them.
+use Rattle.std.proofs.Common.{◌≡◌, ◌==◌, ◌||◌, ℕ, zero, suc, ◌+◌, ◌<◌, ◌≤◌, ◌/◌, ◌%◌, Bool, true, false, cond, nat_lt, List, [], ◌∷◌, ◌++◌, length, map, take, drop, get_or, Option, Some, None, String, Vec, BTreeMap, Global, string_bytes, inl, inr, subst, refl, sym, ap, ◌∙◌, arith, append_assoc}
+use Rattle.std.proofs.lemmas.Bool.{eqb-true, or_cases}
+use Rattle.std.proofs.lemmas.List.{at_drop_more, append-nil, take_more, length_push}
+use Rattle.std.specs.BTreeMap.{insert_entry}
+use Rattle.std.specs.Char.Escape.{encode_utf16}
+use Rattle.std.specs.Char.{digit_char}
+use Rattle.std.specs.Cmp.Lexicographic.{slice_cmp}
+use Rattle.std.specs.List.{join_by, flat_map}
+use Rattle.std.specs.Map.{values_of}
+use Rattle.std.specs.Option.{option_and_then}
+use Rattle.std.specs.Ordering.{nat_cmp, match_ordering}
+use Rattle.std.specs.Prelude.{codes}
+use Rattle.std.specs.declared.cmp.Ordering.{Ordering}
+use Rattle.std.specs.declared.cmp.Ordering.TheVariants.{Less, Equal, Greater}
+use Rattle.json.specs.Print.{escape_byte}
+use Rattle.serde_json.specs.Data.{Data, string, Items, no_items, item, Members, no_members, member}
+use Rattle.serde_json.specs.View.{view, items_view, members_view}
+use Rattle.serde_json.specs.Written.{has_float, compact_text}
+use Rattle.serde_json.specs.declared.value.Value.{Value}
+use Rattle.sig_json.specs.Canonical.{escape_of, canon, canon_string, canon_items, canon_members, with_text, utf16_units}
+use Rattle.sig_json.specs.Spells.{texts_of, entry_of}
+
+-- ---- a text in quotation marks
+
+-- both spellings, by the answers of their tests
+same_escape : (x : ℕ) (a b c d e f g : Bool) → (a ≡ true → nat_lt 0 x ≡ true)
+    → cond a (92 ∷ x ∷ []) (cond b (codes "\\b") (cond c (codes "\\f") (cond d (codes "\\n") (cond e (codes "\\r") (cond f (codes "\\t") (cond g (codes "\\u00" ++ (digit_char (x / 16) ∷ digit_char (x % 16) ∷ [])) (x ∷ [])))))))
+    ≡ (let letter = cond a x (cond b 98 (cond c 102 (cond d 110 (cond e 114 (cond f 116 0))))) in
+    cond (nat_lt 0 letter) (92 ∷ letter ∷ []) (cond g (92 ∷ 117 ∷ 48 ∷ 48 ∷ digit_char (x / 16) ∷ digit_char (x % 16) ∷ []) (x ∷ [])))
+same_escape x true b c d e f g h = let above : nat_lt 0 x ≡ true = h refl in rw above refl
+same_escape x false true c d e f g h = refl
+same_escape x false false true d e f g h = refl
+same_escape x false false false true e f g h = refl
+same_escape x false false false false true f g h = refl
+same_escape x false false false false false true g h = refl
+same_escape x false false false false false false true h = refl
+same_escape x false false false false false false false h = refl
+
+-- a quotation mark and a backslash are no zero
+marks_above : (x : ℕ) → ((x == 34) || (x == 92)) ≡ true → nat_lt 0 x ≡ true
+marks_above x e =
+    elim (or_cases (x == 34) (x == 92) e) [
+      | inl mark ↦ let same : x ≡ 34 = eqb-true x 34 mark in rw same refl
+      | inr slash ↦ let same : x ≡ 92 = eqb-true x 92 slash in rw same refl
+    ]
+
+escape_of-escape_byte : (x : ℕ) → escape_of x ≡ escape_byte x
+unfolding escape_byte
+escape_of-escape_byte x = same_escape x ((x == 34) || (x == 92)) (x == 8) (x == 12) (x == 10) (x == 13) (x == 9) (nat_lt x 32) (marks_above x)
+
+flat_map-escape_of : (text : List ℕ) → flat_map escape_of text ≡ flat_map escape_byte text
+flat_map-escape_of [] = refl
+flat_map-escape_of (x ∷ xs) = rw (escape_of-escape_byte x, flat_map-escape_of xs) refl
+
+pub canon_string-compact : (text : List ℕ) (d : Data) (spelled : List ℕ) → d ≡ string text → (has_float d ≡ false → spelled ≡ compact_text d) → Some (canon_string text) ≡ Some spelled
+unfolding canon_string
+canon_string-compact text d spelled is h =
+    let written : spelled ≡ compact_text (string text) = (let P : Data → Type 0 = λ t. has_float t ≡ false → spelled ≡ compact_text t in subst P is h) refl in
+    rw (written, flat_map-escape_of text) refl
+
+pub ruleset quoted_texts = (canon_string-compact)
+
+-- ---- lists
+
+-- the texts so far, and those of the values that are left
+abbrev pub with_left : List (String Global) → List Value → Option (List (List ℕ))
+with_left texts left = option_and_then (λ rest. Some (texts_of texts ++ rest)) (canon_items (items_view left))
+
+pub with_left-none : (values : List Value) → canon_items (items_view values) ≡ with_left [] values
+with_left-none values = nothing_before (canon_items (items_view values)) where
+  nothing_before : (found : Option (List (List ℕ))) → found ≡ option_and_then (λ rest. Some ([] ++ rest)) found
+  nothing_before None = refl
+  nothing_before (Some texts) = refl
+
+texts_of-append : (texts : List (String Global)) (text : String Global) → texts_of (texts ++ text ∷ []) ≡ texts_of texts ++ string_bytes text ∷ []
+texts_of-append [] text = refl
+texts_of-append (t ∷ ts) text = ap (λ rest. string_bytes t ∷ rest) (texts_of-append ts text)
+
+one_more : (done : List (List ℕ)) (text : List ℕ) (found : Option (List (List ℕ))) → option_and_then (λ rest. Some (done ++ rest)) (option_and_then (λ texts. Some (text ∷ texts)) found) ≡ option_and_then (λ rest. Some ((done ++ text ∷ []) ++ rest)) found
+one_more done text None = refl
+one_more done text (Some rest) = ap Some (sym (append_assoc done (text ∷ []) rest))
+
+left_here : (values : List Value) (i : ℕ) (value : Value) → i < length values → value ≡ get_or values i value → canon_items (items_view (drop i values)) ≡ option_and_then (λ text. option_and_then (λ texts. Some (text ∷ texts)) (canon_items (items_view (drop (i + 1) values)))) (canon (view value))
+left_here values i value h is =
+    at_drop_more (λ vs. canon_items (items_view vs)) values i value h ∙ ap (λ v. option_and_then (λ text. option_and_then (λ texts. Some (text ∷ texts)) (canon_items (items_view (drop (i + 1) values)))) (canon (view v))) (sym is)
+
+pub with_left-more : (values : List Value) (i : ℕ) (value : Value) (texts after : List (String Global)) (text : String Global) → i < length values → value ≡ get_or values i value → canon (view value) ≡ Some (string_bytes text) → after ≡ texts ++ text ∷ [] → canon_items (items_view values) ≡ with_left texts (drop i values) → canon_items (items_view values) ≡ with_left after (drop (i + 1) values)
+with_left-more values i value texts after text h is spells pushes so_far =
+    so_far ∙ rw (left_here values i value h is, spells, pushes, texts_of-append texts text) (one_more (texts_of texts) (string_bytes text) (canon_items (items_view (drop (i + 1) values))))
+
+pub with_left-refused : (values : List Value) (i : ℕ) (value : Value) (texts : List (String Global)) → i < length values → value ≡ get_or values i value → canon (view value) ≡ None → canon_items (items_view values) ≡ with_left texts (drop i values) → canon_items (items_view values) ≡ None
+with_left-refused values i value texts h is refused so_far = so_far ∙ rw (left_here values i value h is, refused) refl
+
+pub with_left-all : (values : List Value) (texts : List (String Global)) → canon_items (items_view values) ≡ with_left texts [] → canon_items (items_view values) ≡ Some (texts_of texts)
+with_left-all values texts so_far = so_far ∙ ap Some (append-nil (texts_of texts))
+
+pub join_by-texts_of : (separator : List ℕ) (texts : List (String Global)) → join_by string_bytes separator texts ≡ join_by (λ text. text) separator (texts_of texts)
+join_by-texts_of separator [] = refl
+join_by-texts_of separator (t ∷ ts) = ap (λ rest. string_bytes t ++ rest) (rest_same ts) where
+  rest_same : (rest : List (String Global)) → flat_map (λ text. separator ++ string_bytes text) rest ≡ flat_map (λ text. separator ++ text) (texts_of rest)
+  rest_same [] = refl
+  rest_same (r ∷ rs) = ap (λ more. (separator ++ string_bytes r) ++ more) (rest_same rs)
+
+pub ruleset canonical_items = (with_left-none, with_left-more, with_left-refused, with_left-all)
+
+-- ---- objects
+
+abbrev Entry : Type 0
+Entry = Vec ℕ Global × String Global
+
+entries-match_ordering : (o : Ordering) (a b c : List Entry) → map entry_of (match_ordering o a b c) ≡ match_ordering o (map entry_of a) (map entry_of b) (map entry_of c)
+entries-match_ordering Less a b c = refl
+entries-match_ordering Equal a b c = refl
+entries-match_ordering Greater a b c = refl
+
+entries-insert_entry : (es : List Entry) (units : Vec ℕ Global) (text : String Global) → map entry_of (insert_entry (λ x y. slice_cmp nat_cmp x.items y.items) es units text) ≡ insert_entry (slice_cmp nat_cmp) (map entry_of es) units.items (string_bytes text)
+entries-insert_entry [] units text = refl
+entries-insert_entry (e ∷ es) units text = entries-match_ordering (slice_cmp nat_cmp units.items e.0.items) _ _ _ ∙ rw (entries-insert_entry es units text) refl
+
+pub values_of-entries : (es : List Entry) → values_of (map entry_of es) ≡ texts_of (values_of es)
+values_of-entries [] = refl
+values_of-entries (e ∷ es) = ap (λ rest. string_bytes e.1 ∷ rest) (values_of-entries es)
+
+pub ruleset joins = (join_by-texts_of, values_of-entries)
+
+-- the member's text at its place, as the code's map has it
+pub with_text-inserted : (es after : List Entry) (units : Vec ℕ Global) (made : String Global) (name text quoted : List ℕ) → after ≡ insert_entry (λ x y. slice_cmp nat_cmp x.items y.items) es units made → units.items ≡ utf16_units name → Some (canon_string name) ≡ Some quoted → string_bytes made ≡ quoted ++ 58 ∷ text → map entry_of after ≡ with_text (map entry_of es) name text
+unfolding with_text
+with_text-inserted es after units made name text quoted inserts same_units spells joins =
+    let same : canon_string name ≡ quoted = cc in
+    rw (inserts, entries-insert_entry es units made, same_units, joins, same) refl
+
+-- ---- units
+
+flat_map-append : (f : ℕ → List ℕ) (xs ys : List ℕ) → flat_map f (xs ++ ys) ≡ flat_map f xs ++ flat_map f ys
+flat_map-append f [] ys = refl
+flat_map-append f (x ∷ xs) ys = rw (flat_map-append f xs ys) (sym (append_assoc (f x) (flat_map f xs) (flat_map f ys)))
+
+pub units_more : (cs yielded : List ℕ) (c : ℕ) → (length yielded < length cs) × (c ≡ get_or cs (length yielded) c) → (units after : List ℕ) → units ≡ flat_map encode_utf16 (take (length yielded) cs) → after ≡ units ++ encode_utf16 c → after ≡ flat_map encode_utf16 (take (length (yielded ++ c ∷ [])) cs)
+units_more cs yielded c here units after so_far more =
+    let front : take (length (yielded ++ c ∷ [])) cs ≡ take (length yielded) cs ++ c ∷ [] =
+    rw (length_push yielded c) (take_more cs (length yielded) c here.0 ∙ ap (λ x. take (length yielded) cs ++ x ∷ []) (sym here.1)) in
+    more ∙ rw (so_far, front, flat_map-append encode_utf16 (take (length yielded) cs) (c ∷ [])) (ap (λ rest. flat_map encode_utf16 (take (length yielded) cs) ++ rest) (sym (append-nil (encode_utf16 c))))
+
+take_whole : (cs : List ℕ) → take (length cs) cs ≡ cs
+take_whole [] = refl
+take_whole (c ∷ cs) = ap (λ rest. c ∷ rest) (take_whole cs)
+
+pub units_all : (cs yielded : List ℕ) → length yielded ≡ length cs → (units : List ℕ) → units ≡ flat_map encode_utf16 (take (length yielded) cs) → units ≡ flat_map encode_utf16 cs
+units_all cs yielded whole units so_far =
+    let all : take (length yielded) cs ≡ cs = rw whole (take_whole cs) in so_far ∙ ap (flat_map encode_utf16) all

@@ -1,0 +1,103 @@
+//! Whether two trees are equal: a recursion over kinds, elements and members.
+ghost use Rattle.std.specs.Prelude.{◌≡◌, ◌↔◌, IsTrue, false};
+ghost use Rattle.serde_json.specs.View.{view, number_view, items_view, members_view};
+ghost use Rattle.serde_json.specs.Find.{is_float};
+ghost use Rattle.serde_json.specs.Written.{has_float, items_have_float, members_have_float};
+
+use crate::view::Json;
+use serde_json::{Map, Number, Value};
+
+impl Json<'_> {
+    ghost use Rattle.sig_json.specs.Tree.{tree};
+
+    /// Whether the two trees are equal. It takes no memory.
+    pub fn equals(self, other: Json<'_>) -> bool
+        ensures { IsTrue result ↔ (tree self.entry ≡ tree other.entry) }
+    {
+        is_same(self.value, other.value)
+    }
+}
+
+#[cycle(same)]
+#[tactic(auto, using(crate::proofs::SameTrees::same_trees))]
+fn is_same(a: &Value, b: &Value) -> bool
+    requires a_whole { has_float (view a.now) ≡ false }
+    requires b_whole { has_float (view b.now) ≡ false }
+    ensures { IsTrue result ↔ (view a.now ≡ view b.now) }
+{
+    match a {
+        Value::Null => b.is_null(),
+        Value::Bool(truth) => match b.as_bool() {
+            Some(other) => *truth == other,
+            None => false,
+        },
+        Value::Number(number) => match b.as_number() {
+            Some(other) => is_same_number(number, other),
+            None => false,
+        },
+        Value::String(text) => match b.as_str() {
+            Some(other) => text.as_str() == other,
+            None => false,
+        },
+        Value::Array(items) => match b.as_array() {
+            Some(others) => are_same_items(items, others),
+            None => false,
+        },
+        Value::Object(members) => match b.as_object() {
+            Some(others) => are_same_members(members, others),
+            None => false,
+        },
+    }
+}
+
+#[tactic(auto, using(crate::proofs::SameTrees::same_numbers))]
+fn is_same_number(a: &Number, b: &Number) -> bool
+    requires a_whole { is_float (number_view a.now) ≡ false }
+    requires b_whole { is_float (number_view b.now) ≡ false }
+    ensures { IsTrue result ↔ (number_view a.now ≡ number_view b.now) }
+{
+    match (a.as_u64(), b.as_u64()) {
+        (Some(x), Some(y)) => x == y,
+        (None, None) => a.as_i64() == b.as_i64(),
+        _ => false,
+    }
+}
+
+#[cycle(same)]
+#[tactic(auto, using(crate::proofs::SameTrees::same_trees))]
+fn are_same_items(a: &Vec<Value>, b: &Vec<Value>) -> bool
+    requires a_whole { items_have_float (items_view a.now.items) ≡ false }
+    requires b_whole { items_have_float (items_view b.now.items) ≡ false }
+    ensures { IsTrue result ↔ (items_view a.now.items ≡ items_view b.now.items) }
+{
+    if a.len() != b.len() {
+        return false;
+    }
+    'items: for (place, item) in a.iter().enumerate() {
+        if !is_same(item, &b[place]) {
+            return false;
+        }
+    }
+    true
+}
+
+#[cycle(same)]
+#[tactic(auto, using(crate::proofs::SameTrees::same_members))]
+fn are_same_members(a: &Map<String, Value>, b: &Map<String, Value>) -> bool
+    requires a_whole { members_have_float (members_view a.now.entries) ≡ false }
+    requires b_whole { members_have_float (members_view b.now.entries) ≡ false }
+    ensures { IsTrue result ↔ (members_view a.now.entries ≡ members_view b.now.entries) }
+{
+    let mut others = b.iter();
+    'members: for (name, member) in a {
+        match others.next() {
+            Some((other_name, other)) => if name.as_str() != other_name.as_str()
+                || !is_same(member, other)
+            {
+                return false;
+            },
+            None => return false,
+        }
+    }
+    others.next().is_none()
+}

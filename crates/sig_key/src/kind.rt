@@ -1,0 +1,128 @@
+//! What kind of key a text is.
+ghost use Rattle.std.specs.Prelude.{◌≡◌, ℕ, length, option_map, IfSome};
+ghost use Rattle.sig_der.specs.Lent.{piece_of};
+ghost use Rattle.sig_der.specs.KeyInfoPlaces.{algorithm_of, key_info_of, IsKeyInfoWithin};
+ghost use Rattle.sig_key.specs.declared.kind.KeyKind.{KeyKind as Kind};
+ghost use Rattle.sig_key.specs.Kind.{curve_scheme, parameters_scheme, scheme_by, algorithm_scheme, whole_key_info, key_kind, IsKind};
+
+use sig_base::VerifyScheme;
+use sig_der::{Element, KeyInfoPlaces, key_info_at, oid};
+
+/// The tag of an object identifier.
+const OBJECT_IDENTIFIER: u8 = 6;
+
+/// What kind of key a text is.
+#[derive(Clone, Copy, PartialEq, Eq)]
+pub enum KeyKind {
+    /// The text is no key info.
+    NoKeyInfo,
+    /// A key info of no scheme that is known.
+    Unsupported,
+    /// A key that signatures are checked with under this scheme.
+    Scheme(VerifyScheme),
+}
+
+/// The scheme of a curve by its object identifier.
+fn curve_of(curve: &[u8]) -> Option<VerifyScheme>
+    ensures { result ≡ curve_scheme curve.now }
+{
+    if curve == oid::P256 {
+        Some(VerifyScheme::ECDSA_P256_SHA256_ASN1)
+    } else if curve == oid::P384 {
+        Some(VerifyScheme::ECDSA_P384_SHA384_ASN1)
+    } else if curve == oid::P521 {
+        Some(VerifyScheme::ECDSA_P521_SHA512_ASN1)
+    } else {
+        None
+    }
+}
+
+/// The scheme of the curve that the parameters name.
+fn curve_of_parameters(parameters: Option<Element<'_>>) -> Option<VerifyScheme>
+    ensures { result ≡ parameters_scheme (option_map piece_of parameters.entry) }
+{
+    match parameters {
+        Some(
+            Element {
+                tag: OBJECT_IDENTIFIER,
+                content,
+                ..
+            },
+        ) => curve_of(content),
+        _ => None,
+    }
+}
+
+/// The scheme of an algorithm by its object identifier and parameters.
+fn scheme_of(algorithm: &[u8], parameters: Option<Element<'_>>) -> Option<VerifyScheme>
+    ensures { result ≡ scheme_by algorithm.now (option_map piece_of parameters.entry) }
+{
+    if algorithm == oid::EC_PUBLIC_KEY {
+        curve_of_parameters(parameters)
+    } else if algorithm == oid::RSA {
+        Some(VerifyScheme::RSA_PKCS1_SHA256)
+    } else if algorithm == oid::ED25519 {
+        Some(VerifyScheme::ED25519)
+    } else {
+        None
+    }
+}
+
+/// The scheme of the key info at the places.
+fn scheme_at(spki: &[u8], info: KeyInfoPlaces) -> Option<VerifyScheme>
+    requires { IsKeyInfoWithin 0 (length spki.now) info }
+    ensures { result ≡ algorithm_scheme (algorithm_of spki.now info.algorithm) }
+{
+    let oid = info.algorithm.oid;
+    let algorithm = &spki[oid.content..oid.end];
+    match info.algorithm.parameters {
+        None => scheme_of(algorithm, None),
+        Some(place) => {
+            let parameters = Element {
+                tag: place.tag,
+                whole: &spki[place.start..place.end],
+                content: &spki[place.content..place.end],
+            };
+            scheme_of(algorithm, Some(parameters))
+        }
+    }
+}
+
+/// The key info that the whole text is.
+#[tactic(auto, unfolding(crate::specs::Kind::whole_key_info))]
+fn whole_info(spki: &[u8]) -> Option<KeyInfoPlaces>
+    ensures cut { whole_key_info spki.now ≡ option_map (key_info_of spki.now) result }
+    ensures within { IfSome result (IsKeyInfoWithin 0 (length spki.now)) }
+{
+    let info = key_info_at(spki, 0, spki.len())?;
+    if spki[info.whole.end..spki.len()].is_empty() {
+        Some(info)
+    } else {
+        None
+    }
+}
+
+#[tactic(auto, unfolding(crate::specs::Kind::key_kind))]
+fn kind_of(spki: &[u8]) -> KeyKind
+    ensures { result ≡ key_kind spki.now }
+{
+    let Some(info) = whole_info(spki) else {
+        return KeyKind::NoKeyInfo;
+    };
+    match scheme_at(spki, info) {
+        None => KeyKind::Unsupported,
+        Some(scheme) => KeyKind::Scheme(scheme),
+    }
+}
+
+/// The kind of key that the text is: a SubjectPublicKeyInfo with an elliptic curve key on P-256, P-384 or P-521, with an RSA key or
+/// with an Ed25519 key, the last two with any parameters or none; another SubjectPublicKeyInfo; or none at all. Takes no memory.
+pub fn key_kind(spki: &[u8]) -> KeyKind
+    // The kind that the definition gives, and no other.
+    ensures is { IsKind spki.now result }
+    ensures only { (kind : Kind) → IsKind spki.now kind → kind ≡ result }
+    // What the plain reader answers.
+    ensures exact { result ≡ key_kind spki.now }
+{
+    kind_of(spki)
+}

@@ -1,0 +1,18 @@
+-- The engine is strict: it decodes what it encodes and nothing else.
+use Rattle.std.proofs.Common.{◌≡◌, ℕ, List, Option, Some, None, Result, Ok, Err, refl, ap, ◌∙◌, sym}
+use Rattle.std.specs.Result.{result_ok}
+use Rattle.base64.specs.GeneralPurpose.{decode_of}
+use Rattle.base64.specs.Engines.{standard}
+use Rattle.base64.proofs.EngineFacts.{decode_of_iff}
+use Rattle.sig_rekor.specs.Reading.{base64_bytes, base64_text}
+use Rattle.sig_rekor.proofs.laws.base64_texts.Goals as goal
+
+ok_from : {A E : Type 0} (r : Result A E) (x : A) → result_ok r ≡ Some x → r ≡ Ok x
+ok_from (Ok y) x e = (let same : y ≡ x = cc in cc)
+ok_from (Err fault) x e = cc
+
+pub returns : goal.returns
+unfolding base64_bytes base64_text
+returns c = λ text bytes text_bytes some_bytes.
+    let iff = decode_of_iff standard text bytes (refl, refl) text_bytes some_bytes in
+    ((λ e. iff.0 (ok_from (decode_of standard text) bytes e)), (λ e. ap result_ok (iff.1 e)))

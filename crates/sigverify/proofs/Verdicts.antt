@@ -1,0 +1,82 @@
+-- The first failing link of a request, from what holds under its checkpoint.
+use Rattle.std.proofs.Common.{◌≡◌, ◌<◌, ℕ, List, Option, Some, None, Result, Ok, Err, IfOk, subst, sym, arith}
+use Rattle.sig_base.specs.declared.memory.OutOfMemory.{OutOfMemory}
+use Rattle.sig_base.specs.declared.fault.CheckpointFault.{CheckpointFault}
+use Rattle.sig_rekor.specs.declared.checkpoint.SignedCheckpoint.{SignedCheckpoint}
+use Rattle.sig_rekor.specs.CheckpointText.{IsCheckpoint}
+use Rattle.sigverify.specs.declared.link.Link.{Link}
+use Rattle.sigverify.specs.declared.link.Link.TheVariants.{Request, Checkpoint, NoteKey, NoteMatch, Inclusion}
+use Rattle.sigverify.specs.declared.request.LogRequest.{LogRequest}
+use Rattle.sigverify.specs.Link.{place_of, HoldsOf, IsVerdict, IsVerdictUnder, OfCheckpoint, IsSigned, IsMatched}
+
+-- the text has no reading
+pub unread-verdict : (request : LogRequest) → ((checkpoint : SignedCheckpoint) → ¬ IsCheckpoint request.checkpoint checkpoint)
+    → IsVerdict request (Some Checkpoint)
+unread-verdict request none = record { earlier = before; fails = λ holds. none holds.0 holds.1 } where
+  before : (other : Link) → place_of other < place_of Checkpoint → HoldsOf request other
+  before Request lt = tt
+  before Checkpoint lt = absurd (omega arith)
+  before NoteKey lt = absurd (omega arith)
+  before NoteMatch lt = absurd (omega arith)
+  before Inclusion lt = absurd (omega arith)
+
+-- what does not hold of the one reading holds of none
+other-reading : (request : LogRequest) (checkpoint : SignedCheckpoint) (P : SignedCheckpoint → Type 0)
+    → ((other : SignedCheckpoint) → IsCheckpoint request.checkpoint other → other ≡ checkpoint) → ¬ P checkpoint → ¬ OfCheckpoint request P
+other-reading request checkpoint P only fails holds = fails (subst P (only holds.0 holds.1) holds.2)
+
+-- the verdict under the one reading is that of the request
+pub under-verdict : (request : LogRequest) (checkpoint : SignedCheckpoint) (verdict : Option Link) → IsCheckpoint request.checkpoint checkpoint
+    → ((other : SignedCheckpoint) → IsCheckpoint request.checkpoint other → other ≡ checkpoint)
+    → IsVerdictUnder request checkpoint verdict → IsVerdict request verdict
+under-verdict request checkpoint None is only under = every where
+  every : (link : Link) → HoldsOf request link
+  every Request = tt
+  every Checkpoint = (checkpoint, is, tt)
+  every NoteKey = (checkpoint, is, under.0)
+  every NoteMatch = (checkpoint, is, under.1)
+  every Inclusion = under.2
+under-verdict request checkpoint (Some Request) is only under = absurd under
+under-verdict request checkpoint (Some Checkpoint) is only under = absurd under
+under-verdict request checkpoint (Some NoteKey) is only under =
+    record { earlier = before; fails = other-reading request checkpoint (IsSigned request) only under } where
+      before : (other : Link) → place_of other < place_of NoteKey → HoldsOf request other
+      before Request lt = tt
+      before Checkpoint lt = (checkpoint, is, tt)
+      before NoteKey lt = absurd (omega arith)
+      before NoteMatch lt = absurd (omega arith)
+      before Inclusion lt = absurd (omega arith)
+under-verdict request checkpoint (Some NoteMatch) is only under =
+    record { earlier = before; fails = other-reading request checkpoint (IsMatched request) only under.1 } where
+      before : (other : Link) → place_of other < place_of NoteMatch → HoldsOf request other
+      before Request lt = tt
+      before Checkpoint lt = (checkpoint, is, tt)
+      before NoteKey lt = (checkpoint, is, under.0)
+      before NoteMatch lt = absurd (omega arith)
+      before Inclusion lt = absurd (omega arith)
+under-verdict request checkpoint (Some Inclusion) is only under = record { earlier = before; fails = under.2 } where
+  before : (other : Link) → place_of other < place_of Inclusion → HoldsOf request other
+  before Request lt = tt
+  before Checkpoint lt = (checkpoint, is, tt)
+  before NoteKey lt = (checkpoint, is, under.0)
+  before NoteMatch lt = (checkpoint, is, under.1)
+  before Inclusion lt = absurd (omega arith)
+
+-- the answers of the reader: no reading, and one
+pub refused-verdict : (request : LogRequest) (text : List ℕ) (fault : CheckpointFault) → text ≡ request.checkpoint
+    → ((other : SignedCheckpoint) → IsCheckpoint text other → ◌≡◌ {A = Result SignedCheckpoint CheckpointFault} (Ok other) (Err fault))
+    → IsVerdict request (Some Checkpoint)
+refused-verdict request text fault same none =
+    unread-verdict request (λ other is. let e = none other (subst (λ t. IsCheckpoint t other) (sym same) is) in cc)
+
+same_reading : (a b : SignedCheckpoint) → ◌≡◌ {A = Result SignedCheckpoint CheckpointFault} (Ok a) (Ok b) → a ≡ b
+same_reading a b e = cc
+
+pub read-verdict : (request : LogRequest) (text : List ℕ) (checkpoint : SignedCheckpoint) (verdict : Result (Option Link) OutOfMemory) → text ≡ request.checkpoint
+    → IsCheckpoint text checkpoint
+    → ((other : SignedCheckpoint) → IsCheckpoint text other → ◌≡◌ {A = Result SignedCheckpoint CheckpointFault} (Ok other) (Ok checkpoint))
+    → IfOk verdict (IsVerdictUnder request checkpoint) → IfOk verdict (IsVerdict request)
+read-verdict request text checkpoint (Err memory) same is only under = tt
+read-verdict request text checkpoint (Ok verdict) same is only under =
+    under-verdict request checkpoint verdict (subst (λ t. IsCheckpoint t checkpoint) same is)
+    (λ other other_is. same_reading other checkpoint (only other (subst (λ t. IsCheckpoint t other) (sym same) other_is))) under

@@ -1,0 +1,101 @@
+//! Readers of the values that only requests of this program have: schemes, operations, rows of `accepted`, and members that have to be absent.
+ghost use Rattle.std.specs.Prelude.{Option};
+ghost use Rattle.serde_json.specs.Data.{Data};
+ghost use Rattle.sig_json.specs.Reads.{Reads};
+ghost use Rattle.sig_json.specs.Tree.{tree};
+ghost use Rattle.sigverify.specs.Row.{no_kind, operation_kind, row_of, scheme_for, scheme_kind};
+
+use sig_base::{AcceptedRow, Bytes, Operation, SigningScheme};
+use sig_json::{ElementReader, Json, MemberError, optional, required, required_bytes};
+use std::alloc::Global;
+
+/// Reads names of signature schemes.
+pub enum SchemeReader {}
+
+impl ElementReader for SchemeReader {
+    type Item = SigningScheme;
+
+    ghost meaning = { scheme_kind };
+
+    #[tactic(auto, unfolding(crate::specs::Row::scheme_kind, sig_json::specs::Kinds::text_of))]
+    fn read(_alloc: Global, json: Json<'_>) -> Result<SigningScheme, MemberError> {
+        let Some(name) = json.text() else {
+            return Err(MemberError::Member);
+        };
+        match SigningScheme::try_from(name) {
+            Ok(scheme) => Ok(scheme),
+            Err(_) => Err(MemberError::Member),
+        }
+    }
+}
+
+/// Reads names of operations: `message`, `prehash`, `point`, `certificate`.
+enum OperationReader {}
+
+impl ElementReader for OperationReader {
+    type Item = Operation;
+
+    ghost meaning = { operation_kind };
+
+    #[tactic(auto, unfolding(crate::specs::Row::operation_kind, sig_json::specs::Kinds::text_of))]
+    fn read(_alloc: Global, json: Json<'_>) -> Result<Operation, MemberError> {
+        match json.text() {
+            Some("message") => Ok(Operation::Message),
+            Some("prehash") => Ok(Operation::Prehash),
+            Some("point") => Ok(Operation::Point),
+            Some("certificate") => Ok(Operation::Certificate),
+            _ => Err(MemberError::Member),
+        }
+    }
+}
+
+/// Reads nothing: a member that has to be absent or null is an optional one of this kind.
+pub enum NoReader {}
+
+impl ElementReader for NoReader {
+    type Item = Bytes;
+
+    ghost meaning = { no_kind };
+
+    fn read(_alloc: Global, _json: Json<'_>) -> Result<Bytes, MemberError> {
+        Err(MemberError::Member)
+    }
+}
+
+/// Reads rows of `accepted`: `operation`, `scheme`, `key`, `message` and `signature`, of which the last three are base64 and required.
+pub enum RowReader {}
+
+impl ElementReader for RowReader {
+    type Item = AcceptedRow;
+
+    ghost meaning = { row_of };
+
+    #[tactic(auto, unfolding(crate::specs::Row::row_of))]
+    fn read(alloc: Global, json: Json<'_>) -> Result<AcceptedRow, MemberError> {
+        let operation = required::<OperationReader>(alloc, json, "operation")?;
+        Ok(AcceptedRow {
+            operation,
+            scheme: read_scheme(alloc, json, operation)?,
+            key: required_bytes(alloc, json, "key")?,
+            message: required_bytes(alloc, json, "message")?,
+            signature: required_bytes(alloc, json, "signature")?,
+        })
+    }
+}
+
+/// The scheme of a row: a scheme's name for a message and for a digest, absent for a point, and base64 of the algorithm element for a certificate.
+fn read_scheme(alloc: Global, json: Json<'_>, operation: Operation) -> Result<Bytes, MemberError>
+    ensures { Reads (λ x. x) result (scheme_for operation (tree json.entry)) }
+{
+    match operation {
+        Operation::Message | Operation::Prehash => {
+            let scheme = required::<SchemeReader>(alloc, json, "scheme")?;
+            Ok(Bytes::copy_of(alloc, scheme.scheme().name().as_bytes())?)
+        }
+        Operation::Point => {
+            let _ = optional::<NoReader>(alloc, json, "scheme")?;
+            Ok(Bytes::copy_of(alloc, &[])?)
+        }
+        Operation::Certificate => required_bytes(alloc, json, "scheme"),
+    }
+}
