@@ -3,6 +3,13 @@ pub mod ExtensionLaws
 pub mod HeadLaws
 pub mod BodyLaws
 pub mod CertificateLaws
+pub mod Readings
+pub mod HeldLaws
+pub mod WalkLaws
+pub mod PemLaws
+pub mod Utf8
+pub mod IdentityLaws
+pub mod RequestLaws
 pub mod Spans
 pub mod KeyLaws
 pub mod KeyringLaws
@@ -10,7 +17,4 @@ pub mod VectorLaws
 pub mod SctLaws
 pub mod OnlyOne
 pub mod PrecertLaws
-pub mod Readings
-pub mod HeldLaws
-pub mod WalkLaws
-pub mod PemLaws
+pub mod EmbeddedLaws

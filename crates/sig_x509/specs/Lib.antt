@@ -4,25 +4,25 @@ pub mod Places
 pub mod Answers
 pub mod Held
 pub mod Lookups
+pub mod Values
+pub mod Names
+pub mod NamePlaces
+pub mod Profile
+pub mod Trust
+pub mod Pem
+pub mod Texts
+pub mod Failures
+pub mod Verdict
+pub mod Single
+pub mod Claim
+pub mod Identities
+pub mod Requests
 pub mod RingKey
 pub mod Keyring
 pub mod Vectors
 pub mod SctList
 pub mod Timestamps
 pub mod Lent
-pub mod Values
-<<<<<<< HEAD
 pub mod Precert
 pub mod SctBytes
-=======
->>>>>>> a2bc4b215983615acefe2da5fa4704e9ea57f3d5
-pub mod Names
-pub mod NamePlaces
-pub mod Profile
-pub mod Trust
-pub mod Pem
-<<<<<<< HEAD
-=======
-pub mod Precert
-pub mod SctBytes
->>>>>>> a2bc4b215983615acefe2da5fa4704e9ea57f3d5
+pub mod Embedded

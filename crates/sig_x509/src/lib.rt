@@ -16,6 +16,7 @@ mod names;
 mod opaque;
 mod parts;
 mod pem;
+mod policy;
 mod precert;
 mod profile;
 mod profile_error;
@@ -43,6 +44,12 @@ pub use keyring::Keyring;
 pub use keyring_error::KeyringError;
 pub use lookup::{ExtensionRef, Lookup};
 pub use pem::der_to_pem;
+pub use policy::{
+    GitHubWorkflowName, GitHubWorkflowRef, GitHubWorkflowRepository, GitHubWorkflowSHA,
+    GitHubWorkflowTrigger, Identity, LeafPolicies, LeafPolicy, OIDCIssuer, PolicyError,
+    PolicyErrors, PolicyResult, RequestPolicy, SingleX509ExtPolicy, VerificationPolicy,
+    verify_single,
+};
 pub use precert::precert_tbs_der;
 pub use profile::{is_ca, is_leaf, is_root_ca};
 pub use profile_error::{

@@ -9,6 +9,12 @@ mod request;
 mod single;
 mod utf8;
 
+ghost use Rattle.std.specs.Prelude.{Bool};
+ghost use Rattle.sig_x509.specs.Certificate.{Cert};
+ghost use Rattle.sig_x509.specs.declared.policy.failure.PolicyError.{PolicyError};
+ghost use Rattle.sig_x509.specs.Verdict.{IsVerdict};
+
+use crate::certificate::Certificate;
 pub use failure::{PolicyError, PolicyErrors};
 pub use fulcio::{
     GitHubWorkflowName, GitHubWorkflowRef, GitHubWorkflowRepository, GitHubWorkflowSHA,
@@ -17,13 +23,6 @@ pub use fulcio::{
 pub use identity::Identity;
 pub use request::{LeafPolicies, LeafPolicy, RequestPolicy};
 pub use single::{SingleX509ExtPolicy, verify_single};
-
-ghost use Rattle.std.specs.Prelude.{Bool};
-ghost use Rattle.sig_x509.specs.Certificate.{Cert};
-ghost use Rattle.sig_x509.specs.declared.policy.failure.PolicyError.{PolicyError};
-ghost use Rattle.sig_x509.specs.Verdict.{IsVerdict};
-
-use crate::certificate::Certificate;
 use std::alloc::Global;
 
 /// Nothing where the policy holds of the certificate, else why not.

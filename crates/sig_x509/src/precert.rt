@@ -14,6 +14,7 @@ use sig_der::write_short;
 use std::alloc::{AllocError, Global};
 
 const SEQUENCE: u8 = 48;
+
 const EXTENSIONS: u8 = 163;
 
 /// The signed part that a log saw before it issued the certificate's timestamp: the elements of the certificate's signed part, each

@@ -37,7 +37,12 @@ fn identity_of(bytes: &[u8], name: NamePlaces) -> Option<&str>
 
 /// The identities that the names from `at` to `end` itself give, in order. None where something else stands there. Refuses for
 /// want of memory alone.
-fn identities_at(alloc: Global, bytes: &[u8], at: usize, end: usize) -> Result<Option<Vec<&str>>, OutOfMemory>
+fn identities_at(
+    alloc: Global,
+    bytes: &[u8],
+    at: usize,
+    end: usize,
+) -> Result<Option<Vec<&str>>, OutOfMemory>
     requires from { at ≤ end }
     requires to { end ≤ length bytes.now }
     ensures { IfOk result (λ o. option_map (λ v. map (λ t. t.now) v.items) o

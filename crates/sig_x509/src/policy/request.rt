@@ -85,7 +85,11 @@ impl VerificationPolicy for RequestPolicy {
 }
 
 /// None where the policy holds, else its refusal. Refuses for want of memory alone.
-fn refusal(alloc: Global, policy: &LeafPolicy, cert: &Certificate) -> Result<Option<PolicyError>, OutOfMemory>
+fn refusal(
+    alloc: Global,
+    policy: &LeafPolicy,
+    cert: &Certificate,
+) -> Result<Option<PolicyError>, OutOfMemory>
     ensures { IfOk result (λ o. o ≡ refused cert.now policy.now) }
 {
     match policy.verify(alloc, cert) {
@@ -96,7 +100,11 @@ fn refusal(alloc: Global, policy: &LeafPolicy, cert: &Certificate) -> Result<Opt
 }
 
 /// The refusals of the policies that do not hold, in order. Refuses for want of memory alone.
-fn refusals(alloc: Global, policies: &[LeafPolicy], cert: &Certificate) -> Result<PolicyErrors, OutOfMemory>
+fn refusals(
+    alloc: Global,
+    policies: &[LeafPolicy],
+    cert: &Certificate,
+) -> Result<PolicyErrors, OutOfMemory>
     ensures { IfOk result (λ es. failures es ≡ filter_map (refused cert.now) policies.now) }
 {
     let mut errors = PolicyErrors::new(alloc);

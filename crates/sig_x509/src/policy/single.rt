@@ -7,8 +7,8 @@ ghost use Rattle.sig_x509.specs.Verdict.{IsVerdict};
 
 use crate::certificate::Certificate;
 use crate::lookup::Lookup;
-use crate::policy::{PolicyError, PolicyResult, VerificationPolicy};
 use crate::policy::utf8::utf8_text;
+use crate::policy::{PolicyError, PolicyResult, VerificationPolicy};
 use sig_base::{OutOfMemory, Text};
 use std::alloc::Global;
 
@@ -52,7 +52,11 @@ pub(crate) fn extension_text<'a>(cert: &'a Certificate, oid: &[u8]) -> Option<&'
 /// Whether the certificate has exactly one extension of the policy's object identifier, and its value is UTF-8 and the text that
 /// the policy asks for. `ExtensionNotFound` where the certificate has none or several, or the value is not UTF-8; else
 /// `ExtensionCheckFailed` with the policy's name, the text that it asks for and the text that is there.
-pub fn verify_single<T: SingleX509ExtPolicy>(alloc: Global, policy: &T, cert: &Certificate) -> PolicyResult
+pub fn verify_single<T: SingleX509ExtPolicy>(
+    alloc: Global,
+    policy: &T,
+    cert: &Certificate,
+) -> PolicyResult
     ensures { IsVerdict
         (is_text (T.asked policy.now) (extension_text T.identifier cert.now))
         (λ e. e ≡ single_refusal T.title (T.asked policy.now) (extension_text T.identifier cert.now))
@@ -68,7 +72,12 @@ pub fn verify_single<T: SingleX509ExtPolicy>(alloc: Global, policy: &T, cert: &C
 }
 
 /// That an extension says another text than the one asked for. Refuses for want of memory alone.
-pub(crate) fn check_failed(alloc: Global, extension: &str, expected: &str, actual: &str) -> Result<PolicyError, OutOfMemory>
+pub(crate) fn check_failed(
+    alloc: Global,
+    extension: &str,
+    expected: &str,
+    actual: &str,
+) -> Result<PolicyError, OutOfMemory>
     ensures { IfOk result (λ e. e ≡ single_refusal extension.now expected.now (Some actual.now)) }
 {
     Ok(PolicyError::ExtensionCheckFailed {
