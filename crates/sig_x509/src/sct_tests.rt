@@ -89,7 +89,7 @@ fn a_real_timestamp_verifies(rt: HostRuntime) -> Result<(), Fail> {
     let key = bytes_of(alloc, LOG_KEY)?;
     let ring = keyring(alloc, &[&key])?;
     let id = sha256(&key);
-    assert_eq!(rt; id[..4], [0xdd, 0x3d, 0x30, 0x6a]);
+    assert_eq!(rt; id.get(..4), Some([0xdd, 0x3d, 0x30, 0x6a].as_slice()));
     assert!(rt; ring.verify(&id, &signature, &message, &checker) == Ok(()));
     let missing = Err(KeyringError::KeyNotFound);
     assert!(rt; ring.verify(&[0; 32], &signature, &message, &checker) == missing);
