@@ -81,6 +81,7 @@ point_of_takes spki fits point e = of_info (whole_key_info spki) (λ k is. whole
     of_key k is text (Some p) has e =
         let h = point_under_takes k.bits k.algorithm.oid p point e in
         record { info = k; is = is; text = text; parameters = p; has = has; elliptic = h.elliptic; identifier = h.identifier; curve = h.curve; bits = h.point_is }
+
     of_info : (o : Option KeyInfo) → ((k : KeyInfo) → o ≡ Some k → IsKeyInfo k × (k.whole ≡ spki)) → point_of_info o ≡ Ok point → IsRingKey spki point
     of_info None h e = absurd cc
     of_info (Some k) h e = let t = h k refl in of_key k t.0 t.1 k.algorithm.parameters refl e

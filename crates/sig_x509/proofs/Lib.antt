@@ -3,6 +3,13 @@ pub mod ExtensionLaws
 pub mod HeadLaws
 pub mod BodyLaws
 pub mod CertificateLaws
+pub mod Readings
+pub mod HeldLaws
+pub mod WalkLaws
+pub mod PemLaws
+pub mod Utf8
+pub mod IdentityLaws
+pub mod RequestLaws
 pub mod Spans
 pub mod KeyLaws
 pub mod KeyringLaws
@@ -18,3 +25,5 @@ pub mod IdentityLaws
 pub mod RequestLaws
 pub mod NameLaws
 pub mod IssuanceLaws
+pub mod PrecertLaws
+pub mod EmbeddedLaws

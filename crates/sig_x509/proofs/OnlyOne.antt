@@ -38,6 +38,7 @@ only_more list y are e left = by_next (vector_at y.1) refl
   where
     this : many_at vector_at list ≡ with_first y.0 (many_at vector_at y.1)
     this = many_at_more vector_at vector_at_shrinks list y e
+
     by_next : (o : Option (List ℕ × List ℕ)) → vector_at y.1 ≡ o → Err LeafSCTMissing ≡ only_one (many_at vector_at list)
     by_next None none =
         let no : true ≡ false = are ∙ ap (λ (o : Option Texts). is_some o) (this ∙ ap (λ (o : Option Texts). with_first y.0 o) (many_at_stops vector_at y.1 (is_left y.1 left) none)) in

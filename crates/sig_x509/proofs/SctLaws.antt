@@ -114,7 +114,7 @@ sct_at_takes text fits s e =
       two = tx.two;
       signed = tx.signed;
       spelled = tr ∙ ap (λ (w : List ℕ). 0 ∷ w) (ti.1 ∙ ap (λ (w : List ℕ). i.0.0 ++ w) (tt8.1
-      ∙ ap (λ (w : List ℕ). w ++ t.0.1) time ∙ ap (λ (w : List ℕ). eight_bytes n ++ w) tx.spelled));
+          ∙ ap (λ (w : List ℕ). w ++ t.0.1) time ∙ ap (λ (w : List ℕ). eight_bytes n ++ w) tx.spelled));
     })
 
 pub sct_at_again : (text : List ℕ) (s : Sct) → IsSct text s → sct_at text ≡ Some s

@@ -16,3 +16,8 @@ sct_now s = record { log_id = s.log_id.now; timestamp = s.timestamp; extensions 
 abbrev pub part_now : Result (Bor (List ℕ)) CertificateErrorKind → Result (List ℕ) CertificateErrorKind
 part_now (Ok x) = Ok x.now
 part_now (Err e) = Err e
+
+-- a timestamp, or why it is not there
+abbrev pub sct_answer : Result LentSct CertificateErrorKind → Result Sct CertificateErrorKind
+sct_answer (Ok s) = Ok (sct_now s)
+sct_answer (Err e) = Err e

@@ -160,6 +160,13 @@ impl Certificate {
         self.places.listed
     }
 
+    /// What contracts see of a certificate is one.
+    pub(crate) fn is_certificate(&self)
+        ensures { IsCertificate self.now.whole self.now }
+    {
+        let _ = &self.places;
+    }
+
     /// The number of extensions.
     pub fn extension_count(&self) -> usize
         ensures { result ≡ length self.now.extensions }

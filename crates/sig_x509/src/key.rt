@@ -15,6 +15,7 @@ use std::alloc::Global;
 use std::marker::Model;
 
 const OBJECT_IDENTIFIER: u8 = 6;
+
 const NULL: u8 = 5;
 
 /// The key of a certificate log: a point of P-256, and its id, the SHA-256 of its key info (RFC 6962 section 3.2).
@@ -47,7 +48,12 @@ impl Key {
     }
 
     /// Whether the signature over the message is genuine under this key.
-    pub(crate) fn verify<C: SignatureChecker>(&self, message: &[u8], signature: &[u8], checker: &C) -> bool
+    pub(crate) fn verify<C: SignatureChecker>(
+        &self,
+        message: &[u8],
+        signature: &[u8],
+        checker: &C,
+    ) -> bool
         ensures { result ≡ C.point_accepts checker.now self.now.point message.now signature.now }
     {
         checker.verify_p256_point(self.point.as_slice(), message, signature)
@@ -75,7 +81,12 @@ fn point_of(spki: &[u8]) -> Result<&[u8], KeyringError>
         None => Err(KeyringError::KeyMalformed),
         Some(key) => {
             let oid = &spki[key.algorithm.oid.content..key.algorithm.oid.end];
-            point_under(spki, &spki[key.bits..key.whole.end], oid, key.algorithm.parameters)
+            point_under(
+                spki,
+                &spki[key.bits..key.whole.end],
+                oid,
+                key.algorithm.parameters,
+            )
         }
     }
 }
@@ -95,7 +106,12 @@ fn whole_key_info(spki: &[u8]) -> Option<KeyInfoPlaces>
 }
 
 /// The bits as a point of P-256, where the algorithm and its parameters, which stand in the text, say that they are one.
-fn point_under<'a>(text: &[u8], bits: &'a [u8], oid: &[u8], parameters: Option<Place>) -> Result<&'a [u8], KeyringError>
+fn point_under<'a>(
+    text: &[u8],
+    bits: &'a [u8],
+    oid: &[u8],
+    parameters: Option<Place>,
+) -> Result<&'a [u8], KeyringError>
     requires { IsParametersWithin (length text.now) parameters }
     ensures { lent_point result ≡ point_under bits.now oid.now (placed_option text.now parameters) }
 {

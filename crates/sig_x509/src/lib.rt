@@ -1,11 +1,14 @@
 //! Certificates of RFC 5280 in the profile of Sigstore: read exactly, with every field lent from one buffer; the values of the
-//! extensions that decide what a certificate may be used for; and the checks that stand on them.
+//! extensions that decide what a certificate may be used for; and the checks that stand on them. The keys of certificate logs, and
+//! the timestamps of RFC 6962 that a certificate carries.
 #![tactic(auto)]
 
 mod certificate;
+mod embedded;
 mod error;
 mod extensions;
 mod issuance;
+mod issuer;
 mod key;
 mod keyring;
 mod keyring_error;
@@ -19,11 +22,14 @@ mod policy;
 #[cfg(test)]
 mod policy_tests;
 mod pool;
+mod precert;
 mod profile;
 mod profile_error;
 mod reading;
 mod sct_error;
 mod sct_list;
+#[cfg(test)]
+mod sct_tests;
 mod seconds;
 mod signed;
 mod span;
@@ -36,6 +42,7 @@ mod vectors;
 mod walks;
 
 pub use certificate::Certificate;
+pub use embedded::CertificateEmbeddedSCT;
 pub use error::X509ReadError;
 pub use key::Key;
 pub use keyring::Keyring;
@@ -49,12 +56,13 @@ pub use policy::{
     verify_single,
 };
 pub use pool::CertificatePool;
+pub use precert::precert_tbs_der;
 pub use profile::{is_ca, is_leaf, is_root_ca};
-pub use sct_error::{CertificateErrorKind, SCTError};
-pub use signed::{DigitallySigned, verify_sct};
 pub use profile_error::{
     CertificateValidationError, ExtensionErrorKind, NotCAErrorKind, NotLeafErrorKind, PartName,
 };
+pub use sct_error::{CertificateErrorKind, SCTError};
+pub use signed::{DigitallySigned, verify_sct};
 pub use trust::{
     is_trusted, verify_expiration, verify_has_san, verify_key_usages, verify_validity,
 };

@@ -8,13 +8,14 @@ ghost use Rattle.sig_der.specs.KeyInfo.{after_zero};
 ghost use Rattle.sig_x509.specs.Timestamps.{only_one};
 ghost use Rattle.sig_x509.specs.Lent.{both_now, sct_now, part_now};
 
-use crate::sct_error::CertificateErrorKind;
 use crate::opaque::{bytes_at, vector_at, whole_vector};
+use crate::sct_error::CertificateErrorKind;
 use sig_der::whole_at;
 
 const OCTET_STRING: u8 = 4;
 
 /// A signed certificate timestamp, lent from its text.
+#[derive(Clone, Copy)]
 pub(crate) struct LentSct<'a> {
     /// The SHA-256 of the log's key info.
     pub(crate) log_id: &'a [u8; 32],

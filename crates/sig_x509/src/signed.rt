@@ -93,7 +93,11 @@ fn push_body(text: &mut Vec<u8>, body: &[u8]) -> Result<(), AllocError>
     ensures { OnOk result (text.new.items ≡ text.old.items ++ (three_bytes (length body.now) ++ body.now)) }
 {
     let len = body.len();
-    text.extend_from_slice(&[(len / 65536) as u8, (len / 256 % 256) as u8, (len % 256) as u8])?;
+    text.extend_from_slice(&[
+        (len / 65536) as u8,
+        (len / 256 % 256) as u8,
+        (len % 256) as u8,
+    ])?;
     text.extend_from_slice(body)
 }
 

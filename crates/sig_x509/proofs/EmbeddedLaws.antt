@@ -1,0 +1,130 @@
+-- The timestamp of a certificate: each answer has its cause, and each cause its answer.
+use Rattle.std.proofs.Common.{◌≡◌, ◌≢◌, ◌⊎◌, ℕ, ◌≤◌, Bool, true, false, List, [], ◌∷◌, ◌++◌, length, Option, Some, None, Result, Ok, Err, refl, sym, ap, subst, ◌∙◌, inl, inr, arith}
+use Rattle.std.proofs.lemmas.List.{append-nil}
+use Rattle.sig_base.specs.Answers.{Answers}
+use Rattle.sig_der.specs.Element.{IsElement}
+use Rattle.sig_der.proofs.Bytes.{IsBytes, IsBytes-right, IsBytes-left}
+use Rattle.sig_der.proofs.KeyInfos.{content_fits}
+use Rattle.sig_x509.specs.declared.signed.DigitallySigned.{DigitallySigned}
+use Rattle.sig_x509.specs.declared.sct_error.CertificateErrorKind.{CertificateErrorKind}
+use Rattle.sig_x509.specs.declared.sct_error.CertificateErrorKind.TheVariants.{LeafSCTMissing, IssuerMissing, LeafSCTMalformed}
+use Rattle.sig_x509.specs.declared.sct_error.SCTError.{SCTError}
+use Rattle.sig_x509.specs.declared.sct_error.SCTError.TheVariants.{Parsing, Serialization, Verification, OutOfMemory}
+use Rattle.sig_x509.specs.Certificate.{Extension, Cert}
+use Rattle.sig_x509.specs.Vectors.{vector, two_bytes}
+use Rattle.sig_x509.specs.SctList.{Sct, IsSct, IsSctList, sct_at, sct_list_at}
+use Rattle.sig_x509.specs.SctBytes.{signed_of}
+use Rattle.sig_x509.specs.Timestamps.{HasSct, LacksSct, ListsOthers, HasBadSct, ListsNoSct, sct_extensions, only_one, sct_or_not, sct_in, sct_of_value, sct_of_list, sct_of}
+use Rattle.sig_x509.specs.Embedded.{signs_by, ready, IsReady, HasCause, IsEmbedded, IsSaidOf, IsSaidOfValue}
+use Rattle.sig_x509.proofs.SctLaws.{sct_list_at_takes, sct_list_at_again, sct_at_takes, sct_at_again}
+
+Texts : Type 0
+Texts = List (List ℕ)
+
+-- ---- an extension's value
+
+-- the only text of a list is bytes where the value is
+only_fits : (value text : List ℕ) → IsSctList value (text ∷ []) → IsBytes value → IsBytes text
+only_fits value text is fits =
+    let content = content_fits value 4 (vector is.list) is.is fits in
+    let list = IsBytes-right (two_bytes (length is.list)) is.list content in
+    let one = subst (λ (w : List ℕ). IsBytes w) (is.joined.parts ∙ append-nil (vector text)) list in
+    IsBytes-right (two_bytes (length text)) text one
+
+of_text : (v text : List ℕ) → IsBytes v → IsSctList v (text ∷ []) → (o : Option Sct) → sct_at text ≡ o → IsSaidOfValue v (sct_or_not o)
+of_text v text fits lists None e = inr (record { text = text; lists = lists; none = λ s is. let again = sct_at_again text s is in let no = sym e ∙ again in cc })
+of_text v text fits lists (Some s) e = (text, (lists, sct_at_takes text (only_fits v text lists fits) s e))
+
+pub value_said : (v : List ℕ) → IsBytes v → IsSaidOfValue v (sct_of_value v)
+unfolding sct_of_value
+value_said v fits = of_list (sct_list_at v) refl
+  where
+    of_list : (o : Option (List (List ℕ))) → sct_list_at v ≡ o → IsSaidOfValue v (sct_in (only_one o))
+    of_list None e = inl (λ texts is. let again = sct_list_at_again v texts is in let no = sym e ∙ again in cc)
+    of_list (Some []) e = ([], (sct_list_at_takes v fits [] e, λ n. omega arith))
+    of_list (Some (text ∷ [])) e = of_text v text fits (sct_list_at_takes v fits (text ∷ []) e) (sct_at text) refl
+    of_list (Some (text ∷ other ∷ texts)) e = (text ∷ other ∷ texts, (sct_list_at_takes v fits (text ∷ other ∷ texts) e, λ n. omega arith))
+
+-- ---- a certificate
+
+pub said_absent : (c : Cert) → sct_extensions c ≡ [] → LacksSct c
+said_absent c is = inl (λ n. let no : 0 ≡ 1 = sym (ap (λ (es : List Extension). length es) is) ∙ n in omega arith)
+
+pub said_several : (c : Cert) → 2 ≤ length (sct_extensions c) → LacksSct c
+said_several c le = inl (λ n. omega arith)
+
+pub said_one : (c : Cert) (e : Extension) → sct_extensions c ≡ e ∷ [] → (r : Result Sct CertificateErrorKind) → IsSaidOfValue e.value r → IsSaidOf c r
+said_one c e one (Ok s) h = record { extension = e; text = h.0; one = one; lists = h.1.0; is = h.1.1 }
+said_one c e one (Err LeafSCTMissing) h = inr (record { extension = e; texts = h.0; one = one; lists = h.1.0; others = h.1.1 })
+said_one c e one (Err LeafSCTMalformed) h = record { extension = e; one = one; bad = h }
+said_one c e one (Err IssuerMissing) h = h
+
+pub read_absent : (c : Cert) → sct_extensions c ≡ [] → Err LeafSCTMissing ≡ sct_of c
+unfolding sct_of
+read_absent c is = ap (λ (es : List Extension). sct_of_list es) (sym is)
+
+pub read_one : (c : Cert) (e : Extension) → sct_extensions c ≡ e ∷ [] → sct_of_value e.value ≡ sct_of c
+unfolding sct_of
+read_one c e is = ap (λ (es : List Extension). sct_of_list es) (sym is)
+
+not_one : (es : List Extension) → length es ≢ 1 → Err LeafSCTMissing ≡ sct_of_list es
+not_one [] n = refl
+not_one (e ∷ []) n = absurd (n refl)
+not_one (e ∷ f ∷ es) n = refl
+
+pub read_several : (c : Cert) → 2 ≤ length (sct_extensions c) → Err LeafSCTMissing ≡ sct_of c
+unfolding sct_of
+read_several c le = not_one (sct_extensions c) (λ n. omega arith)
+
+-- ---- causes have their answers
+
+has_reads : (c : Cert) (s : Sct) → HasSct c s → sct_of c ≡ Ok s
+unfolding sct_of_value
+has_reads c s h =
+    sym (read_one c h.extension h.one)
+    ∙ ap (λ (o : Option (List (List ℕ))). sct_in (only_one o)) (sct_list_at_again h.extension.value (h.text ∷ []) h.lists)
+    ∙ ap (λ (o : Option Sct). sct_or_not o) (sct_at_again h.text s h.is)
+
+other_texts : (texts : List (List ℕ)) → length texts ≢ 1 → sct_in (only_one (Some texts)) ≡ Err LeafSCTMissing
+other_texts [] n = refl
+other_texts (t ∷ []) n = absurd (n refl)
+other_texts (t ∷ u ∷ texts) n = refl
+
+lacks_reads : (c : Cert) → LacksSct c → sct_of c ≡ Err LeafSCTMissing
+unfolding sct_of sct_of_value
+lacks_reads c (inl n) = sym (not_one (sct_extensions c) n)
+lacks_reads c (inr h) =
+    sym (read_one c h.extension h.one)
+    ∙ ap (λ (o : Option (List (List ℕ))). sct_in (only_one o)) (sct_list_at_again h.extension.value h.texts h.lists) ∙ other_texts h.texts h.others
+
+abbrev Answer : Type 0
+Answer = Result DigitallySigned SCTError
+
+caused : (c : Cert) (spki : List ℕ) (r : Result Sct CertificateErrorKind) → IsSaidOf c r → (a : Answer) → Answers OutOfMemory (λ (d : DigitallySigned). d) a (ready c spki r) → HasCause c spki a
+caused c spki (Ok s) said (Ok d) e = record { sct = s; has = said; is = let is = e in cc }
+caused c spki (Ok s) said (Err f) (inl memory) = rw memory tt
+caused c spki (Ok s) said (Err f) (inr e) = absurd cc
+caused c spki (Err k) said (Ok d) e = absurd cc
+caused c spki (Err k) said (Err f) (inl memory) = rw memory tt
+caused c spki (Err k) said (Err f) (inr e) = let same : f ≡ Parsing k = cc in rw same (of_kind k said)
+  where
+    of_kind : (k : CertificateErrorKind) → IsSaidOf c (Err k) → HasCause c spki (Err (Parsing k))
+    of_kind LeafSCTMissing h = h
+    of_kind LeafSCTMalformed h = h
+    of_kind IssuerMissing h = h
+
+pub embedded : (c : Cert) (spki : List ℕ) (a : Answer) → Answers OutOfMemory (λ (d : DigitallySigned). d) a (ready c spki (sct_of c)) → IsSaidOf c (sct_of c) → IsEmbedded c spki a
+embedded c spki a e said =
+    record {
+      cause = caused c spki (sct_of c) said a e;
+      has = λ s h. subst (λ (w : Answer). Answers OutOfMemory (λ (d : DigitallySigned). d) a w) (ap (λ (r : Result Sct CertificateErrorKind). ready c spki r) (has_reads c s h)) e;
+      lacks = λ h. subst (λ (w : Answer). Answers OutOfMemory (λ (d : DigitallySigned). d) a w) (ap (λ (r : Result Sct CertificateErrorKind). ready c spki r) (lacks_reads c h)) e;
+      read = e;
+    }
+
+-- ---- the purposes of a certificate
+
+pub signs_several : (es : List Extension) → 2 ≤ length es → signs_by es ≡ false
+signs_several [] le = refl
+signs_several (e ∷ []) le = absurd (omega arith)
+signs_several (e ∷ f ∷ es) le = refl
