@@ -16,13 +16,6 @@ pub mod KeyringLaws
 pub mod VectorLaws
 pub mod SctLaws
 pub mod OnlyOne
-pub mod Readings
-pub mod HeldLaws
-pub mod WalkLaws
-pub mod PemLaws
-pub mod Utf8
-pub mod IdentityLaws
-pub mod RequestLaws
 pub mod NameLaws
 pub mod IssuanceLaws
 pub mod PrecertLaws

@@ -25,13 +25,6 @@ pub mod Timestamps
 pub mod Lent
 pub mod Precert
 pub mod SctBytes
-pub mod Texts
-pub mod Failures
-pub mod Verdict
-pub mod Single
-pub mod Claim
-pub mod Identities
-pub mod Requests
 pub mod AlternativeNames
 pub mod Issuance
 pub mod Embedded

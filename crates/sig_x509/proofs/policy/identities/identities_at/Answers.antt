@@ -28,7 +28,6 @@ loop-next-preserved-in-Continue-1 c =
       inside = c.in-Some.ensures.before;
       all = rw (c.in_ok-push-in-Some-identity_of.ensures.items, map-append (λ (t : Bor (List ℕ)). t.now) c.loop-next.found.items (text ∷ []))
           (kept_takes name_at name_at_shrinks identity_of (map (λ (t : Bor (List ℕ)). t.now) c.loop-next.found.items) (slice_range bytes c.loop-next.next c.args.end)
-          (kept_takes name_at name_shrinks identity_of (map (λ (t : Bor (List ℕ)). t.now) c.loop-next.found.items) (slice_range bytes c.loop-next.next c.args.end)
           (placed_name bytes c.args.end (c.in-Some.name, c.in-Some.after)) text.now c.in-Some.ensures.cut (sym c.in-Some-identity_of.ensures) ∙ c.loop-next.invariant.all);
     }
 
@@ -38,6 +37,5 @@ loop-next-preserved c =
     record {
       inside = c.in-Some.ensures.before;
       all = kept_passes name_at name_at_shrinks identity_of (map (λ (t : Bor (List ℕ)). t.now) c.loop-next.found.items) (slice_range bytes c.loop-next.next c.args.end)
-      all = kept_passes name_at name_shrinks identity_of (map (λ (t : Bor (List ℕ)). t.now) c.loop-next.found.items) (slice_range bytes c.loop-next.next c.args.end)
           (placed_name bytes c.args.end (c.in-Some.name, c.in-Some.after)) c.in-Some.ensures.cut (sym c.in-None-identity_of.ensures) ∙ c.loop-next.invariant.all;
     }
