@@ -131,25 +131,39 @@ fn size_of(alloc: Global, line: &str) -> Option<u64> {
     }
 }
 
-#[test]
-fn sizes_take_a_plus_sign_and_zeros(rt: HostRuntime) -> Result<(), Fail> {
-    let alloc = rt.alloc();
-    let sizes = [
-        ("7", Some(7)),
-        ("+007", Some(7)),
-        ("18446744073709551615", Some(u64::MAX)),
-        ("18446744073709551616", None),
-        ("-7", None),
-        ("+", None),
-        ("++7", None),
-        ("", None),
-        (" 7", None),
-        ("7 ", None),
-        ("bananas", None),
-    ];
-    for (line, wanted) in sizes {
-        assert!(rt; size_of(alloc, line) == wanted);
+/// Each line: a size and how it is written, or `-` and what is none.
+const SIZES: &str = "\
+7|7
+7|+007
+18446744073709551615|18446744073709551615
+-|18446744073709551616
+-|-7
+-|+
+-|++7
+-|
+-| 7
+-|7 
+-|bananas";
+
+/// Whether a line of `SIZES` is true.
+fn is_size(alloc: Global, line: &str) -> Option<bool> {
+    let (wanted, written) = line.split_once('|')?;
+    match size_of(alloc, written) {
+        Some(size) => Some(size.to_string(alloc).ok()?.as_str() == wanted),
+        None => Some(wanted == "-"),
     }
+}
+
+#[test]
+fn sizes_take_a_plus_sign_and_zeros(rt: HostRuntime) {
+    for line in SIZES.lines() {
+        assert!(rt; is_size(rt.alloc(), line) == Some(true), "{line}");
+    }
+}
+
+#[test]
+fn a_size_is_written_without_sign_and_zeros(rt: HostRuntime) -> Result<(), Fail> {
+    let alloc = rt.alloc();
     let read = Checkpoint::unmarshal(
         alloc,
         "o\n+007\nOVqgZKpMKfcBCs/j8l25SFu9S5GJe2rXrVR2OSUrTVY=\n",
@@ -205,73 +219,59 @@ where
     }
 }
 
-#[test]
-fn each_fault_of_a_signature_has_its_name(rt: HostRuntime) {
-    let alloc = rt.alloc();
-    let lines = [
-        ("", CheckpointFault::NoDash),
-        (" \u{2014} n AQIDBA==", CheckpointFault::NoDash),
-        ("- n AQIDBA==", CheckpointFault::NoDash),
-        ("\u{2014}", CheckpointFault::SignatureFormat),
-        ("\u{2014} n", CheckpointFault::SignatureFormat),
-        (
-            "\u{2014} Foo Bar AQIDBA==",
-            CheckpointFault::SignatureFormat,
-        ),
-        ("\u{2014} n AQIDBA== ", CheckpointFault::SignatureFormat),
-        ("\u{2014} n AQIDBA", CheckpointFault::SignatureBase64),
-        ("\u{2014} n AQIDBB==", CheckpointFault::SignatureBase64),
-        ("\u{2014} n %", CheckpointFault::SignatureBase64),
-        ("\u{2014} n AQID", CheckpointFault::SignatureLength),
-        ("\u{2014} n ", CheckpointFault::SignatureLength),
-    ];
-    for (line, wanted) in lines {
-        assert!(rt; fault_of(CheckpointSignature::decode(alloc, line)) == Some(wanted));
+/// Each line: what is read, the fault's name, and the text, in which `$` stands for a newline.
+const FAULTS: &str = "\
+signature|NoDash|
+signature|NoDash| \u{2014} n AQIDBA==
+signature|NoDash|- n AQIDBA==
+signature|SignatureFormat|\u{2014}
+signature|SignatureFormat|\u{2014} n
+signature|SignatureFormat|\u{2014} Foo Bar AQIDBA==
+signature|SignatureFormat|\u{2014} n AQIDBA== 
+signature|SignatureBase64|\u{2014} n AQIDBA
+signature|SignatureBase64|\u{2014} n AQIDBB==
+signature|SignatureBase64|\u{2014} n %
+signature|SignatureLength|\u{2014} n AQID
+signature|SignatureLength|\u{2014} n 
+note|NoteFormat|
+note|NoteFormat|o$1
+note|EmptyOrigin|\u{a0}\t$x$y
+note|Size|o$x$y
+note|HashBase64|o$1$ThisIsn'tBase64$
+note|HashLength|o$1$
+note|HashLength|o$1$YmFuYW5hcw==
+checkpoint|Format|
+checkpoint|Format|\"\"\"\"
+checkpoint|Format|foo
+checkpoint|Format|o$1$x$
+checkpoint|SignatureBase64|bad note$$\u{2014} n %$$no dash
+checkpoint|NoDash|bad note$$no dash$$\u{2014} n %
+checkpoint|NoteFormat|bad note$$\u{2014} n AQIDBA==
+checkpoint|NoteFormat|bad note$$$$ \u{2003}$$
+checkpoint|HashBase64|o$1$x$$";
+
+/// The fault of a text that is read as what the word says.
+fn fault_as(alloc: Global, word: &str, text: &str) -> Option<CheckpointFault> {
+    match word {
+        "signature" => fault_of(CheckpointSignature::decode(alloc, text)),
+        "note" => fault_of(Checkpoint::unmarshal(alloc, text)),
+        _ => fault_of(SignedCheckpoint::decode(alloc, text)),
     }
 }
 
-#[test]
-fn each_fault_of_a_note_has_its_name(rt: HostRuntime) {
-    let alloc = rt.alloc();
-    let notes = [
-        ("", CheckpointFault::NoteFormat),
-        ("o\n1", CheckpointFault::NoteFormat),
-        ("\u{a0}\t\nx\ny", CheckpointFault::EmptyOrigin),
-        ("o\nx\ny", CheckpointFault::Size),
-        ("o\n1\nThisIsn'tBase64\n", CheckpointFault::HashBase64),
-        ("o\n1\n", CheckpointFault::HashLength),
-        ("o\n1\nYmFuYW5hcw==", CheckpointFault::HashLength),
-    ];
-    for (text, wanted) in notes {
-        assert!(rt; fault_of(Checkpoint::unmarshal(alloc, text)) == Some(wanted));
-    }
+/// Whether a line of `FAULTS` is true.
+fn is_fault(alloc: Global, line: &str) -> Option<bool> {
+    let (word, rest) = line.split_once('|')?;
+    let (name, text) = rest.split_once('|')?;
+    let text = text.replace(alloc, "$", "\n").ok()?;
+    let fault = fault_as(alloc, word, text.as_str())?;
+    Some(fault.to_string(alloc).ok()?.as_str() == name)
 }
 
 #[test]
-fn checkpoints_name_the_first_fault(rt: HostRuntime) {
-    let alloc = rt.alloc();
-    let texts = [
-        ("", CheckpointFault::Format),
-        ("\"\"\"\"", CheckpointFault::Format),
-        ("foo", CheckpointFault::Format),
-        ("o\n1\nx\n", CheckpointFault::Format),
-        (
-            "bad note\n\n\u{2014} n %\n\nno dash",
-            CheckpointFault::SignatureBase64,
-        ),
-        (
-            "bad note\n\nno dash\n\n\u{2014} n %",
-            CheckpointFault::NoDash,
-        ),
-        (
-            "bad note\n\n\u{2014} n AQIDBA==",
-            CheckpointFault::NoteFormat,
-        ),
-        ("bad note\n\n\n\n \u{2003}\n\n", CheckpointFault::NoteFormat),
-        ("o\n1\nx\n\n", CheckpointFault::HashBase64),
-    ];
-    for (text, wanted) in texts {
-        assert!(rt; fault_of(SignedCheckpoint::decode(alloc, text)) == Some(wanted));
+fn the_first_fault_is_named(rt: HostRuntime) {
+    for line in FAULTS.lines() {
+        assert!(rt; is_fault(rt.alloc(), line) == Some(true), "{line}");
     }
 }
 
