@@ -15,6 +15,8 @@ mod opaque;
 mod parts;
 mod pem;
 mod pool;
+#[cfg(test)]
+mod pool_tests;
 mod profile;
 mod profile_error;
 mod reading;
