@@ -23,6 +23,8 @@ mod policy;
 mod policy_tests;
 mod pool;
 mod precert;
+#[cfg(test)]
+mod pool_tests;
 mod profile;
 mod profile_error;
 mod reading;
