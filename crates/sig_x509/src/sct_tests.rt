@@ -77,190 +77,210 @@ fn signed(alloc: Global) -> Result<DigitallySigned, Fail> {
     Ok(DigitallySigned::from_embedded(alloc, &embedded)?)
 }
 
+/// The checker of this real timestamp.
+fn log_checker(alloc: Global) -> Result<TableChecker, Fail> {
+    let message = bytes_of(alloc, SIGNED)?;
+    let signature = bytes_of(alloc, SIGNATURE)?;
+    checker(alloc, &message, &signature)
+}
+
+/// The keyring of the log's key alone.
+fn log_ring(alloc: Global) -> Result<Keyring, Fail> {
+    let key = bytes_of(alloc, LOG_KEY)?;
+    keyring(alloc, &[&key])
+}
+
 #[test]
-fn a_real_timestamp_verifies(rt: HostRuntime) -> Result<(), Fail> {
+fn the_signed_part_is_that_of_the_precertificate(rt: HostRuntime) -> Result<(), Fail> {
     let alloc = rt.alloc();
     let message = bytes_of(alloc, SIGNED)?;
     assert_eq!(rt; message.len(), 504);
-    let tbs = precert_tbs_der(alloc, &certificate(alloc, LEAF)?)?;
-    assert_eq!(rt; tbs.as_slice(), message.get(47..502).unwrap_or(&[]));
-    let signature = bytes_of(alloc, SIGNATURE)?;
-    let checker = checker(alloc, &message, &signature)?;
-    let key = bytes_of(alloc, LOG_KEY)?;
-    let ring = keyring(alloc, &[&key])?;
-    let id = sha256(&key);
-    assert_eq!(rt; id.get(..4), Some([0xdd, 0x3d, 0x30, 0x6a].as_slice()));
-    assert!(rt; ring.verify(&id, &signature, &message, &checker) == Ok(()));
-    let missing = Err(KeyringError::KeyNotFound);
-    assert!(rt; ring.verify(&[0; 32], &signature, &message, &checker) == missing);
     let leaf = certificate(alloc, LEAF)?;
-    let chain = [certificate(alloc, INTERMEDIATE)?];
-    let embedded = CertificateEmbeddedSCT::new(alloc, &leaf, &chain)?;
-    let sct = DigitallySigned::from_embedded(alloc, &embedded)?;
+    let tbs = precert_tbs_der(alloc, &leaf)?;
+    assert_eq!(rt; tbs.as_slice(), message.get(47..502).unwrap_or(&[]));
+    Ok(())
+}
+
+#[test]
+fn a_real_timestamp_verifies(rt: HostRuntime) -> Result<(), Fail> {
+    let alloc = rt.alloc();
+    let sct = signed(alloc)?;
     assert_eq!(rt; sct.timestamp, 1702446655020);
-    assert_eq!(rt; sct.log_id, id);
+    let ring = log_ring(alloc)?;
+    let checker = log_checker(alloc)?;
     assert!(rt; verify_sct(alloc, &sct, &ring, &checker) == Ok(()));
     Ok(())
 }
 
-/// Each field of the signed bytes changed, the log's id, and the signature.
+#[test]
+fn the_keyring_vouches_by_id(rt: HostRuntime) -> Result<(), Fail> {
+    let alloc = rt.alloc();
+    let message = bytes_of(alloc, SIGNED)?;
+    let signature = bytes_of(alloc, SIGNATURE)?;
+    let checker = checker(alloc, &message, &signature)?;
+    let ring = log_ring(alloc)?;
+    let id = sha256(&bytes_of(alloc, LOG_KEY)?);
+    assert_eq!(rt; id.get(..4), Some([0xdd, 0x3d, 0x30, 0x6a].as_slice()));
+    assert!(rt; ring.verify(&id, &signature, &message, &checker) == Ok(()));
+    let refused = Err(KeyringError::VerificationFailed);
+    assert!(rt; ring.verify(&id, &signature, b"", &checker) == refused);
+    let missing = Err(KeyringError::KeyNotFound);
+    assert!(rt; ring.verify(&[0; 32], &signature, &message, &checker) == missing);
+    Ok(())
+}
+
+/// What the leaf's timestamp signs, with one field changed.
+fn changed(alloc: Global, field: u8) -> Result<DigitallySigned, Fail> {
+    let mut sct = signed(alloc)?;
+    match field {
+        0 => sct.timestamp = 1702446655021,
+        1 => sct.issuer_key_hash = [7; 32],
+        2 => sct.tbs_certificate = Bytes::copy_of(alloc, b"body")?,
+        3 => sct.extensions = Bytes::copy_of(alloc, &[0])?,
+        4 => sct.signature = Bytes::copy_of(alloc, &[])?,
+        _ => sct.log_id = [7; 32],
+    }
+    Ok(sct)
+}
+
+/// Each field of the signed bytes changed, the signature, and the log's id.
 #[test]
 fn a_changed_timestamp_does_not_verify(rt: HostRuntime) -> Result<(), Fail> {
     let alloc = rt.alloc();
-    let key = bytes_of(alloc, LOG_KEY)?;
-    let ring = keyring(alloc, &[&key])?;
-    let checker = checker(
-        alloc,
-        &bytes_of(alloc, SIGNED)?,
-        &bytes_of(alloc, SIGNATURE)?,
-    )?;
-    let refused = Err(SCTError::Verification(KeyringError::VerificationFailed));
-    let time = DigitallySigned {
-        timestamp: 1702446655021,
-        ..signed(alloc)?
-    };
-    assert!(rt;
-        verify_sct(alloc, &time, &ring, &checker) == refused,
-        "time"
-    );
-    let issuer = DigitallySigned {
-        issuer_key_hash: [7; 32],
-        ..signed(alloc)?
-    };
-    assert!(rt;
-        verify_sct(alloc, &issuer, &ring, &checker) == refused,
-        "issuer"
-    );
-    let body = DigitallySigned {
-        tbs_certificate: Bytes::copy_of(alloc, certificate(alloc, LEAF)?.tbs())?,
-        ..signed(alloc)?
-    };
-    assert!(rt;
-        verify_sct(alloc, &body, &ring, &checker) == refused,
-        "body"
-    );
-    let extensions = DigitallySigned {
-        extensions: Bytes::copy_of(alloc, &[0])?,
-        ..signed(alloc)?
-    };
-    assert!(rt;
-        verify_sct(alloc, &extensions, &ring, &checker) == refused,
-        "extensions"
-    );
-    let signature = DigitallySigned {
-        signature: Bytes::copy_of(alloc, &[])?,
-        ..signed(alloc)?
-    };
-    assert!(rt;
-        verify_sct(alloc, &signature, &ring, &checker) == refused,
-        "signature"
-    );
-    let log = DigitallySigned {
-        log_id: [7; 32],
-        ..signed(alloc)?
-    };
-    let missing = Err(SCTError::Verification(KeyringError::KeyNotFound));
-    assert!(rt; verify_sct(alloc, &log, &ring, &checker) == missing, "log");
+    let ring = log_ring(alloc)?;
+    let checker = log_checker(alloc)?;
+    for (field, want) in [
+        (0, KeyringError::VerificationFailed),
+        (1, KeyringError::VerificationFailed),
+        (2, KeyringError::VerificationFailed),
+        (3, KeyringError::VerificationFailed),
+        (4, KeyringError::VerificationFailed),
+        (5, KeyringError::KeyNotFound),
+    ] {
+        let sct = changed(alloc, field)?;
+        let answer = verify_sct(alloc, &sct, &ring, &checker);
+        assert!(rt; answer == Err(SCTError::Verification(want)), "{field}");
+    }
     Ok(())
+}
+
+/// What is answered of a timestamp with so long a body and so long extensions.
+fn of_lengths(alloc: Global, body: usize, extensions: usize) -> Result<Result<(), SCTError>, Fail> {
+    let mut sct = signed(alloc)?;
+    sct.tbs_certificate = Bytes::from(vec![in alloc; 0; body]?);
+    sct.extensions = Bytes::from(vec![in alloc; 0; extensions]?);
+    let ring = keyring(alloc, &[])?;
+    let checker = TableChecker::new(alloc);
+    Ok(verify_sct(alloc, &sct, &ring, &checker))
 }
 
 /// Lengths that have no spelling are refused before the keyring is asked.
 #[test]
 fn lengths_without_a_spelling(rt: HostRuntime) -> Result<(), Fail> {
     let alloc = rt.alloc();
-    let ring = keyring(alloc, &[])?;
-    let checker = TableChecker::new(alloc);
     let missing = SCTError::Verification(KeyringError::KeyNotFound);
     for (body, extensions, want) in [
         (16_777_215, 65_535, missing),
         (16_777_216, 0, SCTError::Serialization),
         (0, 65_536, SCTError::Serialization),
     ] {
-        let sct = DigitallySigned {
-            tbs_certificate: Bytes::from(vec![in alloc; 0; body]?),
-            extensions: Bytes::from(vec![in alloc; 0; extensions]?),
-            ..signed(alloc)?
-        };
         assert!(rt;
-            verify_sct(alloc, &sct, &ring, &checker) == Err(want),
+            of_lengths(alloc, body, extensions)? == Err(want),
             "{body} {extensions}"
         );
     }
     Ok(())
 }
 
+/// Why the bytes are no key of a ring.
+fn key_refusal(alloc: Global, bytes: &[u8]) -> Option<KeyringError> {
+    match Key::new(alloc, bytes) {
+        Ok(_) => None,
+        Err(refusal) => Some(refusal),
+    }
+}
+
 #[test]
 fn keys_are_told_apart(rt: HostRuntime) -> Result<(), Fail> {
     let alloc = rt.alloc();
+    assert!(rt; key_refusal(alloc, &bytes_of(alloc, LOG_KEY)?).is_none());
+    // No bytes, and a byte after a key info.
+    let malformed = Some(KeyringError::KeyMalformed);
+    let after = b"\x30\x0e\x30\x09\x06\x07\x2a\x86\x48\xce\x3d\x02\x01\x03\x01\x00\x00";
+    assert!(rt; key_refusal(alloc, b"") == malformed);
+    assert!(rt; key_refusal(alloc, after) == malformed);
+    // NULL and an empty identifier beside an elliptic curve, and an RSA key with a NULL that is not empty.
+    let null = b"\x30\x10\x30\x0b\x06\x07\x2a\x86\x48\xce\x3d\x02\x01\x05\x00\x03\x01\x00";
+    let empty = b"\x30\x10\x30\x0b\x06\x07\x2a\x86\x48\xce\x3d\x02\x01\x06\x00\x03\x01\x00";
+    let other =
+        b"\x30\x13\x30\x0e\x06\x09\x2a\x86\x48\x86\xf7\x0d\x01\x01\x01\x05\x01\x00\x03\x01\x00";
+    assert!(rt; key_refusal(alloc, null) == malformed);
+    assert!(rt; key_refusal(alloc, empty) == malformed);
+    assert!(rt; key_refusal(alloc, other) == malformed);
+    // P-384, no parameters, and an RSA key.
+    let unsupported = Some(KeyringError::AlgoUnsupported);
+    let bare = b"\x30\x0e\x30\x09\x06\x07\x2a\x86\x48\xce\x3d\x02\x01\x03\x01\x00";
+    let rsa = b"\x30\x12\x30\x0d\x06\x09\x2a\x86\x48\x86\xf7\x0d\x01\x01\x01\x05\x00\x03\x01\x00";
+    assert!(rt; key_refusal(alloc, certificate(alloc, INTERMEDIATE)?.spki()) == unsupported);
+    assert!(rt; key_refusal(alloc, bare) == unsupported);
+    assert!(rt; key_refusal(alloc, rsa) == unsupported);
+    Ok(())
+}
+
+/// A key that is refused is left out.
+#[test]
+fn refused_keys_are_left_out(rt: HostRuntime) -> Result<(), Fail> {
+    let alloc = rt.alloc();
     let key = bytes_of(alloc, LOG_KEY)?;
-    assert!(rt; Key::new(alloc, &key).is_ok());
-    let issuer = certificate(alloc, INTERMEDIATE)?;
-    let malformed = KeyringError::KeyMalformed;
-    let unsupported = KeyringError::AlgoUnsupported;
-    // No key info, a byte after one, P-384, no parameters, NULL, an empty identifier, RSA with NULL, RSA with another NULL.
-    for (bytes, want) in [
-        (b"".as_slice(), malformed),
-        (
-            b"\x30\x0e\x30\x09\x06\x07\x2a\x86\x48\xce\x3d\x02\x01\x03\x01\x00\x00",
-            malformed,
-        ),
-        (issuer.spki(), unsupported),
-        (
-            b"\x30\x0e\x30\x09\x06\x07\x2a\x86\x48\xce\x3d\x02\x01\x03\x01\x00",
-            unsupported,
-        ),
-        (
-            b"\x30\x10\x30\x0b\x06\x07\x2a\x86\x48\xce\x3d\x02\x01\x05\x00\x03\x01\x00",
-            malformed,
-        ),
-        (
-            b"\x30\x10\x30\x0b\x06\x07\x2a\x86\x48\xce\x3d\x02\x01\x06\x00\x03\x01\x00",
-            malformed,
-        ),
-        (
-            b"\x30\x12\x30\x0d\x06\x09\x2a\x86\x48\x86\xf7\x0d\x01\x01\x01\x05\x00\x03\x01\x00",
-            unsupported,
-        ),
-        (
-            b"\x30\x13\x30\x0e\x06\x09\x2a\x86\x48\x86\xf7\x0d\x01\x01\x01\x05\x01\x00\x03\x01\x00",
-            malformed,
-        ),
-    ] {
-        match Key::new(alloc, bytes) {
-            Ok(_) => return Err(Fail::new("a key")),
-            Err(refusal) => assert!(rt; refusal == want, "{bytes:?}"),
-        }
-    }
-    // A key that is refused is left out.
-    let ring = keyring(alloc, &[b"", &key, issuer.spki()])?;
-    let refused = Err(KeyringError::VerificationFailed);
+    let ring = keyring(alloc, &[b"", &key, b"\x30\x00"])?;
     let checker = TableChecker::new(alloc);
+    let refused = Err(KeyringError::VerificationFailed);
     assert!(rt; ring.verify(&sha256(&key), b"", b"", &checker) == refused);
     let missing = Err(KeyringError::KeyNotFound);
-    assert!(rt; ring.verify(&sha256(issuer.spki()), b"", b"", &checker) == missing);
+    assert!(rt; ring.verify(&sha256(b""), b"", b"", &checker) == missing);
+    Ok(())
+}
+
+/// A certificate that has the purpose of precertificate signing alone.
+fn precertificate_signer(alloc: Global) -> Result<Certificate, Fail> {
+    let purpose = write_element(alloc, 6, oid::PRECERTIFICATE_SIGNING)?;
+    let purposes = write_element(alloc, 48, purpose.as_slice())?;
+    generated(alloc, oid::EXTENDED_KEY_USAGE, &[purposes.as_slice()])
+}
+
+/// What is answered for the leaf and this chain: the hash of the issuer's key.
+fn issuer_hash(alloc: Global, chain: &[Certificate]) -> Result<Result<[u8; 32], SCTError>, Fail> {
+    let leaf = certificate(alloc, LEAF)?;
+    match CertificateEmbeddedSCT::new(alloc, &leaf, chain) {
+        Err(refusal) => Ok(Err(refusal)),
+        Ok(embedded) => {
+            let sct = DigitallySigned::from_embedded(alloc, &embedded)?;
+            Ok(Ok(sct.issuer_key_hash))
+        }
+    }
+}
+
+#[test]
+fn chains_without_an_issuer(rt: HostRuntime) -> Result<(), Fail> {
+    let alloc = rt.alloc();
+    let refused = Err(SCTError::Parsing(CertificateErrorKind::IssuerMissing));
+    assert!(rt; issuer_hash(alloc, &[])? == refused);
+    let itself = [certificate(alloc, LEAF)?];
+    assert!(rt; issuer_hash(alloc, &itself)? == refused);
+    let alone = [precertificate_signer(alloc)?];
+    assert!(rt; issuer_hash(alloc, &alone)? == refused);
     Ok(())
 }
 
 #[test]
 fn issuers_are_found(rt: HostRuntime) -> Result<(), Fail> {
     let alloc = rt.alloc();
-    let leaf = certificate(alloc, LEAF)?;
-    let refused = SCTError::Parsing(CertificateErrorKind::IssuerMissing);
-    let itself = [certificate(alloc, LEAF)?];
-    let purpose = write_element(alloc, 6, oid::PRECERTIFICATE_SIGNING)?;
-    let purposes = write_element(alloc, 48, purpose.as_slice())?;
-    let alone = [generated(alloc, oid::EXTENDED_KEY_USAGE, &[purposes.as_slice()])?];
-    for chain in [&[], itself.as_slice(), alone.as_slice()] {
-        match CertificateEmbeddedSCT::new(alloc, &leaf, chain) {
-            Ok(_) => return Err(Fail::new("an issuer")),
-            Err(refusal) => assert!(rt; refusal == refused),
-        }
-    }
-    let [signer] = alone;
+    let want = Ok(signed(alloc)?.issuer_key_hash);
+    let chain = [certificate(alloc, INTERMEDIATE)?];
+    assert!(rt; issuer_hash(alloc, &chain)? == want);
+    let signer = precertificate_signer(alloc)?;
     let chain = [signer, certificate(alloc, INTERMEDIATE)?];
-    let embedded = CertificateEmbeddedSCT::new(alloc, &leaf, &chain)?;
-    let sct = DigitallySigned::from_embedded(alloc, &embedded)?;
-    assert_eq!(rt; sct.issuer_key_hash, signed(alloc)?.issuer_key_hash);
+    assert!(rt; issuer_hash(alloc, &chain)? == want);
     Ok(())
 }
 
@@ -288,74 +308,47 @@ fn generated(alloc: Global, oid: &[u8], values: &[&[u8]]) -> Result<Certificate,
     Ok(Certificate::try_from_der(alloc, whole.close(48)?.as_slice())?)
 }
 
-/// Each way in which a list of timestamps is refused.
+/// Why a certificate has no timestamp, whose extensions that list timestamps have these values.
+fn refusal(alloc: Global, values: &[&[u8]]) -> Result<Option<SCTError>, Fail> {
+    let leaf = generated(alloc, oid::SCT_LIST, values)?;
+    match CertificateEmbeddedSCT::new_with_verified_path(alloc, &leaf, b"") {
+        Ok(_) => Ok(None),
+        Err(refusal) => Ok(Some(refusal)),
+    }
+}
+
 #[test]
-fn malformed_lists_have_their_cause(rt: HostRuntime) -> Result<(), Fail> {
+fn not_exactly_one_timestamp(rt: HostRuntime) -> Result<(), Fail> {
     let alloc = rt.alloc();
-    let missing = CertificateErrorKind::LeafSCTMissing;
-    let malformed = CertificateErrorKind::LeafSCTMalformed;
+    let missing = Some(SCTError::Parsing(CertificateErrorKind::LeafSCTMissing));
     let empty: &[u8] = b"\x04\x02\x00\x00";
-    for (cause, values, want) in [
-        ("no extension", [].as_slice(), missing),
-        ("two extensions", [empty, empty].as_slice(), missing),
-        ("no bytes", [b"".as_slice()].as_slice(), malformed),
-        (
-            "a SEQUENCE",
-            [b"\x30\x02\x00\x00".as_slice()].as_slice(),
-            malformed,
-        ),
-        (
-            "a byte after the OCTET STRING",
-            [b"\x04\x02\x00\x00\x00".as_slice()].as_slice(),
-            malformed,
-        ),
-        (
-            "no length",
-            [b"\x04\x01\x00".as_slice()].as_slice(),
-            malformed,
-        ),
-        (
-            "a list too short",
-            [b"\x04\x03\x00\x02\x00".as_slice()].as_slice(),
-            malformed,
-        ),
-        (
-            "a byte after the list",
-            [b"\x04\x03\x00\x00\x00".as_slice()].as_slice(),
-            malformed,
-        ),
-        (
-            "half a length",
-            [b"\x04\x03\x00\x01\x00".as_slice()].as_slice(),
-            malformed,
-        ),
-        (
-            "a string too short",
-            [b"\x04\x05\x00\x03\x00\x02\x00".as_slice()].as_slice(),
-            malformed,
-        ),
-        (
-            "a second string too short",
-            [b"\x04\x06\x00\x04\x00\x00\x00\x01".as_slice()].as_slice(),
-            malformed,
-        ),
-        ("an empty list", [empty].as_slice(), missing),
-        (
-            "two strings",
-            [b"\x04\x06\x00\x04\x00\x00\x00\x00".as_slice()].as_slice(),
-            missing,
-        ),
-        (
-            "an empty string",
-            [b"\x04\x04\x00\x02\x00\x00".as_slice()].as_slice(),
-            malformed,
-        ),
-    ] {
-        let leaf = generated(alloc, oid::SCT_LIST, values)?;
-        match CertificateEmbeddedSCT::new_with_verified_path(alloc, &leaf, b"") {
-            Ok(_) => return Err(Fail::new(cause)),
-            Err(refusal) => assert!(rt; refusal == SCTError::Parsing(want), "{cause}"),
-        }
+    assert!(rt; refusal(alloc, &[])? == missing);
+    assert!(rt; refusal(alloc, &[empty, empty])? == missing);
+    assert!(rt; refusal(alloc, &[empty])? == missing);
+    assert!(rt; refusal(alloc, &[b"\x04\x06\x00\x04\x00\x00\x00\x00"])? == missing);
+    Ok(())
+}
+
+/// No bytes, a SEQUENCE, a byte after the OCTET STRING, no length, a list too short, a byte after the list, half a length, a string
+/// too short, a second string too short, an empty string.
+#[test]
+fn malformed_lists_are_refused(rt: HostRuntime) -> Result<(), Fail> {
+    let alloc = rt.alloc();
+    let malformed = Some(SCTError::Parsing(CertificateErrorKind::LeafSCTMalformed));
+    let values: [&[u8]; 10] = [
+        b"",
+        b"\x30\x02\x00\x00",
+        b"\x04\x02\x00\x00\x00",
+        b"\x04\x01\x00",
+        b"\x04\x03\x00\x02\x00",
+        b"\x04\x03\x00\x00\x00",
+        b"\x04\x03\x00\x01\x00",
+        b"\x04\x05\x00\x03\x00\x02\x00",
+        b"\x04\x06\x00\x04\x00\x00\x00\x01",
+        b"\x04\x04\x00\x02\x00\x00",
+    ];
+    for value in values {
+        assert!(rt; refusal(alloc, &[value])? == malformed, "{value:?}");
     }
     Ok(())
 }
