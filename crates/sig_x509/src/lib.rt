@@ -22,9 +22,9 @@ mod policy;
 #[cfg(test)]
 mod policy_tests;
 mod pool;
-mod precert;
 #[cfg(test)]
 mod pool_tests;
+mod precert;
 mod profile;
 mod profile_error;
 mod reading;

@@ -79,7 +79,11 @@ fn entries(alloc: Global, texts: &[&str]) -> Result<Entries, Fail> {
 }
 
 /// A checker that accepts the leaf's signature under the anchor's key alone.
-fn accepting(alloc: Global, anchor: &Certificate, leaf: &Certificate) -> Result<TableChecker, Fail> {
+fn accepting(
+    alloc: Global,
+    anchor: &Certificate,
+    leaf: &Certificate,
+) -> Result<TableChecker, Fail> {
     let mut checker = TableChecker::new(alloc);
     checker.push(AcceptedRow {
         operation: Operation::Certificate,
@@ -97,18 +101,29 @@ fn the_first_issuing_anchor_is_found(rt: HostRuntime) -> Result<(), Fail> {
     let anchor = certificate(alloc, ANCHOR)?;
     let leaf = certificate(alloc, SIGNER)?;
     let checker = accepting(alloc, &anchor, &leaf)?;
-    let pool =
-        CertificatePool::from_certificates(alloc, &entries(alloc, &[INTERMEDIATE, ANCHOR])?)?;
+    let pool = CertificatePool::from_certificates(
+        alloc,
+        &entries(alloc, &[INTERMEDIATE, ANCHOR])?,
+    )?;
     for (time, want) in [
         (1702446654, Err(PoolError::VerificationFailed)),
         (1702446655, Ok(1)),
         (1702447255, Ok(1)),
         (1702447256, Err(PoolError::VerificationFailed)),
     ] {
-        assert!(rt; pool.verify_cert_with_time(&leaf, time, &checker) == want, "at {time}");
-        assert!(rt; pool.verify_der_cert(alloc, leaf.der(), time, &checker) == want, "at {time}");
+        assert!(rt;
+            pool.verify_cert_with_time(&leaf, time, &checker) == want,
+            "at {time}"
+        );
+        assert!(rt;
+            pool.verify_der_cert(alloc, leaf.der(), time, &checker) == want,
+            "at {time}"
+        );
     }
-    assert!(rt; pool.anchor_spki(1).is_some_and(|spki| spki == anchor.spki()));
+    assert!(rt;
+        pool.anchor_spki(1)
+            .is_some_and(|spki| spki == anchor.spki())
+    );
     assert!(rt; pool.anchor_spki(2).is_none());
     let alone = CertificatePool::from_certificates(alloc, &entries(alloc, &[ANCHOR])?)?;
     assert!(rt; alone.verify_cert_with_time(&leaf, 1702446655, &checker) == Ok(0));
