@@ -19,28 +19,18 @@ mod opaque;
 mod parts;
 mod pem;
 mod policy;
-#[cfg(test)]
-mod policy_tests;
 mod pool;
-#[cfg(test)]
-mod pool_tests;
 mod precert;
 mod profile;
 mod profile_error;
 mod reading;
 mod sct_error;
 mod sct_list;
-#[cfg(test)]
-mod sct_tests;
 mod seconds;
 mod signed;
 mod span;
-#[cfg(test)]
-mod tests;
 mod trust;
 mod values;
-#[cfg(test)]
-mod vectors;
 mod walks;
 
 pub use certificate::Certificate;
