@@ -1,0 +1,15 @@
+//! Sigstore bundles: read, written, and checked as far as a bundle alone can be checked.
+//!
+//! The layer above uses three facts. A text is read as the bundle that its members are, exactly where they fit the table of the format. The text
+//! of a bundle is read back as that bundle. A bundle passes its own checks exactly where no refusal has its cause, and else gets the first.
+#![tactic(auto)]
+
+mod bundle;
+mod material;
+
+pub use bundle::{Bundle, Content, MessageSignature};
+pub use material::{
+    KindVersion, LogEntries, MaterialContent, ProofFields, TransparencyLogEntry,
+    VerificationMaterial,
+};
+pub use sig_dsse::{DsseEnvelope, DsseSignature, DsseSignatures};

@@ -1,0 +1,26 @@
+//! `DsseEnvelope`: a payload with a type, and signatures over both (DSSE protocol).
+
+use sig_base::{Bytes, Register, Text};
+
+/// A payload, its type, and the signatures over both.
+#[derive(Drop, PartialEq, Eq)]
+pub struct DsseEnvelope {
+    /// What is signed.
+    pub payload: Bytes,
+    /// What kind of text the payload is.
+    pub payload_type: Text,
+    /// The signatures, each over the pre-authentication encoding of type and payload.
+    pub signatures: DsseSignatures,
+}
+
+/// A signature of an envelope.
+#[derive(Drop, PartialEq, Eq)]
+pub struct DsseSignature {
+    /// The signature itself.
+    pub sig: Bytes,
+    /// A hint at the key that signed; nobody has to believe it.
+    pub keyid: Text,
+}
+
+/// Signatures in order.
+pub type DsseSignatures = Register<DsseSignature>;
