@@ -6,13 +6,13 @@ use sig_base::{Bytes, OutOfMemory};
 use std::alloc::Global;
 
 /// ECDSA with SHA-256, 1.2.840.10045.4.3.2, without parameters: a whole AlgorithmIdentifier (RFC 5758 section 3.2).
-const ALGORITHM: &[u8] = &[
+pub const ALGORITHM: &[u8] = &[
     0x30, 0x0a, 0x06, 0x08, 0x2a, 0x86, 0x48, 0xce, 0x3d, 0x04, 0x03, 0x02,
 ];
 
 /// What stands before the point in a key info of P-256 (RFC 5480 section 2): the SEQUENCE, the AlgorithmIdentifier of an elliptic curve and
 /// P-256, and the BIT STRING without unused bits.
-const KEY_FRONT: &[u8] = &[
+pub const KEY_FRONT: &[u8] = &[
     0x30, 0x59, 0x30, 0x13, 0x06, 0x07, 0x2a, 0x86, 0x48, 0xce, 0x3d, 0x02, 0x01, 0x06, 0x08, 0x2a,
     0x86, 0x48, 0xce, 0x3d, 0x03, 0x01, 0x07, 0x03, 0x42, 0x00,
 ];

@@ -1,5 +1,8 @@
 //! The fixture's leaf.
 
+ghost use Rattle.std.specs.Prelude.{◌≡◌, IfOk};
+ghost use Rattle.sig_fixture.specs.Extensions.{listed};
+
 use crate::anchor::{ROOT, VERSION_3};
 use crate::certificate::CertificateParts;
 use crate::element::{BIT_STRING, SEQUENCE, URI, element_of};
@@ -51,7 +54,9 @@ impl LeafExtensions {
     }
 
     /// The extensions one after another. Refuses for want of memory alone.
-    pub fn list(&self, alloc: Global) -> Result<Bytes, OutOfMemory> {
+    pub fn list(&self, alloc: Global) -> Result<Bytes, OutOfMemory>
+        ensures { IfOk result (λ t. t ≡ listed self.now) }
+    {
         let mut text = Vec::from_slice(alloc, self.usage.as_slice())?;
         text.extend_from_slice(self.purposes.as_slice())?;
         text.extend_from_slice(self.names.as_slice())?;

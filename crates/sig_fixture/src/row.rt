@@ -1,5 +1,7 @@
 //! Rows of signatures that are taken for genuine.
 
+ghost use Rattle.std.specs.Prelude.{◌≡◌, [], ◌∷◌, IfOk};
+
 use sig_base::{AcceptedRow, Bytes, Operation, OutOfMemory, TableChecker};
 use std::alloc::Global;
 
@@ -12,7 +14,15 @@ pub fn accepted_row(
     key: &[u8],
     message: &[u8],
     signature: &[u8],
-) -> Result<AcceptedRow, OutOfMemory> {
+) -> Result<AcceptedRow, OutOfMemory>
+    ensures { IfOk result (λ r. r ≡ record {
+      operation = operation;
+      scheme = scheme.now;
+      key = key.now;
+      message = message.now;
+      signature = signature.now;
+    }) }
+{
     Ok(AcceptedRow {
         operation,
         scheme: Bytes::copy_of(alloc, scheme)?,
@@ -23,7 +33,9 @@ pub fn accepted_row(
 }
 
 /// The checker that accepts this row and nothing else. Refuses for want of memory alone.
-pub fn table_of(alloc: Global, row: AcceptedRow) -> Result<TableChecker, OutOfMemory> {
+pub fn table_of(alloc: Global, row: AcceptedRow) -> Result<TableChecker, OutOfMemory>
+    ensures { IfOk result (λ t. t ≡ row ∷ []) }
+{
     let mut table = TableChecker::new(alloc);
     table.push(row)?;
     Ok(table)

@@ -1,5 +1,9 @@
 //! Timestamps of certificate logs, and their list in an extension: RFC 6962 sections 3.2 and 3.3.
 
+ghost use Rattle.std.specs.Prelude.{◌≡◌, ◌++◌, IfOk, OnOk};
+ghost use Rattle.sig_der.specs.Element.{IsElement};
+ghost use Rattle.sig_fixture.specs.Timestamps.{counted};
+
 use crate::element::OCTET_STRING;
 use crate::key::key_of;
 use sig_base::{Bytes, OutOfMemory, sha256};
@@ -54,13 +58,17 @@ impl TimestampParts {
 }
 
 /// Appends the bytes.
-fn push(text: &mut Vec<u8>, bytes: &[u8]) -> Result<(), OutOfMemory> {
+fn push(text: &mut Vec<u8>, bytes: &[u8]) -> Result<(), OutOfMemory>
+    ensures { OnOk result (text.new.items ≡ text.old.items ++ bytes.now) }
+{
     text.extend_from_slice(bytes)?;
     Ok(())
 }
 
 /// Appends the bytes after their length in two bytes.
-fn push_vector(text: &mut Vec<u8>, bytes: &[u8]) -> Result<(), DerWriteError> {
+fn push_vector(text: &mut Vec<u8>, bytes: &[u8]) -> Result<(), DerWriteError>
+    ensures { OnOk result (text.new.items ≡ text.old.items ++ counted bytes.now) }
+{
     let len = bytes.len();
     if len > VECTOR_LIMIT {
         return Err(DerWriteError::TooLong);
@@ -72,7 +80,9 @@ fn push_vector(text: &mut Vec<u8>, bytes: &[u8]) -> Result<(), DerWriteError> {
 
 /// The value of the extension that lists this timestamp alone. `TooLong` where the list would have more than 2^16 - 1 bytes, `OutOfMemory` for
 /// want of memory.
-pub fn timestamp_list(alloc: Global, timestamp: &[u8]) -> Result<Bytes, DerWriteError> {
+pub fn timestamp_list(alloc: Global, timestamp: &[u8]) -> Result<Bytes, DerWriteError>
+    ensures { IfOk result (λ t. IsElement t 4 (counted (counted timestamp.now))) }
+{
     let mut string = Vec::new(alloc);
     push_vector(&mut string, timestamp)?;
     let mut list = Vec::new(alloc);
