@@ -1,7 +1,8 @@
 //! What every crate of the house stands on: bytes, texts and lists that own their memory, the errors, and the traits of the outside.
 //!
-//! The layer above uses three facts. A register is the list of what was pushed, and a refused push changes nothing. A fault of a source or a
-//! sink comes only where its count of faults rose. A signature check is a predicate of the bytes that it is handed.
+//! The layer above uses four facts. A register is the list of what was pushed, and a refused push changes nothing. A map from texts is the list
+//! of its entries in byte order, each text once. A fault of a source or a sink comes only where its count of faults rose. A signature check is
+//! a predicate of the bytes that it is handed.
 #![tactic(auto)]
 
 mod by_text;
