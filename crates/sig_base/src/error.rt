@@ -90,7 +90,7 @@ pub enum SigstoreError {
 
 impl SigstoreError {
     /// The variant's name, which is also what Display writes.
-    pub fn name(&self) -> &'static str {
+    pub(crate) fn name(&self) -> &'static str {
         match self {
             SigstoreError::Base64DecodeError => "Base64DecodeError",
             SigstoreError::HexDecodeError => "HexDecodeError",

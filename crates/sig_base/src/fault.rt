@@ -1,4 +1,5 @@
 //! The small errors that more than one crate names: each variant is one cause.
+use crate::memory::OutOfMemory;
 use thiserror::Error;
 
 /// Why bytes are no DER element, or no value of the wanted kind. No memory is taken where it comes from.
@@ -74,6 +75,17 @@ pub enum PoolError {
     /// No memory could be had.
     #[error("OutOfMemory")]
     OutOfMemory,
+}
+
+impl From<OutOfMemory> for PoolError {
+    ghost use Rattle.std.specs.Prelude.{◌≡◌};
+    ghost use Rattle.sig_base.specs.declared.fault.PoolError.TheVariants.{OutOfMemory as Memory};
+
+    ghost from_gives = { λ _ e. e ≡ Memory };
+
+    fn from(_error: OutOfMemory) -> PoolError {
+        PoolError::OutOfMemory
+    }
 }
 
 /// Why a text is no identity token of Sigstore.

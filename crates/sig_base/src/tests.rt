@@ -1,7 +1,8 @@
 //! What no clause says: that each call succeeds where memory is ample, and the texts of the errors.
 use crate::{
-    ByText, Bytes, CheckpointFault, DerError, Entries, Hashes, MerkleProofError, Numbers,
-    OutOfMemory, PkiFault, PoolError, SigstoreError, Text, TokenFault, TrustPart, UnexpectedKind,
+    ByText, Bytes, CheckpointFault, DerError, Entries, Hashes, KeyMap, MerkleProofError, Numbers,
+    OutOfMemory, PkiFault, PoolError, SigstoreError, Text, TextMap, TokenFault, TrustPart,
+    UnexpectedKind,
 };
 use std::alloc::Global;
 use std::fmt::{Debug, Display};
@@ -57,6 +58,73 @@ fn a_map_keeps_the_last_value_of_a_text(rt: HostRuntime) -> Result<(), Fail> {
     Ok(())
 }
 
+fn keys_of_logs(alloc: Global) -> Result<KeyMap, OutOfMemory> {
+    let mut keys = KeyMap::new(alloc);
+    keys.insert("b", b"old")?;
+    keys.insert("ab", b"\xff")?;
+    keys.insert("b", b"new")?;
+    keys.insert("a", b"")?;
+    Ok(keys)
+}
+
+fn annotations(alloc: Global) -> Result<TextMap, OutOfMemory> {
+    let mut annotations = TextMap::new(alloc);
+    annotations.insert("\u{e9}", "old")?;
+    annotations.insert("z", "last of ASCII")?;
+    annotations.insert("\u{e9}", "new")?;
+    Ok(annotations)
+}
+
+#[test]
+fn a_key_map_replaces_and_finds(rt: HostRuntime) -> Result<(), Fail> {
+    let keys = keys_of_logs(rt.alloc())?;
+    assert_eq!(rt; keys.len(), 3);
+    assert_eq!(rt; keys.get("b"), Some(b"new".as_slice()));
+    assert!(rt; keys.get("a").is_some());
+    assert!(rt; keys.get("").is_none());
+    Ok(())
+}
+
+#[test]
+fn a_key_map_is_in_byte_order(rt: HostRuntime) -> Result<(), Fail> {
+    let keys = keys_of_logs(rt.alloc())?.copy(rt.alloc())?;
+    assert_eq!(rt; keys.at(0), Some(("a", b"".as_slice())));
+    assert_eq!(rt; keys.at(1), Some(("ab", b"\xff".as_slice())));
+    assert_eq!(rt; keys.at(2), Some(("b", b"new".as_slice())));
+    assert!(rt; keys.at(3).is_none());
+    Ok(())
+}
+
+#[test]
+fn a_text_map_replaces_and_finds(rt: HostRuntime) -> Result<(), Fail> {
+    let annotations = annotations(rt.alloc())?;
+    assert_eq!(rt; annotations.len(), 2);
+    assert_eq!(rt; annotations.get("\u{e9}"), Some("new"));
+    assert!(rt; annotations.get("e").is_none());
+    Ok(())
+}
+
+#[test]
+fn a_text_map_is_in_byte_order(rt: HostRuntime) -> Result<(), Fail> {
+    let annotations = annotations(rt.alloc())?.copy(rt.alloc())?;
+    assert_eq!(rt; annotations.at(0), Some(("z", "last of ASCII")));
+    assert_eq!(rt; annotations.at(1), Some(("\u{e9}", "new")));
+    assert!(rt; annotations.at(2).is_none());
+    Ok(())
+}
+
+#[test]
+fn maps_are_walked_in_byte_order(rt: HostRuntime) -> Result<(), Fail> {
+    let keys = keys_of_logs(rt.alloc())?;
+    let mut walk = keys.iter();
+    assert_eq!(rt; walk.next(), Some(("a", b"".as_slice())));
+    assert_eq!(rt; walk.nth(1), Some(("b", b"new".as_slice())));
+    assert!(rt; walk.next().is_none());
+    let annotations = annotations(rt.alloc())?;
+    assert_eq!(rt; annotations.iter().next(), Some(("z", "last of ASCII")));
+    Ok(())
+}
+
 fn displays<E: Display>(alloc: Global, error: &E, name: &str) -> bool {
     match error.to_string(alloc) {
         Ok(text) => text.as_str() == name,
@@ -78,6 +146,7 @@ fn small_errors_show_their_variants_name(rt: HostRuntime) {
     assert!(rt; displays(alloc, &DerError::LongTag, "LongTag"));
     assert!(rt; displays(alloc, &CheckpointFault::SignatureBase64, "SignatureBase64"));
     assert!(rt; displays(alloc, &PoolError::Anchor(3), "Anchor"));
+    assert!(rt; displays(alloc, &PoolError::from(OutOfMemory), "OutOfMemory"));
     assert!(rt; displays(alloc, &TokenFault::NotThreeParts, "NotThreeParts"));
     assert!(rt; displays(alloc, &PkiFault::TrustedRootMissing, "TrustedRootMissing"));
     assert!(rt; displays(alloc, &TrustPart::Ctfe, "Ctfe"));

@@ -64,7 +64,7 @@ pub enum UnexpectedKind {
 
 impl UnexpectedKind {
     /// The variant's name, which is also what Display writes.
-    pub fn name(self) -> &'static str {
+    pub(crate) fn name(self) -> &'static str {
         match self {
             UnexpectedKind::BundleUnreadable => "BundleUnreadable",
             UnexpectedKind::ContentNotDsse => "ContentNotDsse",

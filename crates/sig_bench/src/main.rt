@@ -1,27 +1,36 @@
-//! A program for `bench/run`: reads the certificate on standard input as often as its word says, and prints how many extensions were read.
-//! No command of sigverify reaches a certificate alone, so this one shows what reading one costs.
+//! A program for `bench/run`: it reads standard input as its first word says, so that one call of a lower crate can be measured alone, which no
+//! command of sigverify can. `certificate N` reads a certificate N times and prints how many extensions were read; `read`, `compact` and
+//! `canonical` read a JSON document, write it so, and print how many bytes were written.
 #![tactic(auto)]
 
+mod certificate;
+mod document;
+
 use anyhow::{Context, Result, anyhow};
-use sig_x509::Certificate;
 use std::env;
 use std::io::Read;
 
 fn main(rt: HostRuntime) -> Result<()> {
     let alloc = rt.alloc();
-    let mut times = 1u32;
-    for word in env::args(&rt)?.skip(1) {
-        times = word.as_str().parse::<u32>().context("how often")?;
-    }
-    let mut der = Vec::new(alloc);
-    rt.stdin().read_to_end(&mut der)?;
-    let mut extensions = 0u64;
-    for _ in 0..times {
-        let Ok(certificate) = Certificate::try_from_der(alloc, der.as_slice()) else {
-            return Err(anyhow!("this is no certificate"));
-        };
-        extensions = extensions.saturating_add(certificate.extension_count() as u64);
-    }
-    println!(rt; "{extensions}")?;
+    let mut words = env::args(&rt)?;
+    let _ = words.next();
+    let what = words.next().context("what to read")?;
+    let mut input = Vec::new(alloc);
+    rt.stdin().read_to_end(&mut input)?;
+    let count = match what.as_str() {
+        "certificate" => {
+            let times = words.next().context("how often")?;
+            let times = times.as_str().parse::<u32>().context("how often")?;
+            certificate::extensions_of(alloc, input.as_slice(), times)
+        }
+        "read" => document::read(alloc, input.as_slice()),
+        "compact" => document::written_compact(alloc, input.as_slice()),
+        "canonical" => document::written_canonical(alloc, input.as_slice()),
+        _ => None,
+    };
+    let Some(count) = count else {
+        return Err(anyhow!("not read"));
+    };
+    println!(rt; "{count}")?;
     Ok(())
 }

@@ -1,0 +1,16 @@
+//! Certificates, read again and again.
+
+use sig_x509::Certificate;
+use std::alloc::Global;
+
+/// How many extensions were read in all; none where the bytes are no certificate.
+pub fn extensions_of(alloc: Global, der: &[u8], times: u32) -> Option<u64> {
+    let mut extensions = 0u64;
+    for _ in 0..times {
+        let Ok(certificate) = Certificate::try_from_der(alloc, der) else {
+            return None;
+        };
+        extensions = extensions.saturating_add(certificate.extension_count() as u64);
+    }
+    Some(extensions)
+}
