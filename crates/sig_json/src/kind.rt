@@ -95,10 +95,7 @@ impl ElementReader for TextMapReader {
 
 /// The texts that members are, by their names. Refuses with `Member` where one is no text.
 #[tactic(auto, using(crate::proofs::TextMaps::text_maps))]
-fn texts_of_members(
-    alloc: Global,
-    members: &Map<String, Value>,
-) -> Result<TextMap, MemberError>
+fn texts_of_members(alloc: Global, members: &Map<String, Value>) -> Result<TextMap, MemberError>
     ensures { Reads (λ x. x) result (texts_by_name (members_list (members_view members.now.entries))) }
 {
     let mut texts = TextMap::new(alloc);
