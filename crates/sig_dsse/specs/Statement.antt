@@ -1,7 +1,7 @@
 -- *Statement*: an in-toto statement (in-toto attestation framework, "Statement layer specification v1"), and the text of which it is read.
 use Rattle.std.specs.Prelude.{ℕ, List, codes, Option, Some, None}
 use Rattle.std.specs.Result.{result_ok}
-use Rattle.serde_json.specs.Data.{Data}
+use Rattle.sig_json.specs.Data.{Data}
 use Rattle.sig_json.specs.Document.{document_of}
 use Rattle.sig_json.specs.Kinds.{text_of, text_map_of}
 use Rattle.sig_json.specs.Member.{required, required_text, required_list, optional}

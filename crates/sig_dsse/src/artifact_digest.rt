@@ -20,6 +20,12 @@ pub enum ArtifactDigest {
 pub type Digests = Register<ArtifactDigest>;
 
 impl ArtifactDigest {
+    ghost use Rattle.std.specs.Prelude.{ℕ, List};
+    ghost use Rattle.sha2.specs.Hashers.{Holds256, Holds512};
+    ghost use Rattle.sha2.specs.Sha256.{sha256};
+    ghost use Rattle.sha2.specs.Sha512.{sha512};
+    ghost use Rattle.sig_dsse.specs.declared.artifact_digest.ArtifactDigest.TheVariants.{Sha256 as IsSha256, Sha512 as IsSha512};
+
     /// The algorithm's name, `sha256` or `sha512`.
     pub fn algorithm(&self) -> &'static str
         ensures { result.now ≡ algorithm_of self.now }
@@ -48,13 +54,17 @@ impl ArtifactDigest {
         Ok(Text::from(text))
     }
 
-    /// The digest of all that a hasher took.
-    pub fn from_sha256(hasher: Sha256) -> ArtifactDigest {
+    /// The SHA-256 digest of the bytes that a hasher took.
+    pub fn from_sha256(hasher: Sha256) -> ArtifactDigest
+        ensures { (bytes : List ℕ) → Holds256 hasher bytes → result ≡ IsSha256 (sha256 bytes) }
+    {
         ArtifactDigest::Sha256(hasher.finalize())
     }
 
-    /// The digest of all that a hasher took.
-    pub fn from_sha512(hasher: Sha512) -> ArtifactDigest {
+    /// The SHA-512 digest of the bytes that a hasher took.
+    pub fn from_sha512(hasher: Sha512) -> ArtifactDigest
+        ensures { (bytes : List ℕ) → Holds512 hasher bytes → result ≡ IsSha512 (sha512 bytes) }
+    {
         ArtifactDigest::Sha512(hasher.finalize())
     }
 }
