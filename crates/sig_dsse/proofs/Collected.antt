@@ -1,31 +1,51 @@
 -- Digests collected one thing after another.
-use Rattle.std.proofs.Common.{◌≡◌, ◌⊎◌, inl, inr, ℕ, List, [], ◌∷◌, ◌++◌, map, Result, Ok, Err, refl, sym, ap, ◌∙◌, append_assoc, append-nil}
+use Rattle.std.proofs.Common.{◌≡◌, ◌⊎◌, inl, inr, ℕ, List, [], ◌∷◌, ◌++◌, Result, Ok, Err, refl, sym, ap, ◌∙◌, append_assoc, append-nil}
 use Rattle.sig_dsse.specs.declared.artifact_digest.ArtifactDigest.{ArtifactDigest}
 use Rattle.sig_dsse.specs.declared.recognized.SubjectFault.{SubjectFault}
 use Rattle.sig_dsse.specs.Recognized.{◌>>=◌, digests_of_each}
 
+abbrev Collected : Type 0
+Collected = Result (List ArtifactDigest) SubjectFault
+
+nothing_before : (found : Collected) → found ≡ (found >>= λ others. Ok ([] ++ others))
+nothing_before (Ok digests) = refl
+nothing_before (Err e) = refl
+
+one_more : (digests more : List ArtifactDigest) (found : Collected) → ((found >>= λ others. Ok (more ++ others)) >>= λ others. Ok (digests ++ others)) ≡ (found >>= λ others. Ok ((digests ++ more) ++ others))
+one_more digests more (Ok others) = ap Ok (sym (append_assoc digests more others))
+one_more digests more (Err e) = refl
+
 module _ {A : Type 0} where
-  -- the digests so far, and those of what is left
-  abbrev pub with_left : (A → Result (List ArtifactDigest) SubjectFault) → List ArtifactDigest → List A → Result (List ArtifactDigest) SubjectFault
+  -- these digests, and those of what is left
+  abbrev pub with_left : (A → Collected) → List ArtifactDigest → List A → Collected
   with_left f digests left = digests_of_each f left >>= λ others. Ok (digests ++ others)
 
-  pub with_left-none : (f : A → Result (List ArtifactDigest) SubjectFault) (left : List A) → digests_of_each f left ≡ with_left f [] left
-  with_left-none f left = nothing_before (digests_of_each f left) where
-    nothing_before : (found : Result (List ArtifactDigest) SubjectFault) → found ≡ (found >>= λ others. Ok ([] ++ others))
-    nothing_before (Ok digests) = refl
-    nothing_before (Err e) = refl
+  -- behind the digests that were there before stand those of what is done, and those of what is left go behind them
+  pub record SoFar (f : A → Collected) (all left : List A) (before after : List ArtifactDigest) : Type 0 where
+    pub more : List ArtifactDigest
+    pub put : after ≡ before ++ more
+    pub meant : digests_of_each f all ≡ with_left f more left
 
-  one_more : (digests more : List ArtifactDigest) (found : Result (List ArtifactDigest) SubjectFault) → (found >>= λ others. Ok (more ++ others)) >>= (λ others. Ok (digests ++ others)) ≡ (found >>= λ others. Ok ((digests ++ more) ++ others))
-  one_more digests more (Ok others) = ap Ok (sym (append_assoc digests more others))
-  one_more digests more (Err e) = refl
+  pub so_far-none : (f : A → Collected) (all left : List A) (before after : List ArtifactDigest) → left ≡ all → after ≡ before → SoFar f all left before after
+  so_far-none f all left before after whole same =
+      record { more = []; put = same ∙ sym (append-nil before); meant = rw whole (nothing_before (digests_of_each f all)) }
 
-  pub with_left-more : (f : A → Result (List ArtifactDigest) SubjectFault) (x : A) (left rest : List A) (digests more after : List ArtifactDigest) → left ≡ x ∷ rest → f x ≡ Ok more → after ≡ digests ++ more → with_left f digests left ≡ with_left f after rest
-  with_left-more f x left rest digests more after next is put = rw (next, is, put) (one_more digests more (digests_of_each f rest))
+  pub so_far-more : (f : A → Collected) (all left rest : List A) (before after next : List ArtifactDigest) (x : A) (more : List ArtifactDigest) → SoFar f all left before after → left ≡ x ∷ rest → f x ≡ Ok more → next ≡ after ++ more → SoFar f all rest before next
+  so_far-more f all left rest before after next x more so_far here is put =
+      record {
+        more = so_far.more ++ more;
+        put = put ∙ ap (λ d. d ++ more) so_far.put ∙ append_assoc before so_far.more more;
+        meant = so_far.meant ∙ rw (here, is) (one_more so_far.more more (digests_of_each f rest));
+      }
 
-  pub with_left-refused : (f : A → Result (List ArtifactDigest) SubjectFault) (x : A) (left rest : List A) (digests : List ArtifactDigest) (e : SubjectFault) → left ≡ x ∷ rest → f x ≡ Err e → with_left f digests left ≡ Err e
-  with_left-refused f x left rest digests e next is = rw (next, is) refl
+  pub so_far-refused : (f : A → Collected) (all left rest : List A) (before after : List ArtifactDigest) (x : A) (e : SubjectFault) → SoFar f all left before after → left ≡ x ∷ rest → f x ≡ Err e → digests_of_each f all ≡ Err e
+  so_far-refused f all left rest before after x e so_far here is = so_far.meant ∙ rw (here, is) refl
 
-  pub with_left-all : (f : A → Result (List ArtifactDigest) SubjectFault) (left : List A) (digests : List ArtifactDigest) → left ≡ [] → with_left f digests left ≡ Ok digests
-  with_left-all f left digests none = rw none (ap Ok (append-nil digests))
+  pub so_far-all : (f : A → Collected) (all left : List A) (before after : List ArtifactDigest) → SoFar f all left before after → left ≡ [] → (more : List ArtifactDigest) × (digests_of_each f all ≡ Ok more) × (after ≡ before ++ more)
+  so_far-all f all left before after so_far none =
+      (so_far.more, (so_far.meant ∙ rw none (ap Ok (append-nil so_far.more)), so_far.put))
 
-pub ruleset collected = (with_left-none, with_left-more, with_left-refused, with_left-all)
+  pub so_far-whole : (f : A → Collected) (all left : List A) (after : List ArtifactDigest) → SoFar f all left [] after → left ≡ [] → digests_of_each f all ≡ Ok after
+  so_far-whole f all left after so_far none = let whole = so_far-all f all left [] after so_far none in whole.2.1 ∙ ap Ok (sym whole.2.2)
+
+pub ruleset collected = (so_far-none, so_far-more, so_far-refused, so_far-all, so_far-whole)

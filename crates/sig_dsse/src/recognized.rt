@@ -88,7 +88,7 @@ fn digests_of_subjects(
     alloc: Global,
     subjects: SubjectDigests<'_>,
 ) -> Result<Digests, SubjectFault>
-    ensures { Answers SubjectFault.OutOfMemory (λ digests. digests) result (digests_of_each map_digests subjects) }
+    ensures { Answers SubjectFault.OutOfMemory (λ digests. digests) result (digests_of_each map_digests subjects.entry) }
 {
     let mut digests = Digests::new(alloc);
     'subjects: for digest in subjects {
