@@ -1,8 +1,15 @@
 -- Digests collected one thing after another.
-use Rattle.std.proofs.Common.{◌≡◌, ◌⊎◌, inl, inr, ℕ, List, [], ◌∷◌, ◌++◌, Result, Ok, Err, refl, sym, ap, ◌∙◌, append_assoc, append-nil}
+use Rattle.std.proofs.Common.{◌≡◌, ◌≢◌, ℕ, ◌<◌, ◌≤◌, List, [], ◌∷◌, ◌++◌, length, map, Result, Ok, Err, refl, sym, ap, ◌∙◌, arith, append_assoc, append-nil}
+use Rattle.std.proofs.lemmas.Bool.{lt-ltb, le-ltb}
+use Rattle.std.proofs.lemmas.List.{length-map}
 use Rattle.sig_dsse.specs.declared.artifact_digest.ArtifactDigest.{ArtifactDigest}
 use Rattle.sig_dsse.specs.declared.recognized.SubjectFault.{SubjectFault}
-use Rattle.sig_dsse.specs.Recognized.{◌>>=◌, digests_of_each}
+use Rattle.sig_dsse.specs.declared.recognized.SubjectFault.TheVariants.{TooManySubjects, NoneRecognized}
+use Rattle.sig_dsse.specs.declared.statement.InTotoStatementV1.{InTotoStatementV1}
+use Rattle.sig_dsse.specs.declared.statement.Subject.{Subject as HeldSubject}
+use Rattle.sig_dsse.specs.Recognized.{◌>>=◌, digests_of_each, map_digests, not_none, digests_or_fault}
+use Rattle.sig_dsse.specs.Seen.{seen, seen_subject}
+use Rattle.sig_dsse.specs.Statement.{Digests, Subject}
 
 abbrev Collected : Type 0
 Collected = Result (List ArtifactDigest) SubjectFault
@@ -43,9 +50,38 @@ module _ {A : Type 0} where
 
   pub so_far-all : (f : A → Collected) (all left : List A) (before after : List ArtifactDigest) → SoFar f all left before after → left ≡ [] → (more : List ArtifactDigest) × (digests_of_each f all ≡ Ok more) × (after ≡ before ++ more)
   so_far-all f all left before after so_far none =
-      (so_far.more, (so_far.meant ∙ rw none (ap Ok (append-nil so_far.more)), so_far.put))
+      (so_far.more, so_far.meant ∙ rw none (ap Ok (append-nil so_far.more)), so_far.put)
 
   pub so_far-whole : (f : A → Collected) (all left : List A) (after : List ArtifactDigest) → SoFar f all left [] after → left ≡ [] → digests_of_each f all ≡ Ok after
-  so_far-whole f all left after so_far none = let whole = so_far-all f all left [] after so_far none in whole.2.1 ∙ ap Ok (sym whole.2.2)
+  so_far-whole f all left after so_far none = let whole = so_far-all f all left [] after so_far none in whole.1 ∙ ap Ok (sym whole.2)
 
 pub ruleset collected = (so_far-none, so_far-more, so_far-refused, so_far-all, so_far-whole)
+
+-- ---- the digests of a statement
+
+digests-seen : (subjects : List HeldSubject) → map (λ (s : Subject). s.digest) (map seen_subject subjects) ≡ map (λ (s : HeldSubject). s.digest) subjects
+digests-seen [] = refl
+digests-seen (s ∷ ss) = ap (λ rest. s.digest ∷ rest) (digests-seen ss)
+
+pub recognized-many : (statement : InTotoStatementV1) (n : ℕ) → 1024 < n → n ≡ length statement.subject → digests_or_fault (seen statement) ≡ Err (TooManySubjects n)
+unfolding digests_or_fault
+recognized-many statement n many count =
+    rw (length-map statement.subject seen_subject, ← count, lt-ltb 1024 n many) refl
+
+recognized-few : (statement : InTotoStatementV1) (n : ℕ) (maps : List Digests) → n ≤ 1024 → n ≡ length statement.subject → maps ≡ map (λ (s : HeldSubject). s.digest) statement.subject → digests_or_fault (seen statement) ≡ (digests_of_each map_digests maps >>= not_none)
+unfolding digests_or_fault
+recognized-few statement n maps few count same =
+    rw (length-map statement.subject seen_subject, ← count, le-ltb 1024 n few, digests-seen statement.subject, same) refl
+
+pub recognized-refused : (statement : InTotoStatementV1) (n : ℕ) (maps : List Digests) (e : SubjectFault) → n ≤ 1024 → n ≡ length statement.subject → maps ≡ map (λ (s : HeldSubject). s.digest) statement.subject → digests_of_each map_digests maps ≡ Err e → digests_or_fault (seen statement) ≡ Err e
+recognized-refused statement n maps e few count same is = recognized-few statement n maps few count same ∙ rw is refl
+
+pub recognized-none : (statement : InTotoStatementV1) (n : ℕ) (maps : List Digests) (digests : List ArtifactDigest) → n ≤ 1024 → n ≡ length statement.subject → maps ≡ map (λ (s : HeldSubject). s.digest) statement.subject → digests_of_each map_digests maps ≡ Ok digests → length digests ≡ 0 → digests_or_fault (seen statement) ≡ Err NoneRecognized
+recognized-none statement n maps [] few count same is none = recognized-few statement n maps few count same ∙ rw is refl
+recognized-none statement n maps (d ∷ ds) few count same is none = absurd (omega arith)
+
+pub recognized-found : (statement : InTotoStatementV1) (n : ℕ) (maps : List Digests) (digests : List ArtifactDigest) → n ≤ 1024 → n ≡ length statement.subject → maps ≡ map (λ (s : HeldSubject). s.digest) statement.subject → digests_of_each map_digests maps ≡ Ok digests → length digests ≢ 0 → digests_or_fault (seen statement) ≡ Ok digests
+recognized-found statement n maps [] few count same is some = absurd (some refl)
+recognized-found statement n maps (d ∷ ds) few count same is some = recognized-few statement n maps few count same ∙ rw is refl
+
+pub ruleset recognized = (recognized-many, recognized-refused, recognized-none, recognized-found)

@@ -2,7 +2,6 @@
 use Rattle.std.proofs.Common.{◌≡◌, ℕ, ◌+◌, ◌<◌, List, [], ◌∷◌, ◌++◌, length, map, take, get_or, String, Global, string_bytes, refl, sym, ap, ◌∙◌, append_assoc, append-nil}
 use Rattle.std.proofs.lemmas.List.{take_more}
 use Rattle.sig_json.specs.Spells.{texts_of}
-use Rattle.sig_json.proofs.CanonicalTexts.{join_by-texts_of}
 use Rattle.std.specs.Prelude.{codes}
 use Rattle.sig_dsse.specs.EnvelopeText.{text_member, bytes_member, list_member, signature_text}
 use Rattle.sig_dsse.specs.declared.envelope.DsseSignature.{DsseSignature}
@@ -32,4 +31,5 @@ pub signature_members : (none one two : List (String Global)) (lent sig lent_id 
 signature_members none one two lent sig lent_id keyid empty same same_id first second = rw (second, first, empty, same, same_id) refl
 
 pub ruleset parts = (texts_of-append, append-nil, append_assoc)
+
 pub ruleset signed = (signed-more)

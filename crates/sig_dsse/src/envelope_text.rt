@@ -20,7 +20,12 @@ pub fn envelope_json(alloc: Global, envelope: &DsseEnvelope) -> Result<Text, Out
 {
     let mut members = Vec::new(alloc);
     push_bytes(alloc, &mut members, "payload", envelope.payload.as_slice())?;
-    push_text(alloc, &mut members, "payloadType", envelope.payload_type.as_str())?;
+    push_text(
+        alloc,
+        &mut members,
+        "payloadType",
+        envelope.payload_type.as_str(),
+    )?;
     push_signatures(alloc, &mut members, &envelope.signatures)?;
     Ok(Text::from(braced(alloc, &members)?))
 }
@@ -92,10 +97,7 @@ fn signatures_json(alloc: Global, signatures: &DsseSignatures) -> Result<String,
 }
 
 #[tactic(auto, using(crate::proofs::EnvelopeTexts::signed))]
-fn signature_texts(
-    alloc: Global,
-    signatures: &DsseSignatures,
-) -> Result<Vec<String>, OutOfMemory>
+fn signature_texts(alloc: Global, signatures: &DsseSignatures) -> Result<Vec<String>, OutOfMemory>
     ensures { IfOk result (λ texts. texts_of texts.items ≡ map signature_text signatures.now) }
 {
     let mut texts = Vec::new(alloc);
