@@ -6,6 +6,7 @@
 
 mod bundle;
 mod material;
+mod version;
 
 pub use bundle::{Bundle, Content, MessageSignature};
 pub use material::{
@@ -13,3 +14,4 @@ pub use material::{
     VerificationMaterial,
 };
 pub use sig_dsse::{DsseEnvelope, DsseSignature, DsseSignatures};
+pub use version::Version;
