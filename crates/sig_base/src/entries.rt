@@ -33,6 +33,13 @@ impl Entries {
         }
     }
 
+    /// The list of these byte strings, which are not copied. It takes no memory.
+    pub fn of(alloc: Global, items: Register<Bytes>) -> Entries
+        ensures { result ≡ items }
+    {
+        Entries { alloc, items }
+    }
+
     /// Adds a copy of an entry at the end. Refuses for want of memory alone; the list is then as before.
     pub fn push(&mut self, entry: &[u8]) -> Result<(), OutOfMemory>
         ensures ok { OnOk result (self.new ≡ self.old ++ entry.now ∷ []) }
@@ -69,4 +76,24 @@ impl Entries {
         }
         Ok(copied)
     }
+}
+
+impl PartialEq for Entries {
+    ghost use Rattle.std.specs.Prelude.{nat_eq};
+    ghost use Rattle.std.specs.Cmp.{partial_equiv_from_equiv};
+    ghost use Rattle.std.specs.Cmp.Lexicographic.{nat_list_eq_equiv, lists_per, pointwise};
+
+    ghost eq = { λ a b. pointwise (pointwise nat_eq) a b };
+
+    ghost laws = { lists_per (partial_equiv_from_equiv nat_list_eq_equiv) };
+
+    fn eq(&self, other: &Entries) -> bool {
+        self.items == other.items
+    }
+}
+
+impl Eq for Entries {
+    ghost use Rattle.std.specs.Cmp.Lexicographic.{nat_list_eq_equiv, lists_equiv};
+
+    ghost laws = { lists_equiv nat_list_eq_equiv };
 }

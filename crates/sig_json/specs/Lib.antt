@@ -1,6 +1,7 @@
 pub mod Builders
 pub mod Canonical
 pub mod Causes
+pub mod Choice
 pub mod Document
 pub mod Integer
 pub mod Kinds
@@ -9,6 +10,7 @@ pub mod Member
 pub mod Members
 pub mod Numerals
 pub mod Reads
+pub mod Record
 pub mod Spells
 pub mod Tree
 -- the trees, and the words that look into them

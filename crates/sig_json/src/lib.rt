@@ -17,6 +17,7 @@ mod integer;
 mod kind;
 mod member;
 mod members;
+mod record;
 #[cfg(test)]
 mod tests;
 mod view;
@@ -32,4 +33,5 @@ pub use member::{
     required_text, required_u64,
 };
 pub use members::Members;
+pub use record::read_record;
 pub use view::Json;

@@ -1,0 +1,14 @@
+-- A choice: members of an object of which at most one is there.
+use Rattle.std.specs.Prelude.{List, [], ◌∷◌, Option, Some, None}
+use Rattle.sig_json.specs.Reads.{◌>>=◌}
+
+-- a member that is there, beside what the others of its choice are
+abbrev pub alone : {A : Type 0} → A → Option A → Option (Option A)
+alone x None = Some (Some x)
+alone x (Some y) = None
+
+-- the one member that is there, or that none is; nothing where two are
+abbrev pub at_most_one : {A : Type 0} → List (Option A) → Option (Option A)
+at_most_one [] = Some None
+at_most_one (None ∷ members) = at_most_one members
+at_most_one (Some x ∷ members) = at_most_one members >>= alone x

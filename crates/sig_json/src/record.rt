@@ -1,0 +1,19 @@
+//! A text read as a record of a member table.
+ghost use Rattle.sig_base.specs.Answers.{Answers};
+ghost use Rattle.sig_json.specs.Record.{record_in};
+
+use crate::document::Document;
+use crate::element::ElementReader;
+use crate::error::JsonError;
+use std::alloc::Global;
+
+/// The record of a text. Refuses with `NotJson` where the text has no reading, then with `Float` where its tree holds a number that is no integer
+/// from -2^63 to 2^64 - 1, and then with `Member` where a member breaks its row of the table.
+#[tactic(auto, unfolding(crate::specs::Record::record_in))]
+pub fn read_record<T: ElementReader>(alloc: Global, text: &[u8]) -> Result<T::Item, JsonError>
+    ensures { Answers JsonError.OutOfMemory (λ x. x) result (record_in T.meaning text.now) }
+{
+    let document = Document::read(alloc, text)?;
+    let record = T::read(alloc, document.view())?;
+    Ok(record)
+}
