@@ -1,1 +1,2 @@
+mod SignerLaws
 mod VersionLaws

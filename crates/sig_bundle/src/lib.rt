@@ -5,10 +5,16 @@
 #![tactic(auto)]
 
 mod bundle;
+mod bundle_error;
 mod material;
+mod profile_check;
+mod signer;
 mod version;
 
 pub use bundle::{Bundle, Content, MessageSignature};
+pub use bundle_error::{
+    Bundle01ProfileErrorKind, Bundle02ProfileErrorKind, BundleErrorKind, BundleProfileErrorKind,
+};
 pub use material::{
     KindVersion, LogEntries, MaterialContent, ProofFields, TransparencyLogEntry,
     VerificationMaterial,
