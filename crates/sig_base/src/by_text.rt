@@ -1,8 +1,10 @@
 //! `ByText`: a map from texts to values that own their memory, as a log's keys by their ids.
-ghost use Rattle.std.specs.Prelude.{◌≡◌, [], length, OnOk, OnErr};
+ghost use Rattle.std.specs.Prelude.{◌≡◌, [], length, OnOk, OnErr, slice_get, option_map};
 ghost use Rattle.std.specs.Option.{option_copied};
-ghost use Rattle.sig_base.specs.ByText.{text_lookup, text_put};
+ghost use Rattle.std.specs.Map.Iter.{deref_pair};
+ghost use Rattle.sig_base.specs.ByText.{text_lookup, text_put, KeysAscend};
 
+use crate::by_text_entries::ByTextEntries;
 use crate::memory::OutOfMemory;
 use std::alloc::Global;
 use std::collections::BTreeMap;
@@ -52,6 +54,25 @@ impl<V> ByText<V> {
         ensures { option_copied result ≡ text_lookup key.now self.now }
     {
         self.entries.get(key)
+    }
+
+    /// The entry at a place of the byte order, counted from 0; none where the place is not below the length. It walks to the place, so
+    /// go over a whole map by `iter`.
+    pub fn at(&self, place: usize) -> Option<(&str, &V)>
+        ensures { option_map deref_pair result ≡ slice_get self.now place }
+    {
+        self.iter().nth(place)
+    }
+
+    /// The entries in byte order of the texts. It takes no memory.
+    #[tactic(auto, using(crate::proofs::Texts::text_maps))]
+    pub fn iter(&self) -> ByTextEntries<'_, V>
+        ensures rest { result ≡ self.now }
+        ensures ordered { KeysAscend self.now }
+    {
+        ByTextEntries {
+            inner: self.entries.iter(),
+        }
     }
 }
 

@@ -5,6 +5,7 @@
 #![tactic(auto)]
 
 mod by_text;
+mod by_text_entries;
 mod bytes;
 mod checker;
 mod entries;
@@ -12,6 +13,8 @@ mod equality;
 mod error;
 mod fault;
 mod hash;
+mod key_map;
+mod key_map_entries;
 mod memory;
 mod memory_sink;
 mod memory_source;
@@ -23,15 +26,20 @@ mod stream;
 #[cfg(test)]
 mod tests;
 mod text;
+mod text_map;
+mod text_map_entries;
 mod unexpected;
 
 pub use by_text::ByText;
+pub use by_text_entries::ByTextEntries;
 pub use bytes::Bytes;
 pub use checker::{AcceptedRow, Operation, SignatureChecker, TableChecker};
 pub use entries::Entries;
 pub use error::{Result, SigstoreError};
 pub use fault::{CheckpointFault, DerError, PkiFault, PoolError, TokenFault, TrustPart};
 pub use hash::sha256;
+pub use key_map::KeyMap;
+pub use key_map_entries::KeyMapEntries;
 pub use memory::OutOfMemory;
 pub use memory_sink::MemorySink;
 pub use memory_source::MemorySource;
@@ -41,4 +49,6 @@ pub use scheme::{DEFAULT_KEY_SIZE, SigningScheme, UnknownScheme, VerifyScheme};
 pub use steps::Steps;
 pub use stream::{Failed, Sink, Source};
 pub use text::Text;
+pub use text_map::TextMap;
+pub use text_map_entries::TextMapEntries;
 pub use unexpected::UnexpectedKind;

@@ -1,0 +1,8 @@
+pub mod Pae
+pub mod EnvelopeText
+pub mod Digest
+pub mod Statement
+pub mod Seen
+pub mod Recognized
+pub mod CosignStatement
+pub mod Collecting

@@ -1,0 +1,96 @@
+//! `KeyMap`: a map from texts to bytes, as a log's keys by their ids.
+ghost use Rattle.std.specs.Prelude.{◌≡◌, [], length, IfOk, OnOk, OnErr, slice_get, option_map};
+ghost use Rattle.std.specs.Map.Iter.{deref_pair};
+ghost use Rattle.sig_base.specs.ByText.{text_lookup, text_put, KeysAscend};
+
+use crate::by_text::ByText;
+use crate::bytes::Bytes;
+use crate::key_map_entries::KeyMapEntries;
+use crate::memory::OutOfMemory;
+use std::alloc::Global;
+use std::marker::Model;
+
+/// A map from texts to bytes. Contracts see the list of its entries, each text once, in byte order of the texts.
+#[derive(Drop)]
+pub struct KeyMap {
+    alloc: Global,
+    entries: ByText<Bytes>,
+}
+
+impl Model for KeyMap {
+    ghost use Rattle.std.specs.Prelude.{ℕ, List};
+
+    ghost Value = { List (List ℕ × List ℕ) };
+
+    ghost view = { λ m. m.entries };
+}
+
+impl KeyMap {
+    /// A map without entries. It takes no memory.
+    pub fn new(alloc: Global) -> KeyMap
+        ensures { result ≡ [] }
+    {
+        KeyMap {
+            alloc,
+            entries: ByText::new(alloc),
+        }
+    }
+
+    /// Gives a text a copy of these bytes, in place of those that it may have. Refuses for want of memory alone; the map is then as before.
+    pub fn insert(&mut self, key: &str, value: &[u8]) -> Result<(), OutOfMemory>
+        ensures ok { OnOk result (self.new ≡ text_put key.now value.now self.old) }
+        ensures err { OnErr result (self.new ≡ self.old) }
+    {
+        let copied = Bytes::copy_of(self.alloc, value)?;
+        self.entries.insert(key, copied)
+    }
+
+    /// The bytes of a text; none where the text is not there.
+    pub fn get(&self, key: &str) -> Option<&[u8]>
+        ensures { option_map (λ value. value.now) result ≡ text_lookup key.now self.now }
+    {
+        match self.entries.get(key) {
+            Some(value) => Some(value.as_slice()),
+            None => None,
+        }
+    }
+
+    /// How many entries there are.
+    pub fn len(&self) -> usize
+        ensures { result ≡ length self.now }
+    {
+        self.entries.len()
+    }
+
+    /// The entry at a place of the byte order, counted from 0; none where the place is not below the length. It walks to the place, so
+    /// go over a whole map by `iter`.
+    pub fn at(&self, place: usize) -> Option<(&str, &[u8])>
+        ensures { option_map deref_pair result ≡ slice_get self.now place }
+    {
+        match self.entries.at(place) {
+            Some((key, value)) => Some((key, value.as_slice())),
+            None => None,
+        }
+    }
+
+    /// The entries in byte order of the texts. It takes no memory.
+    pub fn iter(&self) -> KeyMapEntries<'_>
+        ensures rest { result ≡ self.now }
+        ensures ordered { KeysAscend self.now }
+    {
+        KeyMapEntries {
+            inner: self.entries.iter(),
+        }
+    }
+
+    /// The same map in memory of its own. Refuses for want of memory alone.
+    pub fn copy(&self, alloc: Global) -> Result<KeyMap, OutOfMemory>
+        ensures { IfOk result (λ m. m ≡ self.now) }
+    {
+        let mut copied = KeyMap::new(alloc);
+        'entry: for (key, value) in self.iter() {
+            copied.insert(key, value)?;
+        }
+        Ok(copied)
+    }
+}

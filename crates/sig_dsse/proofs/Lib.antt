@@ -1,0 +1,3 @@
+pub mod EnvelopeTexts
+pub mod SubjectLists
+pub mod Collected

@@ -1,0 +1,19 @@
+-- For private clauses: digests that are put behind those that were there.
+use Rattle.std.specs.Prelude.{◌≡◌, ◌⊎◌, List, [], ◌∷◌, ◌++◌, Option, Some, None, Result, Ok, Err}
+use Rattle.sig_dsse.specs.declared.artifact_digest.ArtifactDigest.{ArtifactDigest}
+use Rattle.sig_dsse.specs.declared.recognized.SubjectFault.{SubjectFault}
+use Rattle.sig_dsse.specs.declared.recognized.SubjectFault.TheVariants.{OutOfMemory}
+
+-- the digests that are meant are put behind, or the fault that is meant is told, unless memory ran out
+abbrev pub Adds : {A : Type 0} → List ArtifactDigest → List ArtifactDigest → Result A SubjectFault → Result (List ArtifactDigest) SubjectFault → Type 0
+Adds before after (Ok x) meant = (more : List ArtifactDigest) × (meant ≡ Ok more) × (after ≡ before ++ more)
+Adds before after (Err e) meant = (e ≡ OutOfMemory) ⊎ (meant ≡ Err e)
+
+abbrev pub listed : Option ArtifactDigest → List ArtifactDigest
+listed None = []
+listed (Some digest) = digest ∷ []
+
+-- the same answer, as a list
+abbrev pub listing : Result (Option ArtifactDigest) SubjectFault → Result (List ArtifactDigest) SubjectFault
+listing (Ok digest) = Ok (listed digest)
+listing (Err e) = Err e

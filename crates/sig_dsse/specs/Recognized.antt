@@ -1,0 +1,55 @@
+-- *Subject digests*: the digests of a statement that are named exactly `sha256` or `sha512`, over all subjects in order and names in byte order.
+use Rattle.std.specs.Prelude.{ℕ, nat_lt, bytes_eq, if◌then◌else◌, List, [], ◌∷◌, ◌++◌, length, map, codes, Result, Ok, Err}
+use Rattle.hex.specs.Hex.{decode_sized}
+use Rattle.sig_dsse.specs.declared.artifact_digest.ArtifactDigest.{ArtifactDigest}
+use Rattle.sig_dsse.specs.declared.artifact_digest.ArtifactDigest.TheVariants.{Sha256, Sha512}
+use Rattle.sig_dsse.specs.declared.recognized.DigestName.{DigestName}
+use Rattle.sig_dsse.specs.declared.recognized.DigestName.TheVariants.{Sha256 as NamedSha256, Sha512 as NamedSha512}
+use Rattle.sig_dsse.specs.declared.recognized.SubjectFault.{SubjectFault}
+use Rattle.sig_dsse.specs.declared.recognized.SubjectFault.TheVariants.{TooManySubjects, TooManyDigests, Malformed, NoneRecognized}
+use Rattle.sig_dsse.specs.Statement.{Digests, Subject, Statement}
+
+-- go on with the value; a fault stays
+infixl 10 ◌>>=◌
+abbrev pub ◌>>=◌ : {A B : Type 0} → Result A SubjectFault → (A → Result B SubjectFault) → Result B SubjectFault
+(Ok x) >>= f = f x
+(Err fault) >>= f = Err fault
+
+-- at most so many subjects, and so many digests of each
+abbrev pub most_subjects : ℕ
+most_subjects = 1024
+
+abbrev pub most_digests : ℕ
+most_digests = 32
+
+-- the digest of decoded bytes, or the fault of its name
+abbrev pub digest_or_malformed : {E : Type 0} → DigestName → (List ℕ → ArtifactDigest) → Result (List ℕ) E → Result (List ArtifactDigest) SubjectFault
+digest_or_malformed name digest (Ok bytes) = Ok (digest bytes ∷ [])
+digest_or_malformed name digest (Err e) = Err (Malformed name)
+
+-- the digest of an entry: hexadecimal digits in either case (RFC 4648 section 8) of 32 bytes under `sha256`, of 64 under `sha512`; none under another name
+unfoldable pub entry_digest : List ℕ × List ℕ → Result (List ArtifactDigest) SubjectFault
+entry_digest entry =
+    if bytes_eq entry.0 (codes "sha256") then digest_or_malformed NamedSha256 Sha256 (decode_sized entry.1 32)
+    else if bytes_eq entry.0 (codes "sha512") then digest_or_malformed NamedSha512 Sha512 (decode_sized entry.1 64)
+    else Ok []
+
+-- the digests of some things one after another, or the first fault
+abbrev pub digests_of_each : {A : Type 0} → (A → Result (List ArtifactDigest) SubjectFault) → List A → Result (List ArtifactDigest) SubjectFault
+digests_of_each digests_of [] = Ok []
+digests_of_each digests_of (x ∷ xs) = digests_of x >>= λ first. digests_of_each digests_of xs >>= λ others. Ok (first ++ others)
+
+-- the digests of a subject
+unfoldable pub map_digests : Digests → Result (List ArtifactDigest) SubjectFault
+map_digests digests = if nat_lt most_digests (length digests) then Err (TooManyDigests (length digests)) else digests_of_each entry_digest digests
+
+-- one digest or more
+abbrev pub not_none : List ArtifactDigest → Result (List ArtifactDigest) SubjectFault
+not_none [] = Err NoneRecognized
+not_none (digest ∷ digests) = Ok (digest ∷ digests)
+
+-- the digests of a statement, or the first rule that is broken
+unfoldable pub digests_or_fault : Statement → Result (List ArtifactDigest) SubjectFault
+digests_or_fault statement =
+    if nat_lt most_subjects (length statement.subject) then Err (TooManySubjects (length statement.subject))
+    else digests_of_each map_digests (map (λ subject. subject.digest) statement.subject) >>= not_none

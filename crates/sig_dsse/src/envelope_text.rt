@@ -1,0 +1,115 @@
+//! An envelope as text.
+ghost use Rattle.std.specs.Prelude.{◌≡◌, ◌++◌, [], ◌∷◌, map, codes, IfOk, OnOk, string_bytes};
+ghost use Rattle.base64.specs.Engines.{standard};
+ghost use Rattle.base64.specs.GeneralPurpose.{encode_of};
+ghost use Rattle.sig_json.specs.Canonical.{canon_string, in_braces, in_brackets};
+ghost use Rattle.sig_json.specs.Spells.{texts_of};
+ghost use Rattle.sig_dsse.specs.EnvelopeText.{member_text, text_member, bytes_member, list_member, signature_text, envelope_text};
+
+use crate::envelope::{DsseEnvelope, DsseSignature, DsseSignatures};
+use base64::engine::general_purpose::STANDARD;
+use sig_base::{OutOfMemory, Text};
+use sig_json::quoted;
+use std::alloc::Global;
+
+/// The JSON of an envelope: `payload`, `payloadType` and `signatures` in this order, in a signature `sig` and `keyid`. Empty members are omitted,
+/// bytes are in padded standard base64 (RFC 4648 section 4), texts escaped as in canonical JSON (RFC 8785 section 3.2.2.2), and there is no
+/// white space. Refuses for want of memory alone.
+#[tactic(auto, using(crate::proofs::EnvelopeTexts::parts), unfolding(crate::specs::EnvelopeText::envelope_text))]
+pub fn envelope_json(alloc: Global, envelope: &DsseEnvelope) -> Result<Text, OutOfMemory>
+    ensures { IfOk result (λ text. text ≡ envelope_text envelope.now) }
+{
+    let mut members = Vec::new(alloc);
+    push_bytes(alloc, &mut members, "payload", envelope.payload.as_slice())?;
+    push_text(alloc, &mut members, "payloadType", envelope.payload_type.as_str())?;
+    push_signatures(alloc, &mut members, &envelope.signatures)?;
+    Ok(Text::from(braced(alloc, &members)?))
+}
+
+#[tactic(auto, using(crate::proofs::EnvelopeTexts::parts), unfolding(crate::specs::EnvelopeText::signature_text))]
+fn signature_json(alloc: Global, signature: &DsseSignature) -> Result<String, OutOfMemory>
+    ensures { IfOk result (λ text. string_bytes text ≡ signature_text signature.now) }
+{
+    let mut members = Vec::new(alloc);
+    push_bytes(alloc, &mut members, "sig", signature.sig.as_slice())?;
+    push_text(alloc, &mut members, "keyid", signature.keyid.as_str())?;
+    braced(alloc, &members)
+}
+
+/// Adds the member of a text, unless it is empty.
+#[tactic(auto, using(crate::proofs::EnvelopeTexts::parts))]
+fn push_text(
+    alloc: Global,
+    members: &mut Vec<String>,
+    name: &str,
+    text: &str,
+) -> Result<(), OutOfMemory>
+    ensures { OnOk result (texts_of members.new.items ≡ texts_of members.old.items ++ text_member name.now text.now) }
+{
+    if text.is_empty() {
+        return Ok(());
+    }
+    let value = quoted(alloc, text)?;
+    members.push(member_json(alloc, name, value.as_str())?)?;
+    Ok(())
+}
+
+/// Adds the member of some bytes, unless there are none.
+fn push_bytes(
+    alloc: Global,
+    members: &mut Vec<String>,
+    name: &str,
+    bytes: &[u8],
+) -> Result<(), OutOfMemory>
+    ensures { OnOk result (texts_of members.new.items ≡ texts_of members.old.items ++ bytes_member name.now bytes.now) }
+{
+    let text = STANDARD.encode(alloc, bytes)?;
+    push_text(alloc, members, name, text.as_str())
+}
+
+/// Adds the member of the signatures, unless there are none.
+#[tactic(auto, using(crate::proofs::EnvelopeTexts::parts))]
+fn push_signatures(
+    alloc: Global,
+    members: &mut Vec<String>,
+    signatures: &DsseSignatures,
+) -> Result<(), OutOfMemory>
+    ensures { OnOk result (texts_of members.new.items
+        ≡ texts_of members.old.items ++ list_member (codes "signatures") (map signature_text signatures.now)) }
+{
+    if signatures.len() == 0 {
+        return Ok(());
+    }
+    let list = signatures_json(alloc, signatures)?;
+    members.push(member_json(alloc, "signatures", list.as_str())?)?;
+    Ok(())
+}
+
+#[tactic(auto, using(crate::proofs::EnvelopeTexts::parts))]
+fn signatures_json(alloc: Global, signatures: &DsseSignatures) -> Result<String, OutOfMemory>
+    ensures { IfOk result (λ text. string_bytes text ≡ in_brackets (map signature_text signatures.now)) }
+{
+    let mut texts = Vec::new(alloc);
+    'signatures: for signature in signatures.as_slice() {
+        texts.push(signature_json(alloc, signature)?)?;
+    }
+    let joined = texts.join(alloc, ",")?;
+    Ok(format!(in alloc; "[{joined}]")?)
+}
+
+/// A member: its name in quotation marks, a colon, and the text of its value.
+fn member_json(alloc: Global, name: &str, value: &str) -> Result<String, OutOfMemory>
+    ensures { IfOk result (λ text. string_bytes text ≡ member_text name.now value.now) }
+{
+    let name = quoted(alloc, name)?;
+    Ok(format!(in alloc; "{}:{value}", name.as_str())?)
+}
+
+/// Members in braces.
+#[tactic(auto, using(crate::proofs::EnvelopeTexts::parts))]
+fn braced(alloc: Global, members: &Vec<String>) -> Result<String, OutOfMemory>
+    ensures { IfOk result (λ text. string_bytes text ≡ in_braces (texts_of members.now.items)) }
+{
+    let joined = members.join(alloc, ",")?;
+    Ok(format!(in alloc; "{{{joined}}}")?)
+}

@@ -1,0 +1,154 @@
+//! The digests of a statement that an artifact can be compared with.
+ghost use Rattle.std.specs.Prelude.{◌≡◌, ◌++◌, [], ◌∷◌, Ok};
+ghost use Rattle.sig_base.specs.Answers.{Answers};
+ghost use Rattle.sig_dsse.specs.Collecting.{Adds, listing};
+ghost use Rattle.sig_dsse.specs.Recognized.{digests_or_fault, digests_of_each, map_digests, entry_digest};
+ghost use Rattle.sig_dsse.specs.Seen.{seen};
+
+use crate::artifact_digest::{ArtifactDigest, Digests};
+use crate::statement::InTotoStatementV1;
+use crate::subject_digests::SubjectDigests;
+use hex::FromHex;
+use sig_base::{OutOfMemory, TextMap};
+use std::alloc::Global;
+use thiserror::Error;
+
+/// How many subjects of a statement are read at most.
+const MOST_SUBJECTS: usize = 1024;
+
+/// How many digests of a subject are read at most.
+const MOST_DIGESTS: usize = 32;
+
+/// The name of a digest that an artifact can be compared with.
+#[derive(Clone, Copy, Debug, PartialEq, Eq)]
+pub enum DigestName {
+    /// `sha256`.
+    Sha256,
+    /// `sha512`.
+    Sha512,
+}
+
+/// Why the digests of a statement cannot be taken.
+#[derive(Clone, Copy, Debug, PartialEq, Eq, Error)]
+pub enum SubjectFault {
+    /// There are this number of subjects, which is more than 1024.
+    #[error("TooManySubjects")]
+    TooManySubjects(usize),
+    /// A subject has this number of digests, which is more than 32.
+    #[error("TooManyDigests")]
+    TooManyDigests(usize),
+    /// A digest of this name is not hexadecimal digits of as many bytes as the algorithm gives.
+    #[error("Malformed")]
+    Malformed(DigestName),
+    /// No subject has a digest named `sha256` or `sha512`.
+    #[error("NoneRecognized")]
+    NoneRecognized,
+    /// No memory could be had.
+    #[error("OutOfMemory")]
+    OutOfMemory,
+}
+
+impl From<OutOfMemory> for SubjectFault {
+    ghost use Rattle.std.specs.Prelude.{◌≡◌};
+    ghost use Rattle.sig_dsse.specs.declared.recognized.SubjectFault.TheVariants.{OutOfMemory};
+
+    ghost from_gives = { λ _ e. e ≡ OutOfMemory };
+
+    fn from(_error: OutOfMemory) -> SubjectFault {
+        SubjectFault::OutOfMemory
+    }
+}
+
+/// The digests of a statement that are named exactly `sha256` or `sha512`, over all subjects in order and names in byte order.
+///
+/// Refuses with `TooManySubjects` where there are more than 1024 subjects. Then, subject by subject, with `TooManyDigests` where it has more than
+/// 32 digests, and, name by name, with `Malformed` where a `sha256` is not hexadecimal digits, in either case, of 32 bytes or a `sha512` of 64.
+/// Then with `NoneRecognized` where there is no such digest.
+#[tactic(auto, unfolding(crate::specs::Recognized::digests_or_fault))]
+pub fn recognized_digests(
+    alloc: Global,
+    statement: &InTotoStatementV1,
+) -> Result<Digests, SubjectFault>
+    ensures { Answers SubjectFault.OutOfMemory (λ digests. digests) result (digests_or_fault (seen statement.now)) }
+{
+    let count = statement.subject.len();
+    if count > MOST_SUBJECTS {
+        return Err(SubjectFault::TooManySubjects(count));
+    }
+    let digests = digests_of_subjects(alloc, statement.subject_digests())?;
+    if digests.len() == 0 {
+        return Err(SubjectFault::NoneRecognized);
+    }
+    Ok(digests)
+}
+
+/// The digests of each map one after another.
+#[tactic(auto, using(crate::proofs::Collected::collected))]
+fn digests_of_subjects(
+    alloc: Global,
+    subjects: SubjectDigests<'_>,
+) -> Result<Digests, SubjectFault>
+    ensures { Answers SubjectFault.OutOfMemory (λ digests. digests) result (digests_of_each map_digests subjects) }
+{
+    let mut digests = Digests::new(alloc);
+    'subjects: for digest in subjects {
+        match push_digests(digest, &mut digests) {
+            Ok(()) => {}
+            Err(fault) => return Err(fault),
+        }
+    }
+    Ok(digests)
+}
+
+/// Adds the digests of a subject.
+#[tactic(auto, unfolding(crate::specs::Recognized::map_digests))]
+fn push_digests(digest: &TextMap, digests: &mut Digests) -> Result<(), SubjectFault>
+    ensures { Adds digests.old digests.new result (map_digests digest.now) }
+{
+    let count = digest.len();
+    if count > MOST_DIGESTS {
+        return Err(SubjectFault::TooManyDigests(count));
+    }
+    push_entries(digest, digests)
+}
+
+#[tactic(auto, using(crate::proofs::Collected::collected))]
+fn push_entries(digest: &TextMap, digests: &mut Digests) -> Result<(), SubjectFault>
+    ensures { Adds digests.old digests.new result (digests_of_each entry_digest digest.now) }
+{
+    'entries: for (name, text) in digest.iter() {
+        match push_entry(name, text, digests) {
+            Ok(()) => {}
+            Err(fault) => return Err(fault),
+        }
+    }
+    Ok(())
+}
+
+fn push_entry(name: &str, text: &str, digests: &mut Digests) -> Result<(), SubjectFault>
+    ensures { Adds digests.old digests.new result (entry_digest (name.now, text.now)) }
+{
+    match read_digest(name, text) {
+        Ok(Some(digest)) => Ok(digests.push(digest)?),
+        Ok(None) => Ok(()),
+        Err(fault) => Err(fault),
+    }
+}
+
+/// The digest of an entry; none under a name that is not known.
+#[tactic(auto, unfolding(crate::specs::Recognized::entry_digest))]
+fn read_digest(name: &str, text: &str) -> Result<Option<ArtifactDigest>, SubjectFault>
+    ensures { listing result ≡ entry_digest (name.now, text.now) }
+{
+    match name {
+        "sha256" => match <[u8; 32] as FromHex>::from_hex(text) {
+            Ok(bytes) => Ok(Some(ArtifactDigest::Sha256(bytes))),
+            Err(_) => Err(SubjectFault::Malformed(DigestName::Sha256)),
+        },
+        "sha512" => match <[u8; 64] as FromHex>::from_hex(text) {
+            Ok(bytes) => Ok(Some(ArtifactDigest::Sha512(bytes))),
+            Err(_) => Err(SubjectFault::Malformed(DigestName::Sha512)),
+        },
+        _ => Ok(None),
+    }
+}

@@ -1,0 +1,91 @@
+//! `InTotoStatementV1`: what a payload says of its subjects (in-toto attestation framework, "Statement layer specification v1").
+use crate::subject_digests::SubjectDigests;
+use sig_base::{Register, Result, SigstoreError, Text, TextMap, UnexpectedKind};
+use sig_json::Document;
+use std::alloc::Global;
+
+/// A statement: that the predicate holds of the subjects.
+#[derive(Drop)]
+pub struct InTotoStatementV1 {
+    /// The member `_type`: which version of statements it is.
+    pub statement_type: Text,
+    /// What the statement is about.
+    pub subject: Subjects,
+    /// The member `predicateType`: which kind of predicate it is.
+    pub predicate_type: Text,
+    /// What is said, in any form; none where it is absent or null.
+    pub predicate: Option<Document>,
+}
+
+/// A thing that a statement is about, known by its digests.
+#[derive(Drop)]
+pub struct Subject {
+    /// What it is called.
+    pub name: Option<Text>,
+    /// Its digests by the names of their algorithms.
+    pub digest: TextMap,
+    /// Further things that are said of it, in any form; none where they are absent or null.
+    pub annotations: Option<Document>,
+}
+
+/// Subjects in order.
+pub type Subjects = Register<Subject>;
+
+/// The version of statements that is read here.
+const STATEMENT_V1: &str = "https://in-toto.io/Statement/v1";
+
+/// The predicate of a signature by `cosign`.
+const COSIGN_SIGN_V1: &str = "https://sigstore.dev/cosign/sign/v1";
+
+impl InTotoStatementV1 {
+    ghost use Rattle.std.specs.Prelude.{◌≡◌, map};
+    ghost use Rattle.sig_base.specs.Answers.{Answers};
+    ghost use Rattle.sig_dsse.specs.CosignStatement.{cosign_fault, sha256_or_fault, unless_fault};
+    ghost use Rattle.sig_dsse.specs.Seen.{seen};
+
+    /// Whether it is a statement as `cosign` signs it. Refuses with `UnexpectedError`, the first of these: `StatementType` where `_type` is not
+    /// `https://in-toto.io/Statement/v1`, `PredicateType` where the predicate's type is not `https://sigstore.dev/cosign/sign/v1`, `NoSubjects`
+    /// where there is no subject, `FirstSubjectWithoutSha256` where the first subject has no digest named `sha256`. It takes no memory.
+    #[tactic(auto, unfolding(crate::specs::CosignStatement::cosign_fault))]
+    pub fn validate_cosign_v1(&self) -> Result<()>
+        ensures { result ≡ unless_fault (cosign_fault (seen self.now)) }
+    {
+        if self.statement_type.as_str() != STATEMENT_V1 {
+            return Err(SigstoreError::UnexpectedError(UnexpectedKind::StatementType));
+        }
+        if self.predicate_type.as_str() != COSIGN_SIGN_V1 {
+            return Err(SigstoreError::UnexpectedError(UnexpectedKind::PredicateType));
+        }
+        match self.subject.as_slice().first() {
+            None => Err(SigstoreError::UnexpectedError(UnexpectedKind::NoSubjects)),
+            Some(first) if first.digest.get("sha256").is_none() => Err(
+                SigstoreError::UnexpectedError(UnexpectedKind::FirstSubjectWithoutSha256),
+            ),
+            Some(_) => Ok(()),
+        }
+    }
+
+    /// The digests of each subject, in the order of the subjects. It takes no memory.
+    pub fn subject_digests(&self) -> SubjectDigests<'_>
+        ensures { result ≡ map (λ subject. subject.digest) self.now.subject }
+    {
+        SubjectDigests {
+            left: self.subject.as_slice(),
+        }
+    }
+
+    /// The text of the first subject's digest named `sha256`. Refuses with `UnexpectedError` of `FirstSubjectWithoutSha256` where the first
+    /// subject has no such digest, or there is no subject.
+    #[tactic(auto, unfolding(crate::specs::CosignStatement::sha256_or_fault))]
+    pub fn subject_sha256_digest(&self, alloc: Global) -> Result<Text>
+        ensures { Answers SigstoreError.OutOfMemory (λ text. text) result (sha256_or_fault (seen self.now)) }
+    {
+        let Some(first) = self.subject.as_slice().first() else {
+            return Err(SigstoreError::UnexpectedError(UnexpectedKind::FirstSubjectWithoutSha256));
+        };
+        match first.digest.get("sha256") {
+            Some(digest) => Ok(Text::copy_of(alloc, digest)?),
+            None => Err(SigstoreError::UnexpectedError(UnexpectedKind::FirstSubjectWithoutSha256)),
+        }
+    }
+}
