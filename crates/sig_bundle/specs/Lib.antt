@@ -1,5 +1,6 @@
-pub mod Steps
+pub mod Content
 pub mod Lent
 pub mod Profile
 pub mod Signer
+pub mod Steps
 pub mod Version

@@ -2,9 +2,10 @@
 
 ghost use Rattle.std.specs.Prelude.{◌≡◌};
 ghost use Rattle.sig_bundle.specs.declared.bundle_error.BundleErrorKind.TheVariants.{OutOfMemory as Memory};
+ghost use Rattle.sig_bundle.specs.Content.{subject_refusal};
 
 use sig_base::{OutOfMemory, Text};
-use sig_dsse::DigestName;
+use sig_dsse::{DigestName, SubjectFault};
 use sig_x509::CertificateValidationError;
 use thiserror::Error;
 
@@ -99,5 +100,21 @@ impl From<OutOfMemory> for BundleErrorKind {
 
     fn from(_error: OutOfMemory) -> BundleErrorKind {
         BundleErrorKind::OutOfMemory
+    }
+}
+
+impl From<SubjectFault> for BundleErrorKind {
+    ghost from_gives = { λ fault e. e ≡ subject_refusal fault };
+
+    fn from(fault: SubjectFault) -> BundleErrorKind {
+        match fault {
+            SubjectFault::TooManySubjects(count) => BundleErrorKind::DsseTooManySubjects(count),
+            SubjectFault::TooManyDigests(count) => BundleErrorKind::DsseTooManySubjectDigests(
+                count,
+            ),
+            SubjectFault::Malformed(name) => BundleErrorKind::DsseSubjectDigestMalformed(name),
+            SubjectFault::NoneRecognized => BundleErrorKind::DsseNoRecognizedSubjectDigest,
+            SubjectFault::OutOfMemory => BundleErrorKind::OutOfMemory,
+        }
     }
 }

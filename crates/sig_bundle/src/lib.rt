@@ -6,6 +6,7 @@
 
 mod bundle;
 mod bundle_error;
+mod content_check;
 mod material;
 mod profile_check;
 mod signer;
@@ -15,6 +16,7 @@ pub use bundle::{Bundle, Content, MessageSignature};
 pub use bundle_error::{
     Bundle01ProfileErrorKind, Bundle02ProfileErrorKind, BundleErrorKind, BundleProfileErrorKind,
 };
+pub use content_check::CheckedContent;
 pub use material::{
     KindVersion, LogEntries, MaterialContent, ProofFields, TransparencyLogEntry,
     VerificationMaterial,
