@@ -6,10 +6,15 @@
 
 mod bundle;
 mod material;
+mod read;
+mod read_content;
+mod read_entry;
+mod read_material;
 
 pub use bundle::{Bundle, Content, MessageSignature};
 pub use material::{
     KindVersion, LogEntries, MaterialContent, ProofFields, TransparencyLogEntry,
     VerificationMaterial,
 };
+pub use read::read_bundle;
 pub use sig_dsse::{DsseEnvelope, DsseSignature, DsseSignatures};
