@@ -1,5 +1,5 @@
 -- *Records*: a bundle (Sigstore bundle format), object by object: each member with its name, its kind, and what it means where it is absent.
-use Rattle.std.specs.Prelude.{ℕ, List, [], ◌∷◌, codes, Option, Some, None, option_map, Result, ⊤}
+use Rattle.std.specs.Prelude.{ℕ, ℤ, List, [], ◌∷◌, codes, Option, Some, None, option_map, Result, ⊤}
 use Rattle.serde_json.specs.Data.{Data}
 use Rattle.serde_json.specs.Find.{as_object}
 use Rattle.sig_bundle.specs.declared.bundle.Bundle.{Bundle}
@@ -66,14 +66,13 @@ proof_of d = do
   checkpoint ← optional checkpoint_of (codes "checkpoint") d
   Some (record { log_index = log_index; root_hash = root_hash; tree_size = tree_size; hashes = hashes; checkpoint = checkpoint })
 
-unfoldable pub entry_of : Data → Option TransparencyLogEntry
-entry_of d = do
-  log_index ← optional_i64 (codes "logIndex") d
-  integrated_time ← optional_i64 (codes "integratedTime") d
+-- the members of an entry beside its two numbers
+unfoldable pub entry_with : ℤ → ℤ → Data → Option TransparencyLogEntry
+entry_with log_index integrated_time d = do
   canonicalized_body ← optional_bytes (codes "canonicalizedBody") d
   log_id ← optional log_id_of (codes "logId") d
-  inclusion_promise ← optional promise_of (codes "inclusionPromise") d
   kind_version ← optional kind_version_of (codes "kindVersion") d
+  inclusion_promise ← optional promise_of (codes "inclusionPromise") d
   inclusion_proof ← optional proof_of (codes "inclusionProof") d
   Some (record {
     log_index = log_index;
@@ -84,6 +83,12 @@ entry_of d = do
     inclusion_proof = inclusion_proof;
     canonicalized_body = canonicalized_body;
   })
+
+unfoldable pub entry_of : Data → Option TransparencyLogEntry
+entry_of d = do
+  log_index ← optional_i64 (codes "logIndex") d
+  integrated_time ← optional_i64 (codes "integratedTime") d
+  entry_with log_index integrated_time d
 
 unfoldable pub material_of : Data → Option VerificationMaterial
 material_of d = do
