@@ -5,6 +5,7 @@
 #![tactic(auto)]
 
 mod bundle;
+mod copy;
 mod material;
 mod read;
 mod read_content;
