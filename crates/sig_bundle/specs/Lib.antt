@@ -1,3 +1,4 @@
+pub mod BundleRecord
 pub mod Content
 pub mod Lent
 pub mod Profile

@@ -7,8 +7,13 @@
 mod bundle;
 mod bundle_error;
 mod content_check;
+mod copy;
 mod material;
 mod profile_check;
+mod read;
+mod read_content;
+mod read_entry;
+mod read_material;
 mod signer;
 mod version;
 
@@ -21,5 +26,6 @@ pub use material::{
     KindVersion, LogEntries, MaterialContent, ProofFields, TransparencyLogEntry,
     VerificationMaterial,
 };
+pub use read::read_bundle;
 pub use sig_dsse::{DsseEnvelope, DsseSignature, DsseSignatures};
 pub use version::Version;
