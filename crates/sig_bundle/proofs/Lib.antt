@@ -1,2 +1,3 @@
+mod CheckedLaws
 mod SignerLaws
 mod VersionLaws

@@ -1,4 +1,5 @@
 pub mod BundleRecord
+pub mod Checked
 pub mod Content
 pub mod Lent
 pub mod Profile

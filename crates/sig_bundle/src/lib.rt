@@ -6,6 +6,7 @@
 
 mod bundle;
 mod bundle_error;
+mod checked_bundle;
 mod content_check;
 mod copy;
 mod material;
@@ -21,6 +22,7 @@ pub use bundle::{Bundle, Content, MessageSignature};
 pub use bundle_error::{
     Bundle01ProfileErrorKind, Bundle02ProfileErrorKind, BundleErrorKind, BundleProfileErrorKind,
 };
+pub use checked_bundle::CheckedBundle;
 pub use content_check::CheckedContent;
 pub use material::{
     KindVersion, LogEntries, MaterialContent, ProofFields, TransparencyLogEntry,
