@@ -1,31 +1,87 @@
 -- Digests collected one thing after another.
-use Rattle.std.proofs.Common.{◌≡◌, ◌⊎◌, inl, inr, ℕ, List, [], ◌∷◌, ◌++◌, map, Result, Ok, Err, refl, sym, ap, ◌∙◌, append_assoc, append-nil}
+use Rattle.std.proofs.Common.{◌≡◌, ◌≢◌, ℕ, ◌<◌, ◌≤◌, List, [], ◌∷◌, ◌++◌, length, map, Result, Ok, Err, refl, sym, ap, ◌∙◌, arith, append_assoc, append-nil}
+use Rattle.std.proofs.lemmas.Bool.{lt-ltb, le-ltb}
+use Rattle.std.proofs.lemmas.List.{length-map}
 use Rattle.sig_dsse.specs.declared.artifact_digest.ArtifactDigest.{ArtifactDigest}
 use Rattle.sig_dsse.specs.declared.recognized.SubjectFault.{SubjectFault}
-use Rattle.sig_dsse.specs.Recognized.{◌>>=◌, digests_of_each}
+use Rattle.sig_dsse.specs.declared.recognized.SubjectFault.TheVariants.{TooManySubjects, NoneRecognized}
+use Rattle.sig_dsse.specs.declared.statement.InTotoStatementV1.{InTotoStatementV1}
+use Rattle.sig_dsse.specs.declared.statement.Subject.{Subject as HeldSubject}
+use Rattle.sig_dsse.specs.Recognized.{◌>>=◌, digests_of_each, map_digests, not_none, digests_or_fault}
+use Rattle.sig_dsse.specs.Seen.{seen, seen_subject}
+use Rattle.sig_dsse.specs.Statement.{Digests, Subject}
+
+abbrev Collected : Type 0
+Collected = Result (List ArtifactDigest) SubjectFault
+
+nothing_before : (found : Collected) → found ≡ (found >>= λ others. Ok ([] ++ others))
+nothing_before (Ok digests) = refl
+nothing_before (Err e) = refl
+
+one_more : (digests more : List ArtifactDigest) (found : Collected) → ((found >>= λ others. Ok (more ++ others)) >>= λ others. Ok (digests ++ others)) ≡ (found >>= λ others. Ok ((digests ++ more) ++ others))
+one_more digests more (Ok others) = ap Ok (sym (append_assoc digests more others))
+one_more digests more (Err e) = refl
 
 module _ {A : Type 0} where
-  -- the digests so far, and those of what is left
-  abbrev pub with_left : (A → Result (List ArtifactDigest) SubjectFault) → List ArtifactDigest → List A → Result (List ArtifactDigest) SubjectFault
+  -- these digests, and those of what is left
+  abbrev pub with_left : (A → Collected) → List ArtifactDigest → List A → Collected
   with_left f digests left = digests_of_each f left >>= λ others. Ok (digests ++ others)
 
-  pub with_left-none : (f : A → Result (List ArtifactDigest) SubjectFault) (left : List A) → digests_of_each f left ≡ with_left f [] left
-  with_left-none f left = nothing_before (digests_of_each f left) where
-    nothing_before : (found : Result (List ArtifactDigest) SubjectFault) → found ≡ (found >>= λ others. Ok ([] ++ others))
-    nothing_before (Ok digests) = refl
-    nothing_before (Err e) = refl
+  -- behind the digests that were there before stand those of what is done, and those of what is left go behind them
+  pub record SoFar (f : A → Collected) (all left : List A) (before after : List ArtifactDigest) : Type 0 where
+    pub more : List ArtifactDigest
+    pub put : after ≡ before ++ more
+    pub meant : digests_of_each f all ≡ with_left f more left
 
-  one_more : (digests more : List ArtifactDigest) (found : Result (List ArtifactDigest) SubjectFault) → (found >>= λ others. Ok (more ++ others)) >>= (λ others. Ok (digests ++ others)) ≡ (found >>= λ others. Ok ((digests ++ more) ++ others))
-  one_more digests more (Ok others) = ap Ok (sym (append_assoc digests more others))
-  one_more digests more (Err e) = refl
+  pub so_far-none : (f : A → Collected) (all left : List A) (before after : List ArtifactDigest) → left ≡ all → after ≡ before → SoFar f all left before after
+  so_far-none f all left before after whole same =
+      record { more = []; put = same ∙ sym (append-nil before); meant = rw whole (nothing_before (digests_of_each f all)) }
 
-  pub with_left-more : (f : A → Result (List ArtifactDigest) SubjectFault) (x : A) (left rest : List A) (digests more after : List ArtifactDigest) → left ≡ x ∷ rest → f x ≡ Ok more → after ≡ digests ++ more → with_left f digests left ≡ with_left f after rest
-  with_left-more f x left rest digests more after next is put = rw (next, is, put) (one_more digests more (digests_of_each f rest))
+  pub so_far-more : (f : A → Collected) (all left rest : List A) (before after next : List ArtifactDigest) (x : A) (more : List ArtifactDigest) → SoFar f all left before after → left ≡ x ∷ rest → f x ≡ Ok more → next ≡ after ++ more → SoFar f all rest before next
+  so_far-more f all left rest before after next x more so_far here is put =
+      record {
+        more = so_far.more ++ more;
+        put = put ∙ ap (λ d. d ++ more) so_far.put ∙ append_assoc before so_far.more more;
+        meant = so_far.meant ∙ rw (here, is) (one_more so_far.more more (digests_of_each f rest));
+      }
 
-  pub with_left-refused : (f : A → Result (List ArtifactDigest) SubjectFault) (x : A) (left rest : List A) (digests : List ArtifactDigest) (e : SubjectFault) → left ≡ x ∷ rest → f x ≡ Err e → with_left f digests left ≡ Err e
-  with_left-refused f x left rest digests e next is = rw (next, is) refl
+  pub so_far-refused : (f : A → Collected) (all left rest : List A) (before after : List ArtifactDigest) (x : A) (e : SubjectFault) → SoFar f all left before after → left ≡ x ∷ rest → f x ≡ Err e → digests_of_each f all ≡ Err e
+  so_far-refused f all left rest before after x e so_far here is = so_far.meant ∙ rw (here, is) refl
 
-  pub with_left-all : (f : A → Result (List ArtifactDigest) SubjectFault) (left : List A) (digests : List ArtifactDigest) → left ≡ [] → with_left f digests left ≡ Ok digests
-  with_left-all f left digests none = rw none (ap Ok (append-nil digests))
+  pub so_far-all : (f : A → Collected) (all left : List A) (before after : List ArtifactDigest) → SoFar f all left before after → left ≡ [] → (more : List ArtifactDigest) × (digests_of_each f all ≡ Ok more) × (after ≡ before ++ more)
+  so_far-all f all left before after so_far none =
+      (so_far.more, so_far.meant ∙ rw none (ap Ok (append-nil so_far.more)), so_far.put)
 
-pub ruleset collected = (with_left-none, with_left-more, with_left-refused, with_left-all)
+  pub so_far-whole : (f : A → Collected) (all left : List A) (after : List ArtifactDigest) → SoFar f all left [] after → left ≡ [] → digests_of_each f all ≡ Ok after
+  so_far-whole f all left after so_far none = let whole = so_far-all f all left [] after so_far none in whole.1 ∙ ap Ok (sym whole.2)
+
+pub ruleset collected = (so_far-none, so_far-more, so_far-refused, so_far-all, so_far-whole)
+
+-- ---- the digests of a statement
+
+digests-seen : (subjects : List HeldSubject) → map (λ (s : Subject). s.digest) (map seen_subject subjects) ≡ map (λ (s : HeldSubject). s.digest) subjects
+digests-seen [] = refl
+digests-seen (s ∷ ss) = ap (λ rest. s.digest ∷ rest) (digests-seen ss)
+
+pub recognized-many : (statement : InTotoStatementV1) (n : ℕ) → 1024 < n → n ≡ length statement.subject → digests_or_fault (seen statement) ≡ Err (TooManySubjects n)
+unfolding digests_or_fault
+recognized-many statement n many count =
+    rw (length-map statement.subject seen_subject, ← count, lt-ltb 1024 n many) refl
+
+recognized-few : (statement : InTotoStatementV1) (n : ℕ) (maps : List Digests) → n ≤ 1024 → n ≡ length statement.subject → maps ≡ map (λ (s : HeldSubject). s.digest) statement.subject → digests_or_fault (seen statement) ≡ (digests_of_each map_digests maps >>= not_none)
+unfolding digests_or_fault
+recognized-few statement n maps few count same =
+    rw (length-map statement.subject seen_subject, ← count, le-ltb 1024 n few, digests-seen statement.subject, same) refl
+
+pub recognized-refused : (statement : InTotoStatementV1) (n : ℕ) (maps : List Digests) (e : SubjectFault) → n ≤ 1024 → n ≡ length statement.subject → maps ≡ map (λ (s : HeldSubject). s.digest) statement.subject → digests_of_each map_digests maps ≡ Err e → digests_or_fault (seen statement) ≡ Err e
+recognized-refused statement n maps e few count same is = recognized-few statement n maps few count same ∙ rw is refl
+
+pub recognized-none : (statement : InTotoStatementV1) (n : ℕ) (maps : List Digests) (digests : List ArtifactDigest) → n ≤ 1024 → n ≡ length statement.subject → maps ≡ map (λ (s : HeldSubject). s.digest) statement.subject → digests_of_each map_digests maps ≡ Ok digests → length digests ≡ 0 → digests_or_fault (seen statement) ≡ Err NoneRecognized
+recognized-none statement n maps [] few count same is none = recognized-few statement n maps few count same ∙ rw is refl
+recognized-none statement n maps (d ∷ ds) few count same is none = absurd (omega arith)
+
+pub recognized-found : (statement : InTotoStatementV1) (n : ℕ) (maps : List Digests) (digests : List ArtifactDigest) → n ≤ 1024 → n ≡ length statement.subject → maps ≡ map (λ (s : HeldSubject). s.digest) statement.subject → digests_of_each map_digests maps ≡ Ok digests → length digests ≢ 0 → digests_or_fault (seen statement) ≡ Ok digests
+recognized-found statement n maps [] few count same is some = absurd (some refl)
+recognized-found statement n maps (d ∷ ds) few count same is some = recognized-few statement n maps few count same ∙ rw is refl
+
+pub ruleset recognized = (recognized-many, recognized-refused, recognized-none, recognized-found)

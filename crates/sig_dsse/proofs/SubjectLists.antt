@@ -1,8 +1,7 @@
 -- Subjects read one after another.
-use Rattle.std.proofs.Common.{◌≡◌, ℕ, ◌+◌, List, [], ◌∷◌, ◌++◌, map, Some, None, refl, ap, ◌∙◌}
+use Rattle.std.proofs.Common.{◌≡◌, ℕ, ◌+◌, List, [], ◌∷◌, ◌++◌, map, Some, refl, ap, ◌∙◌}
 use Rattle.sig_json.specs.Data.{Data}
 use Rattle.sig_json.specs.Find.{at}
-use Rattle.sig_json.specs.Member.{list_each}
 use Rattle.sig_json.proofs.Elements.{each_front, each_front-zero, each_front-more, each_front-whole, list_each-no_list, list_each-refused, at_below}
 use Rattle.sig_dsse.specs.Seen.{seen_subject}
 use Rattle.sig_dsse.specs.Statement.{subject_of}

@@ -6,7 +6,11 @@ unfoldable pub pae : List ℕ → List ℕ → List ℕ
 pae payload_type payload =
     codes "DSSEv1 " ++ (decimal (length payload_type) ++ (codes " " ++ (payload_type ++ (codes " " ++ (decimal (length payload) ++ (codes " " ++ payload))))))
 
--- no two pairs of type and payload have the same encoding; no text is as long as 2^64 bytes
+-- what a text or a list of bytes can hold
+abbrev pub IsHeld : List ℕ → Type 0
+IsHeld bytes = length bytes < 2 ^ 64
+
+-- no two pairs of type and payload have the same encoding
 abbrev pub PaeIsInjective : Type 0
-PaeIsInjective = (type_1 payload_1 type_2 payload_2 : List ℕ) → length type_1 < 2 ^ 64 → length type_2 < 2 ^ 64
+PaeIsInjective = (type_1 payload_1 type_2 payload_2 : List ℕ) → IsHeld type_1 → IsHeld payload_1 → IsHeld type_2 → IsHeld payload_2
     → pae type_1 payload_1 ≡ pae type_2 payload_2 → (type_1 ≡ type_2) × (payload_1 ≡ payload_2)

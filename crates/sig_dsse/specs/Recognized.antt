@@ -7,7 +7,7 @@ use Rattle.sig_dsse.specs.declared.recognized.DigestName.{DigestName}
 use Rattle.sig_dsse.specs.declared.recognized.DigestName.TheVariants.{Sha256 as NamedSha256, Sha512 as NamedSha512}
 use Rattle.sig_dsse.specs.declared.recognized.SubjectFault.{SubjectFault}
 use Rattle.sig_dsse.specs.declared.recognized.SubjectFault.TheVariants.{TooManySubjects, TooManyDigests, Malformed, NoneRecognized}
-use Rattle.sig_dsse.specs.Statement.{Digests, Subject, Statement}
+use Rattle.sig_dsse.specs.Statement.{Digests, Statement}
 
 -- go on with the value; a fault stays
 infixl 10 ◌>>=◌

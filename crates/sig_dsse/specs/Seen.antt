@@ -1,5 +1,5 @@
 -- The statement that a value of the code stands for.
-use Rattle.std.specs.Prelude.{List, map, option_map}
+use Rattle.std.specs.Prelude.{map, option_map}
 use Rattle.sig_json.specs.Tree.{document_tree}
 use Rattle.sig_dsse.specs.Statement.{Subject, Statement}
 use Rattle.sig_dsse.specs.declared.statement.Subject.{Subject as HeldSubject}

@@ -1,5 +1,5 @@
 -- *Statement*: an in-toto statement (in-toto attestation framework, "Statement layer specification v1"), and the text of which it is read.
-use Rattle.std.specs.Prelude.{ℕ, List, codes, Option, Some, None}
+use Rattle.std.specs.Prelude.{ℕ, List, codes, Option, Some}
 use Rattle.std.specs.Result.{result_ok}
 use Rattle.sig_json.specs.Data.{Data}
 use Rattle.sig_json.specs.Document.{document_of}

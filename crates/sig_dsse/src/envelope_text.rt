@@ -15,18 +15,21 @@ use std::alloc::Global;
 /// The JSON of an envelope: `payload`, `payloadType` and `signatures` in this order, in a signature `sig` and `keyid`. Empty members are omitted,
 /// bytes are in padded standard base64 (RFC 4648 section 4), texts escaped as in canonical JSON (RFC 8785 section 3.2.2.2), and there is no
 /// white space. Refuses for want of memory alone.
-#[tactic(auto, using(crate::proofs::EnvelopeTexts::parts), unfolding(crate::specs::EnvelopeText::envelope_text))]
 pub fn envelope_json(alloc: Global, envelope: &DsseEnvelope) -> Result<Text, OutOfMemory>
     ensures { IfOk result (λ text. text ≡ envelope_text envelope.now) }
 {
     let mut members = Vec::new(alloc);
     push_bytes(alloc, &mut members, "payload", envelope.payload.as_slice())?;
-    push_text(alloc, &mut members, "payloadType", envelope.payload_type.as_str())?;
+    push_text(
+        alloc,
+        &mut members,
+        "payloadType",
+        envelope.payload_type.as_str(),
+    )?;
     push_signatures(alloc, &mut members, &envelope.signatures)?;
     Ok(Text::from(braced(alloc, &members)?))
 }
 
-#[tactic(auto, using(crate::proofs::EnvelopeTexts::parts), unfolding(crate::specs::EnvelopeText::signature_text))]
 fn signature_json(alloc: Global, signature: &DsseSignature) -> Result<String, OutOfMemory>
     ensures { IfOk result (λ text. string_bytes text ≡ signature_text signature.now) }
 {
@@ -85,16 +88,23 @@ fn push_signatures(
     Ok(())
 }
 
-#[tactic(auto, using(crate::proofs::EnvelopeTexts::parts))]
 fn signatures_json(alloc: Global, signatures: &DsseSignatures) -> Result<String, OutOfMemory>
     ensures { IfOk result (λ text. string_bytes text ≡ in_brackets (map signature_text signatures.now)) }
+{
+    let texts = signature_texts(alloc, signatures)?;
+    let joined = texts.join(alloc, ",")?;
+    Ok(format!(in alloc; "[{joined}]")?)
+}
+
+#[tactic(auto, using(crate::proofs::EnvelopeTexts::signed))]
+fn signature_texts(alloc: Global, signatures: &DsseSignatures) -> Result<Vec<String>, OutOfMemory>
+    ensures { IfOk result (λ texts. texts_of texts.items ≡ map signature_text signatures.now) }
 {
     let mut texts = Vec::new(alloc);
     'signatures: for signature in signatures.as_slice() {
         texts.push(signature_json(alloc, signature)?)?;
     }
-    let joined = texts.join(alloc, ",")?;
-    Ok(format!(in alloc; "[{joined}]")?)
+    Ok(texts)
 }
 
 /// A member: its name in quotation marks, a colon, and the text of its value.
@@ -106,7 +116,6 @@ fn member_json(alloc: Global, name: &str, value: &str) -> Result<String, OutOfMe
 }
 
 /// Members in braces.
-#[tactic(auto, using(crate::proofs::EnvelopeTexts::parts))]
 fn braced(alloc: Global, members: &Vec<String>) -> Result<String, OutOfMemory>
     ensures { IfOk result (λ text. string_bytes text ≡ in_braces (texts_of members.now.items)) }
 {

@@ -7,6 +7,7 @@
 mod artifact_digest;
 mod envelope;
 mod envelope_text;
+pub mod laws;
 mod pae;
 mod recognized;
 mod statement;

@@ -64,7 +64,7 @@ impl From<OutOfMemory> for SubjectFault {
 /// Refuses with `TooManySubjects` where there are more than 1024 subjects. Then, subject by subject, with `TooManyDigests` where it has more than
 /// 32 digests, and, name by name, with `Malformed` where a `sha256` is not hexadecimal digits, in either case, of 32 bytes or a `sha512` of 64.
 /// Then with `NoneRecognized` where there is no such digest.
-#[tactic(auto, unfolding(crate::specs::Recognized::digests_or_fault))]
+#[tactic(auto, using(crate::proofs::Collected::recognized))]
 pub fn recognized_digests(
     alloc: Global,
     statement: &InTotoStatementV1,
@@ -75,20 +75,16 @@ pub fn recognized_digests(
     if count > MOST_SUBJECTS {
         return Err(SubjectFault::TooManySubjects(count));
     }
-    let digests = digests_of_subjects(alloc, statement.subject_digests())?;
-    if digests.len() == 0 {
-        return Err(SubjectFault::NoneRecognized);
+    match digests_of_subjects(alloc, statement.subject_digests()) {
+        Ok(digests) if digests.len() == 0 => Err(SubjectFault::NoneRecognized),
+        answer => answer,
     }
-    Ok(digests)
 }
 
 /// The digests of each map one after another.
 #[tactic(auto, using(crate::proofs::Collected::collected))]
-fn digests_of_subjects(
-    alloc: Global,
-    subjects: SubjectDigests<'_>,
-) -> Result<Digests, SubjectFault>
-    ensures { Answers SubjectFault.OutOfMemory (λ digests. digests) result (digests_of_each map_digests subjects) }
+fn digests_of_subjects(alloc: Global, subjects: SubjectDigests<'_>) -> Result<Digests, SubjectFault>
+    ensures { Answers SubjectFault.OutOfMemory (λ digests. digests) result (digests_of_each map_digests subjects.entry) }
 {
     let mut digests = Digests::new(alloc);
     'subjects: for digest in subjects {

@@ -27,14 +27,16 @@ impl InTotoStatementV1 {
     {
         let document = match Document::read(alloc, bytes) {
             Ok(document) => document,
-            Err(DocumentError::NotJson | DocumentError::Float) =>
-                return Err(SigstoreError::UnexpectedError(UnexpectedKind::Statement)),
+            Err(DocumentError::NotJson | DocumentError::Float) => return Err(
+                SigstoreError::UnexpectedError(UnexpectedKind::Statement),
+            ),
             Err(DocumentError::OutOfMemory) => return Err(SigstoreError::OutOfMemory),
         };
         match read_statement(alloc, document.view()) {
             Ok(statement) => Ok(statement),
-            Err(MemberError::Member) =>
-                Err(SigstoreError::UnexpectedError(UnexpectedKind::Statement)),
+            Err(MemberError::Member) => Err(SigstoreError::UnexpectedError(
+                UnexpectedKind::Statement,
+            )),
             Err(MemberError::OutOfMemory) => Err(SigstoreError::OutOfMemory),
         }
     }
