@@ -5,11 +5,29 @@
 #![tactic(auto)]
 
 mod bundle;
+mod bundle_error;
+mod checked_bundle;
+mod content_check;
+mod copy;
 mod material;
+mod profile_check;
+mod read;
+mod read_content;
+mod read_entry;
+mod read_material;
+mod signer;
+mod version;
 
 pub use bundle::{Bundle, Content, MessageSignature};
+pub use bundle_error::{
+    Bundle01ProfileErrorKind, Bundle02ProfileErrorKind, BundleErrorKind, BundleProfileErrorKind,
+};
+pub use checked_bundle::CheckedBundle;
+pub use content_check::CheckedContent;
 pub use material::{
     KindVersion, LogEntries, MaterialContent, ProofFields, TransparencyLogEntry,
     VerificationMaterial,
 };
+pub use read::read_bundle;
 pub use sig_dsse::{DsseEnvelope, DsseSignature, DsseSignatures};
+pub use version::Version;

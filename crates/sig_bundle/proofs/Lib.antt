@@ -1,0 +1,3 @@
+mod CheckedLaws
+mod SignerLaws
+mod VersionLaws

@@ -1,0 +1,38 @@
+-- *Checked bundle*: what a bundle's own checks, one after another, make of it (Sigstore bundle format).
+use Rattle.std.specs.Prelude.{◌≡◌, ℕ, List, Option, Some, None, Result, Ok, Err}
+use Rattle.sig_x509.specs.Certificate.{Cert}
+use Rattle.sig_bundle.specs.Content.{signed}
+use Rattle.sig_bundle.specs.Profile.{entry_among, meets_profile}
+use Rattle.sig_bundle.specs.Signer.{IsSigner}
+use Rattle.sig_bundle.specs.Steps.{◌>>=◌}
+use Rattle.sig_bundle.specs.declared.bundle.Bundle.{Bundle}
+use Rattle.sig_bundle.specs.declared.bundle_error.BundleErrorKind.{BundleErrorKind}
+use Rattle.sig_bundle.specs.declared.bundle_error.BundleErrorKind.TheVariants.{VerificationMaterialMissing}
+use Rattle.sig_bundle.specs.declared.content_check.CheckedContent.{CheckedContent}
+use Rattle.sig_bundle.specs.declared.material.TransparencyLogEntry.{TransparencyLogEntry}
+use Rattle.sig_bundle.specs.declared.material.VerificationMaterial.{VerificationMaterial}
+
+-- A bundle that passed: the signer's certificate, the signature, what it is over, the log entry.
+pub record Checked : Type 0 where
+  pub certificate : Cert
+  pub signature : List ℕ
+  pub content : CheckedContent
+  pub entry : TransparencyLogEntry
+
+-- The checks in order, where this is the answer of the signer's. The first that refuses ends them.
+abbrev pub checked : Bundle → VerificationMaterial → Result Cert BundleErrorKind → Result Checked BundleErrorKind
+checked bundle material signer = do
+  certificate ← signer
+  content ← signed bundle.content
+  entry ← entry_among material.tlog_entries
+  _ ← meets_profile bundle.media_type entry
+  Ok (record { certificate = certificate; signature = content.signature; content = content.content; entry = entry })
+
+abbrev pub IsCheckedWith : Bundle → Option VerificationMaterial → Result Checked BundleErrorKind → Type 0
+IsCheckedWith bundle None answer = answer ≡ Err VerificationMaterialMissing
+IsCheckedWith bundle (Some material) answer =
+    (signer : Result Cert BundleErrorKind) × IsSigner material.content signer × (answer ≡ checked bundle material signer)
+
+-- what the checks of a bundle answer: the bundle as checked, or the first refusal that has its cause
+abbrev pub IsChecked : Bundle → Result Checked BundleErrorKind → Type 0
+IsChecked bundle answer = IsCheckedWith bundle bundle.verification_material answer

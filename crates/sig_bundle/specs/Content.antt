@@ -1,0 +1,63 @@
+-- What a bundle signs, as far as the bundle alone can tell (Sigstore bundle format; DSSE protocol; in-toto attestation framework).
+use Rattle.std.specs.Prelude.{ℕ, List, [], ◌∷◌, length, Option, Some, None, Result, Ok, Err}
+use Rattle.sig_dsse.specs.EnvelopeText.{envelope_text}
+use Rattle.sig_dsse.specs.Pae.{pae}
+use Rattle.sig_dsse.specs.Recognized.{digests_or_fault}
+use Rattle.sig_dsse.specs.Statement.{Statement, statement_of}
+use Rattle.sig_dsse.specs.declared.artifact_digest.ArtifactDigest.{ArtifactDigest}
+use Rattle.sig_dsse.specs.declared.envelope.DsseEnvelope.{DsseEnvelope}
+use Rattle.sig_dsse.specs.declared.envelope.DsseSignature.{DsseSignature}
+use Rattle.sig_dsse.specs.declared.recognized.SubjectFault.{SubjectFault}
+use Rattle.sig_dsse.specs.declared.recognized.SubjectFault.TheVariants as fault
+use Rattle.sig_bundle.specs.Steps.{◌>>=◌}
+use Rattle.sig_bundle.specs.declared.bundle.Content.{Content}
+use Rattle.sig_bundle.specs.declared.bundle.Content.TheVariants.{MessageSignature, DsseEnvelope as Envelope}
+use Rattle.sig_bundle.specs.declared.bundle_error.BundleErrorKind.{BundleErrorKind}
+use Rattle.sig_bundle.specs.declared.bundle_error.BundleErrorKind.TheVariants.{SignatureMissing, DsseInvalidSignatureCount, DssePayloadDecode, DsseTooManySubjects, DsseTooManySubjectDigests, DsseSubjectDigestMalformed, DsseNoRecognizedSubjectDigest, OutOfMemory}
+use Rattle.sig_bundle.specs.declared.content_check.CheckedContent.{CheckedContent}
+use Rattle.sig_bundle.specs.declared.content_check.CheckedContent.TheVariants.{Dsse}
+use Rattle.sig_bundle.specs.declared.content_check.Signed.{Signed}
+
+-- the one signature of an envelope
+abbrev pub signature_among : List DsseSignature → Result DsseSignature BundleErrorKind
+signature_among [] = Err (DsseInvalidSignatureCount 0)
+signature_among (signature ∷ []) = Ok signature
+signature_among (signature ∷ other ∷ others) = Err (DsseInvalidSignatureCount (length (signature ∷ other ∷ others)))
+
+abbrev pub decoded : Option Statement → Result Statement BundleErrorKind
+decoded None = Err DssePayloadDecode
+decoded (Some statement) = Ok statement
+
+-- the refusal of a bundle for what is wrong with its subjects
+abbrev pub subject_refusal : SubjectFault → BundleErrorKind
+subject_refusal (fault.TooManySubjects count) = DsseTooManySubjects count
+subject_refusal (fault.TooManyDigests count) = DsseTooManySubjectDigests count
+subject_refusal (fault.Malformed name) = DsseSubjectDigestMalformed name
+subject_refusal fault.NoneRecognized = DsseNoRecognizedSubjectDigest
+subject_refusal fault.OutOfMemory = OutOfMemory
+
+abbrev pub compared : Result (List ArtifactDigest) SubjectFault → Result (List ArtifactDigest) BundleErrorKind
+compared (Ok digests) = Ok digests
+compared (Err fault) = Err (subject_refusal fault)
+
+-- the digests that the payload's subjects have
+abbrev pub digests_in : List ℕ → Result (List ArtifactDigest) BundleErrorKind
+digests_in payload = do
+  statement ← decoded (statement_of payload)
+  compared (digests_or_fault statement)
+
+-- what an envelope signs: its one signature, over the encoding of its type and payload, which is a statement about artifacts
+abbrev pub enveloped : DsseEnvelope → Result Signed BundleErrorKind
+enveloped envelope = do
+  signature ← signature_among envelope.signatures
+  digests ← digests_in envelope.payload
+  Ok (record {
+    signature = signature.sig;
+    content = Dsse (pae envelope.payload_type envelope.payload) digests (envelope_text envelope) envelope.payload;
+  })
+
+-- what is signed. A signature over an artifact alone is not read yet.
+abbrev pub signed : Option Content → Result Signed BundleErrorKind
+signed None = Err SignatureMissing
+signed (Some (MessageSignature _)) = Err SignatureMissing
+signed (Some (Envelope envelope)) = enveloped envelope

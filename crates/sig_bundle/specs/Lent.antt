@@ -1,0 +1,13 @@
+-- What contracts see of lent values.
+use Rattle.std.specs.Prelude.{ℕ, List, [], ◌∷◌, Result, Ok, Err}
+use Rattle.std.specs.Borrow.{Bor}
+
+-- what is lent, or why it is not
+abbrev pub lent_now : {A E : Type 0} → Result (Bor A) E → Result A E
+lent_now (Ok lent) = Ok lent.now
+lent_now (Err e) = Err e
+
+-- the one text that is lent, or why it is not
+abbrev pub texts_now : {E : Type 0} → Result (Bor (List ℕ)) E → Result (List (List ℕ)) E
+texts_now (Ok text) = Ok (text.now ∷ [])
+texts_now (Err e) = Err e

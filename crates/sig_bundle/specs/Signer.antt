@@ -1,0 +1,67 @@
+-- Whose signature a bundle has: its certificates, of which the first signs (sigstore_bundle.proto, the comments on verification_material).
+use Rattle.std.specs.Prelude.{⊤, ◌≡◌, ℕ, ◌+◌, List, [], ◌∷◌, Bool, Option, Some, None, is_none, Result, Ok, Err, if◌then◌else◌}
+use Rattle.std.specs.List.{list_any}
+use Rattle.sig_x509.specs.Certificate.{Cert, IsCertificate}
+use Rattle.sig_x509.specs.Profile.{leaf_refusal, root_refusal}
+use Rattle.sig_x509.specs.declared.profile_error.CertificateValidationError.{CertificateValidationError}
+use Rattle.sig_bundle.specs.Steps.{◌>>=◌}
+use Rattle.sig_bundle.specs.declared.bundle_error.BundleErrorKind.{BundleErrorKind}
+use Rattle.sig_bundle.specs.declared.bundle_error.BundleErrorKind.TheVariants.{VerificationMaterialContentUnsupported, CertificateMalformed, CertificatesMissing, NoLeaf, RootInChain}
+use Rattle.sig_bundle.specs.declared.material.MaterialContent.{MaterialContent}
+use Rattle.sig_bundle.specs.declared.material.MaterialContent.TheVariants.{Certificate, X509CertificateChain, PublicKey}
+
+-- The texts of the certificates, the signer's first. A hint at a key has none. A chain is not read yet.
+abbrev pub certificate_texts : Option MaterialContent → Result (List (List ℕ)) BundleErrorKind
+certificate_texts None = Err VerificationMaterialContentUnsupported
+certificate_texts (Some PublicKey) = Err VerificationMaterialContentUnsupported
+certificate_texts (Some (X509CertificateChain texts)) = Err VerificationMaterialContentUnsupported
+certificate_texts (Some (Certificate text)) = Ok (text ∷ [])
+
+-- ---- what the texts are
+
+-- a text is this certificate, or it is none
+abbrev pub IsReading : List ℕ → Option Cert → Type 0
+IsReading text (Some c) = IsCertificate text c
+IsReading text None = (c : Cert) → ¬ IsCertificate text c
+
+-- text by text
+abbrev pub AreReadings : List (List ℕ) → List (Option Cert) → Type 0
+AreReadings [] [] = ⊤
+AreReadings (text ∷ texts) (reading ∷ readings) = IsReading text reading × AreReadings texts readings
+AreReadings [] (reading ∷ readings) = ⊥
+AreReadings (text ∷ texts) [] = ⊥
+
+-- ---- what is made of them
+
+abbrev pub after : Cert → Result (List Cert) BundleErrorKind → Result (List Cert) BundleErrorKind
+after c (Err e) = Err e
+after c (Ok cs) = Ok (c ∷ cs)
+
+-- the certificates, or the place of the first text that is none, counted from this one on
+abbrev pub certificates_from : ℕ → List (Option Cert) → Result (List Cert) BundleErrorKind
+certificates_from place [] = Ok []
+certificates_from place (None ∷ readings) = Err (CertificateMalformed place)
+certificates_from place (Some c ∷ readings) = after c (certificates_from (place + 1) readings)
+
+abbrev pub is_root : Cert → Bool
+is_root c = is_none (root_refusal c)
+
+abbrev pub leading : Cert → List Cert → Option CertificateValidationError → Result Cert BundleErrorKind
+leading c later (Some e) = Err (NoLeaf e)
+leading c later None = if list_any is_root later then Err RootInChain else Ok c
+
+-- the first certificate, which has to be a leaf; no later one may be a root
+abbrev pub leaf_among : List Cert → Result Cert BundleErrorKind
+leaf_among [] = Err CertificatesMissing
+leaf_among (c ∷ later) = leading c later (leaf_refusal c)
+
+abbrev pub signer_among : List (Option Cert) → Result Cert BundleErrorKind
+signer_among readings = certificates_from 0 readings >>= leaf_among
+
+abbrev pub IsSignerAmong : Result (List (List ℕ)) BundleErrorKind → Result Cert BundleErrorKind → Type 0
+IsSignerAmong (Err e) answer = answer ≡ Err e
+IsSignerAmong (Ok texts) answer = (readings : List (Option Cert)) × AreReadings texts readings × (answer ≡ signer_among readings)
+
+-- the signer's certificate, or the first cause against the certificates
+abbrev pub IsSigner : Option MaterialContent → Result Cert BundleErrorKind → Type 0
+IsSigner content answer = IsSignerAmong (certificate_texts content) answer

@@ -1,0 +1,65 @@
+//! The log entry of a bundle, and what the bundle's media type demands of it.
+
+ghost use Rattle.std.specs.Prelude.{◌≡◌, ◌⊎◌};
+ghost use Rattle.sig_base.specs.Answers.{Answers};
+ghost use Rattle.sig_bundle.specs.Lent.{lent_now};
+ghost use Rattle.sig_bundle.specs.Profile.{entry_among, lacks_proof, lacks, meets_profile};
+
+use crate::bundle_error::{Bundle02ProfileErrorKind, BundleErrorKind, BundleProfileErrorKind};
+use crate::material::{LogEntries, ProofFields, TransparencyLogEntry};
+use crate::version::Version;
+use sig_base::Text;
+use std::alloc::Global;
+use std::str::FromStr;
+
+/// The one log entry. `TlogEntry` with their number exactly where there is not one.
+pub(crate) fn only_entry(entries: &LogEntries) -> Result<&TransparencyLogEntry, BundleErrorKind>
+    ensures { lent_now result ≡ entry_among entries.now }
+{
+    match entries.as_slice() {
+        [entry] => Ok(entry),
+        other => Err(BundleErrorKind::TlogEntry(other.len())),
+    }
+}
+
+/// What a log entry with this inclusion proof lacks of a proof with a checkpoint.
+fn lacks_proof(proof: &Option<ProofFields>) -> Option<BundleProfileErrorKind>
+    ensures { result ≡ lacks_proof proof.now }
+{
+    let lacking = match proof {
+        None => Bundle02ProfileErrorKind::InclusionProofMissing,
+        Some(proof) if proof.checkpoint.is_none() => Bundle02ProfileErrorKind::CheckpointMissing,
+        Some(_) => return None,
+    };
+    Some(BundleProfileErrorKind::Bundle02Profile(lacking))
+}
+
+/// What an entry lacks under a media type that names no known profile: all.
+fn unknown(alloc: Global, media_type: &Text) -> BundleErrorKind
+    ensures { (result ≡ BundleErrorKind.OutOfMemory) ⊎ (result ≡ BundleErrorKind.BundleProfile (BundleProfileErrorKind.Unknown media_type.now)) }
+{
+    match media_type.copy(alloc) {
+        Ok(copied) => BundleErrorKind::BundleProfile(BundleProfileErrorKind::Unknown(copied)),
+        Err(error) => BundleErrorKind::from(error),
+    }
+}
+
+/// Whether the entry has what the media type demands: under version 0.3 an inclusion proof with a checkpoint.
+///
+/// `BundleProfile` of `Unknown` exactly where the media type names no version, or one whose profile is not read yet, 0.1 or 0.2. Then, under
+/// 0.3, of `Bundle02Profile` of the first that is missing.
+pub(crate) fn meets_profile(
+    alloc: Global,
+    media_type: &Text,
+    entry: &TransparencyLogEntry,
+) -> Result<(), BundleErrorKind>
+    ensures { Answers BundleErrorKind.OutOfMemory (λ met. met) result (meets_profile media_type.now entry.now) }
+{
+    match Version::from_str(media_type.as_str()) {
+        Ok(Version::Bundle0_3) => match lacks_proof(&entry.inclusion_proof) {
+            None => Ok(()),
+            Some(lacking) => Err(BundleErrorKind::BundleProfile(lacking)),
+        },
+        Ok(Version::Bundle0_1 | Version::Bundle0_2) | Err(()) => Err(unknown(alloc, media_type)),
+    }
+}

@@ -1,0 +1,41 @@
+//! A bundle read from its text.
+ghost use Rattle.std.specs.Prelude.{Option};
+ghost use Rattle.serde_json.specs.Data.{Data};
+ghost use Rattle.sig_base.specs.Answers.{Answers};
+ghost use Rattle.sig_bundle.specs.BundleRecord.{bundle_in, bundle_of};
+ghost use Rattle.sig_json.specs.Reads.{Reads};
+ghost use Rattle.sig_json.specs.Tree.{tree};
+
+use crate::bundle::Bundle;
+use crate::read_content::read_content;
+use crate::read_material::MaterialReader;
+use sig_json::{ElementReader, Json, JsonError, MemberError, optional, read_record, read_text};
+use std::alloc::Global;
+
+/// Reads bundles.
+enum BundleReader {}
+
+impl ElementReader for BundleReader {
+    type Item = Bundle;
+
+    ghost meaning = { bundle_of };
+
+    #[tactic(auto, unfolding(crate::specs::BundleRecord::bundle_of))]
+    fn read(alloc: Global, json: Json<'_>) -> Result<Bundle, MemberError> {
+        Ok(Bundle {
+            media_type: read_text(alloc, json, "mediaType")?,
+            verification_material: optional::<MaterialReader>(alloc, json, "verificationMaterial")?,
+            content: read_content(alloc, json)?,
+        })
+    }
+}
+
+/// The bundle that a text is (Sigstore bundle format, in the JSON form of its protocol buffers). Absent and null members mean zero, empty or none;
+/// members that the format does not have are ignored. Refuses with `NotJson` where the text has no reading, then with `Float` where its tree holds
+/// a number that is no integer from -2^63 to 2^64 - 1, and then with `Member` where a member is not of its kind, where two members are there of
+/// which only one may be, or where the text is no object.
+pub fn read_bundle(alloc: Global, text: &[u8]) -> Result<Bundle, JsonError>
+    ensures { Answers JsonError.OutOfMemory (λ b. b) result (bundle_in text.now) }
+{
+    read_record::<BundleReader>(alloc, text)
+}

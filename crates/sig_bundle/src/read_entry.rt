@@ -1,0 +1,127 @@
+//! Readers of the entries of transparency logs.
+ghost use Rattle.std.specs.Prelude.{Option};
+ghost use Rattle.serde_json.specs.Data.{Data};
+ghost use Rattle.sig_bundle.specs.BundleRecord.{checkpoint_of, entry_of, entry_with, kind_version_of, log_id_of, promise_of, proof_of};
+ghost use Rattle.sig_json.specs.Reads.{Reads};
+ghost use Rattle.sig_json.specs.Tree.{tree};
+
+use crate::material::{KindVersion, ProofFields, TransparencyLogEntry};
+use sig_base::{Bytes, Entries, Text};
+use sig_json::{
+    BytesReader, ElementReader, Json, MemberError, optional, optional_list, read_bytes, read_i64,
+    read_text,
+};
+use std::alloc::Global;
+
+/// Reads the ids of logs.
+enum LogIdReader {}
+
+impl ElementReader for LogIdReader {
+    type Item = Bytes;
+
+    ghost meaning = { log_id_of };
+
+    fn read(alloc: Global, json: Json<'_>) -> Result<Bytes, MemberError> {
+        read_bytes(alloc, json, "keyId")
+    }
+}
+
+/// Reads promises of inclusion.
+enum PromiseReader {}
+
+impl ElementReader for PromiseReader {
+    type Item = Bytes;
+
+    ghost meaning = { promise_of };
+
+    fn read(alloc: Global, json: Json<'_>) -> Result<Bytes, MemberError> {
+        read_bytes(alloc, json, "signedEntryTimestamp")
+    }
+}
+
+/// Reads the texts of signed checkpoints.
+enum CheckpointReader {}
+
+impl ElementReader for CheckpointReader {
+    type Item = Text;
+
+    ghost meaning = { checkpoint_of };
+
+    fn read(alloc: Global, json: Json<'_>) -> Result<Text, MemberError> {
+        read_text(alloc, json, "envelope")
+    }
+}
+
+/// Reads kinds of entries.
+enum KindVersionReader {}
+
+impl ElementReader for KindVersionReader {
+    type Item = KindVersion;
+
+    ghost meaning = { kind_version_of };
+
+    #[tactic(auto, unfolding(crate::specs::BundleRecord::kind_version_of))]
+    fn read(alloc: Global, json: Json<'_>) -> Result<KindVersion, MemberError> {
+        Ok(KindVersion {
+            kind: read_text(alloc, json, "kind")?,
+            version: read_text(alloc, json, "version")?,
+        })
+    }
+}
+
+/// Reads inclusion proofs.
+enum ProofReader {}
+
+impl ElementReader for ProofReader {
+    type Item = ProofFields;
+
+    ghost meaning = { proof_of };
+
+    #[tactic(auto, unfolding(crate::specs::BundleRecord::proof_of))]
+    fn read(alloc: Global, json: Json<'_>) -> Result<ProofFields, MemberError> {
+        Ok(ProofFields {
+            log_index: read_i64(json, "logIndex")?,
+            root_hash: read_bytes(alloc, json, "rootHash")?,
+            tree_size: read_i64(json, "treeSize")?,
+            hashes: Entries::of(alloc, optional_list::<BytesReader>(alloc, json, "hashes")?),
+            checkpoint: optional::<CheckpointReader>(alloc, json, "checkpoint")?,
+        })
+    }
+}
+
+/// Reads entries of logs.
+pub(crate) enum EntryReader {}
+
+impl ElementReader for EntryReader {
+    type Item = TransparencyLogEntry;
+
+    ghost meaning = { entry_of };
+
+    #[tactic(auto, unfolding(crate::specs::BundleRecord::entry_of))]
+    fn read(alloc: Global, json: Json<'_>) -> Result<TransparencyLogEntry, MemberError> {
+        let log_index = read_i64(json, "logIndex")?;
+        let integrated_time = read_i64(json, "integratedTime")?;
+        read_entry(alloc, json, log_index, integrated_time)
+    }
+}
+
+/// An entry of these two numbers. Refuses with `Member` where another member is not of its kind.
+#[tactic(auto, unfolding(crate::specs::BundleRecord::entry_with))]
+fn read_entry(
+    alloc: Global,
+    json: Json<'_>,
+    log_index: i64,
+    integrated_time: i64,
+) -> Result<TransparencyLogEntry, MemberError>
+    ensures { Reads (λ x. x) result (entry_with log_index integrated_time (tree json.entry)) }
+{
+    Ok(TransparencyLogEntry {
+        log_index,
+        canonicalized_body: read_bytes(alloc, json, "canonicalizedBody")?,
+        log_id: optional::<LogIdReader>(alloc, json, "logId")?,
+        kind_version: optional::<KindVersionReader>(alloc, json, "kindVersion")?,
+        integrated_time,
+        inclusion_promise: optional::<PromiseReader>(alloc, json, "inclusionPromise")?,
+        inclusion_proof: optional::<ProofReader>(alloc, json, "inclusionProof")?,
+    })
+}

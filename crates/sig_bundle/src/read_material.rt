@@ -1,0 +1,89 @@
+//! Readers of what a bundle brings to check its signature with.
+ghost use Rattle.std.specs.Prelude.{Option};
+ghost use Rattle.serde_json.specs.Data.{Data};
+ghost use Rattle.sig_bundle.specs.BundleRecord.{certificate_of, chain_of, key_hint_of, material_of, signer_of};
+ghost use Rattle.sig_json.specs.Reads.{Reads};
+ghost use Rattle.sig_json.specs.Tree.{tree};
+
+use crate::material::{MaterialContent, VerificationMaterial};
+use crate::read_entry::EntryReader;
+use sig_base::{Bytes, Entries};
+use sig_json::{ElementReader, Json, MemberError, optional, optional_list, read_bytes};
+use std::alloc::Global;
+
+/// Reads certificates.
+enum CertificateReader {}
+
+impl ElementReader for CertificateReader {
+    type Item = Bytes;
+
+    ghost meaning = { certificate_of };
+
+    fn read(alloc: Global, json: Json<'_>) -> Result<Bytes, MemberError> {
+        read_bytes(alloc, json, "rawBytes")
+    }
+}
+
+/// Reads chains of certificates.
+enum ChainReader {}
+
+impl ElementReader for ChainReader {
+    type Item = Entries;
+
+    ghost meaning = { chain_of };
+
+    fn read(alloc: Global, json: Json<'_>) -> Result<Entries, MemberError> {
+        let certificates = optional_list::<CertificateReader>(alloc, json, "certificates")?;
+        Ok(Entries::of(alloc, certificates))
+    }
+}
+
+/// Reads hints at keys: objects whose members are not looked at.
+enum KeyHintReader {}
+
+impl ElementReader for KeyHintReader {
+    type Item = ();
+
+    ghost meaning = { key_hint_of };
+
+    fn read(_alloc: Global, json: Json<'_>) -> Result<(), MemberError> {
+        match json.members() {
+            Some(_) => Ok(()),
+            None => Err(MemberError::Member),
+        }
+    }
+}
+
+/// Whose signature it is. Refuses with `Member` where two of the three kinds are there, or a member is not of its kind.
+#[tactic(auto, unfolding(crate::specs::BundleRecord::signer_of))]
+fn read_signer(alloc: Global, json: Json<'_>) -> Result<Option<MaterialContent>, MemberError>
+    ensures { Reads (λ x. x) result (signer_of (tree json.entry)) }
+{
+    let certificate = optional::<CertificateReader>(alloc, json, "certificate")?;
+    let chain = optional::<ChainReader>(alloc, json, "x509CertificateChain")?;
+    let hint = optional::<KeyHintReader>(alloc, json, "publicKey")?;
+    match (certificate, chain, hint) {
+        (Some(certificate), None, None) => Ok(Some(MaterialContent::Certificate(certificate))),
+        (None, Some(chain), None) => Ok(Some(MaterialContent::X509CertificateChain(chain))),
+        (None, None, Some(())) => Ok(Some(MaterialContent::PublicKey)),
+        (None, None, None) => Ok(None),
+        _ => Err(MemberError::Member),
+    }
+}
+
+/// Reads verification material.
+pub(crate) enum MaterialReader {}
+
+impl ElementReader for MaterialReader {
+    type Item = VerificationMaterial;
+
+    ghost meaning = { material_of };
+
+    #[tactic(auto, unfolding(crate::specs::BundleRecord::material_of))]
+    fn read(alloc: Global, json: Json<'_>) -> Result<VerificationMaterial, MemberError> {
+        Ok(VerificationMaterial {
+            content: read_signer(alloc, json)?,
+            tlog_entries: optional_list::<EntryReader>(alloc, json, "tlogEntries")?,
+        })
+    }
+}
