@@ -1,1 +1,3 @@
 pub mod BundleRecord
+pub mod BundleTree
+pub mod Written

@@ -7,10 +7,12 @@
 mod bundle;
 mod copy;
 mod material;
+mod object;
 mod read;
 mod read_content;
 mod read_entry;
 mod read_material;
+mod write_value;
 
 pub use bundle::{Bundle, Content, MessageSignature};
 pub use material::{
