@@ -10,13 +10,21 @@ mod checked_bundle;
 mod content_check;
 mod copy;
 mod material;
+<<<<<<< HEAD
 mod profile_check;
+=======
+mod object;
+>>>>>>> a685616031b4075745df67fc6e868d86b75b6aac
 mod read;
 mod read_content;
 mod read_entry;
 mod read_material;
+<<<<<<< HEAD
 mod signer;
 mod version;
+=======
+mod write_value;
+>>>>>>> a685616031b4075745df67fc6e868d86b75b6aac
 
 pub use bundle::{Bundle, Content, MessageSignature};
 pub use bundle_error::{

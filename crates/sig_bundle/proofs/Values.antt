@@ -1,0 +1,58 @@
+-- Values that are read back: integers, bytes, lists.
+use Rattle.std.proofs.Common.{◌≡◌, ◌==◌, ℕ, suc, ◌<◌, ◌≤◌, ◌+◌, ◌^◌, ℤ, pos, negsuc, neg_ℤ, FitsSigned, w64, inl, inr, List, [], ◌∷◌, ◌++◌, length, take, get_or, Option, Some, None, Result, Ok, true, false, refl, sym, ap, ◌∙◌, arith, rules}
+use Rattle.std.proofs.lemmas.Bool.{lt-ltb, ne_eqb, cases_eq}
+use Rattle.std.proofs.lemmas.Fmt.{digits_decimal, digits_value-decimal, decimal_nonempty}
+use Rattle.std.proofs.lemmas.Str.Parse.{IsNumeralModel, numerals_by_fold}
+use Rattle.std.specs.Char.{is_ascii_digit}
+use Rattle.std.specs.Fmt.{decimal, signed_decimal}
+use Rattle.std.specs.List.{list_all}
+use Rattle.std.specs.Result.{result_ok}
+use Rattle.base64.specs.Engines.{standard}
+use Rattle.base64.specs.GeneralPurpose.{decode_of, encode_of}
+use Rattle.serde_json.specs.Data.{Data, string, array}
+use Rattle.sig_bundle.specs.Written.{IsReadAs, OptionIsRead, bytes_tree, integer_tree, items_of, list_tree}
+use Rattle.sig_json.specs.Builders.{with_last, items_with_last}
+use Rattle.sig_json.specs.Integer.{value_after, natural_text, integer_text}
+use Rattle.sig_json.specs.Kinds.{bytes_of, i64_of}
+use Rattle.sig_json.specs.List.{items_list}
+use Rattle.sig_json.specs.Member.{each, list_each}
+
+-- ---- integers
+
+own : IsNumeralModel (λ ds. list_all is_ascii_digit ds ≡ true) (value_after 0)
+own = numerals_by_fold _ (search rules) value_after (search rules)
+
+natural_text-decimal : (n : ℕ) → n < 2 ^ 64 → natural_text (decimal n) ≡ Some n
+unfolding natural_text
+natural_text-decimal n h =
+    rw (digits_decimal own n h, lt-ltb 0 (length (decimal n)) (decimal_nonempty n h), digits_value-decimal own n h) refl
+
+integer_text-natural : (text : List ℕ) (n : ℕ) → natural_text text ≡ Some n → integer_text text ≡ Some (pos n)
+unfolding integer_text natural_text
+integer_text-natural [] n e = absurd cc
+integer_text-natural (c ∷ cs) n e =
+    elim (cases_eq c 45) [
+      | inl minus ↦ absurd (let none = rw minus at e in cc)
+      | inr other ↦ rw (ne_eqb c 45 other, e) refl
+    ]
+
+integer_text-minus : (n : ℕ) → natural_text (decimal (suc n)) ≡ Some (suc n) → integer_text (45 ∷ decimal (suc n)) ≡ Some (negsuc n)
+unfolding integer_text
+integer_text-minus n e = rw e refl
+
+pub integer_back : (z : ℤ) → FitsSigned w64 z → IsReadAs i64_of (integer_tree z) z
+unfolding integer_tree i64_of
+integer_back (pos n) fits =
+    let small : n < 2 ^ 63 = fits.sfits in
+    (rw (integer_text-natural (decimal n) n (natural_text-decimal n (omega arith)), lt-ltb n (2 ^ 63) small) refl, refl)
+integer_back (negsuc n) fits =
+    let small : n < 2 ^ 63 = fits.sfits in
+    (rw (integer_text-minus n (natural_text-decimal (suc n) (omega arith)), lt-ltb n (2 ^ 63) small) refl, refl)
+
+-- ---- bytes
+
+pub bytes_back : (bytes text : List ℕ) → text ≡ encode_of standard bytes → decode_of standard text ≡ Ok bytes → IsReadAs bytes_of (bytes_tree bytes) bytes
+unfolding bytes_tree bytes_of
+bytes_back bytes text e back = (rw (← e, back) refl, refl)
+
+pub ruleset values = (integer_back, bytes_back)

@@ -1,0 +1,102 @@
+//! Writers of values, and the one writer of lists over them.
+ghost use Rattle.std.specs.Prelude.{◌≡◌, IfOk, Option, option_map};
+ghost use Rattle.serde_json.specs.Data.{Data};
+ghost use Rattle.sig_bundle.specs.Written.{IsReadAs, OptionIsRead, bytes_tree, integer_tree, list_tree};
+ghost use Rattle.sig_json.specs.Kinds.{bytes_of, i64_of};
+ghost use Rattle.sig_json.specs.Member.{list_each};
+ghost use Rattle.sig_json.specs.Tree.{document_tree};
+
+use base64::engine::general_purpose::STANDARD;
+use sig_base::{Bytes, OutOfMemory};
+use sig_json::Document;
+use std::alloc::Global;
+
+/// A writer of one kind of value.
+pub(crate) trait ElementWriter {
+    /// What is written.
+    type Item;
+
+    ghost written: { Self.Item → Data };
+
+    ghost meaning: { Data → Option Self.Item };
+
+    /// Writes a value, which its reader reads back. Refuses for want of memory alone.
+    fn write(alloc: Global, item: &Self::Item) -> Result<Document, OutOfMemory>
+        ensures tree { IfOk result (λ document. document_tree document ≡ written item.now) }
+        ensures back { IfOk result (λ _. IsReadAs meaning (written item.now) item.now) };
+}
+
+/// Writes a value that may be absent. Refuses for want of memory alone.
+pub(crate) fn write_option<T: ElementWriter>(
+    alloc: Global,
+    item: &Option<T::Item>,
+) -> Result<Option<Document>, OutOfMemory>
+    ensures tree { IfOk result (λ document. option_map document_tree document
+        ≡ option_map T.written item.now) }
+    ensures back { IfOk result (λ _. OptionIsRead T.meaning T.written item.now) }
+{
+    match item {
+        Some(item) => match T::write(alloc, item) {
+            Ok(document) => Ok(Some(document)),
+            Err(error) => Err(error),
+        },
+        None => Ok(None),
+    }
+}
+
+/// Writes a list. Refuses for want of memory alone.
+#[tactic(auto, using(crate::proofs::Lists::lists))]
+pub(crate) fn write_list<T: ElementWriter>(
+    alloc: Global,
+    items: &[T::Item],
+) -> Result<Document, OutOfMemory>
+    ensures tree { IfOk result (λ document. document_tree document
+        ≡ list_tree T.written items.now) }
+    ensures back { IfOk result (λ _. IsReadAs (list_each T.meaning)
+        (list_tree T.written items.now) items.now) }
+{
+    let mut list = Document::list(alloc);
+    for item in items {
+        let document = match T::write(alloc, item) {
+            Ok(document) => document,
+            Err(error) => return Err(error),
+        };
+        list.push(document)?;
+    }
+    Ok(list)
+}
+
+/// Writes an integer, as a text.
+#[tactic(auto, using(crate::proofs::Values::values), unfolding(crate::specs::Written::integer_tree))]
+pub(crate) fn write_integer(alloc: Global, integer: i64) -> Result<Document, OutOfMemory>
+    ensures tree { IfOk result (λ document. document_tree document ≡ integer_tree integer) }
+    ensures back { IsReadAs i64_of (integer_tree integer) integer }
+{
+    let text = format!(in alloc; "{integer}")?;
+    Document::of_text(alloc, text.as_str())
+}
+
+/// Writes bytes in padded standard base64 (RFC 4648 section 4).
+#[tactic(auto, using(crate::proofs::Values::values), unfolding(crate::specs::Written::bytes_tree))]
+pub(crate) fn write_bytes(alloc: Global, bytes: &[u8]) -> Result<Document, OutOfMemory>
+    ensures tree { IfOk result (λ document. document_tree document ≡ bytes_tree bytes.now) }
+    ensures back { IfOk result (λ _. IsReadAs bytes_of (bytes_tree bytes.now) bytes.now) }
+{
+    let text = STANDARD.encode(alloc, bytes)?;
+    Document::of_text(alloc, text.as_str())
+}
+
+/// Writes bytes.
+pub(crate) enum BytesWriter {}
+
+impl ElementWriter for BytesWriter {
+    type Item = Bytes;
+
+    ghost written = { bytes_tree };
+
+    ghost meaning = { bytes_of };
+
+    fn write(alloc: Global, item: &Bytes) -> Result<Document, OutOfMemory> {
+        write_bytes(alloc, item.as_slice())
+    }
+}
