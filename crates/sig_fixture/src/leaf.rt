@@ -9,6 +9,7 @@ use crate::element::{BIT_STRING, SEQUENCE, URI, element_of};
 use crate::extension::{extension_of, extensions_of};
 use crate::key::{algorithm, key_of};
 use crate::name::{name_of, validity_of};
+use crate::timestamp::{TimestampParts, timestamp_list};
 use sig_base::{Bytes, OutOfMemory};
 use sig_der::{DerWriteError, oid, write_element};
 use std::alloc::Global;
@@ -51,6 +52,16 @@ impl LeafExtensions {
             timestamps: extension_of(alloc, oid::SCT_LIST, false, timestamps)?,
             others: Bytes::copy_of(alloc, &[])?,
         })
+    }
+
+    /// Those of the fixture, with a list of this timestamp alone. `TooLong` where it has no spelling, `OutOfMemory` for want of memory.
+    pub fn stamped(
+        alloc: Global,
+        timestamp: &TimestampParts,
+    ) -> Result<LeafExtensions, DerWriteError> {
+        let text = timestamp.text(alloc)?;
+        let value = timestamp_list(alloc, text.as_slice())?;
+        LeafExtensions::new(alloc, value.as_slice())
     }
 
     /// The extensions one after another. Refuses for want of memory alone.

@@ -1,8 +1,8 @@
 //! Timestamps of certificate logs, and their list in an extension: RFC 6962 sections 3.2 and 3.3.
 
-ghost use Rattle.std.specs.Prelude.{◌≡◌, ◌++◌, IfOk, OnOk};
+ghost use Rattle.std.specs.Prelude.{◌≡◌, ◌++◌, length, IfOk, OnOk};
 ghost use Rattle.sig_der.specs.Element.{IsElement};
-ghost use Rattle.sig_fixture.specs.Timestamps.{counted};
+ghost use Rattle.sig_fixture.specs.Timestamps.{counted, three_bytes, timestamp_text, signed_text};
 
 use crate::element::OCTET_STRING;
 use crate::key::key_of;
@@ -12,6 +12,9 @@ use std::alloc::Global;
 
 /// The most bytes that a length of two bytes counts.
 const VECTOR_LIMIT: usize = 65_535;
+
+/// The most bytes that a length of three bytes counts.
+const BODY_LIMIT: usize = 16_777_215;
 
 /// The parts of a timestamp.
 #[derive(Drop)]
@@ -45,7 +48,9 @@ impl TimestampParts {
     }
 
     /// The timestamp. `TooLong` where its extensions or its signature have more than 2^16 - 1 bytes, `OutOfMemory` for want of memory.
-    pub fn text(&self, alloc: Global) -> Result<Bytes, DerWriteError> {
+    pub fn text(&self, alloc: Global) -> Result<Bytes, DerWriteError>
+        ensures { IfOk result (λ t. t ≡ timestamp_text self.now) }
+    {
         let mut text = Vec::new(alloc);
         push(&mut text, &[self.version])?;
         push(&mut text, &self.log_id)?;
@@ -53,6 +58,27 @@ impl TimestampParts {
         push_vector(&mut text, self.extensions.as_slice())?;
         push(&mut text, &self.algorithm)?;
         push_vector(&mut text, self.signature.as_slice())?;
+        Ok(Bytes::from(text))
+    }
+
+    /// What the signature is over: version and kind of the signature, the time, the kind of an entry for a precertificate, the SHA-256 of the
+    /// issuer's key info, the signed part of the certificate without its list of timestamps, and the extensions. `TooLong` where that part
+    /// has 2^24 bytes or more or the extensions have more than 2^16 - 1, `OutOfMemory` for want of memory.
+    pub fn signed_text(
+        &self,
+        alloc: Global,
+        issuer_key: &[u8],
+        body: &[u8],
+    ) -> Result<Bytes, DerWriteError>
+        ensures { IfOk result (λ t. t ≡ signed_text self.now issuer_key.now body.now) }
+    {
+        let mut text = Vec::new(alloc);
+        push(&mut text, &[self.version, 0])?;
+        push(&mut text, &self.time.to_be_bytes())?;
+        push(&mut text, &[0, 1])?;
+        push(&mut text, &sha256(issuer_key))?;
+        push_body(&mut text, body)?;
+        push_vector(&mut text, self.extensions.as_slice())?;
         Ok(Bytes::from(text))
     }
 }
@@ -74,6 +100,26 @@ fn push_vector(text: &mut Vec<u8>, bytes: &[u8]) -> Result<(), DerWriteError>
         return Err(DerWriteError::TooLong);
     }
     push(text, &[(len / 256) as u8, (len % 256) as u8])?;
+    push(text, bytes)?;
+    Ok(())
+}
+
+/// Appends the bytes after their length in three bytes.
+fn push_body(text: &mut Vec<u8>, bytes: &[u8]) -> Result<(), DerWriteError>
+    ensures { OnOk result (text.new.items ≡ text.old.items ++ three_bytes (length bytes.now) ++ bytes.now) }
+{
+    let len = bytes.len();
+    if len > BODY_LIMIT {
+        return Err(DerWriteError::TooLong);
+    }
+    push(
+        text,
+        &[
+            (len / 65536) as u8,
+            (len / 256 % 256) as u8,
+            (len % 256) as u8,
+        ],
+    )?;
     push(text, bytes)?;
     Ok(())
 }
