@@ -68,6 +68,7 @@ pub record IsEmbedded (c : Cert) (spki : List ℕ) (answer : Result DigitallySig
   -- and no cause without its answer
   pub has : (s : Sct) → HasSct c s → Answers OutOfMemory (λ d. d) answer (Ok (signed_of c spki s))
   pub lacks : LacksSct c → Answers OutOfMemory (λ d. d) answer (Err (Parsing LeafSCTMissing))
+  pub bad : HasBadSct c → Answers OutOfMemory (λ d. d) answer (Err (Parsing LeafSCTMalformed))
   pub read : Answers OutOfMemory (λ d. d) answer (ready c spki (sct_of c))
 
 -- The answer for the issuer that a chain begins with.
