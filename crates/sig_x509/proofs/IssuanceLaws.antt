@@ -16,15 +16,6 @@ use Rattle.sig_base.specs.declared.fault.PoolError.{PoolError}
 use Rattle.sig_base.specs.declared.fault.PoolError.TheVariants.{Malformed, OutOfMemory}
 use Rattle.sig_x509.specs.Issuance.{Accepts, placed, is_issued, is_profiled, issuer_of, is_unconstrained, IsAnchor, IsNoAnchor, AreAnchors}
 
-pub single_absent : (es : List Extension) → es ≡ [] → nat_lt (length es) 2 ≡ true
-single_absent es is = rw is refl
-
-pub single_one : (es : List Extension) (e : Extension) → es ≡ e ∷ [] → nat_lt (length es) 2 ≡ true
-single_one es e is = rw is refl
-
-pub single_several : (es : List Extension) → 2 ≤ length es → nat_lt (length es) 2 ≡ false
-single_several es le = le-ltb (length es) 2 le
-
 pub none_absent : (es : List Extension) → es ≡ [] → nat_eq (length es) 0 ≡ true
 none_absent es is = rw is refl
 

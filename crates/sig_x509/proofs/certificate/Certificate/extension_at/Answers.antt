@@ -16,7 +16,7 @@ pub returns-in-Some : goal.returns-in-Some
 returns-in-Some c =
     let l = c.in-Some.ensures.lookup in
     let bytes = c.self.inside.der.items in
-    let places = c.self.inside.extensions.items in
+    let places = c.self.inside.extensions.places.items in
     let p = c.in-Some.places.now in
     let k = c.args.place in
     let lt = ltb-true k (length c.deref.result.now) (sym l.0) in
