@@ -57,7 +57,7 @@ anchors_more ts place t c before after got is grown are =
 
 -- ---- what was read is the only certificate of its text
 
-read_same : (c d : Cert) → Some d ≡ Some c → d ≡ c
+pub read_same : (c d : Cert) → Some d ≡ Some c → d ≡ c
 read_same c d same = ap (λ (o : Option Cert). option_or_else c o) same
   where
     option_or_else : Cert → Option Cert → Cert
@@ -88,13 +88,3 @@ pub judged : (accepts : Accepts) (anchors : List Cert) (c : Cert) (t s : ℤ) (b
 judged accepts anchors c t s b o time profiled is found =
     ap placed (found ∙ ap (λ (x : ℤ). position (is_issued accepts c x) anchors) time)
     ∙ sym (ap (λ (x : Bool). cond x (placed (position (is_issued accepts c t) anchors)) (Err Malformed)) (sym is ∙ profiled))
-
-answers_itself : (r m : Result ℕ PoolError) → r ≡ m → Answers OutOfMemory (λ (place : ℕ). place) r m
-answers_itself (Ok place) m e = sym e
-answers_itself (Err x) m e = inr (sym e)
-
-pub answered : (accepts : Accepts) (anchors : List Cert) (t s : ℤ) (leaf c : Cert) (r : Result ℕ PoolError) → s ≡ t → Some c ≡ Some leaf
-    → r ≡ issuer_of accepts anchors leaf s → Answers OutOfMemory (λ (place : ℕ). place) r (issuer_of accepts anchors c t)
-answered accepts anchors t s leaf c r time same is =
-    answers_itself r (issuer_of accepts anchors c t)
-    (is ∙ ap (λ (x : ℤ). issuer_of accepts anchors leaf x) time ∙ ap (λ (x : Cert). issuer_of accepts anchors x t) (sym (read_same leaf c same)))

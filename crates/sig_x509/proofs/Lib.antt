@@ -21,3 +21,4 @@ pub mod IssuanceLaws
 pub mod PrecertLaws
 pub mod EmbeddedLaws
 pub mod DistinctLaws
+pub mod IssuedLaws
