@@ -1,24 +1,22 @@
 -- The timestamp of a certificate: each answer has its cause, and each cause its answer.
-use Rattle.std.proofs.Common.{◌≡◌, ◌≢◌, ◌⊎◌, ℕ, ◌≤◌, Bool, true, false, List, [], ◌∷◌, ◌++◌, length, Option, Some, None, Result, Ok, Err, refl, sym, ap, subst, ◌∙◌, inl, inr, arith}
+use Rattle.std.proofs.Common.{◌≡◌, ◌≢◌, ◌⊎◌, ℕ, ◌≤◌, false, List, [], ◌∷◌, length, Option, Some, None, Result, Ok, Err, refl, sym, ap, subst, ◌∙◌, inl, inr, arith}
 use Rattle.std.proofs.lemmas.List.{append-nil}
 use Rattle.std.specs.Prelude.{◌↔◌, IsSome}
 use Rattle.sig_base.specs.Answers.{Answers}
-use Rattle.sig_der.specs.Element.{IsElement}
-use Rattle.sig_der.proofs.Bytes.{IsBytes, IsBytes-right, IsBytes-left}
+use Rattle.sig_der.proofs.Bytes.{IsBytes, IsBytes-right}
 use Rattle.sig_der.proofs.KeyInfos.{content_fits}
 use Rattle.sig_der.proofs.Takings.{some_is}
 use Rattle.sig_x509.specs.declared.signed.DigitallySigned.{DigitallySigned}
 use Rattle.sig_x509.specs.declared.sct_error.CertificateErrorKind.{CertificateErrorKind}
 use Rattle.sig_x509.specs.declared.sct_error.CertificateErrorKind.TheVariants.{LeafSCTMissing, IssuerMissing, LeafSCTMalformed}
 use Rattle.sig_x509.specs.declared.sct_error.SCTError.{SCTError}
-use Rattle.sig_x509.specs.declared.sct_error.SCTError.TheVariants.{Parsing, Serialization, Verification, OutOfMemory}
+use Rattle.sig_x509.specs.declared.sct_error.SCTError.TheVariants.{Parsing, OutOfMemory}
 use Rattle.sig_x509.specs.Answers.{ComesWhere}
 use Rattle.sig_x509.specs.Certificate.{Extension, Cert}
 use Rattle.sig_x509.specs.Vectors.{vector, two_bytes}
 use Rattle.sig_x509.specs.SctList.{Sct, IsSct, IsSctList, sct_at, sct_list_at}
-use Rattle.sig_x509.specs.SctBytes.{signed_of}
-use Rattle.sig_x509.specs.Timestamps.{HasSct, LacksSct, ListsOthers, HasBadSct, IsNoList, ListsNoSct, sct_extensions, only_one, sct_or_not, sct_in, sct_of_value, sct_of_list, sct_of}
-use Rattle.sig_x509.specs.Embedded.{signs_by, ready, IsReady, HasCause, IsEmbedded, IsEmbeddedUnder, IsSaidOf, IsSaidOfValue}
+use Rattle.sig_x509.specs.Timestamps.{HasSct, LacksSct, HasBadSct, IsNoList, ListsNoSct, sct_extensions, only_one, sct_or_not, sct_in, sct_of_value, sct_of_list, sct_of}
+use Rattle.sig_x509.specs.Embedded.{signs_by, ready, HasCause, IsEmbedded, IsEmbeddedUnder, IsSaidOf, IsSaidOfValue}
 use Rattle.sig_x509.proofs.SctLaws.{sct_list_at_takes, sct_list_at_again, sct_at_takes, sct_at_again}
 
 abbrev pub Texts : Type 0

@@ -1,8 +1,8 @@
 -- How often an object identifier stands, by what a look-up finds; lists of extensions, and of anchors, that grow.
-use Rattle.std.proofs.Common.{◌≡◌, ℕ, ◌+◌, ◌<◌, ◌≤◌, Bool, true, false, ◌&&◌, cond, List, [], ◌∷◌, ◌++◌, length, take, get_or, ℤ, Option, Some, None, Result, Ok, Err, inr, refl, sym, ap, subst, ◌∙◌, arith}
-use Rattle.std.specs.Prelude.{nat_lt, nat_eq, slice_get, position, is_err, OnOk, MatchOption}
+use Rattle.std.proofs.Common.{◌≡◌, ℕ, ◌+◌, ◌<◌, ◌≤◌, Bool, true, false, cond, List, [], ◌∷◌, ◌++◌, length, take, get_or, ℤ, Option, Some, None, Result, Ok, Err, refl, sym, ap, subst, ◌∙◌, arith}
+use Rattle.std.specs.Prelude.{nat_eq, slice_get, position, is_err, OnOk, MatchOption}
 use Rattle.std.specs.List.{list_all}
-use Rattle.std.proofs.lemmas.Bool.{le-ltb, ne_eqb}
+use Rattle.std.proofs.lemmas.Bool.{ne_eqb}
 use Rattle.std.proofs.lemmas.List.{take_more}
 use Rattle.std.proofs.lemmas.List.Folds.{list_all_more, list_all_at}
 use Rattle.std.proofs.lemmas.Option.{slice_get_within, slice_get-get_or, get_or_from_slice_get}
@@ -10,10 +10,8 @@ use Rattle.sig_x509.specs.declared.error.X509ReadError.{X509ReadError}
 use Rattle.sig_x509.specs.declared.error.X509ReadError.TheVariants.{Der, OutOfMemory as NoMemory}
 use Rattle.sig_x509.specs.Answers.{IsRefusedOnlyWithout}
 use Rattle.sig_x509.specs.Certificate.{Extension, Cert, IsCertificate}
-use Rattle.sig_base.specs.Answers.{Answers}
 use Rattle.sig_base.specs.declared.memory.OutOfMemory.{OutOfMemory as Memory}
-use Rattle.sig_base.specs.declared.fault.PoolError.{PoolError}
-use Rattle.sig_base.specs.declared.fault.PoolError.TheVariants.{Malformed, OutOfMemory}
+use Rattle.sig_base.specs.declared.fault.PoolError.TheVariants.{Malformed}
 use Rattle.sig_x509.specs.Issuance.{Accepts, placed, is_issued, is_profiled, issuer_of, is_unconstrained, IsAnchor, IsNoAnchor, AreAnchors}
 
 pub none_absent : (es : List Extension) → es ≡ [] → nat_eq (length es) 0 ≡ true

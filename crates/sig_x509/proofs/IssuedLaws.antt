@@ -1,8 +1,8 @@
 -- What is computed of a certificate that may be issued, and of its issuer, is what the relations say.
-use Rattle.std.proofs.Common.{◌≡◌, ◌⊎◌, ltb, ℕ, ◌<◌, ◌≤◌, Bool, true, false, ◌&&◌, ◌||◌, not, cond, List, [], ◌∷◌, length, get_or, ℤ, ◌≤ℤ◌, Option, Some, None, Result, Ok, Err, inl, inr, refl, sym, ap, subst, ◌∙◌, arith}
-use Rattle.std.specs.Prelude.{◌↔◌, T, bytes_eq, slice_get, position, int_le, ◌==◌}
-use Rattle.std.specs.List.{AllByRecursion, IsDistinct, list_all, position_or_len, prefix_len}
-use Rattle.std.proofs.lemmas.Bool.{cases_Bool, and_parts, and_from, or_cases, or_left, or_right, eqb-true, eq-eqb, ltb-false, lt-ltb, cases_order, both_ways, not-true, not-false}
+use Rattle.std.proofs.Common.{◌≡◌, ◌⊎◌, ltb, ℕ, ◌<◌, ◌≤◌, Bool, true, false, ◌||◌, not, cond, List, [], ◌∷◌, length, get_or, ℤ, ◌≤ℤ◌, Option, Some, None, Result, Ok, Err, inl, inr, refl, sym, ap, subst, ◌∙◌, arith}
+use Rattle.std.specs.Prelude.{◌↔◌, T, bytes_eq, position, int_le, ◌==◌}
+use Rattle.std.specs.List.{AllByRecursion, position_or_len}
+use Rattle.std.proofs.lemmas.Bool.{and_parts, and_from, or_cases, or_right, eqb-true, eq-eqb, ltb-false, cases_order, both_ways, not-true}
 use Rattle.std.proofs.lemmas.List.Quantifiers.{position-Some}
 use Rattle.std.proofs.lemmas.List.Sums.{prefix_len_passes}
 use Rattle.std.proofs.lemmas.Option.{slice_get_within, slice_get-get_or, get_or_from_slice_get}
@@ -14,11 +14,11 @@ use Rattle.sig_der.specs.declared.oid.TheConstants.{KEY_USAGE, EXTENDED_KEY_USAG
 use Rattle.sig_x509.specs.declared.values.BasicConstraints.{BasicConstraints as Constraints}
 use Rattle.sig_x509.specs.Answers.{ComesWhere}
 use Rattle.sig_x509.specs.Certificate.{Extension, Cert, IsCertificate}
-use Rattle.sig_x509.specs.Lookups.{with_oid, oids, are_single}
+use Rattle.sig_x509.specs.Lookups.{with_oid, oids}
 use Rattle.sig_x509.specs.Profile.{Held, constraints, code_signing}
 use Rattle.sig_x509.specs.Trust.{may_sign_code}
-use Rattle.sig_x509.specs.Issuance.{Accepts, may_be_critical, is_understood, are_understood, is_unconstrained, is_fit, is_no_authority, is_profiled, is_signed, is_within, signs_code_at, is_issued, placed, issuer_of}
-use Rattle.sig_x509.specs.Issued.{MayBeCritical, IsFit, IsNoAuthority, HasProfile, IsSignedBy, IsIssuedBy, IsIssuedByNone, IsFirstIssuer, HasNoProfile, IsIssuedText, IsUnissuedText, IsRead, IsJudgedText}
+use Rattle.sig_x509.specs.Issuance.{Accepts, may_be_critical, is_understood, are_understood, is_fit, is_no_authority, is_profiled, is_issued, placed, issuer_of}
+use Rattle.sig_x509.specs.Issued.{MayBeCritical, IsFit, HasProfile, IsIssuedBy, IsIssuedByNone, IsFirstIssuer, HasNoProfile, IsIssuedText, IsUnissuedText, IsJudgedText}
 use Rattle.sig_x509.proofs.DistinctLaws.{distinct_from, distinct_is}
 
 bytes_same : (xs ys : List ℕ) → bytes_eq xs ys ≡ true → xs ≡ ys

@@ -1,5 +1,5 @@
 -- The timestamp that a certificate carries, made ready to be checked: RFC 6962 sections 3.2 and 3.3.
-use Rattle.std.specs.Prelude.{◌≡◌, ◌≢◌, ◌⊎◌, ℕ, length, Bool, true, false, List, [], ◌∷◌, Option, Some, None, option_map, slice_get, unwrap_or, Result, Ok, Err, is_some, if◌then◌else◌}
+use Rattle.std.specs.Prelude.{◌≡◌, ◌≢◌, ◌⊎◌, ℕ, length, Bool, false, List, [], ◌∷◌, Option, Some, None, option_map, slice_get, unwrap_or, Result, Ok, Err, is_some, if◌then◌else◌}
 use Rattle.sig_base.specs.Answers.{Answers}
 use Rattle.sig_der.specs.declared.oid.TheConstants.{EXTENDED_KEY_USAGE, PRECERTIFICATE_SIGNING}
 use Rattle.sig_x509.specs.declared.signed.DigitallySigned.{DigitallySigned}

@@ -3,7 +3,6 @@ use Rattle.std.specs.Prelude.{◌≡◌, ℕ, ℤ, List, length, map, Option, So
 use Rattle.std.specs.List.{All}
 use Rattle.sig_x509.specs.declared.parts.Places.{Places}
 use Rattle.sig_x509.specs.declared.reading.Dated.{Dated}
-use Rattle.sig_x509.specs.declared.extensions.ExtensionPlaces.{ExtensionPlaces}
 use Rattle.sig_x509.specs.declared.listed.Listed.{Listed}
 use Rattle.sig_x509.specs.Certificate.{IsCertificate}
 use Rattle.sig_x509.specs.Cutting.{Parts}

@@ -1,6 +1,6 @@
 -- *Issuance* as relations: what holds of a certificate that may be issued, of who signed it, and of the anchor that issued it.
 -- RFC 5280 sections 4.1, 4.2 and 6.1, in the profile of Sigstore. `Issuance` says how they are found.
-use Rattle.std.specs.Prelude.{◌≡◌, ◌⊎◌, ℕ, ◌<◌, ℤ, ◌≤ℤ◌, List, [], Bool, true, false, Option, Some, None, Result, Ok, Err, map, slice_get}
+use Rattle.std.specs.Prelude.{◌≡◌, ◌⊎◌, ℕ, ◌<◌, ℤ, ◌≤ℤ◌, List, [], Bool, true, false, Some, None, Result, Ok, Err, slice_get}
 use Rattle.std.specs.Str.{bytes_eq}
 use Rattle.std.specs.List.{AllByRecursion, IsDistinct}
 use Rattle.sig_base.specs.declared.fault.PoolError.{PoolError}

@@ -1,9 +1,9 @@
-use Rattle.std.proofs.Common.{rules, w64, ◌≡◌, List, ℕ, ℤ, map, length, Option, Some, None, Result, Ok, Err, sym, ap, subst, ◌∙◌, arith}
+use Rattle.std.proofs.Common.{rules, ◌≡◌, List, ℕ, ℤ, map, length, Some, sym, ap, subst, arith}
 use Rattle.sig_der.proofs.Bytes.{IsBytes}
 use Rattle.sig_x509.specs.declared.error.X509ReadError.{X509ReadError}
 use Rattle.sig_x509.specs.declared.error.X509ReadError.TheVariants.{Der, OutOfMemory}
 use Rattle.sig_x509.specs.Answers.{Refuses, IsRefusedOnlyWithout}
-use Rattle.sig_x509.specs.Certificate.{Extension, Cert, IsCertificate}
+use Rattle.sig_x509.specs.Certificate.{Cert, IsCertificate}
 use Rattle.sig_x509.specs.declared.parts.Places.{Places}
 use Rattle.sig_x509.specs.declared.extensions.ExtensionPlaces.{ExtensionPlaces}
 use Rattle.std.specs.List.{All}
@@ -12,7 +12,7 @@ use Rattle.sig_der.proofs.Takings.{some}
 use Rattle.sig_x509.specs.Places.{parts_of, extension_of, placed_certificate, ArePlaces, AreSpans}
 use Rattle.sig_x509.specs.declared.listed.Listed.{Listed}
 use Rattle.sig_x509.specs.Held.{HoldsCertificate, IsRecorded}
-use Rattle.sig_x509.specs.Cutting.{Parts, certificate_of, extension_at, IsCut}
+use Rattle.sig_x509.specs.Cutting.{Parts, extension_at, IsCut}
 use Rattle.sig_x509.proofs.CertificateLaws.{certificate_takes}
 use Rattle.sig_x509.proofs.Readings.{no_parts, no_list, read_is, all_wider, IsCutAs}
 use Rattle.sig_x509.proofs.certificate.Certificate.try_from_der.Goals as goal
