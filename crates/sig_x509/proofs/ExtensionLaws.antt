@@ -1,11 +1,11 @@
 -- Extensions: what the reader takes is what the relation builds, and what the relation builds is taken.
-use Rattle.std.proofs.Common.{◌≡◌, ◌≢◌, ℕ, ◌<◌, Bool, true, false, cond, eqb, List, [], ◌∷◌, ◌++◌, length, Option, Some, None, refl, sym, ap, subst, ◌∙◌, append_assoc, arith, inl, inr}
-use Rattle.std.proofs.lemmas.Bool.{cases_Bool, eqb-true, eqb-false, cond-true, cond-false}
-use Rattle.sig_der.specs.Element.{IsElement, StandsFirst}
+use Rattle.std.proofs.Common.{◌≡◌, ℕ, ◌<◌, Bool, true, false, cond, eqb, List, [], ◌∷◌, ◌++◌, length, Option, Some, None, refl, sym, ap, subst, ◌∙◌, inl, inr}
+use Rattle.std.proofs.lemmas.Bool.{cases_Bool, eqb-true, cond-true, cond-false}
+use Rattle.sig_der.specs.Element.{IsElement}
 use Rattle.sig_der.specs.Reading.{Piece}
-use Rattle.sig_der.specs.Taking.{◌>>=◌, take_tag, take_whole, take_optional, begins_with}
+use Rattle.sig_der.specs.Taking.{take_tag, take_whole, take_optional, begins_with}
 use Rattle.sig_der.proofs.Bytes.{IsBytes, IsBytes-right}
-use Rattle.sig_der.proofs.Takings.{bind_is, bind_of_some, when_is, unless_is, some, some_is, take_tag_takes, take_tag_again, take_tag_shrinks, take_whole_takes, take_whole_again, take_optional_takes, take_optional_here, take_optional_absent, IsOptional}
+use Rattle.sig_der.proofs.Takings.{bind_is, bind_of_some, when_is, unless_is, some_is, take_tag_takes, take_tag_again, take_tag_shrinks, take_whole_takes, take_whole_again, take_optional_takes, take_optional_here, take_optional_absent, IsOptional}
 use Rattle.sig_der.proofs.Many.{IsReader}
 use Rattle.sig_der.proofs.KeyInfos.{first_fits, rest_fits, some_left, left_some}
 use Rattle.sig_x509.specs.Certificate.{Extension, IsFlag, IsExtension}

@@ -1,11 +1,11 @@
 -- What the extensions of one object identifier say, by how many there are.
-use Rattle.std.proofs.Common.{◌≡◌, ℕ, ◌≤◌, false, List, [], ◌∷◌, length, Option, Some, None, Result, Ok, Err, refl, arith}
+use Rattle.std.proofs.Common.{◌≡◌, ◌≤◌, false, List, [], ◌∷◌, length, Option, None, Ok, Err, refl, arith}
 use Rattle.sig_x509.specs.declared.profile_error.CertificateValidationError.TheVariants.{Malformed}
 use Rattle.sig_x509.specs.Certificate.{Extension}
 use Rattle.std.specs.Prelude.{is_some}
 use Rattle.sig_x509.specs.Names.{names_of}
 use Rattle.sig_x509.specs.Trust.{is_named}
-use Rattle.sig_x509.specs.Profile.{Held, held, read_as}
+use Rattle.sig_x509.specs.Profile.{held, read_as}
 
 pub held_absent : {A : Type 0} (read : Extension → Option A) (es : List Extension) → es ≡ [] → held read es ≡ Ok None
 held_absent read es is = rw is refl

@@ -1,5 +1,5 @@
 -- A walk over names that keeps the identity of each.
-use Rattle.std.proofs.Common.{◌≡◌, ◌≢◌, ℕ, ◌<◌, List, [], ◌∷◌, ◌++◌, length, Option, Some, None, refl, sym, ap, subst, ◌∙◌, append_assoc, ◌||◌}
+use Rattle.std.proofs.Common.{◌≡◌, ◌≢◌, ℕ, List, [], ◌∷◌, ◌++◌, Option, Some, None, refl, sym, ap, ◌∙◌, append_assoc, ◌||◌}
 use Rattle.std.specs.Prelude.{option_map}
 use Rattle.std.specs.Prelude.{Bool, map}
 use Rattle.std.specs.List.{filter_map, flat_map, list_any, join_by}

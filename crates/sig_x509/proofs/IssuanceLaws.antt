@@ -1,8 +1,8 @@
 -- How often an object identifier stands, by what a look-up finds; lists of extensions, and of anchors, that grow.
-use Rattle.std.proofs.Common.{◌≡◌, ℕ, ◌+◌, ◌<◌, ◌≤◌, Bool, true, false, ◌&&◌, cond, List, [], ◌∷◌, ◌++◌, length, take, get_or, ℤ, Option, Some, None, Result, Ok, Err, inr, refl, sym, ap, subst, ◌∙◌, arith}
-use Rattle.std.specs.Prelude.{nat_lt, nat_eq, slice_get, position, is_err, OnOk, MatchOption}
+use Rattle.std.proofs.Common.{◌≡◌, ℕ, ◌+◌, ◌<◌, ◌≤◌, Bool, true, false, cond, List, [], ◌∷◌, ◌++◌, length, take, get_or, ℤ, Option, Some, None, Result, Ok, Err, refl, sym, ap, subst, ◌∙◌, arith}
+use Rattle.std.specs.Prelude.{nat_eq, slice_get, position, is_err, OnOk, MatchOption}
 use Rattle.std.specs.List.{list_all}
-use Rattle.std.proofs.lemmas.Bool.{le-ltb, ne_eqb}
+use Rattle.std.proofs.lemmas.Bool.{ne_eqb}
 use Rattle.std.proofs.lemmas.List.{take_more}
 use Rattle.std.proofs.lemmas.List.Folds.{list_all_more, list_all_at}
 use Rattle.std.proofs.lemmas.Option.{slice_get_within, slice_get-get_or, get_or_from_slice_get}
@@ -10,20 +10,9 @@ use Rattle.sig_x509.specs.declared.error.X509ReadError.{X509ReadError}
 use Rattle.sig_x509.specs.declared.error.X509ReadError.TheVariants.{Der, OutOfMemory as NoMemory}
 use Rattle.sig_x509.specs.Answers.{IsRefusedOnlyWithout}
 use Rattle.sig_x509.specs.Certificate.{Extension, Cert, IsCertificate}
-use Rattle.sig_base.specs.Answers.{Answers}
 use Rattle.sig_base.specs.declared.memory.OutOfMemory.{OutOfMemory as Memory}
-use Rattle.sig_base.specs.declared.fault.PoolError.{PoolError}
-use Rattle.sig_base.specs.declared.fault.PoolError.TheVariants.{Malformed, OutOfMemory}
+use Rattle.sig_base.specs.declared.fault.PoolError.TheVariants.{Malformed}
 use Rattle.sig_x509.specs.Issuance.{Accepts, placed, is_issued, is_profiled, issuer_of, is_unconstrained, IsAnchor, IsNoAnchor, AreAnchors}
-
-pub single_absent : (es : List Extension) → es ≡ [] → nat_lt (length es) 2 ≡ true
-single_absent es is = rw is refl
-
-pub single_one : (es : List Extension) (e : Extension) → es ≡ e ∷ [] → nat_lt (length es) 2 ≡ true
-single_one es e is = rw is refl
-
-pub single_several : (es : List Extension) → 2 ≤ length es → nat_lt (length es) 2 ≡ false
-single_several es le = le-ltb (length es) 2 le
 
 pub none_absent : (es : List Extension) → es ≡ [] → nat_eq (length es) 0 ≡ true
 none_absent es is = rw is refl
@@ -66,7 +55,7 @@ anchors_more ts place t c before after got is grown are =
 
 -- ---- what was read is the only certificate of its text
 
-read_same : (c d : Cert) → Some d ≡ Some c → d ≡ c
+pub read_same : (c d : Cert) → Some d ≡ Some c → d ≡ c
 read_same c d same = ap (λ (o : Option Cert). option_or_else c o) same
   where
     option_or_else : Cert → Option Cert → Cert
@@ -97,13 +86,3 @@ pub judged : (accepts : Accepts) (anchors : List Cert) (c : Cert) (t s : ℤ) (b
 judged accepts anchors c t s b o time profiled is found =
     ap placed (found ∙ ap (λ (x : ℤ). position (is_issued accepts c x) anchors) time)
     ∙ sym (ap (λ (x : Bool). cond x (placed (position (is_issued accepts c t) anchors)) (Err Malformed)) (sym is ∙ profiled))
-
-answers_itself : (r m : Result ℕ PoolError) → r ≡ m → Answers OutOfMemory (λ (place : ℕ). place) r m
-answers_itself (Ok place) m e = sym e
-answers_itself (Err x) m e = inr (sym e)
-
-pub answered : (accepts : Accepts) (anchors : List Cert) (t s : ℤ) (leaf c : Cert) (r : Result ℕ PoolError) → s ≡ t → Some c ≡ Some leaf
-    → r ≡ issuer_of accepts anchors leaf s → Answers OutOfMemory (λ (place : ℕ). place) r (issuer_of accepts anchors c t)
-answered accepts anchors t s leaf c r time same is =
-    answers_itself r (issuer_of accepts anchors c t)
-    (is ∙ ap (λ (x : ℤ). issuer_of accepts anchors leaf x) time ∙ ap (λ (x : Cert). issuer_of accepts anchors x t) (sym (read_same leaf c same)))

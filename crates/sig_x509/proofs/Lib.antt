@@ -20,3 +20,5 @@ pub mod NameLaws
 pub mod IssuanceLaws
 pub mod PrecertLaws
 pub mod EmbeddedLaws
+pub mod DistinctLaws
+pub mod IssuedLaws

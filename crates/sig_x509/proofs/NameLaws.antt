@@ -1,13 +1,12 @@
 -- Names: what the reader takes is what the relation builds, and what the relation builds is taken.
-use Rattle.std.proofs.Common.{◌≡◌, ◌≢◌, ℕ, zero, suc, ◌<◌, Bool, true, false, ◌&&◌, ltb, cond, eqb, List, [], ◌∷◌, ◌++◌, length, Option, Some, None, refl, sym, ap, subst, ◌∙◌, arith, inl, inr}
+use Rattle.std.proofs.Common.{◌≡◌, ℕ, zero, suc, Bool, true, false, ◌&&◌, ltb, cond, eqb, List, [], ◌∷◌, ◌++◌, length, Some, None, refl, sym, ap, subst, ◌∙◌, arith, inl, inr}
 use Rattle.std.specs.Str.{IsAscii}
 use Rattle.std.proofs.lemmas.Bool.{cases_Bool, eqb-true, eqb-false, lt-ltb, ltb-true, cond-true, cond-false, ne_eqb}
 use Rattle.std.proofs.lemmas.List.{append-nil}
-use Rattle.sig_der.specs.Element.{IsElement, StandsFirst}
-use Rattle.sig_der.specs.Reading.{Piece}
+use Rattle.sig_der.specs.Element.{IsElement}
 use Rattle.sig_der.specs.Taking.{◌>>=◌, take_any, take_tag, take_whole, many_within, many_at}
 use Rattle.sig_der.proofs.Bytes.{IsBytes, IsBytes-right}
-use Rattle.sig_der.proofs.Takings.{bind_is, bind_of_some, when_is, unless_is, some, some_is, take_any_takes, take_any_again, take_tag_takes, take_tag_again, take_whole_takes, take_whole_again}
+use Rattle.sig_der.proofs.Takings.{bind_is, bind_of_some, when_is, unless_is, some_is, take_any_takes, take_any_again, take_tag_takes, take_tag_again, take_whole_takes, take_whole_again}
 use Rattle.sig_der.proofs.Many.{many_at_none, many_at_more}
 use Rattle.sig_der.proofs.KeyInfos.{content_fits, first_fits, rest_fits, some_left, left_some, none_left}
 use Rattle.sig_x509.specs.Names.{Name, Email, Uri, Other, Unread, is_context, is_ascii_text, other_value, other_name, name_of, name_at, names_of}

@@ -1,5 +1,5 @@
 -- What was read at places is the certificate, and what was not read is none.
-use Rattle.std.proofs.Common.{◌≡◌, ℕ, ◌≤◌, ℤ, List, length, Option, Some, None, get_or, ◌<◌, refl, sym, ap, ◌∙◌, arith}
+use Rattle.std.proofs.Common.{◌≡◌, ℕ, ◌≤◌, ℤ, List, Some, None, refl, sym, ap, ◌∙◌, arith}
 use Rattle.std.specs.List.{All}
 use Rattle.sig_der.specs.Taking.{many_at}
 use Rattle.sig_der.proofs.Takings.{some_is}

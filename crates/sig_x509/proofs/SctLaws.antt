@@ -1,11 +1,10 @@
 -- SCT lists and SCTs: what is read is what the relations build, and what they build is read.
-use Rattle.std.proofs.Common.{◌≡◌, ◌≢◌, ℕ, ◌^◌, ◌<◌, eqb, List, [], ◌∷◌, ◌++◌, length, get_or, Option, Some, None, refl, sym, ap, subst, ◌∙◌, append_assoc, arith}
-use Rattle.std.specs.Int.{w64, to_be_bytes, from_be_bytes}
+use Rattle.std.proofs.Common.{◌≡◌, ℕ, ◌^◌, ◌<◌, eqb, List, [], ◌∷◌, ◌++◌, length, Option, Some, refl, sym, ap, subst, ◌∙◌, arith}
+use Rattle.std.specs.Int.{w64, from_be_bytes}
 use Rattle.std.proofs.lemmas.Bool.{eqb-true}
 use Rattle.std.proofs.lemmas.Nat.{be_bytes_8, from_be_bytes-to_be_bytes_8}
 use Rattle.sig_der.specs.Element.{IsElement}
-use Rattle.sig_der.specs.Taking.{◌>>=◌, take_whole, many_at}
-use Rattle.sig_der.specs.Reading.{Piece}
+use Rattle.sig_der.specs.Taking.{take_whole}
 use Rattle.sig_der.specs.KeyInfo.{after_zero}
 use Rattle.sig_der.proofs.Bytes.{IsBytes, IsBytes-right, IsBytes-left, IsBytes-tail}
 use Rattle.sig_der.proofs.Takings.{bind_is, bind_of_some, when_is, some_is, take_whole_takes, take_whole_again}

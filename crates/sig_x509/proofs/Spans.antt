@@ -1,5 +1,5 @@
 -- All of a text, as the part from its front to its end.
-use Rattle.std.proofs.Common.{◌≡◌, ℕ, ◌-◌, List, length, take, refl, ◌∙◌, ap, arith}
+use Rattle.std.proofs.Common.{◌≡◌, ℕ, ◌-◌, List, length, take, ◌∙◌, ap, arith}
 use Rattle.std.specs.Prelude.{slice_range}
 use Rattle.std.proofs.Math.Seq.{take-length}
 

@@ -1,11 +1,11 @@
 -- Vectors: what is read is a vector, and a vector is read, whatever follows it; and lists of vectors.
-use Rattle.std.proofs.Common.{◌≡◌, ◌≢◌, ℕ, ◌+◌, ◌*◌, ◌/◌, ◌%◌, ◌<◌, ◌≤◌, Bool, true, false, cond, ltb, eqb, List, [], ◌∷◌, ◌++◌, length, take, drop, get_or, Option, Some, None, refl, sym, ap, subst, ◌∙◌, arith}
+use Rattle.std.proofs.Common.{◌≡◌, ◌≢◌, ℕ, ◌+◌, ◌*◌, ◌/◌, ◌%◌, ◌<◌, ◌≤◌, true, false, ltb, eqb, List, [], ◌∷◌, ◌++◌, length, take, drop, Option, Some, None, refl, sym, ap, subst, ◌∙◌, arith}
 use Rattle.std.specs.Prelude.{is_some}
 use Rattle.std.proofs.lemmas.Bool.{le-ltb, ltb-false, cond-false}
 use Rattle.std.proofs.lemmas.List.{take_at, drop_at, take-append-drop, length-append, length-take-le, append-nil}
 use Rattle.sig_der.specs.Taking.{◌>>=◌, many_at}
 use Rattle.sig_der.specs.KeyInfo.{is_empty}
-use Rattle.sig_der.proofs.Bytes.{IsBytes, IsBytes-right}
+use Rattle.sig_der.proofs.Bytes.{IsBytes}
 use Rattle.sig_der.proofs.Takings.{bind_is, bind_of_some, when_is, unless_is, some_is}
 use Rattle.sig_der.proofs.KeyInfos.{none_left}
 use Rattle.sig_der.proofs.Many.{IsReader, many_at_none, many_at_more, many_at_stops}

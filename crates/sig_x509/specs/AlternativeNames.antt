@@ -1,6 +1,6 @@
 -- *Extension values*, the subject alternative name, as a relation that builds the text: RFC 5280 section 4.2.1.6, in the profile that
 -- this crate reads. That `names_of` reads exactly these is a law of the crate.
-use Rattle.std.specs.Prelude.{◌≡◌, ◌≢◌, ℕ, ◌<◌, List, [], ◌∷◌, ◌++◌, length, Bool, true}
+use Rattle.std.specs.Prelude.{◌≡◌, ◌≢◌, ℕ, ◌<◌, List, [], ◌∷◌, ◌++◌, length, true}
 use Rattle.std.specs.Str.{IsAscii}
 use Rattle.sig_der.specs.Element.{IsElement}
 use Rattle.sig_x509.specs.Names.{Name, Email, Uri, Other, Unread, is_context}

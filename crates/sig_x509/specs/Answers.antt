@@ -1,5 +1,5 @@
--- The answer of a reader that takes memory.
-use Rattle.std.specs.Prelude.{◌≡◌, ℕ, List, Option, Some, None, Result, Ok, Err}
+-- The answer of a call that takes memory.
+use Rattle.std.specs.Prelude.{◌≡◌, ◌⊎◌, ℕ, List, Option, Some, None, Result, Ok, Err}
 use Rattle.sig_x509.specs.Certificate.{Cert, IsCertificate}
 use Rattle.sig_x509.specs.declared.error.X509ReadError.{X509ReadError}
 use Rattle.sig_x509.specs.declared.error.X509ReadError.TheVariants.{Der, OutOfMemory}
@@ -18,3 +18,7 @@ Reads view (Err e) meant = Refuses e meant
 abbrev pub IsRefusedOnlyWithout : List ℕ → X509ReadError → Type 0
 IsRefusedOnlyWithout text Der = (c : Cert) → ¬ IsCertificate text c
 IsRefusedOnlyWithout text OutOfMemory = Unit {0}
+
+-- the answer comes only where P holds, and there no other comes, unless memory ran out
+abbrev pub ComesWhere : {X E : Type 0} → E → Result X E → Result X E → Type 0 → Type 0
+ComesWhere memory result answer P = (result ≡ answer → P) × (P → (result ≡ answer) ⊎ (result ≡ Err memory))

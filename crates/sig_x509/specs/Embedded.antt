@@ -1,5 +1,5 @@
 -- The timestamp that a certificate carries, made ready to be checked: RFC 6962 sections 3.2 and 3.3.
-use Rattle.std.specs.Prelude.{◌≡◌, ◌≢◌, ◌⊎◌, ℕ, length, Bool, true, false, List, [], ◌∷◌, Option, Some, None, option_map, slice_get, unwrap_or, Result, Ok, Err, is_some, if◌then◌else◌}
+use Rattle.std.specs.Prelude.{◌≡◌, ◌≢◌, ◌⊎◌, ℕ, length, Bool, false, List, [], ◌∷◌, Option, Some, None, option_map, slice_get, unwrap_or, Result, Ok, Err, is_some, if◌then◌else◌}
 use Rattle.sig_base.specs.Answers.{Answers}
 use Rattle.sig_der.specs.declared.oid.TheConstants.{EXTENDED_KEY_USAGE, PRECERTIFICATE_SIGNING}
 use Rattle.sig_x509.specs.declared.signed.DigitallySigned.{DigitallySigned}
@@ -68,6 +68,7 @@ pub record IsEmbedded (c : Cert) (spki : List ℕ) (answer : Result DigitallySig
   -- and no cause without its answer
   pub has : (s : Sct) → HasSct c s → Answers OutOfMemory (λ d. d) answer (Ok (signed_of c spki s))
   pub lacks : LacksSct c → Answers OutOfMemory (λ d. d) answer (Err (Parsing LeafSCTMissing))
+  pub bad : HasBadSct c → Answers OutOfMemory (λ d. d) answer (Err (Parsing LeafSCTMalformed))
   pub read : Answers OutOfMemory (λ d. d) answer (ready c spki (sct_of c))
 
 -- The answer for the issuer that a chain begins with.

@@ -1,17 +1,23 @@
 -- What a certificate holds: its text, the places of its parts, the places of its extensions.
-use Rattle.std.specs.Prelude.{◌≡◌, ℕ, ℤ, List, length, Option, Some, None}
+use Rattle.std.specs.Prelude.{◌≡◌, ℕ, ℤ, List, length, map, Option, Some, None}
 use Rattle.std.specs.List.{All}
 use Rattle.sig_x509.specs.declared.parts.Places.{Places}
 use Rattle.sig_x509.specs.declared.reading.Dated.{Dated}
-use Rattle.sig_x509.specs.declared.extensions.ExtensionPlaces.{ExtensionPlaces}
+use Rattle.sig_x509.specs.declared.listed.Listed.{Listed}
 use Rattle.sig_x509.specs.Certificate.{IsCertificate}
 use Rattle.sig_x509.specs.Cutting.{Parts}
-use Rattle.sig_x509.specs.Places.{parts_of, ArePlaces, AreSpans, placed_certificate}
+use Rattle.sig_x509.specs.Lookups.{are_single}
+use Rattle.sig_x509.specs.Places.{parts_of, extension_of, ArePlaces, AreSpans, placed_certificate}
 
-pub record HoldsCertificate (bytes : List ℕ) (p : Places) (not_before not_after : ℤ) (es : List ExtensionPlaces) : Type 0 where
+-- whether no object identifier stands twice is recorded
+abbrev pub IsRecorded : List ℕ → Listed → Type 0
+IsRecorded bytes l = l.single ≡ are_single (map (extension_of bytes) l.places.items)
+
+pub record HoldsCertificate (bytes : List ℕ) (p : Places) (not_before not_after : ℤ) (l : Listed) : Type 0 where
   pub within : ArePlaces (length bytes) p
-  pub each_within : All (AreSpans (length bytes)) es
-  pub is : IsCertificate bytes (placed_certificate bytes p not_before not_after es)
+  pub each_within : All (AreSpans (length bytes)) l.places.items
+  pub is : IsCertificate bytes (placed_certificate bytes p not_before not_after l.places.items)
+  pub recorded : IsRecorded bytes l
 
 -- the answer is these parts and these times
 abbrev pub IsDatedAs : List ℕ → Parts → ℤ → ℤ → Option Dated → Type 0

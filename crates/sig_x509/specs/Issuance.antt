@@ -1,5 +1,5 @@
 -- *Issuance*: which certificates may be issued, and by which anchor. RFC 5280 sections 4.2 and 6.1, in the profile of Sigstore.
-use Rattle.std.specs.Prelude.{⊤, ◌≡◌, ℕ, ℤ, List, [], ◌∷◌, length, take, slice_get, Bool, true, false, not, ◌&&◌, ◌||◌, Option, Some, None, Result, Ok, Err, position, int_le, nat_lt, ◌==◌, if◌then◌else◌}
+use Rattle.std.specs.Prelude.{⊤, ◌≡◌, ℕ, ℤ, List, [], ◌∷◌, length, take, slice_get, Bool, true, false, not, ◌&&◌, ◌||◌, Option, Some, None, Result, Ok, Err, position, int_le, ◌==◌, if◌then◌else◌}
 use Rattle.std.specs.Str.{bytes_eq}
 use Rattle.std.specs.List.{list_all}
 use Rattle.sig_base.specs.declared.fault.PoolError.{PoolError}
@@ -7,7 +7,7 @@ use Rattle.sig_base.specs.declared.fault.PoolError.TheVariants.{Anchor, Malforme
 use Rattle.sig_der.specs.declared.oid.TheConstants.{KEY_USAGE, EXTENDED_KEY_USAGE, BASIC_CONSTRAINTS, SUBJECT_ALTERNATIVE_NAME, NAME_CONSTRAINTS}
 use Rattle.sig_x509.specs.declared.values.BasicConstraints.{BasicConstraints as Constraints}
 use Rattle.sig_x509.specs.Certificate.{Extension, Cert, IsCertificate}
-use Rattle.sig_x509.specs.Lookups.{with_oid}
+use Rattle.sig_x509.specs.Lookups.{with_oid, are_single}
 use Rattle.sig_x509.specs.Profile.{Held, constraints, code_signing}
 use Rattle.sig_x509.specs.Trust.{may_sign_code}
 
@@ -21,13 +21,6 @@ may_be_critical oid =
 -- a critical extension that is not known refuses the certificate
 abbrev pub is_understood : Extension → Bool
 is_understood e = not e.critical || may_be_critical e.oid
-
--- no other of these extensions has the object identifier of this one
-abbrev pub is_single : List Extension → Extension → Bool
-is_single es e = nat_lt (length (with_oid e.oid es)) 2
-
-abbrev pub are_single : List Extension → Bool
-are_single es = list_all (is_single es) es
 
 abbrev pub are_understood : List Extension → Bool
 are_understood es = list_all is_understood es

@@ -1,5 +1,5 @@
 -- What contracts see of lent values of timestamps.
-use Rattle.std.specs.Prelude.{ℕ, List, Option, Some, None, Result, Ok, Err}
+use Rattle.std.specs.Prelude.{ℕ, List, Result, Ok, Err}
 use Rattle.std.specs.Borrow.{Bor}
 use Rattle.sig_x509.specs.declared.sct_error.CertificateErrorKind.{CertificateErrorKind}
 use Rattle.sig_x509.specs.declared.sct_list.LentSct.{LentSct}

@@ -27,4 +27,5 @@ pub mod Precert
 pub mod SctBytes
 pub mod AlternativeNames
 pub mod Issuance
+pub mod Issued
 pub mod Embedded

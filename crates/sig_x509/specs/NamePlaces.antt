@@ -1,5 +1,5 @@
 -- Places of names in one text, and what they stand for.
-use Rattle.std.specs.Prelude.{ℕ, ◌≤◌, List, Option, Some, None, slice_range}
+use Rattle.std.specs.Prelude.{ℕ, List, slice_range}
 use Rattle.sig_x509.specs.declared.span.Span.{Span}
 use Rattle.sig_x509.specs.declared.names.NamePlaces.{NamePlaces}
 use Rattle.sig_x509.specs.declared.names.NamePlaces.TheVariants.{Email as EmailAt, Uri as UriAt, Other as OtherAt, Unread as UnreadAt}

@@ -1,9 +1,8 @@
 -- Places of a certificate's parts in its text, and what they stand for.
-use Rattle.std.specs.Prelude.{ℕ, ◌<◌, ◌≤◌, ℤ, List, Bool, Option, Some, None, slice_range, map}
-use Rattle.std.specs.List.{All}
+use Rattle.std.specs.Prelude.{ℕ, ◌<◌, ◌≤◌, ℤ, List, Bool, slice_range, map}
 use Rattle.sig_der.specs.declared.place.Place.{Place}
 use Rattle.sig_der.specs.Reading.{Piece}
-use Rattle.sig_der.specs.Places.{piece_at, IsWithin}
+use Rattle.sig_der.specs.Places.{piece_at}
 use Rattle.sig_x509.specs.declared.span.Span.{Span}
 use Rattle.sig_x509.specs.declared.parts.Head.{Head as HeadPlaces}
 use Rattle.sig_x509.specs.declared.parts.Body.{Body as BodyPlaces}

@@ -1,5 +1,5 @@
 -- *Precertificate TBS*: RFC 6962 section 3.2. The signed part of the certificate without its lists of timestamps.
-use Rattle.std.specs.Prelude.{◌≡◌, ℕ, ◌^◌, ◌<◌, Bool, not, List, [], ◌++◌, length, filter, if◌then◌else◌}
+use Rattle.std.specs.Prelude.{ℕ, ◌^◌, ◌<◌, not, List, [], ◌++◌, length, filter, if◌then◌else◌}
 use Rattle.std.specs.Str.{bytes_eq}
 use Rattle.sig_der.specs.Element.{element}
 use Rattle.sig_der.specs.Joined.{joined}

@@ -1,7 +1,6 @@
 -- *Certificate profiles*: what a certificate may be, or the first cause against it.
-use Rattle.std.specs.Prelude.{◌≡◌, ℕ, List, [], ◌∷◌, length, Bool, true, false, Option, Some, None, option_map, Result, Ok, Err, ◌==◌, if◌then◌else◌}
+use Rattle.std.specs.Prelude.{List, [], ◌∷◌, Bool, true, false, Option, Some, None, option_map, Result, Ok, Err, ◌==◌, if◌then◌else◌}
 use Rattle.std.specs.Str.{bytes_eq}
-use Rattle.sig_der.specs.Taking.{◌>>=◌}
 use Rattle.sig_der.specs.declared.oid.TheConstants.{KEY_USAGE, EXTENDED_KEY_USAGE, BASIC_CONSTRAINTS, CODE_SIGNING}
 use Rattle.sig_x509.specs.declared.values.KeyUsage.{KeyUsage as Usage}
 use Rattle.sig_x509.specs.declared.values.BasicConstraints.{BasicConstraints as Constraints}
@@ -10,7 +9,6 @@ use Rattle.sig_x509.specs.declared.profile_error.CertificateValidationError.TheV
 use Rattle.sig_x509.specs.declared.profile_error.NotLeafErrorKind.TheVariants.{IsCA}
 use Rattle.sig_x509.specs.declared.profile_error.NotCAErrorKind.TheVariants.{NotCA as Neither, NotRootCA, Invalid}
 use Rattle.sig_x509.specs.declared.profile_error.ExtensionErrorKind.TheVariants.{Missing, NotCritical, BitUnset}
-use Rattle.sig_x509.specs.declared.profile_error.PartName.{PartName}
 use Rattle.sig_x509.specs.declared.profile_error.PartName.TheVariants.{BasicConstraints, KeyUsage, KeyUsageDigitalSignature, ExtendedKeyUsage, ExtendedKeyUsageDigitalSignature}
 use Rattle.sig_x509.specs.Certificate.{Extension, Cert}
 use Rattle.sig_x509.specs.Lookups.{with_oid}

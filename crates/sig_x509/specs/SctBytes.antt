@@ -1,11 +1,11 @@
 -- *SCT signed bytes*: RFC 6962 section 3.2, the text that the signature of a timestamp is over, for an entry of the type
 -- precert_entry; and what is said of a timestamp.
-use Rattle.std.specs.Prelude.{◌≡◌, ℕ, Bool, List, [], ◌∷◌, ◌++◌, length, Option, Result, Ok, Err, nat_lt, if◌then◌else◌}
+use Rattle.std.specs.Prelude.{ℕ, Bool, List, ◌∷◌, ◌++◌, length, Result, Ok, Err, nat_lt, if◌then◌else◌}
 use Rattle.sig_base.specs.Sha256.{sha256}
 use Rattle.sig_x509.specs.declared.signed.DigitallySigned.{DigitallySigned}
 use Rattle.sig_x509.specs.declared.keyring_error.KeyringError.{KeyringError}
 use Rattle.sig_x509.specs.declared.sct_error.SCTError.{SCTError}
-use Rattle.sig_x509.specs.declared.sct_error.SCTError.TheVariants.{Serialization, Verification, Parsing}
+use Rattle.sig_x509.specs.declared.sct_error.SCTError.TheVariants.{Serialization, Verification}
 use Rattle.sig_x509.specs.RingKey.{RingKey, point_at}
 use Rattle.sig_x509.specs.Keyring.{vouch}
 use Rattle.sig_x509.specs.Certificate.{Cert}

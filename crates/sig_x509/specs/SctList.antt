@@ -1,11 +1,11 @@
 -- *SCT list* and *SCT*: RFC 6962 sections 3.3 and 3.2. The relations build the texts from what they hold; the plain readers cut
 -- them. That they read exactly these texts is in proofs/SctLaws.
-use Rattle.std.specs.Prelude.{◌≡◌, ℕ, ◌^◌, ◌<◌, List, [], ◌∷◌, ◌++◌, length, Option, Some, None, if◌then◌else◌}
+use Rattle.std.specs.Prelude.{◌≡◌, ℕ, ◌^◌, ◌<◌, List, ◌∷◌, ◌++◌, length, Option, Some}
 use Rattle.std.specs.Int.{w64, to_be_bytes, from_be_bytes}
 use Rattle.sig_der.specs.Element.{IsElement}
 use Rattle.sig_der.specs.Joined.{AreJoined}
 use Rattle.sig_der.specs.Taking.{◌>>=◌, take_whole, many_at}
-use Rattle.sig_der.specs.KeyInfo.{is_empty, after_zero}
+use Rattle.sig_der.specs.KeyInfo.{after_zero}
 use Rattle.sig_x509.specs.Vectors.{vector, IsShort, bytes_at, vector_at, whole_vector}
 
 -- ---- what they are

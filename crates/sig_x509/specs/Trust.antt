@@ -1,5 +1,5 @@
 -- *Certificate profiles*: the four checks of a certificate that signed, and all of them in order.
-use Rattle.std.specs.Prelude.{◌≡◌, ℕ, ℤ, List, [], ◌∷◌, Bool, true, false, Option, Some, None, Result, Ok, Err, int_lt, is_some, if◌then◌else◌}
+use Rattle.std.specs.Prelude.{ℤ, List, [], ◌∷◌, Bool, false, Option, Some, None, Ok, Err, int_lt, is_some, if◌then◌else◌}
 use Rattle.sig_base.specs.declared.error.SigstoreError.{SigstoreError}
 use Rattle.sig_base.specs.declared.error.SigstoreError.TheVariants.{CertificateValidityError, CertificateExpiredBeforeSignaturesSubmittedToRekor, CertificateIssuedAfterSignaturesSubmittedToRekor, CertificateWithoutDigitalSignatureKeyUsage, CertificateWithoutCodeSigningKeyUsage, CertificateWithoutSubjectAlternativeName}
 use Rattle.sig_der.specs.declared.oid.TheConstants.{SUBJECT_ALTERNATIVE_NAME}

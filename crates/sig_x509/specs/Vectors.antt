@@ -1,5 +1,5 @@
 -- The presentation language of TLS, as far as timestamps need it: RFC 5246 section 4.
-use Rattle.std.specs.Prelude.{◌≡◌, ℕ, ◌+◌, ◌*◌, ◌/◌, ◌%◌, ◌<◌, List, [], ◌∷◌, ◌++◌, length, take, drop, Option, Some, None, nat_lt, if◌then◌else◌}
+use Rattle.std.specs.Prelude.{ℕ, ◌+◌, ◌*◌, ◌/◌, ◌%◌, ◌<◌, List, [], ◌∷◌, ◌++◌, length, take, drop, Option, Some, None, nat_lt, if◌then◌else◌}
 use Rattle.sig_der.specs.Taking.{◌>>=◌}
 use Rattle.sig_der.specs.KeyInfo.{is_empty}
 

@@ -3,13 +3,13 @@
 ghost use Rattle.std.specs.Prelude.{◌≡◌, ◌≤◌, ◌+◌, ℕ, pos, ◌≤ℤ◌, Some, length, slice_get, option_map, IfOk, IfErr};
 ghost use Rattle.sig_x509.specs.Answers.{Reads, IsRefusedOnlyWithout};
 ghost use Rattle.sig_x509.specs.Certificate.{Cert, IsCertificate};
-ghost use Rattle.sig_x509.specs.Lookups.{lent, with_oid, Finds};
+ghost use Rattle.sig_x509.specs.Lookups.{lent, with_oid, are_single, Finds};
 
 use crate::error::X509ReadError;
-use crate::extensions::ExtensionPlaces;
+use crate::listed::{Listed, listed_at};
 use crate::lookup::{ExtensionRef, Lookup, lend, look_up};
 use crate::parts::Places;
-use crate::reading::{dated_parts, extensions_at};
+use crate::reading::dated_parts;
 use crate::span::part;
 use std::alloc::Global;
 use std::marker::Model;
@@ -22,7 +22,7 @@ pub struct Certificate {
     places: Places,
     not_before: i64,
     not_after: i64,
-    extensions: Vec<ExtensionPlaces>,
+    extensions: Listed,
 }
 
 impl Model for Certificate {
@@ -33,17 +33,17 @@ impl Model for Certificate {
     ghost use Rattle.sig_x509.specs.Places.{placed_certificate};
     ghost use Rattle.sig_x509.specs.Held.{HoldsCertificate};
 
-    ghost view = { λ c. placed_certificate c.der.items c.places c.not_before c.not_after c.extensions.items };
+    ghost view = { λ c. placed_certificate c.der.items c.places c.not_before c.not_after c.extensions.places.items };
 
-    ghost invariant = { λ c. HoldsCertificate c.der.items c.places c.not_before c.not_after c.extensions.items };
+    ghost invariant = { λ c. HoldsCertificate c.der.items c.places c.not_before c.not_after c.extensions };
 }
 
 impl Certificate {
     /// The certificate that the bytes are: one SEQUENCE of the signed part, an algorithm and the bits of the signature, and
     /// nothing after it (RFC 5280 section 4.1).
     ///
-    /// `Der` exactly where the bytes are no certificate. `OutOfMemory` where the copy of the bytes or the list of the extensions
-    /// could not be made.
+    /// `Der` exactly where the bytes are no certificate. `OutOfMemory` where the copy of the bytes, the list of the extensions or,
+    /// for the time of this call, the set of their object identifiers could not be made.
     pub fn try_from_der(alloc: Global, der: &[u8]) -> Result<Certificate, X509ReadError>
         // What is answered is the certificate.
         ensures found { IfOk result (IsCertificate der.now) }
@@ -56,7 +56,7 @@ impl Certificate {
             return Err(X509ReadError::Der);
         };
         let list = dated.places.list;
-        match extensions_at(alloc, der, list.start, list.end) {
+        match listed_at(alloc, der, list.start, list.end) {
             Err(e) => Err(e),
             Ok(extensions) => Ok(Certificate {
                 der: Vec::from_slice(alloc, der)?,
@@ -171,14 +171,21 @@ impl Certificate {
     pub fn extension_count(&self) -> usize
         ensures { result ≡ length self.now.extensions }
     {
-        self.extensions.len()
+        self.extensions.places.len()
+    }
+
+    /// Whether no object identifier stands twice among the extensions.
+    pub(crate) fn are_single(&self) -> bool
+        ensures { result ≡ are_single self.now.extensions }
+    {
+        self.extensions.single
     }
 
     /// The extension at this place, counted from 0. None exactly where the place is not below the number of extensions.
     pub fn extension_at(&self, place: usize) -> Option<ExtensionRef<'_>>
         ensures { option_map lent result ≡ slice_get self.now.extensions place }
     {
-        match self.extensions.get(place) {
+        match self.extensions.places.get(place) {
             None => None,
             Some(places) => Some(lend(&self.der, places)),
         }
@@ -188,6 +195,6 @@ impl Certificate {
     pub fn extension(&self, oid: &[u8]) -> Lookup<'_>
         ensures { Finds (with_oid oid.now self.now.extensions) result }
     {
-        look_up(&self.der, &self.extensions, oid)
+        look_up(&self.der, &self.extensions.places, oid)
     }
 }

@@ -1,9 +1,10 @@
 //! `CertificateEmbeddedSCT`: the timestamp that a certificate carries (RFC 6962 section 3.3).
 
-ghost use Rattle.std.specs.Prelude.{◌≡◌, IfOk, Ok};
+ghost use Rattle.std.specs.Prelude.{◌≡◌, ◌↔◌, IfOk, IsSome, IsErrOf, Ok, Err, None};
 ghost use Rattle.sig_base.specs.Answers.{Answers};
 ghost use Rattle.sig_x509.specs.SctBytes.{signed_of};
-ghost use Rattle.sig_x509.specs.Timestamps.{only_one, sct_in, sct_of, sct_of_value};
+ghost use Rattle.sig_x509.specs.Answers.{ComesWhere};
+ghost use Rattle.sig_x509.specs.Timestamps.{LacksSct, HasBadSct, only_one, sct_in, sct_of, sct_of_value};
 ghost use Rattle.sig_der.specs.Taking.{many_at};
 ghost use Rattle.sig_x509.specs.Vectors.{vector_at};
 ghost use Rattle.sig_x509.specs.Embedded.{issuer_of, ready, IsEmbedded, IsEmbeddedUnder, IsSaidOf, IsSaidOfValue};
@@ -47,16 +48,16 @@ impl CertificateEmbeddedSCT {
         leaf: &Certificate,
         chain: &[Certificate],
     ) -> Result<CertificateEmbeddedSCT, SCTError>
-        ensures { IsEmbeddedUnder leaf.now (issuer_of chain.now) result }
+        // The one timestamp is answered, ready to be checked under the issuer's key.
+        ensures embedded { IsEmbeddedUnder leaf.now (issuer_of chain.now) result }
+        // The chain begins with no issuer.
+        ensures issuer { IsErrOf result (SCTError.Parsing CertificateErrorKind.IssuerMissing) ↔ (issuer_of chain.now ≡ None) }
+        // It begins with one, and not one extension lists timestamps, or it does not list exactly one.
+        ensures missing { ComesWhere SCTError.OutOfMemory result (Err (SCTError.Parsing CertificateErrorKind.LeafSCTMissing)) (IsSome (issuer_of chain.now) × LacksSct leaf.now) }
+        // It begins with one, and the one list of timestamps is malformed, or the only one in it.
+        ensures malformed { ComesWhere SCTError.OutOfMemory result (Err (SCTError.Parsing CertificateErrorKind.LeafSCTMalformed)) (IsSome (issuer_of chain.now) × HasBadSct leaf.now) }
     {
-        match find_issuer(chain) {
-            None => Err(SCTError::Parsing(CertificateErrorKind::IssuerMissing)),
-            Some(issuer) => CertificateEmbeddedSCT::new_with_verified_path(
-                alloc,
-                leaf,
-                issuer.spki(),
-            ),
-        }
+        embed_under(alloc, leaf, chain)
     }
 
     /// The timestamp of a certificate whose issuer has this key info (DER).
@@ -69,7 +70,12 @@ impl CertificateEmbeddedSCT {
         leaf: &Certificate,
         issuer_spki: &[u8],
     ) -> Result<CertificateEmbeddedSCT, SCTError>
-        ensures { IsEmbedded leaf.now issuer_spki.now result }
+        // The one timestamp is answered, ready to be checked under the issuer's key.
+        ensures embedded { IsEmbedded leaf.now issuer_spki.now result }
+        // Not one extension lists timestamps, or it does not list exactly one.
+        ensures missing { ComesWhere SCTError.OutOfMemory result (Err (SCTError.Parsing CertificateErrorKind.LeafSCTMissing)) (LacksSct leaf.now) }
+        // The one list of timestamps is malformed, or the only one in it.
+        ensures malformed { ComesWhere SCTError.OutOfMemory result (Err (SCTError.Parsing CertificateErrorKind.LeafSCTMalformed)) (HasBadSct leaf.now) }
     {
         embed(alloc, leaf, issuer_spki)
     }
@@ -92,6 +98,20 @@ impl DigitallySigned {
             log_id: signed.log_id,
             signature: signed.signature.copy(alloc)?,
         })
+    }
+}
+
+/// The timestamp of a certificate under the issuer that the chain begins with.
+fn embed_under(
+    alloc: Global,
+    leaf: &Certificate,
+    chain: &[Certificate],
+) -> Result<CertificateEmbeddedSCT, SCTError>
+    ensures { IsEmbeddedUnder leaf.now (issuer_of chain.now) result }
+{
+    match find_issuer(chain) {
+        None => Err(SCTError::Parsing(CertificateErrorKind::IssuerMissing)),
+        Some(issuer) => CertificateEmbeddedSCT::new_with_verified_path(alloc, leaf, issuer.spki()),
     }
 }
 

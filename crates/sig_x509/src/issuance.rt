@@ -4,7 +4,7 @@ ghost use Rattle.std.specs.Prelude.{◌≡◌};
 ghost use Rattle.sig_x509.specs.Lookups.{lent, with_oid};
 ghost use Rattle.sig_x509.specs.Profile.{constraints, code_signing};
 ghost use Rattle.sig_x509.specs.Trust.{may_sign_code};
-ghost use Rattle.sig_x509.specs.Issuance.{may_be_critical, is_understood, is_single, are_single, are_understood, is_unconstrained, is_fit, is_no_authority, is_profiled, is_signed, signs_code_at, is_issued};
+ghost use Rattle.sig_x509.specs.Issuance.{may_be_critical, is_understood, are_understood, is_unconstrained, is_fit, is_no_authority, is_profiled, is_signed, signs_code_at, is_issued};
 
 use crate::certificate::Certificate;
 use crate::lookup::{ExtensionRef, Lookup};
@@ -30,18 +30,6 @@ fn is_understood(extension: &ExtensionRef<'_>) -> bool
     !extension.critical || may_be_critical(extension.oid)
 }
 
-/// Whether no other extension of the certificate has the object identifier of this one.
-#[tactic(auto, using(crate::proofs::IssuanceLaws::single_absent, crate::proofs::IssuanceLaws::single_one, crate::proofs::IssuanceLaws::single_several))]
-fn is_single(certificate: &Certificate, extension: &ExtensionRef<'_>) -> bool
-    ensures { result ≡ is_single certificate.now.extensions (lent extension.now) }
-{
-    match certificate.extension(extension.oid) {
-        Lookup::Absent => true,
-        Lookup::One(_) => true,
-        Lookup::Several => false,
-    }
-}
-
 /// Whether each critical extension is one that may be critical.
 fn are_understood(certificate: &Certificate) -> bool
     ensures { result ≡ are_understood certificate.now.extensions }
@@ -51,23 +39,6 @@ fn are_understood(certificate: &Certificate) -> bool
             None => {}
             Some(extension) => {
                 if !is_understood(&extension) {
-                    return false;
-                }
-            }
-        }
-    }
-    true
-}
-
-/// Whether no object identifier stands twice. It looks each one up among all: the time is quadratic, and no memory is taken.
-fn are_single(certificate: &Certificate) -> bool
-    ensures { result ≡ are_single certificate.now.extensions }
-{
-    for place in 0..certificate.extension_count() {
-        match certificate.extension_at(place) {
-            None => {}
-            Some(extension) => {
-                if !is_single(certificate, &extension) {
                     return false;
                 }
             }
@@ -95,7 +66,7 @@ fn is_fit(certificate: &Certificate) -> bool
         && certificate.inner_algorithm() == certificate.algorithm()
         && is_unconstrained(certificate)
         && are_understood(certificate)
-        && are_single(certificate)
+        && certificate.are_single()
 }
 
 fn is_no_authority(certificate: &Certificate) -> bool

@@ -12,6 +12,7 @@ mod issuer;
 mod key;
 mod keyring;
 mod keyring_error;
+mod listed;
 mod lookup;
 pub mod name_laws;
 mod names;

@@ -1,9 +1,11 @@
 //! `CertificatePool`: the anchors that may have issued a certificate.
 
-ghost use Rattle.std.specs.Prelude.{◌≡◌, ℕ, Err, option_map, slice_get, position, MatchOption, IfOk, IfErr};
+ghost use Rattle.std.specs.Prelude.{◌≡◌, ◌↔◌, ℕ, Ok, Err, option_map, slice_get, position, MatchOption, IfOk, IfErr, IsErrOf};
 ghost use Rattle.sig_base.specs.Answers.{Answers};
+ghost use Rattle.sig_x509.specs.Answers.{ComesWhere};
 ghost use Rattle.sig_x509.specs.Certificate.{Cert, IsCertificate};
 ghost use Rattle.sig_x509.specs.Issuance.{is_issued, issuer_of, IsAnchor, IsNoAnchor, AreAnchors, IsPoolRefusal};
+ghost use Rattle.sig_x509.specs.Issued.{HasProfile, IsFirstIssuer, IsIssuedByNone, HasNoProfile, IsIssuedText, IsUnissuedText, IsJudgedText};
 
 use crate::certificate::Certificate;
 use crate::error::X509ReadError;
@@ -90,6 +92,24 @@ impl CertificatePool {
             .position(|anchor| is_issued(leaf, time, anchor, checker))
     }
 
+    /// The place of the first anchor that issued the leaf, or why there is none.
+    fn judge<C: SignatureChecker>(
+        &self,
+        leaf: &Certificate,
+        time: i64,
+        checker: &C,
+    ) -> Result<usize, PoolError>
+        ensures { result ≡ issuer_of (C.cert_accepts checker.now) self.now leaf.now time }
+    {
+        if !is_profiled(leaf) {
+            return Err(PoolError::Malformed);
+        }
+        match self.first_issuer(leaf, time, checker) {
+            Some(place) => Ok(place),
+            None => Err(PoolError::VerificationFailed),
+        }
+    }
+
     /// The place of the first anchor that issued the leaf, which signs code at the time, in seconds since 1970 (RFC 5280 section
     /// 6.1). It takes no memory, and asks the checker only of anchors whose name is that of the leaf's issuer.
     ///
@@ -103,14 +123,32 @@ impl CertificatePool {
         verification_time: i64,
         checker: &C,
     ) -> Result<usize, PoolError>
-        ensures { result ≡ issuer_of (C.cert_accepts checker.now) self.now leaf.now verification_time }
+        // A place is answered exactly where the leaf has the profile, the anchor there issued it, and none before it did.
+        ensures issued { (place : ℕ) → (result ≡ Ok place) ↔ (HasProfile leaf.now × IsFirstIssuer (C.cert_accepts checker.now) leaf.now verification_time self.now place) }
+        // `Malformed` is answered exactly where it has not the profile.
+        ensures malformed { IsErrOf result PoolError.Malformed ↔ (HasProfile leaf.now → ⊥) }
+        // `VerificationFailed` is answered exactly where it has the profile, and no anchor issued it.
+        ensures none { IsErrOf result PoolError.VerificationFailed ↔ (HasProfile leaf.now × IsIssuedByNone (C.cert_accepts checker.now) leaf.now verification_time self.now) }
+        // The same in one equation.
+        ensures exact { result ≡ issuer_of (C.cert_accepts checker.now) self.now leaf.now verification_time }
     {
-        if !is_profiled(leaf) {
-            return Err(PoolError::Malformed);
-        }
-        match self.first_issuer(leaf, verification_time, checker) {
-            Some(place) => Ok(place),
-            None => Err(PoolError::VerificationFailed),
+        self.judge(leaf, verification_time, checker)
+    }
+
+    /// The answer for the certificate that the bytes are.
+    fn judge_der<C: SignatureChecker>(
+        &self,
+        alloc: Global,
+        der: &[u8],
+        time: i64,
+        checker: &C,
+    ) -> Result<usize, PoolError>
+        ensures { IsJudgedText (C.cert_accepts checker.now) der.now time self.now result }
+    {
+        match Certificate::try_from_der(alloc, der) {
+            Ok(leaf) => self.judge(&leaf, time, checker),
+            Err(X509ReadError::Der) => Err(PoolError::Malformed),
+            Err(X509ReadError::OutOfMemory) => Err(PoolError::OutOfMemory),
         }
     }
 
@@ -124,16 +162,19 @@ impl CertificatePool {
         verification_time: i64,
         checker: &C,
     ) -> Result<usize, PoolError>
+        // A place is answered exactly where the bytes are a certificate with the profile, the anchor there issued it, and none
+        // before it did, unless memory ran out.
+        ensures issued { (place : ℕ) → ComesWhere PoolError.OutOfMemory result (Ok place) (IsIssuedText (C.cert_accepts checker.now) der.now verification_time self.now place) }
+        // `Malformed` is answered exactly where the bytes are no certificate with the profile, unless memory ran out.
+        ensures malformed { ComesWhere PoolError.OutOfMemory result (Err PoolError.Malformed) (HasNoProfile der.now) }
+        // `VerificationFailed` is answered exactly where they are one, and no anchor issued it, unless memory ran out.
+        ensures failed { ComesWhere PoolError.OutOfMemory result (Err PoolError.VerificationFailed) (IsUnissuedText (C.cert_accepts checker.now) der.now verification_time self.now) }
         // Of a certificate, the answer is that of its record.
         ensures certificate { (c : Cert) → IsCertificate der.now c → Answers PoolError.OutOfMemory (λ place. place) result (issuer_of (C.cert_accepts checker.now) self.now c verification_time) }
         // Bytes that are no certificate are malformed.
         ensures none { ((c : Cert) → IsCertificate der.now c → ⊥) → Answers PoolError.OutOfMemory (λ (place : ℕ). place) result (Err PoolError.Malformed) }
     {
-        match Certificate::try_from_der(alloc, der) {
-            Ok(leaf) => self.verify_cert_with_time(&leaf, verification_time, checker),
-            Err(X509ReadError::Der) => Err(PoolError::Malformed),
-            Err(X509ReadError::OutOfMemory) => Err(PoolError::OutOfMemory),
-        }
+        self.judge_der(alloc, der, verification_time, checker)
     }
 
     /// The key info (DER) of the anchor at this place, counted from 0. None exactly where the place is not below the number of

@@ -1,4 +1,4 @@
-use Rattle.std.proofs.Common.{rules, ◌≡◌, ◌<◌, ap, sym, length, ◌∙◌, arith}
+use Rattle.std.proofs.Common.{rules, ◌<◌, sym, length, arith}
 use Rattle.sig_x509.specs.Issuance.{is_understood}
 use Rattle.sig_x509.proofs.IssuanceLaws.{all_more, all_fails, within_list}
 use Rattle.sig_x509.proofs.issuance.are_understood.Goals as goal

@@ -1,4 +1,3 @@
-use Rattle.std.proofs.Common.{rules}
 use Rattle.sig_x509.proofs.IssuanceLaws.{no_anchor, der_only}
 use Rattle.sig_x509.proofs.pool.read_anchor.Goals as goal
 

@@ -1,5 +1,5 @@
 -- One turn of the loop over the extensions.
-use Rattle.std.proofs.Common.{ℕ, ◌<◌, length, sym, arith}
+use Rattle.std.proofs.Common.{◌<◌, length, sym, arith}
 use Rattle.sig_x509.specs.Lookups.{lent}
 use Rattle.sig_x509.proofs.PrecertLaws.{kept_more, place_within}
 use Rattle.sig_x509.proofs.precert.kept_extensions.Goals as goal

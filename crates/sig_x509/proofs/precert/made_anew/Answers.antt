@@ -1,7 +1,6 @@
 -- The lengths of the three elements have a spelling.
-use Rattle.std.proofs.Common.{◌≡◌, ℕ, ◌^◌, ◌<◌, List, ◌++◌, length, sym, ap, subst, ◌∙◌}
+use Rattle.std.proofs.Common.{ℕ, ◌^◌, ◌<◌, List, ◌++◌, length, sym, ap, subst, ◌∙◌}
 use Rattle.sig_der.specs.Element.{element}
-use Rattle.sig_x509.specs.Precert.{texts_of, kept_extensions, extensions_element}
 use Rattle.sig_x509.proofs.precert.made_anew.Goals as goal
 
 pub write_short-requires-clause-short : goal.write_short-requires-clause-short

@@ -1,4 +1,4 @@
-use Rattle.std.proofs.Common.{rules, ◌≡◌, ℤ, Option, Some, None, refl, sym, ap, subst, ◌∙◌}
+use Rattle.std.proofs.Common.{rules, sym, subst, ◌∙◌}
 use Rattle.sig_der.specs.DerTime.{IsTimeOf}
 use Rattle.sig_der.proofs.Takings.{some_is}
 use Rattle.sig_x509.specs.Cutting.{Parts}

@@ -1,11 +1,9 @@
-use Rattle.std.proofs.Common.{◌≡◌, List, ◌∷◌, ◌++◌, [], map, length, refl, sym, ap, ◌∙◌, arith}
+use Rattle.std.proofs.Common.{◌∷◌, [], map, ◌∙◌, arith}
 use Rattle.std.specs.Prelude.{slice_range}
 use Rattle.std.proofs.lemmas.List.{map-append}
 use Rattle.std.proofs.lemmas.List.Elements.{All-push}
-use Rattle.sig_der.specs.Taking.{many_at}
-use Rattle.sig_der.proofs.Many.{with_front, goes_on, ends_list, fails_list}
+use Rattle.sig_der.proofs.Many.{goes_on, ends_list, fails_list}
 use Rattle.sig_der.proofs.Ranges.{part-none, part-some}
-use Rattle.sig_x509.specs.Certificate.{Extension}
 use Rattle.sig_x509.specs.Cutting.{extension_at}
 use Rattle.sig_x509.specs.Places.{extension_of, placed_extension, AreSpans}
 use Rattle.sig_x509.proofs.ExtensionLaws.{extension_at_shrinks}

@@ -1,6 +1,4 @@
-use Rattle.std.proofs.Common.{rules, ◌≡◌, ℤ, Result, Ok, Err, Some, None, sym, ap, ◌∙◌}
-use Rattle.sig_base.specs.declared.fault.DerError.{DerError}
-use Rattle.sig_der.specs.DerTime.{IsTimeOf}
+use Rattle.std.proofs.Common.{rules}
 use Rattle.sig_der.proofs.Steps.{ok_is}
 use Rattle.sig_x509.proofs.seconds.second_at.Goals as goal
 

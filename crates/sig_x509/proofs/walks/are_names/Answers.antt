@@ -1,4 +1,4 @@
-use Rattle.std.proofs.Common.{◌≡◌, List, ℕ, Option, sym, ap, ◌∙◌, arith}
+use Rattle.std.proofs.Common.{List, ℕ, Option, sym, ap, ◌∙◌, arith}
 use Rattle.std.specs.Prelude.{slice_range, is_some}
 use Rattle.sig_der.specs.Taking.{many_at}
 use Rattle.sig_der.proofs.Many.{many_at_none, many_at_stops}

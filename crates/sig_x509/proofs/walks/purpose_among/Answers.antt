@@ -1,8 +1,7 @@
-use Rattle.std.proofs.Common.{◌≡◌, List, ℕ, Bool, Option, sym, ap, ◌∙◌, arith}
+use Rattle.std.proofs.Common.{List, ℕ, Option, sym, ap, ◌∙◌, arith}
 use Rattle.std.specs.Prelude.{slice_range}
 use Rattle.std.specs.Str.{bytes_eq}
-use Rattle.sig_der.specs.Taking.{many_at}
-use Rattle.sig_der.proofs.Many.{many_at_none, many_at_stops}
+use Rattle.sig_der.proofs.Many.{many_at_stops}
 use Rattle.sig_der.proofs.Ranges.{part-none, part-some}
 use Rattle.sig_x509.specs.Places.{placed_front}
 use Rattle.sig_x509.specs.Values.{oid_at}

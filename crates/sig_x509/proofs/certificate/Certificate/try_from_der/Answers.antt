@@ -1,17 +1,18 @@
-use Rattle.std.proofs.Common.{rules, w64, ◌≡◌, List, ℕ, ℤ, map, length, Option, Some, None, Result, Ok, Err, sym, ap, subst, ◌∙◌, arith}
+use Rattle.std.proofs.Common.{rules, ◌≡◌, List, ℕ, ℤ, map, length, Some, sym, ap, subst, arith}
 use Rattle.sig_der.proofs.Bytes.{IsBytes}
 use Rattle.sig_x509.specs.declared.error.X509ReadError.{X509ReadError}
 use Rattle.sig_x509.specs.declared.error.X509ReadError.TheVariants.{Der, OutOfMemory}
 use Rattle.sig_x509.specs.Answers.{Refuses, IsRefusedOnlyWithout}
-use Rattle.sig_x509.specs.Certificate.{Extension, Cert, IsCertificate}
+use Rattle.sig_x509.specs.Certificate.{Cert, IsCertificate}
 use Rattle.sig_x509.specs.declared.parts.Places.{Places}
 use Rattle.sig_x509.specs.declared.extensions.ExtensionPlaces.{ExtensionPlaces}
 use Rattle.std.specs.List.{All}
 use Rattle.sig_der.specs.Taking.{many_at}
 use Rattle.sig_der.proofs.Takings.{some}
 use Rattle.sig_x509.specs.Places.{parts_of, extension_of, placed_certificate, ArePlaces, AreSpans}
-use Rattle.sig_x509.specs.Held.{HoldsCertificate}
-use Rattle.sig_x509.specs.Cutting.{Parts, certificate_of, extension_at, IsCut}
+use Rattle.sig_x509.specs.declared.listed.Listed.{Listed}
+use Rattle.sig_x509.specs.Held.{HoldsCertificate, IsRecorded}
+use Rattle.sig_x509.specs.Cutting.{Parts, extension_at, IsCut}
 use Rattle.sig_x509.proofs.CertificateLaws.{certificate_takes}
 use Rattle.sig_x509.proofs.Readings.{no_parts, no_list, read_is, all_wider, IsCutAs}
 use Rattle.sig_x509.proofs.certificate.Certificate.try_from_der.Goals as goal
@@ -56,32 +57,34 @@ read_only : (text : List ℕ) (p : Places) (a b x y : ℤ) (es : List ExtensionP
 read_only text p a b x y es items e f g cut read c is =
     rw (e, f, g) (read_is text (parts_of text p) a b (map (extension_of text) es) cut read c is)
 
-holds : (text : List ℕ) (p : Places) (a b : ℤ) (es : List ExtensionPlaces) (items : List ℕ) → items ≡ text
-    → ArePlaces (length text) p → All (AreSpans p.list.end) es → IsCertificate text (placed_certificate items p a b es)
-    → HoldsCertificate items p a b es
-holds text p a b es items e within each is =
+holds : (text : List ℕ) (p : Places) (a b : ℤ) (l : Listed) (items : List ℕ) → items ≡ text
+    → ArePlaces (length text) p → All (AreSpans p.list.end) l.places.items → IsCertificate text (placed_certificate items p a b l.places.items)
+    → IsRecorded text l → HoldsCertificate items p a b l
+holds text p a b l items e within each is recorded =
     record {
       within = subst (λ (w : List ℕ). ArePlaces (length w) p) (sym e) within;
-      each_within = all_wider p.list.end (length items) es (rw e within.list.below) each;
-      is = subst (λ (w : List ℕ). IsCertificate w (placed_certificate items p a b es)) (sym e) is;
+      each_within = all_wider p.list.end (length items) l.places.items (rw e within.list.below) each;
+      is = subst (λ (w : List ℕ). IsCertificate w (placed_certificate items p a b l.places.items)) (sym e) is;
+      recorded = subst (λ (w : List ℕ). IsRecorded w l) (sym e) recorded;
     }
 
 pub returns-in_ok-from_slice-in-Ok-clause-found : goal.returns-in_ok-from_slice-in-Ok-clause-found
 returns-in_ok-from_slice-in-Ok-clause-found c =
     let d = c.in-Some.dated in
-    is_read c.args.der.now d.places d.not_before d.not_after _ _ c.in-Ok.extensions.items c.in_ok-from_slice-in-Ok.field-0.items
+    is_read c.args.der.now d.places d.not_before d.not_after _ _ c.in-Ok.extensions.places.items c.in_ok-from_slice-in-Ok.field-0.items
     (λ i. omega (arith, c.type_inv.der i)) c.in_ok-from_slice-in-Ok.ensures.items (search rules) (search rules) c.in-Some.ensures.found c.in-Ok.ensures.exact
 
 pub invariant_of-result : goal.invariant_of-result
 invariant_of-result c =
     let d = c.in-Some.dated in
-    holds c.args.der.now d.places _ _ c.in-Ok.extensions.items c.in_ok-from_slice-in-Ok.field-0.items c.in_ok-from_slice-in-Ok.ensures.items
+    holds c.args.der.now d.places _ _ c.in-Ok.extensions c.in_ok-from_slice-in-Ok.field-0.items c.in_ok-from_slice-in-Ok.ensures.items
     c.in-Some.ensures.within c.in-Ok.ensures.within
-    (is_read c.args.der.now d.places d.not_before d.not_after _ _ c.in-Ok.extensions.items c.in_ok-from_slice-in-Ok.field-0.items
+    (is_read c.args.der.now d.places d.not_before d.not_after _ _ c.in-Ok.extensions.places.items c.in_ok-from_slice-in-Ok.field-0.items
     (λ i. omega (arith, c.type_inv.der i)) c.in_ok-from_slice-in-Ok.ensures.items (search rules) (search rules) c.in-Some.ensures.found c.in-Ok.ensures.exact)
+    c.in-Ok.ensures.recorded
 
 pub returns-in_ok-from_slice-in-Ok-clause-only : goal.returns-in_ok-from_slice-in-Ok-clause-only
 returns-in_ok-from_slice-in-Ok-clause-only c = λ r is.
     let d = c.in-Some.dated in
-    ap (λ (w : Cert). some w) (read_only c.args.der.now d.places d.not_before d.not_after _ _ c.in-Ok.extensions.items c.in_ok-from_slice-in-Ok.field-0.items
+    ap (λ (w : Cert). some w) (read_only c.args.der.now d.places d.not_before d.not_after _ _ c.in-Ok.extensions.places.items c.in_ok-from_slice-in-Ok.field-0.items
     c.in_ok-from_slice-in-Ok.ensures.items (search rules) (search rules) c.in-Some.ensures.only c.in-Ok.ensures.exact r is)

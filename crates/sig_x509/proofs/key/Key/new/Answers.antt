@@ -1,12 +1,10 @@
 -- What is read of a key is what the relations say of it.
-use Rattle.std.proofs.Common.{◌≡◌, ℕ, List, Result, Ok, Err, arith, sym, subst, ◌∙◌}
+use Rattle.std.proofs.Common.{ℕ, List, Result, arith, subst}
 use Rattle.sig_base.specs.Answers.{Answers}
 use Rattle.sig_x509.specs.RingKey.{RingKey}
 use Rattle.sig_x509.specs.declared.keyring_error.KeyringError.{KeyringError}
 use Rattle.sig_x509.specs.declared.keyring_error.KeyringError.TheVariants.{OutOfMemory}
-use Rattle.sig_x509.specs.Keyring.{IsRingKey, point_of}
-use Rattle.sig_der.proofs.Bytes.{IsBytes}
-use Rattle.sig_x509.proofs.KeyLaws.{point_of_takes, point_of_known, point_of_none, found_key}
+use Rattle.sig_x509.proofs.KeyLaws.{point_of_known, point_of_none, found_key}
 use Rattle.sig_x509.proofs.key.Key.new.Goals as goal
 
 pub returns-clause-found : goal.returns-clause-found

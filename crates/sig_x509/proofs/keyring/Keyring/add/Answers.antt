@@ -1,5 +1,5 @@
 -- The tree's look-ups after the key was put in.
-use Rattle.std.proofs.Common.{ℕ, List, Option, ap, ◌∙◌}
+use Rattle.std.proofs.Common.{ℕ, List, ap, ◌∙◌}
 use Rattle.std.specs.Option.{option_or}
 use Rattle.sig_x509.specs.RingKey.{RingKey, point_at}
 use Rattle.sig_x509.specs.Keyring.{point_if}

@@ -1,5 +1,5 @@
 -- The tree's answer is that of its entries.
-use Rattle.std.proofs.Common.{ℕ, List, Option, ap, ◌∙◌}
+use Rattle.std.proofs.Common.{ℕ, List, ap, ◌∙◌}
 use Rattle.sig_x509.specs.RingKey.{RingKey, point_at}
 use Rattle.sig_x509.proofs.KeyringLaws.{lent_is}
 use Rattle.sig_x509.proofs.keyring.Keyring.key.Goals as goal

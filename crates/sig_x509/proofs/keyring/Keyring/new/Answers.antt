@@ -1,7 +1,6 @@
 -- The ring of the key infos so far, and of one more.
 use Rattle.std.proofs.Common.{ℕ, ◌<◌, List, length, ap, sym, ◌∙◌, arith}
 use Rattle.sig_x509.specs.RingKey.{RingKey, point_at}
-use Rattle.sig_x509.specs.Keyring.{key_of}
 use Rattle.sig_x509.proofs.KeyringLaws.{key_of_none, key_of_more, within_list}
 use Rattle.sig_x509.proofs.keyring.Keyring.new.Goals as goal
 use Rattle.sig_x509.proofs.keyring.Keyring.new.Goals.{in-Some+in_ok-add-in-Some, in-None}

@@ -1,4 +1,4 @@
-use Rattle.std.proofs.Common.{◌≡◌, ℕ, ◌-◌, ◌≤◌, map}
+use Rattle.std.proofs.Common.{◌≡◌, ◌-◌, ◌≤◌, map}
 use Rattle.std.specs.Prelude.{slice_range, option_map}
 use Rattle.std.specs.List.{filter_map}
 use Rattle.sig_der.specs.Taking.{many_at}

@@ -1,4 +1,4 @@
-use Rattle.std.proofs.Common.{◌≡◌, List, [], ◌∷◌, ◌++◌, sym, ap, ◌∙◌, arith}
+use Rattle.std.proofs.Common.{List, [], ◌∷◌, ◌++◌, sym, ap, ◌∙◌, arith}
 use Rattle.sig_x509.specs.Failures.{failures}
 use Rattle.sig_x509.specs.declared.policy.failure.PolicyError.{PolicyError}
 use Rattle.sig_x509.specs.declared.policy.failure.PolicyErrors.{PolicyErrors}

@@ -1,4 +1,4 @@
-use Rattle.std.proofs.Common.{◌≡◌, ◌<◌, length, sym, ◌∙◌, arith}
+use Rattle.std.proofs.Common.{◌<◌, length, sym, ◌∙◌, arith}
 use Rattle.sig_x509.proofs.IssuanceLaws.{anchors_more, is_anchor, within_list, pushed}
 use Rattle.sig_x509.proofs.pool.CertificatePool.from_certificates.Goals as goal
 use Rattle.sig_x509.proofs.pool.CertificatePool.from_certificates.Goals.{in-None, in-Some+in-Ok-Some+else-is_err}

@@ -1,14 +1,27 @@
-use Rattle.std.proofs.Common.{rules, Some, None}
+-- The answer of the definition is what the relations say.
 use Rattle.std.proofs.Math.Facts.{to_z-of_z}
-use Rattle.sig_x509.proofs.IssuanceLaws.{judged}
+use Rattle.sig_x509.proofs.IssuedLaws.{at_time, answers_issued, answers_malformed, answers_none}
 use Rattle.sig_x509.proofs.pool.CertificatePool.verify_cert_with_time.Goals as goal
 
-pub returns-in-Some : goal.returns-in-Some
-returns-in-Some g c =
-    judged (g.C.SignatureChecker.cert_accepts c.args.checker.now) c.args.self.now c.args.leaf.now c.args.verification_time _ c.is_profiled.result (Some c.in-Some.place)
-    (to_z-of_z c.ranges.verification_time) (search rules) c.is_profiled.ensures c.in-Some.ensures
+pub returns-clause-issued : goal.returns-clause-issued
+returns-clause-issued g c = λ place.
+    let accepts = g.C.SignatureChecker.cert_accepts c.args.checker.now in
+    answers_issued accepts c.args.self.now c.args.leaf.now c.args.verification_time c.judge.result
+    (at_time accepts c.args.self.now c.args.leaf.now c.args.verification_time _ c.judge.result (to_z-of_z c.ranges.verification_time) c.judge.ensures) place
 
-pub returns-in-None : goal.returns-in-None
-returns-in-None g c =
-    judged (g.C.SignatureChecker.cert_accepts c.args.checker.now) c.args.self.now c.args.leaf.now c.args.verification_time _ c.is_profiled.result None
-    (to_z-of_z c.ranges.verification_time) (search rules) c.is_profiled.ensures c.in-None.ensures
+pub returns-clause-malformed : goal.returns-clause-malformed
+returns-clause-malformed g c =
+    let accepts = g.C.SignatureChecker.cert_accepts c.args.checker.now in
+    answers_malformed accepts c.args.self.now c.args.leaf.now c.args.verification_time c.judge.result
+    (at_time accepts c.args.self.now c.args.leaf.now c.args.verification_time _ c.judge.result (to_z-of_z c.ranges.verification_time) c.judge.ensures)
+
+pub returns-clause-none : goal.returns-clause-none
+returns-clause-none g c =
+    let accepts = g.C.SignatureChecker.cert_accepts c.args.checker.now in
+    answers_none accepts c.args.self.now c.args.leaf.now c.args.verification_time c.judge.result
+    (at_time accepts c.args.self.now c.args.leaf.now c.args.verification_time _ c.judge.result (to_z-of_z c.ranges.verification_time) c.judge.ensures)
+
+pub returns-clause-exact : goal.returns-clause-exact
+returns-clause-exact g c =
+    at_time (g.C.SignatureChecker.cert_accepts c.args.checker.now) c.args.self.now c.args.leaf.now c.args.verification_time _ c.judge.result
+    (to_z-of_z c.ranges.verification_time) c.judge.ensures

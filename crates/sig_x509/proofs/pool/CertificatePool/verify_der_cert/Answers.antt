@@ -1,15 +1,36 @@
+-- The answer of the one certificate of the text is what the relations say.
+use Rattle.std.proofs.Common.{ℤ, subst}
 use Rattle.std.proofs.Math.Facts.{to_z-of_z}
-use Rattle.sig_x509.proofs.IssuanceLaws.{answered, der_only}
+use Rattle.sig_x509.specs.Issued.{IsJudgedText}
+use Rattle.sig_x509.proofs.IssuedLaws.{text_issued, text_malformed, text_unissued, text_certificate, text_none}
 use Rattle.sig_x509.proofs.pool.CertificatePool.verify_der_cert.Goals as goal
 
-pub returns-in-Ok-clause-certificate : goal.returns-in-Ok-clause-certificate
-returns-in-Ok-clause-certificate g c = λ d is.
-    answered (g.C.SignatureChecker.cert_accepts c.args.checker.now) c.args.self.now c.args.verification_time _ c.in-Ok.leaf d c.verify_cert_with_time.result
-    (to_z-of_z c.ranges.verification_time) (c.in-Ok.ensures.only d is) c.verify_cert_with_time.ensures
+pub returns-clause-issued : goal.returns-clause-issued
+returns-clause-issued g c =
+    let accepts = g.C.SignatureChecker.cert_accepts c.args.checker.now in
+    text_issued accepts c.args.der.now c.args.verification_time c.args.self.now c.judge_der.result
+    (subst (λ (t : ℤ). IsJudgedText accepts c.args.der.now t c.args.self.now c.judge_der.result) (to_z-of_z c.ranges.verification_time) c.judge_der.ensures)
 
-pub returns-in-Ok-clause-none : goal.returns-in-Ok-clause-none
-returns-in-Ok-clause-none g c = λ none. absurd (none c.in-Ok.leaf c.in-Ok.ensures.found)
+pub returns-clause-malformed : goal.returns-clause-malformed
+returns-clause-malformed g c =
+    let accepts = g.C.SignatureChecker.cert_accepts c.args.checker.now in
+    text_malformed accepts c.args.der.now c.args.verification_time c.args.self.now c.judge_der.result
+    (subst (λ (t : ℤ). IsJudgedText accepts c.args.der.now t c.args.self.now c.judge_der.result) (to_z-of_z c.ranges.verification_time) c.judge_der.ensures)
 
-pub returns-in-Err-Der-clause-certificate : goal.returns-in-Err-Der-clause-certificate
-returns-in-Err-Der-clause-certificate g c = λ d is.
-    absurd (der_only c.args.der.now c.in-Err-Der.field-0 c.in-Err-Der.field-0-is c.in-Err-Der.ensures.refused d is)
+pub returns-clause-failed : goal.returns-clause-failed
+returns-clause-failed g c =
+    let accepts = g.C.SignatureChecker.cert_accepts c.args.checker.now in
+    text_unissued accepts c.args.der.now c.args.verification_time c.args.self.now c.judge_der.result
+    (subst (λ (t : ℤ). IsJudgedText accepts c.args.der.now t c.args.self.now c.judge_der.result) (to_z-of_z c.ranges.verification_time) c.judge_der.ensures)
+
+pub returns-clause-certificate : goal.returns-clause-certificate
+returns-clause-certificate g c =
+    let accepts = g.C.SignatureChecker.cert_accepts c.args.checker.now in
+    text_certificate accepts c.args.der.now c.args.verification_time c.args.self.now c.judge_der.result
+    (subst (λ (t : ℤ). IsJudgedText accepts c.args.der.now t c.args.self.now c.judge_der.result) (to_z-of_z c.ranges.verification_time) c.judge_der.ensures)
+
+pub returns-clause-none : goal.returns-clause-none
+returns-clause-none g c =
+    let accepts = g.C.SignatureChecker.cert_accepts c.args.checker.now in
+    text_none accepts c.args.der.now c.args.verification_time c.args.self.now c.judge_der.result
+    (subst (λ (t : ℤ). IsJudgedText accepts c.args.der.now t c.args.self.now c.judge_der.result) (to_z-of_z c.ranges.verification_time) c.judge_der.ensures)

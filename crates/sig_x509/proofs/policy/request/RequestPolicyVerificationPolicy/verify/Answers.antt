@@ -1,4 +1,4 @@
-use Rattle.std.proofs.Common.{◌≡◌, List, length, subst}
+use Rattle.std.proofs.Common.{List, length, subst}
 use Rattle.std.specs.List.{filter_map}
 use Rattle.sig_x509.specs.Failures.{IsAllOf}
 use Rattle.sig_x509.specs.Requests.{refused, all_hold}

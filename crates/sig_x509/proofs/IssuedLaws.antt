@@ -1,0 +1,345 @@
+-- What is computed of a certificate that may be issued, and of its issuer, is what the relations say.
+use Rattle.std.proofs.Common.{◌≡◌, ◌⊎◌, ltb, ℕ, ◌<◌, ◌≤◌, Bool, true, false, ◌||◌, not, cond, List, [], ◌∷◌, length, get_or, ℤ, ◌≤ℤ◌, Option, Some, None, Result, Ok, Err, inl, inr, refl, sym, ap, subst, ◌∙◌, arith}
+use Rattle.std.specs.Prelude.{◌↔◌, T, bytes_eq, position, int_le, ◌==◌}
+use Rattle.std.specs.List.{AllByRecursion, position_or_len}
+use Rattle.std.proofs.lemmas.Bool.{and_parts, and_from, or_cases, or_right, eqb-true, eq-eqb, ltb-false, cases_order, both_ways, not-true}
+use Rattle.std.proofs.lemmas.List.Quantifiers.{position-Some}
+use Rattle.std.proofs.lemmas.List.Sums.{prefix_len_passes}
+use Rattle.std.proofs.lemmas.Option.{slice_get_within, slice_get-get_or, get_or_from_slice_get}
+use Rattle.std.proofs.lemmas.Slice.Eq.{bytes_eq-Decides}
+use Rattle.sig_base.specs.Answers.{Answers}
+use Rattle.sig_base.specs.declared.fault.PoolError.{PoolError}
+use Rattle.sig_base.specs.declared.fault.PoolError.TheVariants.{Malformed, VerificationFailed, OutOfMemory}
+use Rattle.sig_der.specs.declared.oid.TheConstants.{KEY_USAGE, EXTENDED_KEY_USAGE, BASIC_CONSTRAINTS, SUBJECT_ALTERNATIVE_NAME, NAME_CONSTRAINTS}
+use Rattle.sig_x509.specs.declared.values.BasicConstraints.{BasicConstraints as Constraints}
+use Rattle.sig_x509.specs.Answers.{ComesWhere}
+use Rattle.sig_x509.specs.Certificate.{Extension, Cert, IsCertificate}
+use Rattle.sig_x509.specs.Lookups.{with_oid, oids}
+use Rattle.sig_x509.specs.Profile.{Held, constraints, code_signing}
+use Rattle.sig_x509.specs.Trust.{may_sign_code}
+use Rattle.sig_x509.specs.Issuance.{Accepts, may_be_critical, is_understood, are_understood, is_fit, is_no_authority, is_profiled, is_issued, placed, issuer_of}
+use Rattle.sig_x509.specs.Issued.{MayBeCritical, IsFit, HasProfile, IsIssuedBy, IsIssuedByNone, IsFirstIssuer, HasNoProfile, IsIssuedText, IsUnissuedText, IsJudgedText}
+use Rattle.sig_x509.proofs.DistinctLaws.{distinct_from, distinct_is}
+
+bytes_same : (xs ys : List ℕ) → bytes_eq xs ys ≡ true → xs ≡ ys
+bytes_same xs ys e = (bytes_eq-Decides xs ys).0 e
+
+same_bytes : (xs ys : List ℕ) → xs ≡ ys → bytes_eq xs ys ≡ true
+same_bytes xs ys e = (bytes_eq-Decides xs ys).1 e
+
+-- ---- extensions
+
+critical_from : (oid : List ℕ) → may_be_critical oid ≡ true → MayBeCritical oid
+critical_from oid is = first (or_cases _ _ is)
+  where
+    third : (bytes_eq oid BASIC_CONSTRAINTS.now ≡ true) ⊎ (bytes_eq oid EXTENDED_KEY_USAGE.now ≡ true) → MayBeCritical oid
+    third (inl e) = inr (inr (inl (bytes_same oid BASIC_CONSTRAINTS.now e)))
+    third (inr e) = inr (inr (inr (bytes_same oid EXTENDED_KEY_USAGE.now e)))
+
+    second : (bytes_eq oid SUBJECT_ALTERNATIVE_NAME.now ≡ true) ⊎ ((bytes_eq oid BASIC_CONSTRAINTS.now || bytes_eq oid EXTENDED_KEY_USAGE.now) ≡ true) → MayBeCritical oid
+    second (inl e) = inr (inl (bytes_same oid SUBJECT_ALTERNATIVE_NAME.now e))
+    second (inr e) = third (or_cases _ _ e)
+
+    first : (bytes_eq oid KEY_USAGE.now ≡ true) ⊎ ((bytes_eq oid SUBJECT_ALTERNATIVE_NAME.now || (bytes_eq oid BASIC_CONSTRAINTS.now || bytes_eq oid EXTENDED_KEY_USAGE.now)) ≡ true) → MayBeCritical oid
+    first (inl e) = inl (bytes_same oid KEY_USAGE.now e)
+    first (inr e) = second (or_cases _ _ e)
+
+critical_is : (oid : List ℕ) → MayBeCritical oid → may_be_critical oid ≡ true
+critical_is oid (inl e) = rw (same_bytes oid KEY_USAGE.now e) refl
+critical_is oid (inr (inl e)) = or_right (bytes_eq oid KEY_USAGE.now) _ (rw (same_bytes oid SUBJECT_ALTERNATIVE_NAME.now e) refl)
+critical_is oid (inr (inr (inl e))) =
+    or_right (bytes_eq oid KEY_USAGE.now) _
+    (or_right (bytes_eq oid SUBJECT_ALTERNATIVE_NAME.now) _ (rw (same_bytes oid BASIC_CONSTRAINTS.now e) refl))
+critical_is oid (inr (inr (inr e))) =
+    or_right (bytes_eq oid KEY_USAGE.now) _
+    (or_right (bytes_eq oid SUBJECT_ALTERNATIVE_NAME.now) _
+    (or_right (bytes_eq oid BASIC_CONSTRAINTS.now) (bytes_eq oid EXTENDED_KEY_USAGE.now) (same_bytes oid EXTENDED_KEY_USAGE.now e)))
+
+understood_one : (critical : Bool) (oid : List ℕ) → (not critical || may_be_critical oid) ≡ true → critical ≡ true → MayBeCritical oid
+understood_one true oid is e = critical_from oid is
+understood_one false oid is e = absurd cc
+
+one_understood : (critical : Bool) (oid : List ℕ) → (critical ≡ true → MayBeCritical oid) → (not critical || may_be_critical oid) ≡ true
+one_understood true oid is = critical_is oid (is refl)
+one_understood false oid is = refl
+
+understood_from : (es : List Extension) → are_understood es ≡ true → AllByRecursion (λ (e : Extension). e.critical ≡ true → MayBeCritical e.oid) es
+understood_from [] is = tt
+understood_from (e ∷ es) is =
+    let parts = and_parts (is_understood e) (are_understood es) is in (understood_one e.critical e.oid parts.0, understood_from es parts.1)
+
+understood_is : (es : List Extension) → AllByRecursion (λ (e : Extension). e.critical ≡ true → MayBeCritical e.oid) es → are_understood es ≡ true
+understood_is [] is = refl
+understood_is (e ∷ es) is = and_from (is_understood e) (are_understood es) (one_understood e.critical e.oid is.0) (understood_is es is.1)
+
+none_from : (es : List Extension) → (length es == 0) ≡ true → es ≡ []
+none_from [] is = refl
+none_from (e ∷ es) is = absurd (let no = eqb-true (length (e ∷ es)) 0 is in omega arith)
+
+-- ---- the profile
+
+pub fit_from : (c : Cert) → is_fit c ≡ true → IsFit c
+fit_from c is =
+    let a = and_parts _ _ is in
+    let b = and_parts _ _ a.1 in
+    let d = and_parts _ _ b.1 in
+    let e = and_parts _ _ d.1 in
+    record {
+      version = eqb-true c.version 3 a.0;
+      algorithms = bytes_same c.inner_algorithm c.algorithm b.0;
+      unconstrained = none_from (with_oid NAME_CONSTRAINTS.now c.extensions) d.0;
+      understood = understood_from c.extensions e.0;
+      single = distinct_from (oids c.extensions) e.1;
+    }
+
+pub fit_is : (c : Cert) → IsFit c → is_fit c ≡ true
+fit_is c is =
+    and_from _ _ (eq-eqb c.version 3 is.version)
+    (and_from _ _ (same_bytes c.inner_algorithm c.algorithm is.algorithms)
+    (and_from _ _ (ap (λ (es : List Extension). length es == 0) is.unconstrained)
+    (and_from _ _ (understood_is c.extensions is.understood) (distinct_is (oids c.extensions) is.single))))
+
+no_authority_from : (h : Held (Bool × Constraints)) → is_no_authority h ≡ true → (h ≡ Ok None) ⊎ ((b : Bool × Constraints) × (h ≡ Ok (Some b)) × (b.1.ca ≡ false))
+no_authority_from (Err e) is = absurd cc
+no_authority_from (Ok None) is = inl refl
+no_authority_from (Ok (Some b)) is = inr (b, refl, not-true b.1.ca is)
+
+no_authority_is : (h : Held (Bool × Constraints)) → (h ≡ Ok None) ⊎ ((b : Bool × Constraints) × (h ≡ Ok (Some b)) × (b.1.ca ≡ false)) → is_no_authority h ≡ true
+no_authority_is h (inl e) = rw e refl
+no_authority_is h (inr x) = rw x.1 (ap not x.2)
+
+pub profile_from : (c : Cert) → is_profiled c ≡ true → HasProfile c
+profile_from c is =
+    let parts = and_parts (is_fit c) (is_no_authority (constraints c)) is in
+    record { fit = fit_from c parts.0; no_authority = no_authority_from (constraints c) parts.1 }
+
+pub profile_is : (c : Cert) → HasProfile c → is_profiled c ≡ true
+profile_is c is = and_from (is_fit c) (is_no_authority (constraints c)) (fit_is c is.fit) (no_authority_is (constraints c) is.no_authority)
+
+-- ---- the issuer
+
+le_from : (a b : ℤ) → int_le a b ≡ true → a ≤ℤ b
+le_from a b e = record { le = so (int_le a b) e }
+  where
+    so : (x : Bool) → x ≡ true → T x
+    so true e = tt
+    so false e = absurd cc
+
+le_is : (a b : ℤ) → a ≤ℤ b → int_le a b ≡ true
+le_is a b e = is_so (int_le a b) e.le
+  where
+    is_so : (x : Bool) → T x → x ≡ true
+    is_so true t = refl
+    is_so false t = absurd t
+
+signs_from : (h : Held Bool) → may_sign_code h ≡ true → h ≡ Ok (Some true)
+signs_from (Err e) is = absurd cc
+signs_from (Ok None) is = absurd cc
+signs_from (Ok (Some b)) is = ap (λ (x : Bool). Ok (Some x)) is
+
+pub issued_from : (accepts : Accepts) (c : Cert) (t : ℤ) (x : Cert) → is_issued accepts c t x ≡ true → IsIssuedBy accepts c t x
+issued_from accepts c t x is =
+    let a = and_parts _ _ is in
+    let b = and_parts _ _ a.0 in
+    let d = and_parts _ _ b.0 in
+    let e = and_parts _ _ a.1 in
+    record {
+      begun = le_from c.not_before t d.0;
+      lasting = le_from t c.not_after d.1;
+      purpose = signs_from (code_signing c) b.1;
+      signed = record { issuer = bytes_same c.issuer x.subject e.0; genuine = e.1 };
+    }
+
+pub issued_is : (accepts : Accepts) (c : Cert) (t : ℤ) (x : Cert) → IsIssuedBy accepts c t x → is_issued accepts c t x ≡ true
+issued_is accepts c t x is =
+    and_from _ _
+    (and_from _ _ (and_from _ _ (le_is c.not_before t is.begun) (le_is t c.not_after is.lasting)) (ap may_sign_code is.purpose))
+    (and_from _ _ (same_bytes c.issuer x.subject is.signed.issuer) is.signed.genuine)
+
+-- ---- the first of a list that passes
+
+module _ (accepts : Accepts) (c : Cert) (t : ℤ) (anchors : List Cert) where
+  abbrev Passes : Cert → Bool
+  Passes x = is_issued accepts c t x
+
+  first_from : (place : ℕ) → position Passes anchors ≡ Some place → IsFirstIssuer accepts c t anchors place
+  first_from place is =
+      let found = position-Some Passes anchors place c is in
+      record {
+        anchor = get_or anchors place c;
+        there = slice_get-get_or anchors place c found.0;
+        issued = issued_from accepts c t (get_or anchors place c) found.1;
+        first = λ earlier x lt got is_its.
+            let fails = found.2 earlier lt in
+            let here = subst (λ (w : Cert). Passes w ≡ true) (sym (get_or_from_slice_get anchors earlier x c got)) (issued_is accepts c t x is_its) in
+            both_ways (Passes (get_or anchors earlier c)) fails here;
+      }
+
+  none_from_position : position Passes anchors ≡ None → IsIssuedByNone accepts c t anchors
+  none_from_position is place x got is_its =
+      let within = slice_get_within anchors place x got in
+      let all : length anchors ≤ position_or_len Passes anchors = ltb-false (position_or_len Passes anchors) (length anchors) (missed (position_or_len Passes anchors) (length anchors) is) in
+      let fails = not-true (Passes (get_or anchors place c)) (prefix_len_passes (λ (x : Cert). not (Passes x)) anchors place c (omega (arith, within, all))) in
+      let here = subst (λ (w : Cert). Passes w ≡ true) (sym (get_or_from_slice_get anchors place x c got)) (issued_is accepts c t x is_its) in
+      both_ways (Passes (get_or anchors place c)) fails here
+    where
+      missed : (a n : ℕ) → cond (ltb a n) (Some a) None ≡ None → ltb a n ≡ false
+      missed a n e = by_cases (ltb a n) e
+        where
+          by_cases : (b : Bool) → cond b (Some a) None ≡ None → b ≡ false
+          by_cases true e = absurd cc
+          by_cases false e = refl
+
+  first_is : (place : ℕ) → IsFirstIssuer accepts c t anchors place → position Passes anchors ≡ Some place
+  first_is place is = by_found (position Passes anchors) refl
+    where
+      by_order : (found : ℕ) → position Passes anchors ≡ Some found → IsFirstIssuer accepts c t anchors found → (found ≡ place) ⊎ ((found < place) ⊎ (place < found))
+          → position Passes anchors ≡ Some place
+      by_order found e other (inl same) = e ∙ ap (λ (n : ℕ). Some n) same
+      by_order found e other (inr (inl lt)) = absurd (is.first found other.anchor lt other.there other.issued)
+      by_order found e other (inr (inr lt)) = absurd (other.first place is.anchor lt is.there is.issued)
+
+      by_found : (o : Option ℕ) → position Passes anchors ≡ o → position Passes anchors ≡ Some place
+      by_found None e = absurd (none_from_position e place is.anchor is.there is.issued)
+      by_found (Some found) e = by_order found e (first_from found e) (cases_order found place)
+
+  none_is : IsIssuedByNone accepts c t anchors → position Passes anchors ≡ None
+  none_is none = by_found (position Passes anchors) refl
+    where
+      by_found : (o : Option ℕ) → position Passes anchors ≡ o → position Passes anchors ≡ None
+      by_found None e = e
+      by_found (Some found) e = let other = first_from found e in absurd (none found other.anchor other.there other.issued)
+
+-- ---- the answers
+
+placed_some : (o : Option ℕ) (place : ℕ) → placed o ≡ Ok place → o ≡ Some place
+placed_some None place e = absurd cc
+placed_some (Some found) place e = let same : found ≡ place = cc in ap (λ (n : ℕ). Some n) same
+
+placed_none : (o : Option ℕ) → placed o ≡ Err VerificationFailed → o ≡ None
+placed_none None e = refl
+placed_none (Some found) e = absurd cc
+
+never_malformed : (o : Option ℕ) → placed o ≡ Err Malformed → ⊥
+never_malformed None e = cc
+never_malformed (Some found) e = cc
+
+pub at_time : (accepts : Accepts) (anchors : List Cert) (c : Cert) (t s : ℤ) (r : Result ℕ PoolError) → s ≡ t → r ≡ issuer_of accepts anchors c s
+    → r ≡ issuer_of accepts anchors c t
+at_time accepts anchors c t s r time e = e ∙ ap (λ (x : ℤ). issuer_of accepts anchors c x) time
+
+module _ (accepts : Accepts) (anchors : List Cert) (c : Cert) (t : ℤ) where
+  abbrev Found : Option ℕ
+  Found = position (is_issued accepts c t) anchors
+
+  profiled : HasProfile c → issuer_of accepts anchors c t ≡ placed Found
+  profiled is = ap (λ (b : Bool). cond b (placed Found) (Err Malformed)) (profile_is c is)
+
+  unprofiled : (HasProfile c → ⊥) → issuer_of accepts anchors c t ≡ Err Malformed
+  unprofiled not_so = by_cases (is_profiled c) refl
+    where
+      by_cases : (b : Bool) → is_profiled c ≡ b → cond (is_profiled c) (placed Found) (Err Malformed) ≡ Err Malformed
+      by_cases true e = absurd (not_so (profile_from c e))
+      by_cases false e = ap (λ (b : Bool). cond b (placed Found) (Err Malformed)) e
+
+  has_or_not : HasProfile c ⊎ (HasProfile c → ⊥)
+  has_or_not = by_cases (is_profiled c) refl
+    where
+      by_cases : (b : Bool) → is_profiled c ≡ b → HasProfile c ⊎ (HasProfile c → ⊥)
+      by_cases true e = inl (profile_from c e)
+      by_cases false e = inr (λ is. both_ways (is_profiled c) e (profile_is c is))
+
+  module _ (r : Result ℕ PoolError) (e : r ≡ issuer_of accepts anchors c t) where
+    pub answers_issued : (place : ℕ) → (r ≡ Ok place) ↔ (HasProfile c × IsFirstIssuer accepts c t anchors place)
+    answers_issued place = (to has_or_not, (λ is. e ∙ profiled is.0 ∙ ap placed (first_is accepts c t anchors place is.1)))
+      where
+        to : HasProfile c ⊎ (HasProfile c → ⊥) → r ≡ Ok place → HasProfile c × IsFirstIssuer accepts c t anchors place
+        to (inl is) f = (is, first_from accepts c t anchors place (placed_some Found place (sym (profiled is) ∙ sym e ∙ f)))
+        to (inr not_so) f = let wrong = sym (unprofiled not_so) ∙ sym e ∙ f in absurd cc
+
+    pub answers_malformed : (r ≡ Err Malformed) ↔ (HasProfile c → ⊥)
+    answers_malformed = ((λ f is. never_malformed Found (sym (profiled is) ∙ sym e ∙ f)), (λ not_so. e ∙ unprofiled not_so))
+
+    pub answers_none : (r ≡ Err VerificationFailed) ↔ (HasProfile c × IsIssuedByNone accepts c t anchors)
+    answers_none = (to has_or_not, (λ is. e ∙ profiled is.0 ∙ ap placed (none_is accepts c t anchors is.1)))
+      where
+        to : HasProfile c ⊎ (HasProfile c → ⊥) → r ≡ Err VerificationFailed → HasProfile c × IsIssuedByNone accepts c t anchors
+        to (inl is) f = (is, none_from_position accepts c t anchors (placed_none Found (sym (profiled is) ∙ sym e ∙ f)))
+        to (inr not_so) f = let wrong = sym (unprofiled not_so) ∙ sym e ∙ f in absurd cc
+
+-- ---- the answers of a text
+
+answers_itself : (r m : Result ℕ PoolError) → r ≡ m → Answers OutOfMemory (λ (place : ℕ). place) r m
+answers_itself (Ok place) m e = sym e
+answers_itself (Err x) m e = inr (sym e)
+
+memory : (r : Result ℕ PoolError) → r ≡ Err OutOfMemory → (m : Result ℕ PoolError) → Answers OutOfMemory (λ (place : ℕ). place) r m
+memory (Ok place) e m = absurd cc
+memory (Err x) e m = inl cc
+
+module _ (accepts : Accepts) (text : List ℕ) (t : ℤ) (anchors : List Cert) (r : Result ℕ PoolError) (j : IsJudgedText accepts text t anchors r) where
+  pub text_issued : (place : ℕ) → ComesWhere OutOfMemory r (Ok place) (IsIssuedText accepts text t anchors place)
+  text_issued place = (to j, from j)
+    where
+      to : IsJudgedText accepts text t anchors r → r ≡ Ok place → IsIssuedText accepts text t anchors place
+      to (inl x) f =
+          let is = (answers_issued accepts anchors x.0 t r x.2 place).0 f in
+          record { certificate = x.0; is = x.1.is; profile = is.0; issuer = is.1 }
+      to (inr (inl x)) f = let wrong = sym x.1 ∙ f in absurd cc
+      to (inr (inr x)) f = let wrong = sym x ∙ f in absurd cc
+
+      from : IsJudgedText accepts text t anchors r → IsIssuedText accepts text t anchors place → (r ≡ Ok place) ⊎ (r ≡ Err OutOfMemory)
+      from (inl x) is =
+          let same = x.1.only is.certificate is.is in
+          let here = subst (λ (w : Cert). HasProfile w × IsFirstIssuer accepts w t anchors place) same (is.profile, is.issuer) in
+          inl ((answers_issued accepts anchors x.0 t r x.2 place).1 here)
+      from (inr (inl x)) is = absurd (x.0 is.certificate is.is)
+      from (inr (inr x)) is = inr x
+
+  pub text_malformed : ComesWhere OutOfMemory r (Err Malformed) (HasNoProfile text)
+  text_malformed = (to j, from j)
+    where
+      to : IsJudgedText accepts text t anchors r → r ≡ Err Malformed → HasNoProfile text
+      to (inl x) f = λ d is has. (answers_malformed accepts anchors x.0 t r x.2).0 f (subst (λ (w : Cert). HasProfile w) (x.1.only d is) has)
+      to (inr (inl x)) f = λ d is has. x.0 d is
+      to (inr (inr x)) f = let wrong = sym x ∙ f in absurd cc
+
+      from : IsJudgedText accepts text t anchors r → HasNoProfile text → (r ≡ Err Malformed) ⊎ (r ≡ Err OutOfMemory)
+      from (inl x) not_so = inl ((answers_malformed accepts anchors x.0 t r x.2).1 (not_so x.0 x.1.is))
+      from (inr (inl x)) not_so = inl x.1
+      from (inr (inr x)) not_so = inr x
+
+  pub text_unissued : ComesWhere OutOfMemory r (Err VerificationFailed) (IsUnissuedText accepts text t anchors)
+  text_unissued = (to j, from j)
+    where
+      to : IsJudgedText accepts text t anchors r → r ≡ Err VerificationFailed → IsUnissuedText accepts text t anchors
+      to (inl x) f =
+          let is = (answers_none accepts anchors x.0 t r x.2).0 f in
+          record { certificate = x.0; is = x.1.is; profile = is.0; none = is.1 }
+      to (inr (inl x)) f = let wrong = sym x.1 ∙ f in absurd cc
+      to (inr (inr x)) f = let wrong = sym x ∙ f in absurd cc
+
+      from : IsJudgedText accepts text t anchors r → IsUnissuedText accepts text t anchors → (r ≡ Err VerificationFailed) ⊎ (r ≡ Err OutOfMemory)
+      from (inl x) is =
+          let same = x.1.only is.certificate is.is in
+          let here = subst (λ (w : Cert). HasProfile w × IsIssuedByNone accepts w t anchors) same (is.profile, is.none) in
+          inl ((answers_none accepts anchors x.0 t r x.2).1 here)
+      from (inr (inl x)) is = absurd (x.0 is.certificate is.is)
+      from (inr (inr x)) is = inr x
+
+  -- of a certificate, the answer is that of its record; of another text it is `Malformed`
+  pub text_certificate : (c : Cert) → IsCertificate text c → Answers OutOfMemory (λ (place : ℕ). place) r (issuer_of accepts anchors c t)
+  text_certificate c is = by_cases j
+    where
+      by_cases : IsJudgedText accepts text t anchors r → Answers OutOfMemory (λ (place : ℕ). place) r (issuer_of accepts anchors c t)
+      by_cases (inl x) = answers_itself r (issuer_of accepts anchors c t) (x.2 ∙ ap (λ (w : Cert). issuer_of accepts anchors w t) (sym (x.1.only c is)))
+      by_cases (inr (inl x)) = absurd (x.0 c is)
+      by_cases (inr (inr x)) = memory r x (issuer_of accepts anchors c t)
+
+  pub text_none : ((c : Cert) → IsCertificate text c → ⊥) → Answers OutOfMemory (λ (place : ℕ). place) r (Err Malformed)
+  text_none none = by_cases j
+    where
+      by_cases : IsJudgedText accepts text t anchors r → Answers OutOfMemory (λ (place : ℕ). place) r (Err Malformed)
+      by_cases (inl x) = absurd (none x.0 x.1.is)
+      by_cases (inr (inl x)) = answers_itself r (Err Malformed) x.1
+      by_cases (inr (inr x)) = memory r x (Err Malformed)

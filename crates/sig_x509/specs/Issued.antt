@@ -1,0 +1,96 @@
+-- *Issuance* as relations: what holds of a certificate that may be issued, of who signed it, and of the anchor that issued it.
+-- RFC 5280 sections 4.1, 4.2 and 6.1, in the profile of Sigstore. `Issuance` says how they are found.
+use Rattle.std.specs.Prelude.{◌≡◌, ◌⊎◌, ℕ, ◌<◌, ℤ, ◌≤ℤ◌, List, [], Bool, true, false, Some, None, Result, Ok, Err, slice_get}
+use Rattle.std.specs.Str.{bytes_eq}
+use Rattle.std.specs.List.{AllByRecursion, IsDistinct}
+use Rattle.sig_base.specs.declared.fault.PoolError.{PoolError}
+use Rattle.sig_base.specs.declared.fault.PoolError.TheVariants.{Malformed, OutOfMemory}
+use Rattle.sig_der.specs.declared.oid.TheConstants.{KEY_USAGE, EXTENDED_KEY_USAGE, BASIC_CONSTRAINTS, SUBJECT_ALTERNATIVE_NAME, NAME_CONSTRAINTS}
+use Rattle.sig_x509.specs.declared.values.BasicConstraints.{BasicConstraints as Constraints}
+use Rattle.sig_x509.specs.Certificate.{Cert, IsCertificate}
+use Rattle.sig_x509.specs.Lookups.{with_oid, oids}
+use Rattle.sig_x509.specs.Profile.{constraints, code_signing}
+use Rattle.sig_x509.specs.Issuance.{Accepts, issuer_of}
+
+-- ---- what may be issued
+
+-- the extensions that may be critical, section 4.2
+abbrev pub MayBeCritical : List ℕ → Type 0
+MayBeCritical oid =
+    (oid ≡ KEY_USAGE.now) ⊎ ((oid ≡ SUBJECT_ALTERNATIVE_NAME.now) ⊎ ((oid ≡ BASIC_CONSTRAINTS.now) ⊎ (oid ≡ EXTENDED_KEY_USAGE.now)))
+
+-- *Fit*: a certificate that can be judged
+pub record IsFit (c : Cert) : Type 0 where
+  pub version : c.version ≡ 3
+  -- section 4.1.1.2
+  pub algorithms : c.inner_algorithm ≡ c.algorithm
+  -- section 4.2.1.10: they are not read
+  pub unconstrained : with_oid NAME_CONSTRAINTS.now c.extensions ≡ []
+  -- section 4.2: a critical extension that is not known refuses the certificate
+  pub understood : AllByRecursion (λ e. e.critical ≡ true → MayBeCritical e.oid) c.extensions
+  -- section 4.2: no object identifier stands twice
+  pub single : IsDistinct bytes_eq (oids c.extensions)
+
+-- basic constraints, section 4.2.1.9, are absent, or well formed and not cA
+abbrev pub IsNoAuthority : Cert → Type 0
+IsNoAuthority c = (constraints c ≡ Ok None) ⊎ ((b : Bool × Constraints) × (constraints c ≡ Ok (Some b)) × (b.1.ca ≡ false))
+
+-- *Profile*
+pub record HasProfile (c : Cert) : Type 0 where
+  pub fit : IsFit c
+  pub no_authority : IsNoAuthority c
+
+-- ---- who issued it
+
+-- *Signed*: the issuer is the subject of x byte for byte, and the signature is genuine under the key of x (section 6.1.3)
+pub record IsSignedBy (accepts : Accepts) (c x : Cert) : Type 0 where
+  pub issuer : c.issuer ≡ x.subject
+  pub genuine : accepts x.spki c.algorithm c.tbs c.signature ≡ true
+
+-- *Issued*: x issued c, which signs code (section 4.2.1.12) and is valid at the time t (section 4.1.2.5)
+pub record IsIssuedBy (accepts : Accepts) (c : Cert) (t : ℤ) (x : Cert) : Type 0 where
+  pub begun : c.not_before ≤ℤ t
+  pub lasting : t ≤ℤ c.not_after
+  pub purpose : code_signing c ≡ Ok (Some true)
+  pub signed : IsSignedBy accepts c x
+
+-- none of the anchors issued it
+abbrev pub IsIssuedByNone : Accepts → Cert → ℤ → List Cert → Type 0
+IsIssuedByNone accepts c t anchors = (place : ℕ) (x : Cert) → slice_get anchors place ≡ Some x → ¬ IsIssuedBy accepts c t x
+
+-- the anchor at the place issued it, and none before it did
+pub record IsFirstIssuer (accepts : Accepts) (c : Cert) (t : ℤ) (anchors : List Cert) (place : ℕ) : Type 0 where
+  pub anchor : Cert
+  pub there : slice_get anchors place ≡ Some anchor
+  pub issued : IsIssuedBy accepts c t anchor
+  pub first : (earlier : ℕ) (x : Cert) → earlier < place → slice_get anchors earlier ≡ Some x → ¬ IsIssuedBy accepts c t x
+
+-- ---- of a text
+
+-- the text is no certificate with the profile
+abbrev pub HasNoProfile : List ℕ → Type 0
+HasNoProfile text = (c : Cert) → IsCertificate text c → ¬ HasProfile c
+
+-- the text is a certificate with the profile, and the anchor at the place is the first that issued it
+pub record IsIssuedText (accepts : Accepts) (text : List ℕ) (t : ℤ) (anchors : List Cert) (place : ℕ) : Type 0 where
+  pub certificate : Cert
+  pub is : IsCertificate text certificate
+  pub profile : HasProfile certificate
+  pub issuer : IsFirstIssuer accepts certificate t anchors place
+
+-- the text is a certificate with the profile, and no anchor issued it
+pub record IsUnissuedText (accepts : Accepts) (text : List ℕ) (t : ℤ) (anchors : List Cert) : Type 0 where
+  pub certificate : Cert
+  pub is : IsCertificate text certificate
+  pub profile : HasProfile certificate
+  pub none : IsIssuedByNone accepts certificate t anchors
+
+-- The answer of a text: that of the one certificate that it is, or `Malformed`, or want of memory.
+pub record IsRead (text : List ℕ) (c : Cert) : Type 0 where
+  pub is : IsCertificate text c
+  pub only : (d : Cert) → IsCertificate text d → d ≡ c
+
+abbrev pub IsJudgedText : Accepts → List ℕ → ℤ → List Cert → Result ℕ PoolError → Type 0
+IsJudgedText accepts text t anchors answer =
+    ((c : Cert) × IsRead text c × (answer ≡ issuer_of accepts anchors c t))
+    ⊎ ((((c : Cert) → ¬ IsCertificate text c) × (answer ≡ Err Malformed)) ⊎ (answer ≡ Err OutOfMemory))
