@@ -4,6 +4,12 @@
 //! same. A payload is read as a statement exactly where its members are one's. The digests of a statement are those of its subjects, in order.
 #![tactic(auto)]
 
+mod artifact_digest;
 mod envelope;
+mod pae;
+mod statement;
 
+pub use artifact_digest::{ArtifactDigest, Digests};
 pub use envelope::{DsseEnvelope, DsseSignature, DsseSignatures};
+pub use pae::compute_pae;
+pub use statement::{InTotoStatementV1, Subject, Subjects};

@@ -6,3 +6,4 @@ pub mod Elements
 pub mod Building
 pub mod CanonicalTexts
 pub mod SameTrees
+pub mod TextMaps

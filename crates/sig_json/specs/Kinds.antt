@@ -1,5 +1,5 @@
 -- The kinds of the values of member tables: what a value means under a kind, or none where it is of another.
-use Rattle.std.specs.Prelude.{ℕ, ℤ, List, Option}
+use Rattle.std.specs.Prelude.{ℕ, ℤ, List, [], ◌∷◌, Option, Some}
 use Rattle.std.specs.Result.{result_ok}
 use Rattle.base64.specs.Engines.{standard}
 use Rattle.base64.specs.GeneralPurpose.{decode_of}
@@ -7,6 +7,7 @@ use Rattle.hex.specs.Hex.{decode_sized}
 use Rattle.serde_json.specs.Data.{Data}
 use Rattle.serde_json.specs.Find.{as_str}
 use Rattle.sig_json.specs.Integer.{integer_of, in_u64, in_i64}
+use Rattle.sig_json.specs.Members.{members_of}
 use Rattle.sig_json.specs.Reads.{◌>>=◌}
 
 -- a text, as its bytes of UTF-8
@@ -26,3 +27,12 @@ u64_of d = integer_of d >>= in_u64
 
 unfoldable pub i64_of : Data → Option ℤ
 i64_of d = integer_of d >>= in_i64
+
+-- the texts that these members are, by their names; a null is no text
+abbrev pub texts_by_name : List (List ℕ × Data) → Option (List (List ℕ × List ℕ))
+texts_by_name [] = Some []
+texts_by_name (m ∷ ms) = text_of m.1 >>= λ text. texts_by_name ms >>= λ texts. Some ((m.0, text) ∷ texts)
+
+-- an object whose every member is a text, in byte order of the names
+unfoldable pub text_map_of : Data → Option (List (List ℕ × List ℕ))
+text_map_of d = members_of d >>= texts_by_name

@@ -187,3 +187,13 @@ fn utf16_units(alloc: Global, text: &str) -> Result<Vec<u16>, OutOfMemory>
     }
     Ok(units)
 }
+
+/// A text in quotation marks, with the escapes of canonical JSON (RFC 8785 section 3.2.2.2). Refuses for want of memory alone.
+pub fn quoted(alloc: Global, text: &str) -> Result<Text, OutOfMemory>
+    ensures { IfOk result (λ quoted. quoted ≡ canon_string text.now) }
+{
+    match string_text(alloc, text) {
+        Ok(quoted) => Ok(Text::from(quoted)),
+        Err(_) => Err(OutOfMemory),
+    }
+}

@@ -6,7 +6,7 @@ ghost use Rattle.sig_json.specs.Reads.{Reads};
 ghost use Rattle.sig_json.specs.Tree.{tree};
 
 use crate::error::MemberError;
-use crate::member::member;
+use crate::member::find_member;
 use crate::view::Json;
 use sig_base::Register;
 use std::alloc::Global;
@@ -57,7 +57,7 @@ pub fn required<T: ElementReader>(
 ) -> Result<T::Item, MemberError>
     ensures { Reads (λ x. x) result (required T.meaning name.now (tree json.entry)) }
 {
-    match member(json, name)? {
+    match find_member(json, name)? {
         Some(value) => T::read(alloc, value),
         None => Err(MemberError::Member),
     }
@@ -73,7 +73,7 @@ pub fn optional<T: ElementReader>(
 ) -> Result<Option<T::Item>, MemberError>
     ensures { Reads (λ x. x) result (optional T.meaning name.now (tree json.entry)) }
 {
-    match member(json, name)? {
+    match find_member(json, name)? {
         Some(value) => match T::read(alloc, value) {
             Ok(item) => Ok(Some(item)),
             Err(error) => Err(error),
@@ -92,7 +92,7 @@ pub fn required_list<T: ElementReader>(
 ) -> Result<Register<T::Item>, MemberError>
     ensures { Reads (λ x. x) result (required_list T.meaning name.now (tree json.entry)) }
 {
-    match member(json, name)? {
+    match find_member(json, name)? {
         Some(value) => read_list::<T>(alloc, value),
         None => Err(MemberError::Member),
     }
@@ -108,7 +108,7 @@ pub fn optional_list<T: ElementReader>(
 ) -> Result<Register<T::Item>, MemberError>
     ensures { Reads (λ x. x) result (optional_list T.meaning name.now (tree json.entry)) }
 {
-    match member(json, name)? {
+    match find_member(json, name)? {
         Some(value) => read_list::<T>(alloc, value),
         None => Ok(Register::new(alloc)),
     }

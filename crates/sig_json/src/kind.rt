@@ -1,6 +1,9 @@
-//! The kinds of the values of member tables: text, bytes, hash.
+//! The kinds of the values of member tables: text, bytes, hash, texts by their names.
 ghost use Rattle.std.specs.Prelude.{◌≡◌};
-ghost use Rattle.sig_json.specs.Kinds.{hash_of};
+ghost use Rattle.serde_json.specs.View.{members_view};
+ghost use Rattle.sig_json.specs.Kinds.{hash_of, texts_by_name};
+ghost use Rattle.sig_json.specs.Members.{members_list};
+ghost use Rattle.sig_json.specs.Reads.{Reads};
 ghost use Rattle.sig_json.specs.Tree.{tree};
 
 use crate::element::ElementReader;
@@ -9,7 +12,8 @@ use crate::view::Json;
 use base64::DecodeAllocError;
 use base64::engine::general_purpose::STANDARD;
 use hex::FromHex;
-use sig_base::{Bytes, Text};
+use serde_json::{Map, Value};
+use sig_base::{Bytes, Text, TextMap};
 use std::alloc::Global;
 
 /// Reads texts.
@@ -20,6 +24,9 @@ pub enum BytesReader {}
 
 /// Reads 32 bytes written as 64 hexadecimal digits in either case (RFC 4648 section 8).
 pub enum HashReader {}
+
+/// Reads objects whose every member is a text.
+pub enum TextMapReader {}
 
 impl ElementReader for TextReader {
     ghost use Rattle.sig_json.specs.Kinds.{text_of};
@@ -68,6 +75,37 @@ impl ElementReader for HashReader {
     fn read(_alloc: Global, json: Json<'_>) -> Result<[u8; 32], MemberError> {
         hash(json).ok_or(MemberError::Member)
     }
+}
+
+impl ElementReader for TextMapReader {
+    ghost use Rattle.sig_json.specs.Kinds.{text_map_of};
+
+    type Item = TextMap;
+
+    ghost meaning = { text_map_of };
+
+    #[tactic(auto, unfolding(crate::specs::Kinds::text_map_of))]
+    fn read(alloc: Global, json: Json<'_>) -> Result<TextMap, MemberError> {
+        match json.value.as_object() {
+            Some(members) => texts_of_members(alloc, members),
+            None => Err(MemberError::Member),
+        }
+    }
+}
+
+/// The texts that members are, by their names. Refuses with `Member` where one is no text.
+#[tactic(auto, using(crate::proofs::TextMaps::text_maps))]
+fn texts_of_members(alloc: Global, members: &Map<String, Value>) -> Result<TextMap, MemberError>
+    ensures { Reads (λ x. x) result (texts_by_name (members_list (members_view members.now.entries))) }
+{
+    let mut texts = TextMap::new(alloc);
+    'members: for (name, value) in members.iter() {
+        let Some(text) = value.as_str() else {
+            return Err(MemberError::Member);
+        };
+        texts.insert(name.as_str(), text)?;
+    }
+    Ok(texts)
 }
 
 /// The hash that a value is.

@@ -22,15 +22,15 @@ mod record;
 mod tests;
 mod view;
 
-pub use canonical_form::canonical;
+pub use canonical_form::{canonical, quoted};
 pub use compact_form::compact;
 pub use document::Document;
 pub use element::{ElementReader, optional, optional_list, required, required_list};
 pub use error::{CanonicalError, DocumentError, JsonError, MemberError};
-pub use kind::{BytesReader, HashReader, TextReader};
+pub use kind::{BytesReader, HashReader, TextMapReader, TextReader};
 pub use member::{
-    read_bytes, read_i64, read_text, read_u64, required_bytes, required_hash, required_i64,
-    required_text, required_u64,
+    find_member, read_bytes, read_i64, read_text, read_u64, required_bytes, required_hash,
+    required_i64, required_text, required_u64,
 };
 pub use members::Members;
 pub use record::read_record;

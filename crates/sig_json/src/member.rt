@@ -14,7 +14,7 @@ use std::alloc::Global;
 
 /// The member of an object, none where it is absent or null. Refuses with `Member` where the value is no object.
 #[tactic(auto, unfolding(crate::specs::Member::member_of))]
-pub(crate) fn member<'a>(json: Json<'a>, name: &str) -> Result<Option<Json<'a>>, MemberError>
+pub fn find_member<'a>(json: Json<'a>, name: &str) -> Result<Option<Json<'a>>, MemberError>
     ensures value { Reads (λ m. option_map tree m) result (member_of name.now (tree json.entry)) }
     ensures no_memory { IfErr result (λ e. e ≡ MemberError.Member) }
 {
@@ -34,7 +34,7 @@ pub fn read_i64(json: Json<'_>, name: &str) -> Result<i64, MemberError>
     ensures value { Reads (λ x. x) result (optional_i64 name.now (tree json.entry)) }
     ensures no_memory { IfErr result (λ e. e ≡ MemberError.Member) }
 {
-    match member(json, name)? {
+    match find_member(json, name)? {
         Some(value) => signed(value).ok_or(MemberError::Member),
         None => Ok(0),
     }
@@ -47,7 +47,7 @@ pub fn read_u64(json: Json<'_>, name: &str) -> Result<u64, MemberError>
     ensures value { Reads (λ x. x) result (optional_u64 name.now (tree json.entry)) }
     ensures no_memory { IfErr result (λ e. e ≡ MemberError.Member) }
 {
-    match member(json, name)? {
+    match find_member(json, name)? {
         Some(value) => unsigned(value).ok_or(MemberError::Member),
         None => Ok(0),
     }
@@ -58,7 +58,7 @@ pub fn read_u64(json: Json<'_>, name: &str) -> Result<u64, MemberError>
 pub fn read_text(alloc: Global, json: Json<'_>, name: &str) -> Result<Text, MemberError>
     ensures { Reads (λ x. x) result (optional_text name.now (tree json.entry)) }
 {
-    match member(json, name)? {
+    match find_member(json, name)? {
         Some(value) => TextReader::read(alloc, value),
         None => Ok(Text::copy_of(alloc, "")?),
     }
@@ -70,7 +70,7 @@ pub fn read_text(alloc: Global, json: Json<'_>, name: &str) -> Result<Text, Memb
 pub fn read_bytes(alloc: Global, json: Json<'_>, name: &str) -> Result<Bytes, MemberError>
     ensures { Reads (λ x. x) result (optional_bytes name.now (tree json.entry)) }
 {
-    match member(json, name)? {
+    match find_member(json, name)? {
         Some(value) => BytesReader::read(alloc, value),
         None => Ok(Bytes::copy_of(alloc, &[])?),
     }
@@ -83,7 +83,7 @@ pub fn required_i64(json: Json<'_>, name: &str) -> Result<i64, MemberError>
     ensures value { Reads (λ x. x) result (required_i64 name.now (tree json.entry)) }
     ensures no_memory { IfErr result (λ e. e ≡ MemberError.Member) }
 {
-    match member(json, name)? {
+    match find_member(json, name)? {
         Some(value) => signed(value).ok_or(MemberError::Member),
         None => Err(MemberError::Member),
     }
@@ -96,7 +96,7 @@ pub fn required_u64(json: Json<'_>, name: &str) -> Result<u64, MemberError>
     ensures value { Reads (λ x. x) result (required_u64 name.now (tree json.entry)) }
     ensures no_memory { IfErr result (λ e. e ≡ MemberError.Member) }
 {
-    match member(json, name)? {
+    match find_member(json, name)? {
         Some(value) => unsigned(value).ok_or(MemberError::Member),
         None => Err(MemberError::Member),
     }
@@ -109,7 +109,7 @@ pub fn required_hash(json: Json<'_>, name: &str) -> Result<[u8; 32], MemberError
     ensures value { Reads (λ x. x) result (required_hash name.now (tree json.entry)) }
     ensures no_memory { IfErr result (λ e. e ≡ MemberError.Member) }
 {
-    match member(json, name)? {
+    match find_member(json, name)? {
         Some(value) => hash(value).ok_or(MemberError::Member),
         None => Err(MemberError::Member),
     }

@@ -1,0 +1,82 @@
+//! `ArtifactDigest`: the digest of an artifact, with its algorithm.
+ghost use Rattle.std.specs.Prelude.{◌≡◌, IfOk};
+ghost use Rattle.hex.specs.Hex.{encode_lower};
+ghost use Rattle.sig_dsse.specs.Digest.{algorithm_of, bytes_of};
+
+use sha2::{Digest, Sha256, Sha512};
+use sig_base::{OutOfMemory, Register, Text};
+use std::alloc::Global;
+
+/// The digest of an artifact. Two are equal exactly where algorithm and bytes are.
+#[derive(Clone, Copy, Debug, PartialEq, Eq)]
+pub enum ArtifactDigest {
+    /// SHA-256 (FIPS 180-4 section 6.2).
+    Sha256([u8; 32]),
+    /// SHA-512 (FIPS 180-4 section 6.4).
+    Sha512([u8; 64]),
+}
+
+/// Digests in order.
+pub type Digests = Register<ArtifactDigest>;
+
+impl ArtifactDigest {
+    /// The algorithm's name, `sha256` or `sha512`.
+    pub fn algorithm(&self) -> &'static str
+        ensures { result.now ≡ algorithm_of self.now }
+    {
+        match self {
+            ArtifactDigest::Sha256(_) => "sha256",
+            ArtifactDigest::Sha512(_) => "sha512",
+        }
+    }
+
+    /// The digest's bytes, 32 or 64.
+    pub fn as_bytes(&self) -> &[u8]
+        ensures { result.now ≡ bytes_of self.now }
+    {
+        match self {
+            ArtifactDigest::Sha256(bytes) => bytes,
+            ArtifactDigest::Sha512(bytes) => bytes,
+        }
+    }
+
+    /// The bytes as hexadecimal digits in lower case. Refuses for want of memory alone.
+    pub fn to_hex(&self, alloc: Global) -> Result<Text, OutOfMemory>
+        ensures { IfOk result (λ text. text ≡ encode_lower (bytes_of self.now)) }
+    {
+        let text = hex::encode(alloc, self.as_bytes())?;
+        Ok(Text::from(text))
+    }
+
+    /// The digest of all that a hasher took.
+    pub fn from_sha256(hasher: Sha256) -> ArtifactDigest {
+        ArtifactDigest::Sha256(hasher.finalize())
+    }
+
+    /// The digest of all that a hasher took.
+    pub fn from_sha512(hasher: Sha512) -> ArtifactDigest {
+        ArtifactDigest::Sha512(hasher.finalize())
+    }
+}
+
+impl From<[u8; 32]> for ArtifactDigest {
+    ghost use Rattle.std.specs.Prelude.{◌≡◌};
+    ghost use Rattle.sig_dsse.specs.declared.artifact_digest.ArtifactDigest.TheVariants.{Sha256 as IsSha256};
+
+    ghost from_gives = { λ bytes digest. digest ≡ IsSha256 bytes };
+
+    fn from(bytes: [u8; 32]) -> ArtifactDigest {
+        ArtifactDigest::Sha256(bytes)
+    }
+}
+
+impl From<[u8; 64]> for ArtifactDigest {
+    ghost use Rattle.std.specs.Prelude.{◌≡◌};
+    ghost use Rattle.sig_dsse.specs.declared.artifact_digest.ArtifactDigest.TheVariants.{Sha512 as IsSha512};
+
+    ghost from_gives = { λ bytes digest. digest ≡ IsSha512 bytes };
+
+    fn from(bytes: [u8; 64]) -> ArtifactDigest {
+        ArtifactDigest::Sha512(bytes)
+    }
+}
