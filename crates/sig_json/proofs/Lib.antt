@@ -7,3 +7,4 @@ pub mod Building
 pub mod CanonicalTexts
 pub mod SameTrees
 pub mod TextMaps
+pub mod MemberOrder
