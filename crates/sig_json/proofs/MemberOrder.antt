@@ -1,20 +1,27 @@
--- The members of a canonical text stand in the ascending order of their names' units.
-use Rattle.std.proofs.Common.{◌≡◌, ℕ, List, [], ◌∷◌, ◌++◌, Option, Some, None, refl, ap, subst, ◌∙◌}
-use Rattle.std.proofs.lemmas.Cmp.{nat_list_cmp_total}
+-- The members of a canonical text stand in the ascending order of their names' units, and each is there once.
+use Rattle.std.proofs.Common.{◌≡◌, ◌≢◌, ◌<◌, ◌⊎◌, ◌↔◌, ℕ, zero, suc, List, [], ◌∷◌, ◌++◌, length, get_or, Option, Some, None, inl, inr, refl, sym, ap, subst, ◌∙◌, arith}
+use Rattle.std.proofs.lemmas.Cmp.{nat_list_cmp_total, tied_itself}
+use Rattle.std.proofs.lemmas.List.{append-nil}
+use Rattle.std.proofs.lemmas.List.Sorted.{IsPermutation-refl, IsPermutation-sym, IsPermutation-trans, IsPermutation-cons, IsPermutation-middle, IsPermutation-append_right, Contains-permutation}
+use Rattle.std.proofs.lemmas.Map.Text.{is_eq-slice_cmp}
+use Rattle.std.proofs.lemmas.Slice.Eq.{bytes_eq-Decides}
 use Rattle.std.specs.BTreeMap.{insert_entry}
 use Rattle.std.specs.Cmp.{IsTotalOrder}
 use Rattle.std.specs.Cmp.Lexicographic.{slice_cmp}
-use Rattle.std.specs.List.{AllByRecursion}
-use Rattle.std.specs.List.Sorted.{IsStrictlySortedBy}
+use Rattle.std.specs.List.{AllByRecursion, Contains}
+use Rattle.std.specs.List.Sorted.{IsPermutation, IsStrictlySortedBy}
 use Rattle.std.specs.Map.{keys_of}
 use Rattle.std.specs.Option.{option_and_then}
-use Rattle.std.specs.Ordering.{nat_cmp, match_ordering, ordering_reverse}
-use Rattle.std.specs.Prelude.{codes}
+use Rattle.std.specs.Ordering.{nat_cmp, is_eq, match_ordering, ordering_reverse}
+use Rattle.std.specs.Prelude.{codes, ⊤}
+use Rattle.std.specs.Str.{IsUtf8}
 use Rattle.std.specs.declared.cmp.Ordering.{Ordering}
 use Rattle.std.specs.declared.cmp.Ordering.TheVariants.{Less, Equal, Greater}
 use Rattle.serde_json.specs.Data.{Data, Members, no_members, member}
 use Rattle.sig_json.specs.Canonical.{Sorted, canon, canon_string, canon_members, with_text, utf16_units}
-use Rattle.sig_json.specs.Order.{UnitsAscend}
+use Rattle.sig_json.specs.Members.{members_list}
+use Rattle.sig_json.specs.Order.{HasNames, member_texts, UnitsAscend, IsInOrder}
+use Rattle.sig_json.proofs.Units.{units_distinct}
 
 -- ---- a new entry leaves the order
 
@@ -60,3 +67,69 @@ ascend-from (member name d ms) before sorted up is =
 pub members_ascend : (ms : Members) (sorted : Sorted) → canon_members ms [] ≡ Some sorted → UnitsAscend sorted
 unfolding IsStrictlySortedBy
 members_ascend ms sorted is = ascend-from ms [] sorted tt is
+
+-- ---- no member is lost
+
+module _ {K V : Type 0} (R : K → K → Ordering) where
+  -- an entry whose key is none of those that are there
+  new-insert_entry : (es : List (K × V)) (k : K) (v : V) → AllByRecursion (λ y. R k y ≢ Equal) (keys_of es) → IsPermutation ((k, v) ∷ es) (insert_entry R es k v)
+  new-insert_entry [] k v new = IsPermutation-refl ((k, v) ∷ [])
+  new-insert_entry (e ∷ es) k v new = by (R k e.0) refl (new-insert_entry es k v new.1) where
+    by : (o : Ordering) → R k e.0 ≡ o → IsPermutation ((k, v) ∷ es) (insert_entry R es k v) → IsPermutation ((k, v) ∷ e ∷ es) (match_ordering o ((k, v) ∷ e ∷ es) ((e.0, v) ∷ es) (e ∷ insert_entry R es k v))
+    by Less is rest = IsPermutation-refl ((k, v) ∷ e ∷ es)
+    by Equal is rest = absurd (new.0 is)
+    by Greater is rest =
+        IsPermutation-trans _ _ _ (IsPermutation-sym _ _ (IsPermutation-middle (e ∷ []) (k, v) es)) (IsPermutation-cons e ((k, v) ∷ es) (insert_entry R es k v) rest)
+
+abbrev Unlike : List ℕ → Sorted → Type 0
+Unlike name sorted = AllByRecursion (λ units. slice_cmp nat_cmp (utf16_units name) units ≢ Equal) (keys_of sorted)
+
+same_units : (one other : List ℕ) → IsUtf8 one → IsUtf8 other → slice_cmp nat_cmp (utf16_units one) (utf16_units other) ≡ Equal → one ≡ other
+same_units one other one_utf8 other_utf8 is =
+    units_distinct one other one_utf8 other_utf8 ((bytes_eq-Decides (utf16_units one) (utf16_units other)).0 (sym (is_eq-slice_cmp (utf16_units one) (utf16_units other)) ∙ ap is_eq is))
+
+-- none of the names is among the entries
+abbrev AllNew : List (List ℕ) → Sorted → Type 0
+AllNew names sorted = AllByRecursion (λ name. Unlike name sorted) names
+
+all_new-more : (ms : Members) (name text : List ℕ) (before : Sorted) → IsUtf8 name → HasNames ms → AllByRecursion (λ other. name ≢ other) (keys_of (members_list ms)) → AllNew (keys_of (members_list ms)) before → AllNew (keys_of (members_list ms)) (with_text before name text)
+unfolding with_text
+all_new-more no_members name text before utf8 names other new = tt
+all_new-more (member next d ms) name text before utf8 names other new = (
+  all_keys (slice_cmp nat_cmp) (λ units. slice_cmp nat_cmp (utf16_units next) units ≢ Equal) before (utf16_units name) (canon_string name ++ (codes ":" ++ text)) new.0 (λ same. other.0 (sym (same_units next name names.0 utf8 same))),
+  all_new-more ms name text before utf8 names.2 other.1 new.1,
+)
+
+-- the texts of the members, with the entries that were there before
+record IsGathered (ms : Members) (before sorted : Sorted) : Type 0 where
+  texts : Sorted
+  are : member_texts ms ≡ Some texts
+  moved : IsPermutation (texts ++ before) sorted
+
+gathered-more : (name : List ℕ) (d : Data) (ms : Members) (before sorted : Sorted) (text : List ℕ) → canon d ≡ Some text → Unlike name before → IsGathered ms (with_text before name text) sorted → IsGathered (member name d ms) before sorted
+unfolding with_text
+gathered-more name d ms before sorted text is new rest =
+    let e : List ℕ × List ℕ = (utf16_units name, canon_string name ++ (codes ":" ++ text)) in
+    record {
+      texts = e ∷ rest.texts;
+      are = rw (is, rest.are) refl;
+      moved = IsPermutation-trans _ _ _ (IsPermutation-sym _ _ (IsPermutation-middle rest.texts e before))
+          (IsPermutation-trans _ _ _ (IsPermutation-append_right rest.texts (e ∷ before) (with_text before name text) (new-insert_entry (slice_cmp nat_cmp) before e.0 e.1 new)) rest.moved);
+    }
+
+gathered-from : (ms : Members) (before sorted : Sorted) → HasNames ms → AllNew (keys_of (members_list ms)) before → canon_members ms before ≡ Some sorted → IsGathered ms before sorted
+gathered-from no_members before sorted names new is = let same : before ≡ sorted = cc in record { texts = []; are = refl; moved = subst (IsPermutation before) same (IsPermutation-refl before) }
+gathered-from (member name d ms) before sorted names new is =
+    by (canon d) refl is (λ text is_text. gathered-from ms (with_text before name text) sorted names.2 (all_new-more ms name text before names.0 names.2 names.1 new.1) is_text) where
+      by : (found : Option (List ℕ)) → canon d ≡ found → option_and_then (λ text. canon_members ms (with_text before name text)) found ≡ Some sorted → ((text : List ℕ) → canon_members ms (with_text before name text) ≡ Some sorted → IsGathered ms (with_text before name text) sorted) → IsGathered (member name d ms) before sorted
+      by None found is rest = absurd cc
+      by (Some text) found is rest = gathered-more name d ms before sorted text found new.0 (rest text is)
+
+none_before : (names : List (List ℕ)) → AllNew names []
+none_before [] = tt
+none_before (name ∷ names) = (tt, none_before names)
+
+pub members_whole : (ms : Members) → HasNames ms → (sorted : Sorted) → canon_members ms [] ≡ Some sorted → IsInOrder ms sorted
+members_whole ms names sorted is =
+    let all = gathered-from ms [] sorted names (none_before (keys_of (members_list ms))) is in
+    record { texts = all.texts; are = all.are; moved = subst (λ l. IsPermutation l sorted) (append-nil all.texts) all.moved; ascend = members_ascend ms sorted is }
