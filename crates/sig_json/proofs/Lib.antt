@@ -7,3 +7,5 @@ pub mod Building
 pub mod CanonicalTexts
 pub mod SameTrees
 pub mod TextMaps
+pub mod Units
+pub mod MemberOrder

@@ -9,6 +9,7 @@ pub mod List
 pub mod Member
 pub mod Members
 pub mod Numerals
+pub mod Order
 pub mod Reads
 pub mod Record
 pub mod Spells

@@ -15,6 +15,7 @@ mod error;
 mod floats;
 mod integer;
 mod kind;
+pub mod laws;
 mod member;
 mod members;
 mod record;

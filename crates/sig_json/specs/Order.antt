@@ -1,0 +1,33 @@
+-- *Order of members*: how the members of an object stand in its canonical text (RFC 8785 section 3.2.3).
+use Rattle.std.specs.Prelude.{◌≡◌, ◌≢◌, [], ◌∷◌, ◌++◌, Option, Some, codes, ⊤}
+use Rattle.std.specs.Cmp.Lexicographic.{slice_cmp}
+use Rattle.std.specs.List.{AllByRecursion}
+use Rattle.std.specs.List.Sorted.{IsPermutation, IsStrictlySortedBy}
+use Rattle.std.specs.Map.{keys_of}
+use Rattle.std.specs.Ordering.{nat_cmp}
+use Rattle.std.specs.Str.{IsUtf8}
+use Rattle.serde_json.specs.Data.{Members, no_members, member}
+use Rattle.sig_json.specs.Canonical.{Sorted, canon, canon_string, utf16_units}
+use Rattle.sig_json.specs.Members.{members_list}
+use Rattle.sig_json.specs.Reads.{◌>>=◌}
+
+-- each name is a text (UTF-8), and no later member has it too
+abbrev pub HasNames : Members → Type 0
+HasNames no_members = ⊤
+HasNames (member name d ms) = IsUtf8 name × AllByRecursion (λ other. name ≢ other) (keys_of (members_list ms)) × HasNames ms
+
+-- the units of each member's name and its text, in the order in which the members stand; none where some value has no canonical text
+abbrev pub member_texts : Members → Option Sorted
+member_texts no_members = Some []
+member_texts (member name d ms) = canon d >>= λ text. member_texts ms >>= λ texts. Some ((utf16_units name, canon_string name ++ (codes ":" ++ text)) ∷ texts)
+
+-- "property name strings ... are compared as arrays of UTF-16 code units": the units of each name are below those after it
+abbrev pub UnitsAscend : Sorted → Type 0
+UnitsAscend sorted = IsStrictlySortedBy (slice_cmp nat_cmp) (keys_of sorted)
+
+-- the texts of all members, each once, in ascending order
+pub record IsInOrder (ms : Members) (sorted : Sorted) : Type 0 where
+  pub texts : Sorted
+  pub are : member_texts ms ≡ Some texts
+  pub moved : IsPermutation texts sorted
+  pub ascend : UnitsAscend sorted
