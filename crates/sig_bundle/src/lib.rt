@@ -10,21 +10,15 @@ mod checked_bundle;
 mod content_check;
 mod copy;
 mod material;
-<<<<<<< HEAD
-mod profile_check;
-=======
 mod object;
->>>>>>> a685616031b4075745df67fc6e868d86b75b6aac
+mod profile_check;
 mod read;
 mod read_content;
 mod read_entry;
 mod read_material;
-<<<<<<< HEAD
 mod signer;
 mod version;
-=======
 mod write_value;
->>>>>>> a685616031b4075745df67fc6e868d86b75b6aac
 
 pub use bundle::{Bundle, Content, MessageSignature};
 pub use bundle_error::{
@@ -37,5 +31,8 @@ pub use material::{
     VerificationMaterial,
 };
 pub use read::read_bundle;
-pub use sig_dsse::{DsseEnvelope, DsseSignature, DsseSignatures};
+pub use sig_dsse::{
+    ArtifactDigest, DigestName, Digests, DsseEnvelope, DsseSignature, DsseSignatures,
+    InTotoStatementV1, Subject, SubjectDigests, Subjects, compute_pae, envelope_json,
+};
 pub use version::Version;
