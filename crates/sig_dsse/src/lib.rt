@@ -13,6 +13,8 @@ mod recognized;
 mod statement;
 mod statement_reader;
 mod subject_digests;
+#[cfg(test)]
+mod tests;
 
 pub use artifact_digest::{ArtifactDigest, Digests};
 pub use envelope::{DsseEnvelope, DsseSignature, DsseSignatures};
