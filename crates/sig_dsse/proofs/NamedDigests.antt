@@ -11,7 +11,7 @@ use Rattle.sig_dsse.specs.declared.artifact_digest.ArtifactDigest.TheVariants.{S
 use Rattle.sig_dsse.specs.declared.recognized.DigestName.TheVariants.{Sha256 as NamedSha256, Sha512 as NamedSha512}
 use Rattle.sig_dsse.specs.declared.recognized.SubjectFault.{SubjectFault}
 use Rattle.sig_dsse.specs.Recognized.{◌>>=◌, digest_or_malformed, digests_of_each, entry_digest, map_digests, not_none, digests_or_fault, most_digests, most_subjects, IsEntryOf, IsDigestOf}
-use Rattle.sig_dsse.specs.Statement.{Digests, Subject, Statement}
+use Rattle.sig_dsse.specs.Statement.{DigestTexts, Subject, Statement}
 
 -- ---- some element
 
@@ -120,7 +120,7 @@ unless_many : (many : Bool) (fault : SubjectFault) (found : Result (List Artifac
 unless_many true fault found digests e = cc
 unless_many false fault found digests e = e
 
-map_tells : (map : Digests) (digests : List ArtifactDigest) → map_digests map ≡ Ok digests → (d : ArtifactDigest) → Contains digests d ↔ Any (IsEntryOf d) map
+map_tells : (map : DigestTexts) (digests : List ArtifactDigest) → map_digests map ≡ Ok digests → (d : ArtifactDigest) → Contains digests d ↔ Any (IsEntryOf d) map
 unfolding map_digests
 map_tells map digests is d = each_tells entry_digest IsEntryOf entry_tells map digests (unless_many (nat_lt most_digests (length map)) _ _ digests is) d
 

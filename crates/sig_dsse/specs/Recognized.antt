@@ -8,7 +8,7 @@ use Rattle.sig_dsse.specs.declared.recognized.DigestName.TheVariants.{Sha256 as 
 use Rattle.sig_dsse.specs.declared.recognized.SubjectFault.{SubjectFault}
 use Rattle.sig_dsse.specs.declared.recognized.SubjectFault.TheVariants.{TooManySubjects, TooManyDigests, Malformed, NoneRecognized}
 use Rattle.sig_dsse.specs.Digest.{algorithm_of, bytes_of}
-use Rattle.sig_dsse.specs.Statement.{Digests, Statement}
+use Rattle.sig_dsse.specs.Statement.{DigestTexts, Statement}
 
 -- go on with the value; a fault stays
 infixl 10 ◌>>=◌
@@ -41,7 +41,7 @@ digests_of_each digests_of [] = Ok []
 digests_of_each digests_of (x ∷ xs) = digests_of x >>= λ first. digests_of_each digests_of xs >>= λ others. Ok (first ++ others)
 
 -- the digests of a subject
-unfoldable pub map_digests : Digests → Result (List ArtifactDigest) SubjectFault
+unfoldable pub map_digests : DigestTexts → Result (List ArtifactDigest) SubjectFault
 map_digests digests = if nat_lt most_digests (length digests) then Err (TooManyDigests (length digests)) else digests_of_each entry_digest digests
 
 -- one digest or more
