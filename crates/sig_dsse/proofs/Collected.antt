@@ -9,7 +9,7 @@ use Rattle.sig_dsse.specs.declared.statement.InTotoStatementV1.{InTotoStatementV
 use Rattle.sig_dsse.specs.declared.statement.Subject.{Subject as HeldSubject}
 use Rattle.sig_dsse.specs.Recognized.{◌>>=◌, digests_of_each, map_digests, not_none, digests_or_fault}
 use Rattle.sig_dsse.specs.Seen.{seen, seen_subject}
-use Rattle.sig_dsse.specs.Statement.{Digests, Subject}
+use Rattle.sig_dsse.specs.Statement.{DigestTexts, Subject}
 
 abbrev Collected : Type 0
 Collected = Result (List ArtifactDigest) SubjectFault
@@ -68,19 +68,19 @@ unfolding digests_or_fault
 recognized-many statement n many count =
     rw (length-map statement.subject seen_subject, ← count, lt-ltb 1024 n many) refl
 
-recognized-few : (statement : InTotoStatementV1) (n : ℕ) (maps : List Digests) → n ≤ 1024 → n ≡ length statement.subject → maps ≡ map (λ (s : HeldSubject). s.digest) statement.subject → digests_or_fault (seen statement) ≡ (digests_of_each map_digests maps >>= not_none)
+recognized-few : (statement : InTotoStatementV1) (n : ℕ) (maps : List DigestTexts) → n ≤ 1024 → n ≡ length statement.subject → maps ≡ map (λ (s : HeldSubject). s.digest) statement.subject → digests_or_fault (seen statement) ≡ (digests_of_each map_digests maps >>= not_none)
 unfolding digests_or_fault
 recognized-few statement n maps few count same =
     rw (length-map statement.subject seen_subject, ← count, le-ltb 1024 n few, digests-seen statement.subject, same) refl
 
-pub recognized-refused : (statement : InTotoStatementV1) (n : ℕ) (maps : List Digests) (e : SubjectFault) → n ≤ 1024 → n ≡ length statement.subject → maps ≡ map (λ (s : HeldSubject). s.digest) statement.subject → digests_of_each map_digests maps ≡ Err e → digests_or_fault (seen statement) ≡ Err e
+pub recognized-refused : (statement : InTotoStatementV1) (n : ℕ) (maps : List DigestTexts) (e : SubjectFault) → n ≤ 1024 → n ≡ length statement.subject → maps ≡ map (λ (s : HeldSubject). s.digest) statement.subject → digests_of_each map_digests maps ≡ Err e → digests_or_fault (seen statement) ≡ Err e
 recognized-refused statement n maps e few count same is = recognized-few statement n maps few count same ∙ rw is refl
 
-pub recognized-none : (statement : InTotoStatementV1) (n : ℕ) (maps : List Digests) (digests : List ArtifactDigest) → n ≤ 1024 → n ≡ length statement.subject → maps ≡ map (λ (s : HeldSubject). s.digest) statement.subject → digests_of_each map_digests maps ≡ Ok digests → length digests ≡ 0 → digests_or_fault (seen statement) ≡ Err NoneRecognized
+pub recognized-none : (statement : InTotoStatementV1) (n : ℕ) (maps : List DigestTexts) (digests : List ArtifactDigest) → n ≤ 1024 → n ≡ length statement.subject → maps ≡ map (λ (s : HeldSubject). s.digest) statement.subject → digests_of_each map_digests maps ≡ Ok digests → length digests ≡ 0 → digests_or_fault (seen statement) ≡ Err NoneRecognized
 recognized-none statement n maps [] few count same is none = recognized-few statement n maps few count same ∙ rw is refl
 recognized-none statement n maps (d ∷ ds) few count same is none = absurd (omega arith)
 
-pub recognized-found : (statement : InTotoStatementV1) (n : ℕ) (maps : List Digests) (digests : List ArtifactDigest) → n ≤ 1024 → n ≡ length statement.subject → maps ≡ map (λ (s : HeldSubject). s.digest) statement.subject → digests_of_each map_digests maps ≡ Ok digests → length digests ≢ 0 → digests_or_fault (seen statement) ≡ Ok digests
+pub recognized-found : (statement : InTotoStatementV1) (n : ℕ) (maps : List DigestTexts) (digests : List ArtifactDigest) → n ≤ 1024 → n ≡ length statement.subject → maps ≡ map (λ (s : HeldSubject). s.digest) statement.subject → digests_of_each map_digests maps ≡ Ok digests → length digests ≢ 0 → digests_or_fault (seen statement) ≡ Ok digests
 recognized-found statement n maps [] few count same is some = absurd (some refl)
 recognized-found statement n maps (d ∷ ds) few count same is some = recognized-few statement n maps few count same ∙ rw is refl
 

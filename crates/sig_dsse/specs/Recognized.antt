@@ -1,5 +1,5 @@
 -- *Subject digests*: the digests of a statement that are named exactly `sha256` or `sha512`, over all subjects in order and names in byte order.
-use Rattle.std.specs.Prelude.{ℕ, nat_lt, bytes_eq, if◌then◌else◌, List, [], ◌∷◌, ◌++◌, length, map, codes, Result, Ok, Err}
+use Rattle.std.specs.Prelude.{◌≡◌, ◌↔◌, Any, Contains, ℕ, nat_lt, bytes_eq, if◌then◌else◌, List, [], ◌∷◌, ◌++◌, length, map, codes, Result, Ok, Err}
 use Rattle.hex.specs.Hex.{decode_sized}
 use Rattle.sig_dsse.specs.declared.artifact_digest.ArtifactDigest.{ArtifactDigest}
 use Rattle.sig_dsse.specs.declared.artifact_digest.ArtifactDigest.TheVariants.{Sha256, Sha512}
@@ -7,7 +7,8 @@ use Rattle.sig_dsse.specs.declared.recognized.DigestName.{DigestName}
 use Rattle.sig_dsse.specs.declared.recognized.DigestName.TheVariants.{Sha256 as NamedSha256, Sha512 as NamedSha512}
 use Rattle.sig_dsse.specs.declared.recognized.SubjectFault.{SubjectFault}
 use Rattle.sig_dsse.specs.declared.recognized.SubjectFault.TheVariants.{TooManySubjects, TooManyDigests, Malformed, NoneRecognized}
-use Rattle.sig_dsse.specs.Statement.{Digests, Statement}
+use Rattle.sig_dsse.specs.Digest.{algorithm_of, bytes_of}
+use Rattle.sig_dsse.specs.Statement.{DigestTexts, Statement}
 
 -- go on with the value; a fault stays
 infixl 10 ◌>>=◌
@@ -40,7 +41,7 @@ digests_of_each digests_of [] = Ok []
 digests_of_each digests_of (x ∷ xs) = digests_of x >>= λ first. digests_of_each digests_of xs >>= λ others. Ok (first ++ others)
 
 -- the digests of a subject
-unfoldable pub map_digests : Digests → Result (List ArtifactDigest) SubjectFault
+unfoldable pub map_digests : DigestTexts → Result (List ArtifactDigest) SubjectFault
 map_digests digests = if nat_lt most_digests (length digests) then Err (TooManyDigests (length digests)) else digests_of_each entry_digest digests
 
 -- one digest or more
@@ -53,3 +54,21 @@ unfoldable pub digests_or_fault : Statement → Result (List ArtifactDigest) Sub
 digests_or_fault statement =
     if nat_lt most_subjects (length statement.subject) then Err (TooManySubjects (length statement.subject))
     else digests_of_each map_digests (map (λ subject. subject.digest) statement.subject) >>= not_none
+
+-- how many bytes the algorithm gives
+abbrev pub size_of : ArtifactDigest → ℕ
+size_of (Sha256 bytes) = 32
+size_of (Sha512 bytes) = 64
+
+-- the entry has the algorithm's name, and the digest's bytes in hexadecimal digits of either case
+abbrev pub IsEntryOf : ArtifactDigest → List ℕ × List ℕ → Type 0
+IsEntryOf digest entry = (entry.0 ≡ algorithm_of digest) × (decode_sized entry.1 (size_of digest) ≡ Ok (bytes_of digest))
+
+-- the digest is an entry of one of the subjects
+abbrev pub IsDigestOf : Statement → ArtifactDigest → Type 0
+IsDigestOf statement digest = Any (Any (IsEntryOf digest)) (map (λ subject. subject.digest) statement.subject)
+
+-- the digests that are taken are the statement's
+abbrev pub TakesTheDigests : Type 0
+TakesTheDigests = (statement : Statement) (digests : List ArtifactDigest) → digests_or_fault statement ≡ Ok digests
+    → (digest : ArtifactDigest) → Contains digests digest ↔ IsDigestOf statement digest

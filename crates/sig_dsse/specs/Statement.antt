@@ -8,13 +8,13 @@ use Rattle.sig_json.specs.Member.{required, required_text, required_list, option
 use Rattle.sig_json.specs.Reads.{◌>>=◌}
 
 -- texts by their names, in byte order of the names
-abbrev pub Digests : Type 0
-Digests = List (List ℕ × List ℕ)
+abbrev pub DigestTexts : Type 0
+DigestTexts = List (List ℕ × List ℕ)
 
 -- a subject: what it is called, its digests by their names, and any annotations
 pub record Subject : Type 0 where
   pub name : Option (List ℕ)
-  pub digest : Digests
+  pub digest : DigestTexts
   pub annotations : Option Data
 
 -- `_type`, `subject`, `predicateType`, `predicate`

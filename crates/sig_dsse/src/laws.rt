@@ -2,6 +2,7 @@
 ghost use Rattle.std.specs.Prelude.{◌≡◌, ◌↔◌, IsTrue};
 ghost use Rattle.sig_dsse.specs.Digest.{algorithm_of, bytes_of};
 ghost use Rattle.sig_dsse.specs.Pae.{PaeIsInjective};
+ghost use Rattle.sig_dsse.specs.Recognized.{TakesTheDigests};
 
 use crate::artifact_digest::ArtifactDigest;
 
@@ -16,3 +17,8 @@ pub fn equal_digests(one: &ArtifactDigest, other: &ArtifactDigest) -> bool
 {
     one == other
 }
+
+/// The digests that are taken of a statement are exactly those that one of its subjects has under the name of their algorithm. It has no code.
+pub fn taken_digests()
+    ensures { TakesTheDigests }
+{}

@@ -1,0 +1,263 @@
+//! Outside vectors: encodings and envelopes by text, which payloads are statements, and which digests are taken.
+use crate::{
+    ArtifactDigest, DsseEnvelope, DsseSignature, DsseSignatures, InTotoStatementV1, Subject,
+    SubjectFault, Subjects, compute_pae, envelope_json, recognized_digests,
+};
+use sha2::{Digest, Sha256, Sha512};
+use sig_base::{Bytes, OutOfMemory, SigstoreError, Text, TextMap, UnexpectedKind};
+use std::alloc::Global;
+use std::test::Fail;
+
+/// A statement of four subjects, two of them without a digest named `sha256`.
+const STATEMENT: &str =
+    r#"{"_type":"https://in-toto.io/Statement/v1","subject":[{"name":"a","digest":{"sha256":"aaaaaaaaaaaaaaaaaaaaaaaaaaaaaaaaaaaaaaaaaaaaaaaaaaaaaaaaaaaaaaaa"}},{"name":"b","digest":{}},{"name":"c","digest":{"sha512":"bbbbbbbbbbbbbbbbbbbbbbbbbbbbbbbbbbbbbbbbbbbbbbbbbbbbbbbbbbbbbbbbbbbbbbbbbbbbbbbbbbbbbbbbbbbbbbbbbbbbbbbbbbbbbbbbbbbbbbbbbbbbbbbb"}},{"name":"a","digest":{"sha256":"aaaaaaaaaaaaaaaaaaaaaaaaaaaaaaaaaaaaaaaaaaaaaaaaaaaaaaaaaaaaaaaa"}}],"predicateType":"https://sigstore.dev/cosign/sign/v1","predicate":{}}"#;
+
+/// Each line: whether the text after the first space is a statement.
+const STATEMENTS: &str = r#"read {"_type":"t","subject":[],"predicateType":"p"}
+read {"_type":"t","subject":[{"digest":{}}],"predicateType":"p","predicate":null,"other":1}
+read {"_type":"","subject":[{"name":null,"digest":{"a":"b"},"annotations":[1]}],"predicateType":"","predicate":[]}
+refused {"subject":[],"predicateType":"p"}
+refused {"_type":"t","predicateType":"p"}
+refused {"_type":"t","subject":[]}
+refused {"_type":1,"subject":[],"predicateType":"p"}
+refused {"_type":"t","subject":{},"predicateType":"p"}
+refused {"_type":"t","subject":null,"predicateType":"p"}
+refused {"_type":"t","subject":[],"predicateType":null}
+refused {"_type":"t","subject":[null],"predicateType":"p"}
+refused {"_type":"t","subject":[{}],"predicateType":"p"}
+refused {"_type":"t","subject":[{"digest":null}],"predicateType":"p"}
+refused {"_type":"t","subject":[{"digest":[]}],"predicateType":"p"}
+refused {"_type":"t","subject":[{"digest":{"a":null}}],"predicateType":"p"}
+refused {"_type":"t","subject":[{"digest":{"a":1}}],"predicateType":"p"}
+refused {"_type":"t","subject":[{"name":1,"digest":{}}],"predicateType":"p"}
+refused {"_type":"t","subject":[],"predicateType":"p","predicate":1.5}
+refused []
+refused {"#;
+
+/// Each line: what the call that checks for `cosign` answers.
+const COSIGN: &str =
+    r#"Ok {"_type":"https://in-toto.io/Statement/v1","subject":[{"digest":{"sha256":"x"}}],"predicateType":"https://sigstore.dev/cosign/sign/v1"}
+StatementType {"_type":"https://in-toto.io/Statement/v0.1","subject":[],"predicateType":"p"}
+PredicateType {"_type":"https://in-toto.io/Statement/v1","subject":[],"predicateType":"p"}
+NoSubjects {"_type":"https://in-toto.io/Statement/v1","subject":[],"predicateType":"https://sigstore.dev/cosign/sign/v1"}
+FirstSubjectWithoutSha256 {"_type":"https://in-toto.io/Statement/v1","subject":[{"digest":{"sha512":"x"}},{"digest":{"sha256":"x"}}],"predicateType":"https://sigstore.dev/cosign/sign/v1"}"#;
+
+/// Each line: what the digests of these maps are refused with.
+const FAULTS: &str = r#"NoneRecognized
+NoneRecognized {"SHA256":"zz"}
+Malformed {"sha256":"zz"}
+Malformed {"sha256":""}
+Malformed {"sha512":"aaaaaaaaaaaaaaaaaaaaaaaaaaaaaaaaaaaaaaaaaaaaaaaaaaaaaaaaaaaaaaaa"}
+Malformed {"other":"zz"},{"sha512":"0"}"#;
+
+fn envelope(
+    alloc: Global,
+    payload: &[u8],
+    payload_type: &str,
+) -> Result<DsseEnvelope, OutOfMemory> {
+    Ok(DsseEnvelope {
+        payload: Bytes::copy_of(alloc, payload)?,
+        payload_type: Text::copy_of(alloc, payload_type)?,
+        signatures: DsseSignatures::new(alloc),
+    })
+}
+
+fn signature(alloc: Global, sig: &[u8], keyid: &str) -> Result<DsseSignature, OutOfMemory> {
+    Ok(DsseSignature {
+        sig: Bytes::copy_of(alloc, sig)?,
+        keyid: Text::copy_of(alloc, keyid)?,
+    })
+}
+
+/// Whether the envelope's text is this one.
+fn is_written(alloc: Global, envelope: &DsseEnvelope, text: &str) -> bool {
+    match envelope_json(alloc, envelope) {
+        Ok(written) => written.as_str() == text,
+        Err(_) => false,
+    }
+}
+
+/// Whether a payload is a statement; none where the call answers otherwise.
+fn is_statement(alloc: Global, payload: &str) -> Option<bool> {
+    match InTotoStatementV1::from_json(alloc, payload.as_bytes()) {
+        Ok(_) => Some(true),
+        Err(SigstoreError::UnexpectedError(UnexpectedKind::Statement)) => Some(false),
+        Err(_) => None,
+    }
+}
+
+/// What the check for `cosign` answers, by one word.
+fn cosign_word(alloc: Global, payload: &str) -> &'static str {
+    match InTotoStatementV1::from_json(alloc, payload.as_bytes()) {
+        Ok(statement) => match statement.validate_cosign_v1() {
+            Ok(()) => "Ok",
+            Err(SigstoreError::UnexpectedError(kind)) => kind.name(),
+            Err(_) => "another",
+        },
+        Err(_) => "unread",
+    }
+}
+
+/// Whether the digests of subjects with these maps are refused with the fault of this name.
+fn is_refused(alloc: Global, maps: &str, fault: &str) -> Result<bool, Fail> {
+    let subjects = maps
+        .replace(alloc, "{", "{\"digest\":{")?
+        .replace(alloc, "}", "}}")?;
+    let payload = format!(in alloc;
+        "{{\"_type\":\"\",\"predicateType\":\"\",\"subject\":[{subjects}]}}"
+    )?;
+    match InTotoStatementV1::from_json(alloc, payload.as_bytes()) {
+        Ok(statement) => match recognized_digests(alloc, &statement) {
+            Ok(_) => Ok(false),
+            Err(found) => Ok(format!(in alloc; "{found}")?.as_str() == fault),
+        },
+        Err(_) => Ok(false),
+    }
+}
+
+/// A statement of so many subjects with so many digests each, none with a known name.
+fn many(alloc: Global, subjects: u16, digests: u16) -> Result<InTotoStatementV1, OutOfMemory> {
+    let mut subject = Subjects::new(alloc);
+    for _ in 0..subjects {
+        let mut digest = TextMap::new(alloc);
+        for place in 0..digests {
+            let name = format!(in alloc; "{place}")?;
+            digest.insert(name.as_str(), "")?;
+        }
+        subject.push(Subject {
+            name: None,
+            digest,
+            annotations: None,
+        })?;
+    }
+    Ok(InTotoStatementV1 {
+        statement_type: Text::copy_of(alloc, "")?,
+        subject,
+        predicate_type: Text::copy_of(alloc, "")?,
+        predicate: None,
+    })
+}
+
+/// Whether the digests of so many are refused with this fault.
+fn is_fault(alloc: Global, subjects: u16, digests: u16, fault: SubjectFault) -> bool {
+    match many(alloc, subjects, digests) {
+        Ok(statement) => match recognized_digests(alloc, &statement) {
+            Ok(_) => false,
+            Err(found) => found == fault,
+        },
+        Err(_) => false,
+    }
+}
+
+#[test]
+fn encodings_of_the_protocol(rt: HostRuntime) -> Result<(), Fail> {
+    let alloc = rt.alloc();
+    let encoded = compute_pae(alloc, "http://example.com/HelloWorld", b"hello world")?;
+    assert!(rt;
+        encoded.as_slice() == b"DSSEv1 29 http://example.com/HelloWorld 11 hello world".as_slice()
+    );
+    let empty = compute_pae(alloc, "", b"")?;
+    assert!(rt; empty.as_slice() == b"DSSEv1 0  0 ".as_slice());
+    Ok(())
+}
+
+#[test]
+fn envelopes_as_text(rt: HostRuntime) -> Result<(), Fail> {
+    let alloc = rt.alloc();
+    let mut plain = envelope(alloc, b"hello world", "application/vnd.in-toto+json")?;
+    plain.signatures.push(signature(alloc, b"sig-dsse", "")?)?;
+    assert!(rt;
+        is_written(
+            alloc,
+            &plain,
+            r#"{"payload":"aGVsbG8gd29ybGQ=","payloadType":"application/vnd.in-toto+json","signatures":[{"sig":"c2lnLWRzc2U="}]}"#
+        )
+    );
+    let mut odd = envelope(alloc, b"", "a\"\\\n\u{1}\u{e9}")?;
+    odd.signatures.push(signature(alloc, b"s", "k/1")?)?;
+    odd.signatures.push(signature(alloc, b"", "")?)?;
+    assert!(rt;
+        is_written(
+            alloc,
+            &odd,
+            r#"{"payloadType":"a\"\\\n\u0001é","signatures":[{"sig":"cw==","keyid":"k/1"},{}]}"#
+        )
+    );
+    assert!(rt; is_written(alloc, &envelope(alloc, b"", "")?, "{}"));
+    Ok(())
+}
+
+#[test]
+fn digests_of_artifacts(rt: HostRuntime) -> Result<(), Fail> {
+    let alloc = rt.alloc();
+    let mut hasher = Sha256::new();
+    hasher.update(b"abc");
+    let short = ArtifactDigest::from_sha256(hasher);
+    assert!(rt; short.algorithm() == "sha256");
+    assert!(rt;
+        short.to_hex(alloc)?.as_str()
+            == "ba7816bf8f01cfea414140de5dae2223b00361a396177a9cb410ff61f20015ad"
+    );
+    let long = ArtifactDigest::from_sha512(Sha512::new());
+    assert!(rt; long.algorithm() == "sha512");
+    assert!(rt; long.to_hex(alloc)?.as_str().starts_with("cf83e1357eefb8bd"));
+    assert!(rt; long != ArtifactDigest::from([0; 64]));
+    assert!(rt; ArtifactDigest::from([7; 32]) == ArtifactDigest::Sha256([7; 32]));
+    Ok(())
+}
+
+#[test]
+fn payloads_that_are_statements(rt: HostRuntime) {
+    for line in STATEMENTS.lines() {
+        if let Some((word, payload)) = line.split_once(' ') {
+            assert!(rt;
+                is_statement(rt.alloc(), payload) == Some(word == "read"),
+                "{line}"
+            );
+        }
+    }
+}
+
+#[test]
+fn statements_as_cosign_signs_them(rt: HostRuntime) {
+    assert!(rt; cosign_word(rt.alloc(), STATEMENT) == "Ok");
+    for line in COSIGN.lines() {
+        if let Some((word, payload)) = line.split_once(' ') {
+            assert!(rt; cosign_word(rt.alloc(), payload) == word, "{line}");
+        }
+    }
+}
+
+#[test]
+fn digests_of_a_statement(rt: HostRuntime) -> Result<(), Fail> {
+    let alloc = rt.alloc();
+    let statement = InTotoStatementV1::from_json(alloc, STATEMENT.as_bytes())?;
+    let first = statement.subject_sha256_digest(alloc)?;
+    assert!(rt; first.as_str().starts_with("aaaa"));
+    let mut walk = statement.subject_digests();
+    assert!(rt; walk.next().is_some_and(|digest| digest.len() == 1));
+    assert!(rt; walk.next().is_some_and(|digest| digest.len() == 0));
+    let digests = recognized_digests(alloc, &statement)?;
+    assert!(rt; digests.len() == 3);
+    assert!(rt; digests.get(0) == Some(&ArtifactDigest::Sha256([0xaa; 32])));
+    assert!(rt; digests.get(1) == Some(&ArtifactDigest::Sha512([0xbb; 64])));
+    Ok(())
+}
+
+#[test]
+fn digests_that_are_refused(rt: HostRuntime) -> Result<(), Fail> {
+    for line in FAULTS.lines() {
+        let (fault, maps) = line.split_once(' ').unwrap_or((line, ""));
+        assert!(rt; is_refused(rt.alloc(), maps, fault)?, "{line}");
+    }
+    Ok(())
+}
+
+#[test]
+fn subjects_and_digests_that_are_too_many(rt: HostRuntime) {
+    let alloc = rt.alloc();
+    assert!(rt; is_fault(alloc, 1025, 0, SubjectFault::TooManySubjects(1025)));
+    assert!(rt; is_fault(alloc, 1024, 0, SubjectFault::NoneRecognized));
+    assert!(rt; is_fault(alloc, 1, 33, SubjectFault::TooManyDigests(33)));
+    assert!(rt; is_fault(alloc, 1, 32, SubjectFault::NoneRecognized));
+}
