@@ -1,3 +1,5 @@
+pub mod EntriesBack
+pub mod Found
 pub mod Lists
 pub mod Objects
 pub mod Values

@@ -12,6 +12,7 @@ mod read;
 mod read_content;
 mod read_entry;
 mod read_material;
+mod write_entry;
 mod write_value;
 
 pub use bundle::{Bundle, Content, MessageSignature};
