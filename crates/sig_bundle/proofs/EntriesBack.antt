@@ -12,7 +12,7 @@ use Rattle.sig_bundle.proofs.Found.{found, found_option}
 use Rattle.sig_json.specs.Kinds.{bytes_of, i64_of, text_of}
 use Rattle.sig_json.specs.Member.{list_each, optional, optional_bytes, optional_i64, optional_list, optional_text}
 
-text_back : (text : List ℕ) → IsReadAs text_of (string text) text
+pub text_back : (text : List ℕ) → IsReadAs text_of (string text) text
 unfolding text_of
 text_back text = (refl, refl)
 

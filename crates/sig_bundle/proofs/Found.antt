@@ -1,8 +1,8 @@
 -- Members of an object that is written, as a reader finds them.
 use Rattle.std.proofs.Common.{◌≡◌, ℕ, List, [], ◌∷◌, Bool, true, false, Option, Some, None, option_map, refl, sym, ap, ◌∙◌, inl, inr}
 use Rattle.std.proofs.lemmas.Bool.{cases_Bool}
-use Rattle.std.proofs.lemmas.Str.{bytes_eq-true, bytes_eq-false}
-use Rattle.std.specs.Prelude.{bytes_eq, unwrap_or}
+use Rattle.std.proofs.lemmas.Slice.Eq.{bytes_eq-Decides}
+use Rattle.std.specs.Prelude.{bytes_eq, unwrap_or, if◌then◌else◌}
 use Rattle.serde_json.specs.Data.{Data, object, Members, no_members, put}
 use Rattle.serde_json.specs.Find.{get_member}
 use Rattle.serde_json.proofs.Views.{get_member-put, get_member-put_other}
@@ -29,8 +29,8 @@ get_member-put_none name k (Some d) ms other = get_member-put_other name k d ms 
 get_member-put_some : (name k : List ℕ) (value : Option Data) (ms : Members) → get_member name (put_some k value ms) ≡ (if bytes_eq name k then over (get_member name ms) value else get_member name ms)
 get_member-put_some name k value ms =
     elim (cases_Bool (bytes_eq name k)) [
-      | inl same ↦ rw same (get_member-put_same name k value ms (bytes_eq-true name k same))
-      | inr other ↦ rw other (get_member-put_none name k value ms (bytes_eq-false name k other))
+      | inl same ↦ rw same (get_member-put_same name k value ms ((bytes_eq-Decides name k).0 same))
+      | inr other ↦ rw other (get_member-put_none name k value ms (λ e. let same : bytes_eq name k ≡ true = (bytes_eq-Decides name k).1 e in cc))
     ]
 
 get_member-rows : (name : List ℕ) (ms : Members) (rows : List Row) → get_member name (rows_into ms rows) ≡ find_from name (get_member name ms) rows

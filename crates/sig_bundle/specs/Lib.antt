@@ -1,3 +1,4 @@
 pub mod BundleRecord
 pub mod BundleTree
+pub mod ReadBack
 pub mod Written

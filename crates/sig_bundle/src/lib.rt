@@ -12,7 +12,10 @@ mod read;
 mod read_content;
 mod read_entry;
 mod read_material;
+mod write;
+mod write_content;
 mod write_entry;
+mod write_material;
 mod write_value;
 
 pub use bundle::{Bundle, Content, MessageSignature};
@@ -21,4 +24,5 @@ pub use material::{
     VerificationMaterial,
 };
 pub use read::read_bundle;
+pub use write::bundle_text;
 pub use sig_dsse::{DsseEnvelope, DsseSignature, DsseSignatures};
