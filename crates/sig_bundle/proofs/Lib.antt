@@ -1,6 +1,8 @@
 pub mod EntriesBack
+pub mod EntryTrees
 pub mod Found
 pub mod Lists
 pub mod MaterialBack
+pub mod Nesting
 pub mod Objects
 pub mod Values

@@ -1,9 +1,8 @@
 //! The text of a bundle.
-ghost use Rattle.std.specs.Prelude.{◌≡◌, IfOk, Ok};
+ghost use Rattle.std.specs.Prelude.{◌≡◌, IfOk, Ok, Some, IsUtf8};
 ghost use Rattle.serde_json.specs.Written.{compact_text};
 ghost use Rattle.sig_bundle.specs.BundleRecord.{bundle_in, bundle_of};
 ghost use Rattle.sig_bundle.specs.BundleTree.{bundle_tree};
-ghost use Rattle.std.specs.Prelude.{Some};
 ghost use Rattle.sig_json.specs.Tree.{document_tree};
 
 use crate::bundle::Bundle;
@@ -30,14 +29,23 @@ fn write_bundle(alloc: Global, bundle: &Bundle) -> Result<Document, OutOfMemory>
     Ok(object.into_document())
 }
 
+/// Tells that a text is UTF-8, which every text is.
+fn tell_utf8(text: &Text)
+    ensures { IsUtf8 text.now }
+{
+    let _text = text.as_str();
+}
+
 /// The text of a bundle, without white space, the members of each object in the byte order of their names. Every text, integer and bytes value is
 /// written, also where it is empty; integers are written as texts; only what is none is left out. The text is read back as the same bundle.
 /// Refuses for want of memory alone.
-#[tactic(auto)]
+#[tactic(auto, using(crate::proofs::Nesting::nesting))]
 pub fn bundle_text(alloc: Global, bundle: &Bundle) -> Result<Text, OutOfMemory>
     ensures text { IfOk result (λ text. text ≡ compact_text (bundle_tree bundle.now)) }
     ensures reads_back { IfOk result (λ text. bundle_in text ≡ Ok bundle.now) }
 {
     let document = write_bundle(alloc, bundle)?;
-    compact(alloc, document.view())
+    let text = compact(alloc, document.view())?;
+    tell_utf8(&text);
+    Ok(text)
 }

@@ -100,9 +100,9 @@ impl ElementWriter for ProofWriter {
 
     #[tactic(auto, using(crate::proofs::EntriesBack::entries_back), unfolding(crate::specs::BundleTree::proof_tree))]
     fn write(alloc: Global, item: &ProofFields) -> Result<Document, OutOfMemory> {
-        let log_index = write_integer(alloc, item.log_index)?;
+        let log_index = write_integer(alloc, &item.log_index)?;
         let root_hash = write_bytes(alloc, item.root_hash.as_slice())?;
-        let tree_size = write_integer(alloc, item.tree_size)?;
+        let tree_size = write_integer(alloc, &item.tree_size)?;
         let hashes = write_list::<BytesWriter>(alloc, item.hashes.as_slice())?;
         let checkpoint = write_option::<CheckpointWriter>(alloc, &item.checkpoint)?;
         let object = Object::new(alloc)
@@ -127,10 +127,10 @@ impl ElementWriter for EntryWriter {
 
     #[tactic(auto, using(crate::proofs::EntriesBack::entries_back), unfolding(crate::specs::BundleTree::entry_tree))]
     fn write(alloc: Global, item: &TransparencyLogEntry) -> Result<Document, OutOfMemory> {
-        let log_index = write_integer(alloc, item.log_index)?;
+        let log_index = write_integer(alloc, &item.log_index)?;
         let log_id = write_option::<LogIdWriter>(alloc, &item.log_id)?;
         let kind_version = write_option::<KindVersionWriter>(alloc, &item.kind_version)?;
-        let integrated_time = write_integer(alloc, item.integrated_time)?;
+        let integrated_time = write_integer(alloc, &item.integrated_time)?;
         let promise = write_option::<PromiseWriter>(alloc, &item.inclusion_promise)?;
         let proof = write_option::<ProofWriter>(alloc, &item.inclusion_proof)?;
         let body = write_bytes(alloc, item.canonicalized_body.as_slice())?;
