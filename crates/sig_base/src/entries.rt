@@ -66,6 +66,13 @@ impl Entries {
         }
     }
 
+    /// The entries in order.
+    pub fn as_slice(&self) -> &[Bytes]
+        ensures { result.now ≡ self.now }
+    {
+        self.items.as_slice()
+    }
+
     /// The same list in memory of its own. Refuses for want of memory alone.
     pub fn copy(&self, alloc: Global) -> Result<Entries, OutOfMemory>
         ensures { IfOk result (λ e. e ≡ self.now) }

@@ -1,6 +1,11 @@
 mod CheckedLaws
 mod SignerLaws
 mod VersionLaws
+pub mod EntriesBack
+pub mod EntryTrees
+pub mod Found
 pub mod Lists
+pub mod MaterialBack
+pub mod Nesting
 pub mod Objects
 pub mod Values

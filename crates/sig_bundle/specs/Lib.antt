@@ -7,4 +7,5 @@ pub mod Signer
 pub mod Steps
 pub mod Version
 pub mod BundleTree
+pub mod ReadBack
 pub mod Written

@@ -18,6 +18,12 @@ mod read_entry;
 mod read_material;
 mod signer;
 mod version;
+#[cfg(test)]
+mod tests;
+mod write;
+mod write_content;
+mod write_entry;
+mod write_material;
 mod write_value;
 
 pub use bundle::{Bundle, Content, MessageSignature};
@@ -36,3 +42,5 @@ pub use sig_dsse::{
     InTotoStatementV1, Subject, SubjectDigests, Subjects, compute_pae, envelope_json,
 };
 pub use version::Version;
+pub use write::bundle_text;
+pub use sig_dsse::{DsseEnvelope, DsseSignature, DsseSignatures};

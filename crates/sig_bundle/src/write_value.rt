@@ -66,12 +66,13 @@ pub(crate) fn write_list<T: ElementWriter>(
     Ok(list)
 }
 
-/// Writes an integer, as a text.
+/// Writes an integer, as a text. It is lent, so that clauses see the member itself.
 #[tactic(auto, using(crate::proofs::Values::values), unfolding(crate::specs::Written::integer_tree))]
-pub(crate) fn write_integer(alloc: Global, integer: i64) -> Result<Document, OutOfMemory>
-    ensures tree { IfOk result (λ document. document_tree document ≡ integer_tree integer) }
-    ensures back { IsReadAs i64_of (integer_tree integer) integer }
+pub(crate) fn write_integer(alloc: Global, integer: &i64) -> Result<Document, OutOfMemory>
+    ensures tree { IfOk result (λ document. document_tree document ≡ integer_tree integer.now) }
+    ensures back { IfOk result (λ _. IsReadAs i64_of (integer_tree integer.now) integer.now) }
 {
+    let integer = *integer;
     let text = format!(in alloc; "{integer}")?;
     Document::of_text(alloc, text.as_str())
 }

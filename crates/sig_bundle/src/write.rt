@@ -1,0 +1,51 @@
+//! The text of a bundle.
+ghost use Rattle.std.specs.Prelude.{◌≡◌, IfOk, Ok, Some, IsUtf8};
+ghost use Rattle.serde_json.specs.Written.{compact_text};
+ghost use Rattle.sig_bundle.specs.BundleRecord.{bundle_in, bundle_of};
+ghost use Rattle.sig_bundle.specs.BundleTree.{bundle_tree};
+ghost use Rattle.sig_json.specs.Tree.{document_tree};
+
+use crate::bundle::Bundle;
+use crate::object::Object;
+use crate::write_content::with_content;
+use crate::write_material::MaterialWriter;
+use crate::write_value::write_option;
+use sig_base::{OutOfMemory, Text};
+use sig_json::{Document, compact};
+use std::alloc::Global;
+
+/// The tree of a bundle.
+#[tactic(auto, using(crate::proofs::MaterialBack::materials_back), unfolding(crate::specs::BundleTree::bundle_tree))]
+fn write_bundle(alloc: Global, bundle: &Bundle) -> Result<Document, OutOfMemory>
+    ensures tree { IfOk result (λ document. document_tree document ≡ bundle_tree bundle.now) }
+    ensures back { IfOk result (λ _. bundle_of (bundle_tree bundle.now) ≡ Some bundle.now) }
+{
+    let media_type = Document::of_text(alloc, bundle.media_type.as_str())?;
+    let material = write_option::<MaterialWriter>(alloc, &bundle.verification_material)?;
+    let object = Object::new(alloc)
+        .with(alloc, "mediaType", media_type)?
+        .with_some(alloc, "verificationMaterial", material)?;
+    let object = with_content(object, alloc, &bundle.content)?;
+    Ok(object.into_document())
+}
+
+/// Tells that a text is UTF-8, which every text is.
+fn tell_utf8(text: &Text)
+    ensures { IsUtf8 text.now }
+{
+    let _text = text.as_str();
+}
+
+/// The text of a bundle, without white space, the members of each object in the byte order of their names. Every text, integer and bytes value is
+/// written, also where it is empty; integers are written as texts; only what is none is left out. The text is read back as the same bundle.
+/// Refuses for want of memory alone.
+#[tactic(auto, using(crate::proofs::Nesting::nesting))]
+pub fn bundle_text(alloc: Global, bundle: &Bundle) -> Result<Text, OutOfMemory>
+    ensures text { IfOk result (λ text. text ≡ compact_text (bundle_tree bundle.now)) }
+    ensures reads_back { IfOk result (λ text. bundle_in text ≡ Ok bundle.now) }
+{
+    let document = write_bundle(alloc, bundle)?;
+    let text = compact(alloc, document.view())?;
+    tell_utf8(&text);
+    Ok(text)
+}

@@ -1,0 +1,122 @@
+//! Writers of what is signed: a signature over an artifact, or an envelope.
+ghost use Rattle.std.specs.Prelude.{◌≡◌, IfOk, Option, Some};
+ghost use Rattle.serde_json.specs.Data.{Data};
+ghost use Rattle.sig_bundle.specs.BundleRecord.{digest_of, envelope_of, message_signature_of, signature_of};
+ghost use Rattle.sig_bundle.specs.BundleTree.{content_row, digest_tree, envelope_tree, message_signature_tree, signature_tree};
+ghost use Rattle.sig_bundle.specs.ReadBack.{ContentIsRead};
+ghost use Rattle.sig_bundle.specs.Written.{IsReadAs, members, put_some};
+ghost use Rattle.sig_json.specs.Tree.{document_tree};
+
+use crate::bundle::{Content, MessageSignature};
+use crate::object::Object;
+use crate::write_value::{ElementWriter, write_bytes, write_list, write_option};
+use sig_base::{Bytes, OutOfMemory};
+use sig_dsse::{DsseEnvelope, DsseSignature};
+use sig_json::Document;
+use std::alloc::Global;
+
+/// Writes the digests that signers claim.
+enum DigestWriter {}
+
+impl ElementWriter for DigestWriter {
+    type Item = Bytes;
+
+    ghost written = { digest_tree };
+
+    ghost meaning = { digest_of };
+
+    #[tactic(auto, using(crate::proofs::MaterialBack::materials_back), unfolding(crate::specs::BundleTree::digest_tree))]
+    fn write(alloc: Global, item: &Bytes) -> Result<Document, OutOfMemory> {
+        let digest = write_bytes(alloc, item.as_slice())?;
+        let object = Object::new(alloc).with(alloc, "digest", digest)?;
+        Ok(object.into_document())
+    }
+}
+
+/// Writes signatures over artifacts.
+enum MessageSignatureWriter {}
+
+impl ElementWriter for MessageSignatureWriter {
+    type Item = MessageSignature;
+
+    ghost written = { message_signature_tree };
+
+    ghost meaning = { message_signature_of };
+
+    #[tactic(auto, using(crate::proofs::MaterialBack::materials_back), unfolding(crate::specs::BundleTree::message_signature_tree))]
+    fn write(alloc: Global, item: &MessageSignature) -> Result<Document, OutOfMemory> {
+        let signature = write_bytes(alloc, item.signature.as_slice())?;
+        let digest = write_option::<DigestWriter>(alloc, &item.message_digest)?;
+        let object = Object::new(alloc)
+            .with(alloc, "signature", signature)?
+            .with_some(alloc, "messageDigest", digest)?;
+        Ok(object.into_document())
+    }
+}
+
+/// Writes signatures of envelopes.
+enum SignatureWriter {}
+
+impl ElementWriter for SignatureWriter {
+    type Item = DsseSignature;
+
+    ghost written = { signature_tree };
+
+    ghost meaning = { signature_of };
+
+    #[tactic(auto, using(crate::proofs::MaterialBack::materials_back), unfolding(crate::specs::BundleTree::signature_tree))]
+    fn write(alloc: Global, item: &DsseSignature) -> Result<Document, OutOfMemory> {
+        let sig = write_bytes(alloc, item.sig.as_slice())?;
+        let keyid = Document::of_text(alloc, item.keyid.as_str())?;
+        let object = Object::new(alloc)
+            .with(alloc, "sig", sig)?
+            .with(alloc, "keyid", keyid)?;
+        Ok(object.into_document())
+    }
+}
+
+/// Writes envelopes.
+enum EnvelopeWriter {}
+
+impl ElementWriter for EnvelopeWriter {
+    type Item = DsseEnvelope;
+
+    ghost written = { envelope_tree };
+
+    ghost meaning = { envelope_of };
+
+    #[tactic(auto, using(crate::proofs::MaterialBack::materials_back), unfolding(crate::specs::BundleTree::envelope_tree))]
+    fn write(alloc: Global, item: &DsseEnvelope) -> Result<Document, OutOfMemory> {
+        let payload = write_bytes(alloc, item.payload.as_slice())?;
+        let payload_type = Document::of_text(alloc, item.payload_type.as_str())?;
+        let signatures = write_list::<SignatureWriter>(alloc, item.signatures.as_slice())?;
+        let object = Object::new(alloc)
+            .with(alloc, "payload", payload)?
+            .with(alloc, "payloadType", payload_type)?
+            .with(alloc, "signatures", signatures)?;
+        Ok(object.into_document())
+    }
+}
+
+/// The object with the member of the content's kind. Refuses for want of memory alone.
+pub(crate) fn with_content(
+    object: Object,
+    alloc: Global,
+    content: &Option<Content>,
+) -> Result<Object, OutOfMemory>
+    ensures tree { IfOk result (λ made. members made
+        ≡ put_some (content_row content.now).0 (content_row content.now).1 (members object)) }
+    ensures back { IfOk result (λ _. ContentIsRead content.now) }
+{
+    match content {
+        Some(Content::MessageSignature(signature)) => {
+            let signature = MessageSignatureWriter::write(alloc, signature)?;
+            object.with(alloc, "messageSignature", signature)
+        }
+        Some(Content::DsseEnvelope(envelope)) => {
+            let envelope = EnvelopeWriter::write(alloc, envelope)?;
+            object.with(alloc, "dsseEnvelope", envelope)
+        }
+        None => Ok(object),
+    }
+}

@@ -1,0 +1,97 @@
+//! Writers of what a bundle brings to check its signature with.
+ghost use Rattle.std.specs.Prelude.{◌≡◌, IfOk, Option};
+ghost use Rattle.serde_json.specs.Data.{Data};
+ghost use Rattle.sig_bundle.specs.BundleRecord.{certificate_of, chain_of, material_of};
+ghost use Rattle.sig_bundle.specs.BundleTree.{certificate_tree, chain_tree, material_tree, signer_row};
+ghost use Rattle.sig_bundle.specs.ReadBack.{SignerIsRead};
+ghost use Rattle.sig_bundle.specs.Written.{IsReadAs, members, put_some};
+ghost use Rattle.sig_json.specs.Tree.{document_tree};
+
+use crate::material::{MaterialContent, VerificationMaterial};
+use crate::object::Object;
+use crate::write_entry::EntryWriter;
+use crate::write_value::{ElementWriter, write_bytes, write_list};
+use sig_base::{Bytes, Entries, OutOfMemory};
+use sig_json::Document;
+use std::alloc::Global;
+
+/// Writes certificates.
+enum CertificateWriter {}
+
+impl ElementWriter for CertificateWriter {
+    type Item = Bytes;
+
+    ghost written = { certificate_tree };
+
+    ghost meaning = { certificate_of };
+
+    #[tactic(auto, using(crate::proofs::MaterialBack::materials_back), unfolding(crate::specs::BundleTree::certificate_tree))]
+    fn write(alloc: Global, item: &Bytes) -> Result<Document, OutOfMemory> {
+        let der = write_bytes(alloc, item.as_slice())?;
+        let object = Object::new(alloc).with(alloc, "rawBytes", der)?;
+        Ok(object.into_document())
+    }
+}
+
+/// Writes chains of certificates.
+enum ChainWriter {}
+
+impl ElementWriter for ChainWriter {
+    type Item = Entries;
+
+    ghost written = { chain_tree };
+
+    ghost meaning = { chain_of };
+
+    #[tactic(auto, using(crate::proofs::MaterialBack::materials_back), unfolding(crate::specs::BundleTree::chain_tree))]
+    fn write(alloc: Global, item: &Entries) -> Result<Document, OutOfMemory> {
+        let certificates = write_list::<CertificateWriter>(alloc, item.as_slice())?;
+        let object = Object::new(alloc).with(alloc, "certificates", certificates)?;
+        Ok(object.into_document())
+    }
+}
+
+/// The object with the member of the signer's kind. Refuses for want of memory alone.
+fn with_signer(
+    object: Object,
+    alloc: Global,
+    signer: &Option<MaterialContent>,
+) -> Result<Object, OutOfMemory>
+    ensures tree { IfOk result (λ made. members made
+        ≡ put_some (signer_row signer.now).0 (signer_row signer.now).1 (members object)) }
+    ensures back { IfOk result (λ _. SignerIsRead signer.now) }
+{
+    match signer {
+        Some(MaterialContent::Certificate(der)) => {
+            let certificate = CertificateWriter::write(alloc, der)?;
+            object.with(alloc, "certificate", certificate)
+        }
+        Some(MaterialContent::X509CertificateChain(chain)) => {
+            let chain = ChainWriter::write(alloc, chain)?;
+            object.with(alloc, "x509CertificateChain", chain)
+        }
+        Some(MaterialContent::PublicKey) => {
+            object.with(alloc, "publicKey", Document::object(alloc))
+        }
+        None => Ok(object),
+    }
+}
+
+/// Writes verification material.
+pub(crate) enum MaterialWriter {}
+
+impl ElementWriter for MaterialWriter {
+    type Item = VerificationMaterial;
+
+    ghost written = { material_tree };
+
+    ghost meaning = { material_of };
+
+    #[tactic(auto, using(crate::proofs::MaterialBack::materials_back), unfolding(crate::specs::BundleTree::material_tree))]
+    fn write(alloc: Global, item: &VerificationMaterial) -> Result<Document, OutOfMemory> {
+        let object = with_signer(Object::new(alloc), alloc, &item.content)?;
+        let entries = write_list::<EntryWriter>(alloc, item.tlog_entries.as_slice())?;
+        let object = object.with(alloc, "tlogEntries", entries)?;
+        Ok(object.into_document())
+    }
+}
