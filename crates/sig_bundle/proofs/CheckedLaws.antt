@@ -1,5 +1,5 @@
 -- The checks behind the signer's, where the signer is known.
-use Rattle.std.proofs.Common.{◌≡◌, ◌⊎◌, inl, inr, Option, Some, None, Result, Ok, Err, refl, sym, subst}
+use Rattle.std.proofs.Common.{◌≡◌, ◌⊎◌, inl, inr, Option, Some, Result, Ok, Err, refl, sym, subst}
 use Rattle.sig_base.specs.Answers.{Answers}
 use Rattle.sig_x509.specs.Certificate.{Cert}
 use Rattle.sig_bundle.specs.Checked.{Checked, checked, IsCheckedWith}

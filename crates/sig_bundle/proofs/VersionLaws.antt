@@ -1,5 +1,5 @@
 -- A text that the reader of media types refuses names no version.
-use Rattle.std.proofs.Common.{◌≡◌, ◌≢◌, ◌⊎◌, inl, inr, ℕ, List, None, sym, subst}
+use Rattle.std.proofs.Common.{◌≡◌, ◌≢◌, inl, inr, ℕ, List, None, subst}
 use Rattle.sig_bundle.specs.declared.version.Version.{Version}
 use Rattle.sig_bundle.specs.declared.version.Version.TheVariants.{Bundle0_1, Bundle0_2, Bundle0_3}
 use Rattle.sig_bundle.specs.Version.{media_type, older_media_type, version_of, IsMediaType}

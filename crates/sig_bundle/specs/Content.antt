@@ -14,7 +14,6 @@ use Rattle.sig_bundle.specs.declared.bundle.Content.{Content}
 use Rattle.sig_bundle.specs.declared.bundle.Content.TheVariants.{MessageSignature, DsseEnvelope as Envelope}
 use Rattle.sig_bundle.specs.declared.bundle_error.BundleErrorKind.{BundleErrorKind}
 use Rattle.sig_bundle.specs.declared.bundle_error.BundleErrorKind.TheVariants.{SignatureMissing, DsseInvalidSignatureCount, DssePayloadDecode, DsseTooManySubjects, DsseTooManySubjectDigests, DsseSubjectDigestMalformed, DsseNoRecognizedSubjectDigest, OutOfMemory}
-use Rattle.sig_bundle.specs.declared.content_check.CheckedContent.{CheckedContent}
 use Rattle.sig_bundle.specs.declared.content_check.CheckedContent.TheVariants.{Dsse}
 use Rattle.sig_bundle.specs.declared.content_check.Signed.{Signed}
 

@@ -7,6 +7,8 @@
 mod bundle;
 mod bundle_error;
 mod checked_bundle;
+#[cfg(test)]
+mod checked_tests;
 mod content_check;
 mod copy;
 mod material;
