@@ -1,4 +1,6 @@
 //! Documents, members and texts by example.
+mod canonical_examples;
+
 use crate::{
     BytesReader, Document, HashReader, canonical, compact, optional, optional_list, read_bytes,
     read_i64, read_text, read_u64, required_bytes, required_hash, required_i64, required_list,

@@ -1,0 +1,154 @@
+//! Canonical and compact texts and equality by example: the worked examples of RFC 8785 that have no floats, and what stands beside them.
+use super::canonical_of;
+use crate::{Document, compact};
+use std::alloc::Global;
+use std::test::Fail;
+
+/// RFC 8785 section 3.2.3: members to sort by the UTF-16 code units of their names.
+const NAMES: &str = r#"{
+  "\u20ac": "Euro Sign",
+  "\r": "Carriage Return",
+  "\ufb33": "Hebrew Letter Dalet With Dagesh",
+  "1": "One",
+  "\ud83d\ude00": "Emoji: Grinning Face",
+  "\u0080": "Control",
+  "\u00f6": "Latin Small Letter O With Diaeresis"
+}"#;
+
+const NAMES_IN_ORDER: &str =
+    "{\"\\r\":\"Carriage Return\",\"1\":\"One\",\"\u{80}\":\"Control\",\"\u{f6}\":\"Latin Small Letter O With Diaeresis\",\"\u{20ac}\":\"Euro Sign\",\"\u{1f600}\":\"Emoji: Grinning Face\",\"\u{fb33}\":\"Hebrew Letter Dalet With Dagesh\"}";
+
+/// RFC 8785 section 3.2.2, without its numbers.
+const LITERALS: &str = r#"{
+  "string": "\u20ac$\u000F\u000aA'\u0042\u0022\u005c\\\"\/",
+  "literals": [null, true, false]
+}"#;
+
+const LITERALS_IN_ORDER: &str =
+    r#"{"literals":[null,true,false],"string":"€$\u000f\nA'B\"\\\\\"/"}"#;
+
+#[test]
+fn worked_examples(rt: HostRuntime) -> Result<(), Fail> {
+    let alloc = rt.alloc();
+    let names = canonical_of(alloc, NAMES)?;
+    assert!(rt; names.as_str() == NAMES_IN_ORDER, "{names}");
+    let literals = canonical_of(alloc, LITERALS)?;
+    assert!(rt; literals.as_str() == LITERALS_IN_ORDER, "{literals}");
+    Ok(())
+}
+
+/// Each line: a text, and its canonical text after ` = `. The units of names past the basic plane are from D800 to DFFF; a name stands before
+/// those that it begins; of members with one name the last stands; integers are at most 2^53 - 1.
+const CANONICAL: &str =
+    r#"{"～":6,"ﬀ":5,"\ud83d\ude00":4,"\ud834\udd1e":3,"\ud55c":2,"€":1} = {"€":1,"한":2,"𝄞":3,"😀":4,"ﬀ":5,"～":6}
+{"\ud83d\ude01":3,"\ud83d\ude00a":2,"\ud83d\ude00":1,"":0} = {"":0,"😀":1,"😀a":2,"😁":3}
+{"a":1,"b":[],"a":2} = {"a":2,"b":[]}
+{"a":{"c":1},"\u0061":{"d":null}} = {"a":{"d":null}}
+{"b":{"z":1,"y":2},"a":[{"y":3,"x":4}]} = {"a":[{"x":4,"y":3}],"b":{"y":2,"z":1}}
+9007199254740991 = 9007199254740991
+-9007199254740991 = -9007199254740991
+9007199254740992 = IntegerTooLarge
+-9007199254740992 = IntegerTooLarge
+18446744073709551615 = IntegerTooLarge
+-9223372036854775808 = IntegerTooLarge
+{"a":1,"b":[{"c":9007199254740992}]} = IntegerTooLarge
+"\u0001\u001F\u0020" = "\u0001\u001f "
+"" = """#;
+
+#[test]
+fn canonical_rows(rt: HostRuntime) -> Result<(), Fail> {
+    let alloc = rt.alloc();
+    for line in CANONICAL.lines() {
+        let Some((text, expected)) = line.split_once(" = ") else {
+            continue;
+        };
+        let found = canonical_of(alloc, text)?;
+        assert!(rt; found.as_str() == expected, "{found}");
+    }
+    Ok(())
+}
+
+/// Each line: a text, and its compact text after ` = `: names are in the order of their bytes.
+const COMPACT: &str = r#" [ 1 , -2 , true , null ]  = [1,-2,true,null]
+{ "b" : { } , "a" : [ ] } = {"a":[],"b":{}}
+{"\ud83d\ude00":1,"\ufb00":2} = {"ﬀ":2,"😀":1}
+"\u0041\/" = "A/""#;
+
+#[test]
+fn compact_rows(rt: HostRuntime) -> Result<(), Fail> {
+    let alloc = rt.alloc();
+    for line in COMPACT.lines() {
+        let Some((text, expected)) = line.split_once(" = ") else {
+            continue;
+        };
+        let document = Document::read(alloc, text.as_bytes())?;
+        let found = compact(alloc, document.view())?;
+        assert!(rt; found.as_str() == expected);
+    }
+    Ok(())
+}
+
+/// Each line: whether two trees are equal.
+const PAIRS: &str = r#"same null ~ null
+same [1,-1,"a"] ~ [ 1 , -1 , "\u0061" ]
+same {"a":1,"b":2} ~ {"b":2,"a":1}
+same {"a":0,"a":1} ~ {"a":1}
+other null ~ false
+other [] ~ {}
+other 1 ~ -1
+other -1 ~ -2
+other 1 ~ "1"
+other "a" ~ "b"
+other [1] ~ [2]
+other [1] ~ [1,1]
+other {"a":1} ~ {"a":2}
+other {"a":1} ~ {"b":1}
+other {"a":1} ~ {"a":1,"b":2}"#;
+
+fn equality(alloc: Global, one: &str, other: &str) -> Result<&'static str, Fail> {
+    let one = Document::read(alloc, one.as_bytes())?;
+    let other = Document::read(alloc, other.as_bytes())?;
+    if one.view().equals(other.view()) {
+        return Ok("same");
+    }
+    Ok("other")
+}
+
+#[test]
+fn equal_trees(rt: HostRuntime) -> Result<(), Fail> {
+    let alloc = rt.alloc();
+    for line in PAIRS.lines() {
+        let Some((expected, pair)) = line.split_once(' ') else {
+            continue;
+        };
+        let Some((one, other)) = pair.split_once(" ~ ") else {
+            continue;
+        };
+        assert!(rt; equality(alloc, one, other)? == expected, "{line}");
+        assert!(rt; equality(alloc, other, one)? == expected, "{line}");
+    }
+    Ok(())
+}
+
+fn nested_objects(alloc: Global, depth: usize) -> Result<String, Fail> {
+    let mut text = String::new(alloc);
+    for _ in 0..depth {
+        text.push_str("{\"a\":")?;
+    }
+    text.push_str("[]")?;
+    for _ in 0..depth {
+        text.push('}')?;
+    }
+    Ok(text)
+}
+
+#[test]
+fn nesting(rt: HostRuntime) -> Result<(), Fail> {
+    let alloc = rt.alloc();
+    let deep = nested_objects(alloc, 126)?;
+    let written = canonical_of(alloc, deep.as_str())?;
+    assert!(rt; written == deep);
+    let deeper = nested_objects(alloc, 127)?;
+    assert!(rt; Document::read(alloc, deeper.as_bytes()).is_err());
+    Ok(())
+}
