@@ -19,9 +19,9 @@ mod read_content;
 mod read_entry;
 mod read_material;
 mod signer;
-mod version;
 #[cfg(test)]
 mod tests;
+mod version;
 mod write;
 mod write_content;
 mod write_entry;
@@ -45,4 +45,3 @@ pub use sig_dsse::{
 };
 pub use version::Version;
 pub use write::bundle_text;
-pub use sig_dsse::{DsseEnvelope, DsseSignature, DsseSignatures};
