@@ -21,7 +21,7 @@ abbrev pub member_texts : Members → Option Sorted
 member_texts no_members = Some []
 member_texts (member name d ms) = canon d >>= λ text. member_texts ms >>= λ texts. Some ((utf16_units name, canon_string name ++ (codes ":" ++ text)) ∷ texts)
 
--- "property name strings ... are compared as arrays of UTF-16 code units": the units of each name are below those after it
+-- names are compared as arrays of UTF-16 code units, and units as unsigned integers: the units of each name are below those after it
 abbrev pub UnitsAscend : Sorted → Type 0
 UnitsAscend sorted = IsStrictlySortedBy (slice_cmp nat_cmp) (keys_of sorted)
 

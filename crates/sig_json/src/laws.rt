@@ -19,7 +19,7 @@ pub fn units_of_texts()
 {}
 
 /// The members of an object stand in the ascending order of the UTF-16 code units of their names, each once and no others (RFC 8785 section
-/// 3.2.3). The names of a document's objects are texts, and none is there twice: its maps are in byte order.
+/// 3.2.3), where the names are texts and none is there twice, as in a map from strings in byte order.
 pub fn members_in_order()
     ensures object { (ms : Members) → HasNames ms → (text : List ℕ)
         → (canon (object ms) ≡ Some text)
