@@ -24,7 +24,9 @@ pub fn body_of(
     let content = STANDARD.encode(alloc, signature)?;
     let pem = der_to_pem(alloc, leaf)?;
     let verifier = STANDARD.encode(alloc, pem.as_str().as_bytes())?;
-    let spec = format!(in alloc; "{{\"envelopeHash\":{{\"algorithm\":\"sha256\",\"value\":\"{envelope_hash}\"}},\"payloadHash\":{{\"algorithm\":\"sha256\",\"value\":\"{payload_hash}\"}},\"signatures\":[{{\"signature\":\"{content}\",\"verifier\":\"{verifier}\"}}]}}")?;
+    let spec = format!(in alloc;
+        "{{\"envelopeHash\":{{\"algorithm\":\"sha256\",\"value\":\"{envelope_hash}\"}},\"payloadHash\":{{\"algorithm\":\"sha256\",\"value\":\"{payload_hash}\"}},\"signatures\":[{{\"signature\":\"{content}\",\"verifier\":\"{verifier}\"}}]}}"
+    )?;
     let body = format!(in alloc; "{{\"apiVersion\":\"0.0.1\",\"kind\":\"dsse\",\"spec\":{spec}}}")?;
     Bytes::copy_of(alloc, body.as_bytes())
 }

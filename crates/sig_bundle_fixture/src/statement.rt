@@ -10,12 +10,15 @@ pub const PAYLOAD_TYPE: &str = "application/vnd.in-toto+json";
 pub const DIGEST: &str = "aaaaaaaaaaaaaaaaaaaaaaaaaaaaaaaaaaaaaaaaaaaaaaaaaaaaaaaaaaaaaaaa";
 
 /// The SHA-512 digest of one subject, in hexadecimal digits.
-pub const WIDE_DIGEST: &str = "bbbbbbbbbbbbbbbbbbbbbbbbbbbbbbbbbbbbbbbbbbbbbbbbbbbbbbbbbbbbbbbbbbbbbbbbbbbbbbbbbbbbbbbbbbbbbbbbbbbbbbbbbbbbbbbbbbbbbbbbbbbbbbbb";
+pub const WIDE_DIGEST: &str =
+    "bbbbbbbbbbbbbbbbbbbbbbbbbbbbbbbbbbbbbbbbbbbbbbbbbbbbbbbbbbbbbbbbbbbbbbbbbbbbbbbbbbbbbbbbbbbbbbbbbbbbbbbbbbbbbbbbbbbbbbbbbbbbbbbb";
 
 /// A statement of four subjects: one with this text as its SHA-256 digest, one without digests, one with a SHA-512 digest, and one with the
 /// SHA-256 digest [`DIGEST`]; and then of so many more, each like the last. Refuses for want of memory alone.
 pub fn payload_of(alloc: Global, first: &str, more: usize) -> Result<Bytes, OutOfMemory> {
-    let mut text = format!(in alloc; "{{\"_type\":\"https://in-toto.io/Statement/v1\",\"subject\":[{{\"name\":\"a\",\"digest\":{{\"sha256\":\"{first}\"}}}},{{\"name\":\"b\",\"digest\":{{}}}},{{\"name\":\"c\",\"digest\":{{\"sha512\":\"{WIDE_DIGEST}\"}}}}")?;
+    let mut text = format!(in alloc;
+        "{{\"_type\":\"https://in-toto.io/Statement/v1\",\"subject\":[{{\"name\":\"a\",\"digest\":{{\"sha256\":\"{first}\"}}}},{{\"name\":\"b\",\"digest\":{{}}}},{{\"name\":\"c\",\"digest\":{{\"sha512\":\"{WIDE_DIGEST}\"}}}}"
+    )?;
     for _ in 0..more.saturating_add(1) {
         push_subject(alloc, &mut text)?;
     }

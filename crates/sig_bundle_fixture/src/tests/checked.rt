@@ -12,7 +12,7 @@ fn lends_its_parts(alloc: Global) -> Option<bool> {
     let entry = parts.entry(alloc).ok()?;
     Some(
         checked.certificate().der() == parts.leaf.as_slice()
-            && checked.signature() == b"sig-dsse"
+            && checked.signature() == b"sig-dsse".as_slice()
             && *checked.entry() == entry,
     )
 }
@@ -39,7 +39,7 @@ fn holds_its_envelope(alloc: Global) -> Option<bool> {
     let wide = ArtifactDigest::Sha512([0xbb; 64]);
     Some(
         payload_bytes.as_slice() == parts.payload.as_slice()
-            && subject_digests.as_slice() == &[narrow, wide, narrow],
+            && subject_digests.as_slice() == [narrow, wide, narrow].as_slice(),
     )
 }
 

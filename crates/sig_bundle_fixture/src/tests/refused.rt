@@ -3,7 +3,7 @@
 use crate::{BundleParts, DIGEST, payload_of};
 use sig_base::{Bytes, Entries, Text};
 use sig_bundle::{
-    Bundle, BundleErrorKind, BundleProfileErrorKind, Bundle02ProfileErrorKind, CheckedBundle,
+    Bundle, Bundle02ProfileErrorKind, BundleErrorKind, BundleProfileErrorKind, CheckedBundle,
     Content, DigestName, DsseSignature, LogEntries, MaterialContent, MessageSignature,
     VerificationMaterial,
 };
@@ -30,7 +30,10 @@ fn has_at_most_1024_subjects(alloc: Global) -> Option<bool> {
     let most = with_payload(alloc, DIGEST, 1020)?;
     let more = with_payload(alloc, DIGEST, 1021)?;
     let refused = refusal_of(alloc, &more)?;
-    Some(refusal_of(alloc, &most).is_none() && matches!(refused, BundleErrorKind::DsseTooManySubjects(1025)))
+    Some(
+        refusal_of(alloc, &most).is_none()
+            && matches!(refused, BundleErrorKind::DsseTooManySubjects(1025)),
+    )
 }
 
 #[test]
@@ -40,7 +43,10 @@ fn one_subject_more_than_1024_is_refused(rt: HostRuntime) {
 
 fn wants_hexadecimal_digits(alloc: Global) -> Option<bool> {
     let refused = refusal_of(alloc, &with_payload(alloc, "zz", 0)?)?;
-    Some(matches!(refused, BundleErrorKind::DsseSubjectDigestMalformed(DigestName::Sha256)))
+    Some(matches!(
+        refused,
+        BundleErrorKind::DsseSubjectDigestMalformed(DigestName::Sha256)
+    ))
 }
 
 #[test]
@@ -70,7 +76,10 @@ application/vnd.dev.sigstore.bundle.v0.3+json ";
 #[test]
 fn media_types_of_no_profile_are_refused(rt: HostRuntime) {
     for media_type in UNKNOWN.lines() {
-        assert!(rt; is_unknown(rt.alloc(), media_type) == Some(true), "{media_type}");
+        assert!(rt;
+            is_unknown(rt.alloc(), media_type) == Some(true),
+            "{media_type}"
+        );
     }
 }
 
@@ -102,11 +111,19 @@ fn bundle_without_material_is_refused(rt: HostRuntime) {
 fn wants_one_certificate(alloc: Global) -> Option<bool> {
     let none = with_material(alloc, None)?;
     let key = with_material(alloc, Some(MaterialContent::PublicKey))?;
-    let chain = with_material(alloc, Some(MaterialContent::X509CertificateChain(Entries::new(alloc))))?;
+    let chain = with_material(
+        alloc,
+        Some(MaterialContent::X509CertificateChain(Entries::new(alloc))),
+    )?;
     Some(
-        matches!(none, BundleErrorKind::VerificationMaterialContentUnsupported)
-            && matches!(key, BundleErrorKind::VerificationMaterialContentUnsupported)
-            && matches!(chain, BundleErrorKind::VerificationMaterialContentUnsupported),
+        matches!(
+            none,
+            BundleErrorKind::VerificationMaterialContentUnsupported
+        ) && matches!(key, BundleErrorKind::VerificationMaterialContentUnsupported)
+            && matches!(
+                chain,
+                BundleErrorKind::VerificationMaterialContentUnsupported
+            ),
     )
 }
 
