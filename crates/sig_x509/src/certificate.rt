@@ -43,7 +43,7 @@ impl Certificate {
     /// nothing after it (RFC 5280 section 4.1).
     ///
     /// `Der` exactly where the bytes are no certificate. `OutOfMemory` where the copy of the bytes, the list of the extensions or,
-    /// for the time of this call, the set of their object identifiers could not be made.
+    /// for more than 64 extensions and the time of this call, the set of their object identifiers could not be made.
     pub fn try_from_der(alloc: Global, der: &[u8]) -> Result<Certificate, X509ReadError>
         // What is answered is the certificate.
         ensures found { IfOk result (IsCertificate der.now) }

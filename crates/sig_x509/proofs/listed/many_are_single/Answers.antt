@@ -2,7 +2,7 @@
 use Rattle.std.proofs.Common.{ℕ, List, sym, ap}
 use Rattle.std.specs.Borrow.{Bor}
 use Rattle.sig_x509.proofs.DistinctLaws.{seen_in, none_yet, seen_twice, distinct_more, seen_on, all_distinct}
-use Rattle.sig_x509.proofs.listed.are_single.Goals as goal
+use Rattle.sig_x509.proofs.listed.many_are_single.Goals as goal
 
 pub loop-places-init : goal.loop-places-init
 loop-places-init c = record { seen = λ q. ap (λ (ks : List (Bor (List ℕ))). seen_in ks q) c.new-seen.ensures.empty; distinct = none_yet c.args.bytes.now c.args.extensions.now }

@@ -4,7 +4,7 @@ use Rattle.std.specs.Prelude.{bytes_eq}
 use Rattle.std.specs.Borrow.{Bor}
 use Rattle.std.specs.List.{IsDistinct, list_any}
 use Rattle.sig_x509.proofs.DistinctLaws.{seen_in, taken}
-use Rattle.sig_x509.proofs.listed.are_single.Given as goal
+use Rattle.sig_x509.proofs.listed.many_are_single.Given as goal
 
 abbrev pub invariant-loop-places : goal.invariant-loop-places
 invariant-loop-places l =
