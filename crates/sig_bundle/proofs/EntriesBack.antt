@@ -33,9 +33,13 @@ kind_rows k = (codes "kind", Some (string k.kind)) ∷ (codes "version", Some (s
 
 pub kind_version_back : (k : KindVersion) → IsReadAs kind_version_of (kind_version_tree k) k
 unfolding kind_version_tree kind_version_of
-kind_version_back k =
-    (rw (found [] text_of (codes "kind") (kind_rows k) (string k.kind) k.kind refl (text_back k.kind),
-    found [] text_of (codes "version") (kind_rows k) (string k.version) k.version refl (text_back k.version)) refl, refl)
+kind_version_back k = (
+  rw (
+    found [] text_of (codes "kind") (kind_rows k) (string k.kind) k.kind refl (text_back k.kind),
+    found [] text_of (codes "version") (kind_rows k) (string k.version) k.version refl (text_back k.version),
+  ) refl,
+  refl,
+)
 
 abbrev proof_rows : ProofFields → List Row
 proof_rows p =
@@ -50,12 +54,16 @@ pub proof_back : (p : ProofFields) → IsReadAs i64_of (integer_tree p.log_index
     → IsReadAs i64_of (integer_tree p.tree_size) p.tree_size → IsReadAs (list_each bytes_of) (list_tree bytes_tree p.hashes) p.hashes
     → OptionIsRead checkpoint_of checkpoint_tree p.checkpoint → IsReadAs proof_of (proof_tree p) p
 unfolding proof_tree proof_of
-proof_back p index root size hashes checkpoint =
-    (rw (found (pos 0) i64_of (codes "logIndex") (proof_rows p) _ p.log_index refl index,
+proof_back p index root size hashes checkpoint = (
+  rw (
+    found (pos 0) i64_of (codes "logIndex") (proof_rows p) _ p.log_index refl index,
     found [] bytes_of (codes "rootHash") (proof_rows p) _ p.root_hash refl root,
     found (pos 0) i64_of (codes "treeSize") (proof_rows p) _ p.tree_size refl size,
     found [] (list_each bytes_of) (codes "hashes") (proof_rows p) _ p.hashes refl hashes,
-    found_option checkpoint_of checkpoint_tree (codes "checkpoint") (proof_rows p) p.checkpoint refl checkpoint) refl, refl)
+    found_option checkpoint_of checkpoint_tree (codes "checkpoint") (proof_rows p) p.checkpoint refl checkpoint,
+  ) refl,
+  refl,
+)
 
 abbrev entry_rows : TransparencyLogEntry → List Row
 entry_rows e =
@@ -73,13 +81,17 @@ pub entry_back : (e : TransparencyLogEntry) → IsReadAs i64_of (integer_tree e.
     → OptionIsRead promise_of promise_tree e.inclusion_promise → OptionIsRead proof_of proof_tree e.inclusion_proof
     → IsReadAs bytes_of (bytes_tree e.canonicalized_body) e.canonicalized_body → IsReadAs entry_of (entry_tree e) e
 unfolding entry_tree entry_of entry_with
-entry_back e index id kind time promise proof body =
-    (rw (found (pos 0) i64_of (codes "logIndex") (entry_rows e) _ e.log_index refl index,
+entry_back e index id kind time promise proof body = (
+  rw (
+    found (pos 0) i64_of (codes "logIndex") (entry_rows e) _ e.log_index refl index,
     found_option log_id_of log_id_tree (codes "logId") (entry_rows e) e.log_id refl id,
     found_option kind_version_of kind_version_tree (codes "kindVersion") (entry_rows e) e.kind_version refl kind,
     found (pos 0) i64_of (codes "integratedTime") (entry_rows e) _ e.integrated_time refl time,
     found_option promise_of promise_tree (codes "inclusionPromise") (entry_rows e) e.inclusion_promise refl promise,
     found_option proof_of proof_tree (codes "inclusionProof") (entry_rows e) e.inclusion_proof refl proof,
-    found [] bytes_of (codes "canonicalizedBody") (entry_rows e) _ e.canonicalized_body refl body) refl, refl)
+    found [] bytes_of (codes "canonicalizedBody") (entry_rows e) _ e.canonicalized_body refl body,
+  ) refl,
+  refl,
+)
 
 pub ruleset entries_back = (log_id_back, promise_back, checkpoint_back, kind_version_back, proof_back, entry_back)

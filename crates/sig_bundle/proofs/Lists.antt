@@ -26,7 +26,7 @@ each-first kind d ds y ys e = each-first_from kind (kind d) (each kind ds) y ys 
 
 each_back-append : {A : Type 0} → (kind : Data → Option A) (written : A → Data) (xs : List A) (x : A) → each kind (items_list (items_of written xs)) ≡ Some xs → kind (written x) ≡ Some x → each kind (items_list (items_of written (xs ++ x ∷ []))) ≡ Some (xs ++ x ∷ [])
 each_back-append kind written [] x so_far one = rw one refl
-each_back-append kind written (y ∷ ys) x so_far one = 
+each_back-append kind written (y ∷ ys) x so_far one =
     let parts = each-first kind (written y) (items_list (items_of written ys)) y ys so_far in rw (parts.0, each_back-append kind written ys x parts.1 one) refl
 
 list_each-back : {A : Type 0} → (kind : Data → Option A) (written : A → Data) (xs : List A) → each kind (items_list (items_of written xs)) ≡ Some xs → IsReadAs (list_each kind) (list_tree written xs) xs

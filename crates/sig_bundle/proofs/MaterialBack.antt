@@ -40,24 +40,32 @@ signer_back : (o : Option MaterialContent) (entries : Data) → SignerIsRead o �
 unfolding signer_of
 signer_back None entries back =
     let rows = material_rows (signer_row None) entries in
-    rw (found_option certificate_of certificate_tree (codes "certificate") rows None refl tt,
-    found_option chain_of chain_tree (codes "x509CertificateChain") rows None refl tt,
-    found_option key_hint_of (λ _. object_of []) (codes "publicKey") rows None refl tt) refl
+    rw (
+      found_option certificate_of certificate_tree (codes "certificate") rows None refl tt,
+      found_option chain_of chain_tree (codes "x509CertificateChain") rows None refl tt,
+      found_option key_hint_of (λ _. object_of []) (codes "publicKey") rows None refl tt,
+    ) refl
 signer_back (Some (material.Certificate der)) entries back =
     let rows = material_rows (signer_row (Some (material.Certificate der))) entries in
-    rw (found_option certificate_of certificate_tree (codes "certificate") rows (Some der) refl back,
-    found_option chain_of chain_tree (codes "x509CertificateChain") rows None refl tt,
-    found_option key_hint_of (λ _. object_of []) (codes "publicKey") rows None refl tt) refl
+    rw (
+      found_option certificate_of certificate_tree (codes "certificate") rows (Some der) refl back,
+      found_option chain_of chain_tree (codes "x509CertificateChain") rows None refl tt,
+      found_option key_hint_of (λ _. object_of []) (codes "publicKey") rows None refl tt,
+    ) refl
 signer_back (Some (material.X509CertificateChain chain)) entries back =
     let rows = material_rows (signer_row (Some (material.X509CertificateChain chain))) entries in
-    rw (found_option certificate_of certificate_tree (codes "certificate") rows None refl tt,
-    found_option chain_of chain_tree (codes "x509CertificateChain") rows (Some chain) refl back,
-    found_option key_hint_of (λ _. object_of []) (codes "publicKey") rows None refl tt) refl
+    rw (
+      found_option certificate_of certificate_tree (codes "certificate") rows None refl tt,
+      found_option chain_of chain_tree (codes "x509CertificateChain") rows (Some chain) refl back,
+      found_option key_hint_of (λ _. object_of []) (codes "publicKey") rows None refl tt,
+    ) refl
 signer_back (Some material.PublicKey) entries back =
     let rows = material_rows (signer_row (Some material.PublicKey)) entries in
-    rw (found_option certificate_of certificate_tree (codes "certificate") rows None refl tt,
-    found_option chain_of chain_tree (codes "x509CertificateChain") rows None refl tt,
-    found_option key_hint_of (λ _. object_of []) (codes "publicKey") rows (Some tt) refl (refl, refl)) refl
+    rw (
+      found_option certificate_of certificate_tree (codes "certificate") rows None refl tt,
+      found_option chain_of chain_tree (codes "x509CertificateChain") rows None refl tt,
+      found_option key_hint_of (λ _. object_of []) (codes "publicKey") rows (Some tt) refl (refl, refl),
+    ) refl
 
 entries_found : (o : Option MaterialContent) (entries : Data) (xs : List TransparencyLogEntry) → IsReadAs (list_each entry_of) entries xs → optional_or [] (list_each entry_of) (codes "tlogEntries") (object_of (material_rows (signer_row o) entries)) ≡ Some xs
 entries_found None entries xs back = found [] (list_each entry_of) (codes "tlogEntries") (material_rows (signer_row None) entries) entries xs refl back
@@ -77,28 +85,40 @@ message_rows m = (codes "signature", Some (bytes_tree m.signature)) ∷ (codes "
 
 pub message_signature_back : (m : MessageSignature) → IsReadAs bytes_of (bytes_tree m.signature) m.signature → OptionIsRead digest_of digest_tree m.message_digest → IsReadAs message_signature_of (message_signature_tree m) m
 unfolding message_signature_tree message_signature_of
-message_signature_back m signature digest =
-    (rw (found [] bytes_of (codes "signature") (message_rows m) _ m.signature refl signature,
-    found_option digest_of digest_tree (codes "messageDigest") (message_rows m) m.message_digest refl digest) refl, refl)
+message_signature_back m signature digest = (
+  rw (
+    found [] bytes_of (codes "signature") (message_rows m) _ m.signature refl signature,
+    found_option digest_of digest_tree (codes "messageDigest") (message_rows m) m.message_digest refl digest,
+  ) refl,
+  refl,
+)
 
 abbrev signature_rows : DsseSignature → List Row
 signature_rows s = (codes "sig", Some (bytes_tree s.sig)) ∷ (codes "keyid", Some (string s.keyid)) ∷ []
 
 pub signature_back : (s : DsseSignature) → IsReadAs bytes_of (bytes_tree s.sig) s.sig → IsReadAs signature_of (signature_tree s) s
 unfolding signature_tree signature_of
-signature_back s sig =
-    (rw (found [] bytes_of (codes "sig") (signature_rows s) _ s.sig refl sig,
-    found [] text_of (codes "keyid") (signature_rows s) _ s.keyid refl (text_back s.keyid)) refl, refl)
+signature_back s sig = (
+  rw (
+    found [] bytes_of (codes "sig") (signature_rows s) _ s.sig refl sig,
+    found [] text_of (codes "keyid") (signature_rows s) _ s.keyid refl (text_back s.keyid),
+  ) refl,
+  refl,
+)
 
 abbrev envelope_rows : DsseEnvelope → List Row
 envelope_rows e = (codes "payload", Some (bytes_tree e.payload)) ∷ (codes "payloadType", Some (string e.payload_type)) ∷ (codes "signatures", Some (list_tree signature_tree e.signatures)) ∷ []
 
 pub envelope_back : (e : DsseEnvelope) → IsReadAs bytes_of (bytes_tree e.payload) e.payload → IsReadAs (list_each signature_of) (list_tree signature_tree e.signatures) e.signatures → IsReadAs envelope_of (envelope_tree e) e
 unfolding envelope_tree envelope_of
-envelope_back e payload signatures =
-    (rw (found [] bytes_of (codes "payload") (envelope_rows e) _ e.payload refl payload,
+envelope_back e payload signatures = (
+  rw (
+    found [] bytes_of (codes "payload") (envelope_rows e) _ e.payload refl payload,
     found [] text_of (codes "payloadType") (envelope_rows e) _ e.payload_type refl (text_back e.payload_type),
-    found [] (list_each signature_of) (codes "signatures") (envelope_rows e) _ e.signatures refl signatures) refl, refl)
+    found [] (list_each signature_of) (codes "signatures") (envelope_rows e) _ e.signatures refl signatures,
+  ) refl,
+  refl,
+)
 
 -- ---- the bundle
 
@@ -109,16 +129,22 @@ content_back : (media_type : List ℕ) (o : Option VerificationMaterial) (c : Op
 unfolding content_of one_content
 content_back media_type o None back =
     let rows = bundle_rows media_type (option_map material_tree o) (content_row None) in
-    rw (found_option message_signature_of message_signature_tree (codes "messageSignature") rows None refl tt,
-    found_option envelope_of envelope_tree (codes "dsseEnvelope") rows None refl tt) refl
+    rw (
+      found_option message_signature_of message_signature_tree (codes "messageSignature") rows None refl tt,
+      found_option envelope_of envelope_tree (codes "dsseEnvelope") rows None refl tt,
+    ) refl
 content_back media_type o (Some (content.MessageSignature m)) back =
     let rows = bundle_rows media_type (option_map material_tree o) (content_row (Some (content.MessageSignature m))) in
-    rw (found_option message_signature_of message_signature_tree (codes "messageSignature") rows (Some m) refl back,
-    found_option envelope_of envelope_tree (codes "dsseEnvelope") rows None refl tt) refl
+    rw (
+      found_option message_signature_of message_signature_tree (codes "messageSignature") rows (Some m) refl back,
+      found_option envelope_of envelope_tree (codes "dsseEnvelope") rows None refl tt,
+    ) refl
 content_back media_type o (Some (content.DsseEnvelope e)) back =
     let rows = bundle_rows media_type (option_map material_tree o) (content_row (Some (content.DsseEnvelope e))) in
-    rw (found_option message_signature_of message_signature_tree (codes "messageSignature") rows None refl tt,
-    found_option envelope_of envelope_tree (codes "dsseEnvelope") rows (Some e) refl back) refl
+    rw (
+      found_option message_signature_of message_signature_tree (codes "messageSignature") rows None refl tt,
+      found_option envelope_of envelope_tree (codes "dsseEnvelope") rows (Some e) refl back,
+    ) refl
 
 -- the members beside the content, which no member of the content's name hides
 media_type_found : (media_type : List ℕ) (material : Option Data) (c : Option Content) → optional_or [] text_of (codes "mediaType") (object_of (bundle_rows media_type material (content_row c))) ≡ Some media_type
@@ -134,8 +160,10 @@ material_found media_type o (Some (content.DsseEnvelope e)) back = found_option 
 pub bundle_back : (b : Bundle) → OptionIsRead material_of material_tree b.verification_material → ContentIsRead b.content → bundle_of (bundle_tree b) ≡ Some b
 unfolding bundle_tree bundle_of
 bundle_back b material signed =
-    rw (media_type_found b.media_type (option_map material_tree b.verification_material) b.content,
-    material_found b.media_type b.verification_material b.content material,
-    content_back b.media_type b.verification_material b.content signed) refl
+    rw (
+      media_type_found b.media_type (option_map material_tree b.verification_material) b.content,
+      material_found b.media_type b.verification_material b.content material,
+      content_back b.media_type b.verification_material b.content signed,
+    ) refl
 
 pub ruleset materials_back = (certificate_back, digest_back, chain_back, material_back, message_signature_back, signature_back, envelope_back, bundle_back)

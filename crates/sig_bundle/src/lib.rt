@@ -26,5 +26,5 @@ pub use material::{
     VerificationMaterial,
 };
 pub use read::read_bundle;
-pub use write::bundle_text;
 pub use sig_dsse::{DsseEnvelope, DsseSignature, DsseSignatures};
+pub use write::bundle_text;

@@ -94,7 +94,10 @@ fn a_bundle_has_these_members(rt: HostRuntime) {
 fn verification_material_has_these_members(rt: HostRuntime) {
     let front = "{\"mediaType\":\"\",\"verificationMaterial\":";
     for line in MATERIALS.lines() {
-        assert!(rt; is_line(rt.alloc(), line, front, "}") == Some(true), "{line}");
+        assert!(rt;
+            is_line(rt.alloc(), line, front, "}") == Some(true),
+            "{line}"
+        );
     }
 }
 
@@ -102,12 +105,16 @@ fn verification_material_has_these_members(rt: HostRuntime) {
 fn a_log_entry_has_these_members(rt: HostRuntime) {
     let front = "{\"mediaType\":\"\",\"verificationMaterial\":{\"tlogEntries\":[";
     for line in ENTRIES.lines() {
-        assert!(rt; is_line(rt.alloc(), line, front, "]}}") == Some(true), "{line}");
+        assert!(rt;
+            is_line(rt.alloc(), line, front, "]}}") == Some(true),
+            "{line}"
+        );
     }
 }
 
 /// A bundle with every member.
-const WHOLE: &str = r#"{"dsseEnvelope":{"payload":"cA==","payloadType":"t","signatures":[{"keyid":"k","sig":"cw=="}]},"mediaType":"m","verificationMaterial":{"tlogEntries":[{"canonicalizedBody":"Yg==","inclusionProof":{"checkpoint":{"envelope":"c"},"hashes":["aA=="],"logIndex":"1","rootHash":"cg==","treeSize":"2"},"inclusionPromise":{"signedEntryTimestamp":"dA=="},"integratedTime":"3","kindVersion":{"kind":"k","version":"v"},"logId":{"keyId":"aQ=="},"logIndex":"4"}],"x509CertificateChain":{"certificates":[{"rawBytes":"YQ=="}]}}}"#;
+const WHOLE: &str =
+    r#"{"dsseEnvelope":{"payload":"cA==","payloadType":"t","signatures":[{"keyid":"k","sig":"cw=="}]},"mediaType":"m","verificationMaterial":{"tlogEntries":[{"canonicalizedBody":"Yg==","inclusionProof":{"checkpoint":{"envelope":"c"},"hashes":["aA=="],"logIndex":"1","rootHash":"cg==","treeSize":"2"},"inclusionPromise":{"signedEntryTimestamp":"dA=="},"integratedTime":"3","kindVersion":{"kind":"k","version":"v"},"logId":{"keyId":"aQ=="},"logIndex":"4"}],"x509CertificateChain":{"certificates":[{"rawBytes":"YQ=="}]}}}"#;
 
 #[test]
 fn a_whole_bundle_is_written_as_it_was_read(rt: HostRuntime) -> Result<(), Fail> {

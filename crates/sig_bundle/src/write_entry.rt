@@ -63,7 +63,11 @@ impl ElementWriter for CheckpointWriter {
     #[tactic(auto, using(crate::proofs::EntriesBack::entries_back), unfolding(crate::specs::BundleTree::checkpoint_tree))]
     fn write(alloc: Global, item: &Text) -> Result<Document, OutOfMemory> {
         let text = Document::of_text(alloc, item.as_str())?;
-        Ok(Object::new(alloc).with(alloc, "envelope", text)?.into_document())
+        Ok(
+            Object::new(alloc)
+                .with(alloc, "envelope", text)?
+                .into_document(),
+        )
     }
 }
 
