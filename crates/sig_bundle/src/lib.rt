@@ -12,8 +12,6 @@ mod read;
 mod read_content;
 mod read_entry;
 mod read_material;
-#[cfg(test)]
-mod tests;
 mod write;
 mod write_content;
 mod write_entry;
