@@ -1,16 +1,16 @@
 -- Log entries are read back, record by record.
-use Rattle.std.proofs.Common.{◌≡◌, ℕ, ℤ, pos, List, [], ◌∷◌, Option, Some, None, option_map, refl}
+use Rattle.std.proofs.Common.{ℕ, pos, List, [], ◌∷◌, Some, option_map, refl}
 use Rattle.std.specs.Prelude.{codes}
-use Rattle.serde_json.specs.Data.{Data, string}
+use Rattle.serde_json.specs.Data.{string}
 use Rattle.sig_bundle.specs.BundleRecord.{checkpoint_of, entry_of, entry_with, kind_version_of, log_id_of, promise_of, proof_of}
 use Rattle.sig_bundle.specs.BundleTree.{checkpoint_tree, entry_tree, kind_version_tree, log_id_tree, promise_tree, proof_tree}
-use Rattle.sig_bundle.specs.Written.{Row, object_of, integer_tree, bytes_tree, list_tree, IsReadAs, OptionIsRead}
+use Rattle.sig_bundle.specs.Written.{Row, integer_tree, bytes_tree, list_tree, IsReadAs, OptionIsRead}
 use Rattle.sig_bundle.specs.declared.material.KindVersion.{KindVersion}
 use Rattle.sig_bundle.specs.declared.material.ProofFields.{ProofFields}
 use Rattle.sig_bundle.specs.declared.material.TransparencyLogEntry.{TransparencyLogEntry}
 use Rattle.sig_bundle.proofs.Found.{found, found_option}
 use Rattle.sig_json.specs.Kinds.{bytes_of, i64_of, text_of}
-use Rattle.sig_json.specs.Member.{list_each, optional, optional_bytes, optional_i64, optional_list, optional_text}
+use Rattle.sig_json.specs.Member.{list_each}
 
 pub text_back : (text : List ℕ) → IsReadAs text_of (string text) text
 unfolding text_of

@@ -1,7 +1,7 @@
 -- Objects, as a document holds them.
-use Rattle.std.proofs.Common.{◌≡◌, ℕ, List, Option, Some, None, refl}
+use Rattle.std.proofs.Common.{◌≡◌, ℕ, List, refl}
 use Rattle.std.specs.Prelude.{IsSome}
-use Rattle.serde_json.specs.Data.{Data, null, boolean, number, string, array, object, Members, put}
+use Rattle.serde_json.specs.Data.{Data, null, boolean, number, string, array, object, put}
 use Rattle.serde_json.specs.Find.{as_object}
 use Rattle.sig_bundle.specs.Written.{members_in}
 use Rattle.sig_json.specs.Builders.{with_member}

@@ -1,21 +1,16 @@
 -- Values that are read back: integers, bytes, lists.
-use Rattle.std.proofs.Common.{◌≡◌, ◌==◌, ℕ, suc, ◌<◌, ◌≤◌, ◌+◌, ◌^◌, ℤ, pos, negsuc, neg_ℤ, FitsSigned, w64, inl, inr, List, [], ◌∷◌, ◌++◌, length, take, get_or, Option, Some, None, Result, Ok, true, false, refl, sym, ap, ◌∙◌, arith, rules}
+use Rattle.std.proofs.Common.{◌≡◌, ℕ, suc, ◌<◌, ◌^◌, ℤ, pos, negsuc, FitsSigned, w64, inl, inr, List, [], ◌∷◌, length, Some, Ok, true, refl, arith, rules}
 use Rattle.std.proofs.lemmas.Bool.{lt-ltb, ne_eqb, cases_eq}
 use Rattle.std.proofs.lemmas.Fmt.{digits_decimal, digits_value-decimal, decimal_nonempty}
 use Rattle.std.proofs.lemmas.Str.Parse.{IsNumeralModel, numerals_by_fold}
 use Rattle.std.specs.Char.{is_ascii_digit}
-use Rattle.std.specs.Fmt.{decimal, signed_decimal}
+use Rattle.std.specs.Fmt.{decimal}
 use Rattle.std.specs.List.{list_all}
-use Rattle.std.specs.Result.{result_ok}
 use Rattle.base64.specs.Engines.{standard}
 use Rattle.base64.specs.GeneralPurpose.{decode_of, encode_of}
-use Rattle.serde_json.specs.Data.{Data, string, array}
-use Rattle.sig_bundle.specs.Written.{IsReadAs, OptionIsRead, bytes_tree, integer_tree, items_of, list_tree}
-use Rattle.sig_json.specs.Builders.{with_last, items_with_last}
+use Rattle.sig_bundle.specs.Written.{IsReadAs, bytes_tree, integer_tree}
 use Rattle.sig_json.specs.Integer.{value_after, natural_text, integer_text}
 use Rattle.sig_json.specs.Kinds.{bytes_of, i64_of}
-use Rattle.sig_json.specs.List.{items_list}
-use Rattle.sig_json.specs.Member.{each, list_each}
 
 -- ---- integers
 

@@ -1,5 +1,5 @@
 -- Trees that are written: objects made of rows, and values that are read back.
-use Rattle.std.specs.Prelude.{◌≡◌, ℕ, ℤ, List, [], ◌∷◌, Bool, Option, Some, None, unwrap_or, bytes_eq, if◌then◌else◌, ⊤}
+use Rattle.std.specs.Prelude.{◌≡◌, ℕ, ℤ, List, [], ◌∷◌, Option, Some, None, unwrap_or, bytes_eq, if◌then◌else◌, ⊤}
 use Rattle.std.specs.Fmt.{signed_decimal}
 use Rattle.base64.specs.Engines.{standard}
 use Rattle.base64.specs.GeneralPurpose.{encode_of}

@@ -44,4 +44,5 @@ pub use sig_dsse::{
     InTotoStatementV1, Subject, SubjectDigests, Subjects, compute_pae, envelope_json,
 };
 pub use version::Version;
+pub use sig_dsse::{DsseEnvelope, DsseSignature, DsseSignatures};
 pub use write::bundle_text;

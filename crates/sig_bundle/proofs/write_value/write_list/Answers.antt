@@ -1,6 +1,5 @@
-use Rattle.std.proofs.Common.{arith, sym, ap, ◌∙◌}
+use Rattle.std.proofs.Common.{arith, ap, ◌∙◌}
 use Rattle.sig_bundle.proofs.Lists.{list_back-none, list_more}
-use Rattle.sig_bundle.specs.Written.{list_tree}
 use Rattle.sig_json.specs.Builders.{with_last}
 use Rattle.sig_json.specs.Tree.{document_tree}
 use Rattle.sig_bundle.proofs.write_value.write_list.Goals as goal

@@ -1,4 +1,4 @@
-use Rattle.std.proofs.Common.{◌≡◌, ap, ◌∙◌}
+use Rattle.std.proofs.Common.{ap, ◌∙◌}
 use Rattle.sig_bundle.specs.Written.{bytes_tree}
 use Rattle.sig_bundle.proofs.EntriesBack.{entry_back}
 use Rattle.sig_bundle.proofs.EntryTrees.{entry_written}

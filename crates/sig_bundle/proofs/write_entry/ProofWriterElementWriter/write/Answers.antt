@@ -1,4 +1,4 @@
-use Rattle.std.proofs.Common.{◌≡◌, ap, ◌∙◌}
+use Rattle.std.proofs.Common.{ap, ◌∙◌}
 use Rattle.sig_bundle.specs.Written.{bytes_tree, list_tree}
 use Rattle.sig_bundle.proofs.EntriesBack.{proof_back}
 use Rattle.sig_bundle.proofs.EntryTrees.{proof_written}
