@@ -7,8 +7,6 @@
 mod bundle;
 mod bundle_error;
 mod checked_bundle;
-#[cfg(test)]
-mod checked_tests;
 mod content_check;
 mod copy;
 mod material;
