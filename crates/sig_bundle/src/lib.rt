@@ -17,8 +17,6 @@ mod read_content;
 mod read_entry;
 mod read_material;
 mod signer;
-#[cfg(test)]
-mod tests;
 mod version;
 mod write;
 mod write_content;
@@ -42,5 +40,4 @@ pub use sig_dsse::{
     InTotoStatementV1, Subject, SubjectDigests, Subjects, compute_pae, envelope_json,
 };
 pub use version::Version;
-pub use sig_dsse::{DsseEnvelope, DsseSignature, DsseSignatures};
 pub use write::bundle_text;
