@@ -86,12 +86,23 @@ fn is_statement(alloc: Global, payload: &str) -> Option<bool> {
     }
 }
 
+/// The kinds that the check for `cosign` answers, by their names.
+fn kind_word(kind: UnexpectedKind) -> &'static str {
+    match kind {
+        UnexpectedKind::StatementType => "StatementType",
+        UnexpectedKind::PredicateType => "PredicateType",
+        UnexpectedKind::NoSubjects => "NoSubjects",
+        UnexpectedKind::FirstSubjectWithoutSha256 => "FirstSubjectWithoutSha256",
+        _ => "another",
+    }
+}
+
 /// What the check for `cosign` answers, by one word.
 fn cosign_word(alloc: Global, payload: &str) -> &'static str {
     match InTotoStatementV1::from_json(alloc, payload.as_bytes()) {
         Ok(statement) => match statement.validate_cosign_v1() {
             Ok(()) => "Ok",
-            Err(SigstoreError::UnexpectedError(kind)) => kind.name(),
+            Err(SigstoreError::UnexpectedError(kind)) => kind_word(kind),
             Err(_) => "another",
         },
         Err(_) => "unread",
