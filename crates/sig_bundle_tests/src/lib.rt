@@ -5,3 +5,5 @@
 mod reading_tests;
 #[cfg(test)]
 mod version_tests;
+#[cfg(test)]
+mod writing_tests;
