@@ -18,12 +18,12 @@ application/vnd.dev.sigstore.bundle+json
 application/vnd.dev.sigstore.bundle+json;version=0
 application/vnd.dev.sigstore.bundle+json;version=0.4
 application/vnd.dev.sigstore.bundle+json; version=0.1
-application/vnd.dev.sigstore.bundle+json;version=0.1 
 Application/vnd.dev.sigstore.bundle+json;version=0.1
 application/vnd.dev.sigstore.bundle.v0.1+json
 application/vnd.dev.sigstore.bundle.v0.2+json
 application/vnd.dev.sigstore.bundle.v0.3
-0.1";
+0.1
+application/vnd.dev.sigstore.bundle+json;version=0.1 ";
 
 /// The version of this number.
 fn version(number: &str) -> Option<Version> {
