@@ -3,6 +3,14 @@
 #![tactic(auto)]
 
 #[cfg(test)]
+mod held;
+#[cfg(test)]
+mod list_tests;
+#[cfg(test)]
 mod parts;
 #[cfg(test)]
+mod profile_tests;
+#[cfg(test)]
 mod reading_tests;
+#[cfg(test)]
+mod trust_tests;

@@ -29,12 +29,21 @@ fn put(parts: &mut CertificateParts, name: &str, bytes: Bytes) -> Option<()> {
     Some(())
 }
 
-/// The fixture leaf with a change `NAME=DIGITS`, or as it is for a text without `=`. The digits are those of whole elements.
-pub(crate) fn changed(alloc: Global, change: &str) -> Option<CertificateParts> {
-    let mut parts = leaf(alloc)?;
+/// The leaf with a change `NAME=DIGITS`, or as it is for a text without `=`. The digits are those of whole elements.
+pub(crate) fn with(
+    alloc: Global,
+    leaf: CertificateParts,
+    change: &str,
+) -> Option<CertificateParts> {
+    let mut parts = leaf;
     if let Some((name, digits)) = change.split_once('=') {
         let bytes = hex::decode(alloc, digits).ok()?;
         put(&mut parts, name, Bytes::from(bytes))?;
     }
     Some(parts)
+}
+
+/// The fixture leaf with such a change.
+pub(crate) fn changed(alloc: Global, change: &str) -> Option<CertificateParts> {
+    with(alloc, leaf(alloc)?, change)
 }
