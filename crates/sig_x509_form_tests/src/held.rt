@@ -14,9 +14,13 @@ fn kind(name: &str) -> Option<(&'static [u8], bool)> {
         "purposes" | "second-purposes" => (oid::EXTENDED_KEY_USAGE, false),
         "names" => (oid::SUBJECT_ALTERNATIVE_NAME, true),
         "second-names" => (oid::SUBJECT_ALTERNATIVE_NAME, false),
+        "issued" | "second-issued" => (oid::FULCIO_ISSUER, false),
         "list" | "second-list" => (oid::SCT_LIST, false),
         "constraints" => (oid::BASIC_CONSTRAINTS, true),
         "uncritical-constraints" => (oid::BASIC_CONSTRAINTS, false),
+        "name-constraints" => (oid::NAME_CONSTRAINTS, false),
+        "critical" => (oid::FULCIO_REF, true),
+        "uncritical" => (oid::FULCIO_REF, false),
         _ => return None,
     })
 }
@@ -37,6 +41,7 @@ fn put(alloc: Global, list: &mut LeafExtensions, name: &str, whole: Bytes) -> Op
         "usage" => list.usage = whole,
         "purposes" => list.purposes = whole,
         "names" => list.names = whole,
+        "issued" => list.issuer = whole,
         "list" => list.timestamps = whole,
         _ => list.others = joined(alloc, list.others.as_slice(), whole.as_slice()).ok()?,
     }
@@ -62,10 +67,14 @@ fn held(alloc: Global, changes: &str) -> Option<LeafExtensions> {
     Some(list)
 }
 
-/// The certificate of the fixture leaf with one part and these extensions changed.
-pub(crate) fn certificate(alloc: Global, part: &str, extensions: &str) -> Option<Certificate> {
+/// The fixture leaf with one part and these extensions changed.
+pub(crate) fn leaf_with(alloc: Global, part: &str, extensions: &str) -> Option<CertificateParts> {
     let list = held(alloc, extensions)?;
-    let parts = with(alloc, CertificateParts::leaf(alloc, &list).ok()?, part)?;
-    let der = parts.der(alloc).ok()?;
+    with(alloc, CertificateParts::leaf(alloc, &list).ok()?, part)
+}
+
+/// The certificate of the fixture leaf so changed.
+pub(crate) fn certificate(alloc: Global, part: &str, extensions: &str) -> Option<Certificate> {
+    let der = leaf_with(alloc, part, extensions)?.der(alloc).ok()?;
     Certificate::try_from_der(alloc, der.as_slice()).ok()
 }

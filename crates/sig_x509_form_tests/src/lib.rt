@@ -9,6 +9,10 @@ mod list_tests;
 #[cfg(test)]
 mod parts;
 #[cfg(test)]
+mod policy_tests;
+#[cfg(test)]
+mod pool_tests;
+#[cfg(test)]
 mod profile_tests;
 #[cfg(test)]
 mod reading_tests;

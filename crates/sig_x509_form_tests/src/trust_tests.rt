@@ -1,8 +1,7 @@
-//! Two of the checks of a certificate that signed what a log has recorded: that its key may sign code, and that it names whom it was issued
-//! to.
+//! The four checks of a certificate that signed what a log has recorded, in their order, and two of them alone.
 
 use crate::held::certificate;
-use sig_x509::{Certificate, verify_has_san, verify_key_usages};
+use sig_x509::{Certificate, is_trusted, verify_has_san, verify_key_usages};
 use std::alloc::Global;
 
 /// Each line: the cause, the part and the extensions of the fixture leaf that are changed, and what `verify_key_usages` answers.
@@ -102,4 +101,40 @@ fn other_names_are_well_formed(rt: HostRuntime) {
 #[test]
 fn well_formed_names_are_accepted(rt: HostRuntime) {
     assert!(rt; are_true(rt.alloc(), "verify_has_san", GOOD_NAMES));
+}
+
+/// Each line: the cause, the second of the entry, the second of now, the extensions of the fixture leaf that are changed, and what
+/// `is_trusted` answers.
+const TRUSTED: &str = "\
+at the first second|1702446655|1702446655||Ok(())
+at the last second|1702447255|1702446655||Ok(())
+key usage first|1|1|usage=- purposes=- names=-|Err(CertificateWithoutDigitalSignatureKeyUsage)
+then purposes|1|1|purposes=- names=-|Err(CertificateWithoutCodeSigningKeyUsage)
+then names|1|1|names=-|Err(CertificateWithoutSubjectAlternativeName)
+then the validity|1|1702446654||Err(CertificateValidityError(1702446655))
+then an entry too early|1702446654|1702446655||Err(CertificateExpiredBeforeSignaturesSubmittedToRekor { integrated_time: 1702446654, not_before: 1702446655 })
+or an entry too late|1702447256|1702500000||Err(CertificateIssuedAfterSignaturesSubmittedToRekor { integrated_time: 1702447256, not_after: 1702447255 })";
+
+/// What `is_trusted` answers in these seconds.
+fn trust(alloc: Global, integrated: &str, now: &str, read: &Certificate) -> Option<String> {
+    let integrated = integrated.parse::<i64>().ok()?;
+    let now = now.parse::<i64>().ok()?;
+    format!(in alloc; "{:?}", is_trusted(read, integrated, now)).ok()
+}
+
+/// Whether a line of `TRUSTED` is true.
+fn is_trust(alloc: Global, line: &str) -> Option<bool> {
+    let (_, rest) = line.split_once('|')?;
+    let (integrated, rest) = rest.split_once('|')?;
+    let (now, rest) = rest.split_once('|')?;
+    let (extensions, wanted) = rest.split_once('|')?;
+    let read = certificate(alloc, "", extensions)?;
+    Some(trust(alloc, integrated, now, &read)?.as_str() == wanted)
+}
+
+#[test]
+fn trust_answers_the_first_cause(rt: HostRuntime) {
+    for line in TRUSTED.lines() {
+        assert!(rt; is_trust(rt.alloc(), line) == Some(true), "{line}");
+    }
 }
