@@ -3,6 +3,8 @@
 #![tactic(auto)]
 
 #[cfg(test)]
+mod anchor_tests;
+#[cfg(test)]
 mod held;
 #[cfg(test)]
 mod list_tests;
@@ -16,5 +18,7 @@ mod pool_tests;
 mod profile_tests;
 #[cfg(test)]
 mod reading_tests;
+#[cfg(test)]
+mod request_tests;
 #[cfg(test)]
 mod trust_tests;
