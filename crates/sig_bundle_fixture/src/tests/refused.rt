@@ -3,9 +3,8 @@
 use crate::{BundleParts, DIGEST, payload_of};
 use sig_base::{Bytes, Entries, Text};
 use sig_bundle::{
-    Bundle, Bundle02ProfileErrorKind, BundleErrorKind, BundleProfileErrorKind, CheckedBundle,
-    Content, DigestName, DsseSignature, LogEntries, MaterialContent, MessageSignature,
-    VerificationMaterial,
+    Bundle, BundleErrorKind, BundleProfileErrorKind, CheckedBundle, Content, DigestName,
+    DsseSignature, LogEntries, MaterialContent, MessageSignature, VerificationMaterial,
 };
 use sig_fixture::CertificateParts;
 use std::alloc::Global;
@@ -244,45 +243,4 @@ fn wants_one_entry(alloc: Global) -> Option<bool> {
 #[test]
 fn bundle_has_one_log_entry(rt: HostRuntime) {
     assert!(rt; wants_one_entry(rt.alloc()) == Some(true));
-}
-
-/// The refusal of the fixture's bundle without a proof, or with a proof that has no checkpoint.
-fn with_proof(alloc: Global, kept: bool) -> Option<BundleErrorKind> {
-    let parts = BundleParts::new(alloc).ok()?;
-    let mut bundle = parts.bundle(alloc).ok()?;
-    let mut entry = parts.entry(alloc).ok()?;
-    let mut proof = entry.inclusion_proof?;
-    proof.checkpoint = None;
-    entry.inclusion_proof = if kept { Some(proof) } else { None };
-    let mut tlog_entries = LogEntries::new(alloc);
-    tlog_entries.push(entry).ok()?;
-    bundle.verification_material = Some(VerificationMaterial {
-        content: Some(MaterialContent::Certificate(parts.leaf.copy(alloc).ok()?)),
-        tlog_entries,
-    });
-    refusal_of(alloc, &bundle)
-}
-
-/// Whether the refusal names this missing part of the profile 0.3.
-fn is_missing(refused: BundleErrorKind, part: Bundle02ProfileErrorKind) -> bool {
-    match refused {
-        BundleErrorKind::BundleProfile(BundleProfileErrorKind::Bundle02Profile(named)) => {
-            named == part
-        }
-        _ => false,
-    }
-}
-
-fn wants_a_proof(alloc: Global) -> Option<bool> {
-    let proof = with_proof(alloc, false)?;
-    let checkpoint = with_proof(alloc, true)?;
-    Some(
-        is_missing(proof, Bundle02ProfileErrorKind::InclusionProofMissing)
-            && is_missing(checkpoint, Bundle02ProfileErrorKind::CheckpointMissing),
-    )
-}
-
-#[test]
-fn profile_wants_a_proof_with_a_checkpoint(rt: HostRuntime) {
-    assert!(rt; wants_a_proof(rt.alloc()) == Some(true));
 }
