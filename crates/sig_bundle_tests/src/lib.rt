@@ -2,6 +2,8 @@
 #![tactic(auto)]
 
 #[cfg(test)]
+mod member_tests;
+#[cfg(test)]
 mod reading_tests;
 #[cfg(test)]
 mod version_tests;

@@ -5,7 +5,7 @@ use Rattle.std.proofs.lemmas.List.{nil_from_length, append-nil}
 use Rattle.sig_der.specs.Element.{IsElement, StandsFirst, spelled_length}
 use Rattle.sig_der.specs.Reading.{Piece}
 use Rattle.sig_der.specs.Taking.{◌>>=◌, take_any, take_tag, take_whole}
-use Rattle.sig_der.specs.KeyInfo.{Algorithm, IsAtMostOne, IsAlgorithm, KeyInfo, IsKeyInfo, at_most_one, algorithm_at, after_zero, bits_of, key_info_at}
+use Rattle.sig_der.specs.KeyInfo.{Algorithm, IsAtMostOne, IsAlgorithm, KeyInfo, IsKeyInfo, at_most_one, algorithm_at, after_zero, bits_of, key_info_at, is_empty, whole_key_info}
 use Rattle.sig_der.proofs.Bytes.{IsBytes, IsBytes-left, IsBytes-right}
 use Rattle.sig_der.proofs.Takings.{bind_is, bind_of_some, when_is, unless_is, some, some_is, take_any_takes, take_any_again, take_tag_takes, take_tag_again, take_tag_shrinks, take_whole_takes, take_whole_again}
 
@@ -148,3 +148,19 @@ key_info_at_again k rest bytes is parts =
     bind_of_some (take_tag 48 bytes) _ _ (take_tag_again k.whole 48 content rest bytes is.whole parts)
     ∙ bind_of_some (algorithm_at content) _ (k.algorithm, is.bits_text) (algorithm_at_again k.algorithm is.bits_text content is.algorithm refl)
     ∙ bind_of_some (bits_of is.bits_text) _ k.bits (bits_of_again is.bits_text k.bits is.bits)
+
+-- ---- all of the text as a key info
+
+pub whole_key_info_takes : (bytes : List ℕ) → IsBytes bytes → (k : KeyInfo) → whole_key_info bytes ≡ Some k → IsKeyInfo k × (k.whole ≡ bytes)
+unfolding whole_key_info
+whole_key_info_takes bytes fits k e =
+    let b = bind_is (key_info_at bytes) _ k e in
+    let w = when_is (is_empty b.0.1) (Some b.0.0) k b.2 in
+    let t = key_info_at_takes bytes fits b.0 b.1 in
+    let all : b.0.0.whole ≡ bytes = sym (t.1 ∙ ap (λ (u : List ℕ). b.0.0.whole ++ u) (none_left b.0.1 w.0) ∙ append-nil b.0.0.whole) in
+    subst (λ (q : KeyInfo). IsKeyInfo q × (q.whole ≡ bytes)) (some_is b.0.0 k w.1) (t.0, all)
+
+pub whole_key_info_again : (bytes : List ℕ) (k : KeyInfo) → IsKeyInfo k → k.whole ≡ bytes → whole_key_info bytes ≡ Some k
+unfolding whole_key_info
+whole_key_info_again bytes k is text =
+    bind_of_some (key_info_at bytes) _ (k, []) (key_info_at_again k [] bytes is (sym text ∙ sym (append-nil k.whole)))

@@ -75,3 +75,9 @@ key_info_at bytes = do
   a ← algorithm_at x.0.content
   b ← bits_of a.1
   Some (record { whole = x.0.whole; algorithm = a.0; bits = b }, x.1)
+
+-- the key info that is all of the text
+unfoldable pub whole_key_info : List ℕ → Option KeyInfo
+whole_key_info bytes = do
+  k ← key_info_at bytes
+  if is_empty k.1 then Some k.0 else None

@@ -2,8 +2,8 @@
 //! SubjectPublicKeyInfo of section 4.1.2.7.
 
 ghost use Rattle.std.specs.Prelude.{◌≡◌, ◌≤◌, length, slice_range, option_map, IfSome};
-ghost use Rattle.sig_der.specs.KeyInfo.{at_most_one, algorithm_at, bits_of, key_info_at};
-ghost use Rattle.sig_der.specs.KeyInfoPlaces.{placed_option, placed_algorithm, placed_key_info, part_from, IsOneWithin, IsAlgorithmWithin, IsKeyInfoWithin};
+ghost use Rattle.sig_der.specs.KeyInfo.{at_most_one, algorithm_at, bits_of, key_info_at, whole_key_info};
+ghost use Rattle.sig_der.specs.KeyInfoPlaces.{placed_option, placed_algorithm, placed_key_info, key_info_of, part_from, IsOneWithin, IsAlgorithmWithin, IsKeyInfoWithin};
 
 use crate::place::{Place, place_at, tagged_at, whole_at};
 
@@ -107,4 +107,18 @@ pub fn key_info_at(bytes: &[u8], at: usize, end: usize) -> Option<KeyInfoPlaces>
         algorithm,
         bits,
     })
+}
+
+/// The key info that is all of the text. None where there is none.
+#[tactic(auto, unfolding(crate::specs::KeyInfo::whole_key_info))]
+pub fn whole_key_info(bytes: &[u8]) -> Option<KeyInfoPlaces>
+    ensures cut { whole_key_info bytes.now ≡ option_map (key_info_of bytes.now) result }
+    ensures within { IfSome result (IsKeyInfoWithin 0 (length bytes.now)) }
+{
+    let info = key_info_at(bytes, 0, bytes.len())?;
+    if bytes[info.whole.end..].is_empty() {
+        Some(info)
+    } else {
+        None
+    }
 }

@@ -18,7 +18,9 @@ mod write;
 
 pub use element::{Element, read_all, read_element};
 pub use iter::Children;
-pub use key_info::{AlgorithmPlaces, KeyInfoPlaces, algorithm_at, bits_at, key_info_at};
+pub use key_info::{
+    AlgorithmPlaces, KeyInfoPlaces, algorithm_at, bits_at, key_info_at, whole_key_info,
+};
 pub use out::DerOut;
 pub use place::{Place, optional_at, place_at, tagged_at, whole_at};
 pub use stamp::rfc3339_second;

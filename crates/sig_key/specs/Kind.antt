@@ -1,6 +1,6 @@
 -- *Key kind*: what kind of key a text is, a function of its bytes. SubjectPublicKeyInfo of RFC 5280 section 4.1.2.7, with the
 -- algorithms of RFC 5480 section 2.1 (elliptic curves), RFC 3279 section 2.3.1 (RSA) and RFC 8410 section 3 (Ed25519).
-use Rattle.std.specs.Prelude.{◌≡◌, ◌≢◌, ℕ, List, length, Option, Some, None, option_and_then, Result, Ok, Err, ◌==◌, if◌then◌else◌}
+use Rattle.std.specs.Prelude.{◌≡◌, ◌≢◌, ℕ, List, Option, Some, None, Result, Ok, Err, ◌==◌, if◌then◌else◌}
 use Rattle.std.specs.Str.{bytes_eq}
 use Rattle.sig_base.specs.declared.scheme.VerifyScheme.{VerifyScheme}
 use Rattle.sig_base.specs.declared.scheme.VerifyScheme.TheVariants as scheme
@@ -8,7 +8,7 @@ use Rattle.sig_base.specs.declared.error.SigstoreError.{SigstoreError}
 use Rattle.sig_base.specs.declared.error.SigstoreError.TheVariants.{KeyParsingError, PublicKeyUnsupportedAlgorithmError}
 use Rattle.sig_der.specs.declared.oid.TheConstants.{EC_PUBLIC_KEY, P256, P384, P521, RSA, ED25519}
 use Rattle.sig_der.specs.Reading.{Piece}
-use Rattle.sig_der.specs.KeyInfo.{Algorithm, KeyInfo, IsKeyInfo, key_info_at}
+use Rattle.sig_der.specs.KeyInfo.{Algorithm, KeyInfo, IsKeyInfo, whole_key_info}
 use Rattle.sig_key.specs.declared.kind.KeyKind.{KeyKind}
 use Rattle.sig_key.specs.declared.kind.KeyKind.TheVariants.{NoKeyInfo, Unsupported, Scheme}
 use Rattle.sig_key.specs.declared.verification_key.CosignVerificationKey.{CosignVerificationKey}
@@ -55,10 +55,6 @@ IsKind spki Unsupported = IsKeyInfoOf spki None
 IsKind spki (Scheme s) = IsKeyInfoOf spki (Some s)
 
 -- ---- by computation
-
--- the key info that is all of the text
-unfoldable pub whole_key_info : List ℕ → Option KeyInfo
-whole_key_info spki = option_and_then (λ x. if length x.1 == 0 then Some x.0 else None) (key_info_at spki)
 
 abbrev pub kind_of_info : Option KeyInfo → KeyKind
 kind_of_info None = NoKeyInfo

@@ -1,12 +1,12 @@
 //! What kind of key a text is.
-ghost use Rattle.std.specs.Prelude.{◌≡◌, ℕ, length, option_map, IfSome};
+ghost use Rattle.std.specs.Prelude.{◌≡◌, length, option_map};
 ghost use Rattle.sig_der.specs.Lent.{piece_of};
-ghost use Rattle.sig_der.specs.KeyInfoPlaces.{algorithm_of, key_info_of, IsKeyInfoWithin};
+ghost use Rattle.sig_der.specs.KeyInfoPlaces.{algorithm_of, IsKeyInfoWithin};
 ghost use Rattle.sig_key.specs.declared.kind.KeyKind.{KeyKind as Kind};
-ghost use Rattle.sig_key.specs.Kind.{curve_scheme, parameters_scheme, scheme_by, algorithm_scheme, whole_key_info, key_kind, IsKind};
+ghost use Rattle.sig_key.specs.Kind.{curve_scheme, parameters_scheme, scheme_by, algorithm_scheme, key_kind, IsKind};
 
 use sig_base::VerifyScheme;
-use sig_der::{Element, KeyInfoPlaces, key_info_at, oid};
+use sig_der::{Element, KeyInfoPlaces, oid, whole_key_info};
 
 /// The tag of an object identifier.
 const OBJECT_IDENTIFIER: u8 = 6;
@@ -88,25 +88,11 @@ fn scheme_at(spki: &[u8], info: KeyInfoPlaces) -> Option<VerifyScheme>
     }
 }
 
-/// The key info that the whole text is.
-#[tactic(auto, unfolding(crate::specs::Kind::whole_key_info))]
-fn whole_info(spki: &[u8]) -> Option<KeyInfoPlaces>
-    ensures cut { whole_key_info spki.now ≡ option_map (key_info_of spki.now) result }
-    ensures within { IfSome result (IsKeyInfoWithin 0 (length spki.now)) }
-{
-    let info = key_info_at(spki, 0, spki.len())?;
-    if spki[info.whole.end..spki.len()].is_empty() {
-        Some(info)
-    } else {
-        None
-    }
-}
-
 #[tactic(auto, unfolding(crate::specs::Kind::key_kind))]
 fn kind_of(spki: &[u8]) -> KeyKind
     ensures { result ≡ key_kind spki.now }
 {
-    let Some(info) = whole_info(spki) else {
+    let Some(info) = whole_key_info(spki) else {
         return KeyKind::NoKeyInfo;
     };
     match scheme_at(spki, info) {

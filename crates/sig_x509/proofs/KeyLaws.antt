@@ -1,36 +1,18 @@
 -- Keys of a ring: what is read is a key of a ring, and what is one is read.
-use Rattle.std.proofs.Common.{◌≡◌, ◌≢◌, ℕ, Bool, true, false, cond, ◌&&◌, List, [], ◌++◌, Option, Some, None, Result, Ok, Err, refl, sym, ap, subst, ◌∙◌, inl, inr}
+use Rattle.std.proofs.Common.{◌≡◌, ◌≢◌, ℕ, Bool, true, false, cond, ◌&&◌, List, Option, Some, None, Result, Ok, Err, refl, sym, ap, ◌∙◌, inl, inr}
 use Rattle.std.specs.Prelude.{bytes_eq, IfOk}
 use Rattle.sig_base.specs.Answers.{Answers}
 use Rattle.std.proofs.lemmas.Bool.{cases_Bool, eqb-true, cond-true, cond-false}
-use Rattle.std.proofs.lemmas.List.{append-nil}
 use Rattle.std.proofs.lemmas.Slice.Eq.{bytes_eq-Decides}
 use Rattle.sig_der.specs.Reading.{Piece}
-use Rattle.sig_der.specs.KeyInfo.{KeyInfo, IsKeyInfo, is_empty, key_info_at}
+use Rattle.sig_der.specs.KeyInfo.{KeyInfo, IsKeyInfo, whole_key_info}
 use Rattle.sig_der.specs.declared.oid.TheConstants.{EC_PUBLIC_KEY, P256, RSA}
 use Rattle.sig_der.proofs.Bytes.{IsBytes}
-use Rattle.sig_der.proofs.Takings.{bind_is, bind_of_some, when_is, some_is}
-use Rattle.sig_der.proofs.KeyInfos.{key_info_at_takes, key_info_at_again, none_left}
+use Rattle.sig_der.proofs.KeyInfos.{whole_key_info_takes, whole_key_info_again}
 use Rattle.sig_x509.specs.declared.keyring_error.KeyringError.{KeyringError}
 use Rattle.sig_x509.specs.declared.keyring_error.KeyringError.TheVariants.{KeyMalformed, AlgoUnsupported, OutOfMemory}
 use Rattle.sig_x509.specs.RingKey.{RingKey}
-use Rattle.sig_x509.specs.Keyring.{IsRingKey, is_identifier, is_null, point_under, point_in, point_of_info, point_of, whole_key_info}
-
--- ---- all of the text as a key info
-
-pub whole_key_info_takes : (spki : List ℕ) → IsBytes spki → (k : KeyInfo) → whole_key_info spki ≡ Some k → IsKeyInfo k × (k.whole ≡ spki)
-unfolding whole_key_info
-whole_key_info_takes spki fits k e =
-    let b = bind_is (key_info_at spki) _ k e in
-    let w = when_is (is_empty b.0.1) (Some b.0.0) k b.2 in
-    let t = key_info_at_takes spki fits b.0 b.1 in
-    let all : b.0.0.whole ≡ spki = sym (t.1 ∙ ap (λ (u : List ℕ). b.0.0.whole ++ u) (none_left b.0.1 w.0) ∙ append-nil b.0.0.whole) in
-    subst (λ (q : KeyInfo). IsKeyInfo q × (q.whole ≡ spki)) (some_is b.0.0 k w.1) (t.0, all)
-
-pub whole_key_info_again : (spki : List ℕ) (k : KeyInfo) → IsKeyInfo k → k.whole ≡ spki → whole_key_info spki ≡ Some k
-unfolding whole_key_info
-whole_key_info_again spki k is text =
-    bind_of_some (key_info_at spki) _ (k, []) (key_info_at_again k [] spki is (sym text ∙ sym (append-nil k.whole)))
+use Rattle.sig_x509.specs.Keyring.{IsRingKey, is_identifier, is_null, point_under, point_in, point_of_info, point_of}
 
 -- ---- the point
 

@@ -5,8 +5,7 @@ use Rattle.std.specs.Option.{option_or}
 use Rattle.std.specs.Result.{result_ok}
 use Rattle.sig_base.specs.Sha256.{sha256}
 use Rattle.sig_der.specs.Reading.{Piece}
-use Rattle.sig_der.specs.Taking.{◌>>=◌}
-use Rattle.sig_der.specs.KeyInfo.{KeyInfo, IsKeyInfo, is_empty, key_info_at}
+use Rattle.sig_der.specs.KeyInfo.{KeyInfo, IsKeyInfo, is_empty, whole_key_info}
 use Rattle.sig_der.specs.declared.place.Place.{Place}
 use Rattle.sig_der.specs.declared.oid.TheConstants.{EC_PUBLIC_KEY, P256, RSA}
 use Rattle.sig_x509.specs.declared.keyring_error.KeyringError.{KeyringError}
@@ -47,12 +46,6 @@ pub record IsRingKey (spki point : List ℕ) : Type 0 where
   pub identifier : parameters.tag ≡ 6
   pub curve : parameters.content ≡ P256.now
   pub bits : info.bits ≡ point
-
--- all of the text as a key info
-unfoldable pub whole_key_info : List ℕ → Option KeyInfo
-whole_key_info spki = do
-  k ← key_info_at spki
-  if is_empty k.1 then Some k.0 else None
 
 abbrev pub point_of_info : Option KeyInfo → Result (List ℕ) KeyringError
 point_of_info None = Err KeyMalformed

@@ -1,16 +1,16 @@
 //! `Key`: the key of a certificate log.
 
-ghost use Rattle.std.specs.Prelude.{◌≡◌, ◌≢◌, ◌≤◌, length, slice_range, option_map, Result, Err, IfOk, IfSome};
+ghost use Rattle.std.specs.Prelude.{◌≡◌, ◌≢◌, length, Result, Err, IfOk};
 ghost use Rattle.sig_base.specs.Answers.{Answers};
 ghost use Rattle.sig_base.specs.Sha256.{sha256};
 ghost use Rattle.sig_der.specs.KeyInfo.{KeyInfo, IsKeyInfo};
-ghost use Rattle.sig_der.specs.KeyInfoPlaces.{key_info_of, placed_option, IsKeyInfoWithin};
-ghost use Rattle.sig_x509.specs.Keyring.{IsRingKey, IsParametersWithin, point_in, point_of, point_under, whole_key_info, lent_point};
+ghost use Rattle.sig_der.specs.KeyInfoPlaces.{placed_option};
+ghost use Rattle.sig_x509.specs.Keyring.{IsRingKey, IsParametersWithin, point_in, point_of, point_under, lent_point};
 
 use crate::keyring_error::KeyringError;
 use sig_base::{Bytes, SignatureChecker, sha256};
 use sig_der::oid::{EC_PUBLIC_KEY, P256, RSA};
-use sig_der::{KeyInfoPlaces, Place, key_info_at};
+use sig_der::{Place, whole_key_info};
 use std::alloc::Global;
 use std::marker::Model;
 
@@ -88,20 +88,6 @@ fn point_of(spki: &[u8]) -> Result<&[u8], KeyringError>
                 key.algorithm.parameters,
             )
         }
-    }
-}
-
-/// The places of the key info that is all of the text.
-#[tactic(auto, using(crate::proofs::Spans::all_part), unfolding(crate::specs::Keyring::whole_key_info))]
-fn whole_key_info(spki: &[u8]) -> Option<KeyInfoPlaces>
-    ensures cut { whole_key_info spki.now ≡ option_map (key_info_of spki.now) result }
-    ensures within { IfSome result (IsKeyInfoWithin 0 (length spki.now)) }
-{
-    let key = key_info_at(spki, 0, spki.len())?;
-    if spki[key.whole.end..spki.len()].is_empty() {
-        Some(key)
-    } else {
-        None
     }
 }
 
