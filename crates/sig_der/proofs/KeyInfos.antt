@@ -1,13 +1,13 @@
 -- Algorithms and key infos: what the readers take is what the relations build, and what the relations build is taken.
-use Rattle.std.proofs.Common.{◌≡◌, ◌≢◌, ℕ, ◌<◌, false, true, cond, eqb, List, [], ◌∷◌, ◌++◌, length, Option, Some, None, refl, sym, ap, subst, ◌∙◌, append_assoc, arith}
-use Rattle.std.proofs.lemmas.Bool.{eqb-true, eqb-false, eq-eqb, ne_eqb, cond-true, cond-false}
+use Rattle.std.proofs.Common.{◌≡◌, ◌≢◌, ℕ, ◌<◌, false, true, eqb, List, [], ◌∷◌, ◌++◌, length, Option, Some, None, refl, sym, ap, subst, ◌∙◌, arith}
+use Rattle.std.proofs.lemmas.Bool.{eqb-true, eqb-false, ne_eqb, cond-false}
 use Rattle.std.proofs.lemmas.List.{nil_from_length, append-nil}
 use Rattle.sig_der.specs.Element.{IsElement, StandsFirst, spelled_length}
 use Rattle.sig_der.specs.Reading.{Piece}
-use Rattle.sig_der.specs.Taking.{◌>>=◌, take_any, take_tag, take_whole}
+use Rattle.sig_der.specs.Taking.{take_any, take_tag, take_whole}
 use Rattle.sig_der.specs.KeyInfo.{Algorithm, IsAtMostOne, IsAlgorithm, KeyInfo, IsKeyInfo, at_most_one, algorithm_at, after_zero, bits_of, key_info_at, is_empty, whole_key_info}
 use Rattle.sig_der.proofs.Bytes.{IsBytes, IsBytes-left, IsBytes-right}
-use Rattle.sig_der.proofs.Takings.{bind_is, bind_of_some, when_is, unless_is, some, some_is, take_any_takes, take_any_again, take_tag_takes, take_tag_again, take_tag_shrinks, take_whole_takes, take_whole_again}
+use Rattle.sig_der.proofs.Takings.{bind_is, bind_of_some, when_is, unless_is, some_is, take_any_takes, take_any_again, take_tag_takes, take_tag_again, take_whole_takes, take_whole_again}
 
 -- ---- bytes of parts
 

@@ -1,5 +1,5 @@
 -- Places of algorithms and key infos in one text, and what they stand for.
-use Rattle.std.specs.Prelude.{◌≡◌, ℕ, ◌≤◌, List, Option, Some, None, slice_range, option_map}
+use Rattle.std.specs.Prelude.{ℕ, ◌≤◌, List, Option, Some, None, slice_range, option_map}
 use Rattle.sig_der.specs.declared.place.Place.{Place}
 use Rattle.sig_der.specs.declared.key_info.AlgorithmPlaces.{AlgorithmPlaces}
 use Rattle.sig_der.specs.declared.key_info.KeyInfoPlaces.{KeyInfoPlaces}

@@ -1,5 +1,5 @@
 -- *Key kind*: each text is of the kind that is computed, and of no other.
-use Rattle.std.proofs.Common.{◌≡◌, ◌≢◌, ℕ, List, Option, Some, None, refl, sym, ap, ◌∙◌}
+use Rattle.std.proofs.Common.{◌≡◌, ℕ, List, Option, Some, None, refl, sym, ap, ◌∙◌}
 use Rattle.sig_base.specs.declared.scheme.VerifyScheme.{VerifyScheme}
 use Rattle.sig_der.specs.KeyInfo.{KeyInfo, IsKeyInfo, whole_key_info}
 use Rattle.sig_der.proofs.Bytes.{IsBytes}

@@ -1,8 +1,7 @@
 -- What is read as a signed checkpoint stands for it, and what stands for a checkpoint is read as it.
-use Rattle.std.proofs.Common.{◌≡◌, ℕ, List, [], ◌∷◌, Option, Some, None, Result, Ok, Err, refl, sym, ap, subst, arith, filter}
+use Rattle.std.proofs.Common.{◌≡◌, ℕ, List, Option, Some, None, Ok, refl, subst, arith, filter}
 use Rattle.sig_rekor.specs.declared.checkpoint.SignedCheckpoint.{SignedCheckpoint}
 use Rattle.sig_rekor.specs.Cut.{cut_at, parts, trimmed}
-use Rattle.sig_rekor.specs.Reading.{◌>>=◌, each}
 use Rattle.sig_rekor.specs.NoteText.{note_of}
 use Rattle.sig_rekor.specs.SignatureText.{IsSignature, signature_of}
 use Rattle.sig_rekor.specs.CheckpointText.{quotation_mark, empty_line, is_written, IsCheckpoint, signatures_by, checkpoint_by, checkpoint_of}

@@ -1,11 +1,11 @@
 -- What `cut_at`, `parts` and `trimmed` find is what the relations say, and only that.
-use Rattle.std.proofs.Common.{◌≡◌, ◌≢◌, ℕ, zero, suc, ◌+◌, ◌-◌, ◌<◌, ◌≤◌, Bool, true, false, ◌==◌, eqb, cond, List, [], ◌∷◌, ◌++◌, length, take, drop, Option, Some, None, refl, sym, ◌∙◌, ap, subst, inl, inr, arith, add-one, option_map, MatchOption, IfSome, append_assoc, length-append, take-append-drop, reverse, replicate}
+use Rattle.std.proofs.Common.{◌≡◌, ◌≢◌, ℕ, zero, suc, ◌-◌, ◌<◌, ◌≤◌, List, [], ◌∷◌, ◌++◌, length, drop, Option, Some, None, refl, sym, ◌∙◌, ap, subst, inl, inr, arith, add-one, option_map, MatchOption, IfSome, append_assoc, length-append, take-append-drop, reverse, replicate}
 use Rattle.std.proofs.lemmas.List.{drop_at, drop_all, reverse-append, reverse-reverse, replicate_more, append-nil}
 use Rattle.std.proofs.lemmas.Str.Pattern.{drop_at_char}
 use Rattle.std.proofs.lemmas.Str.{encode_ascii, len_utf8_bounds}
 use denote.Ref.{Bor}
-use Rattle.std.proofs.lemmas.Bool.{cases_eq, cases_lt, cases_Bool, eq-eqb, ne_eqb}
-use Rattle.std.specs.Str.Pattern.{CutsPrefixes, CutsSuffixes, IsTrimStartMatches, IsTrimEndMatches, IsFullyTrimmed, FindsCharPrefix, FindsCharSuffix, FindsText, HasTextAt, LacksTextAt, SplitsAroundMatch}
+use Rattle.std.proofs.lemmas.Bool.{cases_eq, cases_lt, eq-eqb, ne_eqb}
+use Rattle.std.specs.Str.Pattern.{CutsPrefixes, CutsSuffixes, IsTrimStartMatches, IsTrimEndMatches, FindsCharPrefix, FindsCharSuffix, FindsText, SplitsAroundMatch}
 use Rattle.sig_rekor.specs.Cut.{IsTrimmed, Lacks, IsCut, IsParts, without_front, without_back, trimmed, after_separator, cut_here, cut_at, parts_of_cut, parts_within, parts}
 
 -- a separator at the front

@@ -1,5 +1,5 @@
 -- Texts of graphic ASCII characters: decimals and base64. They hold no white space, and none is trimmed off.
-use Rattle.std.proofs.Common.{◌≡◌, ◌≢◌, ℕ, zero, suc, ◌+◌, ◌-◌, ◌*◌, ◌/◌, ◌%◌, ◌<◌, ◌≤◌, ◌^◌, Bool, true, false, ◌&&◌, nat_lt, List, [], ◌∷◌, ◌++◌, length, replicate, get_or, slice_index, refl, sym, ◌∙◌, ap, subst, arith, cond, drop, Result, Ok, Option, Some}
+use Rattle.std.proofs.Common.{◌≡◌, ◌≢◌, ℕ, zero, suc, ◌+◌, ◌*◌, ◌/◌, ◌%◌, ◌<◌, ◌≤◌, ◌^◌, Bool, true, false, ◌&&◌, nat_lt, List, [], ◌∷◌, ◌++◌, length, replicate, get_or, slice_index, refl, sym, ◌∙◌, ap, subst, arith, Ok, Some}
 use Rattle.std.proofs.lemmas.Bool.{and_parts, and_from, lt-ltb, ltb-true, ne_eqb}
 use Rattle.std.proofs.lemmas.Bool.Decides.{nat_tests}
 use Rattle.std.proofs.lemmas.Str.{chars-IsAscii, encodes-IsAscii}
@@ -8,7 +8,7 @@ use Rattle.std.specs.Result.{result_ok}
 use Rattle.std.specs.Fmt.{decimal}
 use Rattle.std.specs.Char.{digit_value, is_whitespace}
 use Rattle.std.specs.List.{list_all, AllByRecursion}
-use Rattle.std.specs.Str.{IsAscii, trim_end, drop_trailing_whitespace, chars, encode_utf8_all}
+use Rattle.std.specs.Str.{IsAscii, trim_end, drop_trailing_whitespace, encode_utf8_all}
 use Rattle.std.specs.Str.Parse.{AllDigits, IsNumeral, digits_value, without_leading_plus}
 use Rattle.base64.specs.GeneralPurpose.{IsBytes, engine_symbols}
 use Rattle.base64.specs.Engines.{standard}

@@ -1,14 +1,14 @@
 -- The note of a checkpoint: its lines, its size and its contents.
-use Rattle.std.proofs.Common.{◌≡◌, ◌≢◌, ℕ, suc, ◌+◌, ◌-◌, ◌<◌, ◌≤◌, ◌^◌, Bool, true, false, ◌&&◌, ◌==◌, nat_lt, ltb, cond, List, [], ◌∷◌, ◌++◌, length, Option, Some, None, Result, Ok, Err, refl, sym, ◌∙◌, ap, subst, inl, inr, arith, filter, map, append_assoc, append-nil}
-use Rattle.std.proofs.lemmas.Bool.{eqb-true, lt-ltb, le-ltb, ltb-true, ltb-false, and_parts, and_from, and_left, and_right, cases_Bool, cond_both}
+use Rattle.std.proofs.Common.{◌≡◌, ℕ, suc, ◌+◌, ◌-◌, ◌<◌, ◌^◌, true, ◌&&◌, ◌==◌, nat_lt, List, [], ◌∷◌, ◌++◌, length, Some, None, Ok, Err, refl, sym, ◌∙◌, ap, arith, append_assoc, append-nil}
+use Rattle.std.proofs.lemmas.Bool.{eqb-true, lt-ltb, ltb-true, and_parts, and_from, cond_both}
 use Rattle.std.proofs.lemmas.Bool.Decides.{nat_tests}
 use Rattle.std.specs.Char.{is_ascii_digit, digit_value}
-use Rattle.std.specs.List.{list_all, flat_map}
+use Rattle.std.specs.List.{list_all}
 use Rattle.std.specs.Str.Parse.{IsNumeral, AllDigits, digits_value, without_leading_plus}
 use Rattle.sig_base.specs.declared.fault.CheckpointFault.TheVariants.{NoteFormat, Size}
 use Rattle.sig_rekor.specs.declared.checkpoint.OtherContent.{OtherContent}
 use Rattle.sig_rekor.specs.Cut.{cut_at, parts, parts_within}
-use Rattle.sig_rekor.specs.NoteText.{newline, is_not_empty, size_by, size_of, note_by, note_of, content_of, contents_of}
+use Rattle.sig_rekor.specs.NoteText.{newline, is_not_empty, size_of, note_by, note_of, content_of, contents_of}
 use Rattle.sig_rekor.proofs.Cutting.{parts-whole, parts-cut}
 
 -- ---- the size

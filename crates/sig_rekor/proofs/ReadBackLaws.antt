@@ -1,5 +1,5 @@
 -- What is written of a checkpoint reads back.
-use Rattle.std.proofs.Common.{◌≡◌, ◌≢◌, ℕ, zero, suc, ◌+◌, ◌<◌, ◌≤◌, ◌^◌, Bool, true, false, ◌==◌, List, [], ◌∷◌, ◌++◌, length, drop, map, filter, replicate, Option, Some, None, Result, Ok, Err, IfOk, OnOk, refl, sym, ◌∙◌, ap, subst, arith, append_assoc, append-nil, length-append}
+use Rattle.std.proofs.Common.{◌≡◌, ◌≢◌, ℕ, zero, suc, ◌<◌, true, false, ◌==◌, List, [], ◌∷◌, ◌++◌, length, drop, map, replicate, Option, Some, None, Result, Ok, Err, IfOk, OnOk, refl, sym, ◌∙◌, ap, subst, arith, append_assoc, append-nil}
 use Rattle.std.proofs.lemmas.Bool.{lt-ltb, ne_eqb}
 use Rattle.std.proofs.lemmas.List.{same_from_push}
 use Rattle.std.proofs.lemmas.Fmt.{decimal_nonempty}
@@ -12,17 +12,17 @@ use Rattle.sig_rekor.specs.declared.checkpoint.SignedCheckpoint.{SignedCheckpoin
 use Rattle.sig_rekor.specs.declared.checkpoint.Checkpoint.{Checkpoint}
 use Rattle.sig_rekor.specs.declared.checkpoint.CheckpointSignature.{CheckpointSignature}
 use Rattle.sig_rekor.specs.declared.checkpoint.OtherContent.{OtherContent}
-use Rattle.sig_rekor.specs.Cut.{IsParts, IsTrimmed, Lacks, cut_at, parts, trimmed, without_front}
-use Rattle.sig_rekor.specs.Reading.{◌>>=◌, base64_text, base64_of, base64_bytes}
-use Rattle.sig_rekor.specs.NoteText.{newline, is_blank, is_not_empty, content_of, contents_of, content_text, content_line, note_by, note_of, note_text, origin_of, size_of, hash_of}
-use Rattle.sig_rekor.specs.SignatureText.{em_dash, space, signed_bytes, IsSignature, signature_of, signature_text}
-use Rattle.sig_rekor.specs.CheckpointText.{quotation_mark, empty_line, signatures_by, checkpoint_by, checkpoint_of, checkpoint_text}
+use Rattle.sig_rekor.specs.Cut.{IsParts, Lacks, cut_at, parts, trimmed}
+use Rattle.sig_rekor.specs.Reading.{base64_text, base64_bytes}
+use Rattle.sig_rekor.specs.NoteText.{newline, is_blank, contents_of, content_text, content_line, note_of, note_text}
+use Rattle.sig_rekor.specs.SignatureText.{em_dash, space, signed_bytes, signature_of, signature_text}
+use Rattle.sig_rekor.specs.CheckpointText.{quotation_mark, empty_line, signatures_by, checkpoint_of, checkpoint_text}
 use Rattle.sig_rekor.specs.ReadBack.{IsLineOf, IsName, IsSignatureValue, IsNoteValue, ReadsBack}
 use Rattle.sig_rekor.proofs.Cutting.{parts-whole, parts-cut, parts-found, trimmed-only}
 use Rattle.sig_rekor.proofs.NoteLaws.{origin-only, hash-only}
 use Rattle.sig_rekor.proofs.SignatureLaws.{signature-only}
 use Rattle.sig_rekor.proofs.Signatures.{signatures_by-blank, signatures_by-written, signatures_by-none}
-use Rattle.sig_rekor.proofs.Graphic.{IsGraphic, IsFreeOf, graphic-free, decimal-graphic, size_of-decimal, base64-graphic, base64-again, trim_end-graphic}
+use Rattle.sig_rekor.proofs.Graphic.{IsFreeOf, graphic-free, decimal-graphic, size_of-decimal, base64-graphic, base64-again, trim_end-graphic}
 use Rattle.sig_rekor.proofs.WrittenCuts.{free-lacks, free-append, onto_cut, cut_past, cut_none, cut_after, cut_empty, cut_apart, cut_last, written, IsLine, written_parts, written_cut}
 
 -- ---- a signature

@@ -1,5 +1,5 @@
 -- An inclusion proof is accepted exactly where the log vouches for the entry.
-use Rattle.std.proofs.Common.{◌≡◌, ℕ, ◌<◌, Bool, true, false, cond, nat_lt, List, Option, Some, None, Result, Ok, Err, refl, sym, ◌∙◌, ap, subst, inl, inr, arith, ℤ, pos, negsuc, IsOkUnless, OnOk, IsTrue}
+use Rattle.std.proofs.Common.{◌≡◌, ℕ, Bool, true, cond, nat_lt, List, Option, Some, None, Result, Ok, Err, refl, ap, inl, inr, arith, ℤ, pos, negsuc, IsOkUnless, OnOk}
 use Rattle.std.proofs.lemmas.Bool.{ltb-false, le-ltb}
 use Rattle.std.specs.Cmp.Lexicographic.{bytes_decides}
 use Rattle.std.specs.Str.{bytes_eq}

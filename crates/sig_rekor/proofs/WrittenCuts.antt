@@ -1,8 +1,8 @@
 -- The cuts of texts that are written line by line.
-use Rattle.std.proofs.Common.{◌≡◌, ◌≢◌, ℕ, zero, suc, ◌+◌, ◌<◌, ◌≤◌, Bool, true, false, List, [], ◌∷◌, ◌++◌, length, Option, Some, None, option_map, refl, sym, ◌∙◌, ap, subst, arith, append_assoc, append-nil}
+use Rattle.std.proofs.Common.{◌≡◌, ◌≢◌, ℕ, ◌<◌, List, [], ◌∷◌, ◌++◌, length, Option, Some, None, option_map, refl, sym, ◌∙◌, ap, arith, append-nil}
 use Rattle.std.proofs.lemmas.Bool.{ne_eqb, eq-eqb}
 use Rattle.std.specs.List.{AllByRecursion}
-use Rattle.sig_rekor.specs.Cut.{Lacks, cut_at, cut_here, after_separator, parts}
+use Rattle.sig_rekor.specs.Cut.{Lacks, cut_at, cut_here, parts}
 use Rattle.sig_rekor.specs.NoteText.{newline}
 use Rattle.sig_rekor.specs.CheckpointText.{empty_line}
 use Rattle.sig_rekor.proofs.Graphic.{IsFreeOf}

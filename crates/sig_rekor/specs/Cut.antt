@@ -1,6 +1,6 @@
 -- Cutting a text, as the checkpoint format does it: marks trimmed at its ends, and the parts between separators.
 -- Each cut is a relation that puts the text together again, beside a function on bytes that finds it.
-use Rattle.std.specs.Prelude.{◌≡◌, ◌≢◌, ℕ, zero, suc, ◌<◌, ◌≤◌, ◌==◌, if◌then◌else◌, List, [], ◌∷◌, ◌++◌, length, reverse, replicate, Option, Some, None, option_map}
+use Rattle.std.specs.Prelude.{◌≡◌, ◌≢◌, ℕ, zero, suc, ◌≤◌, ◌==◌, if◌then◌else◌, List, [], ◌∷◌, ◌++◌, length, reverse, replicate, Option, Some, None, option_map}
 
 -- the text is the body between marks, all of them: the body neither begins nor ends with one
 pub record IsTrimmed (mark : ℕ) (text body : List ℕ) : Type 0 where

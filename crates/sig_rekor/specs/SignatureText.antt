@@ -1,6 +1,6 @@
 -- A signature line of a checkpoint, both ways: an em dash, the name of the key, and in base64 the key's fingerprint and the signature
 -- (the checkpoint format of transparency-dev, "Signed Envelope"; Go's sumdb/note).
-use Rattle.std.specs.Prelude.{◌≡◌, ℕ, ◌<◌, nat_lt, nat_eq, if◌then◌else◌, List, [], ◌∷◌, ◌++◌, length, take, drop, Some, Result, Ok, Err}
+use Rattle.std.specs.Prelude.{◌≡◌, ℕ, nat_lt, nat_eq, if◌then◌else◌, List, [], ◌∷◌, ◌++◌, length, take, drop, Some, Result, Ok, Err}
 use Rattle.std.specs.List.{starts_with}
 use Rattle.std.specs.Str.{trim_end}
 use Rattle.sig_base.specs.declared.fault.CheckpointFault.{CheckpointFault}

@@ -1,6 +1,6 @@
 -- When a checkpoint and an inclusion proof vouch for an entry, and what a check answers where they do not.
 -- `accepts` is what the checker accepts under the log's key: messages and signatures.
-use Rattle.std.specs.Prelude.{◌≡◌, ℕ, Bool, IsTrue, ◌==◌, nat_lt, bytes_eq, if◌then◌else◌, List, ℤ, pos, negsuc, Option, Some, None, Result, Ok, Err}
+use Rattle.std.specs.Prelude.{◌≡◌, ℕ, Bool, IsTrue, nat_lt, bytes_eq, if◌then◌else◌, List, ℤ, pos, negsuc, Option, Some, None, Result, Ok, Err}
 use Rattle.std.specs.List.{list_any}
 use Rattle.sig_base.specs.declared.error.SigstoreError.{SigstoreError}
 use Rattle.sig_base.specs.declared.error.SigstoreError.TheVariants.{CheckpointSignatureVerificationError, ConsistencyProofError, InclusionProofError, UnexpectedError}

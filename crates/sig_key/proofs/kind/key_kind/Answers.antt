@@ -1,4 +1,4 @@
-use Rattle.std.proofs.Common.{◌≡◌, sym, subst, ◌∙◌, arith}
+use Rattle.std.proofs.Common.{sym, subst, ◌∙◌, arith}
 use Rattle.sig_key.specs.Kind.{IsKind}
 use Rattle.sig_key.proofs.KeyKinds.{key_kind_is, key_kind_only}
 use Rattle.sig_key.proofs.kind.key_kind.Goals as goal

@@ -1,5 +1,4 @@
 -- The cut that `split_once` says.
-use Rattle.std.proofs.Common.{rules}
 use Rattle.sig_rekor.proofs.Cutting.{cut_at-split_once}
 use Rattle.sig_rekor.proofs.cuts.cut.Goals as goal
 
