@@ -21,4 +21,5 @@ pub mod IssuanceLaws
 pub mod PrecertLaws
 pub mod EmbeddedLaws
 pub mod DistinctLaws
+pub mod SortedLaws
 pub mod IssuedLaws

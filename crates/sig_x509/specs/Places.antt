@@ -1,5 +1,6 @@
 -- Places of a certificate's parts in its text, and what they stand for.
 use Rattle.std.specs.Prelude.{ℕ, ◌<◌, ◌≤◌, ℤ, List, Bool, slice_range, map}
+use Rattle.std.specs.List.{AllPairs}
 use Rattle.sig_der.specs.declared.place.Place.{Place}
 use Rattle.sig_der.specs.Reading.{Piece}
 use Rattle.sig_der.specs.Places.{piece_at}
@@ -39,6 +40,10 @@ pub record AreSpans (end : ℕ) (e : ExtensionPlaces) : Type 0 where
   pub oid : IsSpan end e.oid
   pub value : IsSpan end e.value
   pub whole : IsSpan end e.whole
+
+-- each extension begins before those behind it
+abbrev pub Ascend : List ExtensionPlaces → Type 0
+Ascend es = AllPairs (λ d e. d.whole.start < e.whole.start) es
 
 -- a number read, and what follows from a place on
 abbrev pub placed_value : {A : Type 0} → List ℕ → ℕ → A × ℕ → A × List ℕ

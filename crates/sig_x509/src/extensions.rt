@@ -62,6 +62,7 @@ pub(crate) fn extension_at(bytes: &[u8], at: usize, end: usize) -> Option<Extens
     requires to { end ≤ length bytes.now }
     ensures cut { extension_at (slice_range bytes.now at end) ≡ option_map (placed_extension bytes.now end) result }
     ensures within { IfSome result (AreSpans end) }
+    ensures starts { IfSome result (λ e. e.whole.start ≡ at) }
     ensures after { IfSome result (λ e. at < e.whole.end) }
 {
     let whole = tagged_at(bytes, at, end, SEQUENCE)?;

@@ -1,26 +1,22 @@
 //! The list of a certificate's extensions, and whether an object identifier stands in it twice: RFC 5280 section 4.2.
 
 ghost use Rattle.std.specs.Prelude.{◌≡◌, ◌≤◌, length, slice_range, map, IfOk};
-ghost use Rattle.std.specs.List.{All, list_any};
-ghost use Rattle.std.specs.Str.{bytes_eq};
+ghost use Rattle.std.specs.List.{All};
+ghost use Rattle.std.specs.Ordering.{nat_cmp};
+ghost use Rattle.std.specs.Cmp.Lexicographic.{slice_cmp};
 ghost use Rattle.sig_der.specs.Taking.{many_at};
 ghost use Rattle.sig_x509.specs.Answers.{Reads};
 ghost use Rattle.sig_x509.specs.Cutting.{extension_at};
 ghost use Rattle.sig_x509.specs.Held.{IsRecorded};
-ghost use Rattle.sig_x509.specs.Lookups.{are_single, oids};
-ghost use Rattle.sig_x509.specs.Places.{extension_of, AreSpans};
+ghost use Rattle.sig_x509.specs.Lookups.{are_single};
+ghost use Rattle.sig_x509.specs.Places.{part, extension_of, AreSpans, Ascend};
 
 use crate::error::X509ReadError;
 use crate::extensions::ExtensionPlaces;
 use crate::reading::extensions_at;
-use crate::span::part;
-use sig_base::OutOfMemory;
+use crate::span::clipped;
 use std::alloc::Global;
-use std::collections::BTreeSet;
-
-/// Up to so many extensions are compared each with each, 2016 comparisons at most: a usual certificate has about ten, so that reading
-/// it takes no memory for this. Past it the set keeps the time low, since whoever makes a certificate chooses their number.
-const FEW: usize = 64;
+use std::cmp::Ordering;
 
 /// Where the extensions of a certificate stand. Whether an object identifier stands twice is found once, since the test of a
 /// leaf takes no memory.
@@ -30,65 +26,25 @@ pub(crate) struct Listed {
     pub(crate) single: bool,
 }
 
-/// Whether the object identifier is that of one of the extensions.
-fn stands_among(bytes: &[u8], oid: &[u8], extensions: &[ExtensionPlaces]) -> bool
-    requires { All (AreSpans (length bytes.now)) extensions.now }
-    ensures { result ≡ list_any (bytes_eq oid.now) (oids (map (extension_of bytes.now) extensions.now)) }
+/// How the object identifiers of two extensions compare, byte for byte.
+fn compared(bytes: &[u8], first: &ExtensionPlaces, second: &ExtensionPlaces) -> Ordering
+    ensures { result ≡ slice_cmp nat_cmp (part bytes.now first.now.oid) (part bytes.now second.now.oid) }
 {
-    match extensions {
-        [] => false,
-        [first, rest @ ..] => oid == part(bytes, first.oid) || stands_among(bytes, oid, rest),
-    }
+    clipped(bytes, first.oid).cmp(clipped(bytes, second.oid))
 }
 
-/// Whether no object identifier stands twice, by a comparison of each with those behind it. Takes no memory, and time that grows
-/// with the square of the number.
-fn few_are_single(bytes: &[u8], extensions: &[ExtensionPlaces]) -> bool
-    requires { All (AreSpans (length bytes.now)) extensions.now }
-    ensures { result ≡ are_single (map (extension_of bytes.now) extensions.now) }
+/// Whether no object identifier stands twice. The list is sorted by them, so that equal ones are neighbours, and then back into the
+/// order of the text, both in place: this takes no memory, and the time of a sort, since whoever makes a certificate chooses how
+/// many extensions it has.
+fn are_single(bytes: &[u8], extensions: &mut [ExtensionPlaces]) -> bool
+    requires { Ascend extensions.old }
+    ensures single { result ≡ are_single (map (extension_of bytes.now) extensions.old) }
+    ensures same { extensions.new ≡ extensions.old }
 {
-    match extensions {
-        [] => true,
-        [first, rest @ ..] => {
-            !stands_among(bytes, part(bytes, first.oid), rest) && few_are_single(bytes, rest)
-        }
-    }
-}
-
-/// Whether no object identifier stands twice, by the set of those seen, which makes the time that of a sort. Refuses for want of
-/// memory alone.
-fn many_are_single(
-    alloc: Global,
-    bytes: &[u8],
-    extensions: &[ExtensionPlaces],
-) -> Result<bool, OutOfMemory>
-    requires { All (AreSpans (length bytes.now)) extensions.now }
-    ensures { IfOk result (λ single. single ≡ are_single (map (extension_of bytes.now) extensions.now)) }
-{
-    let mut seen = BTreeSet::new(alloc);
-    for places in extensions {
-        match seen.insert(part(bytes, places.oid)) {
-            Err(_) => return Err(OutOfMemory),
-            Ok(true) => {}
-            Ok(false) => return Ok(false),
-        }
-    }
-    Ok(true)
-}
-
-/// Whether no object identifier stands twice. Refuses for want of memory alone, and never up to `FEW` extensions.
-fn are_single(
-    alloc: Global,
-    bytes: &[u8],
-    extensions: &[ExtensionPlaces],
-) -> Result<bool, OutOfMemory>
-    requires { All (AreSpans (length bytes.now)) extensions.now }
-    ensures { IfOk result (λ single. single ≡ are_single (map (extension_of bytes.now) extensions.now)) }
-{
-    if extensions.len() <= FEW {
-        return Ok(few_are_single(bytes, extensions));
-    }
-    many_are_single(alloc, bytes, extensions)
+    extensions.sort_unstable_by(|a, b| compared(bytes, a, b));
+    let single = extensions.is_sorted_by(|a, b| compared(bytes, a, b).is_lt());
+    extensions.sort_unstable_by_key(|places| places.whole.start);
+    single
 }
 
 /// The extensions from `at` to `end` itself. `Der` where something else stands there.
@@ -106,9 +62,9 @@ pub(crate) fn listed_at(
 {
     match extensions_at(alloc, bytes, at, end) {
         Err(e) => Err(e),
-        Ok(places) => match are_single(alloc, bytes, places.as_slice()) {
-            Err(OutOfMemory) => Err(X509ReadError::OutOfMemory),
-            Ok(single) => Ok(Listed { places, single }),
-        },
+        Ok(mut places) => {
+            let single = are_single(bytes, places.as_mut_slice());
+            Ok(Listed { places, single })
+        }
     }
 }

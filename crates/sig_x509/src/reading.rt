@@ -5,7 +5,7 @@ ghost use Rattle.std.specs.List.{All};
 ghost use Rattle.sig_der.specs.Taking.{many_at};
 ghost use Rattle.sig_x509.specs.Answers.{Reads};
 ghost use Rattle.sig_x509.specs.Cutting.{Parts, extension_at, IsCut};
-ghost use Rattle.sig_x509.specs.Places.{extension_of, parts_of, AreSpans, ArePlaces};
+ghost use Rattle.sig_x509.specs.Places.{extension_of, parts_of, AreSpans, ArePlaces, Ascend};
 ghost use Rattle.sig_x509.specs.Held.{IsDatedAs};
 
 use crate::error::X509ReadError;
@@ -50,6 +50,7 @@ pub(crate) fn extensions_at(
     requires to { end ≤ length bytes.now }
     ensures exact { Reads (λ v. map (extension_of bytes.now) v.items) result (many_at extension_at (slice_range bytes.now at end)) }
     ensures within { IfOk result (λ v. All (AreSpans end) v.items) }
+    ensures ascend { IfOk result (λ v. Ascend v.items) }
 {
     let mut found = Vec::new(alloc);
     let mut next = at;

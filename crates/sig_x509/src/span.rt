@@ -40,3 +40,11 @@ pub(crate) fn part(bytes: &[u8], span: Span) -> &[u8]
 {
     &bytes[span.start..span.end]
 }
+
+/// The part of the text as far as the text goes: `part` at a span that may lie anywhere.
+pub(crate) fn clipped(bytes: &[u8], span: Span) -> &[u8]
+    ensures { result.now ≡ part bytes.now span }
+{
+    let end = span.end.min(bytes.len());
+    &bytes[span.start.min(end)..end]
+}

@@ -9,6 +9,8 @@ mod held;
 #[cfg(test)]
 mod list_tests;
 #[cfg(test)]
+mod many_tests;
+#[cfg(test)]
 mod parts;
 #[cfg(test)]
 mod policy_tests;

@@ -59,7 +59,7 @@ constraints: a NULL||constraints=30020500|Err(Malformed)
 constraints: cut||constraints=30030101|Err(Malformed)";
 
 /// The fixture leaf's first second, in seconds since 1970.
-const FIRST: i64 = 1702446655;
+pub(crate) const FIRST: i64 = 1702446655;
 
 /// A checker that accepts the leaf's signature `sig-leaf` under the anchor's key alone.
 fn accepting(alloc: Global, leaf: &CertificateParts) -> Option<TableChecker> {
@@ -94,7 +94,7 @@ fn judged(alloc: Global, leaf: &CertificateParts, time: i64) -> Option<Result<us
 }
 
 /// The text of that answer.
-fn answer(alloc: Global, leaf: &CertificateParts, time: i64) -> Option<String> {
+pub(crate) fn answer(alloc: Global, leaf: &CertificateParts, time: i64) -> Option<String> {
     let answer = judged(alloc, leaf, time)?;
     format!(in alloc; "{answer:?}").ok()
 }
