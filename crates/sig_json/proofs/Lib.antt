@@ -9,3 +9,4 @@ pub mod SameTrees
 pub mod TextMaps
 pub mod Units
 pub mod MemberOrder
+pub mod Named

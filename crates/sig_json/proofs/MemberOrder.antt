@@ -39,7 +39,7 @@ module _ {K : Type 0} {R : K → K → Ordering} (total : IsTotalOrder R) where
   below_all k e (x ∷ ks) below all = (total.trans k e x below all.0, below_all k e ks below all.1)
 
 module _ {K V : Type 0} (R : K → K → Ordering) where
-  all_keys : (P : K → Type 0) (es : List (K × V)) (k : K) (v : V) → AllByRecursion P (keys_of es) → P k → AllByRecursion P (keys_of (insert_entry R es k v))
+  pub all_keys : (P : K → Type 0) (es : List (K × V)) (k : K) (v : V) → AllByRecursion P (keys_of es) → P k → AllByRecursion P (keys_of (insert_entry R es k v))
   all_keys P [] k v all p = (p, tt)
   all_keys P (e ∷ es) k v all p = by (R k e.0) (all_keys P es k v all.1 p) where
     by : (o : Ordering) → AllByRecursion P (keys_of (insert_entry R es k v)) → AllByRecursion P (keys_of (match_ordering o ((k, v) ∷ e ∷ es) ((e.0, v) ∷ es) (e ∷ insert_entry R es k v)))

@@ -8,8 +8,10 @@ pub mod Kinds
 pub mod List
 pub mod Member
 pub mod Members
+pub mod Named
 pub mod Numerals
 pub mod Order
+pub mod Props
 pub mod Reads
 pub mod Record
 pub mod Spells

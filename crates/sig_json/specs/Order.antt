@@ -1,13 +1,13 @@
 -- *Order of members*: how the members of an object stand in its canonical text (RFC 8785 section 3.2.3).
-use Rattle.std.specs.Prelude.{◌≡◌, ◌≢◌, [], ◌∷◌, ◌++◌, Option, Some, codes, ⊤}
+use Rattle.std.specs.Prelude.{◌≡◌, ◌≢◌, ℕ, List, [], ◌∷◌, ◌++◌, Option, Some, codes, ⊤}
 use Rattle.std.specs.Cmp.Lexicographic.{slice_cmp}
 use Rattle.std.specs.List.{AllByRecursion}
 use Rattle.std.specs.List.Sorted.{IsPermutation, IsStrictlySortedBy}
-use Rattle.std.specs.Map.{keys_of}
+use Rattle.std.specs.Map.{keys_of, values_of}
 use Rattle.std.specs.Ordering.{nat_cmp}
 use Rattle.std.specs.Str.{IsUtf8}
-use Rattle.serde_json.specs.Data.{Members, no_members, member}
-use Rattle.sig_json.specs.Canonical.{Sorted, canon, canon_string, utf16_units}
+use Rattle.serde_json.specs.Data.{Data, null, boolean, number, string, array, object, Members, no_members, member}
+use Rattle.sig_json.specs.Canonical.{Sorted, canon, canon_string, in_braces, utf16_units}
 use Rattle.sig_json.specs.Members.{members_list}
 use Rattle.sig_json.specs.Reads.{◌>>=◌}
 
@@ -31,3 +31,12 @@ pub record IsInOrder (ms : Members) (sorted : Sorted) : Type 0 where
   pub are : member_texts ms ≡ Some texts
   pub moved : IsPermutation texts sorted
   pub ascend : UnitsAscend sorted
+
+-- the text of an object is its members' texts in order; of any other value nothing is said
+abbrev pub KeepsOrder : Data → List ℕ → Type 0
+KeepsOrder null text = ⊤
+KeepsOrder (boolean b) text = ⊤
+KeepsOrder (number n) text = ⊤
+KeepsOrder (string s) text = ⊤
+KeepsOrder (array ds) text = ⊤
+KeepsOrder (object ms) text = (sorted : Sorted) × IsInOrder ms sorted × (text ≡ in_braces (values_of sorted))

@@ -5,6 +5,7 @@ ghost use Rattle.serde_json.specs.Find.{as_integer};
 ghost use Rattle.serde_json.specs.View.{view, number_view, items_view, members_view};
 ghost use Rattle.serde_json.specs.Written.{has_float, compact_text};
 ghost use Rattle.sig_json.specs.Canonical.{canon, canon_integer, canon_string, canon_items, canon_members, canonical_of, in_braces, in_brackets, utf16_units, with_text};
+ghost use Rattle.sig_json.specs.Order.{KeepsOrder};
 ghost use Rattle.sig_json.specs.Spells.{Spells, texts_of, entry_of};
 ghost use Rattle.sig_json.specs.Tree.{tree};
 ghost use Rattle.std.specs.Map.{values_of};
@@ -21,8 +22,10 @@ const GREATEST_INTEGER: u128 = 9_007_199_254_740_991;
 
 /// The canonical text of a value (RFC 8785): members in the order of the UTF-16 code units of their names, no white space, the shortest escapes.
 /// Refuses with `IntegerTooLarge` exactly where an integer is beyond plus or minus 2^53 - 1.
+#[tactic(auto, using(crate::proofs::Named::named_orders))]
 pub fn canonical(alloc: Global, json: Json<'_>) -> Result<Text, CanonicalError>
-    ensures { Answers CanonicalError.OutOfMemory (λ text. text) result (canonical_of (tree json.entry)) }
+    ensures answer { Answers CanonicalError.OutOfMemory (λ text. text) result (canonical_of (tree json.entry)) }
+    ensures ordered { IfOk result (KeepsOrder (tree json.entry)) }
 {
     match value_text(alloc, json.value) {
         Ok(text) => Ok(Text::from(text)),

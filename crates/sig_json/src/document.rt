@@ -2,6 +2,8 @@
 ghost use Rattle.std.specs.Prelude.{◌≡◌, false};
 ghost use Rattle.serde_json.specs.View.{view};
 ghost use Rattle.serde_json.specs.Written.{has_float};
+ghost use Rattle.sig_json.specs.Named.{IsNamed};
+ghost use Rattle.sig_json.specs.Props.{IsNamed-prop};
 
 use crate::error::DocumentError;
 use crate::floats::is_float_in;
@@ -15,6 +17,7 @@ use std::alloc::Global;
 pub struct Document {
     pub(crate) value: Value,
     ghost without_float: { has_float (view value) ≡ false },
+    ghost named: { IsNamed (view value) } by { IsNamed-prop (view value) },
 }
 
 impl Document {

@@ -1,14 +1,17 @@
-//! Whether a tree holds a float.
-ghost use Rattle.std.specs.Prelude.{◌≡◌};
+//! Whether a tree holds a float. The walk also shows that the names of a tree without one ascend, since each map says so of its keys.
+ghost use Rattle.std.specs.Prelude.{◌≡◌, false};
 ghost use Rattle.serde_json.specs.View.{view, items_view, members_view};
 ghost use Rattle.serde_json.specs.Written.{has_float, items_have_float, members_have_float};
+ghost use Rattle.sig_json.specs.Named.{IsNamed, AreNamed, NamesAscend, HasNamedValues};
 
 use serde_json::{Map, Value};
 
 /// Whether a number of the tree is held as a float.
 #[cycle(floats)]
+#[tactic(auto, using(crate::proofs::Named::names_found))]
 pub(crate) fn is_float_in(value: &Value) -> bool
-    ensures { result ≡ has_float (view value.now) }
+    ensures float { result ≡ has_float (view value.now) }
+    ensures named { result ≡ false → IsNamed (view value.now) }
 {
     match value {
         Value::Number(number) => number.is_f64(),
@@ -19,8 +22,10 @@ pub(crate) fn is_float_in(value: &Value) -> bool
 }
 
 #[cycle(floats)]
+#[tactic(auto, using(crate::proofs::Named::names_found))]
 fn is_float_among(items: &Vec<Value>) -> bool
-    ensures { result ≡ items_have_float (items_view items.now.items) }
+    ensures float { result ≡ items_have_float (items_view items.now.items) }
+    ensures named { result ≡ false → AreNamed (items_view items.now.items) }
 {
     for item in items {
         if is_float_in(item) {
@@ -31,8 +36,11 @@ fn is_float_among(items: &Vec<Value>) -> bool
 }
 
 #[cycle(floats)]
+#[tactic(auto, using(crate::proofs::Named::names_found))]
 fn is_float_in_members(members: &Map<String, Value>) -> bool
-    ensures { result ≡ members_have_float (members_view members.now.entries) }
+    ensures float { result ≡ members_have_float (members_view members.now.entries) }
+    ensures named { result ≡ false → NamesAscend (members_view members.now.entries)
+        × HasNamedValues (members_view members.now.entries) }
 {
     for (_, member) in members {
         if is_float_in(member) {

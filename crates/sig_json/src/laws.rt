@@ -10,7 +10,11 @@ ghost use Rattle.serde_json.specs.Data.{Members, object};
 ghost use Rattle.serde_json.specs.View.{members_view};
 ghost use Rattle.serde_json.specs.declared.value.Value.{Value};
 ghost use Rattle.sig_json.specs.Canonical.{Sorted, canon, canon_members, in_braces, utf16_units};
+ghost use Rattle.sig_json.specs.Named.{IsNamed, NamesAscend};
 ghost use Rattle.sig_json.specs.Order.{HasNames, UnitsAscend, IsInOrder};
+ghost use Rattle.sig_json.specs.Tree.{document_tree, tree};
+ghost use Rattle.sig_json.specs.declared.document.Document.{Document};
+ghost use Rattle.sig_json.specs.declared.view.Json.{Json};
 
 /// The UTF-16 code units of a text are decoded to its characters, so texts that differ have units that differ.
 pub fn units_of_texts()
@@ -30,4 +34,12 @@ pub fn members_in_order()
         → canon_members ms [] ≡ Some sorted → UnitsAscend sorted }
     ensures names { (es : List (String Global × Value))
         → IsStrictlySortedBy string_cmp (keys_of es) → HasNames (members_view es) }
+{}
+
+/// In every document, read or built, and in every view of one, the names of each object are texts that ascend in byte order, at every depth: the
+/// premise of `members_in_order`.
+pub fn trees_are_named()
+    ensures document { (document : Document) → IsNamed (document_tree document) }
+    ensures view { (json : Json) → IsNamed (tree json) }
+    ensures names { (ms : Members) → NamesAscend ms → HasNames ms }
 {}

@@ -1,8 +1,9 @@
 //! JSON documents (RFC 8259) without floats: one way in, a view of the tree, and readers of the members that the formats of Sigstore have.
 //!
 //! The layer above uses three facts. A document is the tree that its text is, exactly where it has one without floats. A reader answers what
-//! the member means by its row of a table, and `Member` exactly where it breaks that row. The canonical text of a tree is that of RFC 8785;
-//! `laws` says of it that an object's members stand in the ascending order of the UTF-16 code units of their names, each once and no others.
+//! the member means by its row of a table, and `Member` exactly where it breaks that row. The canonical text of a tree is that of RFC 8785, and
+//! an object's members stand in it in the ascending order of the UTF-16 code units of their names, each once and no others. The names of each
+//! object of a document are different texts, whether it was read or built (`laws`).
 #![tactic(auto)]
 
 mod build;

@@ -2,6 +2,8 @@
 ghost use Rattle.std.specs.Prelude.{◌≡◌, false};
 ghost use Rattle.serde_json.specs.View.{members_view};
 ghost use Rattle.serde_json.specs.Written.{members_have_float};
+ghost use Rattle.sig_json.specs.Named.{HasNamedValues};
+ghost use Rattle.sig_json.specs.Props.{HasNamedValues-prop};
 
 use crate::view::Json;
 use serde_json::Value;
@@ -12,6 +14,7 @@ use std::collections::btree_map::Iter;
 pub struct Members<'a> {
     inner: Iter<'a, String, Value>,
     ghost without_float: { members_have_float (members_view inner) ≡ false },
+    ghost named: { HasNamedValues (members_view inner) } by { HasNamedValues-prop (members_view inner) },
 }
 
 impl<'a> Iterator for Members<'a> {
@@ -24,7 +27,7 @@ impl<'a> Iterator for Members<'a> {
 
     ghost remaining = { item_count members_left };
 
-    #[tactic(auto, using(crate::proofs::Floatless::floatless))]
+    #[tactic(auto, using(crate::proofs::Floatless::floatless, crate::proofs::Named::named))]
     fn next(&mut self) -> Option<(&'a str, Json<'a>)> {
         match self.inner.next() {
             Some((name, value)) => Some((name.as_str(), Json { value })),
@@ -33,7 +36,7 @@ impl<'a> Iterator for Members<'a> {
     }
 }
 
-#[tactic(auto, using(crate::proofs::Floatless::floatless))]
+#[tactic(auto, using(crate::proofs::Floatless::floatless, crate::proofs::Named::named))]
 impl<'a> Json<'a> {
     ghost use Rattle.std.specs.Prelude.{option_map};
     ghost use Rattle.sig_json.specs.Members.{members_of, members_left};

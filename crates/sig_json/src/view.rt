@@ -2,6 +2,8 @@
 ghost use Rattle.std.specs.Prelude.{◌≡◌, false};
 ghost use Rattle.serde_json.specs.View.{view};
 ghost use Rattle.serde_json.specs.Written.{has_float};
+ghost use Rattle.sig_json.specs.Named.{IsNamed};
+ghost use Rattle.sig_json.specs.Props.{IsNamed-prop};
 
 use serde_json::Value;
 
@@ -11,9 +13,10 @@ use serde_json::Value;
 pub struct Json<'a> {
     pub(crate) value: &'a Value,
     ghost without_float: { has_float (view value.now) ≡ false },
+    ghost named: { IsNamed (view value.now) } by { IsNamed-prop (view value.now) },
 }
 
-#[tactic(auto, using(crate::proofs::Floatless::floatless, crate::proofs::Lists::lengths))]
+#[tactic(auto, using(crate::proofs::Floatless::floatless, crate::proofs::Named::named, crate::proofs::Lists::lengths))]
 impl<'a> Json<'a> {
     ghost use Rattle.std.specs.Prelude.{is_some, option_map, option_and_then, length};
     ghost use Rattle.serde_json.specs.Find.{get as member_in, at, as_null, as_bool, as_str, as_number, as_integer};

@@ -1,0 +1,219 @@
+-- The names of the objects of a tree ascend in byte order, at every depth: as a walk finds it, as a look inside keeps it, as the builders keep it.
+use Rattle.std.proofs.Common.{◌≡◌, ◌≢◌, ℕ, zero, suc, ◌+◌, ◌<◌, List, [], ◌∷◌, ◌++◌, length, drop, get_or, Option, Some, String, Vec, BTreeMap, Global, sym, subst, refl, ap, ◌∙◌}
+use Rattle.std.proofs.lemmas.Cmp.{nat_list_cmp_total, tied_itself}
+use Rattle.std.proofs.lemmas.List.{at_drop_more}
+use Rattle.std.proofs.lemmas.Str.{IsUtf8-string_bytes}
+use Rattle.std.specs.BTreeMap.{insert_entry}
+use Rattle.std.specs.Cmp.Lexicographic.{slice_cmp}
+use Rattle.std.specs.List.{AllByRecursion}
+use Rattle.std.specs.List.Sorted.{IsStrictlySortedBy}
+use Rattle.std.specs.Map.{keys_of}
+use Rattle.std.specs.Ordering.{nat_cmp, match_ordering}
+use Rattle.std.specs.Str.{IsUtf8}
+use Rattle.std.specs.String.{string_bytes, string_cmp}
+use Rattle.std.specs.declared.cmp.Ordering.{Ordering}
+use Rattle.std.specs.declared.cmp.Ordering.TheVariants.{Less, Equal, Greater}
+use Rattle.serde_json.proofs.Views.{view-Array, view-Object}
+use Rattle.serde_json.specs.Data.{Num, Data, null, boolean, number, string, array, object, Items, no_items, item, Members, no_members, member, put}
+use Rattle.serde_json.specs.Find.{get, at, get_member, get_item, as_object, as_array}
+use Rattle.serde_json.specs.View.{view, items_view, members_view}
+use Rattle.serde_json.specs.declared.value.Value.{Value, Array, Object}
+use Rattle.sig_json.proofs.Building.{pushed, with_member-object}
+use Rattle.sig_json.proofs.MemberOrder.{all_keys, ascend-insert_entry, object_exact}
+use Rattle.sig_json.specs.Builders.{with_member, with_last, items_with_last}
+use Rattle.sig_json.specs.Canonical.{canon}
+use Rattle.sig_json.specs.Members.{members_list}
+use Rattle.sig_json.specs.Named.{names_of, NamesAscend, IsNamed, AreNamed, HasNamedValues}
+use Rattle.sig_json.specs.Order.{HasNames, KeepsOrder}
+
+-- ---- what a walk finds
+
+items_from : (vs : List Value) (i : ℕ) (v : Value) → i < length vs → v ≡ get_or vs i v → items_view (drop i vs) ≡ item (view v) (items_view (drop (i + 1) vs))
+items_from vs i v h is = at_drop_more items_view vs i v h ∙ ap (λ w. item (view w) (items_view (drop (i + 1) vs))) (sym is)
+
+-- one element more is named
+pub named_more : (P : Type 0) (vs : List Value) (i : ℕ) (v : Value) → i < length vs → v ≡ get_or vs i v → IsNamed (view v) → (AreNamed (items_view (drop i vs)) → P) → AreNamed (items_view (drop (i + 1) vs)) → P
+named_more P vs i v h is one so_far rest = so_far (subst AreNamed (sym (items_from vs i v h is)) (one, rest))
+
+pub list_named : (v : Vec Value Global) → AreNamed (items_view v.items) → IsNamed (view (Array v))
+list_named v named = subst IsNamed (sym (view-Array v)) named
+
+pub object_named : (m : BTreeMap (String Global) Value) → NamesAscend (members_view m.entries) × HasNamedValues (members_view m.entries) → IsNamed (view (Object m))
+object_named m named = subst IsNamed (sym (view-Object m)) named
+
+below_names : (key : String Global) (es : List (String Global × Value)) → AllByRecursion (λ k. string_cmp key k ≡ Less) (keys_of es) → AllByRecursion (λ other. slice_cmp nat_cmp (string_bytes key) other ≡ Less) (names_of (members_view es))
+below_names key [] below = tt
+below_names key (e ∷ es) below = (below.0, below_names key es below.1)
+
+texts_names : (es : List (String Global × Value)) → AllByRecursion IsUtf8 (names_of (members_view es))
+texts_names [] = tt
+texts_names (e ∷ es) = (IsUtf8-string_bytes e.0, texts_names es)
+
+ascending : (es : List (String Global × Value)) → IsStrictlySortedBy string_cmp (keys_of es) → IsStrictlySortedBy (slice_cmp nat_cmp) (names_of (members_view es))
+unfolding IsStrictlySortedBy
+ascending [] up = tt
+ascending (e ∷ es) up = (below_names e.0 es up.0, ascending es up.1)
+
+pub names_ascend : (es : List (String Global × Value)) → IsStrictlySortedBy string_cmp (keys_of es) → NamesAscend (members_view es)
+names_ascend es up = (texts_names es, ascending es up)
+
+pub ruleset names_found = (named_more, list_named, object_named, names_ascend)
+
+-- ---- what ascends differs
+
+unlike : (name : List ℕ) (names : List (List ℕ)) → AllByRecursion (λ other. slice_cmp nat_cmp name other ≡ Less) names → AllByRecursion (λ other. name ≢ other) names
+unlike name [] below = tt
+unlike name (n ∷ ns) below = (
+  (λ same. let tied : slice_cmp nat_cmp name n ≡ Equal = ap (λ l. slice_cmp nat_cmp name l) (sym same) ∙ tied_itself nat_list_cmp_total name in
+      let less : slice_cmp nat_cmp name n ≡ Less = below.0 in cc),
+  unlike name ns below.1,
+)
+
+names_are : (ms : Members) → names_of ms ≡ keys_of (members_list ms)
+names_are no_members = refl
+names_are (member name d ms) = ap (λ names. name ∷ names) (names_are ms)
+
+pub names_differ : (ms : Members) → NamesAscend ms → HasNames ms
+unfolding IsStrictlySortedBy
+names_differ no_members up = tt
+names_differ (member name d ms) up = (up.0.0, subst (λ names. AllByRecursion (λ other. name ≢ other) names) (names_are ms) (unlike name (names_of ms) up.1.0), names_differ ms (up.0.1, up.1.1))
+
+pub keeps_order : (d : Data) (text : List ℕ) → IsNamed d → canon d ≡ Some text → KeepsOrder d text
+keeps_order null text named is = tt
+keeps_order (boolean b) text named is = tt
+keeps_order (number n) text named is = tt
+keeps_order (string s) text named is = tt
+keeps_order (array ds) text named is = tt
+keeps_order (object ms) text named is = (object_exact ms (names_differ ms named.0) text).0 is
+
+pub ruleset named_orders = (keeps_order)
+
+-- ---- what is looked up
+
+abbrev FoundNamed : Option Data → Type 0
+FoundNamed found = (d : Data) → found ≡ Some d → IsNamed d
+
+either_named : (o : Ordering) (a b c : Option Data) → FoundNamed a → FoundNamed b → FoundNamed c → FoundNamed (match_ordering o a b c)
+either_named Less a b c p q r = p
+either_named Equal a b c p q r = q
+either_named Greater a b c p q r = r
+
+this_named : (v : Data) → IsNamed v → FoundNamed (Some v)
+this_named v named = λ d e. let same : v ≡ d = cc in subst IsNamed same named
+
+get_member_named : (name : List ℕ) (ms : Members) → HasNamedValues ms → FoundNamed (get_member name ms)
+get_member_named name no_members named = λ d e. absurd cc
+get_member_named name (member k v ms) named =
+    let rest = get_member_named name ms named.1 in
+    either_named (slice_cmp nat_cmp name k) (get_member name ms) (Some v) (get_member name ms) rest (this_named v named.0) rest
+
+get_item_named : (place : ℕ) (ds : Items) → AreNamed ds → FoundNamed (get_item place ds)
+get_item_named place no_items named = λ d e. absurd cc
+get_item_named zero (item v ds) named = this_named v named.0
+get_item_named (suc place) (item v ds) named = get_item_named place ds named.1
+
+pub get_named : (name : List ℕ) (d found : Data) → IsNamed d → Some found ≡ get name d → IsNamed found
+get_named name null found named e = absurd cc
+get_named name (boolean b) found named e = absurd cc
+get_named name (number n) found named e = absurd cc
+get_named name (string s) found named e = absurd cc
+get_named name (array ds) found named e = absurd cc
+get_named name (object ms) found named e = get_member_named name ms named.1 found (sym e)
+
+pub at_named : (place : ℕ) (d found : Data) → IsNamed d → Some found ≡ at place d → IsNamed found
+at_named place null found named e = absurd cc
+at_named place (boolean b) found named e = absurd cc
+at_named place (number n) found named e = absurd cc
+at_named place (string s) found named e = absurd cc
+at_named place (array ds) found named e = get_item_named place ds named found (sym e)
+at_named place (object ms) found named e = absurd cc
+
+pub as_object_named : (d : Data) (ms : Members) → IsNamed d → Some ms ≡ as_object d → HasNamedValues ms
+as_object_named null ms named e = absurd cc
+as_object_named (boolean b) ms named e = absurd cc
+as_object_named (number n) ms named e = absurd cc
+as_object_named (string s) ms named e = absurd cc
+as_object_named (array ds) ms named e = absurd cc
+as_object_named (object ns) ms named e = let same : ns ≡ ms = cc in subst HasNamedValues same named.1
+
+-- a walk's next member, and what is left of it
+pub next_named : (d : Data) (ms : Members) (name : List ℕ) → HasNamedValues (member name d ms) → IsNamed d × HasNamedValues ms
+next_named d ms name named = named
+
+pub ruleset named = (get_named, at_named, as_object_named, next_named)
+
+-- ---- what is built
+
+list_either : (o : Ordering) (a b c : Members) → members_list (match_ordering o a b c) ≡ match_ordering o (members_list a) (members_list b) (members_list c)
+list_either Less a b c = refl
+list_either Equal a b c = refl
+list_either Greater a b c = refl
+
+members_list-put : (k : List ℕ) (d : Data) (ms : Members) → members_list (put k d ms) ≡ insert_entry (slice_cmp nat_cmp) (members_list ms) k d
+members_list-put k d no_members = refl
+members_list-put k d (member l e ms) = list_either (slice_cmp nat_cmp k l) _ _ _ ∙ rw (members_list-put k d ms) refl
+
+ascend-put : (k : List ℕ) (d : Data) (ms : Members) → IsUtf8 k → NamesAscend ms → NamesAscend (put k d ms)
+ascend-put k d ms utf8 up =
+    let P : List (List ℕ) → Type 0 = λ names. AllByRecursion IsUtf8 names × IsStrictlySortedBy (slice_cmp nat_cmp) names in
+    let before : P (keys_of (members_list ms)) = subst P (names_are ms) up in
+    subst P (sym (names_are (put k d ms) ∙ ap (λ es. keys_of es) (members_list-put k d ms))) (all_keys (slice_cmp nat_cmp) IsUtf8 (members_list ms) k d before.0 utf8, ascend-insert_entry (slice_cmp nat_cmp) nat_list_cmp_total (members_list ms) k d before.1)
+
+either_values : (o : Ordering) (a b c : Members) → HasNamedValues a → HasNamedValues b → HasNamedValues c → HasNamedValues (match_ordering o a b c)
+either_values Less a b c p q r = p
+either_values Equal a b c p q r = q
+either_values Greater a b c p q r = r
+
+values-put : (k : List ℕ) (d : Data) (ms : Members) → IsNamed d → HasNamedValues ms → HasNamedValues (put k d ms)
+values-put k d no_members one rest = (one, tt)
+values-put k d (member l e ms) one rest =
+    either_values (slice_cmp nat_cmp k l) (member k d (member l e ms)) (member l d ms) (member l e (put k d ms)) (one, rest) (one, rest.1) (rest.0, values-put k d ms one rest.1)
+
+with_member_named : (name : List ℕ) (value tree : Data) → IsUtf8 name → IsNamed tree → IsNamed value → IsNamed (with_member name value tree)
+with_member_named name value null utf8 whole one = tt
+with_member_named name value (boolean b) utf8 whole one = tt
+with_member_named name value (number n) utf8 whole one = tt
+with_member_named name value (string s) utf8 whole one = tt
+with_member_named name value (array ds) utf8 whole one = whole
+with_member_named name value (object ms) utf8 whole one = (ascend-put name value ms utf8 whole.0, values-put name value ms one whole.1)
+
+last_named : (ds : Items) (value : Data) → AreNamed ds → IsNamed value → AreNamed (items_with_last ds value)
+last_named no_items value rest one = (one, tt)
+last_named (item d ds) value rest one = (rest.0, last_named ds value rest.1 one)
+
+with_last_named : (value tree : Data) → IsNamed tree → IsNamed value → IsNamed (with_last value tree)
+with_last_named value null whole one = tt
+with_last_named value (boolean b) whole one = tt
+with_last_named value (number n) whole one = tt
+with_last_named value (string s) whole one = tt
+with_last_named value (array ds) whole one = last_named ds value whole one
+with_last_named value (object ms) whole one = whole
+
+pub put_named : (name : List ℕ) (value tree : Data) (ms : Members) (after : BTreeMap (String Global) Value) → IsUtf8 name → Some ms ≡ as_object tree → members_view after.entries ≡ put name value ms → IsNamed tree → IsNamed value → IsNamed (view (Object after))
+put_named name value tree ms after utf8 e puts whole one =
+    let is : view (Object after) ≡ with_member name value tree = view-Object after ∙ ap object puts ∙ sym (with_member-object name value tree ms e) in
+    subst IsNamed (sym is) (with_member_named name value tree utf8 whole one)
+
+pub pushed_named : (tree : Data) (values after : Vec Value Global) (last : Value) → Some (items_view values.items) ≡ as_array tree → after.items ≡ values.items ++ last ∷ [] → IsNamed tree → IsNamed (view last) → IsNamed (view (Array after))
+pushed_named tree values after last e pushes whole one =
+    subst IsNamed (sym (pushed tree values after last e pushes)) (with_last_named (view last) tree whole one)
+
+pub same_named : (d e : Data) → d ≡ e → IsNamed e → IsNamed d
+same_named d e same named = subst IsNamed (sym same) named
+
+pub ruleset named_changes = (put_named, pushed_named, same_named)
+
+pub empty_object_named : (m : BTreeMap (String Global) Value) → m.entries ≡ [] → IsNamed (view (Object m))
+unfolding IsStrictlySortedBy
+empty_object_named m is = subst IsNamed (sym (view-Object m ∙ ap (λ es. object (members_view es)) is)) ((tt, tt), tt)
+
+pub empty_list_named : (d : Data) → d ≡ array no_items → IsNamed d
+empty_list_named d is = subst IsNamed (sym is) tt
+
+pub text_named : (d : Data) (text : List ℕ) → d ≡ string text → IsNamed d
+text_named d text is = subst IsNamed (sym is) tt
+
+pub number_named : (d : Data) (n : Num) → d ≡ number n → IsNamed d
+number_named d n is = subst IsNamed (sym is) tt
+
+pub ruleset named_parts = (empty_list_named, text_named, number_named, same_named)

@@ -1,0 +1,5 @@
+use Rattle.sig_json.proofs.Named.{names_differ}
+use Rattle.sig_json.proofs.laws.trees_are_named.Goals as goal
+
+pub returns : goal.returns
+returns c = record { document = λ document. document.named; view = λ json. json.named; names = names_differ }
