@@ -20,7 +20,18 @@ fn kind(name: &str) -> Option<(&'static [u8], bool)> {
         "uncritical-constraints" => (oid::BASIC_CONSTRAINTS, false),
         "name-constraints" => (oid::NAME_CONSTRAINTS, false),
         "critical" => (oid::FULCIO_REF, true),
-        "uncritical" => (oid::FULCIO_REF, false),
+        "uncritical" | "ref" => (oid::FULCIO_REF, false),
+        _ => return workflow(name),
+    })
+}
+
+/// The same of the extensions of a GitHub workflow.
+fn workflow(name: &str) -> Option<(&'static [u8], bool)> {
+    Some(match name {
+        "trigger" => (oid::FULCIO_TRIGGER, false),
+        "sha" => (oid::FULCIO_SHA, false),
+        "name" => (oid::FULCIO_NAME, false),
+        "repository" => (oid::FULCIO_REPOSITORY, false),
         _ => return None,
     })
 }

@@ -5,6 +5,8 @@
 #[cfg(test)]
 mod anchor_tests;
 #[cfg(test)]
+mod chain_tests;
+#[cfg(test)]
 mod held;
 #[cfg(test)]
 mod list_tests;
@@ -17,10 +19,14 @@ mod policy_tests;
 #[cfg(test)]
 mod pool_tests;
 #[cfg(test)]
+mod precert_tests;
+#[cfg(test)]
 mod profile_tests;
 #[cfg(test)]
 mod reading_tests;
 #[cfg(test)]
 mod request_tests;
+#[cfg(test)]
+mod single_tests;
 #[cfg(test)]
 mod trust_tests;

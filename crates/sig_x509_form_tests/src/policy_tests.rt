@@ -1,8 +1,8 @@
-//! Policies over the fixture leaf with other names and another issuer.
+//! The policy of one identity, by itself and as one of a request's policies, over the fixture leaf with other names and another issuer.
 
 use crate::held::certificate;
 use sig_fixture::ISSUER;
-use sig_x509::{Certificate, Identity, OIDCIssuer, SingleX509ExtPolicy, VerificationPolicy};
+use sig_x509::{Certificate, Identity, LeafPolicy, VerificationPolicy};
 use std::alloc::Global;
 
 /// Each line: the cause, the extensions of the fixture leaf that are changed, and what the policy of the identity `a` and the fixture's issuer says.
@@ -43,52 +43,43 @@ an other name with two values|names=300da00b060155a0060c01610c0161|Err(Extension
 an other name with an empty value element|names=3007a005060155a000|Err(ExtensionNotFound)
 an other name whose value is not tagged|names=3008a0060601550c0161|Err(ExtensionNotFound)
 an element after the value of an other name|names=300ca00a060155a0030c01610500|Err(ExtensionNotFound)
-a good name before a NULL|names=30058101610500|Err(ExtensionNotFound)
 another issuer first|issued=78 names=-|Err(ExtensionCheckFailed { extension: \"OIDCIssuer\", expected: \"https://issuer.example\", actual: \"x\" })
 no issuer first|issued=-|Err(ExtensionNotFound)";
 
-/// The same of the policy of the issuer `a`.
-const ISSUERS: &str = "\
-the same text|issued=61|Ok(())
-another text|issued=62|Err(ExtensionCheckFailed { extension: \"OIDCIssuer\", expected: \"a\", actual: \"b\" })
-a longer text|issued=6161|Err(ExtensionCheckFailed { extension: \"OIDCIssuer\", expected: \"a\", actual: \"aa\" })
-an empty text|issued=|Err(ExtensionCheckFailed { extension: \"OIDCIssuer\", expected: \"a\", actual: \"\" })
-no text|issued=-|Err(ExtensionNotFound)
-two texts|issued=61 second-issued=61|Err(ExtensionNotFound)
-no UTF-8|issued=ff|Err(ExtensionNotFound)";
+/// Each line: an identity, and what the policy of it and of the fixture's issuer says of the fixture leaf.
+const IDENTITIES: &str = "\
+https://example.com/workflow|Ok(())
+https://other|Err(ExtensionCheckFailed { extension: \"SubjectAltName\", expected: \"https://other\", actual: \"https://example.com/workflow\" })";
 
-/// What the policy of the identity `a` and the fixture's issuer says.
-fn identity(alloc: Global, leaf: &Certificate) -> Option<String> {
-    let policy = Identity::new(alloc, "a", ISSUER).ok()?;
+/// The policy of the identity `a` and the fixture's issuer.
+fn policy(alloc: Global) -> Option<Identity> {
+    Identity::new(alloc, "a", ISSUER).ok()
+}
+
+/// What it says.
+fn alone(alloc: Global, leaf: &Certificate) -> Option<String> {
+    let policy = policy(alloc)?;
     format!(in alloc; "{:?}", policy.verify(alloc, leaf)).ok()
 }
 
-/// What the policy of the issuer `a` says.
-fn issuer(alloc: Global, leaf: &Certificate) -> Option<String> {
-    let policy = OIDCIssuer::new(alloc, "a").ok()?;
+/// What it says as one of a request's policies.
+fn held(alloc: Global, leaf: &Certificate) -> Option<String> {
+    let policy = LeafPolicy::Identity(policy(alloc)?);
     format!(in alloc; "{:?}", policy.verify(alloc, leaf)).ok()
 }
 
-/// What the policy of this name says.
-fn answer(alloc: Global, policy: &str, leaf: &Certificate) -> Option<String> {
-    match policy {
-        "Identity" => identity(alloc, leaf),
-        _ => issuer(alloc, leaf),
-    }
-}
-
-/// Whether a line is true of the policy of this name.
-fn is_true(alloc: Global, policy: &str, line: &str) -> Option<bool> {
+/// Whether a line is true of the policy, by itself and as one of a request's.
+fn is_true(alloc: Global, line: &str) -> Option<bool> {
     let (_, rest) = line.split_once('|')?;
     let (extensions, wanted) = rest.split_once('|')?;
     let leaf = certificate(alloc, "", extensions)?;
-    Some(answer(alloc, policy, &leaf)?.as_str() == wanted)
+    Some(alone(alloc, &leaf)?.as_str() == wanted && held(alloc, &leaf)?.as_str() == wanted)
 }
 
-/// Whether every line of a table is true of the policy of this name.
-fn are_true(alloc: Global, policy: &str, table: &str) -> bool {
+/// Whether every line of a table is true of the policy.
+fn are_true(alloc: Global, table: &str) -> bool {
     for line in table.lines() {
-        if is_true(alloc, policy, line) != Some(true) {
+        if is_true(alloc, line) != Some(true) {
             return false;
         }
     }
@@ -97,15 +88,26 @@ fn are_true(alloc: Global, policy: &str, table: &str) -> bool {
 
 #[test]
 fn identities_are_compared(rt: HostRuntime) {
-    assert!(rt; are_true(rt.alloc(), "Identity", IDENTITY));
+    assert!(rt; are_true(rt.alloc(), IDENTITY));
 }
 
 #[test]
 fn malformed_names_give_no_identity(rt: HostRuntime) {
-    assert!(rt; are_true(rt.alloc(), "Identity", MALFORMED));
+    assert!(rt; are_true(rt.alloc(), MALFORMED));
+}
+
+/// Whether a line of `IDENTITIES` is true.
+fn is_said(alloc: Global, line: &str) -> Option<bool> {
+    let (identity, wanted) = line.split_once('|')?;
+    let policy = Identity::new(alloc, identity, ISSUER).ok()?;
+    let leaf = certificate(alloc, "", "")?;
+    let text = format!(in alloc; "{:?}", policy.verify(alloc, &leaf)).ok()?;
+    Some(text.as_str() == wanted)
 }
 
 #[test]
-fn issuers_are_compared(rt: HostRuntime) {
-    assert!(rt; are_true(rt.alloc(), "OIDCIssuer", ISSUERS));
+fn the_workflow_is_the_identity(rt: HostRuntime) {
+    for line in IDENTITIES.lines() {
+        assert!(rt; is_said(rt.alloc(), line) == Some(true), "{line}");
+    }
 }
