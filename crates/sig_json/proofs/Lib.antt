@@ -9,3 +9,5 @@ pub mod SameTrees
 pub mod TextMaps
 pub mod Units
 pub mod MemberOrder
+-- what is found in a tree that members were put into
+pub use Rattle.serde_json.proofs.Views
