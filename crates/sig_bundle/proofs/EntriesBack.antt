@@ -1,7 +1,7 @@
 -- Log entries are read back, record by record.
 use Rattle.std.proofs.Common.{ℕ, pos, List, [], ◌∷◌, Some, option_map, refl}
 use Rattle.std.specs.Prelude.{codes}
-use Rattle.serde_json.specs.Data.{string}
+use Rattle.sig_json.specs.Data.{string}
 use Rattle.sig_bundle.specs.BundleRecord.{checkpoint_of, entry_of, entry_with, kind_version_of, log_id_of, promise_of, proof_of}
 use Rattle.sig_bundle.specs.BundleTree.{checkpoint_tree, entry_tree, kind_version_tree, log_id_tree, promise_tree, proof_tree}
 use Rattle.sig_bundle.specs.Written.{Row, integer_tree, bytes_tree, list_tree, IsReadAs, OptionIsRead}

@@ -1,7 +1,7 @@
 -- What the writers of a proof and of an entry make, member by member.
 use Rattle.std.proofs.Common.{◌≡◌, Option, option_map, refl}
 use Rattle.std.specs.Prelude.{codes}
-use Rattle.serde_json.specs.Data.{Data, object, Members, no_members, put}
+use Rattle.sig_json.specs.Data.{Data, object, Members, no_members, put}
 use Rattle.sig_bundle.specs.BundleTree.{checkpoint_tree, entry_tree, kind_version_tree, log_id_tree, promise_tree, proof_tree}
 use Rattle.sig_bundle.specs.Written.{put_some, integer_tree, bytes_tree, list_tree}
 use Rattle.sig_bundle.specs.declared.material.ProofFields.{ProofFields}

@@ -1,7 +1,7 @@
 -- Lists that are written element by element, and read back.
 use Rattle.std.proofs.Common.{◌≡◌, ℕ, ◌<◌, ◌+◌, List, [], ◌∷◌, ◌++◌, length, take, get_or, Option, Some, None, refl, sym, ap, ◌∙◌}
 use Rattle.std.proofs.lemmas.List.{take_more}
-use Rattle.serde_json.specs.Data.{Data, item}
+use Rattle.sig_json.specs.Data.{Data, item}
 use Rattle.sig_bundle.specs.Written.{IsReadAs, items_of, list_tree}
 use Rattle.sig_json.specs.Builders.{with_last, items_with_last}
 use Rattle.sig_json.specs.List.{items_list}

@@ -1,7 +1,7 @@
 -- Certificates, verification material, signatures and envelopes are read back, record by record.
 use Rattle.std.proofs.Common.{◌≡◌, ℕ, List, [], ◌∷◌, Option, Some, None, option_map, refl}
 use Rattle.std.specs.Prelude.{codes}
-use Rattle.serde_json.specs.Data.{Data, string}
+use Rattle.sig_json.specs.Data.{Data, string}
 use Rattle.sig_bundle.specs.BundleRecord.{bundle_of, certificate_of, chain_of, content_of, digest_of, entry_of, envelope_of, key_hint_of, material_of, message_signature_of, one_content, signature_of, signer_of}
 use Rattle.sig_bundle.specs.BundleTree.{bundle_tree, certificate_tree, chain_tree, content_row, digest_tree, entry_tree, envelope_tree, material_tree, message_signature_tree, signature_tree, signer_row}
 use Rattle.sig_bundle.specs.ReadBack.{SignerIsRead, ContentIsRead}

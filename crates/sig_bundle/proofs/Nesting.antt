@@ -6,9 +6,9 @@ use Rattle.std.specs.Ordering.{nat_cmp, match_ordering}
 use Rattle.std.specs.Prelude.{codes, ⊤}
 use Rattle.std.specs.declared.cmp.Ordering.{Ordering}
 use Rattle.std.specs.declared.cmp.Ordering.TheVariants.{Less, Equal, Greater}
-use Rattle.serde_json.specs.Data.{Data, string, Members, no_members, member, put, depth, items_depth, members_depth}
-use Rattle.serde_json.specs.Read.{read, max_depth}
-use Rattle.serde_json.specs.Written.{has_float}
+use Rattle.sig_json.specs.Data.{Data, string, Members, no_members, member, put, depth, items_depth, members_depth}
+use Rattle.sig_json.specs.Read.{read, max_depth}
+use Rattle.sig_json.specs.Written.{has_float}
 use Rattle.sig_bundle.specs.BundleRecord.{bundle_in, bundle_of}
 use Rattle.sig_bundle.specs.BundleTree.{bundle_tree, certificate_tree, chain_tree, checkpoint_tree, content_row, digest_tree, entry_tree, envelope_tree, kind_version_tree, log_id_tree, material_tree, message_signature_tree, promise_tree, proof_tree, signature_tree, signer_row}
 use Rattle.sig_bundle.specs.Written.{Row, put_some, rows_into, object_of, integer_tree, bytes_tree, items_of, list_tree}

@@ -1,8 +1,8 @@
 -- Objects, as a document holds them.
 use Rattle.std.proofs.Common.{◌≡◌, ℕ, List, refl}
 use Rattle.std.specs.Prelude.{IsSome}
-use Rattle.serde_json.specs.Data.{Data, null, boolean, number, string, array, object, put}
-use Rattle.serde_json.specs.Find.{as_object}
+use Rattle.sig_json.specs.Data.{Data, null, boolean, number, string, array, object, put}
+use Rattle.sig_json.specs.Find.{as_object}
 use Rattle.sig_bundle.specs.Written.{members_in}
 use Rattle.sig_json.specs.Builders.{with_member}
 

@@ -1,7 +1,7 @@
 -- *Records*: a bundle (Sigstore bundle format), object by object: each member with its name, its kind, and what it means where it is absent.
 use Rattle.std.specs.Prelude.{ℕ, ℤ, List, [], ◌∷◌, codes, Option, Some, option_map, Result, ⊤}
-use Rattle.serde_json.specs.Data.{Data}
-use Rattle.serde_json.specs.Find.{as_object}
+use Rattle.sig_json.specs.Data.{Data}
+use Rattle.sig_json.specs.Find.{as_object}
 use Rattle.sig_bundle.specs.declared.bundle.Bundle.{Bundle}
 use Rattle.sig_bundle.specs.declared.bundle.Content.{Content}
 use Rattle.sig_bundle.specs.declared.bundle.Content.TheVariants as content

@@ -1,6 +1,6 @@
 -- The tree of a bundle: every text, integer and bytes value is written, also where it is empty; only what is none is left out.
 use Rattle.std.specs.Prelude.{ℕ, List, [], ◌∷◌, codes, Option, Some, None, option_map}
-use Rattle.serde_json.specs.Data.{Data, string}
+use Rattle.sig_json.specs.Data.{Data, string}
 use Rattle.sig_bundle.specs.Written.{Row, object_of, integer_tree, bytes_tree, list_tree}
 use Rattle.sig_bundle.specs.declared.bundle.Bundle.{Bundle}
 use Rattle.sig_bundle.specs.declared.bundle.Content.{Content}

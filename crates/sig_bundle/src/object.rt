@@ -1,6 +1,6 @@
 //! `Object`: an object of JSON that is being written.
 ghost use Rattle.std.specs.Prelude.{IsSome};
-ghost use Rattle.serde_json.specs.Find.{as_object};
+ghost use Rattle.sig_json.specs.Find.{as_object};
 ghost use Rattle.sig_json.specs.Tree.{document_tree};
 
 use sig_base::OutOfMemory;
@@ -17,7 +17,7 @@ pub(crate) struct Object {
 #[tactic(auto, using(crate::proofs::Objects::objects))]
 impl Object {
     ghost use Rattle.std.specs.Prelude.{◌≡◌, IfOk, option_map};
-    ghost use Rattle.serde_json.specs.Data.{object, no_members, put};
+    ghost use Rattle.sig_json.specs.Data.{object, no_members, put};
     ghost use Rattle.sig_bundle.specs.Written.{members, put_some};
 
     /// An object without members. It takes no memory.

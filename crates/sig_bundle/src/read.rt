@@ -1,6 +1,6 @@
 //! A bundle read from its text.
 ghost use Rattle.std.specs.Prelude.{Option};
-ghost use Rattle.serde_json.specs.Data.{Data};
+ghost use Rattle.sig_json.specs.Data.{Data};
 ghost use Rattle.sig_base.specs.Answers.{Answers};
 ghost use Rattle.sig_bundle.specs.BundleRecord.{bundle_in, bundle_of};
 ghost use Rattle.sig_json.specs.Reads.{Reads};

@@ -1,6 +1,6 @@
 //! Readers of what is signed: a signature over an artifact, or an envelope.
 ghost use Rattle.std.specs.Prelude.{Option};
-ghost use Rattle.serde_json.specs.Data.{Data};
+ghost use Rattle.sig_json.specs.Data.{Data};
 ghost use Rattle.sig_bundle.specs.BundleRecord.{content_of, digest_of, envelope_of, message_signature_of, one_content, signature_of};
 ghost use Rattle.sig_json.specs.Reads.{Reads};
 ghost use Rattle.sig_json.specs.Tree.{tree};

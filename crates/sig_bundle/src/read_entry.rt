@@ -1,6 +1,6 @@
 //! Readers of the entries of transparency logs.
 ghost use Rattle.std.specs.Prelude.{Option};
-ghost use Rattle.serde_json.specs.Data.{Data};
+ghost use Rattle.sig_json.specs.Data.{Data};
 ghost use Rattle.sig_bundle.specs.BundleRecord.{checkpoint_of, entry_of, entry_with, kind_version_of, log_id_of, promise_of, proof_of};
 ghost use Rattle.sig_json.specs.Reads.{Reads};
 ghost use Rattle.sig_json.specs.Tree.{tree};

@@ -1,6 +1,6 @@
 //! The text of a bundle.
 ghost use Rattle.std.specs.Prelude.{◌≡◌, IfOk, Ok, Some, IsUtf8};
-ghost use Rattle.serde_json.specs.Written.{compact_text};
+ghost use Rattle.sig_json.specs.Written.{compact_text};
 ghost use Rattle.sig_bundle.specs.BundleRecord.{bundle_in, bundle_of};
 ghost use Rattle.sig_bundle.specs.BundleTree.{bundle_tree};
 ghost use Rattle.sig_json.specs.Tree.{document_tree};

@@ -1,6 +1,6 @@
 //! Writers of what is signed: a signature over an artifact, or an envelope.
 ghost use Rattle.std.specs.Prelude.{◌≡◌, IfOk, Option, Some};
-ghost use Rattle.serde_json.specs.Data.{Data};
+ghost use Rattle.sig_json.specs.Data.{Data};
 ghost use Rattle.sig_bundle.specs.BundleRecord.{digest_of, envelope_of, message_signature_of, signature_of};
 ghost use Rattle.sig_bundle.specs.BundleTree.{content_row, digest_tree, envelope_tree, message_signature_tree, signature_tree};
 ghost use Rattle.sig_bundle.specs.ReadBack.{ContentIsRead};

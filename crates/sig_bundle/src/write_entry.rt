@@ -1,6 +1,6 @@
 //! Writers of the entries of transparency logs.
 ghost use Rattle.std.specs.Prelude.{◌≡◌, IfOk, Option};
-ghost use Rattle.serde_json.specs.Data.{Data};
+ghost use Rattle.sig_json.specs.Data.{Data};
 ghost use Rattle.sig_bundle.specs.BundleRecord.{checkpoint_of, entry_of, kind_version_of, log_id_of, promise_of, proof_of};
 ghost use Rattle.sig_bundle.specs.BundleTree.{checkpoint_tree, entry_tree, kind_version_tree, log_id_tree, promise_tree, proof_tree};
 ghost use Rattle.sig_bundle.specs.Written.{IsReadAs};

@@ -1,6 +1,6 @@
 //! Writers of what a bundle brings to check its signature with.
 ghost use Rattle.std.specs.Prelude.{◌≡◌, IfOk, Option};
-ghost use Rattle.serde_json.specs.Data.{Data};
+ghost use Rattle.sig_json.specs.Data.{Data};
 ghost use Rattle.sig_bundle.specs.BundleRecord.{certificate_of, chain_of, material_of};
 ghost use Rattle.sig_bundle.specs.BundleTree.{certificate_tree, chain_tree, material_tree, signer_row};
 ghost use Rattle.sig_bundle.specs.ReadBack.{SignerIsRead};

@@ -1,6 +1,6 @@
 //! Writers of values, and the one writer of lists over them.
 ghost use Rattle.std.specs.Prelude.{◌≡◌, IfOk, Option, option_map};
-ghost use Rattle.serde_json.specs.Data.{Data};
+ghost use Rattle.sig_json.specs.Data.{Data};
 ghost use Rattle.sig_bundle.specs.Written.{IsReadAs, OptionIsRead, bytes_tree, integer_tree, list_tree};
 ghost use Rattle.sig_json.specs.Kinds.{bytes_of, i64_of};
 ghost use Rattle.sig_json.specs.Member.{list_each};

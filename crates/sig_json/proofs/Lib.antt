@@ -10,3 +10,5 @@ pub mod TextMaps
 pub mod Units
 pub mod MemberOrder
 pub mod Named
+-- what is found in a tree that members were put into
+pub use Rattle.serde_json.proofs.Views

@@ -16,6 +16,8 @@ pub mod Reads
 pub mod Record
 pub mod Spells
 pub mod Tree
--- the trees, and the words that look into them
+-- the trees, the words that look into them, and what texts they are read from and written as
 pub use Rattle.serde_json.specs.Data
 pub use Rattle.serde_json.specs.Find
+pub use Rattle.serde_json.specs.Read
+pub use Rattle.serde_json.specs.Written

@@ -1,6 +1,6 @@
 -- Why a text is no request.
 use Rattle.std.proofs.Common.{◌≡◌, ◌<◌, ◌≤◌, ℕ, List, length, Some, None, Ok, Err, arith}
-use Rattle.serde_json.specs.Data.{Data}
+use Rattle.sig_json.specs.Data.{Data}
 use Rattle.sig_json.specs.declared.error.DocumentError.{DocumentError}
 use Rattle.sig_json.specs.Document.{document_of}
 use Rattle.sigverify.specs.declared.request.LogRequest.{LogRequest}

@@ -1,6 +1,6 @@
 //! Readers of the values that only requests of this program have: schemes, operations, rows of `accepted`, and members that have to be absent.
 ghost use Rattle.std.specs.Prelude.{Option};
-ghost use Rattle.serde_json.specs.Data.{Data};
+ghost use Rattle.sig_json.specs.Data.{Data};
 ghost use Rattle.sig_json.specs.Reads.{Reads};
 ghost use Rattle.sig_json.specs.Tree.{tree};
 ghost use Rattle.sigverify.specs.Row.{no_kind, operation_kind, row_of, scheme_for, scheme_kind};
