@@ -52,20 +52,29 @@ fn more_members(alloc: Global, name: &str) -> Option<String> {
     }
 }
 
+/// The subject with the digests of this name.
+fn subject(alloc: Global, name: &str) -> Option<String> {
+    let members = members(alloc, name)?;
+    format!(in alloc; "{{\"digest\":{{{members}}}}}").ok()
+}
+
+/// The subjects of these names, divided by `+`, as the elements of a list.
+fn subjects(alloc: Global, names: &str) -> Option<String> {
+    let mut text = String::new(alloc);
+    for name in names.split('+') {
+        if !text.is_empty() {
+            text.push(',').ok()?;
+        }
+        text.push_str(subject(alloc, name)?.as_str()).ok()?;
+    }
+    Some(text)
+}
+
 /// The statement about the subjects of these names, divided by `+`.
 pub(crate) fn statement(alloc: Global, names: &str) -> Option<Bytes> {
-    let mut text = String::from_str(
-        alloc,
-        "{\"_type\":\"\",\"predicateType\":\"\",\"subject\":[",
-    )
-    .ok()?;
-    let mut divider = "";
-    for name in names.split('+') {
-        let members = members(alloc, name)?;
-        let subject = format!(in alloc; "{divider}{{\"digest\":{{{members}}}}}").ok()?;
-        text.push_str(subject.as_str()).ok()?;
-        divider = ",";
-    }
-    text.push_str("]}").ok()?;
+    let subjects = subjects(alloc, names)?;
+    let text = format!(in alloc;
+        "{{\"_type\":\"\",\"predicateType\":\"\",\"subject\":[{subjects}]}}"
+    ).ok()?;
     Bytes::copy_of(alloc, text.as_bytes()).ok()
 }
