@@ -5,4 +5,5 @@ pub mod MemoryStream
 pub mod Scheme
 pub mod Stream
 pub mod Hex
+pub mod Base64
 pub mod ByText

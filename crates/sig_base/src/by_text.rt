@@ -59,7 +59,8 @@ impl<V> ByText<V> {
     /// The entry at a place of the byte order, counted from 0; none where the place is not below the length. It walks to the place, so
     /// go over a whole map by `iter`.
     pub fn at(&self, place: usize) -> Option<(&str, &V)>
-        ensures { option_map deref_pair result ≡ slice_get self.now place }
+        ensures entry { option_map deref_pair result ≡ slice_get self.now place }
+        ensures ordered { KeysAscend self.now }
     {
         self.iter().nth(place)
     }

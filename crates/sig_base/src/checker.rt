@@ -75,11 +75,15 @@ pub enum Operation {
 /// One signature that is taken for genuine.
 #[derive(Drop)]
 pub struct AcceptedRow {
+    /// The question that the row answers.
     pub operation: Operation,
     /// The scheme's name; empty for a point; the algorithm element's DER for a certificate.
     pub scheme: Bytes,
+    /// The key info's DER; the point's bytes for a point; the issuer's key info's DER for a certificate.
     pub key: Bytes,
+    /// The message that is signed; its digest for a prehash; the body's DER for a certificate.
     pub message: Bytes,
+    /// The signature's bytes.
     pub signature: Bytes,
 }
 

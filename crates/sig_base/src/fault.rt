@@ -66,7 +66,7 @@ pub enum PoolError {
     /// The certificate at this place of the list is no anchor.
     #[error("Anchor")]
     Anchor(usize),
-    /// The leaf does not meet the certificate profile.
+    /// The leaf does not meet the certificate profile, or its bytes are no certificate.
     #[error("Malformed")]
     Malformed,
     /// No anchor issued the leaf.

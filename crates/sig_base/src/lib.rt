@@ -1,10 +1,11 @@
 //! What every crate of the house stands on: bytes, texts and lists that own their memory, the errors, and the traits of the outside.
 //!
-//! The layer above uses four facts. A register is the list of what was pushed, and a refused push changes nothing. A map from texts is the list
-//! of its entries in byte order, each text once. A fault of a source or a sink comes only where its count of faults rose. A signature check is
-//! a predicate of the bytes that it is handed.
+//! The layer above uses five facts. A register is the list of what was pushed, and a refused push changes nothing. A map from texts is the list
+//! of its entries in byte order, each text once. A text is base64 exactly where it is the one encoding of its bytes. A fault of a source or a sink
+//! comes only where its count of faults rose. A signature check is a predicate of the bytes that it is handed.
 #![tactic(auto)]
 
+mod base64_coding;
 mod by_text;
 mod by_text_entries;
 mod bytes;
@@ -16,6 +17,7 @@ mod fault;
 mod hash;
 mod key_map;
 mod key_map_entries;
+pub mod laws;
 mod memory;
 mod memory_sink;
 mod memory_source;

@@ -20,6 +20,54 @@ fn bytes_and_texts_are_copied(rt: HostRuntime) -> Result<(), Fail> {
     Ok(())
 }
 
+/// Each line: a text, in which `$` stands for a newline, and behind a bar the bytes that it stands for in base64; no bar where it is no
+/// base64. The vectors of RFC 4648 section 10, the last two letters of the alphabet; then padding that is missing, short or too much, stray
+/// bits, line ends, spaces, and the URL alphabet.
+const BASE64: &str = "\
+|
+Zg==|f
+Zm8=|fo
+Zm9v|foo
+Zm9vYg==|foob
+Zm9vYmE=|fooba
+Zm9vYmFy|foobar
+w7/Dvg==|\u{ff}\u{fe}
+4pi+|\u{263e}
+Z
+Zg
+Zg=
+Zm8
+Zm9v====
+Zg==Zg==
+=
+Zh==
+Zm9=
+Zm9v$
+Zm9v$Zm9v
+Zg==$
+ Zm9v
+Zm9v\u{e9}
+w7_Dvg==
+4pi-";
+
+/// Whether the text of a line of `BASE64` is read as its bytes, and is their encoding; or is no base64.
+fn is_read_as(alloc: Global, line: &str) -> Option<bool> {
+    let Some((text, bytes)) = line.split_once('|') else {
+        let text = line.replace(alloc, "$", "\n").ok()?;
+        return Some(Bytes::of_base64(alloc, text.as_bytes()).ok()?.is_none());
+    };
+    let read = Bytes::of_base64(alloc, text.as_bytes()).ok()??;
+    let written = Text::in_base64(alloc, bytes.as_bytes()).ok()?;
+    Some(read.as_slice() == bytes.as_bytes() && written.as_str() == text)
+}
+
+#[test]
+fn base64_is_read_and_written(rt: HostRuntime) {
+    for line in BASE64.lines() {
+        assert!(rt; is_read_as(rt.alloc(), line) == Some(true), "{line}");
+    }
+}
+
 #[test]
 fn registers_keep_what_is_pushed(rt: HostRuntime) -> Result<(), Fail> {
     let alloc = rt.alloc();

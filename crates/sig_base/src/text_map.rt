@@ -65,7 +65,8 @@ impl TextMap {
     /// The entry at a place of the byte order, counted from 0; none where the place is not below the length. It walks to the place, so
     /// go over a whole map by `iter`.
     pub fn at(&self, place: usize) -> Option<(&str, &str)>
-        ensures { option_map deref_pair result ≡ slice_get self.now place }
+        ensures entry { option_map deref_pair result ≡ slice_get self.now place }
+        ensures ordered { KeysAscend self.now }
     {
         match self.entries.at(place) {
             Some((key, value)) => Some((key, value.as_str())),

@@ -6,8 +6,7 @@ use Rattle.std.proofs.lemmas.Str.Parse.{IsNumeralModel, numerals_by_fold}
 use Rattle.std.specs.Char.{is_ascii_digit}
 use Rattle.std.specs.Fmt.{decimal}
 use Rattle.std.specs.List.{list_all}
-use Rattle.base64.specs.Engines.{standard}
-use Rattle.base64.specs.GeneralPurpose.{decode_of, encode_of}
+use Rattle.sig_base.specs.Base64.{base64_bytes, base64_text}
 use Rattle.sig_bundle.specs.Written.{IsReadAs, bytes_tree, integer_tree}
 use Rattle.sig_json.specs.Integer.{value_after, natural_text, integer_text}
 use Rattle.sig_json.specs.Kinds.{bytes_of, i64_of}
@@ -46,7 +45,7 @@ integer_back (negsuc n) fits =
 
 -- ---- bytes
 
-pub bytes_back : (bytes text : List ℕ) → text ≡ encode_of standard bytes → decode_of standard text ≡ Ok bytes → IsReadAs bytes_of (bytes_tree bytes) bytes
+pub bytes_back : (bytes text : List ℕ) → text ≡ base64_text bytes → base64_bytes text ≡ Some bytes → IsReadAs bytes_of (bytes_tree bytes) bytes
 unfolding bytes_tree bytes_of
 bytes_back bytes text e back = (rw (← e, back) refl, refl)
 

@@ -1,8 +1,7 @@
 -- Trees that are written: objects made of rows, and values that are read back.
 use Rattle.std.specs.Prelude.{◌≡◌, ℕ, ℤ, List, [], ◌∷◌, Option, Some, None, unwrap_or, bytes_eq, if◌then◌else◌, ⊤}
 use Rattle.std.specs.Fmt.{signed_decimal}
-use Rattle.base64.specs.Engines.{standard}
-use Rattle.base64.specs.GeneralPurpose.{encode_of}
+use Rattle.sig_base.specs.Base64.{base64_text}
 use Rattle.sig_json.specs.Data.{Data, string, array, object, Items, no_items, item, Members, no_members, put}
 use Rattle.sig_json.specs.Find.{as_object}
 use Rattle.sig_bundle.specs.declared.object.Object.{Object}
@@ -32,13 +31,13 @@ members_in d = unwrap_or (as_object d) no_members
 abbrev pub members : Object → Members
 members o = members_in (document_tree o.document)
 
--- ---- values: integers are written as texts, and bytes in padded standard base64 (RFC 4648 section 4)
+-- ---- values: integers are written as texts, and bytes in base64 (RFC 4648 section 4)
 
 unfoldable pub integer_tree : ℤ → Data
 integer_tree z = string (signed_decimal z)
 
 unfoldable pub bytes_tree : List ℕ → Data
-bytes_tree bytes = string (encode_of standard bytes)
+bytes_tree bytes = string (base64_text bytes)
 
 abbrev pub items_of : {A : Type 0} → (A → Data) → List A → Items
 items_of written [] = no_items

@@ -6,8 +6,7 @@ ghost use Rattle.sig_json.specs.Kinds.{bytes_of, i64_of};
 ghost use Rattle.sig_json.specs.Member.{list_each};
 ghost use Rattle.sig_json.specs.Tree.{document_tree};
 
-use base64::engine::general_purpose::STANDARD;
-use sig_base::{Bytes, OutOfMemory};
+use sig_base::{Bytes, OutOfMemory, Text};
 use sig_json::Document;
 use std::alloc::Global;
 
@@ -77,13 +76,13 @@ pub(crate) fn write_integer(alloc: Global, integer: &i64) -> Result<Document, Ou
     Document::of_text(alloc, text.as_str())
 }
 
-/// Writes bytes in padded standard base64 (RFC 4648 section 4).
+/// Writes bytes in base64.
 #[tactic(auto, using(crate::proofs::Values::values), unfolding(crate::specs::Written::bytes_tree))]
 pub(crate) fn write_bytes(alloc: Global, bytes: &[u8]) -> Result<Document, OutOfMemory>
     ensures tree { IfOk result (λ document. document_tree document ≡ bytes_tree bytes.now) }
     ensures back { IfOk result (λ _. IsReadAs bytes_of (bytes_tree bytes.now) bytes.now) }
 {
-    let text = STANDARD.encode(alloc, bytes)?;
+    let text = Text::in_base64(alloc, bytes)?;
     Document::of_text(alloc, text.as_str())
 }
 

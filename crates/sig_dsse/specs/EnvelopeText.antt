@@ -1,7 +1,6 @@
 -- *Envelope text*: an envelope as JSON (the DSSE envelope format), members in the order of the format, empty ones omitted, no white space.
 use Rattle.std.specs.Prelude.{ℕ, List, [], ◌∷◌, ◌++◌, map, codes}
-use Rattle.base64.specs.Engines.{standard}
-use Rattle.base64.specs.GeneralPurpose.{encode_of}
+use Rattle.sig_base.specs.Base64.{base64_text}
 use Rattle.sig_json.specs.Canonical.{canon_string, in_braces, in_brackets}
 use Rattle.sig_dsse.specs.declared.envelope.DsseEnvelope.{DsseEnvelope}
 use Rattle.sig_dsse.specs.declared.envelope.DsseSignature.{DsseSignature}
@@ -15,9 +14,9 @@ abbrev pub text_member : List ℕ → List ℕ → List (List ℕ)
 text_member name [] = []
 text_member name (c ∷ cs) = member_text name (canon_string (c ∷ cs)) ∷ []
 
--- the member of bytes, in padded standard base64 (RFC 4648 section 4)
+-- the member of bytes, in base64 (RFC 4648 section 4)
 abbrev pub bytes_member : List ℕ → List ℕ → List (List ℕ)
-bytes_member name bytes = text_member name (encode_of standard bytes)
+bytes_member name bytes = text_member name (base64_text bytes)
 
 -- the member of a list of texts of JSON, none where the list is empty
 abbrev pub list_member : List ℕ → List (List ℕ) → List (List ℕ)

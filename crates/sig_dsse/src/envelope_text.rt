@@ -1,13 +1,11 @@
 //! An envelope as text.
 ghost use Rattle.std.specs.Prelude.{◌≡◌, ◌++◌, [], ◌∷◌, map, codes, IfOk, OnOk, string_bytes};
-ghost use Rattle.base64.specs.Engines.{standard};
-ghost use Rattle.base64.specs.GeneralPurpose.{encode_of};
+ghost use Rattle.sig_base.specs.Base64.{base64_text};
 ghost use Rattle.sig_json.specs.Canonical.{canon_string, in_braces, in_brackets};
 ghost use Rattle.sig_json.specs.Spells.{texts_of};
 ghost use Rattle.sig_dsse.specs.EnvelopeText.{member_text, text_member, bytes_member, list_member, signature_text, envelope_text};
 
 use crate::envelope::{DsseEnvelope, DsseSignature, DsseSignatures};
-use base64::engine::general_purpose::STANDARD;
 use sig_base::{OutOfMemory, Text};
 use sig_json::quoted;
 use std::alloc::Global;
@@ -66,7 +64,7 @@ fn push_bytes(
 ) -> Result<(), OutOfMemory>
     ensures { OnOk result (texts_of members.new.items ≡ texts_of members.old.items ++ bytes_member name.now bytes.now) }
 {
-    let text = STANDARD.encode(alloc, bytes)?;
+    let text = Text::in_base64(alloc, bytes)?;
     push_text(alloc, members, name, text.as_str())
 }
 

@@ -1,11 +1,10 @@
 -- The kinds of the values of member tables: what a value means under a kind, or none where it is of another.
 use Rattle.std.specs.Prelude.{ℕ, ℤ, List, [], ◌∷◌, Option, Some}
 use Rattle.std.specs.Result.{result_ok}
-use Rattle.base64.specs.Engines.{standard}
-use Rattle.base64.specs.GeneralPurpose.{decode_of}
 use Rattle.hex.specs.Hex.{decode_sized}
 use Rattle.serde_json.specs.Data.{Data}
 use Rattle.serde_json.specs.Find.{as_str}
+use Rattle.sig_base.specs.Base64.{base64_bytes}
 use Rattle.sig_json.specs.Integer.{integer_of, in_u64, in_i64}
 use Rattle.sig_json.specs.Members.{members_of}
 use Rattle.sig_json.specs.Reads.{◌>>=◌}
@@ -16,7 +15,7 @@ text_of d = as_str d
 
 -- a text of padded standard base64 (RFC 4648 section 4)
 unfoldable pub bytes_of : Data → Option (List ℕ)
-bytes_of d = as_str d >>= λ text. result_ok (decode_of standard text)
+bytes_of d = as_str d >>= base64_bytes
 
 -- a text of 64 hexadecimal digits in either case (RFC 4648 section 8)
 unfoldable pub hash_of : Data → Option (List ℕ)

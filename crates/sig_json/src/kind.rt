@@ -9,8 +9,6 @@ ghost use Rattle.sig_json.specs.Tree.{tree};
 use crate::element::ElementReader;
 use crate::error::MemberError;
 use crate::view::Json;
-use base64::DecodeAllocError;
-use base64::engine::general_purpose::STANDARD;
 use hex::FromHex;
 use serde_json::{Map, Value};
 use sig_base::{Bytes, Text, TextMap};
@@ -56,10 +54,9 @@ impl ElementReader for BytesReader {
         let Some(text) = json.text() else {
             return Err(MemberError::Member);
         };
-        match STANDARD.decode(alloc, text.as_bytes()) {
-            Ok(bytes) => Ok(Bytes::from(bytes)),
-            Err(DecodeAllocError::DecodeError(_)) => Err(MemberError::Member),
-            Err(DecodeAllocError::OutOfMemory) => Err(MemberError::OutOfMemory),
+        match Bytes::of_base64(alloc, text.as_bytes())? {
+            Some(bytes) => Ok(bytes),
+            None => Err(MemberError::Member),
         }
     }
 }

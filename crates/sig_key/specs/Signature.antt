@@ -1,14 +1,8 @@
 -- The bytes of a signature that is handed as bytes or as base64 text.
 use Rattle.std.specs.Prelude.{ℕ, Bool, not, ◌||◌, ◌==◌, List, filter, Option, Some, None}
-use Rattle.std.specs.Result.{result_ok}
-use Rattle.base64.specs.GeneralPurpose.{decode_of}
-use Rattle.base64.specs.Engines.{standard}
+use Rattle.sig_base.specs.Base64.{base64_bytes}
 use Rattle.sig_key.specs.declared.signature.Signature.{Signature}
 use Rattle.sig_key.specs.declared.signature.Signature.TheVariants.{Raw, Base64Encoded}
-
--- the bytes of a text in standard base64, padded and canonical (RFC 4648 section 4)
-unfoldable pub strict_bytes : List ℕ → Option (List ℕ)
-strict_bytes text = result_ok (decode_of standard text)
 
 -- neither a line feed nor a carriage return
 abbrev pub is_no_line_end : ℕ → Bool
@@ -22,9 +16,9 @@ abbrev pub or_else : Option (List ℕ) → Option (List ℕ) → Option (List �
 or_else (Some bytes) other = Some bytes
 or_else None other = other
 
--- the bytes of a text, or else of the text without its line ends
+-- the bytes of a text in base64 (RFC 4648 section 4), or else of the text without its line ends
 unfoldable pub text_bytes : List ℕ → Option (List ℕ)
-text_bytes text = or_else (strict_bytes text) (strict_bytes (without_line_ends text))
+text_bytes text = or_else (base64_bytes text) (base64_bytes (without_line_ends text))
 
 -- *Signature text*: the bytes as they are, or those of the text
 abbrev pub signature_bytes : Signature → Option (List ℕ)

@@ -4,10 +4,8 @@ ghost use Rattle.std.specs.Option.{ok_or};
 ghost use Rattle.sig_base.specs.Answers.{Answers};
 ghost use Rattle.sig_base.specs.declared.error.SigstoreError.{SigstoreError as Refusal};
 ghost use Rattle.sig_base.specs.declared.error.SigstoreError.TheVariants.{Base64DecodeError, OutOfMemory as Memory};
-ghost use Rattle.sig_key.specs.Signature.{strict_bytes, text_bytes, without_line_ends};
+ghost use Rattle.sig_key.specs.Signature.{text_bytes, without_line_ends};
 
-use base64::DecodeAllocError;
-use base64::engine::general_purpose::STANDARD;
 use sig_base::{Bytes, OutOfMemory, Result, SigstoreError};
 use std::alloc::Global;
 
@@ -40,11 +38,11 @@ impl<'a> Signature<'a> {
 pub(crate) fn decode_text(alloc: Global, text: &[u8]) -> Result<Bytes>
     ensures { Answers Memory (λ b. b) result (ok_or (text_bytes text.now) Base64DecodeError) }
 {
-    if let Some(bytes) = decode_strictly(alloc, text)? {
+    if let Some(bytes) = Bytes::of_base64(alloc, text)? {
         return Ok(bytes);
     }
     let joined = join_lines(alloc, text)?;
-    match decode_strictly(alloc, joined.as_slice())? {
+    match Bytes::of_base64(alloc, joined.as_slice())? {
         Some(bytes) => Ok(bytes),
         None => Err(SigstoreError::Base64DecodeError),
     }
@@ -60,16 +58,4 @@ fn join_lines(alloc: Global, text: &[u8]) -> std::result::Result<Vec<u8>, OutOfM
         .copied()
         .collect(alloc)?;
     Ok(joined)
-}
-
-/// The bytes of a strict base64 text, where it is one.
-#[tactic(auto, unfolding(crate::specs::Signature::strict_bytes))]
-fn decode_strictly(alloc: Global, text: &[u8]) -> std::result::Result<Option<Bytes>, OutOfMemory>
-    ensures { IfOk result (λ found. found ≡ strict_bytes text.now) }
-{
-    match STANDARD.decode(alloc, text) {
-        Ok(bytes) => Ok(Some(Bytes::from(bytes))),
-        Err(DecodeAllocError::DecodeError(_)) => Ok(None),
-        Err(DecodeAllocError::OutOfMemory) => Err(OutOfMemory),
-    }
 }

@@ -14,7 +14,7 @@ use Rattle.base64.specs.GeneralPurpose.{IsBytes, engine_symbols}
 use Rattle.base64.specs.Engines.{standard}
 use Rattle.base64.specs.Rfc4648.{encode_symbols, encode_group, padding_len}
 use Rattle.base64.proofs.EngineFacts.{decode_of-encode_of}
-use Rattle.sig_rekor.specs.Reading.{base64_text, base64_bytes}
+use Rattle.sig_base.specs.Base64.{base64_text, base64_bytes}
 use Rattle.sig_rekor.specs.NoteText.{size_of}
 use Rattle.sig_rekor.proofs.Notes.{size_of-numeral}
 

@@ -13,7 +13,7 @@ use Rattle.sig_rekor.specs.declared.checkpoint.Checkpoint.{Checkpoint}
 use Rattle.sig_rekor.specs.declared.checkpoint.CheckpointSignature.{CheckpointSignature}
 use Rattle.sig_rekor.specs.declared.checkpoint.OtherContent.{OtherContent}
 use Rattle.sig_rekor.specs.Cut.{IsParts, Lacks, cut_at, parts, trimmed}
-use Rattle.sig_rekor.specs.Reading.{base64_text, base64_bytes}
+use Rattle.sig_base.specs.Base64.{base64_text, base64_bytes}
 use Rattle.sig_rekor.specs.NoteText.{newline, is_blank, contents_of, content_text, content_line, note_of, note_text}
 use Rattle.sig_rekor.specs.SignatureText.{em_dash, space, signed_bytes, signature_of, signature_text}
 use Rattle.sig_rekor.specs.CheckpointText.{quotation_mark, empty_line, signatures_by, checkpoint_of, checkpoint_text}

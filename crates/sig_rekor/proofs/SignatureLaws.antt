@@ -9,7 +9,8 @@ use Rattle.std.specs.Str.{trim_end}
 use Rattle.sig_base.specs.declared.fault.CheckpointFault.TheVariants.{NoDash, SignatureBase64, SignatureLength}
 use Rattle.sig_rekor.specs.declared.checkpoint.CheckpointSignature.{CheckpointSignature}
 use Rattle.sig_rekor.specs.Cut.{IsTrimmed, IsParts, trimmed, parts}
-use Rattle.sig_rekor.specs.Reading.{base64_of, base64_bytes}
+use Rattle.sig_base.specs.Base64.{base64_bytes}
+use Rattle.sig_rekor.specs.Reading.{base64_of}
 use Rattle.sig_rekor.specs.SignatureText.{em_dash, space, signed_bytes, IsSignature, line_of, name_and_bytes, signature_by, signature_of}
 use Rattle.sig_rekor.proofs.Cutting.{parts-found, parts-only, trimmed-found, trimmed-only}
 use Rattle.sig_rekor.proofs.Steps.{bind_ok, chosen, ok_or-ok}

@@ -1,9 +1,7 @@
 -- What a reader of the checkpoint format answers: the value, or the first rule that is broken.
 use Rattle.std.specs.Prelude.{◌≡◌, ℕ, Option, Result, Ok, Err, List, [], ◌∷◌}
-use Rattle.base64.specs.GeneralPurpose.{encode_of, decode_of}
-use Rattle.base64.specs.Engines.{standard}
 use Rattle.std.specs.Option.{ok_or}
-use Rattle.std.specs.Result.{result_ok}
+use Rattle.sig_base.specs.Base64.{base64_bytes}
 use Rattle.sig_base.specs.declared.fault.CheckpointFault.{CheckpointFault}
 use Rattle.sig_rekor.specs.declared.fault.ParseCheckpointError.{ParseCheckpointError}
 use Rattle.sig_rekor.specs.declared.fault.ParseCheckpointError.TheVariants.{DecodeError, OutOfMemory}
@@ -22,14 +20,7 @@ each read (x ∷ xs) = do
   others ← each read xs
   Ok (first ∷ others)
 
--- bytes in base64 (RFC 4648 section 4, padded), and the bytes of a text that is exactly such
-unfoldable pub base64_text : List ℕ → List ℕ
-base64_text bytes = encode_of standard bytes
-
-unfoldable pub base64_bytes : List ℕ → Option (List ℕ)
-base64_bytes text = result_ok (decode_of standard text)
-
--- the bytes of a text, or the fault
+-- the bytes of a text in base64 (RFC 4648 section 4), or the fault
 unfoldable pub base64_of : CheckpointFault → List ℕ → Result (List ℕ) CheckpointFault
 base64_of fault text = ok_or (base64_bytes text) fault
 

@@ -7,7 +7,8 @@ use Rattle.sig_base.specs.declared.fault.CheckpointFault.{CheckpointFault}
 use Rattle.sig_base.specs.declared.fault.CheckpointFault.TheVariants.{NoDash, SignatureFormat, SignatureBase64, SignatureLength}
 use Rattle.sig_rekor.specs.declared.checkpoint.CheckpointSignature.{CheckpointSignature}
 use Rattle.sig_rekor.specs.Cut.{IsTrimmed, IsParts, trimmed, parts}
-use Rattle.sig_rekor.specs.Reading.{◌>>=◌, base64_of, base64_bytes, base64_text}
+use Rattle.sig_base.specs.Base64.{base64_bytes, base64_text}
+use Rattle.sig_rekor.specs.Reading.{◌>>=◌, base64_of}
 use Rattle.sig_rekor.specs.NoteText.{newline}
 
 -- U+2014 in UTF-8

@@ -10,7 +10,6 @@ mod coding;
 mod cuts;
 mod fault;
 mod inclusion_proof;
-pub mod laws;
 mod note;
 mod signature;
 mod signed;

@@ -9,7 +9,7 @@ ghost use Rattle.sig_rekor.specs.NoteText.{newline, content_of, contents_of, con
 ghost use Rattle.sig_rekor.specs.ReadBack.{IsNoteValue};
 
 use crate::checkpoint::{Checkpoint, OtherContent, OtherContents};
-use crate::coding::{decode_base64, encode_base64};
+use crate::coding::decode_base64;
 use crate::cuts::{cut, is_blank};
 use crate::fault::ParseCheckpointError;
 use sig_base::{CheckpointFault, OutOfMemory, Text};
@@ -43,7 +43,7 @@ impl Checkpoint {
         ensures text { IfOk result (λ text. string_bytes text ≡ note_text self.now) }
         ensures value { OnOk result (IsNoteValue self.now) }
     {
-        let hash = encode_base64(alloc, &self.hash)?;
+        let hash = Text::in_base64(alloc, &self.hash)?;
         let (origin, size) = (self.origin.as_str(), self.size);
         let mut text = format!(in alloc; "{origin}\n{size}\n{}\n", hash.as_str())?;
         push_contents(&mut text, self.other_content.as_slice())?;

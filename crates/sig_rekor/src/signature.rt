@@ -4,12 +4,13 @@ ghost use Rattle.std.specs.Option.{ok_or};
 ghost use Rattle.sig_base.specs.declared.fault.CheckpointFault.TheVariants.{SignatureFormat};
 ghost use Rattle.sig_rekor.specs.declared.checkpoint.CheckpointSignature.{CheckpointSignature as Signature};
 ghost use Rattle.sig_rekor.specs.Cut.{parts};
-ghost use Rattle.sig_rekor.specs.Reading.{Reads, base64_text};
+ghost use Rattle.sig_base.specs.Base64.{base64_text};
+ghost use Rattle.sig_rekor.specs.Reading.{Reads};
 ghost use Rattle.sig_rekor.specs.SignatureText.{space, line_of, name_and_bytes, signature_by, signature_of, signature_text, signed_bytes, IsSignature};
 ghost use Rattle.sig_rekor.specs.ReadBack.{IsName, IsSignatureValue};
 
 use crate::checkpoint::CheckpointSignature;
-use crate::coding::{decode_base64, encode_base64};
+use crate::coding::decode_base64;
 use crate::cuts::{cut, trimmed};
 use crate::fault::ParseCheckpointError;
 use sig_base::{Bytes, CheckpointFault, OutOfMemory, Text};
@@ -55,7 +56,7 @@ impl CheckpointSignature {
     {
         let mut bytes = Vec::from_slice(alloc, &self.key_fingerprint)?;
         bytes.extend_from_slice(self.raw.as_slice())?;
-        encode_base64(alloc, bytes.as_slice())
+        Text::in_base64(alloc, bytes.as_slice())
     }
 }
 

@@ -2,5 +2,5 @@
 use Rattle.std.proofs.lemmas.Iterator.Consumers.{nth_from_yields_List, YieldsList-from_rest}
 use Rattle.sig_base.proofs.by_text.ByText.at.Goals as goal
 
-pub returns : goal.returns
-returns g c = nth_from_yields_List _ _ _ c.nth.ensures.ran (YieldsList-from_rest _ c.iter.ensures.rest)
+pub returns-clause-entry : goal.returns-clause-entry
+returns-clause-entry g c = nth_from_yields_List _ _ _ c.nth.ensures.ran (YieldsList-from_rest _ c.iter.ensures.rest)

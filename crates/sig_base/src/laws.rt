@@ -1,0 +1,27 @@
+//! What the definitions mean. It has no code.
+ghost use Rattle.std.specs.Prelude.{◌≡◌, ◌≢◌, ◌↔◌, ℕ, List, Some, Contains};
+ghost use Rattle.base64.specs.GeneralPurpose.{IsBytes};
+ghost use Rattle.sig_base.specs.Base64.{base64_bytes, base64_text};
+ghost use Rattle.sig_base.specs.ByText.{text_lookup, text_put, KeysAscend};
+
+/// A text has bytes in base64 exactly where it is their one encoding (RFC 4648 section 4, with padding and without stray bits).
+pub fn base64_texts()
+    ensures { (text bytes : List ℕ) → IsBytes text → IsBytes bytes → (base64_bytes text ≡ Some bytes) ↔ (text ≡ base64_text bytes) }
+{}
+
+/// What is found at a text is the value of its entry, where the texts of the entries ascend in byte order.
+pub fn entries_found<V>()
+    ensures { (text : List ℕ) (value : V) (entries : List (List ℕ × V)) → KeysAscend entries
+        → (text_lookup text entries ≡ Some value) ↔ Contains entries (text, value) }
+{}
+
+/// A value that is put at a text is the one that is found there, and what is found at each other text stays. Texts that ascend in byte order
+/// still do.
+pub fn entries_put<V>()
+    ensures found { (text : List ℕ) (value : V) (entries : List (List ℕ × V))
+        → text_lookup text (text_put text value entries) ≡ Some value }
+    ensures others { (text other : List ℕ) (value : V) (entries : List (List ℕ × V)) → other ≢ text
+        → text_lookup other (text_put text value entries) ≡ text_lookup other entries }
+    ensures ascend { (text : List ℕ) (value : V) (entries : List (List ℕ × V)) → KeysAscend entries
+        → KeysAscend (text_put text value entries) }
+{}
