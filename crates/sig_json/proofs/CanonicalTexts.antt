@@ -19,7 +19,7 @@ use Rattle.serde_json.specs.View.{view, items_view}
 use Rattle.serde_json.specs.Written.{has_float, compact_text}
 use Rattle.serde_json.specs.declared.value.Value.{Value}
 use Rattle.sig_json.specs.Canonical.{escape_of, canon, canon_string, canon_items, with_text, utf16_units}
-use Rattle.sig_json.specs.Spells.{texts_of, entry_of}
+use Rattle.sig_json.specs.Spells.{texts_of}
 
 -- ---- a text in quotation marks
 
@@ -53,47 +53,15 @@ flat_map-escape_of : (text : List ℕ) → flat_map escape_of text ≡ flat_map 
 flat_map-escape_of [] = refl
 flat_map-escape_of (x ∷ xs) = rw (escape_of-escape_byte x, flat_map-escape_of xs) refl
 
-pub canon_string-compact : (text : List ℕ) (d : Data) (spelled : List ℕ) → d ≡ string text → (has_float d ≡ false → spelled ≡ compact_text d) → Some (canon_string text) ≡ Some spelled
+pub canon_string-compact : (text : List ℕ) (d : Data) (spelled : List ℕ) → d ≡ string text → (has_float d ≡ false → spelled ≡ compact_text d) → spelled ≡ canon_string text
 unfolding canon_string
 canon_string-compact text d spelled is h =
     let written : spelled ≡ compact_text (string text) = (let P : Data → Type 0 = λ t. has_float t ≡ false → spelled ≡ compact_text t in subst P is h) refl in
-    rw (written, flat_map-escape_of text) refl
+    written ∙ rw (flat_map-escape_of text) refl
 
 pub ruleset quoted_texts = (canon_string-compact)
 
--- ---- lists
-
--- the texts so far, and those of the values that are left
-abbrev pub with_left : List (String Global) → List Value → Option (List (List ℕ))
-with_left texts left = option_and_then (λ rest. Some (texts_of texts ++ rest)) (canon_items (items_view left))
-
-pub with_left-none : (values : List Value) → canon_items (items_view values) ≡ with_left [] values
-with_left-none values = nothing_before (canon_items (items_view values)) where
-  nothing_before : (found : Option (List (List ℕ))) → found ≡ option_and_then (λ rest. Some ([] ++ rest)) found
-  nothing_before None = refl
-  nothing_before (Some texts) = refl
-
-texts_of-append : (texts : List (String Global)) (text : String Global) → texts_of (texts ++ text ∷ []) ≡ texts_of texts ++ string_bytes text ∷ []
-texts_of-append [] text = refl
-texts_of-append (t ∷ ts) text = ap (λ rest. string_bytes t ∷ rest) (texts_of-append ts text)
-
-one_more : (done : List (List ℕ)) (text : List ℕ) (found : Option (List (List ℕ))) → option_and_then (λ rest. Some (done ++ rest)) (option_and_then (λ texts. Some (text ∷ texts)) found) ≡ option_and_then (λ rest. Some ((done ++ text ∷ []) ++ rest)) found
-one_more done text None = refl
-one_more done text (Some rest) = ap Some (sym (append_assoc done (text ∷ []) rest))
-
-left_here : (values : List Value) (i : ℕ) (value : Value) → i < length values → value ≡ get_or values i value → canon_items (items_view (drop i values)) ≡ option_and_then (λ text. option_and_then (λ texts. Some (text ∷ texts)) (canon_items (items_view (drop (i + 1) values)))) (canon (view value))
-left_here values i value h is =
-    at_drop_more (λ vs. canon_items (items_view vs)) values i value h ∙ ap (λ v. option_and_then (λ text. option_and_then (λ texts. Some (text ∷ texts)) (canon_items (items_view (drop (i + 1) values)))) (canon (view v))) (sym is)
-
-pub with_left-more : (values : List Value) (i : ℕ) (value : Value) (texts after : List (String Global)) (text : String Global) → i < length values → value ≡ get_or values i value → canon (view value) ≡ Some (string_bytes text) → after ≡ texts ++ text ∷ [] → canon_items (items_view values) ≡ with_left texts (drop i values) → canon_items (items_view values) ≡ with_left after (drop (i + 1) values)
-with_left-more values i value texts after text h is spells pushes so_far =
-    so_far ∙ rw (left_here values i value h is, spells, pushes, texts_of-append texts text) (one_more (texts_of texts) (string_bytes text) (canon_items (items_view (drop (i + 1) values))))
-
-pub with_left-refused : (values : List Value) (i : ℕ) (value : Value) (texts : List (String Global)) → i < length values → value ≡ get_or values i value → canon (view value) ≡ None → canon_items (items_view values) ≡ with_left texts (drop i values) → canon_items (items_view values) ≡ None
-with_left-refused values i value texts h is refused so_far = so_far ∙ rw (left_here values i value h is, refused) refl
-
-pub with_left-all : (values : List Value) (texts : List (String Global)) → canon_items (items_view values) ≡ with_left texts [] → canon_items (items_view values) ≡ Some (texts_of texts)
-with_left-all values texts so_far = so_far ∙ ap Some (append-nil (texts_of texts))
+-- ---- texts of strings
 
 pub join_by-texts_of : (separator : List ℕ) (texts : List (String Global)) → join_by string_bytes separator texts ≡ join_by (λ text. text) separator (texts_of texts)
 join_by-texts_of separator [] = refl
@@ -101,35 +69,6 @@ join_by-texts_of separator (t ∷ ts) = ap (λ rest. string_bytes t ++ rest) (re
   rest_same : (rest : List (String Global)) → flat_map (λ text. separator ++ string_bytes text) rest ≡ flat_map (λ text. separator ++ text) (texts_of rest)
   rest_same [] = refl
   rest_same (r ∷ rs) = ap (λ more. (separator ++ string_bytes r) ++ more) (rest_same rs)
-
-pub ruleset canonical_items = (with_left-none, with_left-more, with_left-refused, with_left-all)
-
--- ---- objects
-
-abbrev Entry : Type 0
-Entry = Vec ℕ Global × String Global
-
-entries-match_ordering : (o : Ordering) (a b c : List Entry) → map entry_of (match_ordering o a b c) ≡ match_ordering o (map entry_of a) (map entry_of b) (map entry_of c)
-entries-match_ordering Less a b c = refl
-entries-match_ordering Equal a b c = refl
-entries-match_ordering Greater a b c = refl
-
-entries-insert_entry : (es : List Entry) (units : Vec ℕ Global) (text : String Global) → map entry_of (insert_entry (λ x y. slice_cmp nat_cmp x.items y.items) es units text) ≡ insert_entry (slice_cmp nat_cmp) (map entry_of es) units.items (string_bytes text)
-entries-insert_entry [] units text = refl
-entries-insert_entry (e ∷ es) units text = entries-match_ordering (slice_cmp nat_cmp units.items e.0.items) _ _ _ ∙ rw (entries-insert_entry es units text) refl
-
-pub values_of-entries : (es : List Entry) → values_of (map entry_of es) ≡ texts_of (values_of es)
-values_of-entries [] = refl
-values_of-entries (e ∷ es) = ap (λ rest. string_bytes e.1 ∷ rest) (values_of-entries es)
-
-pub ruleset joins = (join_by-texts_of, values_of-entries)
-
--- the member's text at its place, as the code's map has it
-pub with_text-inserted : (es after : List Entry) (units : Vec ℕ Global) (made : String Global) (name text quoted : List ℕ) → after ≡ insert_entry (λ x y. slice_cmp nat_cmp x.items y.items) es units made → units.items ≡ utf16_units name → Some (canon_string name) ≡ Some quoted → string_bytes made ≡ quoted ++ 58 ∷ text → map entry_of after ≡ with_text (map entry_of es) name text
-unfolding with_text
-with_text-inserted es after units made name text quoted inserts same_units spells joins =
-    let same : canon_string name ≡ quoted = cc in
-    rw (inserts, entries-insert_entry es units made, same_units, joins, same) refl
 
 -- ---- units
 

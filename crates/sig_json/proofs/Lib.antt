@@ -10,5 +10,6 @@ pub mod TextMaps
 pub mod Units
 pub mod MemberOrder
 pub mod Named
+pub mod MemberTexts
 -- what is found in a tree that members were put into
 pub use Rattle.serde_json.proofs.Views

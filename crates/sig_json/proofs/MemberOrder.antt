@@ -92,7 +92,7 @@ module _ {K V : Type 0} (R : K → K → Ordering) where
 abbrev Unlike : List ℕ → Sorted → Type 0
 Unlike name sorted = AllByRecursion (λ units. slice_cmp nat_cmp (utf16_units name) units ≢ Equal) (keys_of sorted)
 
-same_units : (one other : List ℕ) → IsUtf8 one → IsUtf8 other → slice_cmp nat_cmp (utf16_units one) (utf16_units other) ≡ Equal → one ≡ other
+pub same_units : (one other : List ℕ) → IsUtf8 one → IsUtf8 other → slice_cmp nat_cmp (utf16_units one) (utf16_units other) ≡ Equal → one ≡ other
 same_units one other one_utf8 other_utf8 is =
     units_distinct one other one_utf8 other_utf8 ((bytes_eq-Decides (utf16_units one) (utf16_units other)).0 (sym (is_eq-slice_cmp (utf16_units one) (utf16_units other)) ∙ ap is_eq is))
 

@@ -16,6 +16,7 @@ pub mod Reads
 pub mod Record
 pub mod Spells
 pub mod Tree
+pub mod Writes
 -- the trees, the words that look into them, and what texts they are read from and written as
 pub use Rattle.serde_json.specs.Data
 pub use Rattle.serde_json.specs.Find

@@ -1,20 +1,20 @@
 //! The canonical text of a tree (RFC 8785).
-ghost use Rattle.std.specs.Prelude.{◌≡◌, false, Some, IfOk, OnOk, [], map, string_bytes, option_and_then};
+ghost use Rattle.std.specs.Fmt.{signed_decimal};
+ghost use Rattle.std.specs.Map.{values_of};
+ghost use Rattle.std.specs.Prelude.{◌≡◌, ◌++◌, Some, IfOk, OnOk, [], map, string_bytes, option_and_then};
 ghost use Rattle.sig_base.specs.Answers.{Answers};
 ghost use Rattle.serde_json.specs.Find.{as_integer};
 ghost use Rattle.serde_json.specs.View.{view, number_view, items_view, members_view};
-ghost use Rattle.serde_json.specs.Written.{has_float, compact_text};
-ghost use Rattle.sig_json.specs.Canonical.{canon, canon_integer, canon_string, canon_items, canon_members, canonical_of, in_braces, in_brackets, utf16_units, with_text};
-ghost use Rattle.sig_json.specs.Order.{KeepsOrder};
-ghost use Rattle.sig_json.specs.Spells.{Spells, texts_of, entry_of};
+ghost use Rattle.sig_json.specs.Canonical.{canon, canon_integer, canon_string, canon_items, canon_members, canonical_of, in_braces, in_brackets, utf16_units};
+ghost use Rattle.sig_json.specs.Order.{HasNames, KeepsOrder};
 ghost use Rattle.sig_json.specs.Tree.{tree};
-ghost use Rattle.std.specs.Map.{values_of};
+ghost use Rattle.sig_json.specs.Writes.{Writes, comma_before, by_units, member_text, shown, texts_in_turn};
 
 use crate::error::CanonicalError;
 use crate::view::Json;
 use serde_json::{Map, Number, Value};
 use sig_base::{OutOfMemory, Text};
-use std::alloc::{AllocError, Global};
+use std::alloc::Global;
 use std::collections::BTreeMap;
 
 /// The greatest integer that a number of 64 bits (IEEE 754) keeps apart from its neighbours: 2^53 - 1.
@@ -27,39 +27,39 @@ pub fn canonical(alloc: Global, json: Json<'_>) -> Result<Text, CanonicalError>
     ensures answer { Answers CanonicalError.OutOfMemory (λ text. text) result (canonical_of (tree json.entry)) }
     ensures ordered { IfOk result (KeepsOrder (tree json.entry)) }
 {
-    match value_text(alloc, json.value) {
-        Ok(text) => Ok(Text::from(text)),
-        Err(error) => Err(error),
-    }
+    let mut out = String::new(alloc);
+    write_value(alloc, json.value, &mut out)?;
+    Ok(Text::from(out))
 }
 
+/// Writes a value behind the text so far.
 #[cycle(canon)]
-fn value_text(alloc: Global, value: &Value) -> Result<String, CanonicalError>
-    ensures { Spells string_bytes result (canon (view value.now)) }
+#[tactic(auto, using(crate::proofs::MemberTexts::values))]
+fn write_value(alloc: Global, value: &Value, out: &mut String) -> Result<(), CanonicalError>
+    ensures { Writes (string_bytes out.old) result (string_bytes out.new) (canon (view value.now)) }
 {
     match value {
-        Value::Null => word(alloc, "null"),
-        Value::Bool(true) => word(alloc, "true"),
-        Value::Bool(false) => word(alloc, "false"),
-        Value::Number(number) => number_text(alloc, number),
-        Value::String(text) => string_text(alloc, text.as_str()),
-        Value::Array(items) => list_text(alloc, items),
-        Value::Object(members) => object_text(alloc, members),
+        Value::Null => Ok(write_text(out, "null")?),
+        Value::Bool(true) => Ok(write_text(out, "true")?),
+        Value::Bool(false) => Ok(write_text(out, "false")?),
+        Value::Number(number) => write_number(alloc, number, out),
+        Value::String(text) => Ok(write_quoted(alloc, text.as_str(), out)?),
+        Value::Array(items) => write_list(alloc, items, out),
+        Value::Object(members) => write_object(alloc, members, out),
     }
 }
 
-fn word(alloc: Global, word: &str) -> Result<String, CanonicalError>
-    ensures { Spells string_bytes result (Some word.now) }
+fn write_text(out: &mut String, text: &str) -> Result<(), OutOfMemory>
+    ensures { OnOk result (string_bytes out.new ≡ string_bytes out.old ++ text.now) }
 {
-    match String::from_str(alloc, word) {
-        Ok(text) => Ok(text),
-        Err(_) => Err(CanonicalError::OutOfMemory),
-    }
+    out.push_str(text)?;
+    Ok(())
 }
 
 #[tactic(auto, unfolding(crate::specs::Canonical::canon_integer))]
-fn number_text(alloc: Global, number: &Number) -> Result<String, CanonicalError>
-    ensures { Spells string_bytes result (option_and_then canon_integer (as_integer (number_view number.now))) }
+fn write_number(alloc: Global, number: &Number, out: &mut String) -> Result<(), CanonicalError>
+    ensures { Writes (string_bytes out.old) result (string_bytes out.new)
+        (option_and_then canon_integer (as_integer (number_view number.now))) }
 {
     let Some(integer) = number.as_i128() else {
         return Err(CanonicalError::IntegerTooLarge);
@@ -67,116 +67,122 @@ fn number_text(alloc: Global, number: &Number) -> Result<String, CanonicalError>
     if integer.unsigned_abs() > GREATEST_INTEGER {
         return Err(CanonicalError::IntegerTooLarge);
     }
-    match format!(in alloc; "{integer}") {
-        Ok(text) => Ok(text),
-        Err(_) => Err(CanonicalError::OutOfMemory),
-    }
+    Ok(write_integer(alloc, integer, out)?)
+}
+
+fn write_integer(alloc: Global, integer: i128, out: &mut String) -> Result<(), OutOfMemory>
+    ensures { OnOk result (string_bytes out.new ≡ string_bytes out.old ++ signed_decimal integer) }
+{
+    let digits = format!(in alloc; "{integer}")?;
+    write_text(out, digits.as_str())
+}
+
+fn write_quoted(alloc: Global, text: &str, out: &mut String) -> Result<(), OutOfMemory>
+    ensures { OnOk result (string_bytes out.new ≡ string_bytes out.old ++ canon_string text.now) }
+{
+    let quoted = quoted_text(alloc, text)?;
+    write_text(out, quoted.as_str())
 }
 
 /// A text in quotation marks.
 #[tactic(auto, using(crate::proofs::CanonicalTexts::quoted_texts))]
-fn string_text(alloc: Global, text: &str) -> Result<String, CanonicalError>
-    ensures { Spells string_bytes result (Some (canon_string text.now)) }
+fn quoted_text(alloc: Global, text: &str) -> Result<String, OutOfMemory>
+    ensures { IfOk result (λ quoted. string_bytes quoted ≡ canon_string text.now) }
 {
-    let Ok(value) = Value::try_from_str(alloc, text) else {
-        return Err(CanonicalError::OutOfMemory);
-    };
-    match value.to_string(alloc) {
-        Ok(text) => Ok(text),
-        Err(_) => Err(CanonicalError::OutOfMemory),
+    let value = Value::try_from_str(alloc, text)?;
+    Ok(value.to_string(alloc)?)
+}
+
+/// The comma before a part of a list or an object, none before the first.
+fn write_comma(out: &mut String, place: usize) -> Result<(), OutOfMemory>
+    ensures { OnOk result (string_bytes out.new ≡ string_bytes out.old ++ comma_before place) }
+{
+    if place == 0 {
+        return Ok(());
     }
+    write_text(out, ",")
 }
 
 #[cycle(canon)]
-#[tactic(auto, using(crate::proofs::CanonicalTexts::canonical_items))]
-fn list_text(alloc: Global, items: &Vec<Value>) -> Result<String, CanonicalError>
-    ensures { Spells string_bytes result
+#[tactic(auto, using(crate::proofs::MemberTexts::parts))]
+fn write_list(alloc: Global, items: &Vec<Value>, out: &mut String) -> Result<(), CanonicalError>
+    ensures { Writes (string_bytes out.old) result (string_bytes out.new)
         (option_and_then (λ texts. Some (in_brackets texts)) (canon_items (items_view items.now.items))) }
 {
-    let mut texts = Vec::new(alloc);
-    'items: for item in items {
-        match value_text(alloc, item) {
-            Ok(text) => if texts.push(text).is_err() {
-                return Err(CanonicalError::OutOfMemory);
-            },
-            Err(error) => return Err(error),
-        }
+    write_text(out, "[")?;
+    'items: for (place, item) in items.iter().enumerate() {
+        write_comma(out, place)?;
+        write_value(alloc, item, out)?;
     }
-    bracketed(alloc, &texts)
-}
-
-#[tactic(auto, using(crate::proofs::CanonicalTexts::joins))]
-fn bracketed(alloc: Global, texts: &Vec<String>) -> Result<String, CanonicalError>
-    ensures { Spells string_bytes result (Some (in_brackets (texts_of texts.now.items))) }
-{
-    let Ok(joined) = texts.join(alloc, ",") else {
-        return Err(CanonicalError::OutOfMemory);
-    };
-    match format!(in alloc; "[{joined}]") {
-        Ok(text) => Ok(text),
-        Err(_) => Err(CanonicalError::OutOfMemory),
-    }
+    Ok(write_text(out, "]")?)
 }
 
 #[cycle(canon)]
-#[tactic(auto, using(crate::proofs::CanonicalTexts::joins))]
-fn object_text(alloc: Global, members: &Map<String, Value>) -> Result<String, CanonicalError>
-    ensures { Spells string_bytes result
+#[tactic(auto, using(crate::proofs::MemberTexts::objects))]
+fn write_object(
+    alloc: Global,
+    members: &Map<String, Value>,
+    out: &mut String,
+) -> Result<(), CanonicalError>
+    ensures { Writes (string_bytes out.old) result (string_bytes out.new)
         (option_and_then (λ sorted. Some (in_braces (values_of sorted))) (canon_members (members_view members.now.entries) [])) }
 {
+    let sorted = sorted_members(alloc, members)?;
+    write_members(alloc, &sorted, out)
+}
+
+/// Writes members, sorted already, in braces.
+#[cycle(canon)]
+#[tactic(auto, using(crate::proofs::MemberTexts::parts))]
+fn write_members(
+    alloc: Global,
+    members: &Vec<Member<'_>>,
+    out: &mut String,
+) -> Result<(), CanonicalError>
+    ensures { Writes (string_bytes out.old) result (string_bytes out.new)
+        (option_and_then (λ texts. Some (in_braces texts)) (texts_in_turn (map shown members.now.items))) }
+{
+    write_text(out, "{")?;
+    'members: for (place, member) in members.iter().enumerate() {
+        write_comma(out, place)?;
+        write_member(alloc, member, out)?;
+    }
+    Ok(write_text(out, "}")?)
+}
+
+#[cycle(canon)]
+#[tactic(auto, using(crate::proofs::MemberTexts::parts))]
+fn write_member(alloc: Global, member: &Member<'_>, out: &mut String) -> Result<(), CanonicalError>
+    ensures { Writes (string_bytes out.old) result (string_bytes out.new) (member_text (shown member.now)) }
+{
+    write_quoted(alloc, member.name, out)?;
+    write_text(out, ":")?;
+    write_value(alloc, member.value, out)
+}
+
+/// A member of an object, lent.
+#[derive(Clone, Copy)]
+struct Member<'a> {
+    name: &'a str,
+    value: &'a Value,
+}
+
+/// The members in the ascending order of the UTF-16 code units of their names.
+#[tactic(auto, using(crate::proofs::MemberTexts::sorts))]
+fn sorted_members<'a>(
+    alloc: Global,
+    members: &'a Map<String, Value>,
+) -> Result<Vec<Member<'a>>, OutOfMemory>
+    ensures sorted { IfOk result (λ sorted.
+        map shown sorted.items ≡ values_of (by_units (members_view members.now.entries) [])) }
+    ensures named { IfOk result (λ _. HasNames (members_view members.now.entries)) }
+{
     let mut sorted = BTreeMap::new(alloc);
-    'members: for (name, member) in members {
-        match value_text(alloc, member) {
-            Ok(text) => insert_member(alloc, &mut sorted, name.as_str(), text.as_str())?,
-            Err(error) => return Err(error),
-        }
+    'members: for (name, value) in members {
+        let name = name.as_str();
+        sorted.insert(utf16_units(alloc, name)?, Member { name, value })?;
     }
-    let Ok(texts) = texts_in_order(alloc, sorted) else {
-        return Err(CanonicalError::OutOfMemory);
-    };
-    braced(alloc, &texts)
-}
-
-/// The texts of the members in their order.
-fn texts_in_order(
-    alloc: Global,
-    sorted: BTreeMap<Vec<u16>, String>,
-) -> Result<Vec<String>, AllocError>
-    ensures { IfOk result (λ texts. texts.items ≡ values_of sorted.entries) }
-{
-    sorted.into_values().collect(alloc)
-}
-
-#[tactic(auto, using(crate::proofs::CanonicalTexts::joins))]
-fn braced(alloc: Global, texts: &Vec<String>) -> Result<String, CanonicalError>
-    ensures { Spells string_bytes result (Some (in_braces (texts_of texts.now.items))) }
-{
-    let Ok(joined) = texts.join(alloc, ",") else {
-        return Err(CanonicalError::OutOfMemory);
-    };
-    match format!(in alloc; "{{{joined}}}") {
-        Ok(text) => Ok(text),
-        Err(_) => Err(CanonicalError::OutOfMemory),
-    }
-}
-
-/// Puts the text of a member at its place by the units of its name.
-fn insert_member(
-    alloc: Global,
-    sorted: &mut BTreeMap<Vec<u16>, String>,
-    name: &str,
-    text: &str,
-) -> Result<(), OutOfMemory>
-    ensures { OnOk result (map entry_of sorted.new.entries
-        ≡ with_text (map entry_of sorted.old.entries) name.now text.now) }
-{
-    let units = utf16_units(alloc, name)?;
-    let Ok(quoted) = string_text(alloc, name) else {
-        return Err(OutOfMemory);
-    };
-    let member = format!(in alloc; "{quoted}:{text}")?;
-    sorted.insert(units, member)?;
-    Ok(())
+    Ok(sorted.into_values().collect(alloc)?)
 }
 
 /// The UTF-16 code units of a text.
@@ -195,8 +201,5 @@ fn utf16_units(alloc: Global, text: &str) -> Result<Vec<u16>, OutOfMemory>
 pub fn quoted(alloc: Global, text: &str) -> Result<Text, OutOfMemory>
     ensures { IfOk result (λ quoted. quoted ≡ canon_string text.now) }
 {
-    match string_text(alloc, text) {
-        Ok(quoted) => Ok(Text::from(quoted)),
-        Err(_) => Err(OutOfMemory),
-    }
+    Ok(Text::from(quoted_text(alloc, text)?))
 }
