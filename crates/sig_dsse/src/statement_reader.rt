@@ -34,7 +34,7 @@ impl ElementReader for SubjectReader {
 }
 
 /// Reads statements.
-enum StatementReader {}
+pub(crate) enum StatementReader {}
 
 impl ElementReader for StatementReader {
     type Item = InTotoStatementV1;

@@ -2,7 +2,6 @@
 use Rattle.std.proofs.Common.{◌≡◌, ℕ, List, Option, Some, None, Result, Ok, Err, refl}
 use Rattle.sig_json.specs.Data.{Data}
 use Rattle.sig_json.specs.declared.error.DocumentError.{DocumentError}
-use Rattle.sig_json.specs.declared.error.JsonError.{JsonError}
 use Rattle.sig_json.specs.Document.{document_of}
 use Rattle.sig_json.specs.Record.{or_member, record_of, record_in}
 

@@ -1,6 +1,4 @@
 //! `AnyReader`: values of any form.
-ghost use Rattle.sig_json.specs.SeenAs.{SeenAs};
-
 use crate::document::Document;
 use crate::element::ElementReader;
 use crate::error::MemberError;
