@@ -2,10 +2,10 @@
 use Rattle.std.specs.Prelude.{ℕ, List, codes, Option, Some}
 use Rattle.std.specs.Result.{result_ok}
 use Rattle.sig_json.specs.Data.{Data}
-use Rattle.sig_json.specs.Document.{document_of}
 use Rattle.sig_json.specs.Kinds.{text_of, text_map_of}
 use Rattle.sig_json.specs.Member.{required, required_text, required_list, optional}
 use Rattle.sig_json.specs.Reads.{◌>>=◌}
+use Rattle.sig_json.specs.Record.{record_in}
 
 -- texts by their names, in byte order of the names
 abbrev pub DigestTexts : Type 0
@@ -43,4 +43,4 @@ statement_in d = do
 
 -- the statement that a payload is, none where it is no document without floats or a member is not as it has to be
 unfoldable pub statement_of : List ℕ → Option Statement
-statement_of payload = result_ok (document_of payload) >>= statement_in
+statement_of payload = result_ok (record_in statement_in payload)

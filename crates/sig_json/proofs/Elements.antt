@@ -1,11 +1,12 @@
 -- A list read element by element.
-use Rattle.std.proofs.Common.{◌≡◌, ℕ, zero, suc, ◌<◌, ◌+◌, List, [], ◌∷◌, ◌++◌, length, take, Option, Some, None, option_map, refl, sym, ap, arith, add-one}
+use Rattle.std.proofs.Common.{◌≡◌, ℕ, zero, suc, ◌<◌, ◌+◌, List, [], ◌∷◌, ◌++◌, length, map, take, Option, Some, None, option_map, refl, sym, ap, ◌∙◌, arith, add-one}
 use Rattle.std.specs.Option.{option_and_then}
 use Rattle.serde_json.specs.Data.{Data, null, boolean, number, string, array, object, Items, no_items, item}
 use Rattle.serde_json.specs.Find.{at, get_item}
 use Rattle.sig_json.specs.List.{items_list, list_of}
 use Rattle.sig_json.specs.Member.{each, list_each}
 use Rattle.sig_json.specs.Reads.{◌>>=◌}
+use Rattle.sig_json.specs.SeenAs.{SeenAs}
 
 -- the first elements of a list, read
 abbrev pub each_front : {A : Type 0} → (Data → Option A) → ℕ → Data → Option (List A)
@@ -48,7 +49,7 @@ each-more kind (item v ds) (suc i) d x found here read front =
     let more = each-more kind ds i d x rest.0 here read rest.1 in
     let whole : first.0 ∷ rest.0 ≡ found = cc in rw (first.1, more) (ap (λ xs. Some (xs ++ x ∷ [])) whole)
 
-pub each_front-more : {A : Type 0} → (kind : Data → Option A) (d element : Data) (i : ℕ) (x : A) (found : List A) → Some element ≡ at i d → kind element ≡ Some x → each_front kind i d ≡ Some found → each_front kind (i + 1) d ≡ Some (found ++ x ∷ [])
+each_front-more : {A : Type 0} → (kind : Data → Option A) (d element : Data) (i : ℕ) (x : A) (found : List A) → Some element ≡ at i d → kind element ≡ Some x → each_front kind i d ≡ Some found → each_front kind (i + 1) d ≡ Some (found ++ x ∷ [])
 each_front-more kind null element i x found here read front = cc
 each_front-more kind (boolean b) element i x found here read front = cc
 each_front-more kind (number m) element i x found here read front = cc
@@ -56,11 +57,21 @@ each_front-more kind (string s) element i x found here read front = cc
 each_front-more kind (array ds) element i x found here read front = rw add-one (each-more kind ds i element x found (sym here) read front)
 each_front-more kind (object ms) element i x found here read front = cc
 
+map-append : {X A : Type 0} → (f : X → A) (xs : List X) (x : X) → map f (xs ++ x ∷ []) ≡ map f xs ++ f x ∷ []
+map-append f [] x = refl
+map-append f (first ∷ xs) x = ap (λ rest. f first ∷ rest) (map-append f xs x)
+
+-- one item more is pushed behind those that were read
+pub each_front-pushed : {X : Type 0} → (seen_as : SeenAs X) (kind : Data → Option seen_as.Value) (d element : Data) (i : ℕ) (x : X) (found after : List X) → Some element ≡ at i d → kind element ≡ Some (seen_as.item x) → after ≡ found ++ x ∷ [] → each_front kind i d ≡ Some (map seen_as.item found) → each_front kind (i + 1) d ≡ Some (map seen_as.item after)
+each_front-pushed seen_as kind d element i x found after here read pushed front =
+    each_front-more kind d element i (seen_as.item x) (map seen_as.item found) here read front
+    ∙ ap Some (rw (pushed, map-append seen_as.item found x) refl)
+
 take-whole : (ds : List Data) → take (length ds) ds ≡ ds
 take-whole [] = refl
 take-whole (d ∷ ds) = ap (λ rest. d ∷ rest) (take-whole ds)
 
-pub each_front-whole : {A : Type 0} → (kind : Data → Option A) (d : Data) (n : ℕ) (found : List A) → Some n ≡ option_map length (list_of d) → each_front kind n d ≡ Some found → list_each kind d ≡ Some found
+each_front-whole : {A : Type 0} → (kind : Data → Option A) (d : Data) (n : ℕ) (found : List A) → Some n ≡ option_map length (list_of d) → each_front kind n d ≡ Some found → list_each kind d ≡ Some found
 unfolding list_each
 each_front-whole kind null n found e front = cc
 each_front-whole kind (boolean b) n found e front = cc
@@ -68,6 +79,11 @@ each_front-whole kind (number m) n found e front = cc
 each_front-whole kind (string s) n found e front = cc
 each_front-whole kind (array ds) n found e front = let whole : n ≡ length (items_list ds) = cc in rw (whole, take-whole (items_list ds)) at front
 each_front-whole kind (object ms) n found e front = cc
+
+-- every item was read
+pub each_front-read : {X : Type 0} → (seen_as : SeenAs X) (kind : Data → Option seen_as.Value) (d : Data) (n : ℕ) (found : List X) → Some n ≡ option_map length (list_of d) → each_front kind n d ≡ Some (map seen_as.item found) → list_each kind d ≡ Some (seen_as.list found)
+each_front-read seen_as kind d n found e front =
+    each_front-whole kind d n (map seen_as.item found) e front ∙ ap Some (seen_as.list_is found)
 
 each-refused : {A : Type 0} → (kind : Data → Option A) (ds : Items) (i : ℕ) (d : Data) → get_item i ds ≡ Some d → kind d ≡ None → each kind (items_list ds) ≡ None
 each-refused kind no_items i d here refused = cc
@@ -97,4 +113,4 @@ at_below (string s) i n h e gone = cc
 at_below (array ds) i n h e gone = let whole : n ≡ length (items_list ds) = cc in item_below ds i (rw (← whole) h) gone
 at_below (object ms) i n h e gone = cc
 
-pub ruleset elements = (list_each-no_list, each_front-zero, each_front-more, each_front-whole, list_each-refused, at_below)
+pub ruleset elements = (list_each-no_list, each_front-zero, each_front-pushed, each_front-read, list_each-refused, at_below)

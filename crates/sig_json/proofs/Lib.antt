@@ -3,6 +3,7 @@ pub mod Floatless
 pub mod Lists
 pub mod Numerals
 pub mod Elements
+pub mod Records
 pub mod Building
 pub mod CanonicalTexts
 pub mod SameTrees

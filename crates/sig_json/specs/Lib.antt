@@ -14,6 +14,7 @@ pub mod Order
 pub mod Props
 pub mod Reads
 pub mod Record
+pub mod SeenAs
 pub mod Spells
 pub mod Tree
 pub mod Writes

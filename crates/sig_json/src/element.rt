@@ -3,6 +3,7 @@ ghost use Rattle.std.specs.Prelude.{Option};
 ghost use Rattle.serde_json.specs.Data.{Data};
 ghost use Rattle.sig_json.specs.Member.{list_each, required, optional, optional_list, required_list};
 ghost use Rattle.sig_json.specs.Reads.{Reads};
+ghost use Rattle.sig_json.specs.SeenAs.{SeenAs, itself};
 ghost use Rattle.sig_json.specs.Tree.{tree};
 
 use crate::error::MemberError;
@@ -16,11 +17,15 @@ pub trait ElementReader {
     /// What a value of the kind is read as.
     type Item: Drop;
 
-    ghost meaning: { Data → Option Self.Item };
+    // How contracts see an item: as itself, unless the reader says otherwise.
+    ghost seen_as: { SeenAs Self.Item } = { itself };
+
+    // What contracts see of the item that a value is read as; none where the value is not of the kind.
+    ghost meaning: { Data → Option seen_as.Value };
 
     /// Reads a value. Refuses with `Member` exactly where it is not of the kind.
     fn read(alloc: Global, json: Json<'_>) -> Result<Self::Item, MemberError>
-        ensures { Reads (λ x. x) result (meaning (tree json.entry)) };
+        ensures { Reads seen_as.item result (meaning (tree json.entry)) };
 }
 
 /// Reads every element of a list. Refuses with `Member` where the value is no list or an element is not of the kind.
@@ -29,7 +34,7 @@ fn read_list<T: ElementReader>(
     alloc: Global,
     list: Json<'_>,
 ) -> Result<Register<T::Item>, MemberError>
-    ensures { Reads (λ x. x) result (list_each T.meaning (tree list.entry)) }
+    ensures { Reads T.seen_as.list result (list_each T.meaning (tree list.entry)) }
 {
     let Some(len) = list.list_len() else {
         return Err(MemberError::Member);
@@ -55,7 +60,7 @@ pub fn required<T: ElementReader>(
     json: Json<'_>,
     name: &str,
 ) -> Result<T::Item, MemberError>
-    ensures { Reads (λ x. x) result (required T.meaning name.now (tree json.entry)) }
+    ensures { Reads T.seen_as.item result (required T.meaning name.now (tree json.entry)) }
 {
     match find_member(json, name)? {
         Some(value) => T::read(alloc, value),
@@ -71,7 +76,7 @@ pub fn optional<T: ElementReader>(
     json: Json<'_>,
     name: &str,
 ) -> Result<Option<T::Item>, MemberError>
-    ensures { Reads (λ x. x) result (optional T.meaning name.now (tree json.entry)) }
+    ensures { Reads T.seen_as.option result (optional T.meaning name.now (tree json.entry)) }
 {
     match find_member(json, name)? {
         Some(value) => match T::read(alloc, value) {
@@ -90,7 +95,7 @@ pub fn required_list<T: ElementReader>(
     json: Json<'_>,
     name: &str,
 ) -> Result<Register<T::Item>, MemberError>
-    ensures { Reads (λ x. x) result (required_list T.meaning name.now (tree json.entry)) }
+    ensures { Reads T.seen_as.list result (required_list T.meaning name.now (tree json.entry)) }
 {
     match find_member(json, name)? {
         Some(value) => read_list::<T>(alloc, value),
@@ -106,7 +111,7 @@ pub fn optional_list<T: ElementReader>(
     json: Json<'_>,
     name: &str,
 ) -> Result<Register<T::Item>, MemberError>
-    ensures { Reads (λ x. x) result (optional_list T.meaning name.now (tree json.entry)) }
+    ensures { Reads T.seen_as.list result (optional_list T.meaning name.now (tree json.entry)) }
 {
     match find_member(json, name)? {
         Some(value) => read_list::<T>(alloc, value),

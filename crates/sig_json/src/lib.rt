@@ -6,6 +6,7 @@
 //! object of a document are different texts, whether it was read or built (`laws`).
 #![tactic(auto)]
 
+mod any;
 mod build;
 mod canonical_form;
 mod change;
@@ -25,6 +26,7 @@ mod record;
 mod tests;
 mod view;
 
+pub use any::AnyReader;
 pub use canonical_form::{canonical, quoted};
 pub use compact_form::compact;
 pub use document::Document;

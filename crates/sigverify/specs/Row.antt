@@ -1,5 +1,5 @@
 -- A row of `accepted`: one signature that is taken for genuine.
-use Rattle.std.specs.Prelude.{ℕ, List, [], codes, Option, Some, None, if◌then◌else◌}
+use Rattle.std.specs.Prelude.{ℕ, List, [], codes, Option, Some, None, if◌then◌else◌, ⊤}
 use Rattle.std.specs.Str.{bytes_eq}
 use Rattle.sig_json.specs.Data.{Data}
 use Rattle.sig_base.specs.declared.checker.AcceptedRow.{AcceptedRow}
@@ -27,7 +27,7 @@ unfoldable pub scheme_kind : Data → Option SigningScheme
 scheme_kind d = text_of d >>= scheme_named
 
 -- no value: a member that has to be absent or null is an optional one of this kind
-abbrev pub no_kind : Data → Option (List ℕ)
+abbrev pub no_kind : Data → Option ⊤
 no_kind d = None
 
 -- the scheme of a row: a scheme's name for a message and a digest, nothing for a point, and an algorithm element for a certificate

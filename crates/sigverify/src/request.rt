@@ -1,14 +1,12 @@
 //! `LogRequest`: the request of `log`.
 ghost use Rattle.std.specs.Prelude.{IfOk};
-ghost use Rattle.sig_json.specs.Reads.{Reads};
-ghost use Rattle.sig_json.specs.Tree.{tree};
 
 use crate::read::MOST_BYTES;
-use crate::row::{NoReader, RowReader, SchemeReader};
+use crate::row::{AbsentReader, RowReader, SchemeReader};
 use sig_base::{Bytes, Hashes, OutOfMemory, SigningScheme, TableChecker, Text};
 use sig_json::{
-    Document, DocumentError, HashReader, Json, MemberError, optional, optional_list, required,
-    required_bytes, required_hash, required_i64, required_text, required_u64,
+    ElementReader, HashReader, Json, JsonError, MemberError, optional, optional_list, read_record,
+    required, required_bytes, required_hash, required_i64, required_text, required_u64,
 };
 use std::alloc::Global;
 
@@ -35,35 +33,18 @@ pub struct LogRequest {
     pub accepted: TableChecker,
 }
 
-impl LogRequest {
-    ghost use Rattle.sigverify.specs.Request.{IsReadFrom, log_request};
+/// Reads requests of `log`.
+enum LogRequestReader {}
 
-    /// The request that a text is; none exactly where the text has more than 2^24 bytes, is no JSON document without floats, or has not the members
-    /// of a request. Refuses for want of memory alone.
-    #[tactic(auto, using(crate::proofs::Requests::unread))]
-    pub fn read(alloc: Global, text: &[u8]) -> Result<Option<LogRequest>, OutOfMemory>
-        ensures { IfOk result (IsReadFrom text.now) }
-    {
-        if text.len() > MOST_BYTES {
-            return Ok(None);
-        }
-        let document = match Document::read(alloc, text) {
-            Ok(document) => document,
-            Err(DocumentError::NotJson | DocumentError::Float) => return Ok(None),
-            Err(DocumentError::OutOfMemory) => return Err(OutOfMemory),
-        };
-        match LogRequest::of(alloc, document.view()) {
-            Ok(request) => Ok(Some(request)),
-            Err(MemberError::Member) => Ok(None),
-            Err(MemberError::OutOfMemory) => Err(OutOfMemory),
-        }
-    }
+impl ElementReader for LogRequestReader {
+    ghost use Rattle.sigverify.specs.Request.{log_request};
 
-    /// The request of these members. Refuses with `Member` where a member breaks its row of the table.
+    type Item = LogRequest;
+
+    ghost meaning = { log_request };
+
     #[tactic(auto, unfolding(crate::specs::Request::log_request))]
-    fn of(alloc: Global, json: Json<'_>) -> Result<LogRequest, MemberError>
-        ensures { Reads (λ x. x) result (log_request (tree json.entry)) }
-    {
+    fn read(alloc: Global, json: Json<'_>) -> Result<LogRequest, MemberError> {
         let entry = required_bytes(alloc, json, "entry")?;
         let log_index = required_i64(json, "logIndex")?;
         let tree_size = required_u64(json, "treeSize")?;
@@ -73,7 +54,7 @@ impl LogRequest {
         let scheme = required::<SchemeReader>(alloc, json, "scheme")?;
         let key = required_bytes(alloc, json, "key")?;
         let accepted = optional_list::<RowReader>(alloc, json, "accepted")?;
-        let _ = optional::<NoReader>(alloc, json, "entries")?;
+        let _ = optional::<AbsentReader>(alloc, json, "entries")?;
         Ok(LogRequest {
             entry,
             log_index,
@@ -85,5 +66,25 @@ impl LogRequest {
             key,
             accepted: TableChecker::from(accepted),
         })
+    }
+}
+
+impl LogRequest {
+    ghost use Rattle.sigverify.specs.Request.{IsReadFrom};
+
+    /// The request that a text is; none exactly where the text has more than 2^24 bytes, is no JSON document without floats, or has not the members
+    /// of a request. Refuses for want of memory alone.
+    #[tactic(auto, using(crate::proofs::Requests::unread))]
+    pub fn read(alloc: Global, text: &[u8]) -> Result<Option<LogRequest>, OutOfMemory>
+        ensures { IfOk result (IsReadFrom text.now) }
+    {
+        if text.len() > MOST_BYTES {
+            return Ok(None);
+        }
+        match read_record::<LogRequestReader>(alloc, text) {
+            Ok(request) => Ok(Some(request)),
+            Err(JsonError::NotJson | JsonError::Float | JsonError::Member) => Ok(None),
+            Err(JsonError::OutOfMemory) => Err(OutOfMemory),
+        }
     }
 }

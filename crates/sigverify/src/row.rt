@@ -49,15 +49,15 @@ impl ElementReader for OperationReader {
     }
 }
 
-/// Reads nothing: a member that has to be absent or null is an optional one of this kind.
-pub enum NoReader {}
+/// Reads no value: a member that has to be absent or null is an optional one of this kind.
+pub enum AbsentReader {}
 
-impl ElementReader for NoReader {
-    type Item = Bytes;
+impl ElementReader for AbsentReader {
+    type Item = ();
 
     ghost meaning = { no_kind };
 
-    fn read(_alloc: Global, _json: Json<'_>) -> Result<Bytes, MemberError> {
+    fn read(_alloc: Global, _json: Json<'_>) -> Result<(), MemberError> {
         Err(MemberError::Member)
     }
 }
@@ -93,7 +93,7 @@ fn read_scheme(alloc: Global, json: Json<'_>, operation: Operation) -> Result<By
             Ok(Bytes::copy_of(alloc, scheme.scheme().name().as_bytes())?)
         }
         Operation::Point => {
-            let _ = optional::<NoReader>(alloc, json, "scheme")?;
+            let _ = optional::<AbsentReader>(alloc, json, "scheme")?;
             Ok(Bytes::copy_of(alloc, &[])?)
         }
         Operation::Certificate => required_bytes(alloc, json, "scheme"),
