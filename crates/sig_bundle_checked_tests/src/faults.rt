@@ -3,18 +3,28 @@
 use crate::answer::answer;
 use crate::entries::entries;
 use crate::statement::statement;
-use sig_base::{Bytes, Text};
+use sig_base::{Bytes, Entries, Text};
 use sig_bundle::{
-    Bundle, Content, DsseEnvelope, DsseSignature, MaterialContent, VerificationMaterial,
+    Bundle, Content, DsseEnvelope, DsseSignature, DsseSignatures, MaterialContent,
+    MessageSignature, VerificationMaterial,
 };
 use sig_bundle_fixture::{BundleParts, payload_of};
 use sig_fixture::CertificateParts;
 use std::alloc::Global;
 
+/// A chain of the fixture's certificate alone.
+fn chain(alloc: Global) -> Option<Entries> {
+    let parts = BundleParts::new(alloc).ok()?;
+    let mut certificates = Entries::new(alloc);
+    certificates.push(parts.leaf.as_slice()).ok()?;
+    Some(certificates)
+}
+
 /// The material that says by this name whose signature it is.
 fn signer(alloc: Global, name: &str) -> Option<MaterialContent> {
     match name {
         "key" => Some(MaterialContent::PublicKey),
+        "chain" => Some(MaterialContent::X509CertificateChain(chain(alloc)?)),
         "no-certificate" => {
             let bytes = Bytes::copy_of(alloc, &[0x30, 0x00]).ok()?;
             Some(MaterialContent::Certificate(bytes))
@@ -35,6 +45,7 @@ fn spoil_material(
     name: &str,
 ) -> Option<()> {
     match part {
+        "signer" if name == "none" => material.content = None,
         "signer" => material.content = Some(signer(alloc, name)?),
         _ => material.tlog_entries = entries(alloc, name)?,
     }
@@ -66,13 +77,21 @@ fn spoil_envelope(
     part: &str,
     name: &str,
 ) -> Option<()> {
-    match part {
-        "signatures" => add_signature(alloc, envelope),
-        _ => {
-            envelope.payload = payload(alloc, name)?;
-            Some(())
-        }
+    match (part, name) {
+        ("signatures", "none") => envelope.signatures = DsseSignatures::new(alloc),
+        ("signatures", "two") => add_signature(alloc, envelope)?,
+        ("payload", _) => envelope.payload = payload(alloc, name)?,
+        _ => return None,
     }
+    Some(())
+}
+
+/// A signature over an artifact itself.
+fn message(alloc: Global) -> Option<Content> {
+    Some(Content::MessageSignature(MessageSignature {
+        signature: Bytes::copy_of(alloc, b"sig-msg").ok()?,
+        message_digest: None,
+    }))
 }
 
 /// Puts a fault `PART:NAME` into the bundle.
@@ -99,6 +118,7 @@ fn spoil(alloc: Global, bundle: &mut Bundle, fault: &str) -> Option<()> {
     match fault {
         "no-material" => bundle.verification_material = None,
         "no-content" => bundle.content = None,
+        "content:message" => bundle.content = Some(message(alloc)?),
         _ => {
             let (part, name) = fault.split_once(':')?;
             spoil_part(alloc, bundle, part, name)?;

@@ -13,6 +13,8 @@ mod order_tests;
 #[cfg(test)]
 mod profile_tests;
 #[cfg(test)]
+mod refusal_tests;
+#[cfg(test)]
 mod statement;
 #[cfg(test)]
 mod subject_tests;

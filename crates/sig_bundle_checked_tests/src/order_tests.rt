@@ -9,6 +9,8 @@ no-material media:application/json => VerificationMaterialMissing
 signer:key no-content => VerificationMaterialContentUnsupported
 signer:key signatures:two => VerificationMaterialContentUnsupported
 signer:key entries:none => VerificationMaterialContentUnsupported
+signer:none no-content => VerificationMaterialContentUnsupported
+signer:chain content:message => VerificationMaterialContentUnsupported
 signer:no-certificate no-content => CertificateMalformed(0)
 signer:no-certificate payload:zz => CertificateMalformed(0)
 signer:no-certificate entries:no-proof => CertificateMalformed(0)
@@ -19,6 +21,8 @@ signer:authority media:application/json => NoLeaf(NotLeaf(IsCA))"#;
 /// The same, of what is signed and of log entries.
 const LATER_FAULTS: &str = r#"no-content entries:none => SignatureMissing
 no-content media:application/json => SignatureMissing
+content:message entries:none => SignatureMissing
+signatures:none payload:no-statement => DsseInvalidSignatureCount(0)
 signatures:two payload:no-statement => DsseInvalidSignatureCount(2)
 signatures:two payload:zz => DsseInvalidSignatureCount(2)
 signatures:two entries:none => DsseInvalidSignatureCount(2)

@@ -1,14 +1,16 @@
 //! `BundleParts`: what a bundle is made of (Sigstore bundle format).
 
-ghost use Rattle.std.specs.Prelude.{◌≡◌, IfOk};
+ghost use Rattle.std.specs.Prelude.{◌≡◌, [], ◌∷◌, Some, map, IfOk};
+ghost use Rattle.sig_bundle.specs.declared.material.MaterialContent.TheVariants.{Certificate};
+ghost use Rattle.sig_bundle_fixture.specs.Parts.{signer_of, entries_of, payload_in, signatures_in};
 
 use crate::body::body_of;
 use crate::log::proof_of_third;
 use crate::statement::{DIGEST, PAYLOAD_TYPE, payload_of};
 use sig_base::{Bytes, OutOfMemory, Text};
 use sig_bundle::{
-    Bundle, Content, DsseEnvelope, DsseSignature, DsseSignatures, KindVersion, LogEntries,
-    MaterialContent, TransparencyLogEntry, VerificationMaterial,
+    Bundle, Content, DsseEnvelope, DsseSignature, DsseSignatures, LogEntries, MaterialContent,
+    TransparencyLogEntry, VerificationMaterial,
 };
 use sig_der::DerWriteError;
 use sig_fixture::{CertificateParts, LeafExtensions, TimestampParts, timestamp_list};
@@ -57,7 +59,8 @@ impl BundleParts {
 
     /// The envelope: the payload, its type, and one signature without a hint at its key. Refuses for want of memory alone.
     pub fn envelope(&self, alloc: Global) -> Result<DsseEnvelope, OutOfMemory>
-        ensures { IfOk result (λ e. e.payload ≡ self.now.payload) }
+        ensures payload { IfOk result (λ e. e.payload ≡ self.now.payload) }
+        ensures signature { IfOk result (λ e. map (λ s. s.sig) e.signatures ≡ self.now.signature ∷ []) }
     {
         let mut signatures = DsseSignatures::new(alloc);
         signatures.push(DsseSignature {
@@ -73,7 +76,9 @@ impl BundleParts {
 
     /// The log entry of the envelope and the leaf, with the proof that it is the third of five. Refuses for want of memory alone.
     pub fn entry(&self, alloc: Global) -> Result<TransparencyLogEntry, OutOfMemory>
-        ensures { IfOk result (λ e. e.integrated_time ≡ self.now.integrated_time) }
+        ensures log_index { IfOk result (λ e. e.log_index ≡ self.now.log_index) }
+        ensures integrated_time { IfOk result (λ e. e.integrated_time ≡ self.now.integrated_time) }
+        ensures promise { IfOk result (λ e. e.inclusion_promise ≡ Some self.now.promise) }
     {
         let envelope = self.envelope(alloc)?;
         let body = body_of(
@@ -85,10 +90,7 @@ impl BundleParts {
         Ok(TransparencyLogEntry {
             log_index: self.log_index,
             log_id: Some(Bytes::copy_of(alloc, &[0x44; 32])?),
-            kind_version: Some(KindVersion {
-                kind: Text::copy_of(alloc, "dsse")?,
-                version: Text::copy_of(alloc, "0.0.1")?,
-            }),
+            kind_version: None,
             integrated_time: self.integrated_time,
             inclusion_promise: Some(self.promise.copy(alloc)?),
             inclusion_proof: Some(proof_of_third(alloc, body.as_slice())?),
@@ -98,7 +100,15 @@ impl BundleParts {
 
     /// The bundle: the media type, the leaf alone, the one log entry, and the envelope. Refuses for want of memory alone.
     pub fn bundle(&self, alloc: Global) -> Result<Bundle, OutOfMemory>
-        ensures { IfOk result (λ b. b.media_type ≡ self.now.media_type) }
+        ensures media_type { IfOk result (λ b. b.media_type ≡ self.now.media_type) }
+        ensures signer { IfOk result (λ b. signer_of b.verification_material ≡ Some (Certificate self.now.leaf)) }
+        ensures payload { IfOk result (λ b. payload_in b.content ≡ Some self.now.payload) }
+        ensures signature { IfOk result (λ b. signatures_in b.content ≡ self.now.signature ∷ []) }
+        ensures log_index { IfOk result (λ b. map (λ e. e.log_index) (entries_of b.verification_material) ≡ self.now.log_index ∷ []) }
+        ensures integrated_time { IfOk result (λ b.
+            map (λ e. e.integrated_time) (entries_of b.verification_material) ≡ self.now.integrated_time ∷ []) }
+        ensures promise { IfOk result (λ b.
+            map (λ e. e.inclusion_promise) (entries_of b.verification_material) ≡ Some self.now.promise ∷ []) }
     {
         let mut tlog_entries = LogEntries::new(alloc);
         tlog_entries.push(self.entry(alloc)?)?;

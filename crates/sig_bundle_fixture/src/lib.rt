@@ -3,7 +3,7 @@
 //!
 //! The bundle holds a signed in-toto statement about artifacts, the leaf of sig_fixture, and the entry of a log of five entries with its
 //! inclusion proof and checkpoint. Nothing is signed: a signature is any few bytes. The layer above uses one fact: the parts that a test gives
-//! stand in the bundle as they are given.
+//! stand in the bundle as they are given. That the log entry's body and its proof are those of the envelope is only tested.
 #![tactic(auto)]
 
 mod body;

@@ -1,5 +1,4 @@
-//! The fixture's bundle, read back, checked, and refused for each of its parts.
+//! The fixture's bundle, read back and checked, and refused where its payload is changed.
 
 mod checked;
-mod refused;
 mod written;

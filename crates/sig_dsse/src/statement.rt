@@ -1,4 +1,7 @@
 //! `InTotoStatementV1`: what a payload says of its subjects (in-toto attestation framework, "Statement layer specification v1").
+ghost use Rattle.std.specs.Prelude.{◌≡◌};
+ghost use Rattle.sig_base.specs.declared.error.SigstoreError.TheVariants.{UnexpectedError};
+
 use crate::subject_digests::SubjectDigests;
 use sig_base::{Register, Result, SigstoreError, Text, TextMap, UnexpectedKind};
 use sig_json::Document;
@@ -37,6 +40,13 @@ const STATEMENT_V1: &str = "https://in-toto.io/Statement/v1";
 /// The predicate of a signature by `cosign`.
 const COSIGN_SIGN_V1: &str = "https://sigstore.dev/cosign/sign/v1";
 
+/// The refusal of a statement that is not of the form that is wanted.
+fn unexpected(kind: UnexpectedKind) -> SigstoreError
+    ensures { result ≡ UnexpectedError kind }
+{
+    SigstoreError::UnexpectedError(kind)
+}
+
 impl InTotoStatementV1 {
     ghost use Rattle.std.specs.Prelude.{◌≡◌, map};
     ghost use Rattle.sig_base.specs.Answers.{Answers};
@@ -51,16 +61,16 @@ impl InTotoStatementV1 {
         ensures { result ≡ unless_fault (cosign_fault (seen self.now)) }
     {
         if self.statement_type.as_str() != STATEMENT_V1 {
-            return Err(SigstoreError::UnexpectedError(UnexpectedKind::StatementType));
+            return Err(unexpected(UnexpectedKind::StatementType));
         }
         if self.predicate_type.as_str() != COSIGN_SIGN_V1 {
-            return Err(SigstoreError::UnexpectedError(UnexpectedKind::PredicateType));
+            return Err(unexpected(UnexpectedKind::PredicateType));
         }
         match self.subject.as_slice().first() {
-            None => Err(SigstoreError::UnexpectedError(UnexpectedKind::NoSubjects)),
-            Some(first) if first.digest.get("sha256").is_none() => Err(
-                SigstoreError::UnexpectedError(UnexpectedKind::FirstSubjectWithoutSha256),
-            ),
+            None => Err(unexpected(UnexpectedKind::NoSubjects)),
+            Some(first) if first.digest.get("sha256").is_none() => {
+                Err(unexpected(UnexpectedKind::FirstSubjectWithoutSha256))
+            }
             Some(_) => Ok(()),
         }
     }
@@ -80,12 +90,10 @@ impl InTotoStatementV1 {
     pub fn subject_sha256_digest(&self, alloc: Global) -> Result<Text>
         ensures { Answers SigstoreError.OutOfMemory (λ text. text) result (sha256_or_fault (seen self.now)) }
     {
-        let Some(first) = self.subject.as_slice().first() else {
-            return Err(SigstoreError::UnexpectedError(UnexpectedKind::FirstSubjectWithoutSha256));
-        };
-        match first.digest.get("sha256") {
+        let first = self.subject.as_slice().first();
+        match first.and_then(|first| first.digest.get("sha256")) {
             Some(digest) => Ok(Text::copy_of(alloc, digest)?),
-            None => Err(SigstoreError::UnexpectedError(UnexpectedKind::FirstSubjectWithoutSha256)),
+            None => Err(unexpected(UnexpectedKind::FirstSubjectWithoutSha256)),
         }
     }
 }

@@ -1,10 +1,11 @@
 //! Outside vectors: encodings and envelopes by text, which payloads are statements, and which digests are taken.
 use crate::{
-    ArtifactDigest, DsseEnvelope, DsseSignature, DsseSignatures, InTotoStatementV1, Subject,
-    SubjectFault, Subjects, compute_pae, envelope_json, recognized_digests,
+    ArtifactDigest, DigestName, DsseEnvelope, DsseSignature, DsseSignatures, InTotoStatementV1,
+    Subject, SubjectFault, Subjects, compute_pae, envelope_json, recognized_digests,
 };
 use sha2::{Digest, Sha256, Sha512};
 use sig_base::{Bytes, OutOfMemory, SigstoreError, Text, TextMap, UnexpectedKind};
+use sig_json::{Document, compact};
 use std::alloc::Global;
 use std::test::Fail;
 
@@ -12,27 +13,32 @@ use std::test::Fail;
 const STATEMENT: &str =
     r#"{"_type":"https://in-toto.io/Statement/v1","subject":[{"name":"a","digest":{"sha256":"aaaaaaaaaaaaaaaaaaaaaaaaaaaaaaaaaaaaaaaaaaaaaaaaaaaaaaaaaaaaaaaa"}},{"name":"b","digest":{}},{"name":"c","digest":{"sha512":"bbbbbbbbbbbbbbbbbbbbbbbbbbbbbbbbbbbbbbbbbbbbbbbbbbbbbbbbbbbbbbbbbbbbbbbbbbbbbbbbbbbbbbbbbbbbbbbbbbbbbbbbbbbbbbbbbbbbbbbbbbbbbbbb"}},{"name":"a","digest":{"sha256":"aaaaaaaaaaaaaaaaaaaaaaaaaaaaaaaaaaaaaaaaaaaaaaaaaaaaaaaaaaaaaaaa"}}],"predicateType":"https://sigstore.dev/cosign/sign/v1","predicate":{}}"#;
 
-/// Each line: whether the text after the first space is a statement.
-const STATEMENTS: &str = r#"read {"_type":"t","subject":[],"predicateType":"p"}
-read {"_type":"t","subject":[{"digest":{}}],"predicateType":"p","predicate":null,"other":1}
-read {"_type":"","subject":[{"name":null,"digest":{"a":"b"},"annotations":[1]}],"predicateType":"","predicate":[]}
-refused {"subject":[],"predicateType":"p"}
-refused {"_type":"t","predicateType":"p"}
-refused {"_type":"t","subject":[]}
-refused {"_type":1,"subject":[],"predicateType":"p"}
-refused {"_type":"t","subject":{},"predicateType":"p"}
-refused {"_type":"t","subject":null,"predicateType":"p"}
-refused {"_type":"t","subject":[],"predicateType":null}
-refused {"_type":"t","subject":[null],"predicateType":"p"}
-refused {"_type":"t","subject":[{}],"predicateType":"p"}
-refused {"_type":"t","subject":[{"digest":null}],"predicateType":"p"}
-refused {"_type":"t","subject":[{"digest":[]}],"predicateType":"p"}
-refused {"_type":"t","subject":[{"digest":{"a":null}}],"predicateType":"p"}
-refused {"_type":"t","subject":[{"digest":{"a":1}}],"predicateType":"p"}
-refused {"_type":"t","subject":[{"name":1,"digest":{}}],"predicateType":"p"}
-refused {"_type":"t","subject":[],"predicateType":"p","predicate":1.5}
-refused []
-refused {"#;
+/// Each line: a payload, and the statement that it is: its two types, its predicate, and for each subject the name, the digests and the annotations;
+/// `-` stands for what is absent.
+const STATEMENTS: &str = r#"{"_type":"t","subject":[],"predicateType":"p"} => "t" "p" -
+{"_type":"t","subject":[{"digest":{}}],"predicateType":"p","predicate":null,"other":1} => "t" "p" - | - -
+{"_type":"","subject":[{"name":null,"digest":{"a":"b"},"annotations":[1]}],"predicateType":"","predicate":[]} => "" "" [] | - a="b" [1]
+{"predicate":{"z":-1,"a":{}},"predicateType":"p","subject":[{"annotations":null,"digest":{"sha512":"B","sha256":"a"},"name":"n"}],"_type":"t"} => "t" "p" {"a":{},"z":-1} | "n" sha256="a" sha512="B" -
+{"_type":"t","subject":[{"name":"b","digest":{"x":""}},{"name":"","digest":{"y":"1","y":"2"},"annotations":{}}],"predicateType":"p","predicate":false} => "t" "p" false | "b" x="" - | "" y="2" {}"#;
+
+/// Each line: a payload that is no statement.
+const REFUSED: &str = r#"{"subject":[],"predicateType":"p"}
+{"_type":"t","predicateType":"p"}
+{"_type":"t","subject":[]}
+{"_type":1,"subject":[],"predicateType":"p"}
+{"_type":"t","subject":{},"predicateType":"p"}
+{"_type":"t","subject":null,"predicateType":"p"}
+{"_type":"t","subject":[],"predicateType":null}
+{"_type":"t","subject":[null],"predicateType":"p"}
+{"_type":"t","subject":[{}],"predicateType":"p"}
+{"_type":"t","subject":[{"digest":null}],"predicateType":"p"}
+{"_type":"t","subject":[{"digest":[]}],"predicateType":"p"}
+{"_type":"t","subject":[{"digest":{"a":null}}],"predicateType":"p"}
+{"_type":"t","subject":[{"digest":{"a":1}}],"predicateType":"p"}
+{"_type":"t","subject":[{"name":1,"digest":{}}],"predicateType":"p"}
+{"_type":"t","subject":[],"predicateType":"p","predicate":1.5}
+[]
+{"#;
 
 /// Each line: what the call that checks for `cosign` answers.
 const COSIGN: &str =
@@ -77,13 +83,67 @@ fn is_written(alloc: Global, envelope: &DsseEnvelope, text: &str) -> bool {
     }
 }
 
-/// Whether a payload is a statement; none where the call answers otherwise.
-fn is_statement(alloc: Global, payload: &str) -> Option<bool> {
-    match InTotoStatementV1::from_json(alloc, payload.as_bytes()) {
-        Ok(_) => Some(true),
-        Err(SigstoreError::UnexpectedError(UnexpectedKind::Statement)) => Some(false),
-        Err(_) => None,
+/// What a document is, or `-` for none.
+fn document_text(alloc: Global, document: &Option<Document>) -> Result<Text, OutOfMemory> {
+    match document {
+        Some(document) => compact(alloc, document.view()),
+        None => Text::copy_of(alloc, "-"),
     }
+}
+
+/// What a subject is called, or `-` for no name.
+fn name_text(alloc: Global, name: &Option<Text>) -> Result<Text, OutOfMemory> {
+    match name {
+        Some(name) => Ok(Text::from(format!(in alloc; "{name:?}")?)),
+        None => Text::copy_of(alloc, "-"),
+    }
+}
+
+/// A subject's name, its digests and its annotations.
+fn subject_text(alloc: Global, subject: &Subject) -> Result<String, OutOfMemory> {
+    let name = name_text(alloc, &subject.name)?;
+    let mut text = String::from_str(alloc, name.as_str())?;
+    for (algorithm, digest) in subject.digest.iter() {
+        let entry = format!(in alloc; " {algorithm}={digest:?}")?;
+        text.push_str(entry.as_str())?;
+    }
+    let annotations = document_text(alloc, &subject.annotations)?;
+    text.push_str(" ")?;
+    text.push_str(annotations.as_str())?;
+    Ok(text)
+}
+
+/// All that a statement says.
+fn statement_text(alloc: Global, statement: &InTotoStatementV1) -> Result<String, OutOfMemory> {
+    let predicate = document_text(alloc, &statement.predicate)?;
+    let mut text = format!(in alloc;
+        "{:?} {:?} {}",
+        statement.statement_type,
+        statement.predicate_type,
+        predicate.as_str()
+    )?;
+    for subject in statement.subject.as_slice() {
+        let subject = subject_text(alloc, subject)?;
+        text.push_str(" | ")?;
+        text.push_str(subject.as_str())?;
+    }
+    Ok(text)
+}
+
+/// Whether the payload before ` => ` is the statement behind it.
+fn is_statement(alloc: Global, line: &str) -> Option<bool> {
+    let (payload, wanted) = line.split_once(" => ")?;
+    let statement = InTotoStatementV1::from_json(alloc, payload.as_bytes()).ok()?;
+    let text = statement_text(alloc, &statement).ok()?;
+    Some(text.as_str() == wanted)
+}
+
+/// Whether a payload is refused as no statement.
+fn is_no_statement(alloc: Global, payload: &str) -> bool {
+    matches!(
+        InTotoStatementV1::from_json(alloc, payload.as_bytes()),
+        Err(SigstoreError::UnexpectedError(UnexpectedKind::Statement))
+    )
 }
 
 /// The kinds that the check for `cosign` answers, by their names.
@@ -160,6 +220,14 @@ fn is_fault(alloc: Global, subjects: u16, digests: u16, fault: SubjectFault) -> 
     }
 }
 
+/// Whether the fault's text is this one.
+fn displays(alloc: Global, fault: SubjectFault, name: &str) -> bool {
+    match fault.to_string(alloc) {
+        Ok(text) => text.as_str() == name,
+        Err(_) => false,
+    }
+}
+
 #[test]
 fn encodings_of_the_protocol(rt: HostRuntime) -> Result<(), Fail> {
     let alloc = rt.alloc();
@@ -209,23 +277,40 @@ fn digests_of_artifacts(rt: HostRuntime) -> Result<(), Fail> {
         short.to_hex(alloc)?.as_str()
             == "ba7816bf8f01cfea414140de5dae2223b00361a396177a9cb410ff61f20015ad"
     );
-    let long = ArtifactDigest::from_sha512(Sha512::new());
+    let mut hasher = Sha512::new();
+    hasher.update(b"abc");
+    let long = ArtifactDigest::from_sha512(hasher);
     assert!(rt; long.algorithm() == "sha512");
-    assert!(rt; long.to_hex(alloc)?.as_str().starts_with("cf83e1357eefb8bd"));
+    assert!(rt;
+        long.to_hex(alloc)?.as_str()
+            == "ddaf35a193617abacc417349ae20413112e6fa4e89a97ea20a9eeee64b55d39a2192992a274fc1a836ba3c23a3feebbd454d4423643ce80e2a9ac94fa54ca49f"
+    );
     assert!(rt; long != ArtifactDigest::from([0; 64]));
-    assert!(rt; ArtifactDigest::from([7; 32]) == ArtifactDigest::Sha256([7; 32]));
+    Ok(())
+}
+
+#[test]
+fn digests_of_bytes(rt: HostRuntime) -> Result<(), Fail> {
+    let short = ArtifactDigest::from([7; 32]);
+    let long = ArtifactDigest::from([8; 64]);
+    assert!(rt; short == ArtifactDigest::Sha256([7; 32]));
+    assert!(rt; long == ArtifactDigest::Sha512([8; 64]));
+    assert!(rt; short.as_bytes() == [7; 32].as_slice());
+    assert!(rt; long.as_bytes() == [8; 64].as_slice());
     Ok(())
 }
 
 #[test]
 fn payloads_that_are_statements(rt: HostRuntime) {
     for line in STATEMENTS.lines() {
-        if let Some((word, payload)) = line.split_once(' ') {
-            assert!(rt;
-                is_statement(rt.alloc(), payload) == Some(word == "read"),
-                "{line}"
-            );
-        }
+        assert!(rt; is_statement(rt.alloc(), line) == Some(true), "{line}");
+    }
+}
+
+#[test]
+fn payloads_that_are_no_statements(rt: HostRuntime) {
+    for payload in REFUSED.lines() {
+        assert!(rt; is_no_statement(rt.alloc(), payload), "{payload}");
     }
 }
 
@@ -244,7 +329,9 @@ fn digests_of_a_statement(rt: HostRuntime) -> Result<(), Fail> {
     let alloc = rt.alloc();
     let statement = InTotoStatementV1::from_json(alloc, STATEMENT.as_bytes())?;
     let first = statement.subject_sha256_digest(alloc)?;
-    assert!(rt; first.as_str().starts_with("aaaa"));
+    assert!(rt;
+        first.as_str() == "aaaaaaaaaaaaaaaaaaaaaaaaaaaaaaaaaaaaaaaaaaaaaaaaaaaaaaaaaaaaaaaa"
+    );
     let mut walk = statement.subject_digests();
     assert!(rt; walk.next().is_some_and(|digest| digest.len() == 1));
     assert!(rt; walk.next().is_some_and(|digest| digest.len() == 0));
@@ -252,6 +339,7 @@ fn digests_of_a_statement(rt: HostRuntime) -> Result<(), Fail> {
     assert!(rt; digests.len() == 3);
     assert!(rt; digests.get(0) == Some(&ArtifactDigest::Sha256([0xaa; 32])));
     assert!(rt; digests.get(1) == Some(&ArtifactDigest::Sha512([0xbb; 64])));
+    assert!(rt; digests.get(2) == Some(&ArtifactDigest::Sha256([0xaa; 32])));
     Ok(())
 }
 
@@ -271,4 +359,27 @@ fn subjects_and_digests_that_are_too_many(rt: HostRuntime) {
     assert!(rt; is_fault(alloc, 1024, 0, SubjectFault::NoneRecognized));
     assert!(rt; is_fault(alloc, 1, 33, SubjectFault::TooManyDigests(33)));
     assert!(rt; is_fault(alloc, 1, 32, SubjectFault::NoneRecognized));
+}
+
+#[test]
+fn faults_show_their_variants_name(rt: HostRuntime) {
+    let alloc = rt.alloc();
+    assert!(rt;
+        displays(
+            alloc,
+            SubjectFault::TooManySubjects(1025),
+            "TooManySubjects"
+        )
+    );
+    assert!(rt; displays(alloc, SubjectFault::TooManyDigests(33), "TooManyDigests"));
+    assert!(rt;
+        displays(
+            alloc,
+            SubjectFault::Malformed(DigestName::Sha512),
+            "Malformed"
+        )
+    );
+    assert!(rt; displays(alloc, SubjectFault::NoneRecognized, "NoneRecognized"));
+    assert!(rt; displays(alloc, SubjectFault::OutOfMemory, "OutOfMemory"));
+    assert!(rt; displays(alloc, SubjectFault::from(OutOfMemory), "OutOfMemory"));
 }

@@ -15,8 +15,8 @@ signature|279dbf6fa43427c804d09fe6c04c4a1a47a25675566805788680ac02d3337394
 promise|ae66e225ba516f9c7cc4f3b75f380123d5fc70ad56cc3f3cf0daa2ade9c5c567
 note-key|eaeaeed6009e1ad80d39b368196c81ea5bc6767bda9c6146f4c5fc2419e61072
 trusted root|6d27afa4fc192205b4fec350e354d57bd4c0807721ab5394f96d98451f47b6a6
-bundle|04485897081e3c5340b3d1fe04b153795a025ece12e20906a654b337aeee1509
-request|5140338e3caa651cc4c07c79a4343970e1c9d5b849941fff5e0f82f0cf80211f";
+bundle|02861bb1e6d75204898582c1df39dc6edeb464ac1c26dfc0253c567c2daf4636
+request|19c9619d502927c214ceaa51efeb21a0f89b8215fceb1810eba3c266da77264c";
 
 /// The message of the row at this place.
 fn message(alloc: Global, parts: &RequestParts, place: usize) -> Option<Bytes> {
