@@ -1,6 +1,7 @@
 -- What a source gives over several reads.
-use Rattle.std.proofs.Common.{ℕ, List, [], ◌++◌, Option, None, Some, ◌∙◌, refl, ap, append_assoc, sym}
-use Rattle.std.specs.Io.KnownBytes.{Consumes}
+use Rattle.std.proofs.Common.{ℕ, ◌≤◌, List, [], ◌++◌, length, Option, None, Some, ◌∙◌, refl, ap, append_assoc, sym}
+use Rattle.std.specs.Io.KnownBytes.{Consumes, Keeps}
+use Rattle.sigverify.specs.Limit.{TookAtMost}
 
 -- no byte is taken at first
 pub Consumes-none : (left : Option (List ℕ)) → Consumes left left []
@@ -15,4 +16,15 @@ Consumes-more (Some first) (Some second) None xs ys p q = elim q [ ]
 Consumes-more (Some first) (Some second) (Some third) xs ys p q =
     p ∙ ap (λ t. xs ++ t) q ∙ sym (append_assoc xs ys third)
 
-pub ruleset turns = (Consumes-none, Consumes-more)
+-- a read that failed takes nothing
+pub Consumes-kept : (a b c : Option (List ℕ)) (xs : List ℕ) → Consumes a b xs → Keeps b c → Consumes a c xs
+Consumes-kept None b c xs p kept = tt
+Consumes-kept (Some first) None c xs p kept = elim p [ ]
+Consumes-kept (Some first) (Some second) None xs p kept = elim kept [ ]
+Consumes-kept (Some first) (Some second) (Some third) xs p kept = p ∙ ap (λ t. xs ++ t) (sym kept)
+
+-- so many bytes were taken at most, those that the reads before gave
+pub TookAtMost-of : (n : ℕ) (a c : Option (List ℕ)) (xs : List ℕ) → Consumes a c xs → length xs ≤ n → TookAtMost n a c
+TookAtMost-of n a c xs taken few = (xs, (taken, few))
+
+pub ruleset turns = (Consumes-none, Consumes-more, Consumes-kept, TookAtMost-of)

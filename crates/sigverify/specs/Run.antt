@@ -10,6 +10,13 @@ use Rattle.sigverify.specs.declared.reply.Reply.{Reply}
 abbrev pub IsLog : List (List ℕ) → Type 0
 IsLog words = words ≡ codes "log" ∷ []
 
+-- the words are the one word `--help`, or the one word `--version`: `main` answers these itself
+abbrev pub AsksHelp : List (List ℕ) → Type 0
+AsksHelp words = words ≡ codes "--help" ∷ []
+
+abbrev pub AsksVersion : List (List ℕ) → Type 0
+AsksVersion words = words ≡ codes "--version" ∷ []
+
 -- the line that is written for other words
 abbrev pub usage_line : List ℕ
 usage_line = codes "usage\n"

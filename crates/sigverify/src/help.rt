@@ -1,4 +1,7 @@
 //! What the program says of itself.
+ghost use Rattle.std.specs.Prelude.{◌≡◌, ◌↔◌, Some};
+ghost use Rattle.sigverify.specs.Run.{AsksHelp, AsksVersion};
+
 use sig_base::Text;
 
 const HELP: &str = "\
@@ -38,8 +41,13 @@ status:
 
 const VERSION: &str = "sigverify 0.1.0\n";
 
-/// The text for the one word `--help`, and for the one word `--version`.
-pub fn answer_of(words: &[Text]) -> Option<&'static str> {
+/// The text for the one word `--help`, and for the one word `--version`; none exactly for all other words, which [`run`] answers.
+///
+/// [`run`]: crate::run::run
+pub fn answer_of(words: &[Text]) -> Option<&'static str>
+    ensures help { AsksHelp words.now ↔ (result ≡ Some HELP) }
+    ensures version { AsksVersion words.now ↔ (result ≡ Some VERSION) }
+{
     match words {
         [word] => match word.as_str() {
             "--help" => Some(HELP),

@@ -1,6 +1,7 @@
 //! Reading a request.
 ghost use Rattle.std.specs.Prelude.{◌≡◌, ◌<◌, ◌≤◌, length, IfOk, IsErrOf};
 ghost use Rattle.sig_base.specs.Stream.{HandsOver, TookCount, Rose};
+ghost use Rattle.sigverify.specs.Limit.{TookAtMost};
 
 use sig_base::{Bytes, Failed, Source};
 use std::alloc::{AllocError, Global};
@@ -60,6 +61,7 @@ pub fn read_request<S: Source>(alloc: Global, source: &mut S) -> Result<Bytes, R
     ensures short { IfOk result (λ bytes. length bytes < READ_LIMIT) }
     ensures long { IsErrOf result ReadFault.TooLong → TookCount (S.left source.old) (S.left source.new) READ_LIMIT }
     ensures failed { IsErrOf result ReadFault.Failed → Rose (S.faults source.old) (S.faults source.new) }
+    ensures most { TookAtMost READ_LIMIT (S.left source.old) (S.left source.new) }
     ensures later { S.faults source.old ≤ S.faults source.new }
 {
     let mut bytes = Vec::new(alloc);

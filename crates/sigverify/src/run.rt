@@ -2,11 +2,12 @@
 ghost use Rattle.std.specs.Prelude.{◌≡◌, ◌⊎◌, ◌<◌, ◌≤◌, ◌↔◌, IsTrue, IfOk, IsErrOf};
 ghost use Rattle.std.specs.Io.KnownBytes.{Appends};
 ghost use Rattle.sig_base.specs.Stream.{Rose, AppendsFront};
+ghost use Rattle.sigverify.specs.Limit.{TookAtMost};
 ghost use Rattle.sigverify.specs.Run.{IsLog, RepliesTo, Answered, ReadFaulted, WriteFaulted, usage_line};
 
 use crate::link::Link;
 use crate::log::log_reply;
-use crate::read::{ReadFault, read_request};
+use crate::read::{READ_LIMIT, ReadFault, read_request};
 use crate::reply::{Reply, USAGE_LINE};
 use crate::write::write_reply;
 use sig_base::{OutOfMemory, Sink, Source, Text};
@@ -56,6 +57,7 @@ pub fn run<S: Source, K: Sink>(alloc: Global, words: &[Text], source: &mut S, si
     ensures usage { result ≡ USAGE → ¬ IsLog words.now
         × Appends (K.taken sink.old) (K.taken sink.new) usage_line }
     ensures unread { ¬ IsLog words.now → source.new ≡ source.old }
+    ensures most { TookAtMost READ_LIMIT (S.left source.old) (S.left source.new) }
     ensures memory { result ≡ NO_MEMORY → IsLog words.now × (sink.new ≡ sink.old) }
     ensures fault { result ≡ FAULT →
         ReadFaulted words.now (S.faults source.old) (S.faults source.new) sink.old sink.new
@@ -89,6 +91,7 @@ fn is_log(words: &[Text]) -> bool
 fn reply_to<S: Source>(alloc: Global, source: &mut S) -> Result<Reply, NoReply>
     ensures ok { IfOk result (RepliesTo (S.left source.old) (S.left source.new)) }
     ensures failed { IsErrOf result NoReply.Failed → Rose (S.faults source.old) (S.faults source.new) }
+    ensures most { TookAtMost READ_LIMIT (S.left source.old) (S.left source.new) }
     ensures later { S.faults source.old ≤ S.faults source.new }
 {
     match read_request(alloc, source) {
