@@ -1,5 +1,5 @@
 //! What the program says of itself.
-ghost use Rattle.std.specs.Prelude.{◌≡◌, ◌↔◌, Some};
+ghost use Rattle.std.specs.Prelude.{◌≡◌, ◌↔◌, Some, None};
 ghost use Rattle.sigverify.specs.Run.{AsksHelp, AsksVersion};
 
 use sig_base::Text;
@@ -47,6 +47,7 @@ const VERSION: &str = "sigverify 0.1.0\n";
 pub fn answer_of(words: &[Text]) -> Option<&'static str>
     ensures help { AsksHelp words.now ↔ (result ≡ Some HELP) }
     ensures version { AsksVersion words.now ↔ (result ≡ Some VERSION) }
+    ensures other { ¬ AsksHelp words.now → ¬ AsksVersion words.now → result ≡ None }
 {
     match words {
         [word] => match word.as_str() {
