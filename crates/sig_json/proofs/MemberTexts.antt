@@ -229,7 +229,8 @@ pub values_of-entries : (es : List Entry) → values_of (entries_of es) ≡ map 
 values_of-entries [] = refl
 values_of-entries (e ∷ es) = ap (λ rest. shown e.1 ∷ rest) (values_of-entries es)
 
-pub ruleset values = (whole-none)
 pub ruleset parts = (whole-begins, items-more, items-refused, members-more, members-refused, items_depth_at, deepest_at)
+
 pub ruleset objects = (object_meant, object_deepest)
+
 pub ruleset sorts = (values_of-entries, has_names)

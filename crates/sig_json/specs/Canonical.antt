@@ -1,5 +1,5 @@
 -- *Canonical text*: the text of a tree without floats by the JSON Canonicalization Scheme (RFC 8785).
-use Rattle.std.specs.Prelude.{ℕ, ℤ, ◌++◌, ◌/◌, ◌%◌, ◌==◌, ◌||◌, nat_lt, nat_le, unsigned_abs, List, [], ◌∷◌, Option, Some, None, Result, Ok, Err, codes, chars, flat_map, if◌then◌else◌}
+use Rattle.std.specs.Prelude.{ℕ, ℤ, ◌++◌, ◌/◌, ◌%◌, ◌^◌, ◌==◌, ◌||◌, nat_lt, unsigned_abs, List, [], ◌∷◌, Option, Some, None, Result, Ok, Err, codes, chars, flat_map, if◌then◌else◌}
 use Rattle.std.specs.BTreeMap.{insert_entry}
 use Rattle.std.specs.Char.Escape.{encode_utf16}
 use Rattle.std.specs.Char.{digit_char}
@@ -29,9 +29,9 @@ escape_of c =
 unfoldable pub canon_string : List ℕ → List ℕ
 canon_string text = 34 ∷ (flat_map escape_of text ++ 34 ∷ [])
 
--- section 3.2.2.3: an integer in decimal, where a number of 64 bits (IEEE 754) keeps it exactly
+-- section 3.2.2.3: an integer in decimal, where a number of 64 bits (IEEE 754) keeps it apart from its neighbours
 unfoldable pub canon_integer : ℤ → Option (List ℕ)
-canon_integer z = if nat_le (unsigned_abs z) 9007199254740991 then Some (signed_decimal z) else None
+canon_integer z = if nat_lt (unsigned_abs z) (2 ^ 53) then Some (signed_decimal z) else None
 
 -- section 3.2.3: names are in the order of their UTF-16 code units
 unfoldable pub utf16_units : List ℕ → List ℕ

@@ -34,7 +34,6 @@ pub fn canonical(alloc: Global, json: Json<'_>) -> Result<Text, CanonicalError>
 
 /// Writes a value behind the text so far.
 #[cycle(canon)]
-#[tactic(auto, using(crate::proofs::MemberTexts::values))]
 fn write_value(alloc: Global, value: &Value, out: &mut String) -> Result<(), CanonicalError>
     ensures { Writes (string_bytes out.old) result (string_bytes out.new) (canon (view value.now)) }
 {
@@ -180,7 +179,8 @@ fn sorted_members<'a>(
     let mut sorted = BTreeMap::new(alloc);
     'members: for (name, value) in members {
         let name = name.as_str();
-        sorted.insert(utf16_units(alloc, name)?, Member { name, value })?;
+        let units = utf16_units(alloc, name)?;
+        sorted.insert(units, Member { name, value })?;
     }
     Ok(sorted.into_values().collect(alloc)?)
 }

@@ -130,14 +130,15 @@ fn equal_trees(rt: HostRuntime) -> Result<(), Fail> {
     Ok(())
 }
 
-fn nested_objects(alloc: Global, depth: usize) -> Result<String, Fail> {
+/// An empty list between so many beginnings and ends.
+fn nested(alloc: Global, depth: usize, begin: &str, end: &str) -> Result<String, Fail> {
     let mut text = String::new(alloc);
     for _ in 0..depth {
-        text.push_str("{\"a\":")?;
+        text.push_str(begin)?;
     }
     text.push_str("[]")?;
     for _ in 0..depth {
-        text.push('}')?;
+        text.push_str(end)?;
     }
     Ok(text)
 }
@@ -145,10 +146,23 @@ fn nested_objects(alloc: Global, depth: usize) -> Result<String, Fail> {
 #[test]
 fn nesting(rt: HostRuntime) -> Result<(), Fail> {
     let alloc = rt.alloc();
-    let deep = nested_objects(alloc, 126)?;
+    let deep = nested(alloc, 126, "{\"a\":", "}")?;
     let written = canonical_of(alloc, deep.as_str())?;
     assert!(rt; written == deep);
-    let deeper = nested_objects(alloc, 127)?;
+    let deeper = nested(alloc, 127, "{\"a\":", "}")?;
     assert!(rt; Document::read(alloc, deeper.as_bytes()).is_err());
+    Ok(())
+}
+
+/// By bytes `ﬀ` is the first of the two names, and by units the last.
+#[test]
+fn two_orders_at_each_depth(rt: HostRuntime) -> Result<(), Fail> {
+    let alloc = rt.alloc();
+    let by_bytes = nested(alloc, 100, "{\"ﬀ\":1,\"😀\":", "}")?;
+    let by_units = nested(alloc, 100, "{\"😀\":", ",\"ﬀ\":1}")?;
+    let written = canonical_of(alloc, by_bytes.as_str())?;
+    assert!(rt; written == by_units);
+    let document = Document::read(alloc, by_units.as_bytes())?;
+    assert!(rt; compact(alloc, document.view())?.as_str() == by_bytes.as_str());
     Ok(())
 }

@@ -10,4 +10,4 @@ members-preserved c =
     let spelled = c.as_str-name.ensures.value in
     c.members.invariant
     ∙ ap (λ left. by_units (members_view left) (entries_of c.members.sorted.entries)) c.in-Some.ensures.steps
-    ∙ members-inserted _ _ _ _ _ _ (members_view c.next.new.self) c.in_ok-insert.ensures.entries (c.in_ok-utf16_units.ensures ∙ ap utf16_units spelled) (ap (λ name. (name, view c.in-Some.value.now)) spelled)
+    ∙ members-inserted _ _ _ _ _ _ (members_view c.next.new.self) c.in_ok-insert.ensures.entries (c.in_ok-units.ensures ∙ ap utf16_units spelled) (ap (λ name. (name, view c.in-Some.value.now)) spelled)
