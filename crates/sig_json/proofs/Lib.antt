@@ -4,8 +4,10 @@ pub mod Lists
 pub mod Numerals
 pub mod Elements
 pub mod Building
+pub mod Built
 pub mod CanonicalTexts
 pub mod SameTrees
+pub mod SameDocuments
 pub mod TextMaps
 pub mod Units
 pub mod MemberOrder

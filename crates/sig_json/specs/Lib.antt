@@ -14,6 +14,8 @@ pub mod Order
 pub mod Props
 pub mod Reads
 pub mod Record
+pub mod SameLaws
+pub mod SameTree
 pub mod Spells
 pub mod Tree
 -- the trees, the words that look into them, and what texts they are read from and written as
