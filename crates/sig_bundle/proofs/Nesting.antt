@@ -1,14 +1,12 @@
 -- How deep the tree of a bundle nests, and that its text is read back.
-use Rattle.std.proofs.Common.{◌≡◌, ℕ, ◌≤◌, ◌+◌, ℤ, List, [], ◌∷◌, false, Option, Some, None, Ok, option_map, IsUtf8, refl, arith}
-use Rattle.std.proofs.lemmas.Str.{is_utf8-from_IsUtf8}
+use Rattle.std.proofs.Common.{◌≡◌, ℕ, ◌≤◌, ◌+◌, ℤ, List, [], ◌∷◌, Option, Some, None, Ok, option_map, refl, arith}
 use Rattle.std.specs.Cmp.Lexicographic.{slice_cmp}
 use Rattle.std.specs.Ordering.{nat_cmp, match_ordering}
 use Rattle.std.specs.Prelude.{codes, ⊤}
 use Rattle.std.specs.declared.cmp.Ordering.{Ordering}
 use Rattle.std.specs.declared.cmp.Ordering.TheVariants.{Less, Equal, Greater}
 use Rattle.sig_json.specs.Data.{Data, string, Members, no_members, member, put, depth, items_depth, members_depth}
-use Rattle.sig_json.specs.Read.{read, max_depth}
-use Rattle.sig_json.specs.Written.{has_float}
+use Rattle.sig_json.specs.Read.{max_depth}
 use Rattle.sig_bundle.specs.BundleRecord.{bundle_in, bundle_of}
 use Rattle.sig_bundle.specs.BundleTree.{bundle_tree, certificate_tree, chain_tree, checkpoint_tree, content_row, digest_tree, entry_tree, envelope_tree, kind_version_tree, log_id_tree, material_tree, message_signature_tree, promise_tree, proof_tree, signature_tree, signer_row}
 use Rattle.sig_bundle.specs.Written.{Row, put_some, rows_into, object_of, integer_tree, bytes_tree, items_of, list_tree}
@@ -154,15 +152,12 @@ bundle_shallow b = object_shallow 5 ((codes "mediaType", Some (string b.media_ty
 
 -- ---- the text
 
-pub bundle_in_written : (text : List ℕ) (b : Bundle) → IsUtf8 text → has_float (bundle_tree b) ≡ false → (depth (bundle_tree b) ≤ max_depth → read text ≡ Some (bundle_tree b)) → bundle_of (bundle_tree b) ≡ Some b → bundle_in text ≡ Ok b
-unfolding record_in document_of
-bundle_in_written text b utf8 whole reads back =
+-- the compact text of the tree, which a view shows, is read as the bundle
+pub bundle_in_shown : (text : List ℕ) (b : Bundle) (d shown : Data) → d ≡ bundle_tree b → shown ≡ d → (depth shown ≤ max_depth → document_of text ≡ Ok shown) → bundle_of (bundle_tree b) ≡ Some b → bundle_in text ≡ Ok b
+unfolding record_in
+bundle_in_shown text b d shown is same reads back =
     let below = bundle_shallow b in
-    rw (is_utf8-from_IsUtf8 text utf8, reads (omega arith), whole, back) refl
-
--- the same, of a tree that is shown by a view
-pub bundle_in_shown : (text : List ℕ) (b : Bundle) (d shown : Data) → IsUtf8 text → d ≡ bundle_tree b → shown ≡ d → has_float d ≡ false → (depth shown ≤ max_depth → read text ≡ Some shown) → bundle_of (bundle_tree b) ≡ Some b → bundle_in text ≡ Ok b
-bundle_in_shown text b d shown utf8 is same whole reads back =
-    bundle_in_written text b utf8 (rw is at whole) (rw (same, is) at reads) back
+    let written : depth (bundle_tree b) ≤ max_depth → document_of text ≡ Ok (bundle_tree b) = rw (same, is) at reads in
+    rw (written (omega arith), back) refl
 
 pub ruleset nesting = (bundle_in_shown)

@@ -1,5 +1,5 @@
 //! The text of a bundle.
-ghost use Rattle.std.specs.Prelude.{◌≡◌, IfOk, Ok, Some, IsUtf8};
+ghost use Rattle.std.specs.Prelude.{◌≡◌, IfOk, Ok, Some};
 ghost use Rattle.sig_json.specs.Written.{compact_text};
 ghost use Rattle.sig_bundle.specs.BundleRecord.{bundle_in, bundle_of};
 ghost use Rattle.sig_bundle.specs.BundleTree.{bundle_tree};
@@ -29,13 +29,6 @@ fn write_bundle(alloc: Global, bundle: &Bundle) -> Result<Document, OutOfMemory>
     Ok(object.into_document())
 }
 
-/// Tells that a text is UTF-8, which every text is.
-fn tell_utf8(text: &Text)
-    ensures { IsUtf8 text.now }
-{
-    let _text = text.as_str();
-}
-
 /// The text of a bundle, without white space, the members of each object in the byte order of their names. Every text, integer and bytes value is
 /// written, also where it is empty; integers are written as texts; only what is none is left out. The text is read back as the same bundle.
 /// Refuses for want of memory alone.
@@ -45,7 +38,5 @@ pub fn bundle_text(alloc: Global, bundle: &Bundle) -> Result<Text, OutOfMemory>
     ensures reads_back { IfOk result (λ text. bundle_in text ≡ Ok bundle.now) }
 {
     let document = write_bundle(alloc, bundle)?;
-    let text = compact(alloc, document.view())?;
-    tell_utf8(&text);
-    Ok(text)
+    compact(alloc, document.view())
 }

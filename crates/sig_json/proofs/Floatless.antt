@@ -1,11 +1,12 @@
 -- What a tree without floats holds has none either.
-use Rattle.std.proofs.Common.{◌≡◌, ℕ, zero, suc, List, Option, Some, Bool, true, false, ◌||◌, refl}
+use Rattle.std.proofs.Common.{◌≡◌, ◌↔◌, ℕ, zero, suc, List, Option, Some, Bool, true, false, ◌||◌, refl}
+use Rattle.std.specs.Option.{IsSome, option_and_then}
 use Rattle.std.specs.Ordering.{nat_cmp, match_ordering}
 use Rattle.std.specs.Cmp.Lexicographic.{slice_cmp}
 use Rattle.std.specs.declared.cmp.Ordering.{Ordering}
 use Rattle.std.specs.declared.cmp.Ordering.TheVariants.{Less, Equal, Greater}
-use Rattle.serde_json.specs.Data.{Data, null, boolean, number, string, array, object, Items, no_items, item, Members, no_members, member}
-use Rattle.serde_json.specs.Find.{get, at, get_member, get_item, as_object}
+use Rattle.serde_json.specs.Data.{unsigned, negative, float, Data, null, boolean, number, string, array, object, Items, no_items, item, Members, no_members, member}
+use Rattle.serde_json.specs.Find.{get, at, get_member, get_item, as_object, as_number, as_integer}
 use Rattle.serde_json.specs.Written.{has_float, items_have_float, members_have_float}
 
 -- no part of a disjunction that is false is true
@@ -63,4 +64,15 @@ as_object_floatless (object ns) ms none e = let same : ms ≡ ns = cc in rw same
 pub next_floatless : (d : Data) (ms : Members) (name : List ℕ) → members_have_float (member name d ms) ≡ false → (has_float d ≡ false) × (members_have_float ms ≡ false)
 next_floatless d ms name none = or_false (has_float d) (members_have_float ms) none
 
-pub ruleset floatless = (get_floatless, at_floatless, as_object_floatless, next_floatless)
+-- a number that is no float is an integer
+pub integer_floatless : (d : Data) → has_float d ≡ false → IsSome (option_and_then as_integer (as_number d)) ↔ IsSome (as_number d)
+integer_floatless null none = ((λ is. is), (λ is. is))
+integer_floatless (boolean b) none = ((λ is. is), (λ is. is))
+integer_floatless (number (unsigned n)) none = ((λ is. is), (λ is. is))
+integer_floatless (number (negative z)) none = ((λ is. is), (λ is. is))
+integer_floatless (number (float x)) none = absurd cc
+integer_floatless (string s) none = ((λ is. is), (λ is. is))
+integer_floatless (array ds) none = ((λ is. is), (λ is. is))
+integer_floatless (object ms) none = ((λ is. is), (λ is. is))
+
+pub ruleset floatless = (get_floatless, at_floatless, as_object_floatless, next_floatless, integer_floatless)

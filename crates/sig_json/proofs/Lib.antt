@@ -5,8 +5,10 @@ pub mod Numerals
 pub mod Elements
 pub mod Records
 pub mod Building
+pub mod Built
 pub mod CanonicalTexts
 pub mod SameTrees
+pub mod SameDocuments
 pub mod TextMaps
 pub mod Units
 pub mod MemberOrder

@@ -14,6 +14,8 @@ pub mod Order
 pub mod Props
 pub mod Reads
 pub mod Record
+pub mod SameLaws
+pub mod SameTree
 pub mod SeenAs
 pub mod Spells
 pub mod Tree

@@ -76,7 +76,8 @@ impl Json<'_> {
     ghost use Rattle.std.specs.Prelude.{◌≡◌, IfOk};
     ghost use Rattle.sig_json.specs.Tree.{document_tree, tree};
 
-    /// The value in memory of its own. Refuses for want of memory alone.
+    /// The value in memory of its own, which the copied tree's own allocator gives; `_alloc` stands here as in every call that takes memory.
+    /// Refuses for want of memory alone.
     pub fn copy(self, _alloc: Global) -> Result<Document, OutOfMemory>
         ensures { IfOk result (λ document. document_tree document ≡ tree self.entry) }
     {

@@ -12,7 +12,7 @@ use serde_json::Value;
 use std::alloc::Global;
 
 /// The tree of a JSON text (RFC 8259): null, a truth value, an integer from -2^63 to 2^64 - 1, a text, a list, or an object, whose members
-/// have each name once. Lists and objects nest to 127.
+/// have each name once. Lists and objects of a document that was read nest to 127 at most; of one that was built they nest as it was asked for.
 #[derive(Drop)]
 pub struct Document {
     pub(crate) value: Value,
@@ -28,8 +28,8 @@ impl Document {
     ghost use Rattle.sig_json.specs.Document.{document_of};
     ghost use Rattle.sig_json.specs.Tree.{document_tree, tree};
 
-    /// Reads a text. Refuses with `NotJson` where it has no reading, and then with `Float` where the tree holds a number that is no integer
-    /// from -2^63 to 2^64 - 1 in plain digits.
+    /// Reads a text. Refuses with `NotJson` where it has no reading, and then with `Float` where the tree holds a number with a point or an
+    /// exponent, `-0`, or an integer outside -2^63 to 2^64 - 1.
     #[tactic(auto, using(crate::proofs::Reading::reading))]
     pub fn read(alloc: Global, text: &[u8]) -> Result<Document, DocumentError>
         ensures value { Answers DocumentError.OutOfMemory document_tree result (document_of text.now) }

@@ -1,9 +1,10 @@
-//! Whether two trees are equal: a recursion over kinds, elements and members.
+//! Whether two trees are equal: a recursion over kinds, elements and members. Documents are equal exactly where their trees are.
 ghost use Rattle.std.specs.Prelude.{◌≡◌, ◌↔◌, IsTrue, false};
 ghost use Rattle.serde_json.specs.View.{view, number_view, items_view, members_view};
 ghost use Rattle.serde_json.specs.Find.{is_float};
 ghost use Rattle.serde_json.specs.Written.{has_float, items_have_float, members_have_float};
 
+use crate::document::Document;
 use crate::view::Json;
 use serde_json::{Map, Number, Value};
 
@@ -16,6 +17,30 @@ impl Json<'_> {
     {
         is_same(self.value, other.value)
     }
+}
+
+impl PartialEq for Document {
+    ghost use Rattle.std.specs.Cmp.{partial_equiv_from_equiv};
+    ghost use Rattle.sig_json.specs.SameLaws.{documents_equiv};
+    ghost use Rattle.sig_json.specs.SameTree.{same_tree};
+    ghost use Rattle.sig_json.specs.Tree.{document_tree};
+
+    ghost eq = { λ one other. same_tree (document_tree one) (document_tree other) };
+
+    ghost laws = { partial_equiv_from_equiv documents_equiv };
+
+    fn eq(&self, other: &Document) -> bool
+        ensures value { result ≡ same_tree (document_tree self.now) (document_tree other.now) }
+        ensures exact { IsTrue result ↔ (document_tree self.now ≡ document_tree other.now) }
+    {
+        self.view().equals(other.view())
+    }
+}
+
+impl Eq for Document {
+    ghost use Rattle.sig_json.specs.SameLaws.{documents_equiv};
+
+    ghost laws = { documents_equiv };
 }
 
 #[cycle(same)]

@@ -8,7 +8,7 @@ pub enum DocumentError {
     /// The text is not UTF-8, or has no reading as JSON of at most 127 nested lists and objects.
     #[error("NotJson")]
     NotJson,
-    /// A number of the tree has a point or an exponent, or is `-0` or an integer outside -2^63 to 2^64 - 1.
+    /// The tree holds a number with a point or an exponent, `-0`, or an integer outside -2^63 to 2^64 - 1.
     #[error("Float")]
     Float,
     /// No memory could be had.

@@ -1,17 +1,17 @@
-//! What the definitions of canonical JSON mean, in the words of RFC 8785. It has no code.
-ghost use Rattle.std.specs.Prelude.{◌≡◌, ◌↔◌, ℕ, List, [], Some, String, map, chars};
+//! What the definitions of trees and of canonical JSON mean, in the subject's words. It has no code.
+ghost use Rattle.std.specs.Prelude.{◌≡◌, ◌≢◌, ◌↔◌, ◌++◌, ℕ, List, [], ◌∷◌, Some, IsSome, IsTrue, false, map, chars};
 ghost use Rattle.std.specs.Char.Utf16.{utf16_chars};
-ghost use Rattle.std.specs.List.Sorted.{IsStrictlySortedBy};
-ghost use Rattle.std.specs.Map.{keys_of, values_of};
+ghost use Rattle.std.specs.Map.{values_of};
 ghost use Rattle.std.specs.Str.{IsUtf8};
-ghost use Rattle.std.specs.String.{string_cmp};
-ghost use Rattle.std.specs.declared.alloc.Global.{Global};
-ghost use Rattle.serde_json.specs.Data.{Members, object};
-ghost use Rattle.serde_json.specs.View.{members_view};
-ghost use Rattle.serde_json.specs.declared.value.Value.{Value};
+ghost use Rattle.serde_json.specs.Data.{Data, Members, object};
+ghost use Rattle.serde_json.specs.Find.{as_object, get};
+ghost use Rattle.serde_json.specs.Written.{has_float};
+ghost use Rattle.sig_json.specs.Builders.{with_last, with_member};
 ghost use Rattle.sig_json.specs.Canonical.{Sorted, canon, canon_members, in_braces, utf16_units};
+ghost use Rattle.sig_json.specs.List.{list_of};
 ghost use Rattle.sig_json.specs.Named.{IsNamed, NamesAscend};
 ghost use Rattle.sig_json.specs.Order.{HasNames, UnitsAscend, IsInOrder};
+ghost use Rattle.sig_json.specs.SameTree.{same_tree};
 ghost use Rattle.sig_json.specs.Tree.{document_tree, tree};
 ghost use Rattle.sig_json.specs.declared.document.Document.{Document};
 ghost use Rattle.sig_json.specs.declared.view.Json.{Json};
@@ -32,8 +32,6 @@ pub fn members_in_order()
         → (canon_members ms [] ≡ Some sorted) ↔ IsInOrder ms sorted }
     ensures ascend { (ms : Members) (sorted : Sorted)
         → canon_members ms [] ≡ Some sorted → UnitsAscend sorted }
-    ensures names { (es : List (String Global × Value))
-        → IsStrictlySortedBy string_cmp (keys_of es) → HasNames (members_view es) }
 {}
 
 /// In every document, read or built, and in every view of one, the names of each object are texts that ascend in byte order, at every depth: the
@@ -42,4 +40,31 @@ pub fn trees_are_named()
     ensures document { (document : Document) → IsNamed (document_tree document) }
     ensures view { (json : Json) → IsNamed (tree json) }
     ensures names { (ms : Members) → NamesAscend ms → HasNames ms }
+{}
+
+/// No number of a document, read or built, or of a view of one is a float, at any depth.
+pub fn trees_have_no_floats()
+    ensures document { (document : Document) → has_float (document_tree document) ≡ false }
+    ensures view { (json : Json) → has_float (tree json) ≡ false }
+{}
+
+/// A member that is set in an object is found under its name, whether it is new or stands in place of an old one; what is found under any other
+/// name stays as it was.
+pub fn members_are_set()
+    ensures found { (name : List ℕ) (value tree : Data) → IsSome (as_object tree)
+        → get name (with_member name value tree) ≡ Some value }
+    ensures others { (name other : List ℕ) (value tree : Data) → other ≢ name
+        → get other (with_member name value tree) ≡ get other tree }
+{}
+
+/// An element that is added to a list stands after all that were there.
+pub fn elements_are_added()
+    ensures last { (value tree : Data) (elements : List Data) → list_of tree ≡ Some elements
+        → list_of (with_last value tree) ≡ Some (elements ++ value ∷ []) }
+{}
+
+/// The test of `==` at documents holds exactly of equal trees, where no number of the one is a float.
+pub fn same_trees()
+    ensures exact { (one other : Data) → has_float one ≡ false
+        → IsTrue (same_tree one other) ↔ (one ≡ other) }
 {}

@@ -18,7 +18,7 @@ pub struct Json<'a> {
 
 #[tactic(auto, using(crate::proofs::Floatless::floatless, crate::proofs::Named::named, crate::proofs::Lists::lengths))]
 impl<'a> Json<'a> {
-    ghost use Rattle.std.specs.Prelude.{is_some, option_map, option_and_then, length};
+    ghost use Rattle.std.specs.Prelude.{◌↔◌, IsSome, is_some, option_map, option_and_then, length};
     ghost use Rattle.serde_json.specs.Find.{get as member_in, at, as_null, as_bool, as_str, as_number, as_integer};
     ghost use Rattle.sig_json.specs.List.{list_of};
     ghost use Rattle.sig_json.specs.Tree.{tree};
@@ -47,9 +47,10 @@ impl<'a> Json<'a> {
         self.value.as_str()
     }
 
-    /// A number, from -2^63 to 2^64 - 1.
+    /// A number: an integer from -2^63 to 2^64 - 1.
     pub fn integer(self) -> Option<i128>
-        ensures { result ≡ option_and_then as_integer (as_number (tree self.entry)) }
+        ensures value { result ≡ option_and_then as_integer (as_number (tree self.entry)) }
+        ensures kind { IsSome result ↔ IsSome (as_number (tree self.entry)) }
     {
         match self.value.as_number() {
             Some(number) => number.as_i128(),

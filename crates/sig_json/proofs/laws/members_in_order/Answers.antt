@@ -1,5 +1,5 @@
-use Rattle.sig_json.proofs.MemberOrder.{members_ascend, members_exact, object_exact, has_names}
+use Rattle.sig_json.proofs.MemberOrder.{members_ascend, members_exact, object_exact}
 use Rattle.sig_json.proofs.laws.members_in_order.Goals as goal
 
 pub returns : goal.returns
-returns c = record { ascend = members_ascend; exact = members_exact; object = object_exact; names = has_names }
+returns c = record { ascend = members_ascend; exact = members_exact; object = object_exact }
