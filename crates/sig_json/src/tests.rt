@@ -1,5 +1,6 @@
 //! Documents, members and texts by example.
 mod canonical_examples;
+mod readers;
 
 use crate::{
     BytesReader, Document, HashReader, canonical, compact, optional, optional_list, read_bytes,

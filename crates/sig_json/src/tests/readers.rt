@@ -1,0 +1,203 @@
+//! What each reader answers of a member, and the texts of errors.
+use crate::{
+    BytesReader, CanonicalError, Document, DocumentError, HashReader, Json, JsonError, MemberError,
+    TextMapReader, TextReader, compact, find_member, optional, optional_list, quoted, read_record,
+    required, required_hash, required_list,
+};
+use std::alloc::Global;
+use std::test::Fail;
+
+/// Each line: a call, a document, and what the call answers of the member `m`.
+const ANSWERS: &str = r#"find {"m":[1]} = Some [1]
+find {"m":null} = None
+find {} = None
+find [] = Member
+optional {"m":"x"} = Some "x"
+optional {"m":null} = None
+optional {} = None
+optional {"m":1} = Member
+optional [] = Member
+required {"m":"x"} = "x"
+required {"m":null} = Member
+required {} = Member
+optional_list {"m":["aGk=","","Pj4/"]} = [104, 105] [] [62, 62, 63]
+optional_list {"m":[]} =
+optional_list {"m":null} =
+optional_list {} =
+optional_list {"m":["aGk=",null]} = Member
+optional_list {"m":"aGk="} = Member
+required_list {"m":["b","a","b"]} = "b" "a" "b"
+required_list {"m":[]} =
+required_list {"m":null} = Member
+required_list {"m":["b",1]} = Member
+text_map {"m":{"b":"2","a":"1","b":"3"}} = a:1 b:3
+text_map {"m":{}} =
+text_map {"m":{"a":"1","b":null}} = Member
+text_map {"m":["a"]} = Member
+hash {"m":"AAaa00112233445566778899aabbccddeeff00112233445566778899aabbccdd"} = [170, 170, 0, 17, 34, 51, 68, 85, 102, 119, 136, 153, 170, 187, 204, 221, 238, 255, 0, 17, 34, 51, 68, 85, 102, 119, 136, 153, 170, 187, 204, 221]
+hash {"m":"AAaa"} = Member
+hashes {"m":["00112233445566778899aabbccddeeff00112233445566778899aabbccddeeff"]} = [0, 17, 34, 51, 68, 85, 102, 119, 136, 153, 170, 187, 204, 221, 238, 255, 0, 17, 34, 51, 68, 85, 102, 119, 136, 153, 170, 187, 204, 221, 238, 255]
+quoted {"m":"a\u0001\"\\\/\u00e9\n"} = "a\u0001\"\\/é\n"
+record "x" = "x"
+record null = Member
+record 1.0 = Float
+record [ = NotJson"#;
+
+fn found(alloc: Global, json: Json<'_>) -> Result<String, Fail> {
+    match find_member(json, "m") {
+        Ok(Some(value)) => Ok(format!(in alloc; " Some {}", compact(alloc, value)?.as_str())?),
+        Ok(None) => Ok(format!(in alloc; " None")?),
+        Err(error) => Ok(format!(in alloc; " {error}")?),
+    }
+}
+
+fn optional_text(alloc: Global, json: Json<'_>) -> Result<String, Fail> {
+    match optional::<TextReader>(alloc, json, "m") {
+        Ok(Some(text)) => Ok(format!(in alloc; " Some {text:?}")?),
+        Ok(None) => Ok(format!(in alloc; " None")?),
+        Err(error) => Ok(format!(in alloc; " {error}")?),
+    }
+}
+
+fn required_text(alloc: Global, json: Json<'_>) -> Result<String, Fail> {
+    match required::<TextReader>(alloc, json, "m") {
+        Ok(text) => Ok(format!(in alloc; " {text:?}")?),
+        Err(error) => Ok(format!(in alloc; " {error}")?),
+    }
+}
+
+fn optional_bytes_list(alloc: Global, json: Json<'_>) -> Result<String, Fail> {
+    match optional_list::<BytesReader>(alloc, json, "m") {
+        Ok(list) => {
+            let mut line = String::new(alloc);
+            for bytes in list.as_slice() {
+                line.push_str(format!(in alloc; " {:?}", bytes.as_slice())?.as_str())?;
+            }
+            Ok(line)
+        },
+        Err(error) => Ok(format!(in alloc; " {error}")?),
+    }
+}
+
+fn required_text_list(alloc: Global, json: Json<'_>) -> Result<String, Fail> {
+    match required_list::<TextReader>(alloc, json, "m") {
+        Ok(list) => {
+            let mut line = String::new(alloc);
+            for text in list.as_slice() {
+                line.push_str(format!(in alloc; " {text:?}")?.as_str())?;
+            }
+            Ok(line)
+        },
+        Err(error) => Ok(format!(in alloc; " {error}")?),
+    }
+}
+
+fn text_map(alloc: Global, json: Json<'_>) -> Result<String, Fail> {
+    match required::<TextMapReader>(alloc, json, "m") {
+        Ok(map) => {
+            let mut line = String::new(alloc);
+            for (name, text) in map.iter() {
+                line.push_str(format!(in alloc; " {name}:{text}")?.as_str())?;
+            }
+            Ok(line)
+        },
+        Err(error) => Ok(format!(in alloc; " {error}")?),
+    }
+}
+
+fn hash(alloc: Global, json: Json<'_>) -> Result<String, Fail> {
+    match required_hash(json, "m") {
+        Ok(hash) => Ok(format!(in alloc; " {:?}", hash.as_slice())?),
+        Err(error) => Ok(format!(in alloc; " {error}")?),
+    }
+}
+
+fn first_hash(alloc: Global, json: Json<'_>) -> Result<String, Fail> {
+    match required_list::<HashReader>(alloc, json, "m") {
+        Ok(list) => match list.as_slice() {
+            [hash] => Ok(format!(in alloc; " {:?}", hash.as_slice())?),
+            _ => Ok(format!(in alloc; " no single hash")?),
+        },
+        Err(error) => Ok(format!(in alloc; " {error}")?),
+    }
+}
+
+fn quoted_text(alloc: Global, json: Json<'_>) -> Result<String, Fail> {
+    match json.get("m").and_then(|value| value.text()) {
+        Some(text) => Ok(format!(in alloc; " {}", quoted(alloc, text)?.as_str())?),
+        None => Ok(format!(in alloc; " None")?),
+    }
+}
+
+fn record(alloc: Global, text: &str) -> Result<String, Fail> {
+    match read_record::<TextReader>(alloc, text.as_bytes()) {
+        Ok(text) => Ok(format!(in alloc; " {text:?}")?),
+        Err(error) => Ok(format!(in alloc; " {error}")?),
+    }
+}
+
+/// What this call answers of the text, after a space.
+fn answer(alloc: Global, call: &str, text: &str) -> Result<String, Fail> {
+    if call == "record" {
+        return record(alloc, text);
+    }
+    let document = Document::read(alloc, text.as_bytes())?;
+    let json = document.view();
+    match call {
+        "find" => found(alloc, json),
+        "optional" => optional_text(alloc, json),
+        "required" => required_text(alloc, json),
+        "optional_list" => optional_bytes_list(alloc, json),
+        "required_list" => required_text_list(alloc, json),
+        "text_map" => text_map(alloc, json),
+        "hash" => hash(alloc, json),
+        "hashes" => first_hash(alloc, json),
+        "quoted" => quoted_text(alloc, json),
+        _ => Ok(format!(in alloc; " no such call")?),
+    }
+}
+
+#[test]
+fn readers_answer(rt: HostRuntime) -> Result<(), Fail> {
+    let alloc = rt.alloc();
+    for line in ANSWERS.lines() {
+        let Some((call, rest)) = line.split_once(' ') else {
+            continue;
+        };
+        let Some((text, expected)) = rest.split_once(" =") else {
+            continue;
+        };
+        let found = answer(alloc, call, text)?;
+        assert!(rt; found.as_str() == expected, "{call} {text}:{found}");
+    }
+    Ok(())
+}
+
+#[test]
+fn texts_of_errors(rt: HostRuntime) -> Result<(), Fail> {
+    let alloc = rt.alloc();
+    let text = format!(in alloc;
+        "{} {} {}",
+        DocumentError::NotJson,
+        DocumentError::Float,
+        DocumentError::OutOfMemory
+    )?;
+    assert!(rt; text.as_str() == "NotJson Float OutOfMemory");
+    let text = format!(in alloc; "{} {}", MemberError::Member, MemberError::OutOfMemory)?;
+    assert!(rt; text.as_str() == "Member OutOfMemory");
+    let text = format!(in alloc;
+        "{} {} {} {}",
+        JsonError::NotJson,
+        JsonError::Float,
+        JsonError::Member,
+        JsonError::OutOfMemory
+    )?;
+    assert!(rt; text.as_str() == "NotJson Float Member OutOfMemory");
+    let text = format!(in alloc;
+        "{} {}",
+        CanonicalError::IntegerTooLarge,
+        CanonicalError::OutOfMemory
+    )?;
+    assert!(rt; text.as_str() == "IntegerTooLarge OutOfMemory");
+    Ok(())
+}
