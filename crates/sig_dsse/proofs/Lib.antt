@@ -2,3 +2,4 @@ pub mod EnvelopeTexts
 pub mod Collected
 pub mod Encodings
 pub mod NamedDigests
+pub mod DigestsAlone

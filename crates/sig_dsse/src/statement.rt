@@ -1,5 +1,5 @@
 //! `InTotoStatementV1`: what a payload says of its subjects (in-toto attestation framework, "Statement layer specification v1").
-use crate::subject_digests::SubjectDigests;
+use crate::subject_digests::{Left, SubjectDigests};
 use sig_base::{Register, Result, SigstoreError, Text, TextMap, UnexpectedKind};
 use sig_json::Document;
 use std::alloc::Global;
@@ -70,7 +70,7 @@ impl InTotoStatementV1 {
         ensures { result ≡ map (λ subject. subject.digest) self.now.subject }
     {
         SubjectDigests {
-            left: self.subject.as_slice(),
+            left: Left::Subjects(self.subject.as_slice()),
         }
     }
 
