@@ -20,6 +20,10 @@ use Rattle.sig_dsse.specs.Payload.{payload_fault, or_payload_fault, digests_of_f
 use Rattle.sig_dsse.specs.Recognized.{digests_of_maps}
 use Rattle.sig_dsse.specs.Statement.{DigestTexts, Subject, Statement, digest_maps, subject_of, statement_in, statement_of}
 
+-- of a text, that it is there
+abbrev tested : Option (List ℕ) → Option (Unit {0})
+tested found = option_map (λ _. tt) found
+
 -- ---- a subject
 
 -- the parts of a subject, as they are found
@@ -37,11 +41,11 @@ subject_parts d = refl
 abbrev its_digest : Subject → DigestTexts
 its_digest subject = subject.digest
 
-with_digest : (name : Option (Option (List ℕ))) (digest : DigestTexts) (annotations : Option (Option Data)) (x : Option (Unit {0})) (a : Option Data) → option_map (option_map (λ _. tt)) name ≡ Some x → annotations ≡ Some a → option_map its_digest (subject_with name (Some digest) annotations) ≡ Some digest
+with_digest : (name : Option (Option (List ℕ))) (digest : DigestTexts) (annotations : Option (Option Data)) (x : Option (Unit {0})) (a : Option Data) → option_map tested name ≡ Some x → annotations ≡ Some a → option_map its_digest (subject_with name (Some digest) annotations) ≡ Some digest
 with_digest None digest annotations x a named any = cc
 with_digest (Some name) digest annotations x a named any = rw any refl
 
-without_name : (name : Option (Option (List ℕ))) (digest : Option DigestTexts) (annotations : Option (Option Data)) → option_map (option_map (λ _. tt)) name ≡ None {A = Option (Unit {0})} → option_map its_digest (subject_with name digest annotations) ≡ None
+without_name : (name : Option (Option (List ℕ))) (digest : Option DigestTexts) (annotations : Option (Option Data)) → option_map tested name ≡ None → option_map its_digest (subject_with name digest annotations) ≡ None
 without_name None digest annotations named = refl
 without_name (Some name) digest annotations named = cc
 
@@ -49,7 +53,7 @@ without_digest : (name : Option (Option (List ℕ))) (annotations : Option (Opti
 without_digest None annotations = refl
 without_digest (Some name) annotations = refl
 
-named_text : (name : List ℕ) (d : Data) → optional is_text name d ≡ option_map (option_map (λ _. tt)) (optional text_of name d)
+named_text : (name : List ℕ) (d : Data) → optional is_text name d ≡ option_map tested (optional text_of name d)
 named_text = optional-part (λ _. tt) text_of is_text (λ e. refl)
 
 pub subject-read : (d : Data) (x : Option (Unit {0})) (digest : DigestTexts) → optional is_text (codes "name") d ≡ Some x → required text_map_of (codes "digest") d ≡ Some digest → digest_map_in d ≡ Some digest
@@ -63,7 +67,7 @@ subject-no_name d named = rw (subject_parts d) (without_name _ _ _ (sym (named_t
 pub subject-no_digest : (d : Data) → required text_map_of (codes "digest") d ≡ None → digest_map_in d ≡ None
 subject-no_digest d read = rw (subject_parts d, read) (without_digest (optional text_of (codes "name") d) (optional Some (codes "annotations") d))
 
-pub ruleset subjects = (subject-read, subject-no_name, subject-no_digest)
+pub ruleset of_subject = (subject-read, subject-no_name, subject-no_digest)
 
 -- ---- a statement
 
@@ -80,28 +84,28 @@ statement_parts : (d : Data) → statement_in d ≡ statement_with (required_tex
 unfolding statement_in
 statement_parts d = refl
 
-with_maps : (type kind : Option (List ℕ)) (subjects : Option (List Subject)) (predicate : Option (Option Data)) (x y : Unit {0}) (maps : List DigestTexts) (a : Option Data) → option_map (λ _. tt) type ≡ Some x → option_map (λ _. tt) kind ≡ Some y → option_map (map its_digest) subjects ≡ Some maps → predicate ≡ Some a → option_map digest_maps (statement_with type subjects kind predicate) ≡ Some maps
+with_maps : (type kind : Option (List ℕ)) (subjects : Option (List Subject)) (predicate : Option (Option Data)) (x y : Unit {0}) (maps : List DigestTexts) (a : Option Data) → tested type ≡ Some x → tested kind ≡ Some y → option_map (map its_digest) subjects ≡ Some maps → predicate ≡ Some a → option_map digest_maps (statement_with type subjects kind predicate) ≡ Some maps
 with_maps None kind subjects predicate x y maps a typed kinded read any = cc
 with_maps (Some type) None subjects predicate x y maps a typed kinded read any = cc
 with_maps (Some type) (Some kind) None predicate x y maps a typed kinded read any = cc
 with_maps (Some type) (Some kind) (Some subjects) predicate x y maps a typed kinded read any = rw any read
 
-without_type : (type kind : Option (List ℕ)) (subjects : Option (List Subject)) (predicate : Option (Option Data)) → option_map (λ _. tt) type ≡ None {A = Unit {0}} → option_map digest_maps (statement_with type subjects kind predicate) ≡ None
+without_type : (type kind : Option (List ℕ)) (subjects : Option (List Subject)) (predicate : Option (Option Data)) → tested type ≡ None → option_map digest_maps (statement_with type subjects kind predicate) ≡ None
 without_type None kind subjects predicate typed = refl
 without_type (Some type) kind subjects predicate typed = cc
 
-without_kind : (type kind : Option (List ℕ)) (subjects : Option (List Subject)) (predicate : Option (Option Data)) → option_map (λ _. tt) kind ≡ None {A = Unit {0}} → option_map digest_maps (statement_with type subjects kind predicate) ≡ None
+without_kind : (type kind : Option (List ℕ)) (subjects : Option (List Subject)) (predicate : Option (Option Data)) → tested kind ≡ None → option_map digest_maps (statement_with type subjects kind predicate) ≡ None
 without_kind None kind subjects predicate kinded = refl
 without_kind (Some type) None None predicate kinded = refl
 without_kind (Some type) None (Some subjects) predicate kinded = refl
 without_kind (Some type) (Some kind) subjects predicate kinded = cc
 
-without_maps : (type kind : Option (List ℕ)) (subjects : Option (List Subject)) (predicate : Option (Option Data)) → option_map (map its_digest) subjects ≡ None {A = List DigestTexts} → option_map digest_maps (statement_with type subjects kind predicate) ≡ None
+without_maps : (type kind : Option (List ℕ)) (subjects : Option (List Subject)) (predicate : Option (Option Data)) → option_map (map its_digest) subjects ≡ None → option_map digest_maps (statement_with type subjects kind predicate) ≡ None
 without_maps None kind subjects predicate read = refl
 without_maps (Some type) kind None predicate read = refl
 without_maps (Some type) kind (Some subjects) predicate read = cc
 
-needed_text : (name : List ℕ) (d : Data) → required is_text name d ≡ option_map (λ _. tt) (required_text name d)
+needed_text : (name : List ℕ) (d : Data) → required is_text name d ≡ tested (required_text name d)
 needed_text = required-part (λ _. tt) text_of is_text (λ e. refl)
 
 needed_maps : (name : List ℕ) (d : Data) → required_list digest_map_in name d ≡ option_map (map its_digest) (required_list subject_of name d)
@@ -121,7 +125,7 @@ statement-no_kind d kinded = rw (statement_parts d) (without_kind _ _ _ _ (sym (
 pub statement-no_maps : (d : Data) → required_list digest_map_in (codes "subject") d ≡ None → digest_maps_in d ≡ None
 statement-no_maps d read = rw (statement_parts d) (without_maps _ _ _ _ (sym (needed_maps _ d) ∙ read))
 
-pub ruleset statements = (statement-read, statement-no_type, statement-no_kind, statement-no_maps)
+pub ruleset of_statement = (statement-read, statement-no_type, statement-no_kind, statement-no_maps)
 
 -- ---- a payload
 
@@ -135,7 +139,7 @@ record-read payload maps read = rw (maps_of payload, read) refl
 pub record-refused : (payload : List ℕ) (e : JsonError) → record_in digest_maps_in payload ≡ Err e → digest_maps_of payload ≡ Err NoStatement
 record-refused payload e read = rw (maps_of payload, read) refl
 
-pub ruleset records = (record-read, record-refused)
+pub ruleset of_record = (record-read, record-refused)
 
 found-none : (found : Option Statement) (e : PayloadFault) → ok_or (option_map digest_maps found) NoStatement ≡ Err e → digests_of_found found ≡ Err e
 found-none None e read = cc
@@ -155,4 +159,4 @@ pub payload-faulted : (payload : List ℕ) (maps lent : List DigestTexts) (e : S
 payload-faulted payload maps lent e told read same as_payload (inl memory) = inl (as_payload ∙ ap payload_fault memory)
 payload-faulted payload maps lent e told read same as_payload (inr found) = inr (found-some (statement_of payload) maps read ∙ rw (← same, found, as_payload) refl)
 
-pub ruleset payloads = (payload-refused, payload-found, payload-faulted)
+pub ruleset of_payload = (payload-refused, payload-found, payload-faulted)

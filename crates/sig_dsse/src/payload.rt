@@ -45,7 +45,7 @@ impl From<SubjectFault> for PayloadFault {
 ///
 /// Refuses with `NoStatement` exactly where [`InTotoStatementV1::from_json`](crate::InTotoStatementV1::from_json) refuses the payload, then with
 /// `Subjects` and the fault that `recognized_digests` has.
-#[tactic(auto, using(crate::proofs::DigestsAlone::payloads))]
+#[tactic(auto, using(crate::proofs::DigestsAlone::of_payload))]
 pub fn payload_digests(alloc: Global, payload: &[u8]) -> Result<Digests, PayloadFault>
     ensures { Answers PayloadFault.OutOfMemory (λ digests. digests) result (digests_of_payload payload.now) }
 {
@@ -60,7 +60,7 @@ pub fn payload_digests(alloc: Global, payload: &[u8]) -> Result<Digests, Payload
 }
 
 /// The digests of each subject of the statement that a payload is. Refuses with `NoStatement` where it is none.
-#[tactic(auto, using(crate::proofs::DigestsAlone::records))]
+#[tactic(auto, using(crate::proofs::DigestsAlone::of_record))]
 fn read_maps(alloc: Global, payload: &[u8]) -> Result<Register<TextMap>, PayloadFault>
     ensures { Answers PayloadFault.OutOfMemory (λ maps. maps) result (digest_maps_of payload.now) }
 {
