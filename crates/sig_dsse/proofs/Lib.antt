@@ -3,3 +3,4 @@ pub mod Collected
 pub mod Encodings
 pub mod NamedDigests
 pub mod DigestsAlone
+pub mod Payloads
