@@ -8,4 +8,5 @@ pub mod Lists
 pub mod MaterialBack
 pub mod Nesting
 pub mod Objects
+pub mod PayloadDigests
 pub mod Values

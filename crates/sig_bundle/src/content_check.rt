@@ -2,17 +2,15 @@
 
 ghost use Rattle.std.specs.Prelude.{◌≡◌};
 ghost use Rattle.sig_base.specs.Answers.{Answers};
-ghost use Rattle.sig_dsse.specs.Seen.{seen};
-ghost use Rattle.sig_dsse.specs.Statement.{statement_of};
-ghost use Rattle.sig_bundle.specs.Content.{signature_among, decoded, digests_in, enveloped, signed};
+ghost use Rattle.sig_bundle.specs.Content.{signature_among, digests_in, enveloped, signed};
 ghost use Rattle.sig_bundle.specs.Lent.{lent_now};
 
 use crate::bundle::Content;
 use crate::bundle_error::BundleErrorKind;
-use sig_base::{Bytes, SigstoreError, Text};
+use sig_base::{Bytes, Text};
 use sig_dsse::{
-    Digests, DsseEnvelope, DsseSignature, DsseSignatures, InTotoStatementV1, compute_pae,
-    envelope_json, recognized_digests,
+    Digests, DsseEnvelope, DsseSignature, DsseSignatures, PayloadFault, compute_pae, envelope_json,
+    payload_digests,
 };
 use std::alloc::Global;
 
@@ -53,26 +51,17 @@ fn only_signature(signatures: &DsseSignatures) -> Result<&DsseSignature, BundleE
     }
 }
 
-/// The statement that the payload is. `DssePayloadDecode` exactly where it is none.
-fn read_statement(alloc: Global, payload: &[u8]) -> Result<InTotoStatementV1, BundleErrorKind>
-    ensures { Answers BundleErrorKind.OutOfMemory seen result (decoded (statement_of payload.now)) }
-{
-    match InTotoStatementV1::from_json(alloc, payload) {
-        Ok(statement) => Ok(statement),
-        Err(SigstoreError::OutOfMemory) => Err(BundleErrorKind::OutOfMemory),
-        Err(_) => Err(BundleErrorKind::DssePayloadDecode),
-    }
-}
-
 /// The digests of the statement's subjects. `DssePayloadDecode` where the payload is no statement, then the refusals of
-/// [`recognized_digests`] under the names of a bundle.
+/// [`recognized_digests`](sig_dsse::recognized_digests) under the names of a bundle.
+#[tactic(auto, using(crate::proofs::PayloadDigests::payload_digests))]
 fn subject_digests(alloc: Global, payload: &[u8]) -> Result<Digests, BundleErrorKind>
     ensures { Answers BundleErrorKind.OutOfMemory (λ digests. digests) result (digests_in payload.now) }
 {
-    let statement = read_statement(alloc, payload)?;
-    match recognized_digests(alloc, &statement) {
+    match payload_digests(alloc, payload) {
         Ok(digests) => Ok(digests),
-        Err(fault) => Err(BundleErrorKind::from(fault)),
+        Err(PayloadFault::NoStatement) => Err(BundleErrorKind::DssePayloadDecode),
+        Err(PayloadFault::Subjects(fault)) => Err(BundleErrorKind::from(fault)),
+        Err(PayloadFault::OutOfMemory) => Err(BundleErrorKind::OutOfMemory),
     }
 }
 

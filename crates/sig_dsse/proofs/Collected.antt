@@ -1,13 +1,13 @@
 -- Digests collected one thing after another.
-use Rattle.std.proofs.Common.{◌≡◌, ◌≢◌, ℕ, ◌<◌, ◌≤◌, List, [], ◌∷◌, ◌++◌, length, map, Result, Ok, Err, refl, sym, ap, ◌∙◌, arith, append_assoc, append-nil}
+use Rattle.std.proofs.Common.{◌≡◌, ◌≢◌, ℕ, ◌<◌, ◌≤◌, List, [], ◌∷◌, ◌++◌, length, map, Result, Ok, Err, refl, sym, ap, subst, ◌∙◌, arith, append_assoc, append-nil}
 use Rattle.std.proofs.lemmas.Bool.{lt-ltb, le-ltb}
-use Rattle.std.proofs.lemmas.List.{length-map}
+use Rattle.sig_base.specs.Answers.{Answers}
 use Rattle.sig_dsse.specs.declared.artifact_digest.ArtifactDigest.{ArtifactDigest}
 use Rattle.sig_dsse.specs.declared.recognized.SubjectFault.{SubjectFault}
-use Rattle.sig_dsse.specs.declared.recognized.SubjectFault.TheVariants.{TooManySubjects, NoneRecognized}
+use Rattle.sig_dsse.specs.declared.recognized.SubjectFault.TheVariants.{TooManySubjects, NoneRecognized, OutOfMemory}
 use Rattle.sig_dsse.specs.declared.statement.InTotoStatementV1.{InTotoStatementV1}
 use Rattle.sig_dsse.specs.declared.statement.Subject.{Subject as HeldSubject}
-use Rattle.sig_dsse.specs.Recognized.{◌>>=◌, digests_of_each, map_digests, not_none, digests_or_fault}
+use Rattle.sig_dsse.specs.Recognized.{◌>>=◌, digests_of_each, map_digests, not_none, digests_of_maps, digests_or_fault}
 use Rattle.sig_dsse.specs.Seen.{seen, seen_subject}
 use Rattle.sig_dsse.specs.Statement.{DigestTexts, Subject}
 
@@ -57,31 +57,37 @@ module _ {A : Type 0} where
 
 pub ruleset collected = (so_far-none, so_far-more, so_far-refused, so_far-all, so_far-whole)
 
+-- ---- the digests of subjects
+
+pub maps-many : (maps : List DigestTexts) (n : ℕ) → 1024 < n → n ≡ length maps → digests_of_maps maps ≡ Err (TooManySubjects n)
+unfolding digests_of_maps
+maps-many maps n many count = rw (← count, lt-ltb 1024 n many) refl
+
+maps-few : (maps : List DigestTexts) (n : ℕ) → n ≤ 1024 → n ≡ length maps → digests_of_maps maps ≡ (digests_of_each map_digests maps >>= not_none)
+unfolding digests_of_maps
+maps-few maps n few count = rw (← count, le-ltb 1024 n few) refl
+
+pub maps-refused : (maps : List DigestTexts) (n : ℕ) (e : SubjectFault) → n ≤ 1024 → n ≡ length maps → digests_of_each map_digests maps ≡ Err e → digests_of_maps maps ≡ Err e
+maps-refused maps n e few count is = maps-few maps n few count ∙ rw is refl
+
+pub maps-none : (maps : List DigestTexts) (n : ℕ) (digests : List ArtifactDigest) → n ≤ 1024 → n ≡ length maps → digests_of_each map_digests maps ≡ Ok digests → length digests ≡ 0 → digests_of_maps maps ≡ Err NoneRecognized
+maps-none maps n [] few count is none = maps-few maps n few count ∙ rw is refl
+maps-none maps n (d ∷ ds) few count is none = absurd (omega arith)
+
+pub maps-found : (maps : List DigestTexts) (n : ℕ) (digests : List ArtifactDigest) → n ≤ 1024 → n ≡ length maps → digests_of_each map_digests maps ≡ Ok digests → length digests ≢ 0 → digests_of_maps maps ≡ Ok digests
+maps-found maps n [] few count is some = absurd (some refl)
+maps-found maps n (d ∷ ds) few count is some = maps-few maps n few count ∙ rw is refl
+
+pub ruleset recognized = (maps-many, maps-refused, maps-none, maps-found)
+
 -- ---- the digests of a statement
 
 digests-seen : (subjects : List HeldSubject) → map (λ (s : Subject). s.digest) (map seen_subject subjects) ≡ map (λ (s : HeldSubject). s.digest) subjects
 digests-seen [] = refl
 digests-seen (s ∷ ss) = ap (λ rest. s.digest ∷ rest) (digests-seen ss)
 
-pub recognized-many : (statement : InTotoStatementV1) (n : ℕ) → 1024 < n → n ≡ length statement.subject → digests_or_fault (seen statement) ≡ Err (TooManySubjects n)
-unfolding digests_or_fault
-recognized-many statement n many count =
-    rw (length-map statement.subject seen_subject, ← count, lt-ltb 1024 n many) refl
+pub maps-seen : (statement : InTotoStatementV1) (maps : List DigestTexts) (result : Result (List ArtifactDigest) SubjectFault) → maps ≡ map (λ (s : HeldSubject). s.digest) statement.subject → Answers OutOfMemory (λ digests. digests) result (digests_of_maps maps) → Answers OutOfMemory (λ digests. digests) result (digests_or_fault (seen statement))
+maps-seen statement maps result same answers =
+    subst (λ meant. Answers OutOfMemory (λ digests. digests) result (digests_of_maps meant)) (same ∙ sym (digests-seen statement.subject)) answers
 
-recognized-few : (statement : InTotoStatementV1) (n : ℕ) (maps : List DigestTexts) → n ≤ 1024 → n ≡ length statement.subject → maps ≡ map (λ (s : HeldSubject). s.digest) statement.subject → digests_or_fault (seen statement) ≡ (digests_of_each map_digests maps >>= not_none)
-unfolding digests_or_fault
-recognized-few statement n maps few count same =
-    rw (length-map statement.subject seen_subject, ← count, le-ltb 1024 n few, digests-seen statement.subject, same) refl
-
-pub recognized-refused : (statement : InTotoStatementV1) (n : ℕ) (maps : List DigestTexts) (e : SubjectFault) → n ≤ 1024 → n ≡ length statement.subject → maps ≡ map (λ (s : HeldSubject). s.digest) statement.subject → digests_of_each map_digests maps ≡ Err e → digests_or_fault (seen statement) ≡ Err e
-recognized-refused statement n maps e few count same is = recognized-few statement n maps few count same ∙ rw is refl
-
-pub recognized-none : (statement : InTotoStatementV1) (n : ℕ) (maps : List DigestTexts) (digests : List ArtifactDigest) → n ≤ 1024 → n ≡ length statement.subject → maps ≡ map (λ (s : HeldSubject). s.digest) statement.subject → digests_of_each map_digests maps ≡ Ok digests → length digests ≡ 0 → digests_or_fault (seen statement) ≡ Err NoneRecognized
-recognized-none statement n maps [] few count same is none = recognized-few statement n maps few count same ∙ rw is refl
-recognized-none statement n maps (d ∷ ds) few count same is none = absurd (omega arith)
-
-pub recognized-found : (statement : InTotoStatementV1) (n : ℕ) (maps : List DigestTexts) (digests : List ArtifactDigest) → n ≤ 1024 → n ≡ length statement.subject → maps ≡ map (λ (s : HeldSubject). s.digest) statement.subject → digests_of_each map_digests maps ≡ Ok digests → length digests ≢ 0 → digests_or_fault (seen statement) ≡ Ok digests
-recognized-found statement n maps [] few count same is some = absurd (some refl)
-recognized-found statement n maps (d ∷ ds) few count same is some = recognized-few statement n maps few count same ∙ rw is refl
-
-pub ruleset recognized = (recognized-many, recognized-refused, recognized-none, recognized-found)
+pub ruleset statement_seen = (maps-seen)

@@ -2,3 +2,5 @@ pub mod EnvelopeTexts
 pub mod Collected
 pub mod Encodings
 pub mod NamedDigests
+pub mod DigestsAlone
+pub mod Payloads

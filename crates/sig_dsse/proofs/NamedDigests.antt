@@ -1,5 +1,5 @@
 -- The digests that are taken are those that stand under the names of their algorithms.
-use Rattle.std.proofs.Common.{◌≡◌, ◌≢◌, ◌↔◌, ◌⊎◌, inl, inr, ℕ, zero, suc, Bool, true, false, cond, nat_lt, List, [], ◌∷◌, ◌++◌, length, map, Result, Ok, Err, refl, sym, ap, subst, ◌∙◌, arith}
+use Rattle.std.proofs.Common.{◌≡◌, ◌≢◌, ◌↔◌, ◌⊎◌, inl, inr, ℕ, zero, suc, Bool, true, false, cond, nat_lt, List, [], ◌∷◌, ◌++◌, length, Result, Ok, Err, refl, sym, ap, subst, ◌∙◌, arith}
 use Rattle.std.specs.Bool.{Decides}
 use Rattle.std.proofs.lemmas.List.Elements.{Contains-append_left, Contains-append_right, Contains-append_cases}
 use Rattle.std.proofs.lemmas.Slice.Eq.{bytes_eq-Decides}
@@ -10,8 +10,8 @@ use Rattle.sig_dsse.specs.declared.artifact_digest.ArtifactDigest.{ArtifactDiges
 use Rattle.sig_dsse.specs.declared.artifact_digest.ArtifactDigest.TheVariants.{Sha256, Sha512}
 use Rattle.sig_dsse.specs.declared.recognized.DigestName.TheVariants.{Sha256 as NamedSha256, Sha512 as NamedSha512}
 use Rattle.sig_dsse.specs.declared.recognized.SubjectFault.{SubjectFault}
-use Rattle.sig_dsse.specs.Recognized.{◌>>=◌, digest_or_malformed, digests_of_each, entry_digest, map_digests, not_none, digests_or_fault, most_digests, most_subjects, IsEntryOf, IsDigestOf}
-use Rattle.sig_dsse.specs.Statement.{DigestTexts, Subject, Statement}
+use Rattle.sig_dsse.specs.Recognized.{◌>>=◌, digest_or_malformed, digests_of_each, entry_digest, map_digests, not_none, digests_of_maps, digests_or_fault, most_digests, most_subjects, IsEntryOf, IsDigestOf}
+use Rattle.sig_dsse.specs.Statement.{DigestTexts, Statement, digest_maps}
 
 -- ---- some element
 
@@ -129,9 +129,10 @@ some_same [] digests e = cc
 some_same (x ∷ found) digests e = cc
 
 pub digests_tell : (statement : Statement) (digests : List ArtifactDigest) → digests_or_fault statement ≡ Ok digests → (d : ArtifactDigest) → Contains digests d ↔ IsDigestOf statement d
-unfolding digests_or_fault
+unfolding digests_of_maps
 digests_tell statement digests is d =
-    let found = bind_parts (digests_of_each map_digests (map (λ (s : Subject). s.digest) statement.subject)) not_none digests (unless_many (nat_lt most_subjects (length statement.subject)) _ _ digests is) in
-    each_tells map_digests (λ x m. Any (IsEntryOf x) m) map_tells (map (λ (s : Subject). s.digest) statement.subject) digests (found.1 ∙ ap Ok (some_same found.0 digests found.2)) d
+    let maps = digest_maps statement in
+    let found = bind_parts (digests_of_each map_digests maps) not_none digests (unless_many (nat_lt most_subjects (length maps)) _ _ digests is) in
+    each_tells map_digests (λ x m. Any (IsEntryOf x) m) map_tells maps digests (found.1 ∙ ap Ok (some_same found.0 digests found.2)) d
 
 pub ruleset named_digests = (digests_tell)

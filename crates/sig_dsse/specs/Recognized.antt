@@ -1,5 +1,5 @@
 -- *Subject digests*: the digests of a statement that are named exactly `sha256` or `sha512`, over all subjects in order and names in byte order.
-use Rattle.std.specs.Prelude.{◌≡◌, ◌↔◌, Any, Contains, ℕ, nat_lt, bytes_eq, if◌then◌else◌, List, [], ◌∷◌, ◌++◌, length, map, codes, Result, Ok, Err}
+use Rattle.std.specs.Prelude.{◌≡◌, ◌↔◌, Any, Contains, ℕ, nat_lt, bytes_eq, if◌then◌else◌, List, [], ◌∷◌, ◌++◌, length, codes, Result, Ok, Err}
 use Rattle.hex.specs.Hex.{decode_sized}
 use Rattle.sig_dsse.specs.declared.artifact_digest.ArtifactDigest.{ArtifactDigest}
 use Rattle.sig_dsse.specs.declared.artifact_digest.ArtifactDigest.TheVariants.{Sha256, Sha512}
@@ -8,7 +8,7 @@ use Rattle.sig_dsse.specs.declared.recognized.DigestName.TheVariants.{Sha256 as 
 use Rattle.sig_dsse.specs.declared.recognized.SubjectFault.{SubjectFault}
 use Rattle.sig_dsse.specs.declared.recognized.SubjectFault.TheVariants.{TooManySubjects, TooManyDigests, Malformed, NoneRecognized}
 use Rattle.sig_dsse.specs.Digest.{algorithm_of, bytes_of}
-use Rattle.sig_dsse.specs.Statement.{DigestTexts, Statement}
+use Rattle.sig_dsse.specs.Statement.{DigestTexts, Statement, digest_maps}
 
 -- go on with the value; a fault stays
 infixl 10 ◌>>=◌
@@ -49,11 +49,13 @@ abbrev pub not_none : List ArtifactDigest → Result (List ArtifactDigest) Subje
 not_none [] = Err NoneRecognized
 not_none (digest ∷ digests) = Ok (digest ∷ digests)
 
--- the digests of a statement, or the first rule that is broken
-unfoldable pub digests_or_fault : Statement → Result (List ArtifactDigest) SubjectFault
-digests_or_fault statement =
-    if nat_lt most_subjects (length statement.subject) then Err (TooManySubjects (length statement.subject))
-    else digests_of_each map_digests (map (λ subject. subject.digest) statement.subject) >>= not_none
+-- the digests of subjects, by the map that each has, or the first rule that is broken
+unfoldable pub digests_of_maps : List DigestTexts → Result (List ArtifactDigest) SubjectFault
+digests_of_maps maps = if nat_lt most_subjects (length maps) then Err (TooManySubjects (length maps)) else digests_of_each map_digests maps >>= not_none
+
+-- the digests of a statement
+abbrev pub digests_or_fault : Statement → Result (List ArtifactDigest) SubjectFault
+digests_or_fault statement = digests_of_maps (digest_maps statement)
 
 -- how many bytes the algorithm gives
 abbrev pub size_of : ArtifactDigest → ℕ
@@ -66,7 +68,7 @@ IsEntryOf digest entry = (entry.0 ≡ algorithm_of digest) × (decode_sized entr
 
 -- the digest is an entry of one of the subjects
 abbrev pub IsDigestOf : Statement → ArtifactDigest → Type 0
-IsDigestOf statement digest = Any (Any (IsEntryOf digest)) (map (λ subject. subject.digest) statement.subject)
+IsDigestOf statement digest = Any (Any (IsEntryOf digest)) (digest_maps statement)
 
 -- the digests that are taken are the statement's
 abbrev pub TakesTheDigests : Type 0

@@ -1,5 +1,5 @@
 -- *Statement*: an in-toto statement (in-toto attestation framework, "Statement layer specification v1"), and the text of which it is read.
-use Rattle.std.specs.Prelude.{ℕ, List, codes, Option, Some}
+use Rattle.std.specs.Prelude.{ℕ, List, map, codes, Option, Some}
 use Rattle.std.specs.Result.{result_ok}
 use Rattle.sig_json.specs.Data.{Data}
 use Rattle.sig_json.specs.Kinds.{text_of, text_map_of}
@@ -23,6 +23,10 @@ pub record Statement : Type 0 where
   pub subject : List Subject
   pub predicate_type : List ℕ
   pub predicate : Option Data
+
+-- the digests of each subject, in order
+abbrev pub digest_maps : Statement → List DigestTexts
+digest_maps statement = map (λ subject. subject.digest) statement.subject
 
 -- the digest is required, and an object of texts
 unfoldable pub subject_of : Data → Option Subject

@@ -6,10 +6,12 @@
 #![tactic(auto)]
 
 mod artifact_digest;
+mod digest_reader;
 mod envelope;
 mod envelope_text;
 pub mod laws;
 mod pae;
+mod payload;
 mod recognized;
 mod statement;
 mod statement_reader;
@@ -21,6 +23,7 @@ pub use artifact_digest::{ArtifactDigest, Digests};
 pub use envelope::{DsseEnvelope, DsseSignature, DsseSignatures};
 pub use envelope_text::envelope_json;
 pub use pae::compute_pae;
+pub use payload::{PayloadFault, payload_digests};
 pub use recognized::{DigestName, SubjectFault, recognized_digests};
 pub use statement::{InTotoStatementV1, Subject, Subjects};
 pub use subject_digests::SubjectDigests;

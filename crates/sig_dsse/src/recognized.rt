@@ -2,7 +2,7 @@
 ghost use Rattle.std.specs.Prelude.{◌≡◌, ◌++◌, [], ◌∷◌, Ok};
 ghost use Rattle.sig_base.specs.Answers.{Answers};
 ghost use Rattle.sig_dsse.specs.Collecting.{Adds, listing};
-ghost use Rattle.sig_dsse.specs.Recognized.{digests_or_fault, digests_of_each, map_digests, entry_digest};
+ghost use Rattle.sig_dsse.specs.Recognized.{digests_or_fault, digests_of_maps, digests_of_each, map_digests, entry_digest};
 ghost use Rattle.sig_dsse.specs.Seen.{seen};
 
 use crate::artifact_digest::{ArtifactDigest, Digests};
@@ -64,18 +64,29 @@ impl From<OutOfMemory> for SubjectFault {
 /// Refuses with `TooManySubjects` where there are more than 1024 subjects. Then, subject by subject, with `TooManyDigests` where it has more than
 /// 32 digests, and, name by name, with `Malformed` where a `sha256` is not hexadecimal digits, in either case, of 32 bytes or a `sha512` of 64.
 /// Then with `NoneRecognized` where there is no such digest.
-#[tactic(auto, using(crate::proofs::Collected::recognized))]
+#[tactic(auto, using(crate::proofs::Collected::statement_seen))]
 pub fn recognized_digests(
     alloc: Global,
     statement: &InTotoStatementV1,
 ) -> Result<Digests, SubjectFault>
     ensures { Answers SubjectFault.OutOfMemory (λ digests. digests) result (digests_or_fault (seen statement.now)) }
 {
-    let count = statement.subject.len();
+    digests_of_maps(alloc, statement.subject_digests())
+}
+
+/// The digests of subjects, by the rules of [`recognized_digests`].
+#[tactic(auto, using(crate::proofs::Collected::recognized))]
+pub(crate) fn digests_of_maps(
+    alloc: Global,
+    subjects: SubjectDigests<'_>,
+) -> Result<Digests, SubjectFault>
+    ensures { Answers SubjectFault.OutOfMemory (λ digests. digests) result (digests_of_maps subjects.entry) }
+{
+    let count = subjects.len();
     if count > MOST_SUBJECTS {
         return Err(SubjectFault::TooManySubjects(count));
     }
-    match digests_of_subjects(alloc, statement.subject_digests()) {
+    match digests_of_subjects(alloc, subjects) {
         Ok(digests) if digests.len() == 0 => Err(SubjectFault::NoneRecognized),
         answer => answer,
     }

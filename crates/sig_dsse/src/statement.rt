@@ -2,7 +2,7 @@
 ghost use Rattle.std.specs.Prelude.{◌≡◌};
 ghost use Rattle.sig_base.specs.declared.error.SigstoreError.TheVariants.{UnexpectedError};
 
-use crate::subject_digests::SubjectDigests;
+use crate::subject_digests::{Left, SubjectDigests};
 use sig_base::{Register, Result, SigstoreError, Text, TextMap, UnexpectedKind};
 use sig_json::Document;
 use std::alloc::Global;
@@ -80,7 +80,7 @@ impl InTotoStatementV1 {
         ensures { result ≡ map (λ subject. subject.digest) self.now.subject }
     {
         SubjectDigests {
-            left: self.subject.as_slice(),
+            left: Left::Subjects(self.subject.as_slice()),
         }
     }
 

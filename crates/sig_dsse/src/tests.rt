@@ -1,7 +1,8 @@
 //! Outside vectors: encodings and envelopes by text, which payloads are statements, and which digests are taken.
 use crate::{
     ArtifactDigest, DigestName, DsseEnvelope, DsseSignature, DsseSignatures, InTotoStatementV1,
-    Subject, SubjectFault, Subjects, compute_pae, envelope_json, recognized_digests,
+    PayloadFault, Subject, SubjectFault, Subjects, compute_pae, envelope_json, payload_digests,
+    recognized_digests,
 };
 use sha2::{Digest, Sha256, Sha512};
 use sig_base::{Bytes, OutOfMemory, SigstoreError, Text, TextMap, UnexpectedKind};
@@ -169,14 +170,30 @@ fn cosign_word(alloc: Global, payload: &str) -> &'static str {
     }
 }
 
-/// Whether the digests of subjects with these maps are refused with the fault of this name.
-fn is_refused(alloc: Global, maps: &str, fault: &str) -> Result<bool, Fail> {
+/// Whether the digests of a payload are those of the statement that it is read as, or refused with the fault that they or the payload have.
+fn same_digests(alloc: Global, payload: &str) -> bool {
+    let found = payload_digests(alloc, payload.as_bytes());
+    let Ok(statement) = InTotoStatementV1::from_json(alloc, payload.as_bytes()) else {
+        return found.err() == Some(PayloadFault::NoStatement);
+    };
+    match (recognized_digests(alloc, &statement), found) {
+        (Ok(digests), Ok(found)) => digests.as_slice() == found.as_slice(),
+        (Err(fault), Err(PayloadFault::Subjects(found))) => fault == found,
+        _ => false,
+    }
+}
+
+/// The text of a statement whose subjects have these maps.
+fn payload_of(alloc: Global, maps: &str) -> Result<String, Fail> {
     let subjects = maps
         .replace(alloc, "{", "{\"digest\":{")?
         .replace(alloc, "}", "}}")?;
-    let payload = format!(in alloc;
-        "{{\"_type\":\"\",\"predicateType\":\"\",\"subject\":[{subjects}]}}"
-    )?;
+    Ok(format!(in alloc; "{{\"_type\":\"\",\"predicateType\":\"\",\"subject\":[{subjects}]}}")?)
+}
+
+/// Whether the digests of subjects with these maps are refused with the fault of this name.
+fn is_refused(alloc: Global, maps: &str, fault: &str) -> Result<bool, Fail> {
+    let payload = payload_of(alloc, maps)?;
     match InTotoStatementV1::from_json(alloc, payload.as_bytes()) {
         Ok(statement) => match recognized_digests(alloc, &statement) {
             Ok(_) => Ok(false),
@@ -312,6 +329,25 @@ fn payloads_that_are_no_statements(rt: HostRuntime) {
     for payload in REFUSED.lines() {
         assert!(rt; is_no_statement(rt.alloc(), payload), "{payload}");
     }
+}
+
+#[test]
+fn digests_of_a_payload(rt: HostRuntime) -> Result<(), Fail> {
+    let alloc = rt.alloc();
+    let digests = payload_digests(alloc, STATEMENT.as_bytes())?;
+    assert!(rt; digests.len() == 3);
+    assert!(rt; same_digests(alloc, STATEMENT));
+    for line in STATEMENTS.lines() {
+        if let Some((_, payload)) = line.split_once(' ') {
+            assert!(rt; same_digests(alloc, payload), "{line}");
+        }
+    }
+    for line in FAULTS.lines() {
+        let (_, maps) = line.split_once(' ').unwrap_or((line, ""));
+        let payload = payload_of(alloc, maps)?;
+        assert!(rt; same_digests(alloc, payload.as_str()), "{line}");
+    }
+    Ok(())
 }
 
 #[test]

@@ -4,6 +4,7 @@ pub mod Lists
 pub mod Numerals
 pub mod Elements
 pub mod Records
+pub mod Parts
 pub mod Building
 pub mod Built
 pub mod CanonicalTexts

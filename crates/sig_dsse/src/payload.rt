@@ -1,0 +1,74 @@
+//! The digests of the statement that a payload is, read without the rest of it.
+ghost use Rattle.sig_base.specs.Answers.{Answers};
+ghost use Rattle.sig_dsse.specs.DigestsAlone.{digest_maps_of};
+ghost use Rattle.sig_dsse.specs.Payload.{digests_of_payload};
+
+use crate::artifact_digest::Digests;
+use crate::digest_reader::DigestMapsReader;
+use crate::recognized::{SubjectFault, digests_of_maps};
+use crate::subject_digests::{Left, SubjectDigests};
+use sig_base::{Register, TextMap};
+use sig_json::{JsonError, read_record};
+use std::alloc::Global;
+use thiserror::Error;
+
+/// Why the digests of a payload's statement cannot be taken.
+#[derive(Clone, Copy, Debug, PartialEq, Eq, Error)]
+pub enum PayloadFault {
+    /// The payload is no statement.
+    #[error("NoStatement")]
+    NoStatement,
+    /// Its subjects have this fault, which is never want of memory.
+    #[error("{0}")]
+    Subjects(SubjectFault),
+    /// No memory could be had.
+    #[error("OutOfMemory")]
+    OutOfMemory,
+}
+
+impl From<SubjectFault> for PayloadFault {
+    ghost use Rattle.std.specs.Prelude.{◌≡◌};
+    ghost use Rattle.sig_dsse.specs.Payload.{payload_fault};
+
+    ghost from_gives = { λ fault e. e ≡ payload_fault fault };
+
+    fn from(fault: SubjectFault) -> PayloadFault {
+        match fault {
+            SubjectFault::OutOfMemory => PayloadFault::OutOfMemory,
+            fault => PayloadFault::Subjects(fault),
+        }
+    }
+}
+
+/// The digests of the statement that a payload is, as [`recognized_digests`](crate::recognized_digests) takes them. Of the statement nothing but
+/// its subjects' digests is copied.
+///
+/// Refuses with `NoStatement` exactly where [`InTotoStatementV1::from_json`](crate::InTotoStatementV1::from_json) refuses the payload, then with
+/// `Subjects` and the fault that `recognized_digests` has.
+#[tactic(auto, using(crate::proofs::DigestsAlone::of_payload))]
+pub fn payload_digests(alloc: Global, payload: &[u8]) -> Result<Digests, PayloadFault>
+    ensures { Answers PayloadFault.OutOfMemory (λ digests. digests) result (digests_of_payload payload.now) }
+{
+    let maps = read_maps(alloc, payload)?;
+    let subjects = SubjectDigests {
+        left: Left::Maps(maps.as_slice()),
+    };
+    match digests_of_maps(alloc, subjects) {
+        Ok(digests) => Ok(digests),
+        Err(fault) => Err(PayloadFault::from(fault)),
+    }
+}
+
+/// The digests of each subject of the statement that a payload is. Refuses with `NoStatement` where it is none.
+#[tactic(auto, using(crate::proofs::DigestsAlone::of_record))]
+fn read_maps(alloc: Global, payload: &[u8]) -> Result<Register<TextMap>, PayloadFault>
+    ensures { Answers PayloadFault.OutOfMemory (λ maps. maps) result (digest_maps_of payload.now) }
+{
+    match read_record::<DigestMapsReader>(alloc, payload) {
+        Ok(maps) => Ok(maps),
+        Err(JsonError::NotJson | JsonError::Float | JsonError::Member) => Err(
+            PayloadFault::NoStatement,
+        ),
+        Err(JsonError::OutOfMemory) => Err(PayloadFault::OutOfMemory),
+    }
+}
