@@ -4,7 +4,7 @@ ghost use Rattle.std.specs.Prelude.{◌≡◌};
 ghost use Rattle.sig_base.specs.Answers.{Answers};
 ghost use Rattle.sig_dsse.specs.Seen.{seen};
 ghost use Rattle.sig_dsse.specs.Statement.{statement_of};
-ghost use Rattle.sig_bundle.specs.Content.{signature_among, decoded, digests_in, enveloped, signed};
+ghost use Rattle.sig_bundle.specs.Content.{signature_among, statement_or_refusal, digests_in, enveloped, signed};
 ghost use Rattle.sig_bundle.specs.Lent.{lent_now};
 
 use crate::bundle::Content;
@@ -55,7 +55,7 @@ fn only_signature(signatures: &DsseSignatures) -> Result<&DsseSignature, BundleE
 
 /// The statement that the payload is. `DssePayloadDecode` exactly where it is none.
 fn read_statement(alloc: Global, payload: &[u8]) -> Result<InTotoStatementV1, BundleErrorKind>
-    ensures { Answers BundleErrorKind.OutOfMemory seen result (decoded (statement_of payload.now)) }
+    ensures { Answers BundleErrorKind.OutOfMemory seen result (statement_or_refusal (statement_of payload.now)) }
 {
     match InTotoStatementV1::from_json(alloc, payload) {
         Ok(statement) => Ok(statement),
