@@ -2,13 +2,28 @@
 use Rattle.std.proofs.Common.{◌≡◌, ℕ, List, [], ◌∷◌, true, Option, Some, None, option_map, refl, ap, ◌∙◌, inl, inr}
 use Rattle.std.proofs.lemmas.Bool.{cases_Bool}
 use Rattle.std.proofs.lemmas.Slice.Eq.{bytes_eq-Decides}
-use Rattle.std.specs.Prelude.{bytes_eq, if◌then◌else◌}
+use Rattle.std.specs.Prelude.{bytes_eq, unwrap_or, if◌then◌else◌}
 use Rattle.sig_json.specs.Data.{Data, Members, no_members}
 use Rattle.sig_json.specs.Find.{get_member}
 use Rattle.sig_json.proofs.Views.{get_member-put, get_member-put_other}
-use Rattle.sig_bundle.specs.Written.{Row, put_some, rows_into, object_of, over, find_from, find, IsReadAs, OptionIsRead}
+use Rattle.sig_bundle.specs.Written.{Row, put_some, rows_into, object_of, IsReadAs, OptionIsRead}
 use Rattle.sig_json.specs.Member.{member_of, not_null, optional, optional_or}
 use Rattle.sig_json.specs.Reads.{◌>>=◌}
+
+-- ---- a member, as the rows give it: the last row of its name whose value is there
+
+abbrev pub over : Option Data → Option Data → Option Data
+over None value = value
+over (Some before) value = Some (unwrap_or value before)
+
+abbrev pub find_from : List ℕ → Option Data → List Row → Option Data
+find_from name found [] = found
+find_from name found (row ∷ rows) = find_from name (if bytes_eq name row.0 then over found row.1 else found) rows
+
+abbrev pub find : List ℕ → List Row → Option Data
+find name rows = find_from name None rows
+
+-- ---- as the reader finds it
 
 over-none : (found : Option Data) → found ≡ over found None
 over-none None = refl

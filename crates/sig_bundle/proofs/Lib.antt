@@ -1,4 +1,5 @@
 mod CheckedLaws
+mod PassedLaws
 mod SignerLaws
 mod VersionLaws
 pub mod EntriesBack

@@ -7,17 +7,17 @@ use Rattle.sig_x509.specs.Answers.{IsRefusedOnlyWithout}
 use Rattle.sig_x509.specs.Certificate.{Cert, IsCertificate}
 use Rattle.sig_x509.specs.Profile.{leaf_refusal}
 use Rattle.sig_bundle.specs.Steps.{IsMeant, IsOnlyMeant}
-use Rattle.sig_bundle.specs.Signer.{AreReadings, IsSignerAmong, signer_among, leading}
+use Rattle.sig_bundle.specs.Signer.{AreReadings, IsSignerAmong, signer_among, leaf_or_refusal}
 use Rattle.sig_bundle.specs.declared.bundle_error.BundleErrorKind.{BundleErrorKind}
 use Rattle.sig_bundle.specs.declared.bundle_error.BundleErrorKind.TheVariants.{OutOfMemory, CertificateMalformed, NoLeaf}
 
 -- the certificate is a leaf
 pub leads : (c : Cert) → None ≡ leaf_refusal c → Ok c ≡ signer_among (Some c ∷ [])
-leads c e = let P : Option CertificateValidationError → Type 0 = λ o. Ok c ≡ leading c [] o in subst P e refl
+leads c e = let P : Option CertificateValidationError → Type 0 = λ o. Ok c ≡ leaf_or_refusal c [] o in subst P e refl
 
 -- it is none
 pub refuses : (c : Cert) → (e : CertificateValidationError) → Some e ≡ leaf_refusal c → Err (NoLeaf e) ≡ signer_among (Some c ∷ [])
-refuses c e is = let P : Option CertificateValidationError → Type 0 = λ o. Err (NoLeaf e) ≡ leading c [] o in subst P is refl
+refuses c e is = let P : Option CertificateValidationError → Type 0 = λ o. Err (NoLeaf e) ≡ leaf_or_refusal c [] o in subst P is refl
 
 -- no other certificate is the text's
 abbrev pub IsOnly : List ℕ → Cert → Type 0

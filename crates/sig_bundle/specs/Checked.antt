@@ -19,7 +19,7 @@ pub record Checked : Type 0 where
   pub content : CheckedContent
   pub entry : TransparencyLogEntry
 
--- The checks in order, where this is the answer of the signer's. The first that refuses ends them.
+-- The checks in order; the last argument is the answer of the signer's check. The first that refuses ends them.
 abbrev pub checked : Bundle → VerificationMaterial → Result Cert BundleErrorKind → Result Checked BundleErrorKind
 checked bundle material signer = do
   certificate ← signer

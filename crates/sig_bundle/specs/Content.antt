@@ -23,9 +23,9 @@ signature_among [] = Err (DsseInvalidSignatureCount 0)
 signature_among (signature ∷ []) = Ok signature
 signature_among (signature ∷ other ∷ others) = Err (DsseInvalidSignatureCount (length (signature ∷ other ∷ others)))
 
-abbrev pub decoded : Option Statement → Result Statement BundleErrorKind
-decoded None = Err DssePayloadDecode
-decoded (Some statement) = Ok statement
+abbrev pub statement_or_refusal : Option Statement → Result Statement BundleErrorKind
+statement_or_refusal None = Err DssePayloadDecode
+statement_or_refusal (Some statement) = Ok statement
 
 -- the refusal of a bundle for what is wrong with its subjects
 abbrev pub subject_refusal : SubjectFault → BundleErrorKind
@@ -35,15 +35,15 @@ subject_refusal (fault.Malformed name) = DsseSubjectDigestMalformed name
 subject_refusal fault.NoneRecognized = DsseNoRecognizedSubjectDigest
 subject_refusal fault.OutOfMemory = OutOfMemory
 
-abbrev pub compared : Result (List ArtifactDigest) SubjectFault → Result (List ArtifactDigest) BundleErrorKind
-compared (Ok digests) = Ok digests
-compared (Err fault) = Err (subject_refusal fault)
+abbrev pub under_bundle_names : Result (List ArtifactDigest) SubjectFault → Result (List ArtifactDigest) BundleErrorKind
+under_bundle_names (Ok digests) = Ok digests
+under_bundle_names (Err fault) = Err (subject_refusal fault)
 
 -- the digests that the payload's subjects have
 abbrev pub digests_in : List ℕ → Result (List ArtifactDigest) BundleErrorKind
 digests_in payload = do
-  statement ← decoded (statement_of payload)
-  compared (digests_or_fault statement)
+  statement ← statement_or_refusal (statement_of payload)
+  under_bundle_names (digests_or_fault statement)
 
 -- what an envelope signs: its one signature, over the encoding of its type and payload, which is a statement about artifacts
 abbrev pub enveloped : DsseEnvelope → Result Signed BundleErrorKind

@@ -2,6 +2,7 @@ pub mod BundleRecord
 pub mod Checked
 pub mod Content
 pub mod Lent
+pub mod Passed
 pub mod Profile
 pub mod Signer
 pub mod Steps

@@ -33,27 +33,27 @@ AreReadings (text ∷ texts) [] = ⊥
 
 -- ---- what is made of them
 
-abbrev pub after : Cert → Result (List Cert) BundleErrorKind → Result (List Cert) BundleErrorKind
-after c (Err e) = Err e
-after c (Ok cs) = Ok (c ∷ cs)
+abbrev pub prepended : Cert → Result (List Cert) BundleErrorKind → Result (List Cert) BundleErrorKind
+prepended c (Err e) = Err e
+prepended c (Ok cs) = Ok (c ∷ cs)
 
 -- the certificates, or the place of the first text that is none, counted from this one on
 abbrev pub certificates_from : ℕ → List (Option Cert) → Result (List Cert) BundleErrorKind
 certificates_from place [] = Ok []
 certificates_from place (None ∷ readings) = Err (CertificateMalformed place)
-certificates_from place (Some c ∷ readings) = after c (certificates_from (place + 1) readings)
+certificates_from place (Some c ∷ readings) = prepended c (certificates_from (place + 1) readings)
 
 abbrev pub is_root : Cert → Bool
 is_root c = is_none (root_refusal c)
 
-abbrev pub leading : Cert → List Cert → Option CertificateValidationError → Result Cert BundleErrorKind
-leading c later (Some e) = Err (NoLeaf e)
-leading c later None = if list_any is_root later then Err RootInChain else Ok c
+abbrev pub leaf_or_refusal : Cert → List Cert → Option CertificateValidationError → Result Cert BundleErrorKind
+leaf_or_refusal c later (Some e) = Err (NoLeaf e)
+leaf_or_refusal c later None = if list_any is_root later then Err RootInChain else Ok c
 
 -- the first certificate, which has to be a leaf; no later one may be a root
 abbrev pub leaf_among : List Cert → Result Cert BundleErrorKind
 leaf_among [] = Err CertificatesMissing
-leaf_among (c ∷ later) = leading c later (leaf_refusal c)
+leaf_among (c ∷ later) = leaf_or_refusal c later (leaf_refusal c)
 
 abbrev pub signer_among : List (Option Cert) → Result Cert BundleErrorKind
 signer_among readings = certificates_from 0 readings >>= leaf_among

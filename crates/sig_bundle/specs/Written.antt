@@ -1,5 +1,5 @@
 -- Trees that are written: objects made of rows, and values that are read back.
-use Rattle.std.specs.Prelude.{◌≡◌, ℕ, ℤ, List, [], ◌∷◌, Option, Some, None, unwrap_or, bytes_eq, if◌then◌else◌, ⊤}
+use Rattle.std.specs.Prelude.{◌≡◌, ℕ, ℤ, List, [], ◌∷◌, Option, Some, None, unwrap_or, ⊤}
 use Rattle.std.specs.Fmt.{signed_decimal}
 use Rattle.sig_base.specs.Base64.{base64_text}
 use Rattle.sig_json.specs.Data.{Data, string, array, object, Items, no_items, item, Members, no_members, put}
@@ -55,16 +55,3 @@ IsReadAs kind d x = (kind d ≡ Some x) × (not_null d ≡ Some d)
 abbrev pub OptionIsRead : {A : Type 0} → (Data → Option A) → (A → Data) → Option A → Type 0
 OptionIsRead kind written None = ⊤
 OptionIsRead kind written (Some x) = IsReadAs kind (written x) x
-
--- ---- a member, as the rows give it: the last row of its name whose value is there
-
-abbrev pub over : Option Data → Option Data → Option Data
-over None value = value
-over (Some before) value = Some (unwrap_or value before)
-
-abbrev pub find_from : List ℕ → Option Data → List Row → Option Data
-find_from name found [] = found
-find_from name found (row ∷ rows) = find_from name (if bytes_eq name row.0 then over found row.1 else found) rows
-
-abbrev pub find : List ℕ → List Row → Option Data
-find name rows = find_from name None rows

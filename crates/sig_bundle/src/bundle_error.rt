@@ -1,7 +1,8 @@
 //! `BundleErrorKind`: why a bundle does not pass its own checks.
 
 ghost use Rattle.std.specs.Prelude.{◌≡◌};
-ghost use Rattle.sig_bundle.specs.declared.bundle_error.BundleErrorKind.TheVariants.{OutOfMemory as Memory};
+ghost use Rattle.sig_bundle.specs.declared.bundle_error.BundleErrorKind.TheVariants.{OutOfMemory as Memory, BundleProfile};
+ghost use Rattle.sig_bundle.specs.declared.bundle_error.BundleProfileErrorKind.TheVariants.{Bundle01Profile, Bundle02Profile};
 ghost use Rattle.sig_bundle.specs.Content.{subject_refusal};
 
 use sig_base::{OutOfMemory, Text};
@@ -15,7 +16,7 @@ pub enum BundleErrorKind {
     /// There is no verification material.
     #[error("VerificationMaterialMissing")]
     VerificationMaterialMissing,
-    /// The material says not whose signature it is, or not by a certificate.
+    /// The material has no content, or one that is not read: a hint at a key, and for now a chain.
     #[error("VerificationMaterialContentUnsupported")]
     VerificationMaterialContentUnsupported,
     /// The certificate at this place, counted from 0, is none.
@@ -116,5 +117,29 @@ impl From<SubjectFault> for BundleErrorKind {
             SubjectFault::NoneRecognized => BundleErrorKind::DsseNoRecognizedSubjectDigest,
             SubjectFault::OutOfMemory => BundleErrorKind::OutOfMemory,
         }
+    }
+}
+
+impl From<BundleProfileErrorKind> for BundleErrorKind {
+    ghost from_gives = { λ kind e. e ≡ BundleProfile kind };
+
+    fn from(kind: BundleProfileErrorKind) -> BundleErrorKind {
+        BundleErrorKind::BundleProfile(kind)
+    }
+}
+
+impl From<Bundle01ProfileErrorKind> for BundleProfileErrorKind {
+    ghost from_gives = { λ kind e. e ≡ Bundle01Profile kind };
+
+    fn from(kind: Bundle01ProfileErrorKind) -> BundleProfileErrorKind {
+        BundleProfileErrorKind::Bundle01Profile(kind)
+    }
+}
+
+impl From<Bundle02ProfileErrorKind> for BundleProfileErrorKind {
+    ghost from_gives = { λ kind e. e ≡ Bundle02Profile kind };
+
+    fn from(kind: Bundle02ProfileErrorKind) -> BundleProfileErrorKind {
+        BundleProfileErrorKind::Bundle02Profile(kind)
     }
 }

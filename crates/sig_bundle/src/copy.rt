@@ -5,54 +5,27 @@ use crate::material::{KindVersion, ProofFields, TransparencyLogEntry};
 use sig_base::{Bytes, OutOfMemory, Text};
 use std::alloc::Global;
 
-/// Bytes that may be absent, copied.
-fn copy_bytes(alloc: Global, bytes: &Option<Bytes>) -> Result<Option<Bytes>, OutOfMemory>
-    ensures { IfOk result (λ copied. copied ≡ bytes.now) }
-{
-    match bytes {
-        Some(bytes) => Ok(Some(bytes.copy(alloc)?)),
-        None => Ok(None),
+/// A value that can be had once more, in memory of its own.
+trait Copies: Drop {
+    /// The same value in memory of its own. Refuses for want of memory alone.
+    fn copied(&self, alloc: Global) -> Result<Self, OutOfMemory>
+        ensures { IfOk result (λ copy. copy ≡ self.now) };
+}
+
+impl Copies for Bytes {
+    fn copied(&self, alloc: Global) -> Result<Bytes, OutOfMemory> {
+        self.copy(alloc)
     }
 }
 
-/// A text that may be absent, copied.
-fn copy_text(alloc: Global, text: &Option<Text>) -> Result<Option<Text>, OutOfMemory>
-    ensures { IfOk result (λ copied. copied ≡ text.now) }
-{
-    match text {
-        Some(text) => Ok(Some(text.copy(alloc)?)),
-        None => Ok(None),
+impl Copies for Text {
+    fn copied(&self, alloc: Global) -> Result<Text, OutOfMemory> {
+        self.copy(alloc)
     }
 }
 
-/// A kind that may be absent, copied.
-fn copy_kind(alloc: Global, kind: &Option<KindVersion>) -> Result<Option<KindVersion>, OutOfMemory>
-    ensures { IfOk result (λ copied. copied ≡ kind.now) }
-{
-    match kind {
-        Some(kind) => Ok(Some(kind.copy(alloc)?)),
-        None => Ok(None),
-    }
-}
-
-/// A proof that may be absent, copied.
-fn copy_proof(
-    alloc: Global,
-    proof: &Option<ProofFields>,
-) -> Result<Option<ProofFields>, OutOfMemory>
-    ensures { IfOk result (λ copied. copied ≡ proof.now) }
-{
-    match proof {
-        Some(proof) => Ok(Some(proof.copy(alloc)?)),
-        None => Ok(None),
-    }
-}
-
-impl KindVersion {
-    /// The same kind in memory of its own. Refuses for want of memory alone.
-    pub fn copy(&self, alloc: Global) -> Result<KindVersion, OutOfMemory>
-        ensures { IfOk result (λ copied. copied ≡ self.now) }
-    {
+impl Copies for KindVersion {
+    fn copied(&self, alloc: Global) -> Result<KindVersion, OutOfMemory> {
         Ok(KindVersion {
             kind: self.kind.copy(alloc)?,
             version: self.version.copy(alloc)?,
@@ -60,18 +33,25 @@ impl KindVersion {
     }
 }
 
-impl ProofFields {
-    /// The same proof in memory of its own. Refuses for want of memory alone.
-    pub fn copy(&self, alloc: Global) -> Result<ProofFields, OutOfMemory>
-        ensures { IfOk result (λ copied. copied ≡ self.now) }
-    {
+impl Copies for ProofFields {
+    fn copied(&self, alloc: Global) -> Result<ProofFields, OutOfMemory> {
         Ok(ProofFields {
             log_index: self.log_index,
             root_hash: self.root_hash.copy(alloc)?,
             tree_size: self.tree_size,
             hashes: self.hashes.copy(alloc)?,
-            checkpoint: copy_text(alloc, &self.checkpoint)?,
+            checkpoint: copied_option(alloc, &self.checkpoint)?,
         })
+    }
+}
+
+/// A value that may be absent, copied.
+fn copied_option<T: Copies>(alloc: Global, value: &Option<T>) -> Result<Option<T>, OutOfMemory>
+    ensures { IfOk result (λ copy. copy ≡ value.now) }
+{
+    match value {
+        Some(value) => Ok(Some(value.copied(alloc)?)),
+        None => Ok(None),
     }
 }
 
@@ -82,11 +62,11 @@ impl TransparencyLogEntry {
     {
         Ok(TransparencyLogEntry {
             log_index: self.log_index,
-            log_id: copy_bytes(alloc, &self.log_id)?,
-            kind_version: copy_kind(alloc, &self.kind_version)?,
+            log_id: copied_option(alloc, &self.log_id)?,
+            kind_version: copied_option(alloc, &self.kind_version)?,
             integrated_time: self.integrated_time,
-            inclusion_promise: copy_bytes(alloc, &self.inclusion_promise)?,
-            inclusion_proof: copy_proof(alloc, &self.inclusion_proof)?,
+            inclusion_promise: copied_option(alloc, &self.inclusion_promise)?,
+            inclusion_proof: copied_option(alloc, &self.inclusion_proof)?,
             canonicalized_body: self.canonicalized_body.copy(alloc)?,
         })
     }

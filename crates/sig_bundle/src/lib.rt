@@ -1,7 +1,9 @@
 //! Sigstore bundles: read, written, and checked as far as a bundle alone can be checked.
 //!
 //! The layer above uses three facts. A text is read as the bundle that its members are, exactly where they fit the table of the format. The text
-//! of a bundle is read back as that bundle. A bundle passes its own checks exactly where no refusal has its cause, and else gets the first.
+//! of a bundle is read back as that bundle. A bundle passes its own checks exactly where no refusal has its cause, and else gets the first:
+//! chains, signatures over an artifact alone and the profiles 0.1 and 0.2 are refused until they are read. What a bundle holds that passes says
+//! `laws`.
 #![tactic(auto)]
 
 mod bundle;
@@ -9,6 +11,7 @@ mod bundle_error;
 mod checked_bundle;
 mod content_check;
 mod copy;
+pub mod laws;
 mod material;
 mod object;
 mod profile_check;

@@ -31,15 +31,15 @@ fn lacks_proof(proof: &Option<ProofFields>) -> Option<BundleProfileErrorKind>
         Some(proof) if proof.checkpoint.is_none() => Bundle02ProfileErrorKind::CheckpointMissing,
         Some(_) => return None,
     };
-    Some(BundleProfileErrorKind::Bundle02Profile(lacking))
+    Some(BundleProfileErrorKind::from(lacking))
 }
 
-/// What an entry lacks under a media type that names no known profile: all.
+/// The refusal of a media type whose profile is not known: `Unknown` with its text, unless memory runs out.
 fn unknown(alloc: Global, media_type: &Text) -> BundleErrorKind
     ensures { (result ≡ BundleErrorKind.OutOfMemory) ⊎ (result ≡ BundleErrorKind.BundleProfile (BundleProfileErrorKind.Unknown media_type.now)) }
 {
     match media_type.copy(alloc) {
-        Ok(copied) => BundleErrorKind::BundleProfile(BundleProfileErrorKind::Unknown(copied)),
+        Ok(copied) => BundleErrorKind::from(BundleProfileErrorKind::Unknown(copied)),
         Err(error) => BundleErrorKind::from(error),
     }
 }
@@ -58,7 +58,7 @@ pub(crate) fn meets_profile(
     match Version::from_str(media_type.as_str()) {
         Ok(Version::Bundle0_3) => match lacks_proof(&entry.inclusion_proof) {
             None => Ok(()),
-            Some(lacking) => Err(BundleErrorKind::BundleProfile(lacking)),
+            Some(lacking) => Err(BundleErrorKind::from(lacking)),
         },
         Ok(Version::Bundle0_1 | Version::Bundle0_2) | Err(()) => Err(unknown(alloc, media_type)),
     }

@@ -1,0 +1,61 @@
+-- *Passed bundle*: what a bundle that passes its own checks holds (Sigstore bundle format; DSSE protocol; in-toto attestation framework; RFC 5280).
+use Rattle.std.specs.Prelude.{◌≡◌, ℕ, List, [], ◌∷◌, Option, Some, None, Ok}
+use Rattle.sig_dsse.specs.EnvelopeText.{envelope_text}
+use Rattle.sig_dsse.specs.Pae.{pae}
+use Rattle.sig_dsse.specs.Recognized.{digests_or_fault}
+use Rattle.sig_dsse.specs.Statement.{Statement, statement_of}
+use Rattle.sig_dsse.specs.declared.artifact_digest.ArtifactDigest.{ArtifactDigest}
+use Rattle.sig_dsse.specs.declared.envelope.DsseEnvelope.{DsseEnvelope}
+use Rattle.sig_dsse.specs.declared.envelope.DsseSignature.{DsseSignature}
+use Rattle.sig_x509.specs.Certificate.{Cert, IsCertificate}
+use Rattle.sig_x509.specs.Profile.{leaf_refusal}
+use Rattle.sig_bundle.specs.Checked.{Checked}
+use Rattle.sig_bundle.specs.Version.{IsMediaType}
+use Rattle.sig_bundle.specs.declared.bundle.Bundle.{Bundle}
+use Rattle.sig_bundle.specs.declared.bundle.Content.{Content}
+use Rattle.sig_bundle.specs.declared.bundle.Content.TheVariants.{DsseEnvelope as Envelope}
+use Rattle.sig_bundle.specs.declared.content_check.CheckedContent.{CheckedContent}
+use Rattle.sig_bundle.specs.declared.content_check.CheckedContent.TheVariants.{Dsse}
+use Rattle.sig_bundle.specs.declared.material.MaterialContent.{MaterialContent}
+use Rattle.sig_bundle.specs.declared.material.MaterialContent.TheVariants.{Certificate}
+use Rattle.sig_bundle.specs.declared.material.ProofFields.{ProofFields}
+use Rattle.sig_bundle.specs.declared.material.TransparencyLogEntry.{TransparencyLogEntry}
+use Rattle.sig_bundle.specs.declared.material.VerificationMaterial.{VerificationMaterial}
+use Rattle.sig_bundle.specs.declared.version.Version.TheVariants.{Bundle0_3}
+
+-- the material holds one certificate, which is this one and may sign
+pub record IsSignedBy (content : Option MaterialContent) (certificate : Cert) : Type 0 where
+  pub der : List ℕ
+  pub held : content ≡ Some (Certificate der)
+  pub read : IsCertificate der certificate
+  pub may_sign : leaf_refusal certificate ≡ None
+
+-- an envelope has this signature and no other, its payload is a statement about artifacts, and all that the signature is over is kept
+pub record IsEnvelopeOf (content : Option Content) (bytes : List ℕ) (kept : CheckedContent) : Type 0 where
+  pub envelope : DsseEnvelope
+  pub held : content ≡ Some (Envelope envelope)
+  pub signature : DsseSignature
+  pub only : envelope.signatures ≡ signature ∷ []
+  pub signed : signature.sig ≡ bytes
+  pub statement : Statement
+  pub stated : statement_of envelope.payload ≡ Some statement
+  pub digests : List ArtifactDigest
+  pub named : digests_or_fault statement ≡ Ok digests
+  pub over : kept ≡ Dsse (pae envelope.payload_type envelope.payload) digests (envelope_text envelope) envelope.payload
+
+-- the log entry has an inclusion proof with a checkpoint
+pub record IsProven (entry : TransparencyLogEntry) : Type 0 where
+  pub proof : ProofFields
+  pub included : entry.inclusion_proof ≡ Some proof
+  pub checkpoint : List ℕ
+  pub signed : proof.checkpoint ≡ Some checkpoint
+
+-- the bundle is one of version 0.3, and has all that this version demands of a signed statement
+pub record IsPassed (bundle : Bundle) (c : Checked) : Type 0 where
+  pub material : VerificationMaterial
+  pub brought : bundle.verification_material ≡ Some material
+  pub signer : IsSignedBy material.content c.certificate
+  pub envelope : IsEnvelopeOf bundle.content c.signature c.content
+  pub logged : material.tlog_entries ≡ c.entry ∷ []
+  pub version : IsMediaType bundle.media_type Bundle0_3
+  pub proven : IsProven c.entry
