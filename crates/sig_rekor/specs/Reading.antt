@@ -1,5 +1,5 @@
 -- What a reader of the checkpoint format answers: the value, or the first rule that is broken.
-use Rattle.std.specs.Prelude.{◌≡◌, ℕ, Option, Result, Ok, Err, List, [], ◌∷◌}
+use Rattle.std.specs.Prelude.{◌≡◌, ℕ, Result, Ok, Err, List, [], ◌∷◌}
 use Rattle.std.specs.Option.{ok_or}
 use Rattle.sig_base.specs.Base64.{base64_bytes}
 use Rattle.sig_base.specs.declared.fault.CheckpointFault.{CheckpointFault}
