@@ -5,6 +5,7 @@ use crate::{
     required, required_hash, required_list,
 };
 use std::alloc::Global;
+use std::fmt::Display;
 use std::test::Fail;
 
 /// Each line: a call, a document, and what the call answers of the member `m`.
@@ -173,31 +174,25 @@ fn readers_answer(rt: HostRuntime) -> Result<(), Fail> {
     Ok(())
 }
 
+fn displays<E: Display>(alloc: Global, error: &E, name: &str) -> bool {
+    match error.to_string(alloc) {
+        Ok(text) => text.as_str() == name,
+        Err(_) => false,
+    }
+}
+
 #[test]
-fn texts_of_errors(rt: HostRuntime) -> Result<(), Fail> {
+fn texts_of_errors(rt: HostRuntime) {
     let alloc = rt.alloc();
-    let text = format!(in alloc;
-        "{} {} {}",
-        DocumentError::NotJson,
-        DocumentError::Float,
-        DocumentError::OutOfMemory
-    )?;
-    assert!(rt; text.as_str() == "NotJson Float OutOfMemory");
-    let text = format!(in alloc; "{} {}", MemberError::Member, MemberError::OutOfMemory)?;
-    assert!(rt; text.as_str() == "Member OutOfMemory");
-    let text = format!(in alloc;
-        "{} {} {} {}",
-        JsonError::NotJson,
-        JsonError::Float,
-        JsonError::Member,
-        JsonError::OutOfMemory
-    )?;
-    assert!(rt; text.as_str() == "NotJson Float Member OutOfMemory");
-    let text = format!(in alloc;
-        "{} {}",
-        CanonicalError::IntegerTooLarge,
-        CanonicalError::OutOfMemory
-    )?;
-    assert!(rt; text.as_str() == "IntegerTooLarge OutOfMemory");
-    Ok(())
+    assert!(rt; displays(alloc, &DocumentError::NotJson, "NotJson"));
+    assert!(rt; displays(alloc, &DocumentError::Float, "Float"));
+    assert!(rt; displays(alloc, &DocumentError::OutOfMemory, "OutOfMemory"));
+    assert!(rt; displays(alloc, &MemberError::Member, "Member"));
+    assert!(rt; displays(alloc, &MemberError::OutOfMemory, "OutOfMemory"));
+    assert!(rt; displays(alloc, &JsonError::NotJson, "NotJson"));
+    assert!(rt; displays(alloc, &JsonError::Float, "Float"));
+    assert!(rt; displays(alloc, &JsonError::Member, "Member"));
+    assert!(rt; displays(alloc, &JsonError::OutOfMemory, "OutOfMemory"));
+    assert!(rt; displays(alloc, &CanonicalError::IntegerTooLarge, "IntegerTooLarge"));
+    assert!(rt; displays(alloc, &CanonicalError::OutOfMemory, "OutOfMemory"));
 }
