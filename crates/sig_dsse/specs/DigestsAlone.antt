@@ -1,5 +1,5 @@
 -- For private clauses: what is read of a statement where its digests alone are kept.
-use Rattle.std.specs.Prelude.{ℕ, List, map, Option, Some, None, option_map, Result, Ok, Err}
+use Rattle.std.specs.Prelude.{ℕ, List, map, Option, option_map, Result}
 use Rattle.std.specs.Option.{ok_or}
 use Rattle.sig_json.specs.Data.{Data}
 use Rattle.sig_json.specs.Kinds.{text_of}

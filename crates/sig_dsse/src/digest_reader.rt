@@ -1,6 +1,4 @@
-//! The digests of a statement's subjects, read from its tree. What else a statement has is tested as [`StatementReader`] tests it, and not copied.
-//!
-//! [`StatementReader`]: crate::statement_reader::StatementReader
+//! The digests of a statement's subjects, read from its tree. What else a statement has is tested as its reader tests it, and not copied.
 ghost use Rattle.sig_dsse.specs.DigestsAlone.{is_text, digest_map_in, digest_maps_in};
 
 use sig_base::{Register, TextMap};
