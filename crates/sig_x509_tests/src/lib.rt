@@ -7,6 +7,8 @@ mod calendar;
 #[cfg(test)]
 mod case;
 #[cfg(test)]
+mod error_tests;
+#[cfg(test)]
 mod flipped_tests;
 #[cfg(test)]
 mod key_tests;
