@@ -4,9 +4,9 @@ use crate::{
     TextMapReader, TextReader, compact, find_member, optional, optional_list, quoted, read_record,
     required, required_hash, required_list,
 };
+use sig_base::OutOfMemory;
 use std::alloc::Global;
 use std::fmt::Display;
-use std::test::Fail;
 
 /// Each line: a call, a document, and what the call answers of the member `m`.
 const ANSWERS: &str = r#"find {"m":[1]} = Some [1]
@@ -44,7 +44,7 @@ record null = Member
 record 1.0 = Float
 record [ = NotJson"#;
 
-fn found(alloc: Global, json: Json<'_>) -> Result<String, Fail> {
+fn found(alloc: Global, json: Json<'_>) -> Result<String, OutOfMemory> {
     match find_member(json, "m") {
         Ok(Some(value)) => Ok(format!(in alloc; " Some {}", compact(alloc, value)?.as_str())?),
         Ok(None) => Ok(format!(in alloc; " None")?),
@@ -52,7 +52,7 @@ fn found(alloc: Global, json: Json<'_>) -> Result<String, Fail> {
     }
 }
 
-fn optional_text(alloc: Global, json: Json<'_>) -> Result<String, Fail> {
+fn optional_text(alloc: Global, json: Json<'_>) -> Result<String, OutOfMemory> {
     match optional::<TextReader>(alloc, json, "m") {
         Ok(Some(text)) => Ok(format!(in alloc; " Some {text:?}")?),
         Ok(None) => Ok(format!(in alloc; " None")?),
@@ -60,14 +60,14 @@ fn optional_text(alloc: Global, json: Json<'_>) -> Result<String, Fail> {
     }
 }
 
-fn required_text(alloc: Global, json: Json<'_>) -> Result<String, Fail> {
+fn required_text(alloc: Global, json: Json<'_>) -> Result<String, OutOfMemory> {
     match required::<TextReader>(alloc, json, "m") {
         Ok(text) => Ok(format!(in alloc; " {text:?}")?),
         Err(error) => Ok(format!(in alloc; " {error}")?),
     }
 }
 
-fn optional_bytes_list(alloc: Global, json: Json<'_>) -> Result<String, Fail> {
+fn optional_bytes_list(alloc: Global, json: Json<'_>) -> Result<String, OutOfMemory> {
     match optional_list::<BytesReader>(alloc, json, "m") {
         Ok(list) => {
             let mut line = String::new(alloc);
@@ -80,7 +80,7 @@ fn optional_bytes_list(alloc: Global, json: Json<'_>) -> Result<String, Fail> {
     }
 }
 
-fn required_text_list(alloc: Global, json: Json<'_>) -> Result<String, Fail> {
+fn required_text_list(alloc: Global, json: Json<'_>) -> Result<String, OutOfMemory> {
     match required_list::<TextReader>(alloc, json, "m") {
         Ok(list) => {
             let mut line = String::new(alloc);
@@ -93,7 +93,7 @@ fn required_text_list(alloc: Global, json: Json<'_>) -> Result<String, Fail> {
     }
 }
 
-fn text_map(alloc: Global, json: Json<'_>) -> Result<String, Fail> {
+fn text_map(alloc: Global, json: Json<'_>) -> Result<String, OutOfMemory> {
     match required::<TextMapReader>(alloc, json, "m") {
         Ok(map) => {
             let mut line = String::new(alloc);
@@ -106,14 +106,14 @@ fn text_map(alloc: Global, json: Json<'_>) -> Result<String, Fail> {
     }
 }
 
-fn hash(alloc: Global, json: Json<'_>) -> Result<String, Fail> {
+fn hash(alloc: Global, json: Json<'_>) -> Result<String, OutOfMemory> {
     match required_hash(json, "m") {
         Ok(hash) => Ok(format!(in alloc; " {:?}", hash.as_slice())?),
         Err(error) => Ok(format!(in alloc; " {error}")?),
     }
 }
 
-fn first_hash(alloc: Global, json: Json<'_>) -> Result<String, Fail> {
+fn first_hash(alloc: Global, json: Json<'_>) -> Result<String, OutOfMemory> {
     match required_list::<HashReader>(alloc, json, "m") {
         Ok(list) => match list.as_slice() {
             [hash] => Ok(format!(in alloc; " {:?}", hash.as_slice())?),
@@ -123,14 +123,14 @@ fn first_hash(alloc: Global, json: Json<'_>) -> Result<String, Fail> {
     }
 }
 
-fn quoted_text(alloc: Global, json: Json<'_>) -> Result<String, Fail> {
+fn quoted_text(alloc: Global, json: Json<'_>) -> Result<String, OutOfMemory> {
     match json.get("m").and_then(|value| value.text()) {
         Some(text) => Ok(format!(in alloc; " {}", quoted(alloc, text)?.as_str())?),
         None => Ok(format!(in alloc; " None")?),
     }
 }
 
-fn record(alloc: Global, text: &str) -> Result<String, Fail> {
+fn record(alloc: Global, text: &str) -> Result<String, OutOfMemory> {
     match read_record::<TextReader>(alloc, text.as_bytes()) {
         Ok(text) => Ok(format!(in alloc; " {text:?}")?),
         Err(error) => Ok(format!(in alloc; " {error}")?),
@@ -138,11 +138,13 @@ fn record(alloc: Global, text: &str) -> Result<String, Fail> {
 }
 
 /// What this call answers of the text, after a space.
-fn answer(alloc: Global, call: &str, text: &str) -> Result<String, Fail> {
+fn answer(alloc: Global, call: &str, text: &str) -> Result<String, OutOfMemory> {
     if call == "record" {
         return record(alloc, text);
     }
-    let document = Document::read(alloc, text.as_bytes())?;
+    let Ok(document) = Document::read(alloc, text.as_bytes()) else {
+        return Ok(format!(in alloc; " no document")?);
+    };
     let json = document.view();
     match call {
         "find" => found(alloc, json),
@@ -158,20 +160,18 @@ fn answer(alloc: Global, call: &str, text: &str) -> Result<String, Fail> {
     }
 }
 
+/// Whether a line of `ANSWERS` is true. None where it is no such line.
+fn is_answered(alloc: Global, line: &str) -> Option<bool> {
+    let (call, rest) = line.split_once(' ')?;
+    let (text, expected) = rest.split_once(" =")?;
+    Some(answer(alloc, call, text).ok()?.as_str() == expected)
+}
+
 #[test]
-fn readers_answer(rt: HostRuntime) -> Result<(), Fail> {
-    let alloc = rt.alloc();
+fn readers_answer(rt: HostRuntime) {
     for line in ANSWERS.lines() {
-        let Some((call, rest)) = line.split_once(' ') else {
-            continue;
-        };
-        let Some((text, expected)) = rest.split_once(" =") else {
-            continue;
-        };
-        let found = answer(alloc, call, text)?;
-        assert!(rt; found.as_str() == expected, "{call} {text}:{found}");
+        assert_eq!(rt; is_answered(rt.alloc(), line), Some(true), "{line}");
     }
-    Ok(())
 }
 
 fn displays<E: Display>(alloc: Global, error: &E, name: &str) -> bool {
