@@ -69,7 +69,7 @@ pub(crate) fn code_signing(
 fn missing(part: PartName) -> CertificateValidationError
     ensures { result ≡ CertificateValidationError.Extension (ExtensionErrorKind.Missing part) }
 {
-    CertificateValidationError::Extension(ExtensionErrorKind::Missing(part))
+    ExtensionErrorKind::Missing(part).into()
 }
 
 /// Whether what the two extensions say makes an authority.
@@ -85,9 +85,7 @@ fn judge_authority(
         Ok(Some(found)) => found,
     };
     if !critical {
-        return Err(CertificateValidationError::Extension(ExtensionErrorKind::NotCritical(
-            PartName::BasicConstraints,
-        )));
+        return Err(ExtensionErrorKind::NotCritical(PartName::BasicConstraints).into());
     }
     let usage = match usage {
         Err(e) => return Err(e),
@@ -96,11 +94,8 @@ fn judge_authority(
     };
     match (constraints.ca, usage.key_cert_sign) {
         (true, true) => Ok(()),
-        (false, false) => Err(CertificateValidationError::NotCA(NotCAErrorKind::NotCA)),
-        (ca, key_cert_sign) => Err(CertificateValidationError::NotCA(NotCAErrorKind::Invalid {
-            ca,
-            key_cert_sign,
-        })),
+        (false, false) => Err(NotCAErrorKind::NotCA.into()),
+        (ca, key_cert_sign) => Err(NotCAErrorKind::Invalid { ca, key_cert_sign }.into()),
     }
 }
 
@@ -124,14 +119,14 @@ pub fn is_root_ca(certificate: &Certificate) -> Result<(), CertificateValidation
     match is_ca(certificate) {
         Err(e) => Err(e),
         Ok(()) if certificate.issuer() == certificate.subject() => Ok(()),
-        Ok(()) => Err(CertificateValidationError::NotCA(NotCAErrorKind::NotRootCA)),
+        Ok(()) => Err(NotCAErrorKind::NotRootCA.into()),
     }
 }
 
 fn bit_unset(part: PartName) -> CertificateValidationError
     ensures { result ≡ CertificateValidationError.Extension (ExtensionErrorKind.BitUnset part) }
 {
-    CertificateValidationError::Extension(ExtensionErrorKind::BitUnset(part))
+    ExtensionErrorKind::BitUnset(part).into()
 }
 
 /// Whether what the two extensions say lets the key sign code.
@@ -168,7 +163,7 @@ pub fn is_leaf(certificate: &Certificate) -> Result<(), CertificateValidationErr
         return Err(CertificateValidationError::VersionUnsupported);
     }
     match is_ca(certificate) {
-        Ok(()) => Err(CertificateValidationError::NotLeaf(NotLeafErrorKind::IsCA)),
+        Ok(()) => Err(NotLeafErrorKind::IsCA.into()),
         Err(_) => judge_signer(key_usage(certificate), code_signing(certificate)),
     }
 }

@@ -1,5 +1,8 @@
 //! Why a certificate does not have the profile that is asked for.
 
+ghost use Rattle.std.specs.Prelude.{◌≡◌};
+ghost use Rattle.sig_x509.specs.declared.profile_error.CertificateValidationError.TheVariants.{NotLeaf, NotCA, Extension};
+
 use thiserror::Error;
 
 /// Why a certificate is no leaf, no authority or no root.
@@ -76,4 +79,28 @@ pub enum PartName {
     ExtendedKeyUsage,
     /// The purpose of code signing in extended key usage, under the name that the ported crate gives it.
     ExtendedKeyUsageDigitalSignature,
+}
+
+impl From<NotLeafErrorKind> for CertificateValidationError {
+    ghost from_gives = { λ kind e. e ≡ NotLeaf kind };
+
+    fn from(kind: NotLeafErrorKind) -> CertificateValidationError {
+        CertificateValidationError::NotLeaf(kind)
+    }
+}
+
+impl From<NotCAErrorKind> for CertificateValidationError {
+    ghost from_gives = { λ kind e. e ≡ NotCA kind };
+
+    fn from(kind: NotCAErrorKind) -> CertificateValidationError {
+        CertificateValidationError::NotCA(kind)
+    }
+}
+
+impl From<ExtensionErrorKind> for CertificateValidationError {
+    ghost from_gives = { λ kind e. e ≡ Extension kind };
+
+    fn from(kind: ExtensionErrorKind) -> CertificateValidationError {
+        CertificateValidationError::Extension(kind)
+    }
 }
