@@ -1,4 +1,5 @@
 mod CheckedLaws
+mod Equality
 mod PassedLaws
 mod SignerLaws
 mod VersionLaws

@@ -210,8 +210,12 @@ passed-with bundle c (Some material) brought is = passed bundle c material broug
 passes : (bundle : Bundle) → (c : Checked) → IsPassed bundle c → IsChecked bundle (Ok c)
 passes bundle c p =
     let P : Option VerificationMaterial → Type 0 = λ o. IsCheckedWith bundle o (Ok c) in
-    subst P (sym p.brought) (Ok c.certificate, signer-meant p.material.content c.certificate p.signer, (
-      rw (signed-meant bundle.content c.signature c.content p.envelope, p.logged, profile-meant bundle.media_type c.entry p.version p.proven) refl))
+    subst P (sym p.brought) (
+      Ok c.certificate,
+      signer-meant p.material.content c.certificate p.signer,
+      (
+          rw (signed-meant bundle.content c.signature c.content p.envelope, p.logged, profile-meant bundle.media_type c.entry p.version p.proven) refl),
+    )
 
 pub passed-iff : (bundle : Bundle) → (c : Checked) → IsChecked bundle (Ok c) ↔ IsPassed bundle c
 passed-iff bundle c = (passed-with bundle c bundle.verification_material refl, passes bundle c)

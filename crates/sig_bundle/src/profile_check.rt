@@ -26,12 +26,13 @@ pub(crate) fn only_entry(entries: &LogEntries) -> Result<&TransparencyLogEntry, 
 fn lacks_proof(proof: &Option<ProofFields>) -> Option<BundleProfileErrorKind>
     ensures { result ≡ lacks_proof proof.now }
 {
-    let lacking = match proof {
-        None => Bundle02ProfileErrorKind::InclusionProofMissing,
-        Some(proof) if proof.checkpoint.is_none() => Bundle02ProfileErrorKind::CheckpointMissing,
-        Some(_) => return None,
-    };
-    Some(BundleProfileErrorKind::from(lacking))
+    match proof {
+        None => Some(Bundle02ProfileErrorKind::InclusionProofMissing.into()),
+        Some(proof) if proof.checkpoint.is_none() => Some(
+            Bundle02ProfileErrorKind::CheckpointMissing.into(),
+        ),
+        Some(_) => None,
+    }
 }
 
 /// The refusal of a media type whose profile is not known: `Unknown` with its text, unless memory runs out.

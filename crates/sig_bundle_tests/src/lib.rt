@@ -2,6 +2,8 @@
 #![tactic(auto)]
 
 #[cfg(test)]
+mod equality_tests;
+#[cfg(test)]
 mod error_tests;
 #[cfg(test)]
 mod member_tests;
