@@ -1,11 +1,8 @@
 //! What no clause says: that each call succeeds where memory is ample, and the texts of the errors.
-use crate::{
-    ByText, Bytes, CheckpointFault, DerError, Entries, Hashes, KeyMap, MerkleProofError, Numbers,
-    OutOfMemory, PkiFault, PoolError, SigstoreError, Text, TextMap, TokenFault, TrustPart,
-    UnexpectedKind,
-};
+mod errors;
+
+use crate::{ByText, Bytes, Entries, Hashes, KeyMap, Numbers, OutOfMemory, Text, TextMap};
 use std::alloc::Global;
-use std::fmt::{Debug, Display};
 use std::test::Fail;
 
 #[test]
@@ -170,46 +167,5 @@ fn maps_are_walked_in_byte_order(rt: HostRuntime) -> Result<(), Fail> {
     assert!(rt; walk.next().is_none());
     let annotations = annotations(rt.alloc())?;
     assert_eq!(rt; annotations.iter().next(), Some(("z", "last of ASCII")));
-    Ok(())
-}
-
-fn displays<E: Display>(alloc: Global, error: &E, name: &str) -> bool {
-    match error.to_string(alloc) {
-        Ok(text) => text.as_str() == name,
-        Err(_) => false,
-    }
-}
-
-fn debugs<E: Debug>(alloc: Global, error: &E, wanted: &str) -> bool {
-    match format!(in alloc; "{error:?}") {
-        Ok(text) => text.as_str() == wanted,
-        Err(_) => false,
-    }
-}
-
-#[test]
-fn small_errors_show_their_variants_name(rt: HostRuntime) {
-    let alloc = rt.alloc();
-    assert!(rt; displays(alloc, &OutOfMemory, "OutOfMemory"));
-    assert!(rt; displays(alloc, &DerError::LongTag, "LongTag"));
-    assert!(rt; displays(alloc, &CheckpointFault::SignatureBase64, "SignatureBase64"));
-    assert!(rt; displays(alloc, &PoolError::Anchor(3), "Anchor"));
-    assert!(rt; displays(alloc, &PoolError::from(OutOfMemory), "OutOfMemory"));
-    assert!(rt; displays(alloc, &TokenFault::NotThreeParts, "NotThreeParts"));
-    assert!(rt; displays(alloc, &PkiFault::TrustedRootMissing, "TrustedRootMissing"));
-    assert!(rt; displays(alloc, &TrustPart::Ctfe, "Ctfe"));
-    assert!(rt; displays(alloc, &UnexpectedKind::HashLength(4), "HashLength"));
-}
-
-#[test]
-fn sigstore_errors_show_their_variants_name(rt: HostRuntime) -> Result<(), Fail> {
-    let alloc = rt.alloc();
-    let refused = SigstoreError::InclusionProofError(MerkleProofError::IndexGtTreeSize);
-    assert!(rt; displays(alloc, &refused, "InclusionProofError"));
-    assert!(rt; debugs(alloc, &refused, "InclusionProofError(IndexGtTreeSize)"));
-    let missing = SigstoreError::RekorPublicKeyNotFoundError(Text::copy_of(alloc, "id")?);
-    assert!(rt; displays(alloc, &missing, "RekorPublicKeyNotFoundError"));
-    assert!(rt; debugs(alloc, &missing, "RekorPublicKeyNotFoundError(\"id\")"));
-    assert!(rt; displays(alloc, &SigstoreError::from(OutOfMemory), "OutOfMemory"));
     Ok(())
 }
