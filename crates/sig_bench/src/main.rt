@@ -1,7 +1,7 @@
 //! A program for `bench/run`: it reads standard input as its first word says, so that one call of a lower crate can be measured alone, which no
 //! command of sigverify can. `certificate N` reads a certificate N times and prints how many extensions were read; `read`, `compact` and
 //! `canonical` read a JSON document, write it so, and print how many bytes were written; `bundle` reads a bundle; `statement` reads a payload as a
-//! statement and prints how many digests were taken of it.
+//! statement, `digests` reads it as the checks of a bundle do, and both print how many digests were taken of it.
 #![tactic(auto)]
 
 mod bundle;
@@ -31,6 +31,7 @@ fn main(rt: HostRuntime) -> Result<()> {
         "canonical" => document::written_canonical(alloc, input.as_slice()),
         "bundle" => bundle::read(alloc, input.as_slice()),
         "statement" => statement::digests_of(alloc, input.as_slice()),
+        "digests" => statement::digests_alone(alloc, input.as_slice()),
         _ => None,
     };
     let Some(count) = count else {

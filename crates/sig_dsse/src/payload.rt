@@ -19,7 +19,7 @@ pub enum PayloadFault {
     #[error("NoStatement")]
     NoStatement,
     /// Its subjects have this fault, which is never want of memory.
-    #[error("{0}")]
+    #[error("Subjects")]
     Subjects(SubjectFault),
     /// No memory could be had.
     #[error("OutOfMemory")]

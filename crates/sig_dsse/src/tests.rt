@@ -8,6 +8,7 @@ use sha2::{Digest, Sha256, Sha512};
 use sig_base::{Bytes, OutOfMemory, SigstoreError, Text, TextMap, UnexpectedKind};
 use sig_json::{Document, compact};
 use std::alloc::Global;
+use std::fmt::Display;
 use std::test::Fail;
 
 /// A statement of four subjects, two of them without a digest named `sha256`.
@@ -238,7 +239,7 @@ fn is_fault(alloc: Global, subjects: u16, digests: u16, fault: SubjectFault) -> 
 }
 
 /// Whether the fault's text is this one.
-fn displays(alloc: Global, fault: SubjectFault, name: &str) -> bool {
+fn displays<E: Display + Drop>(alloc: Global, fault: E, name: &str) -> bool {
     match fault.to_string(alloc) {
         Ok(text) => text.as_str() == name,
         Err(_) => false,
@@ -418,4 +419,14 @@ fn faults_show_their_variants_name(rt: HostRuntime) {
     assert!(rt; displays(alloc, SubjectFault::NoneRecognized, "NoneRecognized"));
     assert!(rt; displays(alloc, SubjectFault::OutOfMemory, "OutOfMemory"));
     assert!(rt; displays(alloc, SubjectFault::from(OutOfMemory), "OutOfMemory"));
+    assert!(rt; displays(alloc, PayloadFault::NoStatement, "NoStatement"));
+    let missing = PayloadFault::from(SubjectFault::NoneRecognized);
+    assert!(rt; displays(alloc, missing, "Subjects"));
+    assert!(rt;
+        displays(
+            alloc,
+            PayloadFault::from(SubjectFault::OutOfMemory),
+            "OutOfMemory"
+        )
+    );
 }
