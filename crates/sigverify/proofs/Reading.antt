@@ -1,5 +1,5 @@
 -- What a source gives over several reads.
-use Rattle.std.proofs.Common.{ℕ, ◌≤◌, List, [], ◌++◌, length, Option, None, Some, ◌∙◌, refl, ap, append_assoc, sym}
+use Rattle.std.proofs.Common.{ℕ, ◌≤◌, ◌+◌, List, [], ◌++◌, length, take, Option, None, Some, ◌∙◌, refl, ap, append_assoc, length-append, length-take, arith, sym}
 use Rattle.std.specs.Io.KnownBytes.{Consumes, Keeps}
 use Rattle.sigverify.specs.Limit.{TookAtMost}
 
@@ -23,8 +23,10 @@ Consumes-kept (Some first) None c xs p kept = elim p [ ]
 Consumes-kept (Some first) (Some second) None xs p kept = elim kept [ ]
 Consumes-kept (Some first) (Some second) (Some third) xs p kept = p ∙ ap (λ t. xs ++ t) (sym kept)
 
--- so many bytes were taken at most, those that the reads before gave
-pub TookAtMost-of : (n : ℕ) (a c : Option (List ℕ)) (xs : List ℕ) → Consumes a c xs → length xs ≤ n → TookAtMost n a c
-TookAtMost-of n a c xs taken few = (xs, (taken, few))
+-- the bytes that were taken before and those that a read gave are so many at most
+pub TookAtMost-more : (n : ℕ) (a b c : Option (List ℕ)) (xs ys : List ℕ) (count : ℕ) → Consumes a b xs → Consumes b c (take count ys)
+    → length xs + count ≤ n → TookAtMost n a c
+TookAtMost-more n a b c xs ys count before now few =
+    (xs ++ take count ys, Consumes-more a b c xs (take count ys) before now, omega (arith, few, length-append xs (take count ys), length-take count ys))
 
-pub ruleset turns = (Consumes-none, Consumes-more, Consumes-kept, TookAtMost-of)
+pub ruleset turns = (Consumes-none, Consumes-more, Consumes-kept)

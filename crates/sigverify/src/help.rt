@@ -1,5 +1,5 @@
 //! What the program says of itself.
-ghost use Rattle.std.specs.Prelude.{◌≡◌, ◌↔◌, Some, None};
+ghost use Rattle.std.specs.Prelude.{◌≡◌, Some, None, option_map};
 ghost use Rattle.sigverify.specs.Run.{AsksHelp, AsksVersion};
 
 use sig_base::Text;
@@ -45,8 +45,8 @@ const VERSION: &str = "sigverify 0.1.0\n";
 ///
 /// [`run`]: crate::run::run
 pub fn answer_of(words: &[Text]) -> Option<&'static str>
-    ensures help { AsksHelp words.now ↔ (result ≡ Some HELP) }
-    ensures version { AsksVersion words.now ↔ (result ≡ Some VERSION) }
+    ensures help { AsksHelp words.now → option_map (λ text. text.now) result ≡ Some HELP.now }
+    ensures version { AsksVersion words.now → option_map (λ text. text.now) result ≡ Some VERSION.now }
     ensures other { ¬ AsksHelp words.now → ¬ AsksVersion words.now → result ≡ None }
 {
     match words {
