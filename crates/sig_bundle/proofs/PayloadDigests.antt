@@ -1,5 +1,5 @@
 -- The digests of a payload under the names of a bundle.
-use Rattle.std.proofs.Common.{◌≡◌, ◌⊎◌, inl, inr, ℕ, List, Result, Ok, Err, refl}
+use Rattle.std.proofs.Common.{◌≡◌, ◌⊎◌, inl, inr, ℕ, List, Ok, Err, refl}
 use Rattle.sig_dsse.specs.Payload.{digests_of_payload}
 use Rattle.sig_dsse.specs.declared.artifact_digest.ArtifactDigest.{ArtifactDigest}
 use Rattle.sig_dsse.specs.declared.payload.PayloadFault.TheVariants as payload_fault

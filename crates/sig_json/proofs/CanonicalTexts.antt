@@ -1,24 +1,15 @@
 -- Canonical texts, part by part, as the code writes them.
-use Rattle.std.proofs.Common.{◌≡◌, ◌==◌, ◌||◌, ℕ, ◌+◌, ◌<◌, ◌/◌, ◌%◌, Bool, true, false, cond, nat_lt, List, [], ◌∷◌, ◌++◌, length, map, take, drop, get_or, Option, Some, None, String, Vec, Global, string_bytes, inl, inr, subst, refl, sym, ap, ◌∙◌, append_assoc}
+use Rattle.std.proofs.Common.{◌≡◌, ◌==◌, ◌||◌, ℕ, ◌+◌, ◌<◌, ◌/◌, ◌%◌, Bool, true, false, cond, nat_lt, List, [], ◌∷◌, ◌++◌, length, take, get_or, String, Global, string_bytes, inl, inr, subst, refl, sym, ap, ◌∙◌, append_assoc}
 use Rattle.std.proofs.lemmas.Bool.{eqb-true, or_cases}
-use Rattle.std.proofs.lemmas.List.{at_drop_more, append-nil, take_more, length_push}
-use Rattle.std.specs.BTreeMap.{insert_entry}
+use Rattle.std.proofs.lemmas.List.{append-nil, take_more, length_push}
 use Rattle.std.specs.Char.Escape.{encode_utf16}
 use Rattle.std.specs.Char.{digit_char}
-use Rattle.std.specs.Cmp.Lexicographic.{slice_cmp}
 use Rattle.std.specs.List.{join_by, flat_map}
-use Rattle.std.specs.Map.{values_of}
-use Rattle.std.specs.Option.{option_and_then}
-use Rattle.std.specs.Ordering.{nat_cmp, match_ordering}
 use Rattle.std.specs.Prelude.{codes}
-use Rattle.std.specs.declared.cmp.Ordering.{Ordering}
-use Rattle.std.specs.declared.cmp.Ordering.TheVariants.{Less, Equal, Greater}
 use Rattle.json.specs.Print.{escape_byte}
 use Rattle.serde_json.specs.Data.{Data, string}
-use Rattle.serde_json.specs.View.{view, items_view}
 use Rattle.serde_json.specs.Written.{has_float, compact_text}
-use Rattle.serde_json.specs.declared.value.Value.{Value}
-use Rattle.sig_json.specs.Canonical.{escape_of, canon, canon_string, canon_items, with_text, utf16_units}
+use Rattle.sig_json.specs.Canonical.{escape_of, canon_string}
 use Rattle.sig_json.specs.Spells.{texts_of}
 
 -- ---- a text in quotation marks

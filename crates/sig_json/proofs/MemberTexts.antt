@@ -1,22 +1,20 @@
 -- The parts of a list or an object, one after another behind one text, and members that are sorted before they are written.
-use Rattle.std.proofs.Common.{◌≡◌, ◌≢◌, ◌<◌, ◌≤◌, ◌+◌, ◌*◌, ◌==◌, false, add-one, ℕ, zero, suc, max, List, [], ◌∷◌, ◌++◌, length, map, drop, get_or, Option, Some, None, String, Vec, BTreeMap, Global, refl, sym, ap, subst, ◌∙◌, append_assoc, arith}
+use Rattle.std.proofs.Common.{◌≡◌, ◌≢◌, ◌<◌, ◌≤◌, ◌+◌, ◌==◌, false, ℕ, zero, suc, max, List, [], ◌∷◌, ◌++◌, length, map, drop, get_or, Option, Some, None, Vec, Global, refl, sym, ap, ◌∙◌, append_assoc, arith}
 use Rattle.std.proofs.lemmas.List.{at_drop_more}
 use Rattle.std.specs.BTreeMap.{insert_entry}
 use Rattle.std.specs.Cmp.Lexicographic.{slice_cmp}
 use Rattle.std.specs.List.{AllByRecursion, join_by, flat_map}
-use Rattle.std.specs.List.Sorted.{IsStrictlySortedBy}
 use Rattle.std.specs.Map.{keys_of, values_of}
 use Rattle.std.specs.Option.{option_and_then, option_map}
 use Rattle.std.specs.Ordering.{nat_cmp, match_ordering}
 use Rattle.std.specs.Prelude.{codes}
 use Rattle.std.specs.Str.{IsUtf8}
-use Rattle.std.specs.String.{string_bytes, string_cmp}
 use Rattle.std.specs.declared.cmp.Ordering.{Ordering}
 use Rattle.std.specs.declared.cmp.Ordering.TheVariants.{Less, Equal, Greater}
-use Rattle.serde_json.specs.Data.{Data, Items, item, no_items, Members, no_members, member, object, array, depth, items_depth, members_depth}
-use Rattle.serde_json.specs.View.{view, items_view, members_view}
+use Rattle.serde_json.specs.Data.{Data, Members, no_members, member, depth, members_depth}
+use Rattle.serde_json.specs.View.{view, items_view}
 use Rattle.serde_json.specs.declared.value.Value.{Value}
-use Rattle.sig_json.specs.Canonical.{Sorted, canon, canon_items, canon_members, canon_string, in_braces, in_brackets, utf16_units, with_text}
+use Rattle.sig_json.specs.Canonical.{Sorted, canon, canon_items, canon_members, canon_string, in_braces, utf16_units, with_text}
 use Rattle.sig_json.specs.Members.{members_list}
 use Rattle.sig_json.specs.Order.{HasNames}
 use Rattle.sig_json.specs.Writes.{comma_before, Named, ByUnits, by_units, member_text, shown, texts_in_turn}

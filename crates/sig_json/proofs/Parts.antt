@@ -5,7 +5,7 @@ use Rattle.sig_json.specs.Data.{Data, null, boolean, number, string, array, obje
 use Rattle.sig_json.specs.Find.{get}
 use Rattle.sig_json.specs.declared.error.DocumentError.{DocumentError}
 use Rattle.sig_json.specs.Document.{document_of}
-use Rattle.sig_json.specs.List.{items_list, list_of}
+use Rattle.sig_json.specs.List.{items_list}
 use Rattle.sig_json.specs.Member.{not_null, member_of, there_or, required, optional, optional_or, each, list_each}
 use Rattle.sig_json.specs.Reads.{◌>>=◌}
 use Rattle.sig_json.specs.Record.{or_member, record_of, record_in}
