@@ -9,8 +9,6 @@ mod accepted;
 mod promise;
 mod request;
 mod row_text;
-#[cfg(test)]
-mod tests;
 mod trusted_root;
 
 pub use promise::promise_of;
