@@ -1,4 +1,6 @@
 pub mod Answers
+pub mod OptionSteps
+pub mod ResultSteps
 pub mod Sha256
 pub mod Checker
 pub mod MemoryStream

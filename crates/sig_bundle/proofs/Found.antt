@@ -3,12 +3,12 @@ use Rattle.std.proofs.Common.{◌≡◌, ℕ, List, [], ◌∷◌, true, Option,
 use Rattle.std.proofs.lemmas.Bool.{cases_Bool}
 use Rattle.std.proofs.lemmas.Slice.Eq.{bytes_eq-Decides}
 use Rattle.std.specs.Prelude.{bytes_eq, unwrap_or, if◌then◌else◌}
+use Rattle.sig_base.specs.OptionSteps.{◌>>=◌}
 use Rattle.sig_json.specs.Data.{Data, Members, no_members}
 use Rattle.sig_json.specs.Find.{get_member}
 use Rattle.sig_json.proofs.Views.{get_member-put, get_member-put_other}
 use Rattle.sig_bundle.specs.Written.{Row, put_some, rows_into, object_of, IsReadAs, OptionIsRead}
 use Rattle.sig_json.specs.Member.{member_of, not_null, optional, optional_or}
-use Rattle.sig_json.specs.Reads.{◌>>=◌}
 
 -- ---- a member, as the rows give it: the last row of its name whose value is there
 

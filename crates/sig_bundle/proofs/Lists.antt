@@ -1,12 +1,12 @@
 -- Lists that are written element by element, and read back.
 use Rattle.std.proofs.Common.{◌≡◌, ℕ, ◌<◌, ◌+◌, List, [], ◌∷◌, ◌++◌, length, take, get_or, Option, Some, None, refl, sym, ap, ◌∙◌}
 use Rattle.std.proofs.lemmas.List.{take_more}
+use Rattle.sig_base.specs.OptionSteps.{◌>>=◌}
 use Rattle.sig_json.specs.Data.{Data, item}
 use Rattle.sig_bundle.specs.Written.{IsReadAs, items_of, list_tree}
 use Rattle.sig_json.specs.Builders.{with_last, items_with_last}
 use Rattle.sig_json.specs.List.{items_list}
 use Rattle.sig_json.specs.Member.{each, list_each}
-use Rattle.sig_json.specs.Reads.{◌>>=◌}
 
 items_of-append : {A : Type 0} → (written : A → Data) (xs : List A) (x : A) → items_of written (xs ++ x ∷ []) ≡ items_with_last (items_of written xs) (written x)
 items_of-append written [] x = refl

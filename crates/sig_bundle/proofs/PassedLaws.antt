@@ -2,6 +2,7 @@
 use Rattle.std.proofs.Common.{◌≡◌, inl, inr, ℕ, List, [], ◌∷◌, Bool, true, false, Option, Some, None, Result, Ok, Err, refl, sym, ap, subst, ◌∙◌}
 use Rattle.std.proofs.lemmas.Slice.Eq.{bytes_eq-Decides}
 use Rattle.std.specs.Prelude.{bytes_eq, if◌then◌else◌, ◌↔◌}
+use Rattle.sig_base.specs.ResultSteps.{◌>>=◌}
 use Rattle.sig_dsse.specs.EnvelopeText.{envelope_text}
 use Rattle.sig_dsse.specs.Pae.{pae}
 use Rattle.sig_dsse.specs.Recognized.{digests_or_fault}
@@ -19,7 +20,6 @@ use Rattle.sig_bundle.specs.Content.{signature_among, statement_or_refusal, unde
 use Rattle.sig_bundle.specs.Passed.{IsSignedBy, IsEnvelopeOf, IsProven, IsPassed}
 use Rattle.sig_bundle.specs.Profile.{entry_among, lacks, lacks_checkpoint, lacks_proof, meets_profile, unless_lacking}
 use Rattle.sig_bundle.specs.Signer.{AreReadings, IsSigner, leaf_or_refusal, signer_among}
-use Rattle.sig_bundle.specs.Steps.{◌>>=◌}
 use Rattle.sig_bundle.specs.Version.{media_type, older_media_type, version_of, IsMediaType}
 use Rattle.sig_bundle.specs.declared.bundle.Bundle.{Bundle}
 use Rattle.sig_bundle.specs.declared.bundle.Content.{Content}

@@ -1,5 +1,6 @@
 -- *Records*: a bundle (Sigstore bundle format), object by object: each member with its name, its kind, and what it means where it is absent.
 use Rattle.std.specs.Prelude.{ℕ, ℤ, List, [], ◌∷◌, codes, Option, Some, option_map, Result, ⊤}
+use Rattle.sig_base.specs.OptionSteps.{◌>>=◌}
 use Rattle.sig_json.specs.Data.{Data}
 use Rattle.sig_json.specs.Find.{as_object}
 use Rattle.sig_bundle.specs.declared.bundle.Bundle.{Bundle}
@@ -17,7 +18,6 @@ use Rattle.sig_dsse.specs.declared.envelope.DsseSignature.{DsseSignature}
 use Rattle.sig_json.specs.Choice.{at_most_one}
 use Rattle.sig_json.specs.Kinds.{bytes_of}
 use Rattle.sig_json.specs.Member.{optional, optional_bytes, optional_i64, optional_list, optional_text}
-use Rattle.sig_json.specs.Reads.{◌>>=◌}
 use Rattle.sig_json.specs.Record.{record_in}
 use Rattle.sig_json.specs.declared.error.JsonError.{JsonError}
 

@@ -1,10 +1,10 @@
 -- *Checked bundle*: what a bundle's own checks, one after another, make of it (Sigstore bundle format).
 use Rattle.std.specs.Prelude.{◌≡◌, ℕ, List, Option, Some, None, Result, Ok, Err}
+use Rattle.sig_base.specs.ResultSteps.{◌>>=◌}
 use Rattle.sig_x509.specs.Certificate.{Cert}
 use Rattle.sig_bundle.specs.Content.{signed}
 use Rattle.sig_bundle.specs.Profile.{entry_among, meets_profile}
 use Rattle.sig_bundle.specs.Signer.{IsSigner}
-use Rattle.sig_bundle.specs.Steps.{◌>>=◌}
 use Rattle.sig_bundle.specs.declared.bundle.Bundle.{Bundle}
 use Rattle.sig_bundle.specs.declared.bundle_error.BundleErrorKind.{BundleErrorKind}
 use Rattle.sig_bundle.specs.declared.bundle_error.BundleErrorKind.TheVariants.{VerificationMaterialMissing}

@@ -1,11 +1,6 @@
 -- Checks one after another, for `do`: the first that refuses ends them.
 use Rattle.std.specs.Prelude.{◌≡◌, ◌⊎◌, Result, Ok, Err}
 
-infixl 10 ◌>>=◌
-abbrev pub ◌>>=◌ : {A B E : Type 0} → Result A E → (A → Result B E) → Result B E
-Err e >>= f = Err e
-Ok x >>= f = f x
-
 -- the answer is one that is meant, unless memory ran out
 abbrev pub IsMeant : {A E : Type 0} → E → (Result A E → Type 0) → Result A E → Type 0
 IsMeant memory Means answer = (answer ≡ Err memory) ⊎ Means answer

@@ -1,9 +1,10 @@
 -- Where nothing is read, the fault is the first that shows.
 use Rattle.std.proofs.Common.{◌≡◌, ◌≢◌, ℕ, ◌+◌, ◌-◌, ◌*◌, ◌%◌, ◌≤◌, Bool, true, false, cond, ltb, eqb, ◌&&◌, List, [], ◌∷◌, length, take, drop, Result, Ok, Err, refl, sym, ◌∙◌, arith, inl, inr}
 use Rattle.std.proofs.lemmas.Bool.{cases_Bool, cases_lt, ltb-false, eqb-true, eqb-false, le-ltb, and_left, and_right, cond-true, cond-false}
+use Rattle.sig_base.specs.ResultSteps.{◌>>=◌}
 use Rattle.sig_base.specs.declared.fault.DerError.{DerError}
 use Rattle.sig_base.specs.declared.fault.DerError.TheVariants.{Length, LongTag, Truncated}
-use Rattle.sig_der.specs.Reading.{Piece, ◌>>=◌, one_at, two_at, three_at, four_at, length_at, element_at, is_small_first, is_zero_first, has_bad_length, fault_of}
+use Rattle.sig_der.specs.Reading.{Piece, one_at, two_at, three_at, four_at, length_at, element_at, is_small_first, is_zero_first, has_bad_length, fault_of}
 
 -- a length is read only where it is not bad, and a bad one is told from a cut one
 abbrev Agrees : {A : Type 0} → Result A DerError → Bool → Type 0

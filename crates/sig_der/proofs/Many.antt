@@ -3,7 +3,8 @@
 use Rattle.std.proofs.Common.{◌≡◌, ◌≢◌, ℕ, zero, suc, ◌<◌, ◌≤◌, List, [], ◌∷◌, ◌++◌, length, Option, Some, None, refl, sym, ap, subst, ◌∙◌, append_assoc, arith}
 use Rattle.std.specs.Prelude.{option_map}
 use Rattle.std.proofs.lemmas.List.{append-nil}
-use Rattle.sig_der.specs.Taking.{◌>>=◌, many_within, many_at}
+use Rattle.sig_base.specs.OptionSteps.{◌>>=◌}
+use Rattle.sig_der.specs.Taking.{many_within, many_at}
 use Rattle.sig_der.specs.Joined.{joined, AreJoined}
 use Rattle.sig_der.proofs.Bytes.{IsBytes, IsBytes-right}
 use Rattle.sig_der.proofs.Takings.{bind_is, bind_of_some, some, some_is}

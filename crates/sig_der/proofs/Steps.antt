@@ -1,7 +1,8 @@
 -- Steps of a reader that did not fail, and answers that are the same.
 use Rattle.std.proofs.Common.{◌≡◌, Bool, true, false, cond, Result, Ok, Err, refl, sym, ◌∙◌}
+use Rattle.sig_base.specs.ResultSteps.{◌>>=◌}
 use Rattle.sig_base.specs.declared.fault.DerError.{DerError}
-use Rattle.sig_der.specs.Reading.{◌>>=◌, Gives}
+use Rattle.sig_der.specs.Reading.{Gives}
 
 -- ---- results
 

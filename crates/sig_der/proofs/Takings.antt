@@ -2,10 +2,11 @@
 use Rattle.std.proofs.Common.{◌≡◌, ℕ, ◌<◌, Bool, true, false, cond, eqb, List, [], ◌++◌, length, Option, Some, None, Result, Ok, Err, refl, sym, ap, subst, ◌∙◌, inl, inr}
 use Rattle.std.proofs.lemmas.Bool.{cases_Bool, eq-eqb, eqb-true, cond-true, cond-false}
 use Rattle.std.proofs.lemmas.List.{nil_from_length, append-nil}
+use Rattle.sig_base.specs.OptionSteps.{◌>>=◌}
 use Rattle.sig_base.specs.declared.fault.DerError.{DerError}
 use Rattle.sig_der.specs.Element.{IsElement, StandsFirst}
 use Rattle.sig_der.specs.Reading.{Piece, element_at}
-use Rattle.sig_der.specs.Taking.{answered, ◌>>=◌, take_any, take_tag, take_whole, take_optional, begins_with}
+use Rattle.sig_der.specs.Taking.{answered, take_any, take_tag, take_whole, take_optional, begins_with}
 use Rattle.sig_der.proofs.Bytes.{IsBytes}
 use Rattle.sig_der.proofs.Elements.{Takes, element_at_takes, element_at_again, element_at_shorter}
 

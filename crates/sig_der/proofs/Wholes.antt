@@ -2,10 +2,11 @@
 use Rattle.std.proofs.Common.{◌≡◌, ◌≢◌, ℕ, ◌%◌, true, cond, eqb, List, [], ◌∷◌, ◌++◌, length, Result, Ok, Err, refl, sym, ap, subst, ◌∙◌, arith, inl, inr}
 use Rattle.std.proofs.lemmas.Bool.{cases_Bool, eq-eqb, eqb-true, eqb-false, ne_eqb, cond-true, cond-false}
 use Rattle.std.proofs.lemmas.List.{nil_from_length, append-nil}
+use Rattle.sig_base.specs.ResultSteps.{◌>>=◌}
 use Rattle.sig_base.specs.declared.fault.DerError.{DerError}
 use Rattle.sig_base.specs.declared.fault.DerError.TheVariants.{Truncated, LongTag, Length, Trailing, WrongTag}
 use Rattle.sig_der.specs.Element.{IsElement, IsFollowed, IsOfAnother}
-use Rattle.sig_der.specs.Reading.{Piece, ◌>>=◌, element_at, all_at, has_bad_length, fault_of}
+use Rattle.sig_der.specs.Reading.{Piece, element_at, all_at, has_bad_length, fault_of}
 use Rattle.sig_der.proofs.Bytes.{IsBytes}
 use Rattle.sig_der.proofs.Steps.{bind_ok, bind_of_ok, when_ok, ok_is}
 use Rattle.sig_der.proofs.Elements.{element_at_takes, element_at_again}

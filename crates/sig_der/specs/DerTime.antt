@@ -7,7 +7,7 @@ use Rattle.sig_der.specs.declared.moment.Moment.{Moment}
 use Rattle.sig_der.specs.Moment.{IsReal, IsSecondOf}
 use Rattle.sig_der.specs.Digits.{two_digits, four_digits, day_text, clock_text, two_at, four_at, day_at, clock_at}
 use Rattle.std.specs.Str.{bytes_eq}
-use Rattle.sig_der.specs.Taking.{◌>>=◌}
+use Rattle.sig_base.specs.OptionSteps.{◌>>=◌}
 
 -- MMDDHHMMSSZ
 abbrev pub after_year : Moment → List ℕ

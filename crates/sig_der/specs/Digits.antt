@@ -1,6 +1,6 @@
 -- Decimal digits in texts of times: the texts, and the readers that go on from the front of a text.
 use Rattle.std.specs.Prelude.{ℕ, ◌+◌, ◌-◌, ◌*◌, ◌/◌, ◌%◌, List, [], ◌∷◌, ◌++◌, Bool, ◌&&◌, nat_lt, Option, Some, None, ◌==◌, if◌then◌else◌}
-use Rattle.sig_der.specs.Taking.{◌>>=◌}
+use Rattle.sig_base.specs.OptionSteps.{◌>>=◌}
 
 -- ---- texts
 

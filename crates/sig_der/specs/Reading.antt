@@ -1,6 +1,7 @@
 -- Reading an element from the front of a text, by computation: the plain program that the readers are equal to.
 -- That it reads exactly the texts of *Element* is `element_at_takes` and `element_at_again` of proofs/Elements.
 use Rattle.std.specs.Prelude.{◌≡◌, ℕ, ◌+◌, ◌-◌, ◌*◌, ◌%◌, List, [], ◌∷◌, length, take, drop, Bool, true, false, Result, Ok, Err, nat_lt, ◌==◌, if◌then◌else◌, ◌&&◌}
+use Rattle.sig_base.specs.ResultSteps.{◌>>=◌}
 use Rattle.sig_base.specs.declared.fault.DerError.{DerError}
 use Rattle.sig_base.specs.declared.fault.DerError.TheVariants.{Truncated, LongTag, Length, Trailing, WrongTag}
 
@@ -9,11 +10,6 @@ pub record Piece : Type 0 where
   pub tag : ℕ
   pub whole : List ℕ
   pub content : List ℕ
-
-infixl 10 ◌>>=◌
-abbrev pub ◌>>=◌ : {A B : Type 0} → Result A DerError → (A → Result B DerError) → Result B DerError
-(Ok x) >>= f = f x
-(Err e) >>= f = Err e
 
 -- What a call returned, seen by the view, is what reading gives.
 abbrev pub Gives : {X Y : Type 0} → (X → Y) → Result X DerError → Result Y DerError → Type 0

@@ -2,11 +2,11 @@
 -- years from 1 to 9999. The second is the floor of the instant, so the fraction does not count.
 use Rattle.std.specs.Prelude.{◌≡◌, ℕ, suc, zero, ◌+◌, ◌*◌, ◌<◌, ◌≤◌, List, [], ◌∷◌, ◌++◌, length, Bool, true, false, ◌&&◌, nat_lt, Option, Some, None, ℤ, pos, neg_ℤ, ◌-ℤ◌, ◌==◌, if◌then◌else◌}
 use Rattle.std.specs.List.{AllByRecursion}
+use Rattle.sig_base.specs.OptionSteps.{◌>>=◌}
 use Rattle.sig_der.specs.declared.moment.Moment.{Moment}
 use Rattle.sig_der.specs.Moment.{IsReal, second_of}
 use Rattle.sig_der.specs.Digits.{two_digits, four_digits, day_text, clock_text, is_digit, two_at, four_at, skip, day_at, clock_at}
 use Rattle.sig_der.specs.DerTime.{moment_of}
-use Rattle.sig_der.specs.Taking.{◌>>=◌}
 
 -- YYYY-MM-DDTHH:MM:SS
 abbrev pub front_text : Moment → List ℕ

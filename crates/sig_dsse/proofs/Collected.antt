@@ -1,13 +1,14 @@
 -- Digests collected one thing after another.
 use Rattle.std.proofs.Common.{◌≡◌, ◌≢◌, ℕ, ◌<◌, ◌≤◌, List, [], ◌∷◌, ◌++◌, length, map, Result, Ok, Err, refl, sym, ap, subst, ◌∙◌, arith, append_assoc, append-nil}
 use Rattle.std.proofs.lemmas.Bool.{lt-ltb, le-ltb}
+use Rattle.sig_base.specs.ResultSteps.{◌>>=◌}
 use Rattle.sig_base.specs.Answers.{Answers}
 use Rattle.sig_dsse.specs.declared.artifact_digest.ArtifactDigest.{ArtifactDigest}
 use Rattle.sig_dsse.specs.declared.recognized.SubjectFault.{SubjectFault}
 use Rattle.sig_dsse.specs.declared.recognized.SubjectFault.TheVariants.{TooManySubjects, NoneRecognized, OutOfMemory}
 use Rattle.sig_dsse.specs.declared.statement.InTotoStatementV1.{InTotoStatementV1}
 use Rattle.sig_dsse.specs.declared.statement.Subject.{Subject as HeldSubject}
-use Rattle.sig_dsse.specs.Recognized.{◌>>=◌, digests_of_each, map_digests, not_none, digests_of_maps, digests_or_fault}
+use Rattle.sig_dsse.specs.Recognized.{digests_of_each, map_digests, not_none, digests_of_maps, digests_or_fault}
 use Rattle.sig_dsse.specs.Seen.{seen, seen_subject}
 use Rattle.sig_dsse.specs.Statement.{DigestTexts, Subject}
 

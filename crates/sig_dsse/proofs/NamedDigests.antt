@@ -5,12 +5,13 @@ use Rattle.std.proofs.lemmas.List.Elements.{Contains-append_left, Contains-appen
 use Rattle.std.proofs.lemmas.Slice.Eq.{bytes_eq-Decides}
 use Rattle.std.specs.List.{Any, Contains}
 use Rattle.std.specs.Prelude.{codes, bytes_eq}
+use Rattle.sig_base.specs.ResultSteps.{◌>>=◌}
 use Rattle.hex.specs.Hex.{decode_sized}
 use Rattle.sig_dsse.specs.declared.artifact_digest.ArtifactDigest.{ArtifactDigest}
 use Rattle.sig_dsse.specs.declared.artifact_digest.ArtifactDigest.TheVariants.{Sha256, Sha512}
 use Rattle.sig_dsse.specs.declared.recognized.DigestName.TheVariants.{Sha256 as NamedSha256, Sha512 as NamedSha512}
 use Rattle.sig_dsse.specs.declared.recognized.SubjectFault.{SubjectFault}
-use Rattle.sig_dsse.specs.Recognized.{◌>>=◌, digest_or_malformed, digests_of_each, entry_digest, map_digests, not_none, digests_of_maps, digests_or_fault, most_digests, most_subjects, IsEntryOf, IsDigestOf}
+use Rattle.sig_dsse.specs.Recognized.{digest_or_malformed, digests_of_each, entry_digest, map_digests, not_none, digests_of_maps, digests_or_fault, most_digests, most_subjects, IsEntryOf, IsDigestOf}
 use Rattle.sig_dsse.specs.Statement.{DigestTexts, Statement, digest_maps}
 
 -- ---- some element

@@ -1,5 +1,6 @@
 -- *Subject digests*: the digests of a statement that are named exactly `sha256` or `sha512`, over all subjects in order and names in byte order.
 use Rattle.std.specs.Prelude.{◌≡◌, ◌↔◌, Any, Contains, ℕ, nat_lt, bytes_eq, if◌then◌else◌, List, [], ◌∷◌, ◌++◌, length, codes, Result, Ok, Err}
+use Rattle.sig_base.specs.ResultSteps.{◌>>=◌}
 use Rattle.hex.specs.Hex.{decode_sized}
 use Rattle.sig_dsse.specs.declared.artifact_digest.ArtifactDigest.{ArtifactDigest}
 use Rattle.sig_dsse.specs.declared.artifact_digest.ArtifactDigest.TheVariants.{Sha256, Sha512}
@@ -9,12 +10,6 @@ use Rattle.sig_dsse.specs.declared.recognized.SubjectFault.{SubjectFault}
 use Rattle.sig_dsse.specs.declared.recognized.SubjectFault.TheVariants.{TooManySubjects, TooManyDigests, Malformed, NoneRecognized}
 use Rattle.sig_dsse.specs.Digest.{algorithm_of, bytes_of}
 use Rattle.sig_dsse.specs.Statement.{DigestTexts, Statement, digest_maps}
-
--- go on with the value; a fault stays
-infixl 10 ◌>>=◌
-abbrev pub ◌>>=◌ : {A B : Type 0} → Result A SubjectFault → (A → Result B SubjectFault) → Result B SubjectFault
-(Ok x) >>= f = f x
-(Err fault) >>= f = Err fault
 
 -- at most so many subjects, and so many digests of each
 abbrev pub most_subjects : ℕ

@@ -1,10 +1,10 @@
 -- *Statement*: an in-toto statement (in-toto attestation framework, "Statement layer specification v1"), and the text of which it is read.
 use Rattle.std.specs.Prelude.{ℕ, List, map, codes, Option, Some}
 use Rattle.std.specs.Result.{result_ok}
+use Rattle.sig_base.specs.OptionSteps.{◌>>=◌}
 use Rattle.sig_json.specs.Data.{Data}
 use Rattle.sig_json.specs.Kinds.{text_of, text_map_of}
 use Rattle.sig_json.specs.Member.{required, required_text, required_list, optional}
-use Rattle.sig_json.specs.Reads.{◌>>=◌}
 use Rattle.sig_json.specs.Record.{record_in}
 
 -- texts by their names, in byte order of the names

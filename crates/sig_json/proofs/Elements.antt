@@ -1,11 +1,11 @@
 -- A list read element by element.
 use Rattle.std.proofs.Common.{◌≡◌, ℕ, zero, suc, ◌<◌, ◌+◌, List, [], ◌∷◌, ◌++◌, length, map, take, Option, Some, None, option_map, refl, sym, ap, ◌∙◌, arith, add-one}
 use Rattle.std.specs.Option.{option_and_then}
+use Rattle.sig_base.specs.OptionSteps.{◌>>=◌}
 use Rattle.serde_json.specs.Data.{Data, null, boolean, number, string, array, object, Items, no_items, item}
 use Rattle.serde_json.specs.Find.{at, get_item}
 use Rattle.sig_json.specs.List.{items_list, list_of}
 use Rattle.sig_json.specs.Member.{each, list_each}
-use Rattle.sig_json.specs.Reads.{◌>>=◌}
 use Rattle.sig_json.specs.SeenAs.{SeenAs}
 
 -- the first elements of a list, read

@@ -1,13 +1,13 @@
 -- What is read where a part alone of each value is kept.
 use Rattle.std.proofs.Common.{◌≡◌, ℕ, List, [], ◌∷◌, map, Option, Some, None, option_map, Result, Ok, Err, refl}
 use Rattle.std.specs.Result.{result_ok}
+use Rattle.sig_base.specs.OptionSteps.{◌>>=◌}
 use Rattle.sig_json.specs.Data.{Data, null, boolean, number, string, array, object}
 use Rattle.sig_json.specs.Find.{get}
 use Rattle.sig_json.specs.declared.error.DocumentError.{DocumentError}
 use Rattle.sig_json.specs.Document.{document_of}
 use Rattle.sig_json.specs.List.{items_list}
 use Rattle.sig_json.specs.Member.{not_null, member_of, there_or, required, optional, optional_or, each, list_each}
-use Rattle.sig_json.specs.Reads.{◌>>=◌}
 use Rattle.sig_json.specs.Record.{or_member, record_of, record_in}
 
 module _ {A B : Type 0} (f : A → B) (kind : Data → Option A) (part : Data → Option B) (is_part : (d : Data) → part d ≡ option_map f (kind d)) where

@@ -1,6 +1,6 @@
 -- A choice: members of an object of which at most one is there.
 use Rattle.std.specs.Prelude.{List, [], ◌∷◌, Option, Some, None}
-use Rattle.sig_json.specs.Reads.{◌>>=◌}
+use Rattle.sig_base.specs.OptionSteps.{◌>>=◌}
 
 -- a member that is there, beside what the others of its choice are
 abbrev pub alone : {A : Type 0} → A → Option A → Option (Option A)

@@ -1,13 +1,13 @@
 -- The kinds of the values of member tables: what a value means under a kind, or none where it is of another.
 use Rattle.std.specs.Prelude.{ℕ, ℤ, List, [], ◌∷◌, Option, Some}
 use Rattle.std.specs.Result.{result_ok}
+use Rattle.sig_base.specs.OptionSteps.{◌>>=◌}
 use Rattle.hex.specs.Hex.{decode_sized}
 use Rattle.serde_json.specs.Data.{Data}
 use Rattle.serde_json.specs.Find.{as_str}
 use Rattle.sig_base.specs.Base64.{base64_bytes}
 use Rattle.sig_json.specs.Integer.{integer_of, in_u64, in_i64}
 use Rattle.sig_json.specs.Members.{members_of}
-use Rattle.sig_json.specs.Reads.{◌>>=◌}
 
 -- a text, as its bytes of UTF-8
 unfoldable pub text_of : Data → Option (List ℕ)

@@ -1,10 +1,10 @@
 -- The rows of a member table: a name, a kind, and whether the member is required. Null stands for absent.
 use Rattle.std.specs.Prelude.{ℕ, ℤ, pos, List, [], ◌∷◌, Option, Some, None, option_map, is_some, if◌then◌else◌}
+use Rattle.sig_base.specs.OptionSteps.{◌>>=◌}
 use Rattle.serde_json.specs.Data.{Data}
 use Rattle.serde_json.specs.Find.{get, as_null, as_object}
 use Rattle.sig_json.specs.Kinds.{text_of, bytes_of, hash_of, u64_of, i64_of}
 use Rattle.sig_json.specs.List.{list_of}
-use Rattle.sig_json.specs.Reads.{◌>>=◌}
 
 -- the value, unless it is null
 abbrev pub not_null : Data → Option Data

@@ -6,10 +6,10 @@ use Rattle.std.specs.List.Sorted.{IsPermutation, IsStrictlySortedBy}
 use Rattle.std.specs.Map.{keys_of, values_of}
 use Rattle.std.specs.Ordering.{nat_cmp}
 use Rattle.std.specs.Str.{IsUtf8}
+use Rattle.sig_base.specs.OptionSteps.{◌>>=◌}
 use Rattle.serde_json.specs.Data.{Data, null, boolean, number, string, array, object, Members, no_members, member}
 use Rattle.sig_json.specs.Canonical.{Sorted, canon, canon_string, in_braces, utf16_units}
 use Rattle.sig_json.specs.Members.{members_list}
-use Rattle.sig_json.specs.Reads.{◌>>=◌}
 
 -- each name is a text (UTF-8), and no later member has it too
 abbrev pub HasNames : Members → Type 0

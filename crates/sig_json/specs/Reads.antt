@@ -7,8 +7,3 @@ use Rattle.sig_json.specs.declared.error.MemberError.TheVariants.{Member}
 abbrev pub Reads : {X Y : Type 0} → (X → Y) → Result X MemberError → Option Y → Type 0
 Reads view (Ok x) meant = meant ≡ Some (view x)
 Reads view (Err e) meant = e ≡ Member → meant ≡ None
-
--- readers one after another, for `do`
-infixl 10 ◌>>=◌
-abbrev pub ◌>>=◌ : {A B : Type 0} → Option A → (A → Option B) → Option B
-found >>= f = option_and_then f found

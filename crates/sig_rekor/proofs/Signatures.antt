@@ -1,13 +1,14 @@
 -- The signatures of a checkpoint: the pieces between empty lines, one by one.
 use Rattle.std.proofs.Common.{◌≡◌, ℕ, true, false, List, [], ◌∷◌, ◌++◌, Some, None, Result, Ok, Err, refl, sym, ◌∙◌, ap, arith, append_assoc, append-nil, inl, inr}
 use Rattle.std.proofs.lemmas.Bool.{cases_Bool}
+use Rattle.sig_base.specs.ResultSteps.{◌>>=◌}
 use Rattle.sig_base.specs.declared.fault.CheckpointFault.{CheckpointFault}
 use Rattle.sig_base.specs.declared.fault.CheckpointFault.TheVariants.{SignatureFormat}
 use Rattle.sig_rekor.specs.declared.checkpoint.CheckpointSignature.{CheckpointSignature}
 use Rattle.sig_rekor.specs.Cut.{cut_at, parts}
 use Rattle.sig_rekor.specs.declared.fault.ParseCheckpointError.{ParseCheckpointError}
 use Rattle.sig_rekor.specs.declared.fault.ParseCheckpointError.TheVariants.{DecodeError, OutOfMemory}
-use Rattle.sig_rekor.specs.Reading.{◌>>=◌, Reads}
+use Rattle.sig_rekor.specs.Reading.{Reads}
 use Rattle.sig_rekor.specs.NoteText.{is_blank}
 use Rattle.sig_rekor.specs.SignatureText.{space, name_and_bytes, signature_of}
 use Rattle.sig_rekor.specs.CheckpointText.{empty_line, signatures_by, signatures_on}

@@ -1,12 +1,13 @@
 -- A signed checkpoint, both ways: a note, an empty line, and signatures between empty lines.
 use Rattle.std.specs.Prelude.{ℕ, Bool, not, List, [], ◌∷◌, ◌++◌, filter, Option, Some, None, Result, Ok, Err}
 use Rattle.std.specs.List.{AllZip, join_by}
+use Rattle.sig_base.specs.ResultSteps.{◌>>=◌}
 use Rattle.sig_base.specs.declared.fault.CheckpointFault.{CheckpointFault}
 use Rattle.sig_base.specs.declared.fault.CheckpointFault.TheVariants.{Format}
 use Rattle.sig_rekor.specs.declared.checkpoint.SignedCheckpoint.{SignedCheckpoint}
 use Rattle.sig_rekor.specs.declared.checkpoint.CheckpointSignature.{CheckpointSignature}
 use Rattle.sig_rekor.specs.Cut.{IsTrimmed, IsCut, IsParts, trimmed, cut_at, parts}
-use Rattle.sig_rekor.specs.Reading.{◌>>=◌, each}
+use Rattle.sig_rekor.specs.Reading.{each}
 use Rattle.sig_rekor.specs.NoteText.{newline, is_blank, IsNote, note_of, note_text}
 use Rattle.sig_rekor.specs.SignatureText.{IsSignature, signature_of, signature_text}
 

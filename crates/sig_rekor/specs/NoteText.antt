@@ -5,6 +5,7 @@ use Rattle.std.specs.List.{AllZip, list_all, flat_map}
 use Rattle.std.specs.Char.{is_ascii_digit}
 use Rattle.std.specs.Str.{trim}
 use Rattle.std.specs.Str.Parse.{IsNumeral, digits_value, without_leading_plus}
+use Rattle.sig_base.specs.ResultSteps.{◌>>=◌}
 use Rattle.sig_base.specs.declared.fault.CheckpointFault.{CheckpointFault}
 use Rattle.sig_base.specs.declared.fault.CheckpointFault.TheVariants.{NoteFormat, EmptyOrigin, Size, HashBase64, HashLength}
 use Rattle.sig_rekor.specs.declared.checkpoint.Checkpoint.{Checkpoint}
@@ -12,7 +13,7 @@ use Rattle.sig_rekor.specs.declared.checkpoint.OtherContent.{OtherContent}
 use Rattle.sig_rekor.specs.declared.checkpoint.OtherContent.TheVariants.{KeyValue, Value}
 use Rattle.sig_rekor.specs.Cut.{IsCut, IsParts, Lacks, cut_at, parts}
 use Rattle.sig_base.specs.Base64.{base64_bytes, base64_text}
-use Rattle.sig_rekor.specs.Reading.{◌>>=◌, base64_of}
+use Rattle.sig_rekor.specs.Reading.{base64_of}
 
 abbrev pub newline : List ℕ
 newline = 10 ∷ []

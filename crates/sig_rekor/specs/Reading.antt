@@ -1,16 +1,11 @@
 -- What a reader of the checkpoint format answers: the value, or the first rule that is broken.
 use Rattle.std.specs.Prelude.{◌≡◌, ℕ, Result, Ok, Err, List, [], ◌∷◌}
 use Rattle.std.specs.Option.{ok_or}
+use Rattle.sig_base.specs.ResultSteps.{◌>>=◌}
 use Rattle.sig_base.specs.Base64.{base64_bytes}
 use Rattle.sig_base.specs.declared.fault.CheckpointFault.{CheckpointFault}
 use Rattle.sig_rekor.specs.declared.fault.ParseCheckpointError.{ParseCheckpointError}
 use Rattle.sig_rekor.specs.declared.fault.ParseCheckpointError.TheVariants.{DecodeError, OutOfMemory}
-
-infixl 10 ◌>>=◌
--- go on with the value; a fault stays
-abbrev pub ◌>>=◌ : {A B : Type 0} → Result A CheckpointFault → (A → Result B CheckpointFault) → Result B CheckpointFault
-(Ok x) >>= f = f x
-(Err fault) >>= f = Err fault
 
 -- each of a list read in order
 abbrev pub each : {A B : Type 0} → (A → Result B CheckpointFault) → List A → Result (List B) CheckpointFault

@@ -3,12 +3,13 @@
 use Rattle.std.specs.Prelude.{◌≡◌, ℕ, nat_lt, nat_eq, if◌then◌else◌, List, [], ◌∷◌, ◌++◌, length, take, drop, Some, Result, Ok, Err}
 use Rattle.std.specs.List.{starts_with}
 use Rattle.std.specs.Str.{trim_end}
+use Rattle.sig_base.specs.ResultSteps.{◌>>=◌}
 use Rattle.sig_base.specs.declared.fault.CheckpointFault.{CheckpointFault}
 use Rattle.sig_base.specs.declared.fault.CheckpointFault.TheVariants.{NoDash, SignatureFormat, SignatureBase64, SignatureLength}
 use Rattle.sig_rekor.specs.declared.checkpoint.CheckpointSignature.{CheckpointSignature}
 use Rattle.sig_rekor.specs.Cut.{IsTrimmed, IsParts, trimmed, parts}
 use Rattle.sig_base.specs.Base64.{base64_bytes, base64_text}
-use Rattle.sig_rekor.specs.Reading.{◌>>=◌, base64_of}
+use Rattle.sig_rekor.specs.Reading.{base64_of}
 use Rattle.sig_rekor.specs.NoteText.{newline}
 
 -- U+2014 in UTF-8

@@ -5,7 +5,8 @@ use Rattle.std.specs.Prelude.{Bool, map}
 use Rattle.std.specs.List.{filter_map, flat_map, list_any, join_by}
 use Rattle.std.proofs.lemmas.List.{append-nil}
 use Rattle.std.proofs.lemmas.List.Elements.{filter_map-append}
-use Rattle.sig_der.specs.Taking.{◌>>=◌, many_at}
+use Rattle.sig_base.specs.OptionSteps.{◌>>=◌}
+use Rattle.sig_der.specs.Taking.{many_at}
 use Rattle.sig_der.proofs.Takings.{some}
 use Rattle.sig_der.proofs.Many.{Shrinks, many_at_none, many_at_more, many_at_stops}
 

@@ -1,7 +1,8 @@
 -- The only text of a list, by its first vector.
 use Rattle.std.proofs.Common.{◌≡◌, true, false, ℕ, eqb, List, [], ◌∷◌, length, Option, Some, None, Ok, Err, refl, sym, ap, ◌∙◌}
 use Rattle.std.specs.Prelude.{is_some}
-use Rattle.sig_der.specs.Taking.{◌>>=◌, many_at}
+use Rattle.sig_base.specs.OptionSteps.{◌>>=◌}
+use Rattle.sig_der.specs.Taking.{many_at}
 use Rattle.sig_der.proofs.KeyInfos.{none_left}
 use Rattle.sig_der.proofs.Many.{many_at_none, many_at_more, many_at_stops}
 use Rattle.sig_x509.specs.declared.sct_error.CertificateErrorKind.TheVariants.{LeafSCTMissing}

@@ -2,8 +2,9 @@
 -- the texts of *Certificate* is in proofs/Certificates.
 -- The times are told by a relation, as sig_der tells them.
 use Rattle.std.specs.Prelude.{◌≡◌, ℕ, ◌+◌, ◌-◌, ℤ, List, [], ◌∷◌, length, take, Bool, true, false, Option, Some, None, nat_lt, ◌==◌, if◌then◌else◌}
+use Rattle.sig_base.specs.OptionSteps.{◌>>=◌}
 use Rattle.sig_der.specs.Reading.{Piece}
-use Rattle.sig_der.specs.Taking.{◌>>=◌, take_any, take_tag, take_whole, take_optional}
+use Rattle.sig_der.specs.Taking.{take_any, take_tag, take_whole, take_optional}
 use Rattle.sig_der.specs.KeyInfo.{is_empty, algorithm_at, bits_of, key_info_at}
 use Rattle.sig_x509.specs.Certificate.{Extension, Cert}
 use Rattle.sig_der.specs.DerTime.{IsTimeOf}

@@ -1,7 +1,8 @@
 -- *Extension values*: subject alternative names, RFC 5280 section 4.2.1.6.
 use Rattle.std.specs.Prelude.{ℕ, List, Bool, ◌&&◌, ◌||◌, Option, Some, None, nat_lt, ◌==◌, if◌then◌else◌}
 use Rattle.std.specs.List.{list_all}
-use Rattle.sig_der.specs.Taking.{◌>>=◌, take_any, take_tag, take_whole, many_at}
+use Rattle.sig_base.specs.OptionSteps.{◌>>=◌}
+use Rattle.sig_der.specs.Taking.{take_any, take_tag, take_whole, many_at}
 use Rattle.sig_der.specs.KeyInfo.{is_empty}
 
 -- A name: an email, a URI, an other name with its object identifier and its value, or one of a kind that is not read.

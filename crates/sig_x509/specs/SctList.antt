@@ -2,9 +2,10 @@
 -- them. That they read exactly these texts is in proofs/SctLaws.
 use Rattle.std.specs.Prelude.{◌≡◌, ℕ, ◌^◌, ◌<◌, List, ◌∷◌, ◌++◌, length, Option, Some}
 use Rattle.std.specs.Int.{w64, to_be_bytes, from_be_bytes}
+use Rattle.sig_base.specs.OptionSteps.{◌>>=◌}
 use Rattle.sig_der.specs.Element.{IsElement}
 use Rattle.sig_der.specs.Joined.{AreJoined}
-use Rattle.sig_der.specs.Taking.{◌>>=◌, take_whole, many_at}
+use Rattle.sig_der.specs.Taking.{take_whole, many_at}
 use Rattle.sig_der.specs.KeyInfo.{after_zero}
 use Rattle.sig_x509.specs.Vectors.{vector, IsShort, bytes_at, vector_at, whole_vector}
 

@@ -2,8 +2,9 @@
 use Rattle.std.specs.Prelude.{ℕ, ◌+◌, ◌*◌, List, [], ◌∷◌, Bool, false, not, ◌&&◌, Option, Some, None, option_map, bit_and, nat_lt, ◌==◌, if◌then◌else◌}
 use Rattle.std.specs.Str.{bytes_eq}
 use Rattle.std.specs.List.{list_any}
+use Rattle.sig_base.specs.OptionSteps.{◌>>=◌}
 use Rattle.sig_der.specs.Reading.{Piece}
-use Rattle.sig_der.specs.Taking.{◌>>=◌, take_tag, take_whole, take_optional, many_at}
+use Rattle.sig_der.specs.Taking.{take_tag, take_whole, take_optional, many_at}
 use Rattle.sig_der.specs.KeyInfo.{is_empty}
 use Rattle.sig_x509.specs.declared.values.KeyUsage.{KeyUsage}
 use Rattle.sig_x509.specs.declared.values.BasicConstraints.{BasicConstraints}

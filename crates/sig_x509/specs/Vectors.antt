@@ -1,6 +1,6 @@
 -- The presentation language of TLS, as far as timestamps need it: RFC 5246 section 4.
 use Rattle.std.specs.Prelude.{ℕ, ◌+◌, ◌*◌, ◌/◌, ◌%◌, ◌<◌, List, [], ◌∷◌, ◌++◌, length, take, drop, Option, Some, None, nat_lt, if◌then◌else◌}
-use Rattle.sig_der.specs.Taking.{◌>>=◌}
+use Rattle.sig_base.specs.OptionSteps.{◌>>=◌}
 use Rattle.sig_der.specs.KeyInfo.{is_empty}
 
 -- uint16 and uint24, section 4.4: the most significant byte first

@@ -1,10 +1,10 @@
 -- The request of `log`: what its text means.
 use Rattle.std.specs.Prelude.{◌≡◌, ℕ, ◌≤◌, List, length, codes, Option, Some, None, Ok}
+use Rattle.sig_base.specs.OptionSteps.{◌>>=◌}
 use Rattle.sig_json.specs.Data.{Data}
 use Rattle.sig_json.specs.Document.{document_of}
 use Rattle.sig_json.specs.Kinds.{hash_of}
 use Rattle.sig_json.specs.Member.{required, required_bytes, required_hash, required_i64, required_text, required_u64, optional, optional_list}
-use Rattle.sig_json.specs.Reads.{◌>>=◌}
 use Rattle.sigverify.specs.declared.request.LogRequest.{LogRequest}
 use Rattle.sigverify.specs.Limit.{most_bytes}
 use Rattle.sigverify.specs.Row.{no_kind, row_of, scheme_kind}

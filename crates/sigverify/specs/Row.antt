@@ -1,6 +1,7 @@
 -- A row of `accepted`: one signature that is taken for genuine.
 use Rattle.std.specs.Prelude.{ℕ, List, [], codes, Option, Some, None, if◌then◌else◌, ⊤}
 use Rattle.std.specs.Str.{bytes_eq}
+use Rattle.sig_base.specs.OptionSteps.{◌>>=◌}
 use Rattle.sig_json.specs.Data.{Data}
 use Rattle.sig_base.specs.declared.checker.AcceptedRow.{AcceptedRow}
 use Rattle.sig_base.specs.declared.checker.Operation.{Operation}
@@ -9,7 +10,6 @@ use Rattle.sig_base.specs.declared.scheme.SigningScheme.{SigningScheme}
 use Rattle.sig_base.specs.Scheme.{name_of, scheme_of, scheme_named}
 use Rattle.sig_json.specs.Kinds.{text_of}
 use Rattle.sig_json.specs.Member.{optional, required, required_bytes}
-use Rattle.sig_json.specs.Reads.{◌>>=◌}
 
 -- the operation that a text names
 abbrev pub operation_named : List ℕ → Option Operation
