@@ -1,5 +1,5 @@
 -- Checks one after another, for `do`: the first that refuses ends them.
-use Rattle.std.specs.Prelude.{◌≡◌, ◌⊎◌, Result, Ok, Err}
+use Rattle.std.specs.Prelude.{◌≡◌, ◌⊎◌, Result, Err}
 
 -- the answer is one that is meant, unless memory ran out
 abbrev pub IsMeant : {A E : Type 0} → E → (Result A E → Type 0) → Result A E → Type 0

@@ -1,5 +1,5 @@
 -- A reader of one value of a tree: what it means, or none where the value is another than it has to be.
-use Rattle.std.specs.Prelude.{◌≡◌, Option, Some, None, option_and_then, Result, Ok, Err}
+use Rattle.std.specs.Prelude.{◌≡◌, Option, Some, None, Result, Ok, Err}
 use Rattle.sig_json.specs.declared.error.MemberError.{MemberError}
 use Rattle.sig_json.specs.declared.error.MemberError.TheVariants.{Member}
 
