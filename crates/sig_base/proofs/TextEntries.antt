@@ -1,18 +1,17 @@
 -- What is found among entries, also after a value was put, and that their texts still ascend.
-use Rattle.std.proofs.Common.{◌≡◌, ◌≢◌, ◌↔◌, ℕ, List, [], ◌∷◌, Bool, true, false, Some, refl, sym, ap, subst, ◌∙◌}
+use Rattle.std.proofs.Common.{◌≡◌, ◌≢◌, ◌↔◌, ℕ, List, [], ◌∷◌, Bool, true, false, Option, None, Some, refl, sym, ap, subst, ◌∙◌}
 use Rattle.std.specs.Prelude.{bytes_eq, Contains}
 use Rattle.std.specs.declared.cmp.Ordering.{Ordering}
 use Rattle.std.specs.declared.cmp.Ordering.TheVariants.{Less, Equal, Greater}
-use Rattle.std.specs.Ordering.{nat_cmp, is_eq, eq_by_cmp, match_ordering, ordering_reverse}
+use Rattle.std.specs.Ordering.{nat_cmp, is_eq, eq_by_cmp, match_ordering}
 use Rattle.std.specs.Cmp.Lexicographic.{slice_cmp, bytes_decides}
-use Rattle.std.specs.Map.{keys_of, lookup}
-use Rattle.std.specs.List.{AllByRecursion}
-use Rattle.std.specs.List.Sorted.{IsStrictlySortedBy}
+use Rattle.std.specs.Map.{lookup}
 use Rattle.std.proofs.lemmas.Cmp.{eq_by_cmp_equiv, nat_list_cmp_total}
 use Rattle.std.proofs.lemmas.Map.Keys.{IsDistinct-from_sorted}
 use Rattle.std.proofs.lemmas.Map.Views.{Contains-from_lookup, lookup-from_Contains}
 use Rattle.std.proofs.lemmas.Map.Text.{is_eq-slice_cmp}
 use Rattle.sig_base.specs.ByText.{text_lookup, text_put, KeysAscend}
+use Rattle.sig_base.proofs.Ascending.{ascend-insert_entry}
 
 same : (text : List ℕ) → bytes_eq text text ≡ true
 same text = (bytes_decides text text).1 refl
@@ -52,6 +51,17 @@ module _ {V : Type 0} where
         (λ held. sym (lookup_text text es) ∙ lookup-from_Contains (eq_by_cmp_equiv nat_list_cmp_total) text value es (IsDistinct-from_sorted _ _ up) held),
       )
 
+  pub absent_exactly : (text : List ℕ) (es : List (List ℕ × V)) → KeysAscend es
+      → (text_lookup text es ≡ None) ↔ ((value : V) → Contains es (text, value) → ⊥)
+  absent_exactly text es up =
+      (
+        (λ none value held. let found : text_lookup text es ≡ Some value = (found_exactly text value es up).1 held in absurd cc),
+        (λ out. by (text_lookup text es) refl out),
+      ) where
+    by : (found : Option V) → text_lookup text es ≡ found → ((value : V) → Contains es (text, value) → ⊥) → found ≡ None
+    by None is out = refl
+    by (Some value) is out = absurd (out value ((found_exactly text value es up).0 is))
+
   kept_at : (text other : List ℕ) (value : V) (e : List ℕ × V) (es : List (List ℕ × V)) (o : Ordering) → slice_cmp nat_cmp text e.0 ≡ o
       → bytes_eq other text ≡ false
       → text_lookup other (text_put text value es) ≡ text_lookup other es
@@ -72,38 +82,6 @@ module _ {V : Type 0} where
   put_others text other value es distinct =
       put_kept text other value es (differs (bytes_eq other text) (λ equal. distinct ((bytes_decides other text).0 equal)))
 
-further_below : (low mid : List ℕ) (keys : List (List ℕ)) → slice_cmp nat_cmp low mid ≡ Less
-    → AllByRecursion (λ k. slice_cmp nat_cmp mid k ≡ Less) keys → AllByRecursion (λ k. slice_cmp nat_cmp low k ≡ Less) keys
-further_below low mid [] under below = tt
-further_below low mid (k ∷ ks) under below = (nat_list_cmp_total.trans low mid k under below.0, further_below low mid ks under below.1)
-
 module _ {V : Type 0} where
-  below_at : (low text : List ℕ) (value : V) (e : List ℕ × V) (es : List (List ℕ × V)) (o : Ordering) → slice_cmp nat_cmp low text ≡ Less
-      → AllByRecursion (λ k. slice_cmp nat_cmp low k ≡ Less) (keys_of (e ∷ es))
-      → AllByRecursion (λ k. slice_cmp nat_cmp low k ≡ Less) (keys_of (text_put text value es))
-      → AllByRecursion (λ k. slice_cmp nat_cmp low k ≡ Less)
-      (keys_of (match_ordering o ((text, value) ∷ e ∷ es) ((e.0, value) ∷ es) (e ∷ text_put text value es)))
-  below_at low text value e es Less under below rest = (under, below)
-  below_at low text value e es Equal under below rest = below
-  below_at low text value e es Greater under below rest = (below.0, rest)
-
-  below_put : (low text : List ℕ) (value : V) (es : List (List ℕ × V)) → slice_cmp nat_cmp low text ≡ Less
-      → AllByRecursion (λ k. slice_cmp nat_cmp low k ≡ Less) (keys_of es)
-      → AllByRecursion (λ k. slice_cmp nat_cmp low k ≡ Less) (keys_of (text_put text value es))
-  below_put low text value [] under below = (under, tt)
-  below_put low text value (e ∷ es) under below =
-      below_at low text value e es (slice_cmp nat_cmp text e.0) under below (below_put low text value es under below.1)
-
-  ascend_at : (text : List ℕ) (value : V) (e : List ℕ × V) (es : List (List ℕ × V)) (o : Ordering) → slice_cmp nat_cmp text e.0 ≡ o
-      → KeysAscend (e ∷ es) → KeysAscend (text_put text value es)
-      → KeysAscend (match_ordering o ((text, value) ∷ e ∷ es) ((e.0, value) ∷ es) (e ∷ text_put text value es))
-  unfolding IsStrictlySortedBy
-  ascend_at text value e es Less order up rest = ((order, further_below text e.0 (keys_of es) order up.0), up)
-  ascend_at text value e es Equal order up rest = up
-  ascend_at text value e es Greater order up rest =
-      (below_put e.0 text value es (nat_list_cmp_total.antisymm e.0 text ∙ ap ordering_reverse order) up.0, rest)
-
   pub put_ascends : (text : List ℕ) (value : V) (es : List (List ℕ × V)) → KeysAscend es → KeysAscend (text_put text value es)
-  unfolding IsStrictlySortedBy
-  put_ascends text value [] up = (tt, tt)
-  put_ascends text value (e ∷ es) up = ascend_at text value e es (slice_cmp nat_cmp text e.0) refl up (put_ascends text value es up.1)
+  put_ascends text value es = ascend-insert_entry (slice_cmp nat_cmp) nat_list_cmp_total es text value

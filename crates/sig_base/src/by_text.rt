@@ -20,13 +20,15 @@ pub struct ByText<V> {
 impl<V> Model for ByText<V> {
     ghost use Rattle.std.specs.Prelude.{ℕ, List};
     ghost use Rattle.std.specs.Coded.{coded_list, coded×, coded_ℕ};
-    ghost use Rattle.sig_base.specs.ByText.{text_entries};
+    ghost use Rattle.sig_base.specs.ByText.{text_entries, KeysAscend};
 
     ghost Value = { List (List ℕ × V) };
 
     ghost coded = { coded_list (coded× (coded_list coded_ℕ) V.code) };
 
     ghost view = { λ m. text_entries m.entries.entries };
+
+    ghost invariant = { λ m. KeysAscend (text_entries m.entries.entries) };
 }
 
 impl<V> ByText<V> {
@@ -51,7 +53,8 @@ impl<V> ByText<V> {
     /// The value of a text; none where the text is not there.
     #[tactic(auto, using(crate::proofs::Texts::text_maps))]
     pub fn get(&self, key: &str) -> Option<&V>
-        ensures { option_copied result ≡ text_lookup key.now self.now }
+        ensures value { option_copied result ≡ text_lookup key.now self.now }
+        ensures ordered { KeysAscend self.now }
     {
         self.entries.get(key)
     }

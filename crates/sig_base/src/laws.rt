@@ -1,5 +1,5 @@
 //! What the definitions mean. It has no code.
-ghost use Rattle.std.specs.Prelude.{◌≡◌, ◌≢◌, ◌↔◌, ℕ, List, Some, Contains};
+ghost use Rattle.std.specs.Prelude.{◌≡◌, ◌≢◌, ◌↔◌, ℕ, List, None, Some, Contains};
 ghost use Rattle.base64.specs.GeneralPurpose.{IsBytes};
 ghost use Rattle.sig_base.specs.Base64.{base64_bytes, base64_text};
 ghost use Rattle.sig_base.specs.ByText.{text_lookup, text_put, KeysAscend};
@@ -9,10 +9,13 @@ pub fn base64_texts()
     ensures { (text bytes : List ℕ) → IsBytes text → IsBytes bytes → (base64_bytes text ≡ Some bytes) ↔ (text ≡ base64_text bytes) }
 {}
 
-/// What is found at a text is the value of its entry, where the texts of the entries ascend in byte order.
+/// Where the texts of the entries ascend in byte order, what is found at a text is the value of its entry, and nothing is found exactly where
+/// there is no entry of that text.
 pub fn entries_found<V>()
-    ensures { (text : List ℕ) (value : V) (entries : List (List ℕ × V)) → KeysAscend entries
+    ensures found { (text : List ℕ) (value : V) (entries : List (List ℕ × V)) → KeysAscend entries
         → (text_lookup text entries ≡ Some value) ↔ Contains entries (text, value) }
+    ensures absent { (text : List ℕ) (entries : List (List ℕ × V)) → KeysAscend entries
+        → (text_lookup text entries ≡ None) ↔ ((value : V) → Contains entries (text, value) → ⊥) }
 {}
 
 /// A value that is put at a text is the one that is found there, and what is found at each other text stays. Texts that ascend in byte order

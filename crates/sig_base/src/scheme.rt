@@ -12,11 +12,17 @@ pub const DEFAULT_KEY_SIZE: usize = 2048;
 #[allow(non_camel_case_types)]
 #[derive(Clone, Copy, PartialEq, Eq)]
 pub enum VerifyScheme {
+    /// RSASSA-PSS with SHA-256 (RFC 8017 section 8.1).
     RSA_PSS_SHA256,
+    /// RSASSA-PKCS1-v1_5 with SHA-256 (RFC 8017 section 8.2).
     RSA_PKCS1_SHA256,
+    /// ECDSA over P-256 with SHA-256, the signature in DER (FIPS 186-5 section 6, RFC 3279 section 2.2.3).
     ECDSA_P256_SHA256_ASN1,
+    /// ECDSA over P-384 with SHA-384, the signature in DER.
     ECDSA_P384_SHA384_ASN1,
+    /// ECDSA over P-521 with SHA-512, the signature in DER.
     ECDSA_P521_SHA512_ASN1,
+    /// Ed25519 (RFC 8032 section 5.1).
     ED25519,
 }
 
@@ -40,11 +46,17 @@ impl VerifyScheme {
 #[allow(non_camel_case_types)]
 #[derive(Clone, Copy, Debug, PartialEq, Eq)]
 pub enum SigningScheme {
+    /// RSASSA-PSS with SHA-256 (RFC 8017 section 8.1), and the size of the key in bits.
     RSA_PSS_SHA256(usize),
+    /// RSASSA-PKCS1-v1_5 with SHA-256 (RFC 8017 section 8.2), and the size of the key in bits.
     RSA_PKCS1_SHA256(usize),
+    /// ECDSA over P-256 with SHA-256, the signature in DER (FIPS 186-5 section 6, RFC 3279 section 2.2.3).
     ECDSA_P256_SHA256_ASN1,
+    /// ECDSA over P-384 with SHA-384, the signature in DER.
     ECDSA_P384_SHA384_ASN1,
+    /// ECDSA over P-521 with SHA-512, the signature in DER.
     ECDSA_P521_SHA512_ASN1,
+    /// Ed25519 (RFC 8032 section 5.1).
     ED25519,
 }
 

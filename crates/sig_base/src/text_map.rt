@@ -47,7 +47,8 @@ impl TextMap {
 
     /// The value of a text; none where the text is not there.
     pub fn get(&self, key: &str) -> Option<&str>
-        ensures { option_map (λ value. value.now) result ≡ text_lookup key.now self.now }
+        ensures value { option_map (λ value. value.now) result ≡ text_lookup key.now self.now }
+        ensures ordered { KeysAscend self.now }
     {
         match self.entries.get(key) {
             Some(value) => Some(value.as_str()),

@@ -1,8 +1,8 @@
 -- Digits that are read are those that are written, and written ones are read again.
 use Rattle.std.proofs.Common.{◌≡◌, ℕ, ◌+◌, ◌-◌, ◌*◌, ◌/◌, ◌%◌, ◌<◌, ◌≤◌, true, ltb, eqb, ◌&&◌, List, [], ◌∷◌, ◌++◌, Option, Some, None, refl, sym, ap, subst, ◌∙◌, append_assoc, arith}
 use Rattle.std.proofs.lemmas.Bool.{ltb-true, eq-eqb, eqb-true, and_parts, and_from, cond-true}
+use Rattle.sig_base.proofs.OptionSteps.{bind_is, bind_of_some, when_is, some_is}
 use Rattle.sig_der.specs.Digits.{two_digits, four_digits, mark_text, day_text, clock_text, is_digit, two_at, four_at, skip, day_at, clock_at}
-use Rattle.sig_der.proofs.Takings.{bind_is, bind_of_some, when_is, some_is}
 use Rattle.sig_der.proofs.DigitRuns.{is_digit-within}
 
 -- what a reader of a value took from the front of a text

@@ -4,10 +4,10 @@ use Rattle.std.proofs.lemmas.Bool.{le-ltb, ltb-false, eqb-false, ne_eqb, cond-fa
 use Rattle.std.proofs.lemmas.List.{take_at, drop_at, take-append-drop, length-append, length-drop, length-take-le}
 use Rattle.sig_base.specs.declared.fault.DerError.{DerError}
 use Rattle.sig_base.specs.declared.fault.DerError.TheVariants.{LongTag, Truncated}
+use Rattle.sig_base.proofs.ResultSteps.{bind_ok, bind_of_ok, guard_ok, ok_is}
 use Rattle.sig_der.specs.Element.{IsElement, StandsFirst, element, spelled_length}
 use Rattle.sig_der.specs.Reading.{Piece, length_at, element_at}
 use Rattle.sig_der.proofs.Bytes.{IsBytes, IsBytes-tail}
-use Rattle.sig_der.proofs.Steps.{bind_ok, bind_of_ok, guard_ok, ok_is}
 use Rattle.sig_der.proofs.Lengths.{length_at_takes, length_at_again, length_at_shorter}
 
 -- the text is the element and what follows it

@@ -3,10 +3,10 @@ use Rattle.std.proofs.Common.{◌≡◌, ◌≢◌, ℕ, ◌+◌, ◌*◌, ◌/�
 use Rattle.std.proofs.lemmas.Bool.{cases_lt, cases_Bool, lt-ltb, le-ltb, ltb-true, ltb-false, eqb-true, eqb-false, ne_eqb, cond-true, cond-false}
 use Rattle.sig_base.specs.declared.fault.DerError.{DerError}
 use Rattle.sig_base.specs.declared.fault.DerError.TheVariants.{Length, Truncated}
+use Rattle.sig_base.proofs.ResultSteps.{guard_ok, ok_is}
 use Rattle.sig_der.specs.Element.{spelled_length}
 use Rattle.sig_der.specs.Reading.{one_at, two_at, three_at, four_at, length_at}
 use Rattle.sig_der.proofs.Bytes.{IsBytes, IsBytes-tail}
-use Rattle.sig_der.proofs.Steps.{guard_ok, ok_is}
 
 -- ---- the five forms of a length
 

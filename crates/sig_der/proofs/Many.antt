@@ -4,10 +4,10 @@ use Rattle.std.proofs.Common.{◌≡◌, ◌≢◌, ℕ, zero, suc, ◌<◌, ◌
 use Rattle.std.specs.Prelude.{option_map}
 use Rattle.std.proofs.lemmas.List.{append-nil}
 use Rattle.sig_base.specs.OptionSteps.{◌>>=◌}
+use Rattle.sig_base.proofs.OptionSteps.{bind_is, bind_of_some, some, some_is}
 use Rattle.sig_der.specs.Taking.{many_within, many_at}
 use Rattle.sig_der.specs.Joined.{joined, AreJoined}
 use Rattle.sig_der.proofs.Bytes.{IsBytes, IsBytes-right}
-use Rattle.sig_der.proofs.Takings.{bind_is, bind_of_some, some, some_is}
 
 -- each part takes a byte at least
 abbrev pub Shrinks : {A : Type 0} → (List ℕ → Option (A × List ℕ)) → Type 0
@@ -16,10 +16,6 @@ Shrinks {A = A} read = (bytes : List ℕ) (y : A × List ℕ) → read bytes ≡
 -- what was read before, and then the rest
 abbrev pub with_front : {A : Type 0} → List A → Option (List A) → Option (List A)
 with_front front rest = option_map (λ xs. front ++ xs) rest
-
-with_front_nil : {A : Type 0} (o : Option (List A)) → with_front [] o ≡ o
-with_front_nil (Some xs) = refl
-with_front_nil None = refl
 
 with_front_push : {A : Type 0} (front : List A) (x : A) (o : Option (List A)) → with_front (front ++ x ∷ []) o ≡ with_front front (o >>= λ xs. Some (x ∷ xs))
 with_front_push front x (Some xs) = ap (λ ys. some ys) (append_assoc front (x ∷ []) xs)
@@ -66,9 +62,6 @@ many_at_stops read (b ∷ bytes) some_left is = none_bind (read (b ∷ bytes)) _
     none_bind (Some x) f e = absurd cc
 
 -- The loop's invariant, where front is what it read and bytes what is left: `with_front front (many_at read bytes) ≡ all`.
-
-pub begins_list : {A : Type 0} (read : List ℕ → Option (A × List ℕ)) (bytes : List ℕ) → with_front [] (many_at read bytes) ≡ many_at read bytes
-begins_list read bytes = with_front_nil (many_at read bytes)
 
 pub goes_on : {A : Type 0} (read : List ℕ → Option (A × List ℕ)) → Shrinks read → (front : List A) (bytes : List ℕ) (y : A × List ℕ) → read bytes ≡ Some y
     → with_front (front ++ y.0 ∷ []) (many_at read y.1) ≡ with_front front (many_at read bytes)

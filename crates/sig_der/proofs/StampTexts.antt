@@ -4,11 +4,11 @@ use Rattle.std.specs.Prelude.{IsSome, IfSome}
 use Rattle.std.specs.List.{AllByRecursion}
 use Rattle.std.proofs.lemmas.Bool.{cases_Bool, lt-ltb, ltb-true, eqb-true, eqb-false, ne_eqb, and_parts, and_from, cond-true, cond-false}
 use Rattle.std.proofs.lemmas.List.{nil_from_length}
+use Rattle.sig_base.proofs.OptionSteps.{bind_is, bind_of_some, when_is, unless_is, some_is, some}
 use Rattle.sig_der.specs.declared.moment.Moment.{Moment}
 use Rattle.sig_der.specs.Moment.{IsReal, IsDecimal, second_of}
 use Rattle.sig_der.specs.Digits.{two_digits, four_digits, day_text, clock_text, is_digit, two_at, four_at, skip, day_at, clock_at}
 use Rattle.sig_der.specs.Stamp.{front_text, Zone, zulu, ahead, behind, offset_text, zone_text, IsZone, offset_of, IsFraction, whole, part, IsInstantOf, front_at, after_digit, after_digits, fraction_at, offset_at, zone_at, stamp_at}
-use Rattle.sig_der.proofs.Takings.{bind_is, bind_of_some, when_is, unless_is, some_is, some}
 use Rattle.sig_der.proofs.DigitRuns.{run_takes, run_again}
 use Rattle.sig_der.proofs.DigitTexts.{two_at_takes, two_at_again, four_at_takes, four_at_again, skip_takes, skip_again, day_at_takes, day_at_again, clock_at_takes, clock_at_again}
 use Rattle.sig_der.proofs.TimeTexts.{decimal, year_below}

@@ -1,40 +1,14 @@
 -- Readers that go on: what they take is an *Element*, and an *Element* at the front is taken.
-use Rattle.std.proofs.Common.{◌≡◌, ℕ, ◌<◌, Bool, true, false, cond, eqb, List, [], ◌++◌, length, Option, Some, None, Result, Ok, Err, refl, sym, ap, subst, ◌∙◌, inl, inr}
+use Rattle.std.proofs.Common.{◌≡◌, ℕ, ◌<◌, true, false, cond, eqb, List, [], ◌++◌, length, Option, Some, None, Result, Ok, Err, refl, sym, ap, subst, ◌∙◌, inl, inr}
 use Rattle.std.proofs.lemmas.Bool.{cases_Bool, eq-eqb, eqb-true, cond-true, cond-false}
 use Rattle.std.proofs.lemmas.List.{nil_from_length, append-nil}
-use Rattle.sig_base.specs.OptionSteps.{◌>>=◌}
 use Rattle.sig_base.specs.declared.fault.DerError.{DerError}
+use Rattle.sig_base.proofs.OptionSteps.{some, some_is, bind_is, bind_of_some, when_is}
 use Rattle.sig_der.specs.Element.{IsElement, StandsFirst}
 use Rattle.sig_der.specs.Reading.{Piece, element_at}
 use Rattle.sig_der.specs.Taking.{answered, take_any, take_tag, take_whole, take_optional, begins_with}
 use Rattle.sig_der.proofs.Bytes.{IsBytes}
 use Rattle.sig_der.proofs.Elements.{Takes, element_at_takes, element_at_again, element_at_shorter}
-
--- ---- options
-
-pub bind_is : {A B : Type 0} (o : Option A) (f : A → Option B) (y : B) → (o >>= f) ≡ Some y → (x : A) × (o ≡ Some x) × (f x ≡ Some y)
-bind_is (Some x) f y e = (x, refl, e)
-bind_is None f y e = absurd cc
-
-pub bind_of_some : {A B : Type 0} (o : Option A) (f : A → Option B) (x : A) → o ≡ Some x → (o >>= f) ≡ f x
-bind_of_some (Some x) f y e = let same : x ≡ y = cc in rw same refl
-bind_of_some None f y e = absurd cc
-
--- a test that lets the answer through
-pub when_is : {A : Type 0} (b : Bool) (o : Option A) (y : A) → cond b o None ≡ Some y → (b ≡ true) × (o ≡ Some y)
-when_is true o y e = (refl, e)
-when_is false o y e = absurd cc
-
--- a test that stops the answer
-pub unless_is : {A : Type 0} (b : Bool) (o : Option A) (y : A) → cond b None o ≡ Some y → (b ≡ false) × (o ≡ Some y)
-unless_is true o y e = absurd cc
-unless_is false o y e = (refl, e)
-
-abbrev pub some : {A : Type 0} → A → Option A
-some x = Some x
-
-pub some_is : {A : Type 0} (x y : A) → some x ≡ some y → x ≡ y
-some_is x y e = cc
 
 -- ---- an element of any tag
 

@@ -4,12 +4,12 @@ use Rattle.std.proofs.lemmas.Int.{ints}
 use Rattle.jiff_core.specs.Calendar.{days_in_month, is_leap_year}
 use Rattle.std.proofs.lemmas.Bool.{cases_Bool, cases_lt, lt-ltb, le-ltb, ltb-true, ltb-false, cond-true, cond-false, cond_both}
 use Rattle.std.proofs.lemmas.Slice.Eq.{bytes_eq-Decides}
+use Rattle.sig_base.proofs.OptionSteps.{bind_is, bind_of_some, when_is, unless_is, some_is, some}
 use Rattle.sig_der.specs.declared.moment.Moment.{Moment}
 use Rattle.sig_der.specs.Moment.{IsReal, IsDecimal, IsSecondOf, second_of}
 use Rattle.sig_der.specs.Digits.{two_digits, four_digits, day_text, clock_text, two_at, four_at, day_at, clock_at}
 use Rattle.std.specs.Prelude.{IsSome, IfSome, ◌↔◌}
 use Rattle.sig_der.specs.DerTime.{after_year, IsUtcTime, IsGeneralizedTime, full_year, is_zulu, rest_at, utc_at, generalized_at}
-use Rattle.sig_der.proofs.Takings.{bind_is, bind_of_some, when_is, unless_is, some_is, some}
 use Rattle.sig_der.proofs.DigitTexts.{two_at_takes, two_at_again, four_at_takes, four_at_again, day_at_takes, day_at_again, clock_at_takes, clock_at_again}
 
 -- ---- a real moment has two digits a number
@@ -196,9 +196,6 @@ pub second_found : (read : Option Moment) (IsTime : Moment → Type 0) → IsTim
 second_found read IsTime reader m e None at = tt
 second_found read IsTime reader m e (Some s) at =
     record { moment = m; time = reader.takes m e (at.0.0 refl); value = at.1 }
-
-abbrev some_moment : Moment → Option Moment
-some_moment m = Some m
 
 abbrev some_second : ℤ → Option ℤ
 some_second s = Some s

@@ -5,10 +5,10 @@ use Rattle.std.proofs.lemmas.List.{nil_from_length, append-nil}
 use Rattle.sig_base.specs.ResultSteps.{◌>>=◌}
 use Rattle.sig_base.specs.declared.fault.DerError.{DerError}
 use Rattle.sig_base.specs.declared.fault.DerError.TheVariants.{Truncated, LongTag, Length, Trailing, WrongTag}
+use Rattle.sig_base.proofs.ResultSteps.{bind_ok, bind_of_ok, when_ok, ok_is}
 use Rattle.sig_der.specs.Element.{IsElement, IsFollowed, IsOfAnother}
 use Rattle.sig_der.specs.Reading.{Piece, element_at, all_at, has_bad_length, fault_of}
 use Rattle.sig_der.proofs.Bytes.{IsBytes}
-use Rattle.sig_der.proofs.Steps.{bind_ok, bind_of_ok, when_ok, ok_is}
 use Rattle.sig_der.proofs.Elements.{element_at_takes, element_at_again}
 use Rattle.sig_der.proofs.Faults.{element_at_fault}
 

@@ -1,7 +1,7 @@
 //! `VerificationKeys`: keys by their names.
 ghost use Rattle.std.specs.Prelude.{◌≡◌, [], OnOk, OnErr, IsOkUnless};
 ghost use Rattle.std.specs.Option.{option_copied};
-ghost use Rattle.sig_base.specs.ByText.{text_lookup, text_put};
+ghost use Rattle.sig_base.specs.ByText.{text_lookup, text_put, KeysAscend};
 ghost use Rattle.sig_base.specs.declared.error.SigstoreError.TheVariants.{OutOfMemory as Memory};
 
 use crate::verification_key::CosignVerificationKey;
@@ -36,7 +36,8 @@ impl VerificationKeys {
 
     /// The key of a text; none where the text is not there.
     pub fn get(&self, key: &str) -> Option<&CosignVerificationKey>
-        ensures { option_copied result ≡ text_lookup key.now self.now }
+        ensures value { option_copied result ≡ text_lookup key.now self.now }
+        ensures ordered { KeysAscend self.now }
     {
         self.keys.get(key)
     }

@@ -1,6 +1,6 @@
 -- Recursions on the size of a tree that go down by levels: any level that is high enough gives
--- the same, and every size is made of its halves.
-use Rattle.std.proofs.Common.{◌≡◌, ℕ, zero, suc, ◌+◌, ◌-◌, ◌*◌, ◌^◌, ◌<◌, ◌≤◌, refl, sym, ◌∙◌, ap, subst, inl, inr, arith, add-zero, add-suc}
+-- the same.
+use Rattle.std.proofs.Common.{◌≡◌, ℕ, zero, suc, ◌+◌, ◌-◌, ◌*◌, ◌^◌, ◌<◌, ◌≤◌, refl, sym, ◌∙◌, ap, inl, inr, arith, add-zero, add-suc}
 use Rattle.std.proofs.Math.Nat.{pow-suc, pow-le-pow_right}
 use Rattle.std.proofs.lemmas.Bool.{cases_lt}
 use Rattle.sig_merkle.specs.Split.{IsSplit}
@@ -59,20 +59,3 @@ split_unique n j k s t =
     let down = exponent_le n t.exponent s.exponent t_below s_largest in
     let same : s.exponent ≡ t.exponent = omega arith in
     s.power ∙ ap (λ e. 2 ^ e) same ∙ sym t.power
-
-halves : (P : ℕ → Type 0) → P 0 → P 1 → ((n k : ℕ) → IsSplit n k → P k → P (n - k) → P n) → (e n : ℕ) → n ≤ 2 ^ e → P n
-halves P none one join zero n fits =
-    elim (cases_lt n 1) [
-      | inl empty ↦ (let is : 0 ≡ n = omega arith in subst P is none)
-      | inr single ↦ (let is : 1 ≡ n = omega arith in subst P is one)
-    ]
-halves P none one join (suc e) n fits =
-    let double = pow-suc 2 e in
-    elim (cases_lt (2 ^ e) n) [
-      | inl below ↦ join n (2 ^ e) (record { exponent = e; power = refl; below = below; largest = omega arith }) (halves P none one join e (2 ^ e) (omega arith)) (halves P none one join e (n - 2 ^ e) (omega arith))
-      | inr within ↦ halves P none one join e n within
-    ]
-
--- what holds of no leaf and of one, and of a tree where it holds of both halves, holds of all
-pub by_size : (P : ℕ → Type 0) → P 0 → P 1 → ((n k : ℕ) → IsSplit n k → P k → P (n - k) → P n) → (n : ℕ) → P n
-by_size P none one join n = halves P none one join n n (within_pow n)

@@ -1,12 +1,13 @@
 -- What is read as a signed checkpoint stands for it, and what stands for a checkpoint is read as it.
 use Rattle.std.proofs.Common.{◌≡◌, ℕ, List, Option, Some, None, Ok, refl, subst, arith, filter}
+use Rattle.sig_base.proofs.ResultSteps.{bind_ok}
 use Rattle.sig_rekor.specs.declared.checkpoint.SignedCheckpoint.{SignedCheckpoint}
 use Rattle.sig_rekor.specs.Cut.{cut_at, parts, trimmed}
 use Rattle.sig_rekor.specs.NoteText.{note_of}
 use Rattle.sig_rekor.specs.SignatureText.{IsSignature, signature_of}
 use Rattle.sig_rekor.specs.CheckpointText.{quotation_mark, empty_line, is_written, IsCheckpoint, signatures_by, checkpoint_by, checkpoint_of}
 use Rattle.sig_rekor.proofs.Cutting.{cut_at-some, cut_at-cut, parts-found, parts-only, trimmed-found, trimmed-only}
-use Rattle.sig_rekor.proofs.Steps.{bind_ok, each-found, each-only}
+use Rattle.sig_rekor.proofs.Steps.{each-found, each-only}
 use Rattle.sig_rekor.proofs.NoteLaws.{note-found, note-only}
 use Rattle.sig_rekor.proofs.SignatureLaws.{signature-found, signature-only}
 

@@ -10,11 +10,12 @@ use Rattle.sig_rekor.specs.declared.checkpoint.OtherContent.{OtherContent}
 use Rattle.sig_rekor.specs.declared.checkpoint.OtherContent.TheVariants.{KeyValue, Value}
 use Rattle.sig_rekor.specs.Cut.{IsParts, cut_at, parts}
 use Rattle.sig_base.specs.Base64.{base64_bytes}
+use Rattle.sig_base.proofs.ResultSteps.{bind_ok}
 use Rattle.sig_rekor.specs.Reading.{base64_of}
 use Rattle.sig_rekor.specs.NoteText.{newline, colon, is_blank, is_not_empty, IsContent, IsSize, IsNote, content_by, content_of, contents_of, origin_of, size_of, hash_by, hash_of, note_by, note_of}
 use Rattle.sig_rekor.proofs.Cutting.{cut_at-some, cut_at-none, cut_at-cut, cut_at-lacks, parts-found, parts-only}
 use Rattle.sig_rekor.proofs.Notes.{size_of-numeral, digits_mean}
-use Rattle.sig_rekor.proofs.Steps.{bind_ok, chosen, ok_or-ok}
+use Rattle.sig_rekor.proofs.Steps.{chosen, ok_or-ok}
 
 -- a content
 content-found : (line : List ℕ) → IsContent line (content_of line)

@@ -10,10 +10,11 @@ use Rattle.sig_base.specs.declared.fault.CheckpointFault.TheVariants.{NoDash, Si
 use Rattle.sig_rekor.specs.declared.checkpoint.CheckpointSignature.{CheckpointSignature}
 use Rattle.sig_rekor.specs.Cut.{IsTrimmed, IsParts, trimmed, parts}
 use Rattle.sig_base.specs.Base64.{base64_bytes}
+use Rattle.sig_base.proofs.ResultSteps.{bind_ok}
 use Rattle.sig_rekor.specs.Reading.{base64_of}
 use Rattle.sig_rekor.specs.SignatureText.{em_dash, space, signed_bytes, IsSignature, line_of, name_and_bytes, signature_by, signature_of}
 use Rattle.sig_rekor.proofs.Cutting.{parts-found, parts-only, trimmed-found, trimmed-only}
-use Rattle.sig_rekor.proofs.Steps.{bind_ok, chosen, ok_or-ok}
+use Rattle.sig_rekor.proofs.Steps.{chosen, ok_or-ok}
 
 -- the line behind its dash
 line-found : (text line : List ℕ) → line_of text ≡ Ok line → IsTrimmed 10 text line × (line ≡ em_dash ++ drop 3 line)

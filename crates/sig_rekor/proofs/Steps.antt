@@ -2,14 +2,9 @@
 use Rattle.std.proofs.Common.{◌≡◌, Bool, true, false, ◌⊎◌, cond, Option, Some, None, Result, Ok, Err, refl, inl, inr, ok_or, List, [], ◌∷◌, ◌++◌, subst, IfOk}
 use Rattle.sig_base.specs.declared.fault.CheckpointFault.{CheckpointFault}
 use Rattle.std.specs.List.{AllZip, AllByRecursion}
-use Rattle.sig_base.specs.ResultSteps.{◌>>=◌}
+use Rattle.sig_base.proofs.ResultSteps.{bind_ok}
 use Rattle.sig_rekor.specs.declared.fault.ParseCheckpointError.{ParseCheckpointError}
 use Rattle.sig_rekor.specs.Reading.{each, Reads}
-
--- both steps gave a value
-pub bind_ok : {A B : Type 0} (r : Result A CheckpointFault) (f : A → Result B CheckpointFault) (y : B) → (r >>= f) ≡ Ok y → (x : A) × (r ≡ Ok x) × (f x ≡ Ok y)
-bind_ok (Ok x) f y e = (x, refl, e)
-bind_ok (Err fault) f y e = cc
 
 -- which way a test went
 pub chosen : {A : Type 0} (b : Bool) (x y z : A) → cond b x y ≡ z → ((b ≡ true) × (x ≡ z)) ⊎ ((b ≡ false) × (y ≡ z))

@@ -2,12 +2,13 @@
 -- is taken.
 use Rattle.std.proofs.Common.{◌≡◌, ℕ, Bool, true, false, eqb, List, [], ◌++◌, length, Option, Some, None, refl, sym, ap, subst, ◌∙◌, inl, inr}
 use Rattle.std.proofs.lemmas.List.{append-nil}
+use Rattle.sig_base.proofs.OptionSteps.{bind_is, bind_of_some, when_is, some_is}
 use Rattle.sig_der.specs.Element.{IsElement}
 use Rattle.sig_der.specs.Reading.{Piece}
 use Rattle.sig_der.specs.Taking.{take_any, take_tag, take_whole, take_optional, begins_with}
 use Rattle.sig_der.specs.KeyInfo.{key_info_at}
 use Rattle.sig_der.proofs.Bytes.{IsBytes}
-use Rattle.sig_der.proofs.Takings.{bind_is, bind_of_some, when_is, some_is, take_any_takes, take_any_again, take_tag_takes, take_tag_again, take_whole_takes, take_whole_again, take_optional_takes, take_optional_here, take_optional_absent, IsOptional}
+use Rattle.sig_der.proofs.Takings.{take_any_takes, take_any_again, take_tag_takes, take_tag_again, take_whole_takes, take_whole_again, take_optional_takes, take_optional_here, take_optional_absent, IsOptional}
 use Rattle.sig_der.proofs.KeyInfos.{content_fits, first_fits, rest_fits, none_left, key_info_at_takes, key_info_at_again}
 use Rattle.sig_x509.specs.Certificate.{IsOptionalElement, IsKeyInfoText, IsSequence}
 use Rattle.sig_x509.specs.Cutting.{Body, validity_at, body_at, after_ids, list_of, list_at}

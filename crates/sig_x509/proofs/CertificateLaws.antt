@@ -1,12 +1,13 @@
 -- *Certificate* and its plain reader: what is cut and read is a certificate, and a certificate is cut and read.
 use Rattle.std.proofs.Common.{◌≡◌, ℕ, ◌-◌, ℤ, Bool, true, false, List, [], ◌∷◌, ◌++◌, length, Option, Some, refl, sym, ap, subst, ◌∙◌, append_assoc, arith}
 use Rattle.std.proofs.lemmas.List.{take_at, length-append}
+use Rattle.sig_base.proofs.OptionSteps.{bind_is, bind_of_some, some, some_is}
 use Rattle.sig_der.specs.Element.{IsElement}
 use Rattle.sig_der.specs.Reading.{Piece}
 use Rattle.sig_der.specs.Taking.{take_tag, take_whole, begins_with, many_at}
 use Rattle.sig_der.specs.KeyInfo.{algorithm_at, bits_of}
 use Rattle.sig_der.proofs.Bytes.{IsBytes}
-use Rattle.sig_der.proofs.Takings.{bind_is, bind_of_some, some, some_is, take_tag_takes, take_tag_again, take_whole_takes, take_whole_again}
+use Rattle.sig_der.proofs.Takings.{take_tag_takes, take_tag_again, take_whole_takes, take_whole_again}
 use Rattle.sig_der.proofs.KeyInfos.{content_fits, first_fits, rest_fits, algorithm_at_takes, bits_of_takes, bits_of_again}
 use Rattle.sig_der.proofs.Many.{many_at_takes, many_at_again, many_at_none}
 use Rattle.sig_x509.specs.Certificate.{Extension, Cert, IsCertificate, IsExtension, AreExtensions, IsAlgorithmText}

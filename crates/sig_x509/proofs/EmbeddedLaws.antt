@@ -3,9 +3,9 @@ use Rattle.std.proofs.Common.{◌≡◌, ◌≢◌, ◌⊎◌, ℕ, ◌≤◌, f
 use Rattle.std.proofs.lemmas.List.{append-nil}
 use Rattle.std.specs.Prelude.{◌↔◌, IsSome}
 use Rattle.sig_base.specs.Answers.{Answers}
+use Rattle.sig_base.proofs.OptionSteps.{some_is}
 use Rattle.sig_der.proofs.Bytes.{IsBytes, IsBytes-right}
 use Rattle.sig_der.proofs.KeyInfos.{content_fits}
-use Rattle.sig_der.proofs.Takings.{some_is}
 use Rattle.sig_x509.specs.declared.signed.DigitallySigned.{DigitallySigned}
 use Rattle.sig_x509.specs.declared.sct_error.CertificateErrorKind.{CertificateErrorKind}
 use Rattle.sig_x509.specs.declared.sct_error.CertificateErrorKind.TheVariants.{LeafSCTMissing, IssuerMissing, LeafSCTMalformed}
@@ -47,18 +47,6 @@ value_said v fits = of_list (sct_list_at v) refl
     of_list (Some (text ∷ other ∷ texts)) e = (text ∷ other ∷ texts, (sct_list_at_takes v fits (text ∷ other ∷ texts) e, λ n. omega arith))
 
 -- ---- a certificate
-
-pub said_absent : (c : Cert) → sct_extensions c ≡ [] → LacksSct c
-said_absent c is = inl (λ n. let no : 0 ≡ 1 = sym (ap (λ (es : List Extension). length es) is) ∙ n in omega arith)
-
-pub said_several : (c : Cert) → 2 ≤ length (sct_extensions c) → LacksSct c
-said_several c le = inl (λ n. omega arith)
-
-pub said_one : (c : Cert) (e : Extension) → sct_extensions c ≡ e ∷ [] → (r : Result Sct CertificateErrorKind) → IsSaidOfValue e.value r → IsSaidOf c r
-said_one c e one (Ok s) h = record { extension = e; text = h.0; one = one; lists = h.1.0; is = h.1.1 }
-said_one c e one (Err LeafSCTMissing) h = inr (record { extension = e; texts = h.0; one = one; lists = h.1.0; others = h.1.1 })
-said_one c e one (Err LeafSCTMalformed) h = record { extension = e; one = one; bad = h }
-said_one c e one (Err IssuerMissing) h = h
 
 pub read_absent : (c : Cert) → sct_extensions c ≡ [] → Err LeafSCTMissing ≡ sct_of c
 unfolding sct_of

@@ -1,11 +1,12 @@
 -- Extensions: what the reader takes is what the relation builds, and what the relation builds is taken.
 use Rattle.std.proofs.Common.{◌≡◌, ℕ, ◌<◌, Bool, true, false, cond, eqb, List, [], ◌∷◌, ◌++◌, length, Option, Some, None, refl, sym, ap, subst, ◌∙◌, inl, inr}
 use Rattle.std.proofs.lemmas.Bool.{cases_Bool, eqb-true, cond-true, cond-false}
+use Rattle.sig_base.proofs.OptionSteps.{bind_is, bind_of_some, when_is, unless_is, some_is}
 use Rattle.sig_der.specs.Element.{IsElement}
 use Rattle.sig_der.specs.Reading.{Piece}
 use Rattle.sig_der.specs.Taking.{take_tag, take_whole, take_optional, begins_with}
 use Rattle.sig_der.proofs.Bytes.{IsBytes, IsBytes-right}
-use Rattle.sig_der.proofs.Takings.{bind_is, bind_of_some, when_is, unless_is, some_is, take_tag_takes, take_tag_again, take_tag_shrinks, take_whole_takes, take_whole_again, take_optional_takes, take_optional_here, take_optional_absent, IsOptional}
+use Rattle.sig_der.proofs.Takings.{take_tag_takes, take_tag_again, take_tag_shrinks, take_whole_takes, take_whole_again, take_optional_takes, take_optional_here, take_optional_absent, IsOptional}
 use Rattle.sig_der.proofs.Many.{IsReader}
 use Rattle.sig_der.proofs.KeyInfos.{first_fits, rest_fits, some_left, left_some}
 use Rattle.sig_x509.specs.Certificate.{Extension, IsFlag, IsExtension}
@@ -72,11 +73,6 @@ flag_at_again text flag rest bytes (inr is) other parts =
 
 abbrev pub TakesExtension : List ℕ → Extension × List ℕ → Type 0
 TakesExtension bytes y = IsExtension y.0 × (bytes ≡ y.0.whole ++ y.1)
-
--- an element of another tag begins with that tag
-pub begins_other : (text : List ℕ) (tag : ℕ) (content rest : List ℕ) (other : ℕ) → IsElement text tag content → eqb tag other ≡ false
-    → begins_with other (text ++ rest) ≡ false
-begins_other text tag content rest other is differs = rw is.spelled differs
 
 pub extension_at_takes : (bytes : List ℕ) → IsBytes bytes → (y : Extension × List ℕ) → extension_at bytes ≡ Some y → TakesExtension bytes y
 unfolding extension_at

@@ -2,12 +2,13 @@
 use Rattle.std.proofs.Common.{◌≡◌, ℕ, ◌+◌, ◌<◌, false, eqb, ltb, List, [], ◌∷◌, ◌++◌, length, Option, Some, None, refl, sym, ap, subst, ◌∙◌, inl, inr}
 use Rattle.std.proofs.lemmas.Bool.{ltb-true, lt-ltb, cond-true, cond-false}
 use Rattle.sig_base.specs.OptionSteps.{◌>>=◌}
+use Rattle.sig_base.proofs.OptionSteps.{bind_is, bind_of_some, when_is, unless_is, some, some_is}
 use Rattle.sig_der.specs.Element.{IsElement}
 use Rattle.sig_der.specs.Reading.{Piece}
 use Rattle.sig_der.specs.Taking.{take_tag, take_whole, take_optional, begins_with}
 use Rattle.sig_der.specs.KeyInfo.{Algorithm, algorithm_at}
 use Rattle.sig_der.proofs.Bytes.{IsBytes, IsBytes-left, IsBytes-right}
-use Rattle.sig_der.proofs.Takings.{bind_is, bind_of_some, when_is, unless_is, some, some_is, take_tag_takes, take_tag_again, take_whole_takes, take_whole_again, take_optional_takes, take_optional_here, take_optional_absent, IsOptional}
+use Rattle.sig_der.proofs.Takings.{take_tag_takes, take_tag_again, take_whole_takes, take_whole_again, take_optional_takes, take_optional_here, take_optional_absent, IsOptional}
 use Rattle.sig_der.proofs.KeyInfos.{content_fits, rest_fits, some_left, left_some, algorithm_at_takes, algorithm_at_again}
 use Rattle.sig_x509.specs.Certificate.{IsVersion, IsSerial, IsAlgorithmText, IsSequence}
 use Rattle.sig_x509.specs.Cutting.{Head, version_number, explicit_version, version_of, version_at, head_at}

@@ -6,17 +6,13 @@ use Rattle.std.specs.List.{filter_map, flat_map, list_any, join_by}
 use Rattle.std.proofs.lemmas.List.{append-nil}
 use Rattle.std.proofs.lemmas.List.Elements.{filter_map-append}
 use Rattle.sig_base.specs.OptionSteps.{◌>>=◌}
+use Rattle.sig_base.proofs.OptionSteps.{some}
 use Rattle.sig_der.specs.Taking.{many_at}
-use Rattle.sig_der.proofs.Takings.{some}
 use Rattle.sig_der.proofs.Many.{Shrinks, many_at_none, many_at_more, many_at_stops}
 
 -- what was kept before, and then what is kept of the rest
 abbrev pub kept : {A B : Type 0} → (A → Option B) → List B → Option (List A) → Option (List B)
 kept keep front rest = option_map (λ xs. front ++ filter_map keep xs) rest
-
-pub kept_begins : {A B : Type 0} (keep : A → Option B) (o : Option (List A)) → kept keep [] o ≡ option_map (λ xs. filter_map keep xs) o
-kept_begins keep (Some xs) = refl
-kept_begins keep None = refl
 
 kept_push : {A B : Type 0} (keep : A → Option B) (front : List B) (x : A) (o : Option (List A))
     → kept keep (front ++ filter_map keep (x ∷ [])) o ≡ kept keep front (o >>= λ xs. Some (x ∷ xs))

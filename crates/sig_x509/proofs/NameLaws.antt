@@ -4,10 +4,11 @@ use Rattle.std.specs.Str.{IsAscii}
 use Rattle.std.proofs.lemmas.Bool.{cases_Bool, eqb-true, eqb-false, lt-ltb, ltb-true, cond-true, cond-false, ne_eqb}
 use Rattle.std.proofs.lemmas.List.{append-nil}
 use Rattle.sig_base.specs.OptionSteps.{◌>>=◌}
+use Rattle.sig_base.proofs.OptionSteps.{bind_is, bind_of_some, when_is, unless_is, some_is}
 use Rattle.sig_der.specs.Element.{IsElement}
 use Rattle.sig_der.specs.Taking.{take_any, take_tag, take_whole, many_within, many_at}
 use Rattle.sig_der.proofs.Bytes.{IsBytes, IsBytes-right}
-use Rattle.sig_der.proofs.Takings.{bind_is, bind_of_some, when_is, unless_is, some_is, take_any_takes, take_any_again, take_tag_takes, take_tag_again, take_whole_takes, take_whole_again}
+use Rattle.sig_der.proofs.Takings.{take_any_takes, take_any_again, take_tag_takes, take_tag_again, take_whole_takes, take_whole_again}
 use Rattle.sig_der.proofs.Many.{many_at_none, many_at_more}
 use Rattle.sig_der.proofs.KeyInfos.{content_fits, first_fits, rest_fits, some_left, left_some, none_left}
 use Rattle.sig_x509.specs.Names.{Name, Email, Uri, Other, Unread, is_context, is_ascii_text, other_value, other_name, name_of, name_at, names_of}

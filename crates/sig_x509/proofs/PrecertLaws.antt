@@ -19,10 +19,6 @@ kept_texts_cond : (b : Bool) (e : Extension) (es : List Extension) → texts_of 
 kept_texts_cond true e es = refl
 kept_texts_cond false e es = refl
 
-texts_append : (xs ys : List Extension) → texts_of (xs ++ ys) ≡ texts_of xs ++ texts_of ys
-texts_append [] ys = refl
-texts_append (x ∷ xs) ys = ap (λ (w : List ℕ). x.whole ++ w) (texts_append xs ys) ∙ sym (append_assoc x.whole (texts_of xs) (texts_of ys))
-
 pub kept_push : (es : List Extension) (e : Extension) → texts_of (without_oid SCT_LIST.now (es ++ e ∷ [])) ≡ texts_of (without_oid SCT_LIST.now es) ++ kept_of e
 kept_push [] e = kept_texts_cond (bytes_eq e.oid SCT_LIST.now) e [] ∙ append-nil (kept_of e)
 kept_push (x ∷ es) e =

@@ -1,8 +1,8 @@
 -- What was read at places is the certificate, and what was not read is none.
 use Rattle.std.proofs.Common.{◌≡◌, ℕ, ◌≤◌, ℤ, List, Some, None, refl, sym, ap, ◌∙◌, arith}
 use Rattle.std.specs.List.{All}
+use Rattle.sig_base.proofs.OptionSteps.{some_is}
 use Rattle.sig_der.specs.Taking.{many_at}
-use Rattle.sig_der.proofs.Takings.{some_is}
 use Rattle.sig_x509.specs.declared.span.Span.{Span}
 use Rattle.sig_x509.specs.declared.extensions.ExtensionPlaces.{ExtensionPlaces}
 use Rattle.sig_x509.specs.Certificate.{Extension, Cert, IsCertificate}

@@ -3,11 +3,12 @@ use Rattle.std.proofs.Common.{◌≡◌, ℕ, ◌^◌, ◌<◌, eqb, List, [], �
 use Rattle.std.specs.Int.{w64, from_be_bytes}
 use Rattle.std.proofs.lemmas.Bool.{eqb-true}
 use Rattle.std.proofs.lemmas.Nat.{be_bytes_8, from_be_bytes-to_be_bytes_8}
+use Rattle.sig_base.proofs.OptionSteps.{bind_is, bind_of_some, when_is, some_is}
 use Rattle.sig_der.specs.Element.{IsElement}
 use Rattle.sig_der.specs.Taking.{take_whole}
 use Rattle.sig_der.specs.KeyInfo.{after_zero}
 use Rattle.sig_der.proofs.Bytes.{IsBytes, IsBytes-right, IsBytes-left, IsBytes-tail}
-use Rattle.sig_der.proofs.Takings.{bind_is, bind_of_some, when_is, some_is, take_whole_takes, take_whole_again}
+use Rattle.sig_der.proofs.Takings.{take_whole_takes, take_whole_again}
 use Rattle.sig_der.proofs.KeyInfos.{content_fits}
 use Rattle.sig_der.proofs.Many.{many_at_takes, many_at_again}
 use Rattle.sig_x509.specs.Vectors.{vector, two_bytes, IsShort, bytes_at, vector_at, whole_vector}

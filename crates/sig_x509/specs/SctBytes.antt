@@ -21,7 +21,7 @@ signed_bytes d =
     ++ ((0 ∷ 1 ∷ d.issuer_key_hash)
     ++ ((three_bytes (length d.tbs_certificate) ++ d.tbs_certificate) ++ (two_bytes (length d.extensions) ++ d.extensions)))
 
--- what a timestamp of a certificate signs, and its signature, where the issuer has this key info
+-- what a timestamp of a certificate signs, and its signature, where the issuer has this key info: `signed_bytes` of it is *SCT signed bytes*
 abbrev pub signed_of : Cert → List ℕ → Sct → DigitallySigned
 signed_of c spki s =
     record {
@@ -32,10 +32,6 @@ signed_of c spki s =
       log_id = s.log_id;
       signature = s.signature;
     }
-
--- *SCT signed bytes*
-abbrev pub sct_bytes : Cert → List ℕ → Sct → List ℕ
-sct_bytes c spki s = signed_bytes (signed_of c spki s)
 
 -- ---- whether a keyring vouches for it
 

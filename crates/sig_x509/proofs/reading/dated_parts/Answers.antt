@@ -1,6 +1,6 @@
 use Rattle.std.proofs.Common.{rules, sym, subst, ◌∙◌}
+use Rattle.sig_base.proofs.OptionSteps.{some_is}
 use Rattle.sig_der.specs.DerTime.{IsTimeOf}
-use Rattle.sig_der.proofs.Takings.{some_is}
 use Rattle.sig_x509.specs.Cutting.{Parts}
 use Rattle.sig_x509.proofs.reading.dated_parts.Goals as goal
 

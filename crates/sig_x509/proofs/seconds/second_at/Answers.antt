@@ -1,5 +1,5 @@
 use Rattle.std.proofs.Common.{rules}
-use Rattle.sig_der.proofs.Steps.{ok_is}
+use Rattle.sig_base.proofs.ResultSteps.{ok_is}
 use Rattle.sig_x509.proofs.seconds.second_at.Goals as goal
 
 pub returns-in-Ok-clause-only : goal.returns-in-Ok-clause-only

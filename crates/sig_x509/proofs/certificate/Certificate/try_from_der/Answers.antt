@@ -1,4 +1,5 @@
 use Rattle.std.proofs.Common.{rules, ◌≡◌, List, ℕ, ℤ, map, length, Some, sym, ap, subst, arith}
+use Rattle.sig_base.proofs.OptionSteps.{some}
 use Rattle.sig_der.proofs.Bytes.{IsBytes}
 use Rattle.sig_x509.specs.declared.error.X509ReadError.{X509ReadError}
 use Rattle.sig_x509.specs.declared.error.X509ReadError.TheVariants.{Der, OutOfMemory}
@@ -8,7 +9,6 @@ use Rattle.sig_x509.specs.declared.parts.Places.{Places}
 use Rattle.sig_x509.specs.declared.extensions.ExtensionPlaces.{ExtensionPlaces}
 use Rattle.std.specs.List.{All}
 use Rattle.sig_der.specs.Taking.{many_at}
-use Rattle.sig_der.proofs.Takings.{some}
 use Rattle.sig_x509.specs.Places.{parts_of, extension_of, placed_certificate, ArePlaces, AreSpans}
 use Rattle.sig_x509.specs.declared.listed.Listed.{Listed}
 use Rattle.sig_x509.specs.Held.{HoldsCertificate, IsRecorded}
