@@ -70,32 +70,30 @@ fn is_true(alloc: Global, line: &str) -> Option<bool> {
     Some(text.as_str() == wanted)
 }
 
-/// Whether every line of a table is true.
-fn are_true(alloc: Global, table: &str) -> bool {
-    for line in table.lines() {
-        if is_true(alloc, line) != Some(true) {
-            return false;
-        }
-    }
-    true
-}
-
 #[test]
 fn lists_are_counted(rt: HostRuntime) {
-    assert!(rt; are_true(rt.alloc(), LISTS));
+    for line in LISTS.lines() {
+        assert_eq!(rt; is_true(rt.alloc(), line), Some(true), "{line}");
+    }
 }
 
 #[test]
 fn malformed_lists_are_refused(rt: HostRuntime) {
-    assert!(rt; are_true(rt.alloc(), MALFORMED));
+    for line in MALFORMED.lines() {
+        assert_eq!(rt; is_true(rt.alloc(), line), Some(true), "{line}");
+    }
 }
 
 #[test]
 fn timestamps_are_counted_and_read(rt: HostRuntime) {
-    assert!(rt; are_true(rt.alloc(), TIMESTAMPS));
+    for line in TIMESTAMPS.lines() {
+        assert_eq!(rt; is_true(rt.alloc(), line), Some(true), "{line}");
+    }
 }
 
 #[test]
 fn malformed_timestamps_are_refused(rt: HostRuntime) {
-    assert!(rt; are_true(rt.alloc(), FIELDS));
+    for line in FIELDS.lines() {
+        assert_eq!(rt; is_true(rt.alloc(), line), Some(true), "{line}");
+    }
 }

@@ -76,24 +76,18 @@ fn is_true(alloc: Global, line: &str) -> Option<bool> {
     Some(alone(alloc, &leaf)?.as_str() == wanted && held(alloc, &leaf)?.as_str() == wanted)
 }
 
-/// Whether every line of a table is true of the policy.
-fn are_true(alloc: Global, table: &str) -> bool {
-    for line in table.lines() {
-        if is_true(alloc, line) != Some(true) {
-            return false;
-        }
-    }
-    true
-}
-
 #[test]
 fn identities_are_compared(rt: HostRuntime) {
-    assert!(rt; are_true(rt.alloc(), IDENTITY));
+    for line in IDENTITY.lines() {
+        assert_eq!(rt; is_true(rt.alloc(), line), Some(true), "{line}");
+    }
 }
 
 #[test]
 fn malformed_names_give_no_identity(rt: HostRuntime) {
-    assert!(rt; are_true(rt.alloc(), MALFORMED));
+    for line in MALFORMED.lines() {
+        assert_eq!(rt; is_true(rt.alloc(), line), Some(true), "{line}");
+    }
 }
 
 /// Whether a line of `IDENTITIES` is true.

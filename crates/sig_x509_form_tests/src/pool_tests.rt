@@ -124,27 +124,23 @@ fn is_true(alloc: Global, line: &str) -> Option<bool> {
     Some(answer(alloc, &leaf, FIRST)?.as_str() == wanted)
 }
 
-/// Whether every line of a table is true.
-fn are_true(alloc: Global, table: &str) -> bool {
-    for line in table.lines() {
-        if is_true(alloc, line) != Some(true) {
-            return false;
-        }
-    }
-    true
-}
-
 #[test]
 fn pools_answer_the_issuer(rt: HostRuntime) {
-    assert!(rt; are_true(rt.alloc(), ISSUES));
+    for line in ISSUES.lines() {
+        assert_eq!(rt; is_true(rt.alloc(), line), Some(true), "{line}");
+    }
 }
 
 #[test]
 fn pools_ask_for_the_profile(rt: HostRuntime) {
-    assert!(rt; are_true(rt.alloc(), PROFILES));
+    for line in PROFILES.lines() {
+        assert_eq!(rt; is_true(rt.alloc(), line), Some(true), "{line}");
+    }
 }
 
 #[test]
 fn pools_refuse_authorities(rt: HostRuntime) {
-    assert!(rt; are_true(rt.alloc(), CONSTRAINTS));
+    for line in CONSTRAINTS.lines() {
+        assert_eq!(rt; is_true(rt.alloc(), line), Some(true), "{line}");
+    }
 }

@@ -124,47 +124,51 @@ fn is_true(alloc: Global, call: &str, line: &str) -> Option<bool> {
     Some(answer(alloc, call, &read)?.as_str() == wanted)
 }
 
-/// Whether every line of a table is true of the call of this name.
-fn are_true(alloc: Global, call: &str, table: &str) -> bool {
-    for line in table.lines() {
-        if is_true(alloc, call, line) != Some(true) {
-            return false;
-        }
-    }
-    true
-}
-
 #[test]
 fn leaves_answer_the_first_cause(rt: HostRuntime) {
-    assert!(rt; are_true(rt.alloc(), "is_leaf", LEAF));
+    for line in LEAF.lines() {
+        assert_eq!(rt; is_true(rt.alloc(), "is_leaf", line), Some(true), "{line}");
+    }
 }
 
 #[test]
 fn leaves_have_a_key_usage(rt: HostRuntime) {
-    assert!(rt; are_true(rt.alloc(), "is_leaf", LEAF_USAGES));
+    for line in LEAF_USAGES.lines() {
+        assert_eq!(rt; is_true(rt.alloc(), "is_leaf", line), Some(true), "{line}");
+    }
 }
 
 #[test]
 fn leaves_have_purposes(rt: HostRuntime) {
-    assert!(rt; are_true(rt.alloc(), "is_leaf", LEAF_PURPOSES));
+    for line in LEAF_PURPOSES.lines() {
+        assert_eq!(rt; is_true(rt.alloc(), "is_leaf", line), Some(true), "{line}");
+    }
 }
 
 #[test]
 fn authorities_answer_the_first_cause(rt: HostRuntime) {
-    assert!(rt; are_true(rt.alloc(), "is_ca", AUTHORITY));
+    for line in AUTHORITY.lines() {
+        assert_eq!(rt; is_true(rt.alloc(), "is_ca", line), Some(true), "{line}");
+    }
 }
 
 #[test]
 fn authorities_have_constraints(rt: HostRuntime) {
-    assert!(rt; are_true(rt.alloc(), "is_ca", AUTHORITY_CONSTRAINTS));
+    for line in AUTHORITY_CONSTRAINTS.lines() {
+        assert_eq!(rt; is_true(rt.alloc(), "is_ca", line), Some(true), "{line}");
+    }
 }
 
 #[test]
 fn authorities_have_a_key_usage(rt: HostRuntime) {
-    assert!(rt; are_true(rt.alloc(), "is_ca", AUTHORITY_USAGES));
+    for line in AUTHORITY_USAGES.lines() {
+        assert_eq!(rt; is_true(rt.alloc(), "is_ca", line), Some(true), "{line}");
+    }
 }
 
 #[test]
 fn roots_answer_the_first_cause(rt: HostRuntime) {
-    assert!(rt; are_true(rt.alloc(), "is_root_ca", ROOT));
+    for line in ROOT.lines() {
+        assert_eq!(rt; is_true(rt.alloc(), "is_root_ca", line), Some(true), "{line}");
+    }
 }

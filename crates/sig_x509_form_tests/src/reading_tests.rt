@@ -183,57 +183,65 @@ fn is_true(alloc: Global, line: &str) -> Option<bool> {
     Some(answer(alloc, change)? == wanted)
 }
 
-/// Whether every line of a table is true.
-fn are_true(alloc: Global, table: &str) -> bool {
-    for line in table.lines() {
-        if is_true(alloc, line) != Some(true) {
-            return false;
-        }
-    }
-    true
-}
-
 #[test]
 fn versions_keep_their_rules(rt: HostRuntime) {
-    assert!(rt; are_true(rt.alloc(), VERSIONS));
+    for line in VERSIONS.lines() {
+        assert_eq!(rt; is_true(rt.alloc(), line), Some(true), "{line}");
+    }
 }
 
 #[test]
 fn algorithms_keep_their_rules(rt: HostRuntime) {
-    assert!(rt; are_true(rt.alloc(), ALGORITHMS));
+    for line in ALGORITHMS.lines() {
+        assert_eq!(rt; is_true(rt.alloc(), line), Some(true), "{line}");
+    }
 }
 
 #[test]
 fn names_and_validities_keep_their_rules(rt: HostRuntime) {
-    assert!(rt; are_true(rt.alloc(), NAMES));
+    for line in NAMES.lines() {
+        assert_eq!(rt; is_true(rt.alloc(), line), Some(true), "{line}");
+    }
 }
 
 #[test]
 fn times_keep_their_rules(rt: HostRuntime) {
-    assert!(rt; are_true(rt.alloc(), TIMES));
+    for line in TIMES.lines() {
+        assert_eq!(rt; is_true(rt.alloc(), line), Some(true), "{line}");
+    }
 }
 
 #[test]
 fn keys_keep_their_rules(rt: HostRuntime) {
-    assert!(rt; are_true(rt.alloc(), KEYS));
+    for line in KEYS.lines() {
+        assert_eq!(rt; is_true(rt.alloc(), line), Some(true), "{line}");
+    }
 }
 
 #[test]
 fn unique_identifiers_keep_their_rules(rt: HostRuntime) {
-    assert!(rt; are_true(rt.alloc(), IDENTIFIERS));
+    for line in IDENTIFIERS.lines() {
+        assert_eq!(rt; is_true(rt.alloc(), line), Some(true), "{line}");
+    }
 }
 
 #[test]
 fn lists_of_extensions_keep_their_rules(rt: HostRuntime) {
-    assert!(rt; are_true(rt.alloc(), LISTS));
+    for line in LISTS.lines() {
+        assert_eq!(rt; is_true(rt.alloc(), line), Some(true), "{line}");
+    }
 }
 
 #[test]
 fn extensions_keep_their_rules(rt: HostRuntime) {
-    assert!(rt; are_true(rt.alloc(), EXTENSIONS));
+    for line in EXTENSIONS.lines() {
+        assert_eq!(rt; is_true(rt.alloc(), line), Some(true), "{line}");
+    }
 }
 
 #[test]
 fn signatures_keep_their_rules(rt: HostRuntime) {
-    assert!(rt; are_true(rt.alloc(), SIGNATURES));
+    for line in SIGNATURES.lines() {
+        assert_eq!(rt; is_true(rt.alloc(), line), Some(true), "{line}");
+    }
 }

@@ -145,42 +145,44 @@ fn is_true(alloc: Global, name: &str, line: &str) -> Option<bool> {
     )
 }
 
-/// Whether every line of a table is true of the policy of this name.
-fn are_true(alloc: Global, name: &str, table: &str) -> bool {
-    for line in table.lines() {
-        if is_true(alloc, name, line) != Some(true) {
-            return false;
-        }
-    }
-    true
-}
-
 #[test]
 fn issuers_are_compared(rt: HostRuntime) {
-    assert!(rt; are_true(rt.alloc(), "OIDCIssuer", ISSUERS));
+    for line in ISSUERS.lines() {
+        assert_eq!(rt; is_true(rt.alloc(), "OIDCIssuer", line), Some(true), "{line}");
+    }
 }
 
 #[test]
 fn triggers_are_compared(rt: HostRuntime) {
-    assert!(rt; are_true(rt.alloc(), "GitHubWorkflowTrigger", TRIGGERS));
+    for line in TRIGGERS.lines() {
+        assert_eq!(rt; is_true(rt.alloc(), "GitHubWorkflowTrigger", line), Some(true), "{line}");
+    }
 }
 
 #[test]
 fn commits_are_compared(rt: HostRuntime) {
-    assert!(rt; are_true(rt.alloc(), "GitHubWorkflowSHA", COMMITS));
+    for line in COMMITS.lines() {
+        assert_eq!(rt; is_true(rt.alloc(), "GitHubWorkflowSHA", line), Some(true), "{line}");
+    }
 }
 
 #[test]
 fn names_are_compared(rt: HostRuntime) {
-    assert!(rt; are_true(rt.alloc(), "GitHubWorkflowName", NAMES));
+    for line in NAMES.lines() {
+        assert_eq!(rt; is_true(rt.alloc(), "GitHubWorkflowName", line), Some(true), "{line}");
+    }
 }
 
 #[test]
 fn repositories_are_compared(rt: HostRuntime) {
-    assert!(rt; are_true(rt.alloc(), "GitHubWorkflowRepository", REPOSITORIES));
+    for line in REPOSITORIES.lines() {
+        assert_eq!(rt; is_true(rt.alloc(), "GitHubWorkflowRepository", line), Some(true), "{line}");
+    }
 }
 
 #[test]
 fn refs_are_compared(rt: HostRuntime) {
-    assert!(rt; are_true(rt.alloc(), "GitHubWorkflowRef", REFS));
+    for line in REFS.lines() {
+        assert_eq!(rt; is_true(rt.alloc(), "GitHubWorkflowRef", line), Some(true), "{line}");
+    }
 }

@@ -73,34 +73,32 @@ fn is_true(alloc: Global, call: &str, line: &str) -> Option<bool> {
     Some(answer(alloc, call, &read)?.as_str() == wanted)
 }
 
-/// Whether every line of a table is true of the call of this name.
-fn are_true(alloc: Global, call: &str, table: &str) -> bool {
-    for line in table.lines() {
-        if is_true(alloc, call, line) != Some(true) {
-            return false;
-        }
-    }
-    true
-}
-
 #[test]
 fn key_usages_answer_the_first_cause(rt: HostRuntime) {
-    assert!(rt; are_true(rt.alloc(), "verify_key_usages", USAGES));
+    for line in USAGES.lines() {
+        assert_eq!(rt; is_true(rt.alloc(), "verify_key_usages", line), Some(true), "{line}");
+    }
 }
 
 #[test]
 fn alternative_names_are_well_formed(rt: HostRuntime) {
-    assert!(rt; are_true(rt.alloc(), "verify_has_san", NAMES));
+    for line in NAMES.lines() {
+        assert_eq!(rt; is_true(rt.alloc(), "verify_has_san", line), Some(true), "{line}");
+    }
 }
 
 #[test]
 fn other_names_are_well_formed(rt: HostRuntime) {
-    assert!(rt; are_true(rt.alloc(), "verify_has_san", OTHER_NAMES));
+    for line in OTHER_NAMES.lines() {
+        assert_eq!(rt; is_true(rt.alloc(), "verify_has_san", line), Some(true), "{line}");
+    }
 }
 
 #[test]
 fn well_formed_names_are_accepted(rt: HostRuntime) {
-    assert!(rt; are_true(rt.alloc(), "verify_has_san", GOOD_NAMES));
+    for line in GOOD_NAMES.lines() {
+        assert_eq!(rt; is_true(rt.alloc(), "verify_has_san", line), Some(true), "{line}");
+    }
 }
 
 /// Each line: the cause, the second of the entry, the second of now, the extensions of the fixture leaf that are changed, and what
