@@ -1,6 +1,6 @@
 //! The calls that ask for the signatures of a request, by the names of the links that make them.
 
-use sig_base::{Entries, OutOfMemory, TableChecker, Text};
+use sig_base::{Entries, TableChecker, Text};
 use sig_bundle::TransparencyLogEntry;
 use sig_bundle_fixture::PAYLOAD_TYPE;
 use sig_dsse::compute_pae;
@@ -78,33 +78,21 @@ fn is_signed(alloc: Global, parts: &RequestParts, checker: &TableChecker) -> Opt
     Some(answer.is_ok())
 }
 
-/// Sets a member to a text.
-fn set_text(
-    alloc: Global,
-    object: &mut Document,
-    name: &str,
-    text: &str,
-) -> Result<(), OutOfMemory> {
-    let text = Document::of_text(alloc, text)?;
-    object.insert(alloc, name, text)
-}
-
-/// What the log promises.
-fn promised(alloc: Global, entry: &TransparencyLogEntry) -> Result<Document, OutOfMemory> {
-    let body = Text::in_base64(alloc, entry.canonicalized_body.as_slice())?;
+/// What the log promises, as JSON whose members stand in another order, with blanks.
+fn promised(alloc: Global, entry: &TransparencyLogEntry) -> Option<String> {
+    let body = Text::in_base64(alloc, entry.canonicalized_body.as_slice()).ok()?;
+    let (body, index, time) = (body.as_str(), entry.log_index, entry.integrated_time);
     let id = "4444444444444444444444444444444444444444444444444444444444444444";
-    let mut promise = Document::object(alloc);
-    promise.insert(alloc, "logIndex", Document::of_integer(entry.log_index))?;
-    set_text(alloc, &mut promise, "logID", id)?;
-    promise.insert(alloc, "integratedTime", Document::of_integer(entry.integrated_time))?;
-    set_text(alloc, &mut promise, "body", body.as_str())?;
-    Ok(promise)
+    format!(in alloc;
+        "{{\"logIndex\": {index}, \"logID\": \"{id}\", \"integratedTime\": {time}, \"body\": \"{body}\"}}"
+    ).ok()
 }
 
 /// The canonical JSON of what the log promises (RFC 8785).
 fn promise(alloc: Global, parts: &RequestParts) -> Option<Text> {
     let entry = parts.bundle.entry(alloc).ok()?;
-    let promise = promised(alloc, &entry).ok()?;
+    let text = promised(alloc, &entry)?;
+    let promise = Document::read(alloc, text.as_bytes()).ok()?;
     canonical(alloc, promise.view()).ok()
 }
 
