@@ -1,92 +1,121 @@
--- The digests that are taken are those that stand under the names of their algorithms.
-use Rattle.std.proofs.Common.{◌≡◌, ◌≢◌, ◌↔◌, ◌⊎◌, inl, inr, ℕ, zero, suc, Bool, true, false, cond, nat_lt, List, [], ◌∷◌, ◌++◌, length, Result, Ok, Err, refl, sym, ap, subst, ◌∙◌, arith}
-use Rattle.std.specs.Bool.{Decides}
-use Rattle.std.proofs.lemmas.List.Elements.{Contains-append_left, Contains-append_right, Contains-append_cases}
+-- The digests that are taken are those of the entries with a known name, one each and in order.
+use Rattle.std.proofs.Common.{◌≡◌, ◌≢◌, ◌≤◌, ◌↔◌, inl, inr, ℕ, Bool, true, false, cond, ◌||◌, nat_lt, List, [], ◌∷◌, ◌++◌, length, Result, Ok, Err, refl, sym, ap, subst, ◌∙◌, arith}
+use Rattle.std.proofs.lemmas.Bool.{cases_Bool, ltb-false, le-ltb}
 use Rattle.std.proofs.lemmas.Slice.Eq.{bytes_eq-Decides}
-use Rattle.std.specs.List.{Any, Contains}
-use Rattle.std.specs.Prelude.{codes, bytes_eq}
+use Rattle.std.specs.Bool.{Decides}
+use Rattle.std.specs.List.{AllByRecursion, filter, flat_map}
+use Rattle.std.specs.Prelude.{codes, bytes_eq, ⊤}
 use Rattle.sig_base.specs.ResultSteps.{◌>>=◌}
 use Rattle.hex.specs.Hex.{decode_sized}
 use Rattle.sig_dsse.specs.declared.artifact_digest.ArtifactDigest.{ArtifactDigest}
 use Rattle.sig_dsse.specs.declared.artifact_digest.ArtifactDigest.TheVariants.{Sha256, Sha512}
+use Rattle.sig_dsse.specs.declared.recognized.DigestName.{DigestName}
 use Rattle.sig_dsse.specs.declared.recognized.DigestName.TheVariants.{Sha256 as NamedSha256, Sha512 as NamedSha512}
 use Rattle.sig_dsse.specs.declared.recognized.SubjectFault.{SubjectFault}
-use Rattle.sig_dsse.specs.Recognized.{digest_or_malformed, digests_of_each, entry_digest, map_digests, not_none, digests_of_maps, digests_or_fault, most_digests, most_subjects, IsEntryOf, IsDigestOf}
+use Rattle.sig_dsse.specs.declared.recognized.SubjectFault.TheVariants.{TooManySubjects, TooManyDigests, NoneRecognized}
+use Rattle.sig_dsse.specs.Named.{is_known, named, IsWithinLimits, IsEntryOf, AreEntriesOf, AreTaken, TakesTheNamed, FindsNone}
+use Rattle.sig_dsse.specs.Recognized.{digest_or_malformed, digests_of_each, entry_digest, map_digests, not_none, digests_of_maps, digests_or_fault, most_digests, most_subjects}
 use Rattle.sig_dsse.specs.Statement.{DigestTexts, Statement, digest_maps}
 
--- ---- some element
+abbrev Collected : Type 0
+Collected = Result (List ArtifactDigest) SubjectFault
 
-any-here : {A : Type 0} → (P : A → Type 0) (x : A) (xs : List A) → P x → Any P (x ∷ xs)
-any-here P x xs p = (0, x, omega arith, refl, p)
+abbrev Entry : Type 0
+Entry = List ℕ × List ℕ
 
-any-there : {A : Type 0} → (P : A → Type 0) (x : A) (xs : List A) → Any P xs → Any P (x ∷ xs)
-any-there P x xs (k, y, below, is, p) = (suc k, y, omega arith, is, p)
+same_ok : (a b : List ArtifactDigest) → ◌≡◌ {A = Collected} (Ok a) (Ok b) → a ≡ b
+same_ok a b e = cc
 
-any-cases : {A : Type 0} → (P : A → Type 0) (x : A) (xs : List A) → Any P (x ∷ xs) → P x ⊎ Any P xs
-any-cases P x xs (zero, y, below, is, p) = inl (subst P (sym is) p)
-any-cases P x xs (suc k, y, below, is, p) = inr (k, y, omega arith, is, p)
+-- ---- entry by entry
 
-contains-none : (d : ArtifactDigest) → Contains [] d → ⊥
-contains-none d (k, below, is) = omega arith
+one-only : (d : ArtifactDigest) (ds : List ArtifactDigest) (e : Entry) → AreEntriesOf (d ∷ ds) (e ∷ []) → (IsEntryOf d e) × (ds ≡ [])
+one-only d [] e all = (all.0, refl)
+one-only d (other ∷ ds) e all = absurd all.1
 
-contains-one : (x d : ArtifactDigest) → Contains (x ∷ []) d → x ≡ d
-contains-one x d (zero, below, is) = is
-contains-one x d (suc k, below, is) = absurd (omega arith)
+none-only : (ds : List ArtifactDigest) → AreEntriesOf ds [] → ds ≡ []
+none-only [] all = refl
+none-only (d ∷ ds) all = absurd all
+
+joined : (a b : List ArtifactDigest) (u v : List Entry) → AreEntriesOf a u → AreEntriesOf b v → AreEntriesOf (a ++ b) (u ++ v)
+joined [] b [] v one other = other
+joined [] b (e ∷ u) v one other = absurd one
+joined (d ∷ a) b [] v one other = absurd one
+joined (d ∷ a) b (e ∷ u) v one other = (one.0, joined a b u v one.1 other)
+
+-- the digests of two lists of entries, one behind the other
+pub record Parted (ds : List ArtifactDigest) (u v : List Entry) : Type 0 where
+  pub front : List ArtifactDigest
+  pub back : List ArtifactDigest
+  pub whole : front ++ back ≡ ds
+  pub of_front : AreEntriesOf front u
+  pub of_back : AreEntriesOf back v
+
+parted : (ds : List ArtifactDigest) (u v : List Entry) → AreEntriesOf ds (u ++ v) → Parted ds u v
+parted ds [] v all = record { front = []; back = ds; whole = refl; of_front = tt; of_back = all }
+parted [] (e ∷ u) v all = absurd all
+parted (d ∷ ds) (e ∷ u) v all =
+    let rest = parted ds u v all.1 in
+    record { front = d ∷ rest.front; back = rest.back; whole = ap (λ x. d ∷ x) rest.whole; of_front = (all.0, rest.of_front); of_back = rest.of_back }
 
 -- ---- an entry
 
 names-differ : codes "sha256" ≢ codes "sha512"
 names-differ same = let f : ◌≡◌ {A = ℕ} 50 53 = cc in omega arith
 
-first_of : (x y : ArtifactDigest) (xs ys : List ArtifactDigest) → ◌≡◌ {A = Result (List ArtifactDigest) SubjectFault} (Ok (x ∷ xs)) (Ok (y ∷ ys)) → x ≡ y
-first_of x y xs ys same = cc
+-- what the text decodes to, as the definition says it
+abbrev Reads : {E : Type 0} → Result (List ℕ) E → List ℕ → ℕ → Type 0
+Reads decoded text size = (bytes : List ℕ) → (decoded ≡ Ok bytes) ↔ (decode_sized text size ≡ Ok bytes)
 
--- under `sha256`, by what the text decodes to
-of_sha256 : {E : Type 0} → (name text : List ℕ) (decoded : Result (List ℕ) E) → name ≡ codes "sha256" → ((bytes : List ℕ) → (decoded ≡ Ok bytes) ↔ (decode_sized text 32 ≡ Ok bytes))
-    → (digests : List ArtifactDigest) → digest_or_malformed NamedSha256 Sha256 decoded ≡ Ok digests → (d : ArtifactDigest) → Contains digests d ↔ IsEntryOf d (name, text)
-of_sha256 name text (Err e) named same digests is d = cc
-of_sha256 name text (Ok bytes) named same digests is d =
-    let one : Sha256 bytes ∷ [] ≡ digests = cc in (
-      (λ c. subst (λ x. IsEntryOf x (name, text)) (contains-one (Sha256 bytes) d (subst (λ ds. Contains ds d) (sym one) c)) (named, (same bytes).0 refl)),
-      (λ entry. subst (λ ds. Contains ds d) one (back d entry)),
-    ) where
-      back : (d : ArtifactDigest) → IsEntryOf d (name, text) → Contains (Sha256 bytes ∷ []) d
-      back (Sha256 other) entry = (0, omega arith, let f : bytes ≡ other = (let g = (same other).1 entry.1 in cc) in ap Sha256 f)
-      back (Sha512 other) entry = absurd (names-differ (sym named ∙ entry.0))
+sha256-taken : {E : Type 0} → (name text : List ℕ) (decoded : Result (List ℕ) E) → name ≡ codes "sha256" → Reads decoded text 32
+    → (ds : List ArtifactDigest) → digest_or_malformed NamedSha256 Sha256 decoded ≡ Ok ds → AreEntriesOf ds ((name, text) ∷ [])
+sha256-taken name text (Err e) is reads ds taken = cc
+sha256-taken name text (Ok bytes) is reads ds taken =
+    subst (λ x. AreEntriesOf x ((name, text) ∷ [])) (same_ok (Sha256 bytes ∷ []) ds taken) ((is, (reads bytes).0 refl), tt)
 
--- under `sha512`
-of_sha512 : {E : Type 0} → (name text : List ℕ) (decoded : Result (List ℕ) E) → name ≡ codes "sha512" → ((bytes : List ℕ) → (decoded ≡ Ok bytes) ↔ (decode_sized text 64 ≡ Ok bytes))
-    → (digests : List ArtifactDigest) → digest_or_malformed NamedSha512 Sha512 decoded ≡ Ok digests → (d : ArtifactDigest) → Contains digests d ↔ IsEntryOf d (name, text)
-of_sha512 name text (Err e) named same digests is d = cc
-of_sha512 name text (Ok bytes) named same digests is d =
-    let one : Sha512 bytes ∷ [] ≡ digests = cc in (
-      (λ c. subst (λ x. IsEntryOf x (name, text)) (contains-one (Sha512 bytes) d (subst (λ ds. Contains ds d) (sym one) c)) (named, (same bytes).0 refl)),
-      (λ entry. subst (λ ds. Contains ds d) one (back d entry)),
-    ) where
-      back : (d : ArtifactDigest) → IsEntryOf d (name, text) → Contains (Sha512 bytes ∷ []) d
-      back (Sha256 other) entry = absurd (names-differ (sym entry.0 ∙ named))
-      back (Sha512 other) entry = (0, omega arith, let f : bytes ≡ other = (let g = (same other).1 entry.1 in cc) in ap Sha512 f)
+sha256-takes : {E : Type 0} → (name text : List ℕ) (decoded : Result (List ℕ) E) → name ≡ codes "sha256" → Reads decoded text 32
+    → (ds : List ArtifactDigest) → AreEntriesOf ds ((name, text) ∷ []) → digest_or_malformed NamedSha256 Sha256 decoded ≡ Ok ds
+sha256-takes name text decoded is reads [] all = absurd all
+sha256-takes name text decoded is reads (Sha256 bytes ∷ ds) all =
+    let one = one-only (Sha256 bytes) ds (name, text) all in rw ((reads bytes).1 one.0.1, one.1) refl
+sha256-takes name text decoded is reads (Sha512 bytes ∷ ds) all =
+    absurd (names-differ (sym is ∙ (one-only (Sha512 bytes) ds (name, text) all).0.0))
 
--- under another name
-of_other : (name text : List ℕ) → name ≢ codes "sha256" → name ≢ codes "sha512" → (digests : List ArtifactDigest) → ◌≡◌ {A = Result (List ArtifactDigest) SubjectFault} (Ok []) (Ok digests) → (d : ArtifactDigest) → Contains digests d ↔ IsEntryOf d (name, text)
-of_other name text short long digests is d =
-    let none : [] ≡ digests = cc in
-    ((λ c. absurd (contains-none d (subst (λ ds. Contains ds d) (sym none) c))), (λ entry. absurd (neither d entry))) where
-      neither : (d : ArtifactDigest) → IsEntryOf d (name, text) → ⊥
-      neither (Sha256 bytes) entry = short entry.0
-      neither (Sha512 bytes) entry = long entry.0
+sha512-taken : {E : Type 0} → (name text : List ℕ) (decoded : Result (List ℕ) E) → name ≡ codes "sha512" → Reads decoded text 64
+    → (ds : List ArtifactDigest) → digest_or_malformed NamedSha512 Sha512 decoded ≡ Ok ds → AreEntriesOf ds ((name, text) ∷ [])
+sha512-taken name text (Err e) is reads ds taken = cc
+sha512-taken name text (Ok bytes) is reads ds taken =
+    subst (λ x. AreEntriesOf x ((name, text) ∷ [])) (same_ok (Sha512 bytes ∷ []) ds taken) ((is, (reads bytes).0 refl), tt)
 
-by_tests : (name text : List ℕ) (short long : Bool) → Decides short (name ≡ codes "sha256") → Decides long (name ≡ codes "sha512") → (digests : List ArtifactDigest)
-    → cond short (digest_or_malformed NamedSha256 Sha256 (decode_sized text 32)) (cond long (digest_or_malformed NamedSha512 Sha512 (decode_sized text 64)) (Ok [])) ≡ Ok digests
-    → (d : ArtifactDigest) → Contains digests d ↔ IsEntryOf d (name, text)
-by_tests name text true long told_short told_long digests is d = of_sha256 name text (decode_sized text 32) (told_short.0 refl) (λ bytes. ((λ e. e), (λ e. e))) digests is d
-by_tests name text false true told_short told_long digests is d = of_sha512 name text (decode_sized text 64) (told_long.0 refl) (λ bytes. ((λ e. e), (λ e. e))) digests is d
-by_tests name text false false told_short told_long digests is d = of_other name text (λ n. let f = told_short.1 n in cc) (λ n. let f = told_long.1 n in cc) digests is d
+sha512-takes : {E : Type 0} → (name text : List ℕ) (decoded : Result (List ℕ) E) → name ≡ codes "sha512" → Reads decoded text 64
+    → (ds : List ArtifactDigest) → AreEntriesOf ds ((name, text) ∷ []) → digest_or_malformed NamedSha512 Sha512 decoded ≡ Ok ds
+sha512-takes name text decoded is reads [] all = absurd all
+sha512-takes name text decoded is reads (Sha512 bytes ∷ ds) all =
+    let one = one-only (Sha512 bytes) ds (name, text) all in rw ((reads bytes).1 one.0.1, one.1) refl
+sha512-takes name text decoded is reads (Sha256 bytes ∷ ds) all =
+    absurd (names-differ (sym (one-only (Sha256 bytes) ds (name, text) all).0.0 ∙ is))
 
-entry_tells : (entry : List ℕ × List ℕ) (digests : List ArtifactDigest) → entry_digest entry ≡ Ok digests → (d : ArtifactDigest) → Contains digests d ↔ IsEntryOf d entry
+-- the entry, where its name is known
+abbrev known : Entry → List Entry
+known e = cond (is_known e) (e ∷ []) []
+
+by_tests : (name text : List ℕ) (short long : Bool) → Decides short (name ≡ codes "sha256") → Decides long (name ≡ codes "sha512") → (ds : List ArtifactDigest)
+    → (cond short (digest_or_malformed NamedSha256 Sha256 (decode_sized text 32)) (cond long (digest_or_malformed NamedSha512 Sha512 (decode_sized text 64)) (Ok [])) ≡ Ok ds)
+    ↔ AreEntriesOf ds (cond (short || long) ((name, text) ∷ []) [])
+by_tests name text true long told_short told_long ds =
+    let reads : Reads (decode_sized text 32) text 32 = λ bytes. ((λ e. e), (λ e. e)) in
+    let is = told_short.0 refl in
+    (sha256-taken name text (decode_sized text 32) is reads ds, sha256-takes name text (decode_sized text 32) is reads ds)
+by_tests name text false true told_short told_long ds =
+    let reads : Reads (decode_sized text 64) text 64 = λ bytes. ((λ e. e), (λ e. e)) in
+    let is = told_long.0 refl in
+    (sha512-taken name text (decode_sized text 64) is reads ds, sha512-takes name text (decode_sized text 64) is reads ds)
+by_tests name text false false told_short told_long ds =
+    ((λ e. subst (λ x. AreEntriesOf x []) (same_ok [] ds e) tt), (λ all. rw (none-only ds all) refl))
+
+entry_taken : (e : Entry) (ds : List ArtifactDigest) → (entry_digest e ≡ Ok ds) ↔ AreEntriesOf ds (known e)
 unfolding entry_digest
-entry_tells entry digests is d =
-    by_tests entry.0 entry.1 (bytes_eq entry.0 (codes "sha256")) (bytes_eq entry.0 (codes "sha512")) (bytes_eq-Decides entry.0 (codes "sha256")) (bytes_eq-Decides entry.0 (codes "sha512")) digests is d
+entry_taken e ds =
+    by_tests e.0 e.1 (bytes_eq e.0 (codes "sha256")) (bytes_eq e.0 (codes "sha512")) (bytes_eq-Decides e.0 (codes "sha256")) (bytes_eq-Decides e.0 (codes "sha512")) ds
 
 -- ---- one thing after another
 
@@ -94,46 +123,170 @@ bind_parts : {A B : Type 0} → (found : Result A SubjectFault) (f : A → Resul
 bind_parts (Ok x) f y e = (x, refl, e)
 bind_parts (Err fault) f y e = cc
 
-each_tells : {A : Type 0} → (f : A → Result (List ArtifactDigest) SubjectFault) (R : ArtifactDigest → A → Type 0)
-    → ((x : A) (digests : List ArtifactDigest) → f x ≡ Ok digests → (d : ArtifactDigest) → Contains digests d ↔ R d x)
-    → (xs : List A) (digests : List ArtifactDigest) → digests_of_each f xs ≡ Ok digests → (d : ArtifactDigest) → Contains digests d ↔ Any (R d) xs
-each_tells f R tells [] digests is d =
-    let none : [] ≡ digests = cc in
-    ((λ c. absurd (contains-none d (subst (λ ds. Contains ds d) (sym none) c))), (λ (k, x, below, at, r). absurd (omega arith)))
-each_tells f R tells (x ∷ xs) digests is d =
-    let first = bind_parts (f x) _ digests is in
-    let others = bind_parts (digests_of_each f xs) _ digests first.2 in
-    let whole : first.0 ++ others.0 ≡ digests = (let g = others.2 in cc) in
-    let here = tells x first.0 first.1 d in
-    let there = each_tells f R tells xs others.0 others.1 d in (
-      (λ c. parted (Contains-append_cases first.0 others.0 d (subst (λ ds. Contains ds d) (sym whole) c)) here.0 there.0),
-      (λ some. subst (λ ds. Contains ds d) whole (joined first.0 others.0 (any-cases (R d) x xs some) here.1 there.1)),
-    ) where
-      parted : {C D : Type 0} → C ⊎ D → (C → R d x) → (D → Any (R d) xs) → Any (R d) (x ∷ xs)
-      parted (inl c) f g = any-here (R d) x xs (f c)
-      parted (inr c) f g = any-there (R d) x xs (g c)
+-- what is taken of a thing: the digests of these entries, where this holds
+abbrev Takes : {A : Type 0} → (A → Collected) → (A → Type 0) → (A → List Entry) → Type 0
+Takes {A} f L entries = (x : A) (ds : List ArtifactDigest) → (f x ≡ Ok ds) ↔ (L x × AreEntriesOf ds (entries x))
 
-      joined : (a b : List ArtifactDigest) → R d x ⊎ Any (R d) xs → (R d x → Contains a d) → (Any (R d) xs → Contains b d) → Contains (a ++ b) d
-      joined a b (inl r) f g = Contains-append_left a b d (f r)
-      joined a b (inr r) f g = Contains-append_right a b d (g r)
+each-taken : {A : Type 0} → (f : A → Collected) (L : A → Type 0) (entries : A → List Entry) → Takes f L entries
+    → (xs : List A) (ds : List ArtifactDigest) → digests_of_each f xs ≡ Ok ds → AllByRecursion L xs × AreEntriesOf ds (flat_map entries xs)
+each-taken f L entries takes [] ds e = (tt, subst (λ x. AreEntriesOf x []) (same_ok [] ds e) tt)
+each-taken f L entries takes (x ∷ xs) ds e =
+    let first = bind_parts (f x) _ ds e in
+    let others = bind_parts (digests_of_each f xs) _ ds first.2 in
+    let here = (takes x first.0).0 first.1 in
+    let there = each-taken f L entries takes xs others.0 others.1 in
+    ((here.0, there.0), subst (λ y. AreEntriesOf y (entries x ++ flat_map entries xs)) (same_ok (first.0 ++ others.0) ds others.2) (joined first.0 others.0 (entries x) (flat_map entries xs) here.1 there.1))
 
-unless_many : (many : Bool) (fault : SubjectFault) (found : Result (List ArtifactDigest) SubjectFault) (digests : List ArtifactDigest) → cond many (Err fault) found ≡ Ok digests → found ≡ Ok digests
-unless_many true fault found digests e = cc
-unless_many false fault found digests e = e
+each-takes : {A : Type 0} → (f : A → Collected) (L : A → Type 0) (entries : A → List Entry) → Takes f L entries
+    → (xs : List A) (ds : List ArtifactDigest) → AllByRecursion L xs → AreEntriesOf ds (flat_map entries xs) → digests_of_each f xs ≡ Ok ds
+each-takes f L entries takes [] ds within all = rw (none-only ds all) refl
+each-takes f L entries takes (x ∷ xs) ds within all =
+    let two = parted ds (entries x) (flat_map entries xs) all in
+    let here = (takes x two.front).1 (within.0, two.of_front) in
+    let there = each-takes f L entries takes xs two.back within.1 two.of_back in
+    rw (here, there) (ap Ok two.whole)
 
-map_tells : (map : DigestTexts) (digests : List ArtifactDigest) → map_digests map ≡ Ok digests → (d : ArtifactDigest) → Contains digests d ↔ Any (IsEntryOf d) map
+-- ---- a subject
+
+known-filter : (es : List Entry) → flat_map known es ≡ filter is_known es
+known-filter [] = refl
+known-filter (e ∷ es) =
+    elim (cases_Bool (is_known e)) [ inl there ↦ rw (there, known-filter es) refl | inr other ↦ rw (other, known-filter es) refl ]
+
+entries_take : Takes entry_digest (λ _. ⊤) known
+entries_take e ds = ((λ taken. (tt, (entry_taken e ds).0 taken)), (λ all. (entry_taken e ds).1 all.1))
+
+all-nothing : (es : List Entry) → AllByRecursion (λ (_ : Entry). ⊤) es
+all-nothing [] = tt
+all-nothing (e ∷ es) = (tt, all-nothing es)
+
+abbrev IsShort : DigestTexts → Type 0
+IsShort digests = length digests ≤ most_digests
+
+-- a limit that is kept, where something is taken
+unless_many : (n limit : ℕ) (fault : SubjectFault) (found : Collected) (ds : List ArtifactDigest) → cond (nat_lt limit n) (Err fault) found ≡ Ok ds → (n ≤ limit) × (found ≡ Ok ds)
+unless_many n limit fault found ds e =
+    elim (cases_Bool (nat_lt limit n)) [
+      | inl many ↦ absurd (refused (rw many at e))
+      | inr few ↦ (ltb-false limit n few, rw few at e)
+    ] where
+      refused : ◌≡◌ {A = Collected} (Err fault) (Ok ds) → ⊥
+      refused is = cc
+
+maps_take : Takes map_digests IsShort (filter is_known)
 unfolding map_digests
-map_tells map digests is d = each_tells entry_digest IsEntryOf entry_tells map digests (unless_many (nat_lt most_digests (length map)) _ _ digests is) d
+maps_take m ds = (there, back) where
+  there : map_digests m ≡ Ok ds → IsShort m × AreEntriesOf ds (filter is_known m)
+  there taken =
+      let found = unless_many (length m) most_digests (TooManyDigests (length m)) (digests_of_each entry_digest m) ds taken in
+      (found.0, rw known-filter at (each-taken entry_digest (λ _. ⊤) known entries_take m ds found.1).1)
 
-some_same : (found digests : List ArtifactDigest) → not_none found ≡ Ok digests → found ≡ digests
-some_same [] digests e = cc
-some_same (x ∷ found) digests e = cc
+  back : IsShort m × AreEntriesOf ds (filter is_known m) → map_digests m ≡ Ok ds
+  back all =
+      rw (le-ltb most_digests (length m) all.0) (each-takes entry_digest (λ _. ⊤) known entries_take m ds (all-nothing m) (rw known-filter all.1))
 
-pub digests_tell : (statement : Statement) (digests : List ArtifactDigest) → digests_or_fault statement ≡ Ok digests → (d : ArtifactDigest) → Contains digests d ↔ IsDigestOf statement d
+-- ---- a statement
+
+some_same : (found ds : List ArtifactDigest) → not_none found ≡ Ok ds → (found ≡ ds) × (ds ≢ [])
+some_same [] ds e = cc
+some_same (x ∷ found) ds e = let same = same_ok (x ∷ found) ds e in (same, λ none. let two : x ∷ found ≡ [] = same ∙ none in cc)
+
+some_back : (ds : List ArtifactDigest) → ds ≢ [] → not_none ds ≡ Ok ds
+some_back [] some = absurd (some refl)
+some_back (d ∷ ds) some = refl
+
+within-few : (statement : Statement) → IsWithinLimits statement → digests_or_fault statement ≡ (digests_of_each map_digests (digest_maps statement) >>= not_none)
 unfolding digests_of_maps
-digests_tell statement digests is d =
-    let maps = digest_maps statement in
-    let found = bind_parts (digests_of_each map_digests maps) not_none digests (unless_many (nat_lt most_subjects (length maps)) _ _ digests is) in
-    each_tells map_digests (λ x m. Any (IsEntryOf x) m) map_tells maps digests (found.1 ∙ ap Ok (some_same found.0 digests found.2)) d
+within-few statement within = rw (le-ltb most_subjects (length (digest_maps statement)) within.subjects) refl
 
-pub ruleset named_digests = (digests_tell)
+pub takes_the_named : TakesTheNamed
+unfolding digests_of_maps
+takes_the_named statement ds = (there, back) where
+  there : digests_or_fault statement ≡ Ok ds → AreTaken statement ds
+  there taken =
+      let few = unless_many (length (digest_maps statement)) most_subjects _ _ ds taken in
+      let found = bind_parts (digests_of_each map_digests (digest_maps statement)) not_none ds few.1 in
+      let same = some_same found.0 ds found.2 in
+      let each = each-taken map_digests IsShort (filter is_known) maps_take (digest_maps statement) found.0 found.1 in
+      record {
+        within = record { subjects = few.0; digests = each.0 };
+        entries = subst (λ x. AreEntriesOf x (named statement)) same.0 each.1;
+        some = same.1;
+      }
+
+  back : AreTaken statement ds → digests_or_fault statement ≡ Ok ds
+  back all =
+      within-few statement all.within
+      ∙ rw (each-takes map_digests IsShort (filter is_known) maps_take (digest_maps statement) ds all.within.digests all.entries) (some_back ds all.some)
+
+-- ---- no fault of an entry is that there is none
+
+abbrev IsAnother : Collected → Type 0
+IsAnother found = found ≡ Err NoneRecognized → ⊥
+
+malformed-another : {E : Type 0} → (name : DigestName) (digest : List ℕ → ArtifactDigest) (decoded : Result (List ℕ) E) → IsAnother (digest_or_malformed name digest decoded)
+malformed-another name digest (Ok bytes) e = cc
+malformed-another name digest (Err fault) e = cc
+
+tests-another : (short long : Bool) (one other : Collected) → IsAnother one → IsAnother other → IsAnother (cond short one (cond long other (Ok [])))
+tests-another true long one other p q e = p e
+tests-another false true one other p q e = q e
+tests-another false false one other p q e = cc
+
+entry-another : (e : Entry) → IsAnother (entry_digest e)
+unfolding entry_digest
+entry-another e =
+    tests-another (bytes_eq e.0 (codes "sha256")) (bytes_eq e.0 (codes "sha512")) _ _ (malformed-another NamedSha256 Sha256 (decode_sized e.1 32)) (malformed-another NamedSha512 Sha512 (decode_sized e.1 64))
+
+added-another : (first rest : Collected) → IsAnother first → IsAnother rest → IsAnother (first >>= λ a. rest >>= λ b. Ok (a ++ b))
+added-another (Err fault) rest p q e = p e
+added-another (Ok a) (Err fault) p q e = q e
+added-another (Ok a) (Ok b) p q e = cc
+
+each-another : {A : Type 0} → (f : A → Collected) → ((x : A) → IsAnother (f x)) → (xs : List A) → IsAnother (digests_of_each f xs)
+each-another f other [] e = cc
+each-another f other (x ∷ xs) e = added-another (f x) (digests_of_each f xs) (other x) (each-another f other xs) e
+
+many-another : (many : Bool) (n : ℕ) (found : Collected) → IsAnother found → IsAnother (cond many (Err (TooManyDigests n)) found)
+many-another true n found p e = cc
+many-another false n found p e = p e
+
+map-another : (m : DigestTexts) → IsAnother (map_digests m)
+unfolding map_digests
+map-another m = many-another (nat_lt most_digests (length m)) (length m) (digests_of_each entry_digest m) (each-another entry_digest entry-another m)
+
+-- ---- none
+
+none_found : (found : Collected) → IsAnother found → (found >>= not_none) ≡ Err NoneRecognized → found ≡ Ok []
+none_found (Err fault) other e = absurd (other e)
+none_found (Ok []) other e = refl
+none_found (Ok (d ∷ ds)) other e = cc
+
+unless_many_too : (n limit : ℕ) (found : Collected) → cond (nat_lt limit n) (Err (TooManySubjects n)) found ≡ Err NoneRecognized → (n ≤ limit) × (found ≡ Err NoneRecognized)
+unless_many_too n limit found e =
+    elim (cases_Bool (nat_lt limit n)) [
+      | inl many ↦ absurd (refused (rw many at e))
+      | inr few ↦ (ltb-false limit n few, rw few at e)
+    ] where
+      refused : ◌≡◌ {A = Collected} (Err (TooManySubjects n)) (Err NoneRecognized) → ⊥
+      refused is = cc
+
+no_entries : (es : List Entry) → AreEntriesOf [] es → es ≡ []
+no_entries [] all = refl
+no_entries (e ∷ es) all = absurd all
+
+pub finds_none : FindsNone
+unfolding digests_of_maps
+finds_none statement = (there, back) where
+  there : digests_or_fault statement ≡ Err NoneRecognized → IsWithinLimits statement × (named statement ≡ [])
+  there none =
+      let maps = digest_maps statement in
+      let few = unless_many_too (length maps) most_subjects (digests_of_each map_digests maps >>= not_none) none in
+      let found = none_found (digests_of_each map_digests maps) (each-another map_digests map-another maps) few.1 in
+      let each = each-taken map_digests IsShort (filter is_known) maps_take maps [] found in
+      (record { subjects = few.0; digests = each.0 }, no_entries (named statement) each.1)
+
+  back : IsWithinLimits statement × (named statement ≡ []) → digests_or_fault statement ≡ Err NoneRecognized
+  back none =
+      within-few statement none.0
+      ∙ rw (each-takes map_digests IsShort (filter is_known) maps_take (digest_maps statement) [] none.0.digests (subst (λ es. AreEntriesOf [] es) (sym none.1) tt)) refl

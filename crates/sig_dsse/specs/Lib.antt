@@ -4,6 +4,7 @@ pub mod Digest
 pub mod Statement
 pub mod Seen
 pub mod Recognized
+pub mod Named
 pub mod Payload
 pub mod DigestsAlone
 pub mod CosignStatement

@@ -1,5 +1,5 @@
 -- *Subject digests*: the digests of a statement that are named exactly `sha256` or `sha512`, over all subjects in order and names in byte order.
-use Rattle.std.specs.Prelude.{◌≡◌, ◌↔◌, Any, Contains, ℕ, nat_lt, bytes_eq, if◌then◌else◌, List, [], ◌∷◌, ◌++◌, length, codes, Result, Ok, Err}
+use Rattle.std.specs.Prelude.{ℕ, nat_lt, bytes_eq, if◌then◌else◌, List, [], ◌∷◌, ◌++◌, length, codes, Result, Ok, Err}
 use Rattle.sig_base.specs.ResultSteps.{◌>>=◌}
 use Rattle.hex.specs.Hex.{decode_sized}
 use Rattle.sig_dsse.specs.declared.artifact_digest.ArtifactDigest.{ArtifactDigest}
@@ -8,7 +8,6 @@ use Rattle.sig_dsse.specs.declared.recognized.DigestName.{DigestName}
 use Rattle.sig_dsse.specs.declared.recognized.DigestName.TheVariants.{Sha256 as NamedSha256, Sha512 as NamedSha512}
 use Rattle.sig_dsse.specs.declared.recognized.SubjectFault.{SubjectFault}
 use Rattle.sig_dsse.specs.declared.recognized.SubjectFault.TheVariants.{TooManySubjects, TooManyDigests, Malformed, NoneRecognized}
-use Rattle.sig_dsse.specs.Digest.{algorithm_of, bytes_of}
 use Rattle.sig_dsse.specs.Statement.{DigestTexts, Statement, digest_maps}
 
 -- at most so many subjects, and so many digests of each
@@ -51,21 +50,3 @@ digests_of_maps maps = if nat_lt most_subjects (length maps) then Err (TooManySu
 -- the digests of a statement
 abbrev pub digests_or_fault : Statement → Result (List ArtifactDigest) SubjectFault
 digests_or_fault statement = digests_of_maps (digest_maps statement)
-
--- how many bytes the algorithm gives
-abbrev pub size_of : ArtifactDigest → ℕ
-size_of (Sha256 bytes) = 32
-size_of (Sha512 bytes) = 64
-
--- the entry has the algorithm's name, and the digest's bytes in hexadecimal digits of either case
-abbrev pub IsEntryOf : ArtifactDigest → List ℕ × List ℕ → Type 0
-IsEntryOf digest entry = (entry.0 ≡ algorithm_of digest) × (decode_sized entry.1 (size_of digest) ≡ Ok (bytes_of digest))
-
--- the digest is an entry of one of the subjects
-abbrev pub IsDigestOf : Statement → ArtifactDigest → Type 0
-IsDigestOf statement digest = Any (Any (IsEntryOf digest)) (digest_maps statement)
-
--- the digests that are taken are the statement's
-abbrev pub TakesTheDigests : Type 0
-TakesTheDigests = (statement : Statement) (digests : List ArtifactDigest) → digests_or_fault statement ≡ Ok digests
-    → (digest : ArtifactDigest) → Contains digests digest ↔ IsDigestOf statement digest

@@ -2,7 +2,7 @@
 ghost use Rattle.std.specs.Prelude.{◌≡◌, ◌↔◌, IsTrue};
 ghost use Rattle.sig_dsse.specs.Digest.{algorithm_of, bytes_of};
 ghost use Rattle.sig_dsse.specs.Pae.{PaeIsInjective};
-ghost use Rattle.sig_dsse.specs.Recognized.{TakesTheDigests};
+ghost use Rattle.sig_dsse.specs.Named.{TakesTheNamed, FindsNone};
 
 use crate::artifact_digest::ArtifactDigest;
 
@@ -18,7 +18,9 @@ pub fn equal_digests(one: &ArtifactDigest, other: &ArtifactDigest) -> bool
     one == other
 }
 
-/// The digests that are taken of a statement are exactly those that one of its subjects has under the name of their algorithm. It has no code.
+/// Digests are taken of a statement exactly where its subjects and their digests are not too many, and these are the digests of the entries named
+/// `sha256` and `sha512`, one each and in order, and there is one. That there is none is told exactly where no entry is so named. It has no code.
 pub fn taken_digests()
-    ensures { TakesTheDigests }
+    ensures taken { TakesTheNamed }
+    ensures none { FindsNone }
 {}
