@@ -1,4 +1,5 @@
 //! Outside vectors: encodings and envelopes by text, which payloads are statements, and which digests are taken.
+use crate::laws::{equal_digests, equal_envelopes, equal_signatures};
 use crate::{
     ArtifactDigest, DigestName, DsseEnvelope, DsseSignature, DsseSignatures, InTotoStatementV1,
     PayloadFault, Subject, SubjectFault, Subjects, compute_pae, envelope_json, payload_digests,
@@ -140,12 +141,13 @@ fn is_statement(alloc: Global, line: &str) -> Option<bool> {
     Some(text.as_str() == wanted)
 }
 
-/// Whether a payload is refused as no statement.
+/// Whether a payload is refused as no statement, also where its digests are asked for.
 fn is_no_statement(alloc: Global, payload: &str) -> bool {
-    matches!(
-        InTotoStatementV1::from_json(alloc, payload.as_bytes()),
-        Err(SigstoreError::UnexpectedError(UnexpectedKind::Statement))
-    )
+    payload_digests(alloc, payload.as_bytes()).err() == Some(PayloadFault::NoStatement)
+        && matches!(
+            InTotoStatementV1::from_json(alloc, payload.as_bytes()),
+            Err(SigstoreError::UnexpectedError(UnexpectedKind::Statement))
+        )
 }
 
 /// The kinds that the check for `cosign` answers, by their names.
@@ -171,17 +173,29 @@ fn cosign_word(alloc: Global, payload: &str) -> &'static str {
     }
 }
 
-/// Whether the digests of a payload are those of the statement that it is read as, or refused with the fault that they or the payload have.
+/// Whether the word before the blank is what the check for `cosign` answers.
+fn is_cosign_answer(alloc: Global, line: &str) -> Option<bool> {
+    let (word, payload) = line.split_once(' ')?;
+    Some(cosign_word(alloc, payload) == word)
+}
+
+/// Whether the digests of a payload are those of the statement that it is, or refused with the fault that they have.
 fn same_digests(alloc: Global, payload: &str) -> bool {
     let found = payload_digests(alloc, payload.as_bytes());
     let Ok(statement) = InTotoStatementV1::from_json(alloc, payload.as_bytes()) else {
-        return found.err() == Some(PayloadFault::NoStatement);
+        return false;
     };
     match (recognized_digests(alloc, &statement), found) {
         (Ok(digests), Ok(found)) => digests.as_slice() == found.as_slice(),
         (Err(fault), Err(PayloadFault::Subjects(found))) => fault == found,
         _ => false,
     }
+}
+
+/// Whether the payload before ` => ` has the digests of the statement that it is.
+fn has_its_digests(alloc: Global, line: &str) -> Option<bool> {
+    let (payload, _) = line.split_once(" => ")?;
+    Some(same_digests(alloc, payload))
 }
 
 /// The text of a statement whose subjects have these maps.
@@ -258,6 +272,37 @@ fn encodings_of_the_protocol(rt: HostRuntime) -> Result<(), Fail> {
     Ok(())
 }
 
+/// The signature of the protocol's example, in base64.
+const SIGNATURE: &str =
+    "A3JqsQGtVsJ2O2xqrI5IcnXip5GToJ3F+FnZ+O88SjtR6rDAajabZKciJTfUiHqJPcIAriEGAHTVeCUjW2JIZA==";
+
+/// The bytes of the example's signature.
+fn example_signature(alloc: Global) -> Result<Bytes, OutOfMemory> {
+    match Bytes::of_base64(alloc, SIGNATURE.as_bytes())? {
+        Some(bytes) => Ok(bytes),
+        None => Bytes::copy_of(alloc, b""),
+    }
+}
+
+#[test]
+fn envelope_of_the_protocol(rt: HostRuntime) -> Result<(), Fail> {
+    let alloc = rt.alloc();
+    let mut example = envelope(alloc, b"hello world", "http://example.com/HelloWorld")?;
+    let bytes = example_signature(alloc)?;
+    assert!(rt; bytes.as_slice().len() == 64);
+    example
+        .signatures
+        .push(signature(alloc, bytes.as_slice(), "")?)?;
+    assert!(rt;
+        is_written(
+            alloc,
+            &example,
+            r#"{"payload":"aGVsbG8gd29ybGQ=","payloadType":"http://example.com/HelloWorld","signatures":[{"sig":"A3JqsQGtVsJ2O2xqrI5IcnXip5GToJ3F+FnZ+O88SjtR6rDAajabZKciJTfUiHqJPcIAriEGAHTVeCUjW2JIZA=="}]}"#
+        )
+    );
+    Ok(())
+}
+
 #[test]
 fn envelopes_as_text(rt: HostRuntime) -> Result<(), Fail> {
     let alloc = rt.alloc();
@@ -281,6 +326,10 @@ fn envelopes_as_text(rt: HostRuntime) -> Result<(), Fail> {
         )
     );
     assert!(rt; is_written(alloc, &envelope(alloc, b"", "")?, "{}"));
+    assert!(rt; !equal_envelopes(&plain, &odd));
+    let same = signature(alloc, b"k", "")?;
+    assert!(rt; equal_signatures(&same, &signature(alloc, b"k", "")?));
+    assert!(rt; !equal_signatures(&same, &signature(alloc, b"k", "k")?));
     Ok(())
 }
 
@@ -315,6 +364,14 @@ fn digests_of_bytes(rt: HostRuntime) -> Result<(), Fail> {
     assert!(rt; long == ArtifactDigest::Sha512([8; 64]));
     assert!(rt; short.as_bytes() == [7; 32].as_slice());
     assert!(rt; long.as_bytes() == [8; 64].as_slice());
+    assert!(rt; equal_digests(&short, &ArtifactDigest::from([7; 32])));
+    assert!(rt; !equal_digests(&short, &ArtifactDigest::from([9; 32])));
+    assert!(rt; !equal_digests(&short, &long));
+    let shown = format!(in rt.alloc(); "{short:?}")?;
+    assert!(rt;
+        shown.as_str()
+            == "Sha256([7, 7, 7, 7, 7, 7, 7, 7, 7, 7, 7, 7, 7, 7, 7, 7, 7, 7, 7, 7, 7, 7, 7, 7, 7, 7, 7, 7, 7, 7, 7, 7])"
+    );
     Ok(())
 }
 
@@ -339,9 +396,7 @@ fn digests_of_a_payload(rt: HostRuntime) -> Result<(), Fail> {
     assert!(rt; digests.len() == 3);
     assert!(rt; same_digests(alloc, STATEMENT));
     for line in STATEMENTS.lines() {
-        if let Some((_, payload)) = line.split_once(' ') {
-            assert!(rt; same_digests(alloc, payload), "{line}");
-        }
+        assert!(rt; has_its_digests(alloc, line) == Some(true), "{line}");
     }
     for line in FAULTS.lines() {
         let (_, maps) = line.split_once(' ').unwrap_or((line, ""));
@@ -355,9 +410,7 @@ fn digests_of_a_payload(rt: HostRuntime) -> Result<(), Fail> {
 fn statements_as_cosign_signs_them(rt: HostRuntime) {
     assert!(rt; cosign_word(rt.alloc(), STATEMENT) == "Ok");
     for line in COSIGN.lines() {
-        if let Some((word, payload)) = line.split_once(' ') {
-            assert!(rt; cosign_word(rt.alloc(), payload) == word, "{line}");
-        }
+        assert!(rt; is_cosign_answer(rt.alloc(), line) == Some(true), "{line}");
     }
 }
 
