@@ -1,17 +1,12 @@
 -- The derived `==` of bundles and their parts is equality of all parts.
 use Rattle.std.proofs.Common.{◌≡◌, ℕ, ℤ, List, Bool, Option, Some, None, refl, ap}
-use Rattle.std.proofs.lemmas.Bool.{and_parts, and_from}
 use Rattle.std.proofs.lemmas.Bool.Decides.{Decides-int_eq}
 use Rattle.std.proofs.lemmas.Slice.Eq.{slice_eq-Decides}
 use Rattle.std.specs.Bool.{Decides}
-use Rattle.std.specs.Cmp.{unsigned_Decides}
 use Rattle.std.specs.Cmp.Lexicographic.{pointwise}
 use Rattle.std.specs.Option.{option_eq}
-use Rattle.std.specs.Prelude.{nat_eq, ◌&&◌}
-use Rattle.sig_dsse.specs.contracts.envelope.DsseEnvelopePartialEq.TheImpl as envelope_eq
-use Rattle.sig_dsse.specs.contracts.envelope.DsseSignaturePartialEq.TheImpl as signature_eq
-use Rattle.sig_dsse.specs.declared.envelope.DsseEnvelope.{DsseEnvelope}
-use Rattle.sig_dsse.specs.declared.envelope.DsseSignature.{DsseSignature}
+use Rattle.std.specs.Prelude.{nat_eq}
+use Rattle.sig_dsse.proofs.Equality.{both, told, bytes_eq-tells, envelope_eq-tells}
 use Rattle.sig_bundle.specs.contracts.bundle.BundlePartialEq.TheImpl as whole_eq
 use Rattle.sig_bundle.specs.contracts.bundle.ContentPartialEq.TheImpl as content_eq
 use Rattle.sig_bundle.specs.contracts.bundle.MessageSignaturePartialEq.TheImpl as message_eq
@@ -33,17 +28,6 @@ use Rattle.sig_bundle.specs.declared.material.VerificationMaterial.{Verification
 
 -- ---- parts
 
-both : {P Q : Type 0} → (p q : Bool) → Decides p P → Decides q Q → Decides (p && q) (P × Q)
-both p q one other =
-    (λ e. let h = and_parts p q e in (one.0 h.0, other.0 h.1), λ pq. and_from p q (one.1 pq.0) (other.1 pq.1))
-
--- a test of the parts is one of the whole, where the parts tell the whole
-told : {P Q : Type 0} → (p : Bool) → (P → Q) → (Q → P) → Decides p P → Decides p Q
-told p there back decides = (λ e. there (decides.0 e), λ q. decides.1 (back q))
-
-bytes_eq-tells : (a b : List ℕ) → Decides (pointwise nat_eq a b) (a ≡ b)
-bytes_eq-tells a b = slice_eq-Decides unsigned_Decides a b (pointwise nat_eq a b) refl
-
 texts_eq-tells : (a b : List (List ℕ)) → Decides (pointwise (pointwise nat_eq) a b) (a ≡ b)
 texts_eq-tells a b = slice_eq-Decides bytes_eq-tells a b (pointwise (pointwise nat_eq) a b) refl
 
@@ -58,7 +42,7 @@ option_eq-tells E tells (Some x) (Some y) = (λ e. ap Some ((tells x y).0 e), λ
 kind-of_parts : (k l v w : List ℕ) → (k ≡ l) × (v ≡ w) → ◌≡◌ {A = KindVersion} (record { kind = k; version = v }) (record { kind = l; version = w })
 kind-of_parts k l v w e = rw (e.0, e.1) refl
 
-kind_eq-tells : (a b : KindVersion) → Decides ((kind_eq.ghosts).eq a b) (a ≡ b)
+pub kind_eq-tells : (a b : KindVersion) → Decides ((kind_eq.ghosts).eq a b) (a ≡ b)
 kind_eq-tells a b =
     told _ (kind-of_parts a.kind b.kind a.version b.version) (λ e. (ap (λ (k : KindVersion). k.kind) e, ap (λ (k : KindVersion). k.version) e))
     (both _ _ (bytes_eq-tells a.kind b.kind) (bytes_eq-tells a.version b.version))
@@ -68,7 +52,7 @@ proof-of_parts : (i j s t : ℤ) → (r q : List ℕ) → (h g : List (List ℕ)
     → ◌≡◌ {A = ProofFields} (record { log_index = i; root_hash = r; tree_size = s; hashes = h; checkpoint = c }) (record { log_index = j; root_hash = q; tree_size = t; hashes = g; checkpoint = d })
 proof-of_parts i j s t r q h g c d e = rw (e.0, e.1.0, e.1.1.0, e.1.1.1.0, e.1.1.1.1) refl
 
-proof_eq-tells : (a b : ProofFields) → Decides ((proof_eq.ghosts).eq a b) (a ≡ b)
+pub proof_eq-tells : (a b : ProofFields) → Decides ((proof_eq.ghosts).eq a b) (a ≡ b)
 proof_eq-tells a b =
     told _ (proof-of_parts a.log_index b.log_index a.tree_size b.tree_size a.root_hash b.root_hash a.hashes b.hashes a.checkpoint b.checkpoint)
     (λ e. (ap (λ (p : ProofFields). p.log_index) e, (ap (λ (p : ProofFields). p.root_hash) e, (ap (λ (p : ProofFields). p.tree_size) e, (ap (λ (p : ProofFields). p.hashes) e, ap (λ (p : ProofFields). p.checkpoint) e)))))
@@ -110,7 +94,7 @@ entry_eq-tells a b =
 
 -- ---- what a bundle brings
 
-signer_eq-tells : (a b : MaterialContent) → Decides ((signer_eq.ghosts).eq a b) (a ≡ b)
+pub signer_eq-tells : (a b : MaterialContent) → Decides ((signer_eq.ghosts).eq a b) (a ≡ b)
 signer_eq-tells (Certificate x) (Certificate y) = told _ (λ e. ap Certificate e) (λ e. cc) (bytes_eq-tells x y)
 signer_eq-tells (Certificate x) (X509CertificateChain y) = (λ e. absurd cc, λ e. absurd cc)
 signer_eq-tells (Certificate x) PublicKey = (λ e. absurd cc, λ e. absurd cc)
@@ -125,7 +109,7 @@ material-of_parts : (c d : Option MaterialContent) → (es fs : List Transparenc
     → ◌≡◌ {A = VerificationMaterial} (record { content = c; tlog_entries = es }) (record { content = d; tlog_entries = fs })
 material-of_parts c d es fs e = rw (e.0, e.1) refl
 
-material_eq-tells : (a b : VerificationMaterial) → Decides ((material_eq.ghosts).eq a b) (a ≡ b)
+pub material_eq-tells : (a b : VerificationMaterial) → Decides ((material_eq.ghosts).eq a b) (a ≡ b)
 material_eq-tells a b =
     told _ (material-of_parts a.content b.content a.tlog_entries b.tlog_entries)
     (λ e. (ap (λ (m : VerificationMaterial). m.content) e, ap (λ (m : VerificationMaterial). m.tlog_entries) e))
@@ -137,31 +121,13 @@ message-of_parts : (s t : List ℕ) → (d f : Option (List ℕ)) → (s ≡ t) 
     → ◌≡◌ {A = MessageSignature} (record { signature = s; message_digest = d }) (record { signature = t; message_digest = f })
 message-of_parts s t d f e = rw (e.0, e.1) refl
 
-message_eq-tells : (a b : MessageSignature) → Decides ((message_eq.ghosts).eq a b) (a ≡ b)
+pub message_eq-tells : (a b : MessageSignature) → Decides ((message_eq.ghosts).eq a b) (a ≡ b)
 message_eq-tells a b =
     told _ (message-of_parts a.signature b.signature a.message_digest b.message_digest)
     (λ e. (ap (λ (m : MessageSignature). m.signature) e, ap (λ (m : MessageSignature). m.message_digest) e))
     (both _ _ (bytes_eq-tells a.signature b.signature) (option_eq-tells _ bytes_eq-tells a.message_digest b.message_digest))
 
-signature-of_parts : (s t k l : List ℕ) → (s ≡ t) × (k ≡ l) → ◌≡◌ {A = DsseSignature} (record { sig = s; keyid = k }) (record { sig = t; keyid = l })
-signature-of_parts s t k l e = rw (e.0, e.1) refl
-
-signature_eq-tells : (a b : DsseSignature) → Decides ((signature_eq.ghosts).eq a b) (a ≡ b)
-signature_eq-tells a b =
-    told _ (signature-of_parts a.sig b.sig a.keyid b.keyid) (λ e. (ap (λ (s : DsseSignature). s.sig) e, ap (λ (s : DsseSignature). s.keyid) e))
-    (both _ _ (bytes_eq-tells a.sig b.sig) (bytes_eq-tells a.keyid b.keyid))
-
-envelope-of_parts : (p q t u : List ℕ) → (ss zs : List DsseSignature) → (p ≡ q) × ((t ≡ u) × (ss ≡ zs))
-    → ◌≡◌ {A = DsseEnvelope} (record { payload = p; payload_type = t; signatures = ss }) (record { payload = q; payload_type = u; signatures = zs })
-envelope-of_parts p q t u ss zs e = rw (e.0, e.1.0, e.1.1) refl
-
-envelope_eq-tells : (a b : DsseEnvelope) → Decides ((envelope_eq.ghosts).eq a b) (a ≡ b)
-envelope_eq-tells a b =
-    told _ (envelope-of_parts a.payload b.payload a.payload_type b.payload_type a.signatures b.signatures)
-    (λ e. (ap (λ (x : DsseEnvelope). x.payload) e, (ap (λ (x : DsseEnvelope). x.payload_type) e, ap (λ (x : DsseEnvelope). x.signatures) e)))
-    (both _ _ (bytes_eq-tells a.payload b.payload) (both _ _ (bytes_eq-tells a.payload_type b.payload_type) (slice_eq-Decides signature_eq-tells a.signatures b.signatures _ refl)))
-
-content_eq-tells : (a b : Content) → Decides ((content_eq.ghosts).eq a b) (a ≡ b)
+pub content_eq-tells : (a b : Content) → Decides ((content_eq.ghosts).eq a b) (a ≡ b)
 content_eq-tells (content.MessageSignature x) (content.MessageSignature y) = told _ (λ e. ap content.MessageSignature e) (λ e. cc) (message_eq-tells x y)
 content_eq-tells (content.MessageSignature x) (content.DsseEnvelope y) = (λ e. absurd cc, λ e. absurd cc)
 content_eq-tells (content.DsseEnvelope x) (content.MessageSignature y) = (λ e. absurd cc, λ e. absurd cc)

@@ -4,8 +4,10 @@ ghost use Rattle.sig_bundle.specs.Checked.{Checked, IsChecked};
 ghost use Rattle.sig_bundle.specs.Passed.{IsPassed};
 ghost use Rattle.sig_bundle.specs.declared.bundle.Bundle.{Bundle};
 
-use crate::bundle::Bundle;
-use crate::material::TransparencyLogEntry;
+use crate::bundle::{Bundle, Content, MessageSignature};
+use crate::material::{
+    KindVersion, MaterialContent, ProofFields, TransparencyLogEntry, VerificationMaterial,
+};
 
 /// A bundle passes its own checks exactly where it has all that the format demands of a statement signed by one certificate and logged once, under
 /// version 0.3. It has no code.
@@ -20,8 +22,50 @@ pub fn equal_bundles(one: &Bundle, other: &Bundle) -> bool
     one == other
 }
 
+/// Two contents are equal exactly where they are of one kind, and all their parts are equal.
+pub fn equal_contents(one: &Content, other: &Content) -> bool
+    ensures { IsTrue result ↔ (one.now ≡ other.now) }
+{
+    one == other
+}
+
+/// Two signatures over artifacts are equal exactly where both their parts are.
+pub fn equal_message_signatures(one: &MessageSignature, other: &MessageSignature) -> bool
+    ensures { IsTrue result ↔ (one.now ≡ other.now) }
+{
+    one == other
+}
+
+/// Verification material is equal exactly where both its parts are.
+pub fn equal_materials(one: &VerificationMaterial, other: &VerificationMaterial) -> bool
+    ensures { IsTrue result ↔ (one.now ≡ other.now) }
+{
+    one == other
+}
+
+/// Two signers are equal exactly where they are of one kind, and hold the same certificates.
+pub fn equal_signers(one: &MaterialContent, other: &MaterialContent) -> bool
+    ensures { IsTrue result ↔ (one.now ≡ other.now) }
+{
+    one == other
+}
+
 /// Two log entries are equal exactly where all their parts are.
 pub fn equal_entries(one: &TransparencyLogEntry, other: &TransparencyLogEntry) -> bool
+    ensures { IsTrue result ↔ (one.now ≡ other.now) }
+{
+    one == other
+}
+
+/// Two kinds of log entries are equal exactly where both their parts are.
+pub fn equal_kinds(one: &KindVersion, other: &KindVersion) -> bool
+    ensures { IsTrue result ↔ (one.now ≡ other.now) }
+{
+    one == other
+}
+
+/// Two inclusion proofs are equal exactly where all their parts are.
+pub fn equal_proofs(one: &ProofFields, other: &ProofFields) -> bool
     ensures { IsTrue result ↔ (one.now ≡ other.now) }
 {
     one == other

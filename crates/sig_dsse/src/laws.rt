@@ -5,6 +5,7 @@ ghost use Rattle.sig_dsse.specs.Pae.{PaeIsInjective};
 ghost use Rattle.sig_dsse.specs.Named.{TakesTheNamed, FindsNone};
 
 use crate::artifact_digest::ArtifactDigest;
+use crate::envelope::{DsseEnvelope, DsseSignature};
 
 /// No two pairs of payload type and payload have the same pre-authentication encoding. It has no code.
 pub fn encoding_is_injective()
@@ -14,6 +15,20 @@ pub fn encoding_is_injective()
 /// Two digests are equal exactly where their algorithms and their bytes are.
 pub fn equal_digests(one: &ArtifactDigest, other: &ArtifactDigest) -> bool
     ensures { IsTrue result ↔ ((algorithm_of one.now ≡ algorithm_of other.now) × (bytes_of one.now ≡ bytes_of other.now)) }
+{
+    one == other
+}
+
+/// Two envelopes are equal exactly where all their parts are.
+pub fn equal_envelopes(one: &DsseEnvelope, other: &DsseEnvelope) -> bool
+    ensures { IsTrue result ↔ (one.now ≡ other.now) }
+{
+    one == other
+}
+
+/// Two signatures of envelopes are equal exactly where both their parts are.
+pub fn equal_signatures(one: &DsseSignature, other: &DsseSignature) -> bool
+    ensures { IsTrue result ↔ (one.now ≡ other.now) }
 {
     one == other
 }
