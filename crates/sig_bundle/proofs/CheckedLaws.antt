@@ -4,7 +4,7 @@ use Rattle.sig_base.specs.Answers.{Answers}
 use Rattle.sig_x509.specs.Certificate.{Cert}
 use Rattle.sig_bundle.specs.Checked.{Checked, checked, IsCheckedWith}
 use Rattle.sig_bundle.specs.Signer.{IsSigner}
-use Rattle.sig_bundle.specs.Steps.{IsMeant, IsOnlyMeant}
+use Rattle.sig_bundle.specs.Meant.{IsMeant, IsOnlyMeant}
 use Rattle.sig_bundle.specs.declared.bundle.Bundle.{Bundle}
 use Rattle.sig_bundle.specs.declared.bundle_error.BundleErrorKind.{BundleErrorKind}
 use Rattle.sig_bundle.specs.declared.bundle_error.BundleErrorKind.TheVariants.{OutOfMemory}

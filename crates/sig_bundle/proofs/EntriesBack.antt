@@ -1,10 +1,10 @@
 -- Log entries are read back, record by record.
-use Rattle.std.proofs.Common.{ℕ, pos, List, [], ◌∷◌, Some, option_map, refl}
+use Rattle.std.proofs.Common.{ℕ, pos, List, [], refl}
 use Rattle.std.specs.Prelude.{codes}
 use Rattle.sig_json.specs.Data.{string}
-use Rattle.sig_bundle.specs.BundleRecord.{checkpoint_of, entry_of, entry_with, kind_version_of, log_id_of, promise_of, proof_of}
-use Rattle.sig_bundle.specs.BundleTree.{checkpoint_tree, entry_tree, kind_version_tree, log_id_tree, promise_tree, proof_tree}
-use Rattle.sig_bundle.specs.Written.{Row, integer_tree, bytes_tree, list_tree, IsReadAs, OptionIsRead}
+use Rattle.sig_bundle.specs.BundleRecord.{checkpoint_of, entry_of, kind_version_of, log_id_of, promise_of, proof_of}
+use Rattle.sig_bundle.specs.BundleTree.{checkpoint_rows, checkpoint_tree, entry_rows, entry_tree, kind_version_rows, kind_version_tree, log_id_rows, log_id_tree, promise_rows, promise_tree, proof_rows, proof_tree}
+use Rattle.sig_bundle.specs.Written.{integer_tree, bytes_tree, list_tree, IsReadAs, OptionIsRead}
 use Rattle.sig_bundle.specs.declared.material.KindVersion.{KindVersion}
 use Rattle.sig_bundle.specs.declared.material.ProofFields.{ProofFields}
 use Rattle.sig_bundle.specs.declared.material.TransparencyLogEntry.{TransparencyLogEntry}
@@ -18,37 +18,25 @@ text_back text = (refl, refl)
 
 pub log_id_back : (id : List ℕ) → IsReadAs bytes_of (bytes_tree id) id → IsReadAs log_id_of (log_id_tree id) id
 unfolding log_id_tree
-log_id_back id back = (found [] bytes_of (codes "keyId") ((codes "keyId", Some (bytes_tree id)) ∷ []) (bytes_tree id) id refl back, refl)
+log_id_back id back = (found [] bytes_of (codes "keyId") (log_id_rows id) (bytes_tree id) id refl back, refl)
 
 pub promise_back : (signature : List ℕ) → IsReadAs bytes_of (bytes_tree signature) signature → IsReadAs promise_of (promise_tree signature) signature
 unfolding promise_tree
-promise_back signature back = (found [] bytes_of (codes "signedEntryTimestamp") ((codes "signedEntryTimestamp", Some (bytes_tree signature)) ∷ []) (bytes_tree signature) signature refl back, refl)
+promise_back signature back = (found [] bytes_of (codes "signedEntryTimestamp") (promise_rows signature) (bytes_tree signature) signature refl back, refl)
 
 pub checkpoint_back : (text : List ℕ) → IsReadAs checkpoint_of (checkpoint_tree text) text
 unfolding checkpoint_tree
-checkpoint_back text = (found [] text_of (codes "envelope") ((codes "envelope", Some (string text)) ∷ []) (string text) text refl (text_back text), refl)
-
-abbrev kind_rows : KindVersion → List Row
-kind_rows k = (codes "kind", Some (string k.kind)) ∷ (codes "version", Some (string k.version)) ∷ []
+checkpoint_back text = (found [] text_of (codes "envelope") (checkpoint_rows text) (string text) text refl (text_back text), refl)
 
 pub kind_version_back : (k : KindVersion) → IsReadAs kind_version_of (kind_version_tree k) k
 unfolding kind_version_tree kind_version_of
 kind_version_back k = (
   rw (
-    found [] text_of (codes "kind") (kind_rows k) (string k.kind) k.kind refl (text_back k.kind),
-    found [] text_of (codes "version") (kind_rows k) (string k.version) k.version refl (text_back k.version),
+    found [] text_of (codes "kind") (kind_version_rows k) (string k.kind) k.kind refl (text_back k.kind),
+    found [] text_of (codes "version") (kind_version_rows k) (string k.version) k.version refl (text_back k.version),
   ) refl,
   refl,
 )
-
-abbrev proof_rows : ProofFields → List Row
-proof_rows p =
-    (codes "logIndex", Some (integer_tree p.log_index))
-    ∷ (codes "rootHash", Some (bytes_tree p.root_hash))
-    ∷ (codes "treeSize", Some (integer_tree p.tree_size))
-    ∷ (codes "hashes", Some (list_tree bytes_tree p.hashes))
-    ∷ (codes "checkpoint", option_map checkpoint_tree p.checkpoint)
-    ∷ []
 
 pub proof_back : (p : ProofFields) → IsReadAs i64_of (integer_tree p.log_index) p.log_index → IsReadAs bytes_of (bytes_tree p.root_hash) p.root_hash
     → IsReadAs i64_of (integer_tree p.tree_size) p.tree_size → IsReadAs (list_each bytes_of) (list_tree bytes_tree p.hashes) p.hashes
@@ -65,22 +53,11 @@ proof_back p index root size hashes checkpoint = (
   refl,
 )
 
-abbrev entry_rows : TransparencyLogEntry → List Row
-entry_rows e =
-    (codes "logIndex", Some (integer_tree e.log_index))
-    ∷ (codes "logId", option_map log_id_tree e.log_id)
-    ∷ (codes "kindVersion", option_map kind_version_tree e.kind_version)
-    ∷ (codes "integratedTime", Some (integer_tree e.integrated_time))
-    ∷ (codes "inclusionPromise", option_map promise_tree e.inclusion_promise)
-    ∷ (codes "inclusionProof", option_map proof_tree e.inclusion_proof)
-    ∷ (codes "canonicalizedBody", Some (bytes_tree e.canonicalized_body))
-    ∷ []
-
 pub entry_back : (e : TransparencyLogEntry) → IsReadAs i64_of (integer_tree e.log_index) e.log_index → OptionIsRead log_id_of log_id_tree e.log_id
     → OptionIsRead kind_version_of kind_version_tree e.kind_version → IsReadAs i64_of (integer_tree e.integrated_time) e.integrated_time
     → OptionIsRead promise_of promise_tree e.inclusion_promise → OptionIsRead proof_of proof_tree e.inclusion_proof
     → IsReadAs bytes_of (bytes_tree e.canonicalized_body) e.canonicalized_body → IsReadAs entry_of (entry_tree e) e
-unfolding entry_tree entry_of entry_with
+unfolding entry_tree entry_of
 entry_back e index id kind time promise proof body = (
   rw (
     found (pos 0) i64_of (codes "logIndex") (entry_rows e) _ e.log_index refl index,

@@ -1,11 +1,11 @@
 -- Certificates, verification material, signatures and envelopes are read back, record by record.
-use Rattle.std.proofs.Common.{◌≡◌, ℕ, List, [], ◌∷◌, Option, Some, None, option_map, refl}
+use Rattle.std.proofs.Common.{◌≡◌, ℕ, List, [], Option, Some, None, option_map, refl}
 use Rattle.std.specs.Prelude.{codes}
-use Rattle.sig_json.specs.Data.{Data, string}
+use Rattle.sig_json.specs.Data.{Data}
 use Rattle.sig_bundle.specs.BundleRecord.{bundle_of, certificate_of, chain_of, content_of, digest_of, entry_of, envelope_of, key_hint_of, material_of, message_signature_of, one_content, signature_of, signer_of}
-use Rattle.sig_bundle.specs.BundleTree.{bundle_tree, certificate_tree, chain_tree, content_row, digest_tree, entry_tree, envelope_tree, material_tree, message_signature_tree, signature_tree, signer_row}
+use Rattle.sig_bundle.specs.BundleTree.{bundle_rows, bundle_tree, certificate_rows, certificate_tree, chain_rows, chain_tree, content_row, digest_rows, digest_tree, entry_tree, envelope_rows, envelope_tree, material_rows, material_tree, message_signature_rows, message_signature_tree, signature_rows, signature_tree, signer_row}
 use Rattle.sig_bundle.specs.ReadBack.{SignerIsRead, ContentIsRead}
-use Rattle.sig_bundle.specs.Written.{Row, object_of, bytes_tree, list_tree, IsReadAs, OptionIsRead}
+use Rattle.sig_bundle.specs.Written.{object_of, bytes_tree, list_tree, IsReadAs, OptionIsRead}
 use Rattle.sig_bundle.specs.declared.bundle.Bundle.{Bundle}
 use Rattle.sig_bundle.specs.declared.bundle.Content.{Content}
 use Rattle.sig_bundle.specs.declared.bundle.Content.TheVariants as content
@@ -23,18 +23,15 @@ use Rattle.sig_json.specs.Member.{list_each, optional, optional_or}
 
 pub certificate_back : (der : List ℕ) → IsReadAs bytes_of (bytes_tree der) der → IsReadAs certificate_of (certificate_tree der) der
 unfolding certificate_tree
-certificate_back der back = (found [] bytes_of (codes "rawBytes") ((codes "rawBytes", Some (bytes_tree der)) ∷ []) (bytes_tree der) der refl back, refl)
+certificate_back der back = (found [] bytes_of (codes "rawBytes") (certificate_rows der) (bytes_tree der) der refl back, refl)
 
 pub digest_back : (digest : List ℕ) → IsReadAs bytes_of (bytes_tree digest) digest → IsReadAs digest_of (digest_tree digest) digest
 unfolding digest_tree
-digest_back digest back = (found [] bytes_of (codes "digest") ((codes "digest", Some (bytes_tree digest)) ∷ []) (bytes_tree digest) digest refl back, refl)
+digest_back digest back = (found [] bytes_of (codes "digest") (digest_rows digest) (bytes_tree digest) digest refl back, refl)
 
 pub chain_back : (chain : List (List ℕ)) → IsReadAs (list_each certificate_of) (list_tree certificate_tree chain) chain → IsReadAs chain_of (chain_tree chain) chain
 unfolding chain_tree
-chain_back chain back = (found [] (list_each certificate_of) (codes "certificates") ((codes "certificates", Some (list_tree certificate_tree chain)) ∷ []) (list_tree certificate_tree chain) chain refl back, refl)
-
-abbrev material_rows : Row → Data → List Row
-material_rows signer entries = signer ∷ (codes "tlogEntries", Some entries) ∷ []
+chain_back chain back = (found [] (list_each certificate_of) (codes "certificates") (chain_rows chain) (list_tree certificate_tree chain) chain refl back, refl)
 
 signer_back : (o : Option MaterialContent) (entries : Data) → SignerIsRead o → signer_of (object_of (material_rows (signer_row o) entries)) ≡ Some o
 unfolding signer_of
@@ -80,21 +77,15 @@ material_back m signer entries =
 
 -- ---- what is signed
 
-abbrev message_rows : MessageSignature → List Row
-message_rows m = (codes "signature", Some (bytes_tree m.signature)) ∷ (codes "messageDigest", option_map digest_tree m.message_digest) ∷ []
-
 pub message_signature_back : (m : MessageSignature) → IsReadAs bytes_of (bytes_tree m.signature) m.signature → OptionIsRead digest_of digest_tree m.message_digest → IsReadAs message_signature_of (message_signature_tree m) m
 unfolding message_signature_tree message_signature_of
 message_signature_back m signature digest = (
   rw (
-    found [] bytes_of (codes "signature") (message_rows m) _ m.signature refl signature,
-    found_option digest_of digest_tree (codes "messageDigest") (message_rows m) m.message_digest refl digest,
+    found [] bytes_of (codes "signature") (message_signature_rows m) _ m.signature refl signature,
+    found_option digest_of digest_tree (codes "messageDigest") (message_signature_rows m) m.message_digest refl digest,
   ) refl,
   refl,
 )
-
-abbrev signature_rows : DsseSignature → List Row
-signature_rows s = (codes "sig", Some (bytes_tree s.sig)) ∷ (codes "keyid", Some (string s.keyid)) ∷ []
 
 pub signature_back : (s : DsseSignature) → IsReadAs bytes_of (bytes_tree s.sig) s.sig → IsReadAs signature_of (signature_tree s) s
 unfolding signature_tree signature_of
@@ -105,9 +96,6 @@ signature_back s sig = (
   ) refl,
   refl,
 )
-
-abbrev envelope_rows : DsseEnvelope → List Row
-envelope_rows e = (codes "payload", Some (bytes_tree e.payload)) ∷ (codes "payloadType", Some (string e.payload_type)) ∷ (codes "signatures", Some (list_tree signature_tree e.signatures)) ∷ []
 
 pub envelope_back : (e : DsseEnvelope) → IsReadAs bytes_of (bytes_tree e.payload) e.payload → IsReadAs (list_each signature_of) (list_tree signature_tree e.signatures) e.signatures → IsReadAs envelope_of (envelope_tree e) e
 unfolding envelope_tree envelope_of
@@ -121,9 +109,6 @@ envelope_back e payload signatures = (
 )
 
 -- ---- the bundle
-
-abbrev bundle_rows : List ℕ → Option Data → Row → List Row
-bundle_rows media_type material row = (codes "mediaType", Some (string media_type)) ∷ (codes "verificationMaterial", material) ∷ row ∷ []
 
 content_back : (media_type : List ℕ) (o : Option VerificationMaterial) (c : Option Content) → ContentIsRead c → content_of (object_of (bundle_rows media_type (option_map material_tree o) (content_row c))) ≡ Some c
 unfolding content_of one_content

@@ -2,13 +2,13 @@
 use Rattle.std.proofs.Common.{◌≡◌, ℕ, ◌≤◌, ◌+◌, ℤ, List, [], ◌∷◌, Option, Some, None, Ok, option_map, refl, arith}
 use Rattle.std.specs.Cmp.Lexicographic.{slice_cmp}
 use Rattle.std.specs.Ordering.{nat_cmp, match_ordering}
-use Rattle.std.specs.Prelude.{codes, ⊤}
+use Rattle.std.specs.Prelude.{⊤}
 use Rattle.std.specs.declared.cmp.Ordering.{Ordering}
 use Rattle.std.specs.declared.cmp.Ordering.TheVariants.{Less, Equal, Greater}
-use Rattle.sig_json.specs.Data.{Data, string, Members, no_members, member, put, depth, items_depth, members_depth}
+use Rattle.sig_json.specs.Data.{Data, Members, no_members, member, put, depth, items_depth, members_depth}
 use Rattle.sig_json.specs.Read.{max_depth}
 use Rattle.sig_bundle.specs.BundleRecord.{bundle_in, bundle_of}
-use Rattle.sig_bundle.specs.BundleTree.{bundle_tree, certificate_tree, chain_tree, checkpoint_tree, content_row, digest_tree, entry_tree, envelope_tree, kind_version_tree, log_id_tree, material_tree, message_signature_tree, promise_tree, proof_tree, signature_tree, signer_row}
+use Rattle.sig_bundle.specs.BundleTree.{bundle_rows, bundle_tree, certificate_rows, certificate_tree, chain_rows, chain_tree, checkpoint_rows, checkpoint_tree, content_row, digest_rows, digest_tree, entry_rows, entry_tree, envelope_rows, envelope_tree, kind_version_rows, kind_version_tree, log_id_rows, log_id_tree, material_rows, material_tree, message_signature_rows, message_signature_tree, promise_rows, promise_tree, proof_rows, proof_tree, signature_rows, signature_tree, signer_row}
 use Rattle.sig_bundle.specs.Written.{Row, put_some, rows_into, object_of, integer_tree, bytes_tree, items_of, list_tree}
 use Rattle.sig_bundle.specs.declared.bundle.Bundle.{Bundle}
 use Rattle.sig_bundle.specs.declared.bundle.Content.{Content}
@@ -80,36 +80,36 @@ integer_shallow n z = omega arith
 
 certificate_shallow : (der : List ℕ) → depth (certificate_tree der) ≤ 1
 unfolding certificate_tree
-certificate_shallow der = object_shallow 0 ((codes "rawBytes", Some (bytes_tree der)) ∷ []) (bytes_shallow 0 der, tt)
+certificate_shallow der = object_shallow 0 (certificate_rows der) (bytes_shallow 0 der, tt)
 
 log_id_shallow : (id : List ℕ) → depth (log_id_tree id) ≤ 1
 unfolding log_id_tree
-log_id_shallow id = object_shallow 0 ((codes "keyId", Some (bytes_tree id)) ∷ []) (bytes_shallow 0 id, tt)
+log_id_shallow id = object_shallow 0 (log_id_rows id) (bytes_shallow 0 id, tt)
 
 promise_shallow : (signature : List ℕ) → depth (promise_tree signature) ≤ 1
 unfolding promise_tree
-promise_shallow signature = object_shallow 0 ((codes "signedEntryTimestamp", Some (bytes_tree signature)) ∷ []) (bytes_shallow 0 signature, tt)
+promise_shallow signature = object_shallow 0 (promise_rows signature) (bytes_shallow 0 signature, tt)
 
 digest_shallow : (digest : List ℕ) → depth (digest_tree digest) ≤ 1
 unfolding digest_tree
-digest_shallow digest = object_shallow 0 ((codes "digest", Some (bytes_tree digest)) ∷ []) (bytes_shallow 0 digest, tt)
+digest_shallow digest = object_shallow 0 (digest_rows digest) (bytes_shallow 0 digest, tt)
 
 checkpoint_shallow : (text : List ℕ) → depth (checkpoint_tree text) ≤ 1
 unfolding checkpoint_tree
-checkpoint_shallow text = object_shallow 0 ((codes "envelope", Some (string text)) ∷ []) (omega arith, tt)
+checkpoint_shallow text = object_shallow 0 (checkpoint_rows text) (omega arith, tt)
 
 chain_shallow : (chain : List (List ℕ)) → depth (chain_tree chain) ≤ 3
 unfolding chain_tree
-chain_shallow chain = object_shallow 2 ((codes "certificates", Some (list_tree certificate_tree chain)) ∷ []) (list_shallow 1 certificate_tree chain certificate_shallow, tt)
+chain_shallow chain = object_shallow 2 (chain_rows chain) (list_shallow 1 certificate_tree chain certificate_shallow, tt)
 
 kind_shallow : (k : KindVersion) → depth (kind_version_tree k) ≤ 1
 unfolding kind_version_tree
-kind_shallow k = object_shallow 0 ((codes "kind", Some (string k.kind)) ∷ (codes "version", Some (string k.version)) ∷ []) (omega arith, (omega arith, tt))
+kind_shallow k = object_shallow 0 (kind_version_rows k) (omega arith, (omega arith, tt))
 
 proof_shallow : (p : ProofFields) → depth (proof_tree p) ≤ 2
 unfolding proof_tree
 proof_shallow p =
-    object_shallow 1 ((codes "logIndex", Some (integer_tree p.log_index)) ∷ (codes "rootHash", Some (bytes_tree p.root_hash)) ∷ (codes "treeSize", Some (integer_tree p.tree_size)) ∷ (codes "hashes", Some (list_tree bytes_tree p.hashes)) ∷ (codes "checkpoint", option_map checkpoint_tree p.checkpoint) ∷ []) (integer_shallow 1 p.log_index, (bytes_shallow 1 p.root_hash, (integer_shallow 1 p.tree_size, (list_shallow 0 bytes_tree p.hashes (bytes_shallow 0), (option_shallow 1 checkpoint_tree p.checkpoint checkpoint_shallow, tt)))))
+    object_shallow 1 (proof_rows p) (integer_shallow 1 p.log_index, (bytes_shallow 1 p.root_hash, (integer_shallow 1 p.tree_size, (list_shallow 0 bytes_tree p.hashes (bytes_shallow 0), (option_shallow 1 checkpoint_tree p.checkpoint checkpoint_shallow, tt)))))
 
 at_most_two : (n : ℕ) → n ≤ 1 → n ≤ 2
 at_most_two n h = omega arith
@@ -117,7 +117,7 @@ at_most_two n h = omega arith
 entry_shallow : (e : TransparencyLogEntry) → depth (entry_tree e) ≤ 3
 unfolding entry_tree
 entry_shallow e =
-    object_shallow 2 ((codes "logIndex", Some (integer_tree e.log_index)) ∷ (codes "logId", option_map log_id_tree e.log_id) ∷ (codes "kindVersion", option_map kind_version_tree e.kind_version) ∷ (codes "integratedTime", Some (integer_tree e.integrated_time)) ∷ (codes "inclusionPromise", option_map promise_tree e.inclusion_promise) ∷ (codes "inclusionProof", option_map proof_tree e.inclusion_proof) ∷ (codes "canonicalizedBody", Some (bytes_tree e.canonicalized_body)) ∷ []) (integer_shallow 2 e.log_index, (option_shallow 2 log_id_tree e.log_id (λ x. at_most_two (depth (log_id_tree x)) (log_id_shallow x)), (option_shallow 2 kind_version_tree e.kind_version (λ x. at_most_two (depth (kind_version_tree x)) (kind_shallow x)), (integer_shallow 2 e.integrated_time, (option_shallow 2 promise_tree e.inclusion_promise (λ x. at_most_two (depth (promise_tree x)) (promise_shallow x)), (option_shallow 2 proof_tree e.inclusion_proof proof_shallow, (bytes_shallow 2 e.canonicalized_body, tt)))))))
+    object_shallow 2 (entry_rows e) (integer_shallow 2 e.log_index, (option_shallow 2 log_id_tree e.log_id (λ x. at_most_two (depth (log_id_tree x)) (log_id_shallow x)), (option_shallow 2 kind_version_tree e.kind_version (λ x. at_most_two (depth (kind_version_tree x)) (kind_shallow x)), (integer_shallow 2 e.integrated_time, (option_shallow 2 promise_tree e.inclusion_promise (λ x. at_most_two (depth (promise_tree x)) (promise_shallow x)), (option_shallow 2 proof_tree e.inclusion_proof proof_shallow, (bytes_shallow 2 e.canonicalized_body, tt)))))))
 
 signer_shallow : (o : Option MaterialContent) → IsShallow 4 (signer_row o).1
 signer_shallow None = tt
@@ -127,19 +127,19 @@ signer_shallow (Some material.PublicKey) = omega arith
 
 material_shallow : (m : VerificationMaterial) → depth (material_tree m) ≤ 5
 unfolding material_tree
-material_shallow m = object_shallow 4 (signer_row m.content ∷ (codes "tlogEntries", Some (list_tree entry_tree m.tlog_entries)) ∷ []) (signer_shallow m.content, (list_shallow 3 entry_tree m.tlog_entries entry_shallow, tt))
+material_shallow m = object_shallow 4 (material_rows (signer_row m.content) (list_tree entry_tree m.tlog_entries)) (signer_shallow m.content, (list_shallow 3 entry_tree m.tlog_entries entry_shallow, tt))
 
 message_shallow : (m : MessageSignature) → depth (message_signature_tree m) ≤ 2
 unfolding message_signature_tree
-message_shallow m = object_shallow 1 ((codes "signature", Some (bytes_tree m.signature)) ∷ (codes "messageDigest", option_map digest_tree m.message_digest) ∷ []) (bytes_shallow 1 m.signature, (option_shallow 1 digest_tree m.message_digest digest_shallow, tt))
+message_shallow m = object_shallow 1 (message_signature_rows m) (bytes_shallow 1 m.signature, (option_shallow 1 digest_tree m.message_digest digest_shallow, tt))
 
 signature_shallow : (s : DsseSignature) → depth (signature_tree s) ≤ 1
 unfolding signature_tree
-signature_shallow s = object_shallow 0 ((codes "sig", Some (bytes_tree s.sig)) ∷ (codes "keyid", Some (string s.keyid)) ∷ []) (bytes_shallow 0 s.sig, (omega arith, tt))
+signature_shallow s = object_shallow 0 (signature_rows s) (bytes_shallow 0 s.sig, (omega arith, tt))
 
 envelope_shallow : (e : DsseEnvelope) → depth (envelope_tree e) ≤ 3
 unfolding envelope_tree
-envelope_shallow e = object_shallow 2 ((codes "payload", Some (bytes_tree e.payload)) ∷ (codes "payloadType", Some (string e.payload_type)) ∷ (codes "signatures", Some (list_tree signature_tree e.signatures)) ∷ []) (bytes_shallow 2 e.payload, (omega arith, (list_shallow 1 signature_tree e.signatures signature_shallow, tt)))
+envelope_shallow e = object_shallow 2 (envelope_rows e) (bytes_shallow 2 e.payload, (omega arith, (list_shallow 1 signature_tree e.signatures signature_shallow, tt)))
 
 content_shallow : (o : Option Content) → IsShallow 5 (content_row o).1
 content_shallow None = tt
@@ -148,7 +148,7 @@ content_shallow (Some (content.DsseEnvelope e)) = let below = envelope_shallow e
 
 pub bundle_shallow : (b : Bundle) → depth (bundle_tree b) ≤ 6
 unfolding bundle_tree
-bundle_shallow b = object_shallow 5 ((codes "mediaType", Some (string b.media_type)) ∷ (codes "verificationMaterial", option_map material_tree b.verification_material) ∷ content_row b.content ∷ []) (omega arith, (option_shallow 5 material_tree b.verification_material material_shallow, (content_shallow b.content, tt)))
+bundle_shallow b = object_shallow 5 (bundle_rows b.media_type (option_map material_tree b.verification_material) (content_row b.content)) (omega arith, (option_shallow 5 material_tree b.verification_material material_shallow, (content_shallow b.content, tt)))
 
 -- ---- the text
 

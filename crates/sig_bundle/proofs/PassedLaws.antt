@@ -3,6 +3,7 @@ use Rattle.std.proofs.Common.{◌≡◌, inl, inr, ℕ, List, [], ◌∷◌, Boo
 use Rattle.std.proofs.lemmas.Slice.Eq.{bytes_eq-Decides}
 use Rattle.std.specs.Prelude.{bytes_eq, if◌then◌else◌, ◌↔◌}
 use Rattle.sig_base.specs.ResultSteps.{◌>>=◌}
+use Rattle.sig_dsse.proofs.NamedDigests.{takes_the_named}
 use Rattle.sig_dsse.specs.EnvelopeText.{envelope_text}
 use Rattle.sig_dsse.specs.Pae.{pae}
 use Rattle.sig_dsse.specs.Recognized.{digests_or_fault}
@@ -16,8 +17,8 @@ use Rattle.sig_x509.specs.Certificate.{Cert, IsCertificate}
 use Rattle.sig_x509.specs.Profile.{leaf_refusal}
 use Rattle.sig_x509.specs.declared.profile_error.CertificateValidationError.{CertificateValidationError}
 use Rattle.sig_bundle.specs.Checked.{Checked, checked, IsChecked, IsCheckedWith}
-use Rattle.sig_bundle.specs.Content.{signature_among, statement_or_refusal, under_bundle_names, digests_in, enveloped, signed}
-use Rattle.sig_bundle.specs.Passed.{IsSignedBy, IsEnvelopeOf, IsProven, IsPassed}
+use Rattle.sig_bundle.specs.Content.{SignedContent, signature_among, statement_or_refusal, under_bundle_names, digests_in, enveloped, signed}
+use Rattle.sig_bundle.specs.Passed.{IsSignedBy, IsEnvelopeOf, HasProof, IsPassed}
 use Rattle.sig_bundle.specs.Profile.{entry_among, lacks, lacks_checkpoint, lacks_proof, meets_profile, unless_lacking}
 use Rattle.sig_bundle.specs.Signer.{AreReadings, IsSigner, leaf_or_refusal, signer_among}
 use Rattle.sig_bundle.specs.Version.{media_type, older_media_type, version_of, IsMediaType}
@@ -27,7 +28,6 @@ use Rattle.sig_bundle.specs.declared.bundle.Content.TheVariants.{MessageSignatur
 use Rattle.sig_bundle.specs.declared.bundle_error.BundleErrorKind.{BundleErrorKind}
 use Rattle.sig_bundle.specs.declared.content_check.CheckedContent.{CheckedContent}
 use Rattle.sig_bundle.specs.declared.content_check.CheckedContent.TheVariants.{Dsse}
-use Rattle.sig_bundle.specs.declared.content_check.Signed.{Signed}
 use Rattle.sig_bundle.specs.declared.material.MaterialContent.{MaterialContent}
 use Rattle.sig_bundle.specs.declared.material.MaterialContent.TheVariants.{Certificate, X509CertificateChain, PublicKey}
 use Rattle.sig_bundle.specs.declared.material.ProofFields.{ProofFields}
@@ -96,12 +96,12 @@ named : (found : Result (List ArtifactDigest) SubjectFault) → (digests : List 
 named (Err fault) digests is = absurd cc
 named (Ok ds) digests is = ap Ok (same_ok ds digests is)
 
-enveloped-held : (envelope : EnvelopeRecord) → (s : Signed) → enveloped envelope ≡ Ok s → IsEnvelopeOf (Some (DsseEnvelope envelope)) s.signature s.content
+enveloped-held : (envelope : EnvelopeRecord) → (s : SignedContent) → enveloped envelope ≡ Ok s → IsEnvelopeOf (Some (DsseEnvelope envelope)) s.signature s.content
 enveloped-held envelope s is =
     let one = went_on (signature_among envelope.signatures) _ s is in
     let digests = went_on (digests_in envelope.payload) _ s one.2 in
     let statement = went_on (statement_or_refusal (statement_of envelope.payload)) _ digests.0 digests.1 in
-    let P : Signed → Type 0 = λ x. IsEnvelopeOf (Some (DsseEnvelope envelope)) x.signature x.content in
+    let P : SignedContent → Type 0 = λ x. IsEnvelopeOf (Some (DsseEnvelope envelope)) x.signature x.content in
     subst P (same_ok _ s digests.2) (record {
       envelope = envelope;
       held = refl;
@@ -111,11 +111,11 @@ enveloped-held envelope s is =
       statement = statement.0;
       stated = stated (statement_of envelope.payload) statement.0 statement.1;
       digests = digests.0;
-      named = named (digests_or_fault statement.0) digests.0 statement.2;
+      named = (takes_the_named statement.0 digests.0).0 (named (digests_or_fault statement.0) digests.0 statement.2);
       over = refl;
     })
 
-signed-held : (content : Option Content) → (s : Signed) → signed content ≡ Ok s → IsEnvelopeOf content s.signature s.content
+signed-held : (content : Option Content) → (s : SignedContent) → signed content ≡ Ok s → IsEnvelopeOf content s.signature s.content
 signed-held None s is = absurd cc
 signed-held (Some (MessageSignature m)) s is = absurd cc
 signed-held (Some (DsseEnvelope envelope)) s is = enveloped-held envelope s is
@@ -133,7 +133,7 @@ signed-meant : (content : Option Content) → (bytes : List ℕ) → (kept : Che
     → signed content ≡ Ok (record { signature = bytes; content = kept })
 signed-meant content bytes kept e =
     let P : Option Content → Type 0 = λ o. signed o ≡ Ok (record { signature = bytes; content = kept }) in
-    subst P (sym e.held) (enveloped-meant e.envelope e.signature e.statement e.digests e.only e.stated e.named ∙ rw (e.over, ← e.signed) refl)
+    subst P (sym e.held) (enveloped-meant e.envelope e.signature e.statement e.digests e.only e.stated ((takes_the_named e.statement e.digests).1 e.named) ∙ rw (e.over, ← e.signed) refl)
 
 -- ---- the log entry, and what the version demands of it
 
@@ -148,14 +148,14 @@ checkpoint-held None u is = absurd cc
 checkpoint-held (Some text) u is = (text, refl)
 
 proof-held : (entry : TransparencyLogEntry) → (proof : Option ProofFields) → (u : Unit {0}) → entry.inclusion_proof ≡ proof
-    → unless_lacking (lacks_proof proof) ≡ Ok u → IsProven entry
+    → unless_lacking (lacks_proof proof) ≡ Ok u → HasProof entry
 proof-held entry None u there is = absurd cc
 proof-held entry (Some proof) u there is =
     let checkpoint = checkpoint-held proof.checkpoint u is in
-    record { proof = proof; included = there; checkpoint = checkpoint.0; signed = checkpoint.1 }
+    record { proof = proof; included = there; text = checkpoint.0; checkpoint = checkpoint.1 }
 
 profile-held : (text : List ℕ) → (version : Option Version) → (entry : TransparencyLogEntry) → (u : Unit {0})
-    → unless_lacking (lacks text version entry) ≡ Ok u → (version ≡ Some Bundle0_3) × IsProven entry
+    → unless_lacking (lacks text version entry) ≡ Ok u → (version ≡ Some Bundle0_3) × HasProof entry
 profile-held text None entry u is = absurd cc
 profile-held text (Some Bundle0_1) entry u is = absurd cc
 profile-held text (Some Bundle0_2) entry u is = absurd cc
@@ -179,8 +179,8 @@ version-meant : (text : List ℕ) → IsMediaType text Bundle0_3 → version_of 
 version-meant text (inl is) = let P : List ℕ → Type 0 = λ t. version_of t ≡ Some Bundle0_3 in subst P (sym is) refl
 version-meant text (inr is) = let P : List ℕ → Type 0 = λ t. version_of t ≡ Some Bundle0_3 in subst P (sym is.0) refl
 
-profile-meant : (text : List ℕ) → (entry : TransparencyLogEntry) → IsMediaType text Bundle0_3 → IsProven entry → meets_profile text entry ≡ Ok tt
-profile-meant text entry version proven = rw (version-meant text version, proven.included, proven.signed) refl
+profile-meant : (text : List ℕ) → (entry : TransparencyLogEntry) → IsMediaType text Bundle0_3 → HasProof entry → meets_profile text entry ≡ Ok tt
+profile-meant text entry version proof = rw (version-meant text version, proof.included, proof.checkpoint) refl
 
 -- ---- the bundle
 
@@ -199,7 +199,7 @@ passed bundle c material brought (Ok certificate) signer is =
       envelope = signed-held bundle.content content.0 content.1;
       logged = sole_entry material.tlog_entries entry.0 entry.1;
       version = version-held bundle.media_type profile.0;
-      proven = profile.1;
+      proof = profile.1;
     })
 
 passed-with : (bundle : Bundle) → (c : Checked) → (material : Option VerificationMaterial) → bundle.verification_material ≡ material
@@ -214,7 +214,7 @@ passes bundle c p =
       Ok c.certificate,
       signer-meant p.material.content c.certificate p.signer,
       (
-          rw (signed-meant bundle.content c.signature c.content p.envelope, p.logged, profile-meant bundle.media_type c.entry p.version p.proven) refl),
+          rw (signed-meant bundle.content c.signature c.content p.envelope, p.logged, profile-meant bundle.media_type c.entry p.version p.proof) refl),
     )
 
 pub passed-iff : (bundle : Bundle) → (c : Checked) → IsChecked bundle (Ok c) ↔ IsPassed bundle c

@@ -1,5 +1,5 @@
 -- *Records*: a bundle (Sigstore bundle format), object by object: each member with its name, its kind, and what it means where it is absent.
-use Rattle.std.specs.Prelude.{ℕ, ℤ, List, [], ◌∷◌, codes, Option, Some, option_map, Result, ⊤}
+use Rattle.std.specs.Prelude.{ℕ, List, [], ◌∷◌, codes, Option, Some, option_map, Result, ⊤}
 use Rattle.sig_base.specs.OptionSteps.{◌>>=◌}
 use Rattle.sig_json.specs.Data.{Data}
 use Rattle.sig_json.specs.Find.{as_object}
@@ -66,9 +66,10 @@ proof_of d = do
   checkpoint ← optional checkpoint_of (codes "checkpoint") d
   Some (record { log_index = log_index; root_hash = root_hash; tree_size = tree_size; hashes = hashes; checkpoint = checkpoint })
 
--- the members of an entry beside its two numbers
-unfoldable pub entry_with : ℤ → ℤ → Data → Option TransparencyLogEntry
-entry_with log_index integrated_time d = do
+unfoldable pub entry_of : Data → Option TransparencyLogEntry
+entry_of d = do
+  log_index ← optional_i64 (codes "logIndex") d
+  integrated_time ← optional_i64 (codes "integratedTime") d
   canonicalized_body ← optional_bytes (codes "canonicalizedBody") d
   log_id ← optional log_id_of (codes "logId") d
   kind_version ← optional kind_version_of (codes "kindVersion") d
@@ -83,12 +84,6 @@ entry_with log_index integrated_time d = do
     inclusion_proof = inclusion_proof;
     canonicalized_body = canonicalized_body;
   })
-
-unfoldable pub entry_of : Data → Option TransparencyLogEntry
-entry_of d = do
-  log_index ← optional_i64 (codes "logIndex") d
-  integrated_time ← optional_i64 (codes "integratedTime") d
-  entry_with log_index integrated_time d
 
 unfoldable pub material_of : Data → Option VerificationMaterial
 material_of d = do

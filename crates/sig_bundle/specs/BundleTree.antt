@@ -1,4 +1,4 @@
--- The tree of a bundle: every text, integer and bytes value is written, also where it is empty; only what is none is left out.
+-- The tree of a bundle, object by object, by its rows: every text, integer and bytes value is written, also where it is empty; only what is none is left out.
 use Rattle.std.specs.Prelude.{ℕ, List, [], ◌∷◌, codes, Option, Some, None, option_map}
 use Rattle.sig_json.specs.Data.{Data, string}
 use Rattle.sig_bundle.specs.Written.{Row, object_of, integer_tree, bytes_tree, list_tree}
@@ -15,44 +15,69 @@ use Rattle.sig_bundle.specs.declared.material.VerificationMaterial.{Verification
 use Rattle.sig_dsse.specs.declared.envelope.DsseEnvelope.{DsseEnvelope}
 use Rattle.sig_dsse.specs.declared.envelope.DsseSignature.{DsseSignature}
 
--- objects with one member
+-- ---- objects with one member
+
+abbrev pub certificate_rows : List ℕ → List Row
+certificate_rows der = (codes "rawBytes", Some (bytes_tree der)) ∷ []
+
 unfoldable pub certificate_tree : List ℕ → Data
-certificate_tree der = object_of ((codes "rawBytes", Some (bytes_tree der)) ∷ [])
+certificate_tree der = object_of (certificate_rows der)
+
+abbrev pub log_id_rows : List ℕ → List Row
+log_id_rows id = (codes "keyId", Some (bytes_tree id)) ∷ []
 
 unfoldable pub log_id_tree : List ℕ → Data
-log_id_tree id = object_of ((codes "keyId", Some (bytes_tree id)) ∷ [])
+log_id_tree id = object_of (log_id_rows id)
+
+abbrev pub promise_rows : List ℕ → List Row
+promise_rows signature = (codes "signedEntryTimestamp", Some (bytes_tree signature)) ∷ []
 
 unfoldable pub promise_tree : List ℕ → Data
-promise_tree signature = object_of ((codes "signedEntryTimestamp", Some (bytes_tree signature)) ∷ [])
+promise_tree signature = object_of (promise_rows signature)
+
+abbrev pub digest_rows : List ℕ → List Row
+digest_rows digest = (codes "digest", Some (bytes_tree digest)) ∷ []
 
 unfoldable pub digest_tree : List ℕ → Data
-digest_tree digest = object_of ((codes "digest", Some (bytes_tree digest)) ∷ [])
+digest_tree digest = object_of (digest_rows digest)
+
+abbrev pub checkpoint_rows : List ℕ → List Row
+checkpoint_rows text = (codes "envelope", Some (string text)) ∷ []
 
 unfoldable pub checkpoint_tree : List ℕ → Data
-checkpoint_tree text = object_of ((codes "envelope", Some (string text)) ∷ [])
+checkpoint_tree text = object_of (checkpoint_rows text)
+
+abbrev pub chain_rows : List (List ℕ) → List Row
+chain_rows chain = (codes "certificates", Some (list_tree certificate_tree chain)) ∷ []
 
 unfoldable pub chain_tree : List (List ℕ) → Data
-chain_tree chain = object_of ((codes "certificates", Some (list_tree certificate_tree chain)) ∷ [])
+chain_tree chain = object_of (chain_rows chain)
 
 -- ---- an entry of a log
 
-unfoldable pub kind_version_tree : KindVersion → Data
-kind_version_tree k = object_of (
+abbrev pub kind_version_rows : KindVersion → List Row
+kind_version_rows k =
     (codes "kind", Some (string k.kind))
     ∷ (codes "version", Some (string k.version))
-    ∷ [])
+    ∷ []
 
-unfoldable pub proof_tree : ProofFields → Data
-proof_tree p = object_of (
+unfoldable pub kind_version_tree : KindVersion → Data
+kind_version_tree k = object_of (kind_version_rows k)
+
+abbrev pub proof_rows : ProofFields → List Row
+proof_rows p =
     (codes "logIndex", Some (integer_tree p.log_index))
     ∷ (codes "rootHash", Some (bytes_tree p.root_hash))
     ∷ (codes "treeSize", Some (integer_tree p.tree_size))
     ∷ (codes "hashes", Some (list_tree bytes_tree p.hashes))
     ∷ (codes "checkpoint", option_map checkpoint_tree p.checkpoint)
-    ∷ [])
+    ∷ []
 
-unfoldable pub entry_tree : TransparencyLogEntry → Data
-entry_tree e = object_of (
+unfoldable pub proof_tree : ProofFields → Data
+proof_tree p = object_of (proof_rows p)
+
+abbrev pub entry_rows : TransparencyLogEntry → List Row
+entry_rows e =
     (codes "logIndex", Some (integer_tree e.log_index))
     ∷ (codes "logId", option_map log_id_tree e.log_id)
     ∷ (codes "kindVersion", option_map kind_version_tree e.kind_version)
@@ -60,7 +85,10 @@ entry_tree e = object_of (
     ∷ (codes "inclusionPromise", option_map promise_tree e.inclusion_promise)
     ∷ (codes "inclusionProof", option_map proof_tree e.inclusion_proof)
     ∷ (codes "canonicalizedBody", Some (bytes_tree e.canonicalized_body))
-    ∷ [])
+    ∷ []
+
+unfoldable pub entry_tree : TransparencyLogEntry → Data
+entry_tree e = object_of (entry_rows e)
 
 -- ---- the signer
 
@@ -71,32 +99,44 @@ signer_row (Some (material.Certificate der)) = (codes "certificate", Some (certi
 signer_row (Some (material.X509CertificateChain chain)) = (codes "x509CertificateChain", Some (chain_tree chain))
 signer_row (Some material.PublicKey) = (codes "publicKey", Some (object_of []))
 
+abbrev pub material_rows : Row → Data → List Row
+material_rows signer entries =
+    signer
+    ∷ (codes "tlogEntries", Some entries)
+    ∷ []
+
 unfoldable pub material_tree : VerificationMaterial → Data
-material_tree m = object_of (
-    signer_row m.content
-    ∷ (codes "tlogEntries", Some (list_tree entry_tree m.tlog_entries))
-    ∷ [])
+material_tree m = object_of (material_rows (signer_row m.content) (list_tree entry_tree m.tlog_entries))
 
 -- ---- what is signed
 
-unfoldable pub message_signature_tree : MessageSignature → Data
-message_signature_tree m = object_of (
+abbrev pub message_signature_rows : MessageSignature → List Row
+message_signature_rows m =
     (codes "signature", Some (bytes_tree m.signature))
     ∷ (codes "messageDigest", option_map digest_tree m.message_digest)
-    ∷ [])
+    ∷ []
 
-unfoldable pub signature_tree : DsseSignature → Data
-signature_tree s = object_of (
+unfoldable pub message_signature_tree : MessageSignature → Data
+message_signature_tree m = object_of (message_signature_rows m)
+
+abbrev pub signature_rows : DsseSignature → List Row
+signature_rows s =
     (codes "sig", Some (bytes_tree s.sig))
     ∷ (codes "keyid", Some (string s.keyid))
-    ∷ [])
+    ∷ []
 
-unfoldable pub envelope_tree : DsseEnvelope → Data
-envelope_tree e = object_of (
+unfoldable pub signature_tree : DsseSignature → Data
+signature_tree s = object_of (signature_rows s)
+
+abbrev pub envelope_rows : DsseEnvelope → List Row
+envelope_rows e =
     (codes "payload", Some (bytes_tree e.payload))
     ∷ (codes "payloadType", Some (string e.payload_type))
     ∷ (codes "signatures", Some (list_tree signature_tree e.signatures))
-    ∷ [])
+    ∷ []
+
+unfoldable pub envelope_tree : DsseEnvelope → Data
+envelope_tree e = object_of (envelope_rows e)
 
 -- the member of the content's kind
 abbrev pub content_row : Option Content → Row
@@ -106,9 +146,12 @@ content_row (Some (content.DsseEnvelope e)) = (codes "dsseEnvelope", Some (envel
 
 -- ---- the bundle
 
+abbrev pub bundle_rows : List ℕ → Option Data → Row → List Row
+bundle_rows media_type material content =
+    (codes "mediaType", Some (string media_type))
+    ∷ (codes "verificationMaterial", material)
+    ∷ content
+    ∷ []
+
 unfoldable pub bundle_tree : Bundle → Data
-bundle_tree b = object_of (
-    (codes "mediaType", Some (string b.media_type))
-    ∷ (codes "verificationMaterial", option_map material_tree b.verification_material)
-    ∷ content_row b.content
-    ∷ [])
+bundle_tree b = object_of (bundle_rows b.media_type (option_map material_tree b.verification_material) (content_row b.content))

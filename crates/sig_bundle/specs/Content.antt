@@ -14,8 +14,8 @@ use Rattle.sig_bundle.specs.declared.bundle.Content.{Content}
 use Rattle.sig_bundle.specs.declared.bundle.Content.TheVariants.{MessageSignature, DsseEnvelope as Envelope}
 use Rattle.sig_bundle.specs.declared.bundle_error.BundleErrorKind.{BundleErrorKind}
 use Rattle.sig_bundle.specs.declared.bundle_error.BundleErrorKind.TheVariants.{SignatureMissing, DsseInvalidSignatureCount, DssePayloadDecode, DsseTooManySubjects, DsseTooManySubjectDigests, DsseSubjectDigestMalformed, DsseNoRecognizedSubjectDigest, OutOfMemory}
+use Rattle.sig_bundle.specs.declared.content_check.CheckedContent.{CheckedContent}
 use Rattle.sig_bundle.specs.declared.content_check.CheckedContent.TheVariants.{Dsse}
-use Rattle.sig_bundle.specs.declared.content_check.Signed.{Signed}
 
 -- the one signature of an envelope
 abbrev pub signature_among : List DsseSignature → Result DsseSignature BundleErrorKind
@@ -45,8 +45,13 @@ digests_in payload = do
   statement ← statement_or_refusal (statement_of payload)
   under_bundle_names (digests_or_fault statement)
 
+-- a signature, and what it is over
+pub record SignedContent : Type 0 where
+  pub signature : List ℕ
+  pub content : CheckedContent
+
 -- what an envelope signs: its one signature, over the encoding of its type and payload, which is a statement about artifacts
-abbrev pub enveloped : DsseEnvelope → Result Signed BundleErrorKind
+abbrev pub enveloped : DsseEnvelope → Result SignedContent BundleErrorKind
 enveloped envelope = do
   signature ← signature_among envelope.signatures
   digests ← digests_in envelope.payload
@@ -56,7 +61,7 @@ enveloped envelope = do
   })
 
 -- what is signed. A signature over an artifact alone is not read yet.
-abbrev pub signed : Option Content → Result Signed BundleErrorKind
+abbrev pub signed : Option Content → Result SignedContent BundleErrorKind
 signed None = Err SignatureMissing
 signed (Some (MessageSignature _)) = Err SignatureMissing
 signed (Some (Envelope envelope)) = enveloped envelope

@@ -1,6 +1,8 @@
--- What contracts see of lent values.
+-- For private clauses: what is seen of values of the code.
 use Rattle.std.specs.Prelude.{ℕ, List, [], ◌∷◌, Result, Ok, Err}
 use Rattle.std.specs.Borrow.{Bor}
+use Rattle.sig_bundle.specs.Content.{SignedContent}
+use Rattle.sig_bundle.specs.declared.content_check.Signed.{Signed}
 
 -- what is lent, or why it is not
 abbrev pub lent_now : {A E : Type 0} → Result (Bor A) E → Result A E
@@ -11,3 +13,7 @@ lent_now (Err e) = Err e
 abbrev pub texts_now : {E : Type 0} → Result (Bor (List ℕ)) E → Result (List (List ℕ)) E
 texts_now (Ok text) = Ok (text.now ∷ [])
 texts_now (Err e) = Err e
+
+-- the signature and what it is over
+abbrev pub seen_signed : Signed → SignedContent
+seen_signed s = record { signature = s.signature; content = s.content }

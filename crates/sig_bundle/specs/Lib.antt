@@ -5,8 +5,9 @@ pub mod Lent
 pub mod Passed
 pub mod Profile
 pub mod Signer
-pub mod Steps
+pub mod Meant
 pub mod Version
 pub mod BundleTree
 pub mod ReadBack
+pub mod EntryRest
 pub mod Written

@@ -1,4 +1,4 @@
--- Checks one after another, for `do`: the first that refuses ends them.
+-- An answer of which a relation says what is meant.
 use Rattle.std.specs.Prelude.{◌≡◌, ◌⊎◌, Result, Err}
 
 -- the answer is one that is meant, unless memory ran out

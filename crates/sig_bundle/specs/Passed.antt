@@ -1,8 +1,8 @@
 -- *Passed bundle*: what a bundle that passes its own checks holds (Sigstore bundle format; DSSE protocol; in-toto attestation framework; RFC 5280).
-use Rattle.std.specs.Prelude.{◌≡◌, ℕ, List, [], ◌∷◌, Option, Some, None, Ok}
+use Rattle.std.specs.Prelude.{◌≡◌, ℕ, List, [], ◌∷◌, Option, Some, None}
 use Rattle.sig_dsse.specs.EnvelopeText.{envelope_text}
+use Rattle.sig_dsse.specs.Named.{AreTaken}
 use Rattle.sig_dsse.specs.Pae.{pae}
-use Rattle.sig_dsse.specs.Recognized.{digests_or_fault}
 use Rattle.sig_dsse.specs.Statement.{Statement, statement_of}
 use Rattle.sig_dsse.specs.declared.artifact_digest.ArtifactDigest.{ArtifactDigest}
 use Rattle.sig_dsse.specs.declared.envelope.DsseEnvelope.{DsseEnvelope}
@@ -30,7 +30,7 @@ pub record IsSignedBy (content : Option MaterialContent) (certificate : Cert) : 
   pub read : IsCertificate der certificate
   pub may_sign : leaf_refusal certificate ≡ None
 
--- an envelope has this signature and no other, its payload is a statement about artifacts, and all that the signature is over is kept
+-- an envelope has this signature and no other, its payload is a statement of which digests are taken, and all that the signature is over is kept
 pub record IsEnvelopeOf (content : Option Content) (bytes : List ℕ) (kept : CheckedContent) : Type 0 where
   pub envelope : DsseEnvelope
   pub held : content ≡ Some (Envelope envelope)
@@ -40,15 +40,15 @@ pub record IsEnvelopeOf (content : Option Content) (bytes : List ℕ) (kept : Ch
   pub statement : Statement
   pub stated : statement_of envelope.payload ≡ Some statement
   pub digests : List ArtifactDigest
-  pub named : digests_or_fault statement ≡ Ok digests
+  pub named : AreTaken statement digests
   pub over : kept ≡ Dsse (pae envelope.payload_type envelope.payload) digests (envelope_text envelope) envelope.payload
 
--- the log entry has an inclusion proof with a checkpoint
-pub record IsProven (entry : TransparencyLogEntry) : Type 0 where
+-- the log entry has an inclusion proof, and the proof the text of a checkpoint; nothing is said of what either proves
+pub record HasProof (entry : TransparencyLogEntry) : Type 0 where
   pub proof : ProofFields
   pub included : entry.inclusion_proof ≡ Some proof
-  pub checkpoint : List ℕ
-  pub signed : proof.checkpoint ≡ Some checkpoint
+  pub text : List ℕ
+  pub checkpoint : proof.checkpoint ≡ Some text
 
 -- the bundle is one of version 0.3, and has all that this version demands of a signed statement
 pub record IsPassed (bundle : Bundle) (c : Checked) : Type 0 where
@@ -58,4 +58,4 @@ pub record IsPassed (bundle : Bundle) (c : Checked) : Type 0 where
   pub envelope : IsEnvelopeOf bundle.content c.signature c.content
   pub logged : material.tlog_entries ≡ c.entry ∷ []
   pub version : IsMediaType bundle.media_type Bundle0_3
-  pub proven : IsProven c.entry
+  pub proof : HasProof c.entry

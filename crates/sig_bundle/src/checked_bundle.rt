@@ -3,7 +3,7 @@
 ghost use Rattle.std.specs.Prelude.{◌≡◌, Some, Ok};
 ghost use Rattle.sig_base.specs.Answers.{Answers};
 ghost use Rattle.sig_bundle.specs.Checked.{Checked, checked, IsChecked, IsCheckedWith};
-ghost use Rattle.sig_bundle.specs.Steps.{IsMeant, IsOnlyMeant};
+ghost use Rattle.sig_bundle.specs.Meant.{IsMeant, IsOnlyMeant};
 
 use crate::bundle::Bundle;
 use crate::bundle_error::BundleErrorKind;

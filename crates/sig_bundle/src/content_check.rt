@@ -3,7 +3,7 @@
 ghost use Rattle.std.specs.Prelude.{◌≡◌};
 ghost use Rattle.sig_base.specs.Answers.{Answers};
 ghost use Rattle.sig_bundle.specs.Content.{signature_among, digests_in, enveloped, signed};
-ghost use Rattle.sig_bundle.specs.Lent.{lent_now};
+ghost use Rattle.sig_bundle.specs.Lent.{lent_now, seen_signed};
 
 use crate::bundle::Content;
 use crate::bundle_error::BundleErrorKind;
@@ -67,7 +67,7 @@ fn subject_digests(alloc: Global, payload: &[u8]) -> Result<Digests, BundleError
 
 /// What an envelope signs. `DsseInvalidSignatureCount` where it has not one signature, then the refusals of its payload.
 fn checked_envelope(alloc: Global, envelope: &DsseEnvelope) -> Result<Signed, BundleErrorKind>
-    ensures { Answers BundleErrorKind.OutOfMemory (λ checked. checked) result (enveloped envelope.now) }
+    ensures { Answers BundleErrorKind.OutOfMemory seen_signed result (enveloped envelope.now) }
 {
     let signature = only_signature(&envelope.signatures)?;
     let subject_digests = subject_digests(alloc, envelope.payload.as_slice())?;
@@ -93,7 +93,7 @@ pub(crate) fn checked_content(
     alloc: Global,
     content: &Option<Content>,
 ) -> Result<Signed, BundleErrorKind>
-    ensures { Answers BundleErrorKind.OutOfMemory (λ checked. checked) result (signed content.now) }
+    ensures { Answers BundleErrorKind.OutOfMemory seen_signed result (signed content.now) }
 {
     match content {
         Some(Content::DsseEnvelope(envelope)) => checked_envelope(alloc, envelope),

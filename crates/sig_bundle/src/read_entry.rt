@@ -1,7 +1,8 @@
 //! Readers of the entries of transparency logs.
 ghost use Rattle.std.specs.Prelude.{Option};
 ghost use Rattle.sig_json.specs.Data.{Data};
-ghost use Rattle.sig_bundle.specs.BundleRecord.{checkpoint_of, entry_of, entry_with, kind_version_of, log_id_of, promise_of, proof_of};
+ghost use Rattle.sig_bundle.specs.BundleRecord.{checkpoint_of, entry_of, kind_version_of, log_id_of, promise_of, proof_of};
+ghost use Rattle.sig_bundle.specs.EntryRest.{entry_with};
 ghost use Rattle.sig_json.specs.Reads.{Reads};
 ghost use Rattle.sig_json.specs.Tree.{tree};
 
@@ -97,7 +98,7 @@ impl ElementReader for EntryReader {
 
     ghost meaning = { entry_of };
 
-    #[tactic(auto, unfolding(crate::specs::BundleRecord::entry_of))]
+    #[tactic(auto, unfolding(crate::specs::BundleRecord::entry_of, crate::specs::EntryRest::entry_with))]
     fn read(alloc: Global, json: Json<'_>) -> Result<TransparencyLogEntry, MemberError> {
         let log_index = read_i64(json, "logIndex")?;
         let integrated_time = read_i64(json, "integratedTime")?;
@@ -106,7 +107,7 @@ impl ElementReader for EntryReader {
 }
 
 /// An entry of these two numbers. Refuses with `Member` where another member is not of its kind.
-#[tactic(auto, unfolding(crate::specs::BundleRecord::entry_with))]
+#[tactic(auto, unfolding(crate::specs::EntryRest::entry_with))]
 fn read_entry(
     alloc: Global,
     json: Json<'_>,

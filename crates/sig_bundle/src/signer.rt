@@ -1,7 +1,7 @@
 //! The signer of a bundle: the first of its certificates, which has to be a leaf.
 
 ghost use Rattle.std.specs.Prelude.{◌≡◌, [], ◌∷◌, Ok};
-ghost use Rattle.sig_bundle.specs.Steps.{IsMeant, IsOnlyMeant};
+ghost use Rattle.sig_bundle.specs.Meant.{IsMeant, IsOnlyMeant};
 ghost use Rattle.sig_bundle.specs.Lent.{texts_now};
 ghost use Rattle.sig_bundle.specs.Signer.{IsSigner, IsSignerAmong, certificate_texts};
 

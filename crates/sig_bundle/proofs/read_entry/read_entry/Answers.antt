@@ -1,6 +1,6 @@
 use Rattle.std.proofs.Common.{refl}
 use Rattle.std.proofs.Math.Facts.{to_z-of_z}
-use Rattle.sig_bundle.specs.BundleRecord.{entry_with}
+use Rattle.sig_bundle.specs.EntryRest.{entry_with}
 use Rattle.sig_bundle.proofs.read_entry.read_entry.Goals as goal
 
 pub returns : goal.returns

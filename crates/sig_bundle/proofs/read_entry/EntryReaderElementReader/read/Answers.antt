@@ -2,10 +2,11 @@ use Rattle.std.proofs.Common.{arith, FitsSigned, w64}
 use Rattle.std.proofs.lemmas.Int.{ints}
 use Rattle.std.proofs.Math.Facts.{to_z-of_z}
 use Rattle.sig_bundle.specs.BundleRecord.{entry_of}
+use Rattle.sig_bundle.specs.EntryRest.{entry_with}
 use Rattle.sig_bundle.proofs.read_entry.EntryReaderElementReader.read.Goals as goal
 
 pub returns : goal.returns
-unfolding entry_of
+unfolding entry_of entry_with
 returns c =
     let index_range = (rw c.in_ok-log_index.is at c.branch-log_index.type_inv).1.1.1.1.0.1 in
     let time_range = (rw c.in_ok-integrated_time.is at c.branch-integrated_time.type_inv).1.1.1.1.0.1 in
