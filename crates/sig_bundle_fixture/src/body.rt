@@ -8,7 +8,7 @@ use std::alloc::Global;
 
 /// The body that says that the log saw this envelope, with this signature first among its own, and the certificate of its signer. Refuses for
 /// want of memory alone.
-pub fn body_of(
+pub(crate) fn body_of(
     alloc: Global,
     envelope: &DsseEnvelope,
     signature: &[u8],

@@ -5,7 +5,7 @@ ghost use Rattle.sig_bundle.specs.declared.material.MaterialContent.TheVariants.
 ghost use Rattle.sig_bundle_fixture.specs.Parts.{signer_of, entries_of, payload_in, signatures_in};
 
 use crate::body::body_of;
-use crate::log::proof_of_third;
+use crate::log::{LOG_ID, proof_of_third};
 use crate::statement::{DIGEST, PAYLOAD_TYPE, payload_of};
 use sig_base::{Bytes, OutOfMemory, Text};
 use sig_bundle::{
@@ -13,7 +13,7 @@ use sig_bundle::{
     TransparencyLogEntry, VerificationMaterial,
 };
 use sig_der::DerWriteError;
-use sig_fixture::{CertificateParts, LeafExtensions, TimestampParts, timestamp_list};
+use sig_fixture::{CertificateParts, LeafExtensions, TimestampParts};
 use std::alloc::Global;
 
 /// The parts that a bundle is computed from. A test changes some of them, to whatever it likes, and asks for the bundle.
@@ -37,9 +37,7 @@ pub struct BundleParts {
 
 /// The leaf of sig_fixture with its timestamp.
 fn fixture_leaf(alloc: Global) -> Result<Bytes, DerWriteError> {
-    let timestamp = TimestampParts::new(alloc)?.text(alloc)?;
-    let list = timestamp_list(alloc, timestamp.as_slice())?;
-    let held = LeafExtensions::new(alloc, list.as_slice())?;
+    let held = LeafExtensions::stamped(alloc, &TimestampParts::new(alloc)?)?;
     CertificateParts::leaf(alloc, &held)?.der(alloc)
 }
 
@@ -89,7 +87,7 @@ impl BundleParts {
         )?;
         Ok(TransparencyLogEntry {
             log_index: self.log_index,
-            log_id: Some(Bytes::copy_of(alloc, &[0x44; 32])?),
+            log_id: Some(Bytes::copy_of(alloc, &LOG_ID)?),
             kind_version: None,
             integrated_time: self.integrated_time,
             inclusion_promise: Some(self.promise.copy(alloc)?),

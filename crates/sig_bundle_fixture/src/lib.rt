@@ -13,7 +13,6 @@ mod statement;
 #[cfg(test)]
 mod tests;
 
-pub use body::body_of;
 pub use bundle::BundleParts;
-pub use log::{LOG_ENTRIES, note_of, proof_of_third};
+pub use log::{LOG_ID, NOTE_SIGNATURE, note_of, proof_of_third};
 pub use statement::{DIGEST, PAYLOAD_TYPE, WIDE_DIGEST, payload_of};

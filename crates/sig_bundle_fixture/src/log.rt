@@ -3,14 +3,21 @@
 use base64::engine::general_purpose::STANDARD;
 use sig_base::{Bytes, Entries, OutOfMemory, Text};
 use sig_bundle::ProofFields;
+use sig_fixture::joined;
 use sig_merkle::{hash_children, hash_leaf};
 use std::alloc::Global;
 
-/// How many entries the log has.
-pub const LOG_ENTRIES: i64 = 5;
+/// The id of the log.
+pub const LOG_ID: [u8; 32] = [0x44; 32];
 
-/// The key hint, and the signature of the fixture's log.
-const NOTE_SIGNATURE: &[u8] = b"\x00\x00\x00\x04sig-note";
+/// The log's signature over its note.
+pub const NOTE_SIGNATURE: &[u8] = b"sig-note";
+
+/// How many entries the log has.
+const LOG_ENTRIES: i64 = 5;
+
+/// The hint at the log's key (C2SP signed-note, "Signatures").
+const KEY_HINT: &[u8] = &[0, 0, 0, 4];
 
 /// The note that the log signs: its name, its size, its root hash. Refuses for want of memory alone.
 pub fn note_of(alloc: Global, root: &[u8]) -> Result<Text, OutOfMemory> {
@@ -23,7 +30,8 @@ pub fn note_of(alloc: Global, root: &[u8]) -> Result<Text, OutOfMemory> {
 fn checkpoint_of(alloc: Global, root: &[u8]) -> Result<Text, OutOfMemory> {
     let note = note_of(alloc, root)?;
     let note = note.as_str();
-    let signature = STANDARD.encode(alloc, NOTE_SIGNATURE)?;
+    let signature = joined(alloc, KEY_HINT, NOTE_SIGNATURE)?;
+    let signature = STANDARD.encode(alloc, signature.as_slice())?;
     let checkpoint = format!(in alloc; "{note}\n\u{2014} fixture.log {signature}\n")?;
     Ok(Text::from(checkpoint))
 }

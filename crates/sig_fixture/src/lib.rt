@@ -19,7 +19,7 @@ mod timestamp;
 pub use certificate::CertificateParts;
 pub use element::{element_of, joined};
 pub use extension::{extension_of, extensions_of};
-pub use key::{ALGORITHM, KEY_FRONT, algorithm, key_of, point_of};
+pub use key::{ALGORITHM, KEY_FRONT, WIDE_KEY_FRONT, algorithm, key_of, point_of, wide_key};
 pub use leaf::{ISSUER, LeafExtensions, WORKFLOW};
 pub use name::{COMMON_NAME, name_of, validity_of};
 pub use row::{accepted_row, table_of};

@@ -2,11 +2,13 @@
 
 use crate::promise::promise_of;
 use crate::request::RequestParts;
-use crate::trusted_root::{CERTIFICATE_LOG_KEY, LOG_ID, LOG_KEY};
+use crate::trusted_root::{CERTIFICATE_LOG_KEY, LOG_KEY};
 use sig_base::{
     AcceptedRow, Operation, OutOfMemory, Register, SignatureChecker, SigningScheme, TableChecker,
 };
-use sig_bundle_fixture::{BundleParts, PAYLOAD_TYPE, note_of, proof_of_third};
+use sig_bundle_fixture::{
+    BundleParts, LOG_ID, NOTE_SIGNATURE, PAYLOAD_TYPE, note_of, proof_of_third,
+};
 use sig_der::DerWriteError;
 use sig_dsse::compute_pae;
 use sig_fixture::{TimestampParts, accepted_row, key_of, point_of};
@@ -116,7 +118,7 @@ fn push_log_rows(
     rows.push(message_row(alloc, key.as_slice(), promise, parts.promise.as_slice())?)?;
     let proof = proof_of_third(alloc, entry.canonicalized_body.as_slice())?;
     let note = note_of(alloc, proof.root_hash.as_slice())?;
-    rows.push(message_row(alloc, key.as_slice(), note.as_str().as_bytes(), b"sig-note")?)?;
+    rows.push(message_row(alloc, key.as_slice(), note.as_str().as_bytes(), NOTE_SIGNATURE)?)?;
     Ok(())
 }
 

@@ -11,6 +11,5 @@ mod request;
 mod row_text;
 mod trusted_root;
 
-pub use promise::promise_of;
 pub use request::RequestParts;
-pub use trusted_root::{CERTIFICATE_LOG_ID, CERTIFICATE_LOG_KEY, LOG_ID, LOG_KEY, trusted_root_of};
+pub use trusted_root::{CERTIFICATE_LOG_KEY, LOG_KEY};

@@ -6,7 +6,7 @@ use sig_bundle::TransparencyLogEntry;
 use std::alloc::Global;
 
 /// What the log with this id signs to promise that it includes the entry. Refuses for want of memory alone.
-pub fn promise_of(
+pub(crate) fn promise_of(
     alloc: Global,
     entry: &TransparencyLogEntry,
     log_id: [u8; 32],

@@ -2,20 +2,18 @@
 
 use base64::engine::general_purpose::STANDARD;
 use sig_base::{OutOfMemory, Text};
+use sig_bundle_fixture::LOG_ID;
 use sig_fixture::key_of;
 use std::alloc::Global;
 
 /// The byte of the key of the log of entries, which [`key_of`] makes.
 pub const LOG_KEY: u8 = 4;
 
-/// The id of the log of entries.
-pub const LOG_ID: [u8; 32] = [0x44; 32];
-
 /// The byte of the key of the log of certificates, which [`key_of`] makes.
 pub const CERTIFICATE_LOG_KEY: u8 = 3;
 
 /// The id of the log of certificates in the trusted root. A timestamp names the log by the SHA-256 of its key info instead.
-pub const CERTIFICATE_LOG_ID: [u8; 32] = [0x33; 32];
+const CERTIFICATE_LOG_ID: [u8; 32] = [0x33; 32];
 
 /// When the authority and the two logs began.
 const START: &str = "2023-01-01T00:00:00Z";
@@ -34,7 +32,7 @@ fn log_of(alloc: Global, key: u8, valid_for: &str, id: &[u8; 32]) -> Result<Stri
 
 /// The text of the root that trusts the anchor with this DER and the log of certificates from 2023 on, and the log of entries in 2023. Refuses
 /// for want of memory alone.
-pub fn trusted_root_of(alloc: Global, anchor: &[u8]) -> Result<Text, OutOfMemory> {
+pub(crate) fn trusted_root_of(alloc: Global, anchor: &[u8]) -> Result<Text, OutOfMemory> {
     let open = format!(in alloc; "{{\"start\":\"{START}\"}}")?;
     let closed = format!(in alloc; "{{\"start\":\"{START}\",\"end\":\"{END}\"}}")?;
     let anchor = STANDARD.encode(alloc, anchor)?;

@@ -3,18 +3,9 @@
 use sig_base::Bytes;
 use sig_bundle_fixture::{BundleParts, DIGEST, payload_of};
 use sig_der::oid;
-use sig_fixture::{CertificateParts, LeafExtensions, TimestampParts, element_of, extension_of};
+use sig_fixture::{CertificateParts, LeafExtensions, TimestampParts, extension_of, wide_key};
 use sig_request_fixture::RequestParts;
 use std::alloc::Global;
-
-/// A key info of RSA of 294 bytes, whose lengths have two bytes (RFC 3279 section 2.3.1).
-fn wide_key(alloc: Global) -> Option<Bytes> {
-    const RSA: &[u8] = &[
-        0x30, 0x0d, 0x06, 0x09, 0x2a, 0x86, 0x48, 0x86, 0xf7, 0x0d, 0x01, 0x01, 0x01, 0x05, 0x00,
-    ];
-    let bits = element_of(alloc, 0x03, &[0], &[1; 270]).ok()?;
-    element_of(alloc, 0x30, RSA, bits.as_slice()).ok()
-}
 
 /// A timestamp of another time, with extensions and another signature.
 fn other_timestamp(alloc: Global) -> Option<TimestampParts> {
@@ -77,7 +68,7 @@ fn change_parts(alloc: Global, parts: &mut RequestParts, change: &str) -> Option
     match change {
         "nothing" => Some(()),
         "wide anchor key" => {
-            parts.anchor.key = wide_key(alloc)?;
+            parts.anchor.key = wide_key(alloc).ok()?;
             Some(())
         }
         _ => change_bundle(alloc, &mut parts.bundle, change),

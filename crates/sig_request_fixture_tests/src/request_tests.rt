@@ -1,7 +1,7 @@
 //! The text of a request holds what its parts say, whatever part is changed.
 
 use crate::changes::parts_with;
-use sig_base::AcceptedRow;
+use sig_base::{AcceptedRow, Operation};
 use sig_bundle::read_bundle;
 use sig_json::{Document, Json, required_bytes};
 use sig_request_fixture::RequestParts;
@@ -17,12 +17,40 @@ no leaf|2
 other time|5
 more subjects|5";
 
+/// The word for an operation.
+fn word(operation: Operation) -> &'static str {
+    match operation {
+        Operation::Message => "message",
+        Operation::Prehash => "prehash",
+        Operation::Point => "point",
+        Operation::Certificate => "certificate",
+    }
+}
+
+/// Whether this object has the scheme of the row: by its name over a message or a digest, the algorithm in base64 over a certificate, and none
+/// for a point.
+fn has_scheme(alloc: Global, object: Json<'_>, row: &AcceptedRow) -> Option<bool> {
+    match row.operation {
+        Operation::Message | Operation::Prehash => {
+            let name = object.get("scheme")?.text()?;
+            Some(name.as_bytes() == row.scheme.as_slice())
+        }
+        Operation::Point => Some(object.get("scheme").is_none()),
+        Operation::Certificate => {
+            let algorithm = required_bytes(alloc, object, "scheme").ok()?;
+            Some(algorithm == row.scheme)
+        }
+    }
+}
+
 /// Whether this object is the row.
 fn is_row(alloc: Global, object: Json<'_>, row: &AcceptedRow) -> Option<bool> {
+    let operation = object.get("operation")?.text()?;
+    let named = operation == word(row.operation) && has_scheme(alloc, object, row)?;
     let key = required_bytes(alloc, object, "key").ok()?;
     let message = required_bytes(alloc, object, "message").ok()?;
     let signature = required_bytes(alloc, object, "signature").ok()?;
-    Some(key == row.key && message == row.message && signature == row.signature)
+    Some(named && key == row.key && message == row.message && signature == row.signature)
 }
 
 /// Whether the rows of a request are the rows of its parts.
