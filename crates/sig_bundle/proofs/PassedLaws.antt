@@ -2,7 +2,7 @@
 use Rattle.std.proofs.Common.{◌≡◌, inl, inr, ℕ, List, [], ◌∷◌, Bool, true, false, Option, Some, None, Result, Ok, Err, refl, sym, ap, subst, ◌∙◌}
 use Rattle.std.proofs.lemmas.Slice.Eq.{bytes_eq-Decides}
 use Rattle.std.specs.Prelude.{bytes_eq, if◌then◌else◌, ◌↔◌}
-use Rattle.sig_base.specs.ResultSteps.{◌>>=◌}
+use Rattle.sig_base.proofs.ResultSteps.{ok_is, bind_ok, bind_of_ok}
 use Rattle.sig_dsse.proofs.NamedDigests.{takes_the_named}
 use Rattle.sig_dsse.specs.EnvelopeText.{envelope_text}
 use Rattle.sig_dsse.specs.Pae.{pae}
@@ -37,26 +37,11 @@ use Rattle.sig_bundle.specs.declared.version.Version.{Version}
 use Rattle.sig_bundle.specs.declared.version.Version.TheVariants.{Bundle0_1, Bundle0_2, Bundle0_3}
 use Rattle.sig_bundle.proofs.SignerLaws.{leads}
 
--- ---- one step after another
-
-same_ok : {A E : Type 0} → (a b : A) → ◌≡◌ {A = Result A E} (Ok a) (Ok b) → a ≡ b
-same_ok a b is = cc
-
--- the step before did not refuse, and the next one goes on with its value
-went_on : {A B E : Type 0} → (before : Result A E) → (next : A → Result B E) → (b : B) → (before >>= next) ≡ Ok b
-    → (a : A) × (before ≡ Ok a) × (next a ≡ Ok b)
-went_on (Err e) next b is = absurd cc
-went_on (Ok a) next b is = (a, refl, is)
-
--- and back
-goes_on : {A B E : Type 0} → (before : Result A E) → (next : A → Result B E) → (a : A) → before ≡ Ok a → (before >>= next) ≡ next a
-goes_on before next a is = rw is refl
-
 -- ---- the signer
 
 led : (c d : Cert) → (refusal : Option CertificateValidationError) → leaf_or_refusal c [] refusal ≡ Ok d → (c ≡ d) × (refusal ≡ None)
 led c d (Some e) is = absurd cc
-led c d None is = (same_ok c d is, refl)
+led c d None is = (ok_is c d is, refl)
 
 sole : (der : List ℕ) → (c : Cert) → (readings : List (Option Cert)) → AreReadings (der ∷ []) readings → Ok c ≡ signer_among readings
     → IsCertificate der c × (leaf_refusal c ≡ None)
@@ -85,24 +70,24 @@ signer-meant content c s =
 
 sole_signature : (signatures : List DsseSignature) → (s : DsseSignature) → signature_among signatures ≡ Ok s → signatures ≡ s ∷ []
 sole_signature [] s is = absurd cc
-sole_signature (one ∷ []) s is = ap (λ x. x ∷ []) (same_ok one s is)
+sole_signature (one ∷ []) s is = ap (λ x. x ∷ []) (ok_is one s is)
 sole_signature (one ∷ other ∷ others) s is = absurd cc
 
 stated : (read : Option Statement) → (statement : Statement) → statement_or_refusal read ≡ Ok statement → read ≡ Some statement
 stated None statement is = absurd cc
-stated (Some s) statement is = ap Some (same_ok s statement is)
+stated (Some s) statement is = ap Some (ok_is s statement is)
 
 named : (found : Result (List ArtifactDigest) SubjectFault) → (digests : List ArtifactDigest) → under_bundle_names found ≡ Ok digests → found ≡ Ok digests
 named (Err fault) digests is = absurd cc
-named (Ok ds) digests is = ap Ok (same_ok ds digests is)
+named (Ok ds) digests is = ap Ok (ok_is ds digests is)
 
 enveloped-held : (envelope : EnvelopeRecord) → (s : SignedContent) → enveloped envelope ≡ Ok s → IsEnvelopeOf (Some (DsseEnvelope envelope)) s.signature s.content
 enveloped-held envelope s is =
-    let one = went_on (signature_among envelope.signatures) _ s is in
-    let digests = went_on (digests_in envelope.payload) _ s one.2 in
-    let statement = went_on (statement_or_refusal (statement_of envelope.payload)) _ digests.0 digests.1 in
+    let one = bind_ok (signature_among envelope.signatures) _ s is in
+    let digests = bind_ok (digests_in envelope.payload) _ s one.2 in
+    let statement = bind_ok (statement_or_refusal (statement_of envelope.payload)) _ digests.0 digests.1 in
     let P : SignedContent → Type 0 = λ x. IsEnvelopeOf (Some (DsseEnvelope envelope)) x.signature x.content in
-    subst P (same_ok _ s digests.2) (record {
+    subst P (ok_is _ s digests.2) (record {
       envelope = envelope;
       held = refl;
       signature = one.0;
@@ -127,7 +112,7 @@ enveloped-meant : (envelope : EnvelopeRecord) → (signature : DsseSignature) �
       content = Dsse (pae envelope.payload_type envelope.payload) digests (envelope_text envelope) envelope.payload;
     })
 enveloped-meant envelope signature statement digests only stated named =
-    goes_on (signature_among envelope.signatures) _ signature (rw only refl) ∙ goes_on (digests_in envelope.payload) _ digests (rw (stated, named) refl)
+    bind_of_ok (signature_among envelope.signatures) _ signature (rw only refl) ∙ bind_of_ok (digests_in envelope.payload) _ digests (rw (stated, named) refl)
 
 signed-meant : (content : Option Content) → (bytes : List ℕ) → (kept : CheckedContent) → IsEnvelopeOf content bytes kept
     → signed content ≡ Ok (record { signature = bytes; content = kept })
@@ -139,7 +124,7 @@ signed-meant content bytes kept e =
 
 sole_entry : (entries : List TransparencyLogEntry) → (entry : TransparencyLogEntry) → entry_among entries ≡ Ok entry → entries ≡ entry ∷ []
 sole_entry [] entry is = absurd cc
-sole_entry (one ∷ []) entry is = ap (λ x. x ∷ []) (same_ok one entry is)
+sole_entry (one ∷ []) entry is = ap (λ x. x ∷ []) (ok_is one entry is)
 sole_entry (one ∷ other ∷ others) entry is = absurd cc
 
 checkpoint-held : (checkpoint : Option (List ℕ)) → (u : Unit {0}) → unless_lacking (lacks_checkpoint checkpoint) ≡ Ok u
@@ -188,11 +173,11 @@ passed : (bundle : Bundle) → (c : Checked) → (material : VerificationMateria
     → (signer : Result Cert BundleErrorKind) → IsSigner material.content signer → checked bundle material signer ≡ Ok c → IsPassed bundle c
 passed bundle c material brought (Err e) signer is = absurd cc
 passed bundle c material brought (Ok certificate) signer is =
-    let content = went_on (signed bundle.content) _ c is in
-    let entry = went_on (entry_among material.tlog_entries) _ c content.2 in
-    let met = went_on (meets_profile bundle.media_type entry.0) _ c entry.2 in
+    let content = bind_ok (signed bundle.content) _ c is in
+    let entry = bind_ok (entry_among material.tlog_entries) _ c content.2 in
+    let met = bind_ok (meets_profile bundle.media_type entry.0) _ c entry.2 in
     let profile = profile-held bundle.media_type (version_of bundle.media_type) entry.0 met.0 met.1 in
-    subst (IsPassed bundle) (same_ok _ c met.2) (record {
+    subst (IsPassed bundle) (ok_is _ c met.2) (record {
       material = material;
       brought = brought;
       signer = signer-held material.content certificate signer;

@@ -5,6 +5,7 @@ use Rattle.std.proofs.lemmas.Slice.Eq.{bytes_eq-Decides}
 use Rattle.std.specs.Bool.{Decides}
 use Rattle.std.specs.List.{AllByRecursion, filter, flat_map}
 use Rattle.std.specs.Prelude.{codes, bytes_eq, ⊤}
+use Rattle.sig_base.proofs.ResultSteps.{ok_is, bind_ok, guard_ok}
 use Rattle.sig_base.specs.ResultSteps.{◌>>=◌}
 use Rattle.hex.specs.Hex.{decode_sized}
 use Rattle.sig_dsse.specs.declared.artifact_digest.ArtifactDigest.{ArtifactDigest}
@@ -22,9 +23,6 @@ Collected = Result (List ArtifactDigest) SubjectFault
 
 abbrev Entry : Type 0
 Entry = List ℕ × List ℕ
-
-same_ok : (a b : List ArtifactDigest) → ◌≡◌ {A = Collected} (Ok a) (Ok b) → a ≡ b
-same_ok a b e = cc
 
 -- ---- entry by entry
 
@@ -70,7 +68,7 @@ sha256-taken : {E : Type 0} → (name text : List ℕ) (decoded : Result (List �
     → (ds : List ArtifactDigest) → digest_or_malformed NamedSha256 Sha256 decoded ≡ Ok ds → AreEntriesOf ds ((name, text) ∷ [])
 sha256-taken name text (Err e) is reads ds taken = cc
 sha256-taken name text (Ok bytes) is reads ds taken =
-    subst (λ x. AreEntriesOf x ((name, text) ∷ [])) (same_ok (Sha256 bytes ∷ []) ds taken) ((is, (reads bytes).0 refl), tt)
+    subst (λ x. AreEntriesOf x ((name, text) ∷ [])) (ok_is (Sha256 bytes ∷ []) ds taken) ((is, (reads bytes).0 refl), tt)
 
 sha256-takes : {E : Type 0} → (name text : List ℕ) (decoded : Result (List ℕ) E) → name ≡ codes "sha256" → Reads decoded text 32
     → (ds : List ArtifactDigest) → AreEntriesOf ds ((name, text) ∷ []) → digest_or_malformed NamedSha256 Sha256 decoded ≡ Ok ds
@@ -84,7 +82,7 @@ sha512-taken : {E : Type 0} → (name text : List ℕ) (decoded : Result (List �
     → (ds : List ArtifactDigest) → digest_or_malformed NamedSha512 Sha512 decoded ≡ Ok ds → AreEntriesOf ds ((name, text) ∷ [])
 sha512-taken name text (Err e) is reads ds taken = cc
 sha512-taken name text (Ok bytes) is reads ds taken =
-    subst (λ x. AreEntriesOf x ((name, text) ∷ [])) (same_ok (Sha512 bytes ∷ []) ds taken) ((is, (reads bytes).0 refl), tt)
+    subst (λ x. AreEntriesOf x ((name, text) ∷ [])) (ok_is (Sha512 bytes ∷ []) ds taken) ((is, (reads bytes).0 refl), tt)
 
 sha512-takes : {E : Type 0} → (name text : List ℕ) (decoded : Result (List ℕ) E) → name ≡ codes "sha512" → Reads decoded text 64
     → (ds : List ArtifactDigest) → AreEntriesOf ds ((name, text) ∷ []) → digest_or_malformed NamedSha512 Sha512 decoded ≡ Ok ds
@@ -110,7 +108,7 @@ by_tests name text false true told_short told_long ds =
     let is = told_long.0 refl in
     (sha512-taken name text (decode_sized text 64) is reads ds, sha512-takes name text (decode_sized text 64) is reads ds)
 by_tests name text false false told_short told_long ds =
-    ((λ e. subst (λ x. AreEntriesOf x []) (same_ok [] ds e) tt), (λ all. rw (none-only ds all) refl))
+    ((λ e. subst (λ x. AreEntriesOf x []) (ok_is [] ds e) tt), (λ all. rw (none-only ds all) refl))
 
 entry_taken : (e : Entry) (ds : List ArtifactDigest) → (entry_digest e ≡ Ok ds) ↔ AreEntriesOf ds (known e)
 unfolding entry_digest
@@ -119,23 +117,19 @@ entry_taken e ds =
 
 -- ---- one thing after another
 
-bind_parts : {A B : Type 0} → (found : Result A SubjectFault) (f : A → Result B SubjectFault) (y : B) → (found >>= f) ≡ Ok y → (x : A) × (found ≡ Ok x) × (f x ≡ Ok y)
-bind_parts (Ok x) f y e = (x, refl, e)
-bind_parts (Err fault) f y e = cc
-
 -- what is taken of a thing: the digests of these entries, where this holds
 abbrev Takes : {A : Type 0} → (A → Collected) → (A → Type 0) → (A → List Entry) → Type 0
 Takes {A} f L entries = (x : A) (ds : List ArtifactDigest) → (f x ≡ Ok ds) ↔ (L x × AreEntriesOf ds (entries x))
 
 each-taken : {A : Type 0} → (f : A → Collected) (L : A → Type 0) (entries : A → List Entry) → Takes f L entries
     → (xs : List A) (ds : List ArtifactDigest) → digests_of_each f xs ≡ Ok ds → AllByRecursion L xs × AreEntriesOf ds (flat_map entries xs)
-each-taken f L entries takes [] ds e = (tt, subst (λ x. AreEntriesOf x []) (same_ok [] ds e) tt)
+each-taken f L entries takes [] ds e = (tt, subst (λ x. AreEntriesOf x []) (ok_is [] ds e) tt)
 each-taken f L entries takes (x ∷ xs) ds e =
-    let first = bind_parts (f x) _ ds e in
-    let others = bind_parts (digests_of_each f xs) _ ds first.2 in
+    let first = bind_ok (f x) _ ds e in
+    let others = bind_ok (digests_of_each f xs) _ ds first.2 in
     let here = (takes x first.0).0 first.1 in
     let there = each-taken f L entries takes xs others.0 others.1 in
-    ((here.0, there.0), subst (λ y. AreEntriesOf y (entries x ++ flat_map entries xs)) (same_ok (first.0 ++ others.0) ds others.2) (joined first.0 others.0 (entries x) (flat_map entries xs) here.1 there.1))
+    ((here.0, there.0), subst (λ y. AreEntriesOf y (entries x ++ flat_map entries xs)) (ok_is (first.0 ++ others.0) ds others.2) (joined first.0 others.0 (entries x) (flat_map entries xs) here.1 there.1))
 
 each-takes : {A : Type 0} → (f : A → Collected) (L : A → Type 0) (entries : A → List Entry) → Takes f L entries
     → (xs : List A) (ds : List ArtifactDigest) → AllByRecursion L xs → AreEntriesOf ds (flat_map entries xs) → digests_of_each f xs ≡ Ok ds
@@ -166,12 +160,7 @@ IsShort digests = length digests ≤ most_digests
 -- a limit that is kept, where something is taken
 unless_many : (n limit : ℕ) (fault : SubjectFault) (found : Collected) (ds : List ArtifactDigest) → cond (nat_lt limit n) (Err fault) found ≡ Ok ds → (n ≤ limit) × (found ≡ Ok ds)
 unless_many n limit fault found ds e =
-    elim (cases_Bool (nat_lt limit n)) [
-      | inl many ↦ absurd (refused (rw many at e))
-      | inr few ↦ (ltb-false limit n few, rw few at e)
-    ] where
-      refused : ◌≡◌ {A = Collected} (Err fault) (Ok ds) → ⊥
-      refused is = cc
+    let few = guard_ok (nat_lt limit n) fault found ds e in (ltb-false limit n few.0, few.1)
 
 maps_take : Takes map_digests IsShort (filter is_known)
 unfolding map_digests
@@ -189,7 +178,7 @@ maps_take m ds = (there, back) where
 
 some_same : (found ds : List ArtifactDigest) → not_none found ≡ Ok ds → (found ≡ ds) × (ds ≢ [])
 some_same [] ds e = cc
-some_same (x ∷ found) ds e = let same = same_ok (x ∷ found) ds e in (same, λ none. let two : x ∷ found ≡ [] = same ∙ none in cc)
+some_same (x ∷ found) ds e = let same = ok_is (x ∷ found) ds e in (same, λ none. let two : x ∷ found ≡ [] = same ∙ none in cc)
 
 some_back : (ds : List ArtifactDigest) → ds ≢ [] → not_none ds ≡ Ok ds
 some_back [] some = absurd (some refl)
@@ -205,7 +194,7 @@ takes_the_named statement ds = (there, back) where
   there : digests_or_fault statement ≡ Ok ds → AreTaken statement ds
   there taken =
       let few = unless_many (length (digest_maps statement)) most_subjects _ _ ds taken in
-      let found = bind_parts (digests_of_each map_digests (digest_maps statement)) not_none ds few.1 in
+      let found = bind_ok (digests_of_each map_digests (digest_maps statement)) not_none ds few.1 in
       let same = some_same found.0 ds found.2 in
       let each = each-taken map_digests IsShort (filter is_known) maps_take (digest_maps statement) found.0 found.1 in
       record {
