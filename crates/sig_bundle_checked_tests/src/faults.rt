@@ -2,7 +2,7 @@
 
 use crate::answer::answer;
 use crate::entries::entries;
-use crate::statement::statement;
+use crate::statement::{late_statement, statement};
 use sig_base::{Bytes, Entries, Text};
 use sig_bundle::{
     Bundle, Content, DsseEnvelope, DsseSignature, DsseSignatures, MaterialContent,
@@ -61,11 +61,14 @@ fn add_signature(alloc: Global, envelope: &mut DsseEnvelope) -> Option<()> {
     envelope.signatures.push(signature).ok()
 }
 
-/// The payload of this name: no statement, one of so many subjects of which the first is malformed, or one about the subjects of these names.
+/// The payload of this name: no statement, one of so many subjects of which the first is malformed or the last alone has a digest, or one about
+/// the subjects of these names.
 fn payload(alloc: Global, name: &str) -> Option<Bytes> {
     match name {
         "no-statement" => Bytes::copy_of(alloc, b"{}").ok(),
         "1025-and-zz" => payload_of(alloc, "zz", 1021).ok(),
+        "1023-nones-and-narrow" => late_statement(alloc, 1023),
+        "1024-nones-and-narrow" => late_statement(alloc, 1024),
         names => statement(alloc, names),
     }
 }

@@ -70,11 +70,25 @@ fn subjects(alloc: Global, names: &str) -> Option<String> {
     Some(text)
 }
 
-/// The statement about the subjects of these names, divided by `+`.
-pub(crate) fn statement(alloc: Global, names: &str) -> Option<Bytes> {
-    let subjects = subjects(alloc, names)?;
+/// The statement about these subjects.
+fn about(alloc: Global, subjects: &str) -> Option<Bytes> {
     let text = format!(in alloc;
         "{{\"_type\":\"\",\"predicateType\":\"\",\"subject\":[{subjects}]}}"
     ).ok()?;
     Bytes::copy_of(alloc, text.as_bytes()).ok()
+}
+
+/// The statement about the subjects of these names, divided by `+`.
+pub(crate) fn statement(alloc: Global, names: &str) -> Option<Bytes> {
+    about(alloc, subjects(alloc, names)?.as_str())
+}
+
+/// The statement about so many subjects without digests, and one with the SHA-256 digest behind them.
+pub(crate) fn late_statement(alloc: Global, count: usize) -> Option<Bytes> {
+    let mut text = String::new(alloc);
+    for _ in 0..count {
+        text.push_str("{\"digest\":{}},").ok()?;
+    }
+    text.push_str(subject(alloc, "narrow")?.as_str()).ok()?;
+    about(alloc, text.as_str())
 }

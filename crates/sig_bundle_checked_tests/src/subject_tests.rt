@@ -26,6 +26,8 @@ payload:zz+33-others => DsseSubjectDigestMalformed(Sha256)
 payload:wide-zz+zz => DsseSubjectDigestMalformed(Sha512)
 payload:narrow+none+wide-zz => DsseSubjectDigestMalformed(Sha512)
 payload:none+33-others => DsseTooManySubjectDigests(33)
+payload:1023-nones-and-narrow => Ok narrow
+payload:1024-nones-and-narrow => DsseTooManySubjects(1025)
 payload:1025-and-zz => DsseTooManySubjects(1025)"#;
 
 #[test]

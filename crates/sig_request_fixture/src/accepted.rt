@@ -118,7 +118,12 @@ fn push_log_rows(
     rows.push(message_row(alloc, key.as_slice(), promise, parts.promise.as_slice())?)?;
     let proof = proof_of_third(alloc, entry.canonicalized_body.as_slice())?;
     let note = note_of(alloc, proof.root_hash.as_slice())?;
-    rows.push(message_row(alloc, key.as_slice(), note.as_str().as_bytes(), NOTE_SIGNATURE)?)?;
+    rows.push(message_row(
+        alloc,
+        key.as_slice(),
+        note.as_str().as_bytes(),
+        NOTE_SIGNATURE,
+    )?)?;
     Ok(())
 }
 
