@@ -3,7 +3,7 @@
 //! The layer above uses three facts. A text is read as the bundle that its members are, exactly where they fit the table of the format. The text
 //! of a bundle is read back as that bundle. A bundle passes its own checks exactly where no refusal has its cause, and else gets the first:
 //! chains, signatures over an artifact alone and the profiles 0.1 and 0.2 are refused until they are read. What a bundle holds that passes, and
-//! what equality of bundles is, say `laws`.
+//! what equality of bundles and of their parts is, say `laws`.
 #![tactic(auto)]
 
 mod bundle;

@@ -1,7 +1,10 @@
 //! Bundles that differ in one part are not equal.
 
-use sig_bundle::laws::{equal_bundles, equal_entries};
-use sig_bundle::{Bundle, read_bundle};
+use sig_bundle::laws::{
+    equal_bundles, equal_contents, equal_entries, equal_kinds, equal_materials,
+    equal_message_signatures, equal_proofs, equal_signers,
+};
+use sig_bundle::{Bundle, Content, MessageSignature, read_bundle};
 use std::alloc::Global;
 
 /// A bundle with every member of an envelope.
@@ -83,4 +86,85 @@ fn bundles_of_another_entry_are_not_equal(rt: HostRuntime) {
     for line in ENTRY_PARTS.lines() {
         assert!(rt; is_other(rt.alloc(), line, false) == Some(true), "{line}");
     }
+}
+
+/// Whether the first log entries have equal kinds, and equal proofs.
+fn have_equal_members(one: &Bundle, other: &Bundle) -> Option<(bool, bool)> {
+    let one = one.verification_material.as_ref()?.tlog_entries.get(0)?;
+    let other = other.verification_material.as_ref()?.tlog_entries.get(0)?;
+    let kinds = equal_kinds(one.kind_version.as_ref()?, other.kind_version.as_ref()?);
+    let proofs = equal_proofs(
+        one.inclusion_proof.as_ref()?,
+        other.inclusion_proof.as_ref()?,
+    );
+    Some((kinds, proofs))
+}
+
+/// Whether the bundles have equal contents, and equal material and signers.
+fn have_equal_parts(one: &Bundle, other: &Bundle) -> Option<(bool, bool, bool)> {
+    let contents = equal_contents(one.content.as_ref()?, other.content.as_ref()?);
+    let one = one.verification_material.as_ref()?;
+    let other = other.verification_material.as_ref()?;
+    let signers = equal_signers(one.content.as_ref()?, other.content.as_ref()?);
+    Some((contents, equal_materials(one, other), signers))
+}
+
+/// The whole bundle, and that bundle with the change of a line.
+fn two(alloc: Global, line: &str) -> Option<(Bundle, Bundle)> {
+    Some((read(alloc, WHOLE)?, changed(alloc, line)?))
+}
+
+/// The parts that stay equal after the change of a line.
+fn equal_after(alloc: Global, line: &str) -> Option<(bool, bool, bool)> {
+    let (one, other) = two(alloc, line)?;
+    have_equal_parts(&one, &other)
+}
+
+/// The members of the entry that stay equal after the change of a line.
+fn equal_members_after(alloc: Global, line: &str) -> Option<(bool, bool)> {
+    let (one, other) = two(alloc, line)?;
+    have_equal_members(&one, &other)
+}
+
+#[test]
+fn a_part_is_equal_where_it_is_not_changed(rt: HostRuntime) {
+    let alloc = rt.alloc();
+    let media = "\"mediaType\":\"m\" => \"mediaType\":\"n\"";
+    assert!(rt; equal_after(alloc, media) == Some((true, true, true)));
+    let keyid = "\"keyid\":\"k\" => \"keyid\":\"l\"";
+    assert!(rt; equal_after(alloc, keyid) == Some((false, true, true)));
+    let chain = "\"rawBytes\":\"YQ==\" => \"rawBytes\":\"\"";
+    assert!(rt; equal_after(alloc, chain) == Some((true, false, false)));
+    let kind = "\"kind\":\"k\" => \"kind\":\"v\"";
+    assert!(rt; equal_after(alloc, kind) == Some((true, false, true)));
+    assert!(rt; equal_members_after(alloc, kind) == Some((false, true)));
+    let hashes = "\"hashes\":[\"aA==\"] => \"hashes\":[]";
+    assert!(rt; equal_members_after(alloc, hashes) == Some((true, false)));
+}
+
+/// The signature over an artifact that a text is.
+fn message_signature(alloc: Global, signature: &str) -> Option<MessageSignature> {
+    let text = format!(in alloc; "{{\"messageSignature\":{signature}}}").ok()?;
+    match read(alloc, text.as_str())?.content {
+        Some(Content::MessageSignature(signature)) => Some(signature),
+        _ => None,
+    }
+}
+
+/// Whether these two are equal.
+fn are_equal(alloc: Global, one: &str, other: &str) -> Option<bool> {
+    let one = message_signature(alloc, one)?;
+    let other = message_signature(alloc, other)?;
+    Some(equal_message_signatures(&one, &other))
+}
+
+#[test]
+fn signatures_of_other_parts_are_not_equal(rt: HostRuntime) {
+    let alloc = rt.alloc();
+    let whole = "{\"signature\":\"cw==\",\"messageDigest\":{\"digest\":\"ZA==\"}}";
+    assert!(rt; are_equal(alloc, whole, whole) == Some(true));
+    let undigested = "{\"signature\":\"cw==\"}";
+    assert!(rt; are_equal(alloc, whole, undigested) == Some(false));
+    let unsigned = "{\"messageDigest\":{\"digest\":\"ZA==\"}}";
+    assert!(rt; are_equal(alloc, whole, unsigned) == Some(false));
 }
