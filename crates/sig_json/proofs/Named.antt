@@ -13,6 +13,8 @@ use Rattle.std.specs.Str.{IsUtf8}
 use Rattle.std.specs.String.{string_bytes, string_cmp}
 use Rattle.std.specs.declared.cmp.Ordering.{Ordering}
 use Rattle.std.specs.declared.cmp.Ordering.TheVariants.{Less, Equal, Greater}
+use Rattle.sig_base.proofs.Texts.{ascend-entries}
+use Rattle.sig_base.specs.ByText.{KeysAscend, text_entries}
 use Rattle.serde_json.proofs.Views.{view-Array, view-Object}
 use Rattle.serde_json.specs.Data.{Num, Data, null, boolean, number, string, array, object, Items, no_items, item, Members, no_members, member, put}
 use Rattle.serde_json.specs.Find.{get, at, get_member, get_item, as_object, as_array}
@@ -23,7 +25,7 @@ use Rattle.sig_json.proofs.MemberOrder.{all_keys, ascend-insert_entry, object_ex
 use Rattle.sig_json.specs.Builders.{with_member, with_last, items_with_last}
 use Rattle.sig_json.specs.Canonical.{canon}
 use Rattle.sig_json.specs.Members.{members_list}
-use Rattle.sig_json.specs.Named.{names_of, NamesAscend, IsNamed, AreNamed, HasNamedValues}
+use Rattle.sig_json.specs.Named.{NamesAscend, IsNamed, AreNamed, HasNamedValues}
 use Rattle.sig_json.specs.Order.{HasNames, KeepsOrder}
 
 -- ---- what a walk finds
@@ -41,21 +43,16 @@ list_named v named = subst IsNamed (sym (view-Array v)) named
 pub object_named : (m : BTreeMap (String Global) Value) → NamesAscend (members_view m.entries) × HasNamedValues (members_view m.entries) → IsNamed (view (Object m))
 object_named m named = subst IsNamed (sym (view-Object m)) named
 
-below_names : (key : String Global) (es : List (String Global × Value)) → AllByRecursion (λ k. string_cmp key k ≡ Less) (keys_of es) → AllByRecursion (λ other. slice_cmp nat_cmp (string_bytes key) other ≡ Less) (names_of (members_view es))
-below_names key [] below = tt
-below_names key (e ∷ es) below = (below.0, below_names key es below.1)
-
-texts_names : (es : List (String Global × Value)) → AllByRecursion IsUtf8 (names_of (members_view es))
+texts_names : (es : List (String Global × Value)) → AllByRecursion IsUtf8 (keys_of (members_list (members_view es)))
 texts_names [] = tt
 texts_names (e ∷ es) = (IsUtf8-string_bytes e.0, texts_names es)
 
-ascending : (es : List (String Global × Value)) → IsStrictlySortedBy string_cmp (keys_of es) → IsStrictlySortedBy (slice_cmp nat_cmp) (names_of (members_view es))
-unfolding IsStrictlySortedBy
-ascending [] up = tt
-ascending (e ∷ es) up = (below_names e.0 es up.0, ascending es up.1)
+names_are : (es : List (String Global × Value)) → keys_of (text_entries es) ≡ keys_of (members_list (members_view es))
+names_are [] = refl
+names_are (e ∷ es) = ap (λ names. string_bytes e.0 ∷ names) (names_are es)
 
 pub names_ascend : (es : List (String Global × Value)) → IsStrictlySortedBy string_cmp (keys_of es) → NamesAscend (members_view es)
-names_ascend es up = (texts_names es, ascending es up)
+names_ascend es up = (texts_names es, subst (IsStrictlySortedBy (slice_cmp nat_cmp)) (names_are es) (ascend-entries es up))
 
 pub ruleset names_found = (named_more, list_named, object_named, names_ascend)
 
@@ -69,14 +66,10 @@ unlike name (n ∷ ns) below = (
   unlike name ns below.1,
 )
 
-names_are : (ms : Members) → names_of ms ≡ keys_of (members_list ms)
-names_are no_members = refl
-names_are (member name d ms) = ap (λ names. name ∷ names) (names_are ms)
-
 pub names_differ : (ms : Members) → NamesAscend ms → HasNames ms
 unfolding IsStrictlySortedBy
 names_differ no_members up = tt
-names_differ (member name d ms) up = (up.0.0, subst (λ names. AllByRecursion (λ other. name ≢ other) names) (names_are ms) (unlike name (names_of ms) up.1.0), names_differ ms (up.0.1, up.1.1))
+names_differ (member name d ms) up = (up.0.0, unlike name (keys_of (members_list ms)) up.1.0, names_differ ms (up.0.1, up.1.1))
 
 pub keeps_order : (d : Data) (text : List ℕ) → IsNamed d → canon d ≡ Some text → KeepsOrder d text
 keeps_order null text named is = tt
@@ -136,11 +129,19 @@ as_object_named (string s) ms named e = absurd cc
 as_object_named (array ds) ms named e = absurd cc
 as_object_named (object ns) ms named e = let same : ns ≡ ms = cc in subst HasNamedValues same named.1
 
+pub as_object_ascends : (d : Data) (ms : Members) → IsNamed d → Some ms ≡ as_object d → KeysAscend (members_list ms)
+as_object_ascends null ms named e = absurd cc
+as_object_ascends (boolean b) ms named e = absurd cc
+as_object_ascends (number n) ms named e = absurd cc
+as_object_ascends (string s) ms named e = absurd cc
+as_object_ascends (array ds) ms named e = absurd cc
+as_object_ascends (object ns) ms named e = let same : ns ≡ ms = cc in subst (λ l. KeysAscend (members_list l)) same named.0.1
+
 -- a walk's next member, and what is left of it
 pub next_named : (d : Data) (ms : Members) (name : List ℕ) → HasNamedValues (member name d ms) → IsNamed d × HasNamedValues ms
 next_named d ms name named = named
 
-pub ruleset named = (get_named, at_named, as_object_named, next_named)
+pub ruleset named = (get_named, at_named, as_object_named, as_object_ascends, next_named)
 
 -- ---- what is built
 
@@ -155,9 +156,7 @@ members_list-put k d (member l e ms) = list_either (slice_cmp nat_cmp k l) _ _ _
 
 ascend-put : (k : List ℕ) (d : Data) (ms : Members) → IsUtf8 k → NamesAscend ms → NamesAscend (put k d ms)
 ascend-put k d ms utf8 up =
-    let P : List (List ℕ) → Type 0 = λ names. AllByRecursion IsUtf8 names × IsStrictlySortedBy (slice_cmp nat_cmp) names in
-    let before : P (keys_of (members_list ms)) = subst P (names_are ms) up in
-    subst P (sym (names_are (put k d ms) ∙ ap (λ es. keys_of es) (members_list-put k d ms))) (all_keys (slice_cmp nat_cmp) IsUtf8 (members_list ms) k d before.0 utf8, ascend-insert_entry (slice_cmp nat_cmp) nat_list_cmp_total (members_list ms) k d before.1)
+    rw (members_list-put k d ms) (all_keys (slice_cmp nat_cmp) IsUtf8 (members_list ms) k d up.0 utf8, ascend-insert_entry (slice_cmp nat_cmp) nat_list_cmp_total (members_list ms) k d up.1)
 
 either_values : (o : Ordering) (a b c : Members) → HasNamedValues a → HasNamedValues b → HasNamedValues c → HasNamedValues (match_ordering o a b c)
 either_values Less a b c p q r = p

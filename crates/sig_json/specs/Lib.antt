@@ -19,6 +19,7 @@ pub mod SameTree
 pub mod SeenAs
 pub mod Spells
 pub mod Tree
+pub mod Walk
 pub mod Writes
 -- the trees, the words that look into them, and what texts they are read from and written as
 pub use Rattle.serde_json.specs.Data

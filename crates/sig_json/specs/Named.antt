@@ -1,19 +1,15 @@
 -- *Named trees*: the names of each object are texts in byte order, as the keys of a map from strings are.
-use Rattle.std.specs.Prelude.{ℕ, List, [], ◌∷◌, ⊤}
-use Rattle.std.specs.Cmp.Lexicographic.{slice_cmp}
+use Rattle.std.specs.Prelude.{⊤}
 use Rattle.std.specs.List.{AllByRecursion}
-use Rattle.std.specs.List.Sorted.{IsStrictlySortedBy}
-use Rattle.std.specs.Ordering.{nat_cmp}
+use Rattle.std.specs.Map.{keys_of}
 use Rattle.std.specs.Str.{IsUtf8}
+use Rattle.sig_base.specs.ByText.{KeysAscend}
 use Rattle.serde_json.specs.Data.{Data, null, boolean, number, string, array, object, Items, no_items, item, Members, no_members, member}
-
-abbrev pub names_of : Members → List (List ℕ)
-names_of no_members = []
-names_of (member name d ms) = name ∷ names_of ms
+use Rattle.sig_json.specs.Members.{members_list}
 
 -- each name is a text (UTF-8), and below those after it in byte order: so none is there twice
 abbrev pub NamesAscend : Members → Type 0
-NamesAscend ms = AllByRecursion IsUtf8 (names_of ms) × IsStrictlySortedBy (slice_cmp nat_cmp) (names_of ms)
+NamesAscend ms = AllByRecursion IsUtf8 (keys_of (members_list ms)) × KeysAscend (members_list ms)
 
 -- the names of each object of a tree, at every depth
 abbrev mutual

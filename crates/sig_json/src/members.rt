@@ -19,7 +19,7 @@ pub struct Members<'a> {
 
 impl<'a> Iterator for Members<'a> {
     ghost use Rattle.std.specs.Iterator.{YieldsFirstBy, item_count};
-    ghost use Rattle.sig_json.specs.Members.{shown, members_left};
+    ghost use Rattle.sig_json.specs.Walk.{shown, members_left};
 
     type Item = (&'a str, Json<'a>);
 
@@ -38,13 +38,16 @@ impl<'a> Iterator for Members<'a> {
 
 #[tactic(auto, using(crate::proofs::Floatless::floatless, crate::proofs::Named::named))]
 impl<'a> Json<'a> {
-    ghost use Rattle.std.specs.Prelude.{option_map};
-    ghost use Rattle.sig_json.specs.Members.{members_of, members_left};
+    ghost use Rattle.std.specs.Prelude.{IfSome, option_map};
+    ghost use Rattle.sig_base.specs.ByText.{KeysAscend};
+    ghost use Rattle.sig_json.specs.Members.{members_of};
     ghost use Rattle.sig_json.specs.Tree.{tree};
+    ghost use Rattle.sig_json.specs.Walk.{members_left};
 
-    /// The members of an object, in the byte order of their names; none where the value is no object. It takes no memory.
+    /// The members of an object, in the byte order of their names, each name once; none where the value is no object. It takes no memory.
     pub fn members(self) -> Option<Members<'a>>
-        ensures { option_map members_left result ≡ members_of (tree self.entry) }
+        ensures value { option_map members_left result ≡ members_of (tree self.entry) }
+        ensures ordered { IfSome result (λ members. KeysAscend (members_left members)) }
     {
         match self.value.as_object() {
             Some(members) => Some(Members {
