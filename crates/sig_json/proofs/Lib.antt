@@ -15,5 +15,6 @@ pub mod Units
 pub mod MemberOrder
 pub mod Named
 pub mod MemberTexts
+pub mod Large
 -- what is found in a tree that members were put into
 pub use Rattle.serde_json.proofs.Views

@@ -5,6 +5,7 @@ pub mod Choice
 pub mod Document
 pub mod Integer
 pub mod Kinds
+pub mod Large
 pub mod List
 pub mod Member
 pub mod Members

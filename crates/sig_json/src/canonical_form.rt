@@ -1,11 +1,12 @@
 //! The canonical text of a tree (RFC 8785).
 ghost use Rattle.std.specs.Fmt.{signed_decimal};
 ghost use Rattle.std.specs.Map.{values_of};
-ghost use Rattle.std.specs.Prelude.{◌≡◌, ◌++◌, Some, IfOk, OnOk, [], map, string_bytes, option_and_then};
+ghost use Rattle.std.specs.Prelude.{◌≡◌, ◌++◌, Some, IfOk, IfErr, IsTrue, IsFalse, OnOk, [], map, string_bytes, option_and_then};
 ghost use Rattle.sig_base.specs.Answers.{Answers};
 ghost use Rattle.serde_json.specs.Find.{as_integer};
 ghost use Rattle.serde_json.specs.View.{view, number_view, items_view, members_view};
 ghost use Rattle.sig_json.specs.Canonical.{canon, canon_integer, canon_string, canon_items, canon_members, canonical_of, in_braces, in_brackets, utf16_units};
+ghost use Rattle.sig_json.specs.Large.{has_large};
 ghost use Rattle.sig_json.specs.Order.{HasNames, KeepsOrder};
 ghost use Rattle.sig_json.specs.Tree.{tree};
 ghost use Rattle.sig_json.specs.Writes.{Writes, comma_before, by_units, member_text, shown, texts_in_turn};
@@ -21,10 +22,12 @@ use std::collections::BTreeMap;
 const GREATEST_INTEGER: u128 = 9_007_199_254_740_991;
 
 /// The canonical text of a value (RFC 8785): members in the order of the UTF-16 code units of their names, no white space, the shortest escapes.
-/// Refuses with `IntegerTooLarge` exactly where an integer is beyond plus or minus 2^53 - 1.
-#[tactic(auto, using(crate::proofs::Named::named_orders))]
+/// Refuses with `IntegerTooLarge` exactly where the value holds an integer beyond plus or minus 2^53 - 1, at any depth (`laws::large_integers`).
+#[tactic(auto, using(crate::proofs::Named::named_orders, crate::proofs::Large::large_integers))]
 pub fn canonical(alloc: Global, json: Json<'_>) -> Result<Text, CanonicalError>
     ensures answer { Answers CanonicalError.OutOfMemory (λ text. text) result (canonical_of (tree json.entry)) }
+    ensures large { IfErr result (λ e. e ≡ CanonicalError.IntegerTooLarge → IsTrue (has_large (tree json.entry))) }
+    ensures small { IfOk result (λ _. IsFalse (has_large (tree json.entry))) }
     ensures ordered { IfOk result (KeepsOrder (tree json.entry)) }
 {
     let mut out = String::new(alloc);

@@ -1,5 +1,5 @@
 //! What the definitions of trees and of canonical JSON mean, in the subject's words. It has no code.
-ghost use Rattle.std.specs.Prelude.{◌≡◌, ◌≢◌, ◌↔◌, ◌++◌, ℕ, List, [], ◌∷◌, Some, IsSome, IsTrue, false, map, chars};
+ghost use Rattle.std.specs.Prelude.{◌≡◌, ◌≢◌, ◌↔◌, ◌++◌, ℕ, List, [], ◌∷◌, Some, None, IsSome, IsTrue, false, map, chars};
 ghost use Rattle.std.specs.Char.Utf16.{utf16_chars};
 ghost use Rattle.std.specs.Map.{values_of};
 ghost use Rattle.std.specs.Str.{IsUtf8};
@@ -8,6 +8,7 @@ ghost use Rattle.serde_json.specs.Find.{as_object, get};
 ghost use Rattle.serde_json.specs.Written.{has_float};
 ghost use Rattle.sig_json.specs.Builders.{with_last, with_member};
 ghost use Rattle.sig_json.specs.Canonical.{Sorted, canon, canon_members, in_braces, utf16_units};
+ghost use Rattle.sig_json.specs.Large.{has_large};
 ghost use Rattle.sig_json.specs.List.{list_of};
 ghost use Rattle.sig_json.specs.Named.{IsNamed, NamesAscend};
 ghost use Rattle.sig_json.specs.Order.{HasNames, UnitsAscend, IsInOrder};
@@ -32,6 +33,12 @@ pub fn members_in_order()
         → (canon_members ms [] ≡ Some sorted) ↔ IsInOrder ms sorted }
     ensures ascend { (ms : Members) (sorted : Sorted)
         → canon_members ms [] ≡ Some sorted → UnitsAscend sorted }
+{}
+
+/// A tree without floats has no canonical text exactly where it holds an integer beyond plus or minus 2^53 - 1, at any depth.
+pub fn large_integers()
+    ensures exact { (d : Data) → has_float d ≡ false
+        → (canon d ≡ None) ↔ IsTrue (has_large d) }
 {}
 
 /// In every document, read or built, and in every view of one, the names of each object are texts that ascend in byte order, at every depth: the
