@@ -28,7 +28,7 @@ use Rattle.sig_json.specs.Members.{members_list}
 use Rattle.sig_json.specs.Order.{HasNames, member_texts, UnitsAscend, IsInOrder}
 use Rattle.sig_json.proofs.Units.{units_distinct}
 
-some_same : {A : Type 0} (x y : A) → Some x ≡ Some y → x ≡ y
+pub some_same : {A : Type 0} (x y : A) → Some x ≡ Some y → x ≡ y
 some_same x y is = cc
 
 -- ---- a new entry leaves the order

@@ -1,6 +1,7 @@
 -- The names of the objects of a tree ascend in byte order, at every depth: as a walk finds it, as a look inside keeps it, as the builders keep it.
-use Rattle.std.proofs.Common.{◌≡◌, ◌≢◌, ℕ, zero, suc, ◌+◌, ◌<◌, List, [], ◌∷◌, ◌++◌, length, drop, get_or, Option, Some, String, Vec, BTreeMap, Global, sym, subst, refl, ap, ◌∙◌}
+use Rattle.std.proofs.Common.{◌≡◌, ◌≢◌, ℕ, zero, suc, ◌+◌, ◌<◌, List, [], ◌∷◌, ◌++◌, length, drop, get_or, Option, Some, None, option_map, String, Vec, BTreeMap, Global, sym, subst, refl, ap, ◌∙◌}
 use Rattle.std.proofs.lemmas.Cmp.{nat_list_cmp_total, tied_itself}
+use Rattle.std.proofs.lemmas.Iterator.Adapters.{option_map_id}
 use Rattle.std.proofs.lemmas.List.{at_drop_more}
 use Rattle.std.proofs.lemmas.Str.{IsUtf8-string_bytes}
 use Rattle.std.specs.BTreeMap.{insert_entry}
@@ -9,10 +10,12 @@ use Rattle.std.specs.List.{AllByRecursion}
 use Rattle.std.specs.List.Sorted.{IsStrictlySortedBy}
 use Rattle.std.specs.Map.{keys_of}
 use Rattle.std.specs.Ordering.{nat_cmp, match_ordering}
+use Rattle.std.specs.Prelude.{codes}
 use Rattle.std.specs.Str.{IsUtf8}
 use Rattle.std.specs.String.{string_bytes, string_cmp}
 use Rattle.std.specs.declared.cmp.Ordering.{Ordering}
 use Rattle.std.specs.declared.cmp.Ordering.TheVariants.{Less, Equal, Greater}
+use Rattle.sig_base.specs.OptionSteps.{◌>>=◌}
 use Rattle.sig_base.proofs.Texts.{ascend-entries}
 use Rattle.sig_base.specs.ByText.{KeysAscend, text_entries}
 use Rattle.serde_json.proofs.Views.{view-Array, view-Object}
@@ -21,12 +24,12 @@ use Rattle.serde_json.specs.Find.{get, at, get_member, get_item, as_object, as_a
 use Rattle.serde_json.specs.View.{view, items_view, members_view}
 use Rattle.serde_json.specs.declared.value.Value.{Value, Array, Object}
 use Rattle.sig_json.proofs.Building.{pushed, with_member-object}
-use Rattle.sig_json.proofs.MemberOrder.{all_keys, ascend-insert_entry, object_exact}
+use Rattle.sig_json.proofs.MemberOrder.{all_keys, ascend-insert_entry, object_exact, some_same}
 use Rattle.sig_json.specs.Builders.{with_member, with_last, items_with_last}
-use Rattle.sig_json.specs.Canonical.{canon}
+use Rattle.sig_json.specs.Canonical.{Sorted, canon, canon_items, canon_string, in_brackets, utf16_units}
 use Rattle.sig_json.specs.Members.{members_list}
 use Rattle.sig_json.specs.Named.{NamesAscend, IsNamed, AreNamed, HasNamedValues}
-use Rattle.sig_json.specs.Order.{HasNames, KeepsOrder}
+use Rattle.sig_json.specs.Order.{HasNames, KeepsOrder, InTurn, ValuesKeepOrder, member_texts}
 
 -- ---- what a walk finds
 
@@ -71,15 +74,44 @@ unfolding IsStrictlySortedBy
 names_differ no_members up = tt
 names_differ (member name d ms) up = (up.0.0, unlike name (keys_of (members_list ms)) up.1.0, names_differ ms (up.0.1, up.1.1))
 
-pub keeps_order : (d : Data) (text : List ℕ) → IsNamed d → canon d ≡ Some text → KeepsOrder d text
-keeps_order null text named is = tt
-keeps_order (boolean b) text named is = tt
-keeps_order (number n) text named is = tt
-keeps_order (string s) text named is = tt
-keeps_order (array ds) text named is = tt
-keeps_order (object ms) text named is = (object_exact ms (names_differ ms named.0) text).0 is
+-- what a step after another gives comes from both
+after_parts : {A B : Type 0} → (found : Option A) (f : A → Option B) (y : B) → (found >>= f) ≡ Some y → (x : A) × (found ≡ Some x) × (f x ≡ Some y)
+after_parts None f y is = absurd cc
+after_parts (Some x) f y is = (x, refl, is)
 
-pub ruleset named_orders = (keeps_order)
+mutual
+  pub keeps_order : (d : Data) (text : List ℕ) → IsNamed d → canon d ≡ Some text → KeepsOrder d text
+  keeps_order null text named is = tt
+  keeps_order (boolean b) text named is = tt
+  keeps_order (number n) text named is = tt
+  keeps_order (string s) text named is = tt
+  keeps_order (array ds) text named is =
+      let parts = after_parts (canon_items ds) _ text is in
+      (parts.0, in_turn ds parts.0 named parts.1, some_same text (in_brackets parts.0) (sym parts.2))
+  keeps_order (object ms) text named is =
+      let order = (object_exact ms (names_differ ms named.0) text).0 is in
+      (order, values_keep_order ms order.1.texts named.1 order.1.are)
+
+  in_turn : (ds : Items) (texts : List (List ℕ)) → AreNamed ds → canon_items ds ≡ Some texts → InTurn ds texts
+  in_turn no_items [] named are = tt
+  in_turn no_items (text ∷ texts) named are = absurd cc
+  in_turn (item d ds) texts named are =
+      let first = after_parts (canon d) _ texts are in
+      let rest = after_parts (canon_items ds) _ texts first.2 in
+      subst (InTurn (item d ds)) (some_same (first.0 ∷ rest.0) texts rest.2) (first.1, keeps_order d first.0 named.0 first.1, in_turn ds rest.0 named.1 rest.1)
+
+  values_keep_order : (ms : Members) (texts : Sorted) → HasNamedValues ms → member_texts ms ≡ Some texts → ValuesKeepOrder ms
+  values_keep_order no_members texts named are = tt
+  values_keep_order (member name d ms) texts named are =
+      let first = after_parts (canon d) _ texts are in
+      let rest = after_parts (member_texts ms) _ texts first.2 in
+      ((first.0, first.1, keeps_order d first.0 named.0 first.1), values_keep_order ms rest.0 named.1 rest.1)
+
+-- what is written on an empty text
+pub written_in_order : (d : Data) (before after text : List ℕ) → IsNamed d → before ≡ [] → option_map (λ text. before ++ text) (canon d) ≡ Some after → text ≡ after → KeepsOrder d text
+written_in_order d before after text named none written is =
+    let same : canon d ≡ Some after = sym (option_map_id (canon d)) ∙ rw none at written in
+    keeps_order d text named (same ∙ ap Some (sym is))
 
 -- ---- what is looked up
 

@@ -7,8 +7,8 @@ use Rattle.std.specs.Map.{keys_of, values_of}
 use Rattle.std.specs.Ordering.{nat_cmp}
 use Rattle.std.specs.Str.{IsUtf8}
 use Rattle.sig_base.specs.OptionSteps.{◌>>=◌}
-use Rattle.serde_json.specs.Data.{Data, null, boolean, number, string, array, object, Members, no_members, member}
-use Rattle.sig_json.specs.Canonical.{Sorted, canon, canon_string, in_braces, utf16_units}
+use Rattle.serde_json.specs.Data.{Data, null, boolean, number, string, array, object, Items, no_items, item, Members, no_members, member}
+use Rattle.sig_json.specs.Canonical.{Sorted, canon, canon_string, in_braces, in_brackets, utf16_units}
 use Rattle.sig_json.specs.Members.{members_list}
 
 -- each name is a text (UTF-8), and no later member has it too
@@ -32,11 +32,23 @@ pub record IsInOrder (ms : Members) (sorted : Sorted) : Type 0 where
   pub moved : IsPermutation texts sorted
   pub ascend : UnitsAscend sorted
 
--- the text of an object is its members' texts in order; of any other value nothing is said
-abbrev pub KeepsOrder : Data → List ℕ → Type 0
-KeepsOrder null text = ⊤
-KeepsOrder (boolean b) text = ⊤
-KeepsOrder (number n) text = ⊤
-KeepsOrder (string s) text = ⊤
-KeepsOrder (array ds) text = ⊤
-KeepsOrder (object ms) text = (sorted : Sorted) × IsInOrder ms sorted × (text ≡ in_braces (values_of sorted))
+-- the text of an object is its members' texts in order, and that of a list its elements' texts in turn, at every depth: each element's and each
+-- member's canonical text keeps the order too
+abbrev mutual
+  pub KeepsOrder : Data → List ℕ → Type 0
+  KeepsOrder null text = ⊤
+  KeepsOrder (boolean b) text = ⊤
+  KeepsOrder (number n) text = ⊤
+  KeepsOrder (string s) text = ⊤
+  KeepsOrder (array ds) text = (texts : List (List ℕ)) × InTurn ds texts × (text ≡ in_brackets texts)
+  KeepsOrder (object ms) text = ((sorted : Sorted) × IsInOrder ms sorted × (text ≡ in_braces (values_of sorted))) × ValuesKeepOrder ms
+
+  -- one text for each element
+  pub InTurn : Items → List (List ℕ) → Type 0
+  InTurn no_items [] = ⊤
+  InTurn (item d ds) (text ∷ texts) = (canon d ≡ Some text) × KeepsOrder d text × InTurn ds texts
+  InTurn ds texts = ⊥
+
+  pub ValuesKeepOrder : Members → Type 0
+  ValuesKeepOrder no_members = ⊤
+  ValuesKeepOrder (member name d ms) = ((text : List ℕ) × (canon d ≡ Some text) × KeepsOrder d text) × ValuesKeepOrder ms

@@ -21,9 +21,10 @@ use std::collections::BTreeMap;
 /// The greatest integer that a number of 64 bits (IEEE 754) keeps apart from its neighbours: 2^53 - 1.
 const GREATEST_INTEGER: u128 = 9_007_199_254_740_991;
 
-/// The canonical text of a value (RFC 8785): members in the order of the UTF-16 code units of their names, no white space, the shortest escapes.
+/// The canonical text of a value (RFC 8785): members in the order of the UTF-16 code units of their names, at every depth, no white space, the
+/// shortest escapes.
 /// Refuses with `IntegerTooLarge` exactly where the value holds an integer beyond plus or minus 2^53 - 1, at any depth (`laws::large_integers`).
-#[tactic(auto, using(crate::proofs::Named::named_orders, crate::proofs::Large::large_integers))]
+#[tactic(auto, using(crate::proofs::Large::large_integers))]
 pub fn canonical(alloc: Global, json: Json<'_>) -> Result<Text, CanonicalError>
     ensures answer { Answers CanonicalError.OutOfMemory (λ text. text) result (canonical_of (tree json.entry)) }
     ensures large { IfErr result (λ e. e ≡ CanonicalError.IntegerTooLarge → IsTrue (has_large (tree json.entry))) }
