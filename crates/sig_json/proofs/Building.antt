@@ -1,28 +1,23 @@
 -- What the builders make of a tree.
-use Rattle.std.proofs.Common.{String, Vec, BTreeMap, Global, ◌≡◌, ℕ, List, [], ◌∷◌, ◌++◌, Some, None, false, ◌||◌, refl, sym, ap}
+use Rattle.std.proofs.Common.{String, Vec, BTreeMap, Global, ◌≡◌, ℕ, List, [], ◌∷◌, ◌++◌, Some, None, false, ◌||◌, refl, sym, ap, ◌∙◌}
 use Rattle.std.proofs.lemmas.Bool.{or_parts, or_from}
 use Rattle.std.specs.Cmp.Lexicographic.{slice_cmp}
-use Rattle.std.specs.Ordering.{nat_cmp, match_ordering}
-use Rattle.std.specs.declared.cmp.Ordering.{Ordering}
-use Rattle.std.specs.declared.cmp.Ordering.TheVariants.{Less, Equal, Greater}
+use Rattle.std.specs.Ordering.{nat_cmp}
 use Rattle.serde_json.specs.Data.{Data, null, boolean, number, string, array, object, Items, no_items, item, Members, no_members, member, put}
 use Rattle.serde_json.specs.Find.{as_array, as_object}
 use Rattle.serde_json.proofs.Views.{view-Array, view-Object}
 use Rattle.serde_json.specs.View.{view, items_view, members_view}
 use Rattle.serde_json.specs.Written.{has_float, items_have_float, members_have_float}
 use Rattle.serde_json.specs.declared.value.Value.{Value, Array, Object}
+use Rattle.sig_json.proofs.ByKind.{as_array_is, as_object_is}
+use Rattle.sig_json.proofs.ByOrdering.{holds_of_choice}
 use Rattle.sig_json.specs.Builders.{with_member, with_last, items_with_last}
-
-either_floatless : (o : Ordering) (a b c : Members) → members_have_float a ≡ false → members_have_float b ≡ false → members_have_float c ≡ false → members_have_float (match_ordering o a b c) ≡ false
-either_floatless Less a b c p q r = p
-either_floatless Equal a b c p q r = q
-either_floatless Greater a b c p q r = r
 
 put_floatless : (name : List ℕ) (value : Data) (ms : Members) → has_float value ≡ false → members_have_float ms ≡ false → members_have_float (put name value ms) ≡ false
 put_floatless name value no_members one rest = or_from (has_float value) false one refl
 put_floatless name value (member k d ms) one rest =
     let parts = or_parts (has_float d) (members_have_float ms) rest in
-    either_floatless (slice_cmp nat_cmp name k) (member name value (member k d ms)) (member k value ms) (member k d (put name value ms))
+    holds_of_choice (λ ms. members_have_float ms ≡ false) (slice_cmp nat_cmp name k) (member name value (member k d ms)) (member k value ms) (member k d (put name value ms))
     (or_from (has_float value) (has_float d || members_have_float ms) one rest)
     (or_from (has_float value) (members_have_float ms) one parts.1)
     (or_from (has_float d) (members_have_float (put name value ms)) parts.0 (put_floatless name value ms one parts.1))
@@ -36,12 +31,7 @@ with_member_floatless name value (array ds) one whole = whole
 with_member_floatless name value (object ms) one whole = put_floatless name value ms one whole
 
 pub with_member-object : (name : List ℕ) (value tree : Data) (ms : Members) → Some ms ≡ as_object tree → with_member name value tree ≡ object (put name value ms)
-with_member-object name value null ms e = cc
-with_member-object name value (boolean b) ms e = cc
-with_member-object name value (number n) ms e = cc
-with_member-object name value (string s) ms e = cc
-with_member-object name value (array ds) ms e = cc
-with_member-object name value (object ns) ms e = let same : ms ≡ ns = cc in rw same refl
+with_member-object name value tree ms e = ap (with_member name value) (as_object_is tree ms e)
 
 pub with_member-other : (name : List ℕ) (value tree : Data) → None ≡ as_object tree → with_member name value tree ≡ tree
 with_member-other name value null e = refl
@@ -70,12 +60,8 @@ items_view-append [] last = refl
 items_view-append (v ∷ vs) last = ap (λ rest. item (view v) rest) (items_view-append vs last)
 
 with_last-array : (tree : Data) (values : List Value) (last : Value) → Some (items_view values) ≡ as_array tree → with_last (view last) tree ≡ array (items_view (values ++ last ∷ []))
-with_last-array null values last e = cc
-with_last-array (boolean b) values last e = cc
-with_last-array (number n) values last e = cc
-with_last-array (string s) values last e = cc
-with_last-array (array ds) values last e = let same : ds ≡ items_view values = cc in rw (same, items_view-append values last) refl
-with_last-array (object ms) values last e = cc
+with_last-array tree values last e =
+    ap (with_last (view last)) (as_array_is tree (items_view values) e) ∙ ap array (sym (items_view-append values last))
 
 pub with_last-other : (value tree : Data) → None ≡ as_array tree → with_last value tree ≡ tree
 with_last-other value null e = refl

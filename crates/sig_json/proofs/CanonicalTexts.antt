@@ -1,6 +1,8 @@
 -- Canonical texts, part by part, as the code writes them.
-use Rattle.std.proofs.Common.{◌≡◌, ◌==◌, ◌||◌, ℕ, ◌+◌, ◌<◌, ◌/◌, ◌%◌, Bool, true, false, cond, nat_lt, List, [], ◌∷◌, ◌++◌, length, take, get_or, String, Global, string_bytes, inl, inr, subst, refl, sym, ap, ◌∙◌, append_assoc}
+use Rattle.std.proofs.Common.{◌≡◌, ◌==◌, ◌||◌, ℕ, ◌<◌, ◌/◌, ◌%◌, Bool, true, false, cond, nat_lt, List, [], ◌∷◌, ◌++◌, length, take, get_or, String, Global, string_bytes, inl, inr, subst, refl, sym, ap, ◌∙◌}
+use Rattle.std.proofs.Math.Seq.{take-length}
 use Rattle.std.proofs.lemmas.Bool.{eqb-true, or_cases}
+use Rattle.std.proofs.lemmas.Grind.{flat_map-append}
 use Rattle.std.proofs.lemmas.List.{append-nil, take_more, length_push}
 use Rattle.std.specs.Char.Escape.{encode_utf16}
 use Rattle.std.specs.Char.{digit_char}
@@ -63,20 +65,12 @@ join_by-texts_of separator (t ∷ ts) = ap (λ rest. string_bytes t ++ rest) (re
 
 -- ---- units
 
-flat_map-append : (f : ℕ → List ℕ) (xs ys : List ℕ) → flat_map f (xs ++ ys) ≡ flat_map f xs ++ flat_map f ys
-flat_map-append f [] ys = refl
-flat_map-append f (x ∷ xs) ys = rw (flat_map-append f xs ys) (sym (append_assoc (f x) (flat_map f xs) (flat_map f ys)))
-
 pub units_more : (cs yielded : List ℕ) (c : ℕ) → (length yielded < length cs) × (c ≡ get_or cs (length yielded) c) → (units after : List ℕ) → units ≡ flat_map encode_utf16 (take (length yielded) cs) → after ≡ units ++ encode_utf16 c → after ≡ flat_map encode_utf16 (take (length (yielded ++ c ∷ [])) cs)
 units_more cs yielded c here units after so_far more =
     let front : take (length (yielded ++ c ∷ [])) cs ≡ take (length yielded) cs ++ c ∷ [] =
     rw (length_push yielded c) (take_more cs (length yielded) c here.0 ∙ ap (λ x. take (length yielded) cs ++ x ∷ []) (sym here.1)) in
     more ∙ rw (so_far, front, flat_map-append encode_utf16 (take (length yielded) cs) (c ∷ [])) (ap (λ rest. flat_map encode_utf16 (take (length yielded) cs) ++ rest) (sym (append-nil (encode_utf16 c))))
 
-take_whole : (cs : List ℕ) → take (length cs) cs ≡ cs
-take_whole [] = refl
-take_whole (c ∷ cs) = ap (λ rest. c ∷ rest) (take_whole cs)
-
 pub units_all : (cs yielded : List ℕ) → length yielded ≡ length cs → (units : List ℕ) → units ≡ flat_map encode_utf16 (take (length yielded) cs) → units ≡ flat_map encode_utf16 cs
 units_all cs yielded whole units so_far =
-    let all : take (length yielded) cs ≡ cs = rw whole (take_whole cs) in so_far ∙ ap (flat_map encode_utf16) all
+    let all : take (length yielded) cs ≡ cs = rw whole (take-length cs) in so_far ∙ ap (flat_map encode_utf16) all

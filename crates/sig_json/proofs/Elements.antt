@@ -1,5 +1,7 @@
 -- A list read element by element.
 use Rattle.std.proofs.Common.{◌≡◌, ℕ, zero, suc, ◌<◌, ◌+◌, List, [], ◌∷◌, ◌++◌, length, map, take, Option, Some, None, option_map, refl, sym, ap, ◌∙◌, arith, add-one}
+use Rattle.std.proofs.Math.Seq.{take-length}
+use Rattle.std.proofs.lemmas.List.{map-append}
 use Rattle.std.specs.Option.{option_and_then}
 use Rattle.sig_base.specs.OptionSteps.{◌>>=◌}
 use Rattle.serde_json.specs.Data.{Data, null, boolean, number, string, array, object, Items, no_items, item}
@@ -30,7 +32,7 @@ each_front-zero kind (array ds) n e = refl
 each_front-zero kind (object ms) n e = cc
 
 -- what a reader after another gives comes from both
-bind_parts : {A B : Type 0} → (found : Option A) (f : A → Option B) (y : B) → (found >>= f) ≡ Some y → (x : A) × (found ≡ Some x) × (f x ≡ Some y)
+pub bind_parts : {A B : Type 0} → (found : Option A) (f : A → Option B) (y : B) → (found >>= f) ≡ Some y → (x : A) × (found ≡ Some x) × (f x ≡ Some y)
 bind_parts None f y e = cc
 bind_parts (Some x) f y e = (x, refl, e)
 
@@ -57,19 +59,11 @@ each_front-more kind (string s) element i x found here read front = cc
 each_front-more kind (array ds) element i x found here read front = rw add-one (each-more kind ds i element x found (sym here) read front)
 each_front-more kind (object ms) element i x found here read front = cc
 
-map-append : {X A : Type 0} → (f : X → A) (xs : List X) (x : X) → map f (xs ++ x ∷ []) ≡ map f xs ++ f x ∷ []
-map-append f [] x = refl
-map-append f (first ∷ xs) x = ap (λ rest. f first ∷ rest) (map-append f xs x)
-
 -- one item more is pushed behind those that were read
 pub each_front-pushed : {X : Type 0} → (seen_as : SeenAs X) (kind : Data → Option seen_as.Value) (d element : Data) (i : ℕ) (x : X) (found after : List X) → Some element ≡ at i d → kind element ≡ Some (seen_as.item x) → after ≡ found ++ x ∷ [] → each_front kind i d ≡ Some (map seen_as.item found) → each_front kind (i + 1) d ≡ Some (map seen_as.item after)
 each_front-pushed seen_as kind d element i x found after here read pushed front =
     each_front-more kind d element i (seen_as.item x) (map seen_as.item found) here read front
-    ∙ ap Some (rw (pushed, map-append seen_as.item found x) refl)
-
-take-whole : (ds : List Data) → take (length ds) ds ≡ ds
-take-whole [] = refl
-take-whole (d ∷ ds) = ap (λ rest. d ∷ rest) (take-whole ds)
+    ∙ ap Some (rw (pushed, map-append seen_as.item found (x ∷ [])) refl)
 
 each_front-whole : {A : Type 0} → (kind : Data → Option A) (d : Data) (n : ℕ) (found : List A) → Some n ≡ option_map length (list_of d) → each_front kind n d ≡ Some found → list_each kind d ≡ Some found
 unfolding list_each
@@ -77,7 +71,7 @@ each_front-whole kind null n found e front = cc
 each_front-whole kind (boolean b) n found e front = cc
 each_front-whole kind (number m) n found e front = cc
 each_front-whole kind (string s) n found e front = cc
-each_front-whole kind (array ds) n found e front = let whole : n ≡ length (items_list ds) = cc in rw (whole, take-whole (items_list ds)) at front
+each_front-whole kind (array ds) n found e front = let whole : n ≡ length (items_list ds) = cc in rw (whole, take-length (items_list ds)) at front
 each_front-whole kind (object ms) n found e front = cc
 
 -- every item was read

@@ -1,5 +1,5 @@
 -- A tree without floats has no canonical text exactly where it holds a large integer.
-use Rattle.std.proofs.Common.{◌≡◌, ◌↔◌, ◌-◌, ◌^◌, ◌||◌, ℕ, ℤ, pos, Bool, true, false, cond, nat_lt, List, [], ◌∷◌, Option, Some, None, IsTrue, inl, inr, refl, sym, ap, ◌∙◌, arith}
+use Rattle.std.proofs.Common.{◌≡◌, ◌↔◌, ◌-◌, ◌^◌, ◌||◌, ℕ, ℤ, pos, Bool, false, cond, nat_lt, List, [], ◌∷◌, Option, Some, None, IsTrue, inl, inr, refl, sym, ap, ◌∙◌, arith}
 use Rattle.std.proofs.lemmas.Bool.{lt-ltb, le-ltb, cases_lt, or_parts}
 use Rattle.std.specs.Fmt.{signed_decimal}
 use Rattle.std.specs.Map.{values_of}

@@ -1,3 +1,5 @@
+pub mod ByKind
+pub mod ByOrdering
 pub mod Reading
 pub mod Floatless
 pub mod Lists

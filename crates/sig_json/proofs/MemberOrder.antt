@@ -13,12 +13,8 @@ use Rattle.std.specs.List.Sorted.{IsPermutation, IsStrictlySortedBy}
 use Rattle.std.specs.Map.{keys_of, values_of}
 use Rattle.std.specs.Option.{option_and_then}
 use Rattle.std.specs.Ordering.{nat_cmp, is_eq, match_ordering, ordering_reverse}
-use Rattle.std.specs.Prelude.{codes, String, string_bytes}
-use Rattle.std.specs.String.{string_cmp}
-use Rattle.std.specs.declared.alloc.Global.{Global}
-use Rattle.std.proofs.lemmas.Str.{IsUtf8-string_bytes}
-use Rattle.serde_json.specs.View.{members_view}
-use Rattle.serde_json.specs.declared.value.Value.{Value}
+use Rattle.std.specs.Prelude.{codes}
+use Rattle.json.proofs.Found.{Some_inj}
 use Rattle.std.specs.Str.{IsUtf8}
 use Rattle.std.specs.declared.cmp.Ordering.{Ordering}
 use Rattle.std.specs.declared.cmp.Ordering.TheVariants.{Less, Equal, Greater}
@@ -27,9 +23,6 @@ use Rattle.sig_json.specs.Canonical.{Sorted, canon, canon_string, canon_members,
 use Rattle.sig_json.specs.Members.{members_list}
 use Rattle.sig_json.specs.Order.{HasNames, member_texts, UnitsAscend, IsInOrder}
 use Rattle.sig_json.proofs.Units.{units_distinct}
-
-pub some_same : {A : Type 0} (x y : A) → Some x ≡ Some y → x ≡ y
-some_same x y is = cc
 
 -- ---- a new entry leaves the order
 
@@ -201,7 +194,7 @@ module _ {K V : Type 0} (R : K → K → Ordering) (total : IsTotalOrder R) wher
 
 one_in_order : (ms : Members) (sorted other : Sorted) → IsInOrder ms sorted → IsInOrder ms other → sorted ≡ other
 one_in_order ms sorted other a b =
-    let same : a.texts ≡ b.texts = some_same a.texts b.texts (sym a.are ∙ b.are) in
+    let same : a.texts ≡ b.texts = Some_inj a.texts b.texts (sym a.are ∙ b.are) in
     let moved : IsPermutation sorted other = IsPermutation-trans _ _ _ (IsPermutation-sym _ _ a.moved) (subst (λ texts. IsPermutation texts other) (sym same) b.moved) in
     one_order (slice_cmp nat_cmp) nat_list_cmp_total sorted other a.ascend b.ascend
     (λ e. among_moved sorted other e moved)
@@ -235,19 +228,4 @@ object_exact ms names text =
     ((λ is. by (canon_members ms []) refl is), (λ found. ap (λ o. option_and_then (λ sorted. Some (in_braces (values_of sorted))) o) (sorted_from_order ms names found.0 found.1) ∙ ap Some (sym found.2))) where
       by : (found : Option Sorted) → canon_members ms [] ≡ found → option_and_then (λ sorted. Some (in_braces (values_of sorted))) found ≡ Some text → (sorted : Sorted) × IsInOrder ms sorted × (text ≡ in_braces (values_of sorted))
       by None found is = absurd cc
-      by (Some sorted) found is = (sorted, members_whole ms names sorted found, some_same text (in_braces (values_of sorted)) (sym is))
-
--- ---- the objects of documents
-
-names_unlike : (key : String Global) (es : List (String Global × Value)) → AllByRecursion (λ k. string_cmp key k ≡ Less) (keys_of es) → AllByRecursion (λ other. string_bytes key ≢ other) (keys_of (members_list (members_view es)))
-names_unlike key [] below = tt
-names_unlike key (e ∷ es) below = (
-  (λ same. let tied : slice_cmp nat_cmp (string_bytes key) (string_bytes e.0) ≡ Equal = ap (λ l. slice_cmp nat_cmp (string_bytes key) l) (sym same) ∙ tied_itself nat_list_cmp_total (string_bytes key) in
-      let less : slice_cmp nat_cmp (string_bytes key) (string_bytes e.0) ≡ Less = below.0 in cc),
-  names_unlike key es below.1,
-)
-
-pub has_names : (es : List (String Global × Value)) → IsStrictlySortedBy string_cmp (keys_of es) → HasNames (members_view es)
-unfolding IsStrictlySortedBy
-has_names [] up = tt
-has_names (e ∷ es) up = (IsUtf8-string_bytes e.0, names_unlike e.0 es up.0, has_names es up.1)
+      by (Some sorted) found is = (sorted, members_whole ms names sorted found, Some_inj text (in_braces (values_of sorted)) (sym is))

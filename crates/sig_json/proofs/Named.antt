@@ -1,8 +1,7 @@
 -- The names of the objects of a tree ascend in byte order, at every depth: as a walk finds it, as a look inside keeps it, as the builders keep it.
-use Rattle.std.proofs.Common.{◌≡◌, ◌≢◌, ℕ, zero, suc, ◌+◌, ◌<◌, List, [], ◌∷◌, ◌++◌, length, drop, get_or, Option, Some, None, option_map, String, Vec, BTreeMap, Global, sym, subst, refl, ap, ◌∙◌}
+use Rattle.std.proofs.Common.{◌≡◌, ◌≢◌, ℕ, zero, suc, ◌+◌, ◌<◌, List, [], ◌∷◌, ◌++◌, length, drop, get_or, Option, Some, option_map, String, Vec, BTreeMap, Global, sym, subst, refl, ap, ◌∙◌}
 use Rattle.std.proofs.lemmas.Cmp.{nat_list_cmp_total, tied_itself}
 use Rattle.std.proofs.lemmas.Iterator.Adapters.{option_map_id}
-use Rattle.std.proofs.lemmas.List.{at_drop_more}
 use Rattle.std.proofs.lemmas.Str.{IsUtf8-string_bytes}
 use Rattle.std.specs.BTreeMap.{insert_entry}
 use Rattle.std.specs.Cmp.Lexicographic.{slice_cmp}
@@ -10,12 +9,10 @@ use Rattle.std.specs.List.{AllByRecursion}
 use Rattle.std.specs.List.Sorted.{IsStrictlySortedBy}
 use Rattle.std.specs.Map.{keys_of}
 use Rattle.std.specs.Ordering.{nat_cmp, match_ordering}
-use Rattle.std.specs.Prelude.{codes}
 use Rattle.std.specs.Str.{IsUtf8}
 use Rattle.std.specs.String.{string_bytes, string_cmp}
 use Rattle.std.specs.declared.cmp.Ordering.{Ordering}
 use Rattle.std.specs.declared.cmp.Ordering.TheVariants.{Less, Equal, Greater}
-use Rattle.sig_base.specs.OptionSteps.{◌>>=◌}
 use Rattle.sig_base.proofs.Texts.{ascend-entries}
 use Rattle.sig_base.specs.ByText.{KeysAscend, text_entries}
 use Rattle.serde_json.proofs.Views.{view-Array, view-Object}
@@ -23,18 +20,20 @@ use Rattle.serde_json.specs.Data.{Num, Data, null, boolean, number, string, arra
 use Rattle.serde_json.specs.Find.{get, at, get_member, get_item, as_object, as_array}
 use Rattle.serde_json.specs.View.{view, items_view, members_view}
 use Rattle.serde_json.specs.declared.value.Value.{Value, Array, Object}
+use Rattle.json.proofs.Found.{Some_inj}
 use Rattle.sig_json.proofs.Building.{pushed, with_member-object}
-use Rattle.sig_json.proofs.MemberOrder.{all_keys, ascend-insert_entry, object_exact, some_same}
+use Rattle.sig_json.proofs.ByKind.{as_object_is}
+use Rattle.sig_json.proofs.ByOrdering.{holds_of_choice}
+use Rattle.sig_json.proofs.Elements.{bind_parts}
+use Rattle.sig_json.proofs.Lists.{items_from}
+use Rattle.sig_json.proofs.MemberOrder.{all_keys, ascend-insert_entry, object_exact}
 use Rattle.sig_json.specs.Builders.{with_member, with_last, items_with_last}
-use Rattle.sig_json.specs.Canonical.{Sorted, canon, canon_items, canon_string, in_brackets, utf16_units}
+use Rattle.sig_json.specs.Canonical.{Sorted, canon, canon_items, in_brackets}
 use Rattle.sig_json.specs.Members.{members_list}
 use Rattle.sig_json.specs.Named.{NamesAscend, IsNamed, AreNamed, HasNamedValues}
 use Rattle.sig_json.specs.Order.{HasNames, KeepsOrder, InTurn, ValuesKeepOrder, member_texts}
 
 -- ---- what a walk finds
-
-items_from : (vs : List Value) (i : ℕ) (v : Value) → i < length vs → v ≡ get_or vs i v → items_view (drop i vs) ≡ item (view v) (items_view (drop (i + 1) vs))
-items_from vs i v h is = at_drop_more items_view vs i v h ∙ ap (λ w. item (view w) (items_view (drop (i + 1) vs))) (sym is)
 
 -- one element more is named
 pub named_more : (P : Type 0) (vs : List Value) (i : ℕ) (v : Value) → i < length vs → v ≡ get_or vs i v → IsNamed (view v) → (AreNamed (items_view (drop i vs)) → P) → AreNamed (items_view (drop (i + 1) vs)) → P
@@ -74,10 +73,9 @@ unfolding IsStrictlySortedBy
 names_differ no_members up = tt
 names_differ (member name d ms) up = (up.0.0, unlike name (keys_of (members_list ms)) up.1.0, names_differ ms (up.0.1, up.1.1))
 
--- what a step after another gives comes from both
-after_parts : {A B : Type 0} → (found : Option A) (f : A → Option B) (y : B) → (found >>= f) ≡ Some y → (x : A) × (found ≡ Some x) × (f x ≡ Some y)
-after_parts None f y is = absurd cc
-after_parts (Some x) f y is = (x, refl, is)
+-- the members of a map from strings
+pub has_names : (es : List (String Global × Value)) → IsStrictlySortedBy string_cmp (keys_of es) → HasNames (members_view es)
+has_names es up = names_differ (members_view es) (names_ascend es up)
 
 mutual
   pub keeps_order : (d : Data) (text : List ℕ) → IsNamed d → canon d ≡ Some text → KeepsOrder d text
@@ -86,8 +84,8 @@ mutual
   keeps_order (number n) text named is = tt
   keeps_order (string s) text named is = tt
   keeps_order (array ds) text named is =
-      let parts = after_parts (canon_items ds) _ text is in
-      (parts.0, in_turn ds parts.0 named parts.1, some_same text (in_brackets parts.0) (sym parts.2))
+      let parts = bind_parts (canon_items ds) _ text is in
+      (parts.0, in_turn ds parts.0 named parts.1, Some_inj text (in_brackets parts.0) (sym parts.2))
   keeps_order (object ms) text named is =
       let order = (object_exact ms (names_differ ms named.0) text).0 is in
       (order, values_keep_order ms order.1.texts named.1 order.1.are)
@@ -96,15 +94,15 @@ mutual
   in_turn no_items [] named are = tt
   in_turn no_items (text ∷ texts) named are = absurd cc
   in_turn (item d ds) texts named are =
-      let first = after_parts (canon d) _ texts are in
-      let rest = after_parts (canon_items ds) _ texts first.2 in
-      subst (InTurn (item d ds)) (some_same (first.0 ∷ rest.0) texts rest.2) (first.1, keeps_order d first.0 named.0 first.1, in_turn ds rest.0 named.1 rest.1)
+      let first = bind_parts (canon d) _ texts are in
+      let rest = bind_parts (canon_items ds) _ texts first.2 in
+      subst (InTurn (item d ds)) (Some_inj (first.0 ∷ rest.0) texts rest.2) (first.1, keeps_order d first.0 named.0 first.1, in_turn ds rest.0 named.1 rest.1)
 
   values_keep_order : (ms : Members) (texts : Sorted) → HasNamedValues ms → member_texts ms ≡ Some texts → ValuesKeepOrder ms
   values_keep_order no_members texts named are = tt
   values_keep_order (member name d ms) texts named are =
-      let first = after_parts (canon d) _ texts are in
-      let rest = after_parts (member_texts ms) _ texts first.2 in
+      let first = bind_parts (canon d) _ texts are in
+      let rest = bind_parts (member_texts ms) _ texts first.2 in
       ((first.0, first.1, keeps_order d first.0 named.0 first.1), values_keep_order ms rest.0 named.1 rest.1)
 
 -- what is written on an empty text
@@ -118,11 +116,6 @@ written_in_order d before after text named none written is =
 abbrev FoundNamed : Option Data → Type 0
 FoundNamed found = (d : Data) → found ≡ Some d → IsNamed d
 
-either_named : (o : Ordering) (a b c : Option Data) → FoundNamed a → FoundNamed b → FoundNamed c → FoundNamed (match_ordering o a b c)
-either_named Less a b c p q r = p
-either_named Equal a b c p q r = q
-either_named Greater a b c p q r = r
-
 this_named : (v : Data) → IsNamed v → FoundNamed (Some v)
 this_named v named = λ d e. let same : v ≡ d = cc in subst IsNamed same named
 
@@ -130,7 +123,7 @@ get_member_named : (name : List ℕ) (ms : Members) → HasNamedValues ms → Fo
 get_member_named name no_members named = λ d e. absurd cc
 get_member_named name (member k v ms) named =
     let rest = get_member_named name ms named.1 in
-    either_named (slice_cmp nat_cmp name k) (get_member name ms) (Some v) (get_member name ms) rest (this_named v named.0) rest
+    holds_of_choice FoundNamed (slice_cmp nat_cmp name k) (get_member name ms) (Some v) (get_member name ms) rest (this_named v named.0) rest
 
 get_item_named : (place : ℕ) (ds : Items) → AreNamed ds → FoundNamed (get_item place ds)
 get_item_named place no_items named = λ d e. absurd cc
@@ -154,20 +147,10 @@ at_named place (array ds) found named e = get_item_named place ds named found (s
 at_named place (object ms) found named e = absurd cc
 
 pub as_object_named : (d : Data) (ms : Members) → IsNamed d → Some ms ≡ as_object d → HasNamedValues ms
-as_object_named null ms named e = absurd cc
-as_object_named (boolean b) ms named e = absurd cc
-as_object_named (number n) ms named e = absurd cc
-as_object_named (string s) ms named e = absurd cc
-as_object_named (array ds) ms named e = absurd cc
-as_object_named (object ns) ms named e = let same : ns ≡ ms = cc in subst HasNamedValues same named.1
+as_object_named d ms named e = (subst IsNamed (as_object_is d ms e) named).1
 
 pub as_object_ascends : (d : Data) (ms : Members) → IsNamed d → Some ms ≡ as_object d → KeysAscend (members_list ms)
-as_object_ascends null ms named e = absurd cc
-as_object_ascends (boolean b) ms named e = absurd cc
-as_object_ascends (number n) ms named e = absurd cc
-as_object_ascends (string s) ms named e = absurd cc
-as_object_ascends (array ds) ms named e = absurd cc
-as_object_ascends (object ns) ms named e = let same : ns ≡ ms = cc in subst (λ l. KeysAscend (members_list l)) same named.0.1
+as_object_ascends d ms named e = (subst IsNamed (as_object_is d ms e) named).0.1
 
 -- a walk's next member, and what is left of it
 pub next_named : (d : Data) (ms : Members) (name : List ℕ) → HasNamedValues (member name d ms) → IsNamed d × HasNamedValues ms
@@ -190,15 +173,10 @@ ascend-put : (k : List ℕ) (d : Data) (ms : Members) → IsUtf8 k → NamesAsce
 ascend-put k d ms utf8 up =
     rw (members_list-put k d ms) (all_keys (slice_cmp nat_cmp) IsUtf8 (members_list ms) k d up.0 utf8, ascend-insert_entry (slice_cmp nat_cmp) nat_list_cmp_total (members_list ms) k d up.1)
 
-either_values : (o : Ordering) (a b c : Members) → HasNamedValues a → HasNamedValues b → HasNamedValues c → HasNamedValues (match_ordering o a b c)
-either_values Less a b c p q r = p
-either_values Equal a b c p q r = q
-either_values Greater a b c p q r = r
-
 values-put : (k : List ℕ) (d : Data) (ms : Members) → IsNamed d → HasNamedValues ms → HasNamedValues (put k d ms)
 values-put k d no_members one rest = (one, tt)
 values-put k d (member l e ms) one rest =
-    either_values (slice_cmp nat_cmp k l) (member k d (member l e ms)) (member l d ms) (member l e (put k d ms)) (one, rest) (one, rest.1) (rest.0, values-put k d ms one rest.1)
+    holds_of_choice HasNamedValues (slice_cmp nat_cmp k l) (member k d (member l e ms)) (member l d ms) (member l e (put k d ms)) (one, rest) (one, rest.1) (rest.0, values-put k d ms one rest.1)
 
 with_member_named : (name : List ℕ) (value tree : Data) → IsUtf8 name → IsNamed tree → IsNamed value → IsNamed (with_member name value tree)
 with_member_named name value null utf8 whole one = tt
