@@ -34,8 +34,8 @@ pub use element::{ElementReader, optional, optional_list, required, required_lis
 pub use error::{CanonicalError, DocumentError, JsonError, MemberError};
 pub use kind::{BytesReader, HashReader, TextMapReader, TextReader};
 pub use member::{
-    find_member, read_bytes, read_i64, read_text, read_u64, required_bytes, required_hash,
-    required_i64, required_text, required_u64,
+    read_bytes, read_i64, read_text, read_u64, required_bytes, required_hash, required_i64,
+    required_text, required_u64,
 };
 pub use members::Members;
 pub use record::read_record;

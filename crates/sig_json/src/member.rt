@@ -14,7 +14,7 @@ use std::alloc::Global;
 
 /// The member of an object, none where it is absent or null. Refuses with `Member` where the value is no object.
 #[tactic(auto, unfolding(crate::specs::Member::member_of))]
-pub fn find_member<'a>(json: Json<'a>, name: &str) -> Result<Option<Json<'a>>, MemberError>
+pub(crate) fn find_member<'a>(json: Json<'a>, name: &str) -> Result<Option<Json<'a>>, MemberError>
     ensures value { Reads (λ m. option_map tree m) result (member_of name.now (tree json.entry)) }
     ensures no_memory { IfErr result (λ e. e ≡ MemberError.Member) }
 {

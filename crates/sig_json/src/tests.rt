@@ -3,15 +3,30 @@ mod canonical_examples;
 mod readers;
 
 use crate::{
-    BytesReader, Document, HashReader, canonical, compact, optional, optional_list, read_bytes,
+    BytesReader, Document, HashReader, MemberError, compact, optional, optional_list, read_bytes,
     read_i64, read_text, read_u64, required_bytes, required_hash, required_i64, required_list,
     required_text, required_u64,
 };
+use sig_base::{Bytes, OutOfMemory, Text};
 use std::alloc::Global;
+use std::fmt::Debug;
 use std::test::Fail;
 
+/// An empty list between so many beginnings and ends.
+fn nested(alloc: Global, depth: usize, begin: &str, end: &str) -> Result<String, OutOfMemory> {
+    let mut text = String::new(alloc);
+    for _ in 0..depth {
+        text.push_str(begin)?;
+    }
+    text.push_str("[]")?;
+    for _ in 0..depth {
+        text.push_str(end)?;
+    }
+    Ok(text)
+}
+
 /// What the text is, by one word.
-fn verdict(alloc: Global, text: &[u8]) -> Result<String, Fail> {
+fn verdict(alloc: Global, text: &[u8]) -> Result<String, OutOfMemory> {
     match Document::read(alloc, text) {
         Ok(_) => Ok(format!(in alloc; "read")?),
         Err(error) => Ok(format!(in alloc; "{error}")?),
@@ -44,15 +59,17 @@ NotJson "\x41"
 NotJson "é
 read "é""#;
 
+/// Whether a line of `TEXTS` is true. None where it is no such line.
+fn is_verdict(alloc: Global, line: &str) -> Option<bool> {
+    let (expected, text) = line.split_once(' ')?;
+    Some(verdict(alloc, text.as_bytes()).ok()?.as_str() == expected)
+}
+
 #[test]
 fn texts_that_are_documents(rt: HostRuntime) -> Result<(), Fail> {
     let alloc = rt.alloc();
     for line in TEXTS.lines() {
-        let Some((expected, text)) = line.split_once(' ') else {
-            continue;
-        };
-        let found = verdict(alloc, text.as_bytes())?;
-        assert!(rt; found.as_str() == expected, "{line}");
+        assert_eq!(rt; is_verdict(alloc, line), Some(true), "{line}");
     }
     for text in ["\u{feff}1", "\u{a0}1", "\"\u{1}\"", "\"\n\""] {
         assert!(rt;
@@ -62,20 +79,11 @@ fn texts_that_are_documents(rt: HostRuntime) -> Result<(), Fail> {
     }
     assert!(rt; verdict(alloc, &[34, 0xff, 34])?.as_str() == "NotJson");
     assert!(rt; verdict(alloc, &[34, 0xed, 0xa0, 0x80, 34])?.as_str() == "NotJson");
-    assert!(rt; verdict(alloc, nested(alloc, 127)?.as_bytes())?.as_str() == "read");
-    assert!(rt; verdict(alloc, nested(alloc, 128)?.as_bytes())?.as_str() == "NotJson");
+    let deepest = nested(alloc, 126, "[", "]")?;
+    assert!(rt; verdict(alloc, deepest.as_bytes())?.as_str() == "read");
+    let deeper = nested(alloc, 127, "[", "]")?;
+    assert!(rt; verdict(alloc, deeper.as_bytes())?.as_str() == "NotJson");
     Ok(())
-}
-
-fn nested(alloc: Global, depth: usize) -> Result<String, Fail> {
-    let mut text = String::new(alloc);
-    for _ in 0..depth {
-        text.push('[')?;
-    }
-    for _ in 0..depth {
-        text.push(']')?;
-    }
-    Ok(text)
 }
 
 /// Each line: a value, and what it is as i64, u64, text and base64, `-` where it is refused.
@@ -110,67 +118,80 @@ const VALUES: &str = r#"true - - - -
 "Pj4_" - - "Pj4_" -
 {"a":null} - - - -"#;
 
-/// What the member `m` is under each reader.
-fn answers(alloc: Global, document: &Document) -> Result<String, Fail> {
-    let json = document.view();
+/// The answer of a reader behind the line, `-` where it refused.
+fn push_answer<T: Debug + Drop>(
+    alloc: Global,
+    line: &mut String,
+    answer: Result<T, MemberError>,
+) -> Result<(), OutOfMemory> {
+    match answer {
+        Ok(value) => line.push_str(format!(in alloc; " {value:?}")?.as_str())?,
+        Err(_) => line.push_str(" -")?,
+    }
+    Ok(())
+}
+
+/// The answers of four readers, each after a space.
+fn line_of(
+    alloc: Global,
+    signed: Result<i64, MemberError>,
+    unsigned: Result<u64, MemberError>,
+    text: Result<Text, MemberError>,
+    bytes: Result<Bytes, MemberError>,
+) -> Result<String, OutOfMemory> {
     let mut line = String::new(alloc);
-    match read_i64(json, "m") {
-        Ok(integer) => line.push_str(format!(in alloc; " {integer}")?.as_str())?,
-        Err(_) => line.push_str(" -")?,
-    }
-    match read_u64(json, "m") {
-        Ok(integer) => line.push_str(format!(in alloc; " {integer}")?.as_str())?,
-        Err(_) => line.push_str(" -")?,
-    }
-    match read_text(alloc, json, "m") {
-        Ok(text) => line.push_str(format!(in alloc; " {text:?}")?.as_str())?,
-        Err(_) => line.push_str(" -")?,
-    }
-    match read_bytes(alloc, json, "m") {
-        Ok(bytes) => line.push_str(format!(in alloc; " {:?}", bytes.as_slice())?.as_str())?,
+    push_answer(alloc, &mut line, signed)?;
+    push_answer(alloc, &mut line, unsigned)?;
+    push_answer(alloc, &mut line, text)?;
+    match bytes {
+        Ok(bytes) => push_answer(alloc, &mut line, Ok(bytes.as_slice()))?,
         Err(_) => line.push_str(" -")?,
     }
     Ok(line)
 }
 
-/// The same under the required readers.
-fn required_answers(alloc: Global, document: &Document) -> Result<String, Fail> {
+/// What the member `m` is under each reader.
+fn answers(alloc: Global, document: &Document) -> Result<String, OutOfMemory> {
     let json = document.view();
-    let mut line = String::new(alloc);
-    match required_i64(json, "m") {
-        Ok(integer) => line.push_str(format!(in alloc; " {integer}")?.as_str())?,
-        Err(_) => line.push_str(" -")?,
-    }
-    match required_u64(json, "m") {
-        Ok(integer) => line.push_str(format!(in alloc; " {integer}")?.as_str())?,
-        Err(_) => line.push_str(" -")?,
-    }
-    match required_text(alloc, json, "m") {
-        Ok(text) => line.push_str(format!(in alloc; " {text:?}")?.as_str())?,
-        Err(_) => line.push_str(" -")?,
-    }
-    match required_bytes(alloc, json, "m") {
-        Ok(bytes) => line.push_str(format!(in alloc; " {:?}", bytes.as_slice())?.as_str())?,
-        Err(_) => line.push_str(" -")?,
-    }
-    Ok(line)
+    line_of(
+        alloc,
+        read_i64(json, "m"),
+        read_u64(json, "m"),
+        read_text(alloc, json, "m"),
+        read_bytes(alloc, json, "m"),
+    )
+}
+
+/// The same under the required readers.
+fn required_answers(alloc: Global, document: &Document) -> Result<String, OutOfMemory> {
+    let json = document.view();
+    line_of(
+        alloc,
+        required_i64(json, "m"),
+        required_u64(json, "m"),
+        required_text(alloc, json, "m"),
+        required_bytes(alloc, json, "m"),
+    )
+}
+
+/// Whether a line of `VALUES` is true of both kinds of readers. None where it is no such line.
+fn is_value(alloc: Global, line: &str) -> Option<bool> {
+    let (value, _) = line.split_once(' ')?;
+    let text = format!(in alloc; "{{\"m\":{value}}}").ok()?;
+    let document = Document::read(alloc, text.as_bytes()).ok()?;
+    let found = answers(alloc, &document).ok()?;
+    let required = required_answers(alloc, &document).ok()?;
+    let whole = format!(in alloc; "{value}{found}").ok()?;
+    Some(found == required && whole.as_str() == line)
 }
 
 #[test]
 fn values_under_readers(rt: HostRuntime) -> Result<(), Fail> {
     let alloc = rt.alloc();
     for line in VALUES.lines() {
-        let Some((value, _)) = line.split_once(' ') else {
-            continue;
-        };
-        let text = format!(in alloc; "{{\"m\":{value}}}")?;
-        let document = Document::read(alloc, text.as_bytes())?;
-        let found = format!(in alloc; "{value}{}", answers(alloc, &document)?)?;
-        assert!(rt; found.as_str() == line, "{found}");
-        let found = format!(in alloc; "{value}{}", required_answers(alloc, &document)?)?;
-        assert!(rt; found.as_str() == line, "{found}");
+        assert_eq!(rt; is_value(alloc, line), Some(true), "{line}");
     }
-    for text in ["{}", r#"{"m":null}"#] {
+    for text in ["{}", r#"{"m":null}"#, r#"{"m":1,"m":null}"#] {
         let document = Document::read(alloc, text.as_bytes())?;
         assert!(rt;
             answers(alloc, &document)?.as_str() == " 0 0 \"\" []",
@@ -205,26 +226,31 @@ const LISTS: &str = "0 []
 - H
 - {}";
 
+/// Whether a line of `LISTS` is true. None where it is no such line.
+fn is_list(alloc: Global, line: &str) -> Option<bool> {
+    let (expected, list) = line.split_once(' ')?;
+    let hash = format!(in alloc; "\"{HASH}\"").ok()?;
+    let list = list.replace(alloc, "H", hash.as_str()).ok()?;
+    let text = format!(in alloc; "{{\"m\":{list}}}").ok()?;
+    let document = Document::read(alloc, text.as_bytes()).ok()?;
+    let found = match required_list::<HashReader>(alloc, document.view(), "m") {
+        Ok(hashes) => format!(in alloc; "{}", hashes.len()).ok()?,
+        Err(_) => format!(in alloc; "-").ok()?,
+    };
+    let is_optional = optional_list::<HashReader>(alloc, document.view(), "m").is_ok();
+    let is_hash = required_hash(document.view(), "m").is_ok();
+    Some(
+        found.as_str() == expected
+            && is_optional == (expected != "-")
+            && is_hash == (line == "- H"),
+    )
+}
+
 #[test]
 fn lists_and_hashes(rt: HostRuntime) -> Result<(), Fail> {
     let alloc = rt.alloc();
-    let hash = format!(in alloc; "\"{HASH}\"")?;
     for line in LISTS.lines() {
-        let Some((expected, list)) = line.split_once(' ') else {
-            continue;
-        };
-        let list = list.replace(alloc, "H", hash.as_str())?;
-        let text = format!(in alloc; "{{\"m\":{list}}}")?;
-        let document = Document::read(alloc, text.as_bytes())?;
-        let found = match required_list::<HashReader>(alloc, document.view(), "m") {
-            Ok(hashes) => format!(in alloc; "{}", hashes.len())?,
-            Err(_) => format!(in alloc; "-")?,
-        };
-        assert!(rt; found.as_str() == expected);
-        assert!(rt;
-            optional_list::<HashReader>(alloc, document.view(), "m").is_ok() == (expected != "-"),
-        );
-        assert!(rt; required_hash(document.view(), "m").is_ok() == (line == "- H"),);
+        assert_eq!(rt; is_list(alloc, line), Some(true), "{line}");
     }
     let document = Document::read(alloc, b"{\"m\":null}".as_slice())?;
     assert!(rt; optional::<BytesReader>(alloc, document.view(), "m").is_ok());
@@ -271,42 +297,6 @@ fn views_and_builders(rt: HostRuntime) -> Result<(), Fail> {
     assert!(rt;
         compact(alloc, built.view())?.as_str()
             == "{\"b\":true,\"i\":-7,\"l\":[null,\"x\"],\"t\":\"é\"}"
-    );
-    Ok(())
-}
-
-/// Each line: a text, and its canonical text after ` = `. The last ones are of RFC 8785 sections 3.2.2 and 3.2.3, without their floats.
-const CANONICAL: &str = r#"null = null
-[ true , false , [ ] , { } ] = [true,false,[],{}]
-[9007199254740991,-9007199254740991] = [9007199254740991,-9007199254740991]
-[9007199254740992] = IntegerTooLarge
-{"a":-9007199254740992} = IntegerTooLarge
-{"b":[{"d":1,"c":2}],"a":"/"} = {"a":"/","b":[{"c":2,"d":1}]}
-"\u20ac$\u000F\u000aA'\u0042\u0022\u005c\\\"\/\b\t\f\u0000" = "€$\u000f\nA'B\"\\\\\"/\b\t\f\u0000"
-{"\u20ac":"Euro Sign","\r":"Carriage Return","\ufb33":"Hebrew Letter Dalet With Dagesh","1":"One","\ud83d\ude00":"Emoji: Grinning Face","\u00f6":"Latin Small Letter O With Diaeresis"} = {"\r":"Carriage Return","1":"One","ö":"Latin Small Letter O With Diaeresis","€":"Euro Sign","😀":"Emoji: Grinning Face","דּ":"Hebrew Letter Dalet With Dagesh"}"#;
-
-fn canonical_of(alloc: Global, text: &str) -> Result<String, Fail> {
-    let document = Document::read(alloc, text.as_bytes())?;
-    match canonical(alloc, document.view()) {
-        Ok(text) => Ok(format!(in alloc; "{}", text.as_str())?),
-        Err(error) => Ok(format!(in alloc; "{error}")?),
-    }
-}
-
-#[test]
-fn canonical_texts(rt: HostRuntime) -> Result<(), Fail> {
-    let alloc = rt.alloc();
-    for line in CANONICAL.lines() {
-        let Some((text, expected)) = line.split_once(" = ") else {
-            continue;
-        };
-        let found = canonical_of(alloc, text)?;
-        assert!(rt; found.as_str() == expected, "{found}");
-    }
-    let others = canonical_of(alloc, r#"{"\ufb33":1,"\ud83d\ude00":"\u007f\u0080"}"#)?;
-    assert!(rt;
-        others.as_str() == "{\"\u{1f600}\":\"\u{7f}\u{80}\",\"\u{fb33}\":1}",
-        "{others}"
     );
     Ok(())
 }

@@ -1,6 +1,6 @@
 //! Canonical and compact texts and equality by example: the worked examples of RFC 8785 that have no floats, and what stands beside them.
-use super::canonical_of;
-use crate::{Document, compact};
+use super::nested;
+use crate::{Document, canonical, compact};
 use std::alloc::Global;
 use std::test::Fail;
 
@@ -27,14 +27,36 @@ const LITERALS: &str = r#"{
 const LITERALS_IN_ORDER: &str =
     r#"{"literals":[null,true,false],"string":"€$\u000f\nA'B\"\\\\\"/"}"#;
 
+/// The canonical text of a text, or why it has none. None where it is no document.
+fn canonical_of(alloc: Global, text: &str) -> Option<String> {
+    let document = Document::read(alloc, text.as_bytes()).ok()?;
+    match canonical(alloc, document.view()) {
+        Ok(text) => format!(in alloc; "{}", text.as_str()).ok(),
+        Err(error) => format!(in alloc; "{error}").ok(),
+    }
+}
+
+fn is_canonical(alloc: Global, text: &str, expected: &str) -> Option<bool> {
+    Some(canonical_of(alloc, text)?.as_str() == expected)
+}
+
 #[test]
-fn worked_examples(rt: HostRuntime) -> Result<(), Fail> {
+fn worked_examples(rt: HostRuntime) {
     let alloc = rt.alloc();
-    let names = canonical_of(alloc, NAMES)?;
-    assert!(rt; names.as_str() == NAMES_IN_ORDER, "{names}");
-    let literals = canonical_of(alloc, LITERALS)?;
-    assert!(rt; literals.as_str() == LITERALS_IN_ORDER, "{literals}");
-    Ok(())
+    assert_eq!(rt; is_canonical(alloc, NAMES, NAMES_IN_ORDER), Some(true));
+    assert_eq!(rt;
+        is_canonical(alloc, LITERALS, LITERALS_IN_ORDER),
+        Some(true)
+    );
+    let controls = "{\"\u{1f600}\":\"\u{7f}\u{80}\",\"\u{fb33}\":1}";
+    assert_eq!(rt;
+        is_canonical(
+            alloc,
+            r#"{"\ufb33":1,"\ud83d\ude00":"\u007f\u0080"}"#,
+            controls
+        ),
+        Some(true)
+    );
 }
 
 /// Each line: a text, and its canonical text after ` = `. The units of names past the basic plane are from D800 to DFFF; a name stands before
@@ -53,19 +75,26 @@ const CANONICAL: &str =
 -9223372036854775808 = IntegerTooLarge
 {"a":1,"b":[{"c":9007199254740992}]} = IntegerTooLarge
 "\u0001\u001F\u0020" = "\u0001\u001f "
-"" = """#;
+"" = ""
+null = null
+[ true , false , [ ] , { } ] = [true,false,[],{}]
+[9007199254740991,-9007199254740991] = [9007199254740991,-9007199254740991]
+[9007199254740992] = IntegerTooLarge
+{"a":-9007199254740992} = IntegerTooLarge
+{"b":[{"d":1,"c":2}],"a":"/"} = {"a":"/","b":[{"c":2,"d":1}]}
+"\u20ac$\u000F\u000aA'\u0042\u0022\u005c\\\"\/\b\t\f\u0000" = "€$\u000f\nA'B\"\\\\\"/\b\t\f\u0000""#;
+
+/// Whether a line of `CANONICAL` is true. None where it is no such line.
+fn is_canonical_row(alloc: Global, line: &str) -> Option<bool> {
+    let (text, expected) = line.split_once(" = ")?;
+    is_canonical(alloc, text, expected)
+}
 
 #[test]
-fn canonical_rows(rt: HostRuntime) -> Result<(), Fail> {
-    let alloc = rt.alloc();
+fn canonical_rows(rt: HostRuntime) {
     for line in CANONICAL.lines() {
-        let Some((text, expected)) = line.split_once(" = ") else {
-            continue;
-        };
-        let found = canonical_of(alloc, text)?;
-        assert!(rt; found.as_str() == expected, "{found}");
+        assert_eq!(rt; is_canonical_row(rt.alloc(), line), Some(true), "{line}");
     }
-    Ok(())
 }
 
 /// Each line: a text, and its compact text after ` = `: names are in the order of their bytes.
@@ -74,18 +103,18 @@ const COMPACT: &str = r#" [ 1 , -2 , true , null ]  = [1,-2,true,null]
 {"\ud83d\ude00":1,"\ufb00":2} = {"ﬀ":2,"😀":1}
 "\u0041\/" = "A/""#;
 
+/// Whether a line of `COMPACT` is true. None where it is no such line.
+fn is_compact(alloc: Global, line: &str) -> Option<bool> {
+    let (text, expected) = line.split_once(" = ")?;
+    let document = Document::read(alloc, text.as_bytes()).ok()?;
+    Some(compact(alloc, document.view()).ok()?.as_str() == expected)
+}
+
 #[test]
-fn compact_rows(rt: HostRuntime) -> Result<(), Fail> {
-    let alloc = rt.alloc();
+fn compact_rows(rt: HostRuntime) {
     for line in COMPACT.lines() {
-        let Some((text, expected)) = line.split_once(" = ") else {
-            continue;
-        };
-        let document = Document::read(alloc, text.as_bytes())?;
-        let found = compact(alloc, document.view())?;
-        assert!(rt; found.as_str() == expected);
+        assert_eq!(rt; is_compact(rt.alloc(), line), Some(true), "{line}");
     }
-    Ok(())
 }
 
 /// Each line: whether two trees are equal.
@@ -112,60 +141,53 @@ struct Numbered {
     document: Document,
 }
 
-fn with_number(alloc: Global, text: &str) -> Result<Numbered, Fail> {
-    let document = Document::read(alloc, text.as_bytes())?;
-    Ok(Numbered {
+fn with_number(alloc: Global, text: &str) -> Option<Numbered> {
+    let document = Document::read(alloc, text.as_bytes()).ok()?;
+    Some(Numbered {
         number: 1,
         document,
     })
 }
 
-fn equality(alloc: Global, one: &str, other: &str) -> Result<&'static str, Fail> {
+/// Whether the trees are equal, by views, by documents and by what is derived of them. None where the three do not agree.
+fn are_equal(alloc: Global, one: &str, other: &str) -> Option<bool> {
     let one = with_number(alloc, one)?;
     let other = with_number(alloc, other)?;
     let views = one.document.view().equals(other.document.view());
-    match (views, one.document == other.document, one == other) {
-        (true, true, true) => Ok("same"),
-        (false, false, false) => Ok("other"),
-        _ => Ok("undecided"),
+    match (one.document == other.document, one == other) {
+        (true, true) if views => Some(true),
+        (false, false) if !views => Some(false),
+        _ => None,
     }
+}
+
+/// Whether a line of `PAIRS` is true, either way round. None where it is no such line.
+fn is_equality(alloc: Global, line: &str) -> Option<bool> {
+    let (expected, pair) = line.split_once(' ')?;
+    let (one, other) = pair.split_once(" ~ ")?;
+    let is_same = match expected {
+        "same" => true,
+        "other" => false,
+        _ => return None,
+    };
+    Some(are_equal(alloc, one, other)? == is_same && are_equal(alloc, other, one)? == is_same)
 }
 
 #[test]
-fn equal_trees(rt: HostRuntime) -> Result<(), Fail> {
-    let alloc = rt.alloc();
+fn equal_trees(rt: HostRuntime) {
     for line in PAIRS.lines() {
-        let Some((expected, pair)) = line.split_once(' ') else {
-            continue;
-        };
-        let Some((one, other)) = pair.split_once(" ~ ") else {
-            continue;
-        };
-        assert!(rt; equality(alloc, one, other)? == expected, "{line}");
-        assert!(rt; equality(alloc, other, one)? == expected, "{line}");
+        assert_eq!(rt; is_equality(rt.alloc(), line), Some(true), "{line}");
     }
-    Ok(())
-}
-
-/// An empty list between so many beginnings and ends.
-fn nested(alloc: Global, depth: usize, begin: &str, end: &str) -> Result<String, Fail> {
-    let mut text = String::new(alloc);
-    for _ in 0..depth {
-        text.push_str(begin)?;
-    }
-    text.push_str("[]")?;
-    for _ in 0..depth {
-        text.push_str(end)?;
-    }
-    Ok(text)
 }
 
 #[test]
 fn nesting(rt: HostRuntime) -> Result<(), Fail> {
     let alloc = rt.alloc();
     let deep = nested(alloc, 126, "{\"a\":", "}")?;
-    let written = canonical_of(alloc, deep.as_str())?;
-    assert!(rt; written == deep);
+    assert_eq!(rt;
+        is_canonical(alloc, deep.as_str(), deep.as_str()),
+        Some(true)
+    );
     let deeper = nested(alloc, 127, "{\"a\":", "}")?;
     assert!(rt; Document::read(alloc, deeper.as_bytes()).is_err());
     Ok(())
@@ -177,8 +199,10 @@ fn two_orders_at_each_depth(rt: HostRuntime) -> Result<(), Fail> {
     let alloc = rt.alloc();
     let by_bytes = nested(alloc, 100, "{\"ﬀ\":1,\"😀\":", "}")?;
     let by_units = nested(alloc, 100, "{\"😀\":", ",\"ﬀ\":1}")?;
-    let written = canonical_of(alloc, by_bytes.as_str())?;
-    assert!(rt; written == by_units);
+    assert_eq!(rt;
+        is_canonical(alloc, by_bytes.as_str(), by_units.as_str()),
+        Some(true)
+    );
     let document = Document::read(alloc, by_units.as_bytes())?;
     assert!(rt; compact(alloc, document.view())?.as_str() == by_bytes.as_str());
     Ok(())

@@ -1,8 +1,9 @@
 //! What each reader answers of a member, and the texts of errors.
+use crate::member::find_member;
 use crate::{
     BytesReader, CanonicalError, Document, DocumentError, HashReader, Json, JsonError, MemberError,
-    TextMapReader, TextReader, compact, find_member, optional, optional_list, quoted, read_record,
-    required, required_hash, required_list,
+    TextMapReader, TextReader, compact, optional, optional_list, quoted, read_i64, read_record,
+    required, required_hash, required_i64, required_list,
 };
 use sig_base::OutOfMemory;
 use std::alloc::Global;
@@ -13,6 +14,11 @@ const ANSWERS: &str = r#"find {"m":[1]} = Some [1]
 find {"m":null} = None
 find {} = None
 find [] = Member
+i64 {"m":1,"m":null} = 0
+i64 {"m":null,"m":7} = 7
+i64 {"m":7,"m":"x"} = Member
+required_i64 {"m":1,"m":null} = Member
+required_i64 {"m":null,"m":"-7"} = -7
 optional {"m":"x"} = Some "x"
 optional {"m":null} = None
 optional {} = None
@@ -48,6 +54,14 @@ fn found(alloc: Global, json: Json<'_>) -> Result<String, OutOfMemory> {
     match find_member(json, "m") {
         Ok(Some(value)) => Ok(format!(in alloc; " Some {}", compact(alloc, value)?.as_str())?),
         Ok(None) => Ok(format!(in alloc; " None")?),
+        Err(error) => Ok(format!(in alloc; " {error}")?),
+    }
+}
+
+/// Of members with one name the last stands.
+fn integer(alloc: Global, answer: Result<i64, MemberError>) -> Result<String, OutOfMemory> {
+    match answer {
+        Ok(integer) => Ok(format!(in alloc; " {integer}")?),
         Err(error) => Ok(format!(in alloc; " {error}")?),
     }
 }
@@ -148,6 +162,8 @@ fn answer(alloc: Global, call: &str, text: &str) -> Result<String, OutOfMemory> 
     let json = document.view();
     match call {
         "find" => found(alloc, json),
+        "i64" => integer(alloc, read_i64(json, "m")),
+        "required_i64" => integer(alloc, required_i64(json, "m")),
         "optional" => optional_text(alloc, json),
         "required" => required_text(alloc, json),
         "optional_list" => optional_bytes_list(alloc, json),
