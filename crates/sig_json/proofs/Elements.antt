@@ -3,6 +3,7 @@ use Rattle.std.proofs.Common.{◌≡◌, ℕ, zero, suc, ◌<◌, ◌+◌, List,
 use Rattle.std.proofs.Math.Seq.{take-length}
 use Rattle.std.proofs.lemmas.List.{map-append}
 use Rattle.std.specs.Option.{option_and_then}
+use Rattle.sig_base.proofs.OptionSteps.{bind_is}
 use Rattle.sig_base.specs.OptionSteps.{◌>>=◌}
 use Rattle.serde_json.specs.Data.{Data, null, boolean, number, string, array, object, Items, no_items, item}
 use Rattle.serde_json.specs.Find.{at, get_item}
@@ -31,11 +32,6 @@ each_front-zero kind (string s) n e = cc
 each_front-zero kind (array ds) n e = refl
 each_front-zero kind (object ms) n e = cc
 
--- what a reader after another gives comes from both
-pub bind_parts : {A B : Type 0} → (found : Option A) (f : A → Option B) (y : B) → (found >>= f) ≡ Some y → (x : A) × (found ≡ Some x) × (f x ≡ Some y)
-bind_parts None f y e = cc
-bind_parts (Some x) f y e = (x, refl, e)
-
 bind_none : {A B : Type 0} → (found : Option A) (f : A → Option B) → ((x : A) → f x ≡ None) → option_and_then f found ≡ None
 bind_none None f e = refl
 bind_none (Some x) f e = e x
@@ -46,8 +42,8 @@ each-more kind (item v ds) zero d x found here read front =
     let same : v ≡ d = cc in
     let none : [] ≡ found = cc in rw (same, read) (ap (λ xs. Some (xs ++ x ∷ [])) none)
 each-more kind (item v ds) (suc i) d x found here read front =
-    let first = bind_parts (kind v) _ found front in
-    let rest = bind_parts (each kind (take i (items_list ds))) _ found first.2 in
+    let first = bind_is (kind v) _ found front in
+    let rest = bind_is (each kind (take i (items_list ds))) _ found first.2 in
     let more = each-more kind ds i d x rest.0 here read rest.1 in
     let whole : first.0 ∷ rest.0 ≡ found = cc in rw (first.1, more) (ap (λ xs. Some (xs ++ x ∷ [])) whole)
 

@@ -1,5 +1,5 @@
 -- The members of a canonical text stand in the ascending order of their names' units, and each is there once.
-use Rattle.std.proofs.Common.{◌≡◌, ◌≢◌, ◌<◌, ◌⊎◌, ◌↔◌, ℕ, zero, suc, List, [], ◌∷◌, ◌++◌, length, get_or, Option, Some, None, inl, inr, refl, sym, ap, subst, ◌∙◌, arith}
+use Rattle.std.proofs.Common.{◌≡◌, ◌≢◌, ◌<◌, ◌⊎◌, ◌↔◌, ℕ, zero, suc, List, [], ◌∷◌, ◌++◌, length, get_or, Some, inl, inr, refl, sym, ap, subst, ◌∙◌, arith}
 use Rattle.std.proofs.lemmas.Cmp.{nat_list_cmp_total, tied_itself}
 use Rattle.std.proofs.lemmas.List.{append-nil}
 use Rattle.std.proofs.lemmas.List.Sorted.{IsPermutation-refl, IsPermutation-sym, IsPermutation-trans, IsPermutation-cons, IsPermutation-middle, IsPermutation-append_right, Contains-permutation}
@@ -11,45 +11,18 @@ use Rattle.std.specs.Cmp.Lexicographic.{slice_cmp}
 use Rattle.std.specs.List.{AllByRecursion, Contains}
 use Rattle.std.specs.List.Sorted.{IsPermutation, IsStrictlySortedBy}
 use Rattle.std.specs.Map.{keys_of, values_of}
-use Rattle.std.specs.Option.{option_and_then}
-use Rattle.std.specs.Ordering.{nat_cmp, is_eq, match_ordering, ordering_reverse}
+use Rattle.std.specs.Ordering.{nat_cmp, is_eq, match_ordering}
 use Rattle.std.specs.Prelude.{codes}
-use Rattle.json.proofs.Found.{Some_inj}
 use Rattle.std.specs.Str.{IsUtf8}
 use Rattle.std.specs.declared.cmp.Ordering.{Ordering}
 use Rattle.std.specs.declared.cmp.Ordering.TheVariants.{Less, Equal, Greater}
 use Rattle.serde_json.specs.Data.{Data, Members, no_members, member, object}
+use Rattle.sig_base.proofs.Ascending.{all_keys, ascend-insert_entry}
+use Rattle.sig_base.proofs.OptionSteps.{bind_is, bind_of_some, some_is}
 use Rattle.sig_json.specs.Canonical.{Sorted, canon, canon_string, canon_members, in_braces, with_text, utf16_units}
 use Rattle.sig_json.specs.Members.{members_list}
 use Rattle.sig_json.specs.Order.{HasNames, member_texts, UnitsAscend, IsInOrder}
 use Rattle.sig_json.proofs.Units.{units_distinct}
-
--- ---- a new entry leaves the order
-
-module _ {K : Type 0} {R : K → K → Ordering} (total : IsTotalOrder R) where
-  below_all : (k : K) (e : K) (ks : List K) → R k e ≡ Less → AllByRecursion (λ y. R e y ≡ Less) ks → AllByRecursion (λ y. R k y ≡ Less) ks
-  below_all k e [] below all = tt
-  below_all k e (x ∷ ks) below all = (total.trans k e x below all.0, below_all k e ks below all.1)
-
-module _ {K V : Type 0} (R : K → K → Ordering) where
-  pub all_keys : (P : K → Type 0) (es : List (K × V)) (k : K) (v : V) → AllByRecursion P (keys_of es) → P k → AllByRecursion P (keys_of (insert_entry R es k v))
-  all_keys P [] k v all p = (p, tt)
-  all_keys P (e ∷ es) k v all p = by (R k e.0) (all_keys P es k v all.1 p) where
-    by : (o : Ordering) → AllByRecursion P (keys_of (insert_entry R es k v)) → AllByRecursion P (keys_of (match_ordering o ((k, v) ∷ e ∷ es) ((e.0, v) ∷ es) (e ∷ insert_entry R es k v)))
-    by Less rest = (p, all)
-    by Equal rest = all
-    by Greater rest = (all.0, rest)
-
-  pub ascend-insert_entry : IsTotalOrder R → (es : List (K × V)) (k : K) (v : V) → IsStrictlySortedBy R (keys_of es) → IsStrictlySortedBy R (keys_of (insert_entry R es k v))
-  unfolding IsStrictlySortedBy
-  ascend-insert_entry total [] k v up = (tt, tt)
-  ascend-insert_entry total (e ∷ es) k v up = by (R k e.0) refl (ascend-insert_entry total es k v up.1) where
-    by : (o : Ordering) → R k e.0 ≡ o → IsStrictlySortedBy R (keys_of (insert_entry R es k v)) → IsStrictlySortedBy R (keys_of (match_ordering o ((k, v) ∷ e ∷ es) ((e.0, v) ∷ es) (e ∷ insert_entry R es k v)))
-    by Less is rest = ((is, below_all total k e.0 (keys_of es) is up.0), up)
-    by Equal is rest = up
-    by Greater is rest =
-        let above : R e.0 k ≡ Less = total.antisymm e.0 k ∙ ap ordering_reverse is in
-        (all_keys (λ y. R e.0 y ≡ Less) es k v up.0 above, rest)
 
 -- ---- members, one after another
 
@@ -60,10 +33,8 @@ ascend-with_text sorted name text up = ascend-insert_entry (slice_cmp nat_cmp) n
 ascend-from : (ms : Members) (before sorted : Sorted) → UnitsAscend before → canon_members ms before ≡ Some sorted → UnitsAscend sorted
 ascend-from no_members before sorted up is = let same : before ≡ sorted = cc in subst UnitsAscend same up
 ascend-from (member name d ms) before sorted up is =
-    by (canon d) is (λ text. ascend-from ms (with_text before name text) sorted (ascend-with_text before name text up)) where
-      by : (found : Option (List ℕ)) → option_and_then (λ text. canon_members ms (with_text before name text)) found ≡ Some sorted → ((text : List ℕ) → canon_members ms (with_text before name text) ≡ Some sorted → UnitsAscend sorted) → UnitsAscend sorted
-      by None is rest = absurd cc
-      by (Some text) is rest = rest text is
+    let text = bind_is (canon d) _ sorted is in
+    ascend-from ms (with_text before name text.0) sorted (ascend-with_text before name text.0 up) text.2
 
 pub members_ascend : (ms : Members) (sorted : Sorted) → canon_members ms [] ≡ Some sorted → UnitsAscend sorted
 unfolding IsStrictlySortedBy
@@ -121,10 +92,8 @@ gathered-more name d ms before sorted text is new rest =
 gathered-from : (ms : Members) (before sorted : Sorted) → HasNames ms → AllNew (keys_of (members_list ms)) before → canon_members ms before ≡ Some sorted → IsGathered ms before sorted
 gathered-from no_members before sorted names new is = let same : before ≡ sorted = cc in record { texts = []; are = refl; moved = subst (IsPermutation before) same (IsPermutation-refl before) }
 gathered-from (member name d ms) before sorted names new is =
-    by (canon d) refl is (λ text is_text. gathered-from ms (with_text before name text) sorted names.2 (all_new-more ms name text before names.0 names.2 names.1 new.1) is_text) where
-      by : (found : Option (List ℕ)) → canon d ≡ found → option_and_then (λ text. canon_members ms (with_text before name text)) found ≡ Some sorted → ((text : List ℕ) → canon_members ms (with_text before name text) ≡ Some sorted → IsGathered ms (with_text before name text) sorted) → IsGathered (member name d ms) before sorted
-      by None found is rest = absurd cc
-      by (Some text) found is rest = gathered-more name d ms before sorted text found new.0 (rest text is)
+    let text = bind_is (canon d) _ sorted is in
+    gathered-more name d ms before sorted text.0 text.1 new.0 (gathered-from ms (with_text before name text.0) sorted names.2 (all_new-more ms name text.0 before names.0 names.2 names.1 new.1) text.2)
 
 none_before : (names : List (List ℕ)) → AllNew names []
 none_before [] = tt
@@ -194,7 +163,7 @@ module _ {K V : Type 0} (R : K → K → Ordering) (total : IsTotalOrder R) wher
 
 one_in_order : (ms : Members) (sorted other : Sorted) → IsInOrder ms sorted → IsInOrder ms other → sorted ≡ other
 one_in_order ms sorted other a b =
-    let same : a.texts ≡ b.texts = Some_inj a.texts b.texts (sym a.are ∙ b.are) in
+    let same : a.texts ≡ b.texts = some_is a.texts b.texts (sym a.are ∙ b.are) in
     let moved : IsPermutation sorted other = IsPermutation-trans _ _ _ (IsPermutation-sym _ _ a.moved) (subst (λ texts. IsPermutation texts other) (sym same) b.moved) in
     one_order (slice_cmp nat_cmp) nat_list_cmp_total sorted other a.ascend b.ascend
     (λ e. among_moved sorted other e moved)
@@ -204,16 +173,10 @@ one_in_order ms sorted other a b =
 some_sorted : (ms : Members) (before texts : Sorted) → member_texts ms ≡ Some texts → (sorted : Sorted) × (canon_members ms before ≡ Some sorted)
 some_sorted no_members before texts are = (before, refl)
 some_sorted (member name d ms) before texts are =
-    by (canon d) are (λ text more rest. some_sorted ms (with_text before name text) more rest) where
-      parts : (e : List ℕ × List ℕ) (found : Option Sorted) → option_and_then (λ more. Some (e ∷ more)) found ≡ Some texts → (more : Sorted) × (found ≡ Some more)
-      parts e None is = absurd cc
-      parts e (Some more) is = (more, refl)
-
-      by : (found : Option (List ℕ)) → option_and_then (λ text. option_and_then (λ more. Some ((utf16_units name, canon_string name ++ (codes ":" ++ text)) ∷ more)) (member_texts ms)) found ≡ Some texts → ((text : List ℕ) (more : Sorted) → member_texts ms ≡ Some more → (sorted : Sorted) × (canon_members ms (with_text before name text) ≡ Some sorted)) → (sorted : Sorted) × (option_and_then (λ text. canon_members ms (with_text before name text)) found ≡ Some sorted)
-      by None is rest = absurd cc
-      by (Some text) is rest =
-          let more = parts (utf16_units name, canon_string name ++ (codes ":" ++ text)) (member_texts ms) is in
-          rest text more.0 more.1
+    let text = bind_is (canon d) _ texts are in
+    let others = bind_is (member_texts ms) _ texts text.2 in
+    let rest = some_sorted ms (with_text before name text.0) others.0 others.1 in
+    (rest.0, bind_of_some (canon d) _ text.0 text.1 ∙ rest.1)
 
 sorted_from_order : (ms : Members) → HasNames ms → (sorted : Sorted) → IsInOrder ms sorted → canon_members ms [] ≡ Some sorted
 sorted_from_order ms names sorted order =
@@ -225,7 +188,11 @@ members_exact ms names sorted = (members_whole ms names sorted, sorted_from_orde
 
 pub object_exact : (ms : Members) → HasNames ms → (text : List ℕ) → (canon (object ms) ≡ Some text) ↔ ((sorted : Sorted) × IsInOrder ms sorted × (text ≡ in_braces (values_of sorted)))
 object_exact ms names text =
-    ((λ is. by (canon_members ms []) refl is), (λ found. ap (λ o. option_and_then (λ sorted. Some (in_braces (values_of sorted))) o) (sorted_from_order ms names found.0 found.1) ∙ ap Some (sym found.2))) where
-      by : (found : Option Sorted) → canon_members ms [] ≡ found → option_and_then (λ sorted. Some (in_braces (values_of sorted))) found ≡ Some text → (sorted : Sorted) × IsInOrder ms sorted × (text ≡ in_braces (values_of sorted))
-      by None found is = absurd cc
-      by (Some sorted) found is = (sorted, members_whole ms names sorted found, Some_inj text (in_braces (values_of sorted)) (sym is))
+    (there, back) where
+      there : canon (object ms) ≡ Some text → (sorted : Sorted) × IsInOrder ms sorted × (text ≡ in_braces (values_of sorted))
+      there is =
+          let found = bind_is (canon_members ms []) _ text is in
+          (found.0, members_whole ms names found.0 found.1, some_is text (in_braces (values_of found.0)) (sym found.2))
+
+      back : (sorted : Sorted) × IsInOrder ms sorted × (text ≡ in_braces (values_of sorted)) → canon (object ms) ≡ Some text
+      back found = bind_of_some (canon_members ms []) _ found.0 (sorted_from_order ms names found.0 found.1) ∙ ap Some (sym found.2)

@@ -19,7 +19,8 @@ use Rattle.sig_json.specs.Members.{members_list}
 use Rattle.sig_json.specs.Order.{HasNames}
 use Rattle.sig_json.specs.Writes.{comma_before, Named, ByUnits, by_units, member_text, shown, texts_in_turn}
 use Rattle.sig_json.specs.declared.canonical_form.Member.{Member}
-use Rattle.sig_json.proofs.MemberOrder.{all_keys, same_units}
+use Rattle.sig_base.proofs.Ascending.{all_keys}
+use Rattle.sig_json.proofs.MemberOrder.{same_units}
 use Rattle.sig_json.proofs.Named.{has_names}
 use Rattle.sig_json.proofs.SameTrees.{items_depth_at}
 

@@ -13,6 +13,8 @@ use Rattle.std.specs.Str.{IsUtf8}
 use Rattle.std.specs.String.{string_bytes, string_cmp}
 use Rattle.std.specs.declared.cmp.Ordering.{Ordering}
 use Rattle.std.specs.declared.cmp.Ordering.TheVariants.{Less, Equal, Greater}
+use Rattle.sig_base.proofs.Ascending.{all_keys, ascend-insert_entry}
+use Rattle.sig_base.proofs.OptionSteps.{bind_is, some_is}
 use Rattle.sig_base.proofs.Texts.{ascend-entries}
 use Rattle.sig_base.specs.ByText.{KeysAscend, text_entries}
 use Rattle.serde_json.proofs.Views.{view-Array, view-Object}
@@ -20,13 +22,11 @@ use Rattle.serde_json.specs.Data.{Num, Data, null, boolean, number, string, arra
 use Rattle.serde_json.specs.Find.{get, at, get_member, get_item, as_object, as_array}
 use Rattle.serde_json.specs.View.{view, items_view, members_view}
 use Rattle.serde_json.specs.declared.value.Value.{Value, Array, Object}
-use Rattle.json.proofs.Found.{Some_inj}
 use Rattle.sig_json.proofs.Building.{pushed, with_member-object}
 use Rattle.sig_json.proofs.ByKind.{as_object_is}
 use Rattle.sig_json.proofs.ByOrdering.{holds_of_choice}
-use Rattle.sig_json.proofs.Elements.{bind_parts}
 use Rattle.sig_json.proofs.Lists.{items_from}
-use Rattle.sig_json.proofs.MemberOrder.{all_keys, ascend-insert_entry, object_exact}
+use Rattle.sig_json.proofs.MemberOrder.{object_exact}
 use Rattle.sig_json.specs.Builders.{with_member, with_last, items_with_last}
 use Rattle.sig_json.specs.Canonical.{Sorted, canon, canon_items, in_brackets}
 use Rattle.sig_json.specs.Members.{members_list}
@@ -84,8 +84,8 @@ mutual
   keeps_order (number n) text named is = tt
   keeps_order (string s) text named is = tt
   keeps_order (array ds) text named is =
-      let parts = bind_parts (canon_items ds) _ text is in
-      (parts.0, in_turn ds parts.0 named parts.1, Some_inj text (in_brackets parts.0) (sym parts.2))
+      let parts = bind_is (canon_items ds) _ text is in
+      (parts.0, in_turn ds parts.0 named parts.1, some_is text (in_brackets parts.0) (sym parts.2))
   keeps_order (object ms) text named is =
       let order = (object_exact ms (names_differ ms named.0) text).0 is in
       (order, values_keep_order ms order.1.texts named.1 order.1.are)
@@ -94,15 +94,15 @@ mutual
   in_turn no_items [] named are = tt
   in_turn no_items (text ∷ texts) named are = absurd cc
   in_turn (item d ds) texts named are =
-      let first = bind_parts (canon d) _ texts are in
-      let rest = bind_parts (canon_items ds) _ texts first.2 in
-      subst (InTurn (item d ds)) (Some_inj (first.0 ∷ rest.0) texts rest.2) (first.1, keeps_order d first.0 named.0 first.1, in_turn ds rest.0 named.1 rest.1)
+      let first = bind_is (canon d) _ texts are in
+      let rest = bind_is (canon_items ds) _ texts first.2 in
+      subst (InTurn (item d ds)) (some_is (first.0 ∷ rest.0) texts rest.2) (first.1, keeps_order d first.0 named.0 first.1, in_turn ds rest.0 named.1 rest.1)
 
   values_keep_order : (ms : Members) (texts : Sorted) → HasNamedValues ms → member_texts ms ≡ Some texts → ValuesKeepOrder ms
   values_keep_order no_members texts named are = tt
   values_keep_order (member name d ms) texts named are =
-      let first = bind_parts (canon d) _ texts are in
-      let rest = bind_parts (member_texts ms) _ texts first.2 in
+      let first = bind_is (canon d) _ texts are in
+      let rest = bind_is (member_texts ms) _ texts first.2 in
       ((first.0, first.1, keeps_order d first.0 named.0 first.1), values_keep_order ms rest.0 named.1 rest.1)
 
 -- what is written on an empty text
