@@ -21,7 +21,7 @@ use Rattle.sig_base.proofs.Ascending.{all_keys, ascend-insert_entry}
 use Rattle.sig_base.proofs.OptionSteps.{bind_is, bind_of_some, some_is}
 use Rattle.sig_json.specs.Canonical.{Sorted, canon, canon_string, canon_members, in_braces, with_text, utf16_units}
 use Rattle.sig_json.specs.Members.{members_list}
-use Rattle.sig_json.specs.Order.{HasNames, member_texts, UnitsAscend, IsInOrder}
+use Rattle.sig_json.specs.Order.{HasNames, member_texts, UnitsAscend, IsSorting}
 use Rattle.sig_json.proofs.Units.{units_distinct}
 
 -- ---- members, one after another
@@ -99,7 +99,7 @@ none_before : (names : List (List ℕ)) → AllNew names []
 none_before [] = tt
 none_before (name ∷ names) = (tt, none_before names)
 
-pub members_whole : (ms : Members) → HasNames ms → (sorted : Sorted) → canon_members ms [] ≡ Some sorted → IsInOrder ms sorted
+pub members_whole : (ms : Members) → HasNames ms → (sorted : Sorted) → canon_members ms [] ≡ Some sorted → IsSorting ms sorted
 members_whole ms names sorted is =
     let all = gathered-from ms [] sorted names (none_before (keys_of (members_list ms))) is in
     record { texts = all.texts; are = all.are; moved = subst (λ l. IsPermutation l sorted) (append-nil all.texts) all.moved; ascend = members_ascend ms sorted is }
@@ -161,7 +161,7 @@ module _ {K V : Type 0} (R : K → K → Ordering) (total : IsTotalOrder R) wher
       (λ e among. later_there y x ys xs e also.0 (sym heads) among (back e (inr among))) in
       cc
 
-one_in_order : (ms : Members) (sorted other : Sorted) → IsInOrder ms sorted → IsInOrder ms other → sorted ≡ other
+one_in_order : (ms : Members) (sorted other : Sorted) → IsSorting ms sorted → IsSorting ms other → sorted ≡ other
 one_in_order ms sorted other a b =
     let same : a.texts ≡ b.texts = some_is a.texts b.texts (sym a.are ∙ b.are) in
     let moved : IsPermutation sorted other = IsPermutation-trans _ _ _ (IsPermutation-sym _ _ a.moved) (subst (λ texts. IsPermutation texts other) (sym same) b.moved) in
@@ -178,21 +178,21 @@ some_sorted (member name d ms) before texts are =
     let rest = some_sorted ms (with_text before name text.0) others.0 others.1 in
     (rest.0, bind_of_some (canon d) _ text.0 text.1 ∙ rest.1)
 
-sorted_from_order : (ms : Members) → HasNames ms → (sorted : Sorted) → IsInOrder ms sorted → canon_members ms [] ≡ Some sorted
+sorted_from_order : (ms : Members) → HasNames ms → (sorted : Sorted) → IsSorting ms sorted → canon_members ms [] ≡ Some sorted
 sorted_from_order ms names sorted order =
     let found = some_sorted ms [] order.texts order.are in
     found.1 ∙ ap Some (one_in_order ms found.0 sorted (members_whole ms names found.0 found.1) order)
 
-pub members_exact : (ms : Members) → HasNames ms → (sorted : Sorted) → (canon_members ms [] ≡ Some sorted) ↔ IsInOrder ms sorted
+pub members_exact : (ms : Members) → HasNames ms → (sorted : Sorted) → (canon_members ms [] ≡ Some sorted) ↔ IsSorting ms sorted
 members_exact ms names sorted = (members_whole ms names sorted, sorted_from_order ms names sorted)
 
-pub object_exact : (ms : Members) → HasNames ms → (text : List ℕ) → (canon (object ms) ≡ Some text) ↔ ((sorted : Sorted) × IsInOrder ms sorted × (text ≡ in_braces (values_of sorted)))
+pub object_exact : (ms : Members) → HasNames ms → (text : List ℕ) → (canon (object ms) ≡ Some text) ↔ ((sorted : Sorted) × IsSorting ms sorted × (text ≡ in_braces (values_of sorted)))
 object_exact ms names text =
     (there, back) where
-      there : canon (object ms) ≡ Some text → (sorted : Sorted) × IsInOrder ms sorted × (text ≡ in_braces (values_of sorted))
+      there : canon (object ms) ≡ Some text → (sorted : Sorted) × IsSorting ms sorted × (text ≡ in_braces (values_of sorted))
       there is =
           let found = bind_is (canon_members ms []) _ text is in
           (found.0, members_whole ms names found.0 found.1, some_is text (in_braces (values_of found.0)) (sym found.2))
 
-      back : (sorted : Sorted) × IsInOrder ms sorted × (text ≡ in_braces (values_of sorted)) → canon (object ms) ≡ Some text
+      back : (sorted : Sorted) × IsSorting ms sorted × (text ≡ in_braces (values_of sorted)) → canon (object ms) ≡ Some text
       back found = bind_of_some (canon_members ms []) _ found.0 (sorted_from_order ms names found.0 found.1) ∙ ap Some (sym found.2)

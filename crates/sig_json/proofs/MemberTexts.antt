@@ -17,7 +17,7 @@ use Rattle.serde_json.specs.declared.value.Value.{Value}
 use Rattle.sig_json.specs.Canonical.{Sorted, canon, canon_items, canon_members, canon_string, in_braces, utf16_units, with_text}
 use Rattle.sig_json.specs.Members.{members_list}
 use Rattle.sig_json.specs.Order.{HasNames}
-use Rattle.sig_json.specs.Writes.{comma_before, Named, ByUnits, by_units, member_text, shown, texts_in_turn}
+use Rattle.sig_json.specs.Writes.{comma_before, Pair, ByUnits, by_units, member_text, pair_of, texts_in_turn}
 use Rattle.sig_json.specs.declared.canonical_form.Member.{Member}
 use Rattle.sig_base.proofs.Ascending.{all_keys}
 use Rattle.sig_json.proofs.MemberOrder.{same_units}
@@ -82,15 +82,15 @@ pub items-refused : (values : List Value) (i : ℕ) (value : Value) (before begi
 items-refused values i value before begin written end parts h is so_far refused =
     whole-none before begin end parts (so_far ∙ rw (left_items values i value h is, refused) refl)
 
-left_members : (members : List Member) (i : ℕ) (m : Member) → i < length members → m ≡ get_or members i m → texts_in_turn (map shown (drop i members)) ≡ one_more (member_text (shown m)) (texts_in_turn (map shown (drop (i + 1) members)))
+left_members : (members : List Member) (i : ℕ) (m : Member) → i < length members → m ≡ get_or members i m → texts_in_turn (map pair_of (drop i members)) ≡ one_more (member_text (pair_of m)) (texts_in_turn (map pair_of (drop (i + 1) members)))
 left_members members i m h is =
-    at_drop_more (λ ms. texts_in_turn (map shown ms)) members i m h ∙ ap (λ v. one_more (member_text (shown v)) (texts_in_turn (map shown (drop (i + 1) members)))) (sym is)
+    at_drop_more (λ ms. texts_in_turn (map pair_of ms)) members i m h ∙ ap (λ v. one_more (member_text (pair_of v)) (texts_in_turn (map pair_of (drop (i + 1) members)))) (sym is)
 
-pub members-more : (members : List Member) (i : ℕ) (m : Member) (total : Option (List ℕ)) (written spaced after end : List ℕ) → i < length members → m ≡ get_or members i m → total ≡ with_left written end i (texts_in_turn (map shown (drop i members))) → spaced ≡ written ++ comma_before i → option_map (λ text. spaced ++ text) (member_text (shown m)) ≡ Some after → total ≡ with_left after end (i + 1) (texts_in_turn (map shown (drop (i + 1) members)))
+pub members-more : (members : List Member) (i : ℕ) (m : Member) (total : Option (List ℕ)) (written spaced after end : List ℕ) → i < length members → m ≡ get_or members i m → total ≡ with_left written end i (texts_in_turn (map pair_of (drop i members))) → spaced ≡ written ++ comma_before i → option_map (λ text. spaced ++ text) (member_text (pair_of m)) ≡ Some after → total ≡ with_left after end (i + 1) (texts_in_turn (map pair_of (drop (i + 1) members)))
 members-more members i m total written spaced after end h is so_far comma more =
-    so_far ∙ rw (left_members members i m h is) (with_left-more written spaced after end i (member_text (shown m)) _ comma more)
+    so_far ∙ rw (left_members members i m h is) (with_left-more written spaced after end i (member_text (pair_of m)) _ comma more)
 
-pub members-refused : (members : List Member) (i : ℕ) (m : Member) (before begin written end : List ℕ) (parts : Option (List (List ℕ))) → i < length members → m ≡ get_or members i m → whole before begin end parts ≡ with_left written end i (texts_in_turn (map shown (drop i members))) → member_text (shown m) ≡ None → option_and_then (λ texts. Some (begin ++ (join_by (λ text. text) (codes ",") texts ++ end))) parts ≡ None
+pub members-refused : (members : List Member) (i : ℕ) (m : Member) (before begin written end : List ℕ) (parts : Option (List (List ℕ))) → i < length members → m ≡ get_or members i m → whole before begin end parts ≡ with_left written end i (texts_in_turn (map pair_of (drop i members))) → member_text (pair_of m) ≡ None → option_and_then (λ texts. Some (begin ++ (join_by (λ text. text) (codes ",") texts ++ end))) parts ≡ None
 members-refused members i m before begin written end parts h is so_far refused =
     whole-none before begin end parts (so_far ∙ rw (left_members members i m h is, refused) refl)
 
@@ -116,7 +116,7 @@ abbrev Apart : List ℕ → List (List ℕ) → Type 0
 Apart units keys = AllByRecursion (λ other. cmp units other ≢ Equal) keys
 
 -- a member that is put in before the texts are taken, and after
-each_entry-insert : (sorted : ByUnits) (units : List ℕ) (m : Named) → Apart units (keys_of sorted) → each_entry (insert_entry cmp sorted units m) ≡ option_and_then (λ text. option_and_then (λ texts. Some (insert_entry cmp texts units text)) (each_entry sorted)) (member_text m)
+each_entry-insert : (sorted : ByUnits) (units : List ℕ) (m : Pair) → Apart units (keys_of sorted) → each_entry (insert_entry cmp sorted units m) ≡ option_and_then (λ text. option_and_then (λ texts. Some (insert_entry cmp texts units text)) (each_entry sorted)) (member_text m)
 unfolding each_entry
 each_entry-insert [] units m apart = refl
 each_entry-insert (e ∷ es) units m apart = by (cmp units e.0) refl (each_entry-insert es units m apart.1) where
@@ -167,7 +167,7 @@ each_entry-by_units (member name d ms) sorted names apart =
       by (Some text) None = refl
       by (Some text) (Some texts) = refl
 
-pub object_meant : (all : Members) (ms : List Named) → HasNames all → ms ≡ values_of (by_units all []) → option_and_then (λ texts. Some (in_braces texts)) (texts_in_turn ms) ≡ option_and_then (λ sorted. Some (in_braces (values_of sorted))) (canon_members all [])
+pub object_meant : (all : Members) (ms : List Pair) → HasNames all → ms ≡ values_of (by_units all []) → option_and_then (λ texts. Some (in_braces texts)) (texts_in_turn ms) ≡ option_and_then (λ sorted. Some (in_braces (values_of sorted))) (canon_members all [])
 unfolding each_entry
 object_meant all ms names are =
     rw (are, texts_in_turn-values (by_units all []), each_entry-by_units all [] names (all_apart-none _)) (by (canon_members all [])) where
@@ -177,11 +177,11 @@ object_meant all ms names are =
 
 -- ---- depths
 
-abbrev pub deepest : List Named → ℕ
+abbrev pub deepest : List Pair → ℕ
 deepest [] = 0
 deepest (m ∷ ms) = max (depth m.1) (deepest ms)
 
-deepest-insert : (sorted : ByUnits) (units : List ℕ) (m : Named) → deepest (values_of (insert_entry cmp sorted units m)) ≤ max (depth m.1) (deepest (values_of sorted))
+deepest-insert : (sorted : ByUnits) (units : List ℕ) (m : Pair) → deepest (values_of (insert_entry cmp sorted units m)) ≤ max (depth m.1) (deepest (values_of sorted))
 deepest-insert [] units m = omega arith
 deepest-insert (e ∷ es) units m = by (cmp units e.0) (deepest-insert es units m) where
   by : (o : Ordering) → deepest (values_of (insert_entry cmp es units m)) ≤ max (depth m.1) (deepest (values_of es)) → deepest (values_of (match_ordering o ((units, m) ∷ e ∷ es) ((e.0, m) ∷ es) (e ∷ insert_entry cmp es units m))) ≤ max (depth m.1) (max (depth e.1.1) (deepest (values_of es)))
@@ -195,10 +195,10 @@ deepest-by_units (member name d ms) sorted =
     let rest = deepest-by_units ms (insert_entry cmp sorted (utf16_units name) (name, d)) in
     let here = deepest-insert sorted (utf16_units name) (name, d) in omega (arith, rest, here)
 
-pub object_deepest : (all : Members) (ms : List Named) → ms ≡ values_of (by_units all []) → deepest ms ≤ members_depth all
+pub object_deepest : (all : Members) (ms : List Pair) → ms ≡ values_of (by_units all []) → deepest ms ≤ members_depth all
 object_deepest all ms are = rw are (let most = deepest-by_units all [] in omega (arith, most))
 
-pub deepest_at : (ms : List Member) (i : ℕ) (m : Member) → i < length ms → m ≡ get_or ms i m → depth (view m.value.now) ≤ deepest (map shown ms)
+pub deepest_at : (ms : List Member) (i : ℕ) (m : Member) → i < length ms → m ≡ get_or ms i m → depth (view m.value.now) ≤ deepest (map pair_of ms)
 deepest_at [] i m h is = absurd (omega arith)
 deepest_at (x ∷ ms) zero m h is = rw is (omega arith)
 deepest_at (x ∷ ms) (suc i) m h is = let below = deepest_at ms i m (omega arith) is in omega (arith, below)
@@ -209,25 +209,25 @@ abbrev Entry : Type 0
 Entry = Vec ℕ Global × Member
 
 abbrev pub entries_of : List (Vec ℕ Global × Member) → ByUnits
-entries_of = map (λ e. (e.0.items, shown e.1))
+entries_of = map (λ e. (e.0.items, pair_of e.1))
 
 entries-match_ordering : (o : Ordering) (a b c : List Entry) → entries_of (match_ordering o a b c) ≡ match_ordering o (entries_of a) (entries_of b) (entries_of c)
 entries-match_ordering Less a b c = refl
 entries-match_ordering Equal a b c = refl
 entries-match_ordering Greater a b c = refl
 
-entries-insert_entry : (es : List Entry) (units : Vec ℕ Global) (m : Member) → entries_of (insert_entry (λ x y. cmp x.items y.items) es units m) ≡ insert_entry cmp (entries_of es) units.items (shown m)
+entries-insert_entry : (es : List Entry) (units : Vec ℕ Global) (m : Member) → entries_of (insert_entry (λ x y. cmp x.items y.items) es units m) ≡ insert_entry cmp (entries_of es) units.items (pair_of m)
 entries-insert_entry [] units m = refl
 entries-insert_entry (e ∷ es) units m = entries-match_ordering (cmp units.items e.0.items) _ _ _ ∙ rw (entries-insert_entry es units m) refl
 
 -- a member is put in where the walk stands
-pub members-inserted : (es after : List Entry) (units : Vec ℕ Global) (m : Member) (name : List ℕ) (d : Data) (ms : Members) → after ≡ insert_entry (λ x y. cmp x.items y.items) es units m → units.items ≡ utf16_units name → shown m ≡ (name, d) → by_units (member name d ms) (entries_of es) ≡ by_units ms (entries_of after)
+pub members-inserted : (es after : List Entry) (units : Vec ℕ Global) (m : Member) (name : List ℕ) (d : Data) (ms : Members) → after ≡ insert_entry (λ x y. cmp x.items y.items) es units m → units.items ≡ utf16_units name → pair_of m ≡ (name, d) → by_units (member name d ms) (entries_of es) ≡ by_units ms (entries_of after)
 members-inserted es after units m name d ms inserts spelled is =
     rw (inserts, entries-insert_entry es units m, spelled, is) refl
 
-pub values_of-entries : (es : List Entry) → values_of (entries_of es) ≡ map shown (values_of es)
+pub values_of-entries : (es : List Entry) → values_of (entries_of es) ≡ map pair_of (values_of es)
 values_of-entries [] = refl
-values_of-entries (e ∷ es) = ap (λ rest. shown e.1 ∷ rest) (values_of-entries es)
+values_of-entries (e ∷ es) = ap (λ rest. pair_of e.1 ∷ rest) (values_of-entries es)
 
 pub ruleset parts = (whole-begins, items-more, items-refused, members-more, members-refused, items_depth_at, deepest_at)
 

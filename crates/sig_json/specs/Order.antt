@@ -25,8 +25,8 @@ member_texts (member name d ms) = canon d >>= λ text. member_texts ms >>= λ te
 abbrev pub UnitsAscend : Sorted → Type 0
 UnitsAscend sorted = IsStrictlySortedBy (slice_cmp nat_cmp) (keys_of sorted)
 
--- the texts of all members, each once, in ascending order
-pub record IsInOrder (ms : Members) (sorted : Sorted) : Type 0 where
+-- `sorted` has the texts of all members, each once, in ascending order
+pub record IsSorting (ms : Members) (sorted : Sorted) : Type 0 where
   pub texts : Sorted
   pub are : member_texts ms ≡ Some texts
   pub moved : IsPermutation texts sorted
@@ -41,7 +41,7 @@ abbrev mutual
   KeepsOrder (number n) text = ⊤
   KeepsOrder (string s) text = ⊤
   KeepsOrder (array ds) text = (texts : List (List ℕ)) × InTurn ds texts × (text ≡ in_brackets texts)
-  KeepsOrder (object ms) text = ((sorted : Sorted) × IsInOrder ms sorted × (text ≡ in_braces (values_of sorted))) × ValuesKeepOrder ms
+  KeepsOrder (object ms) text = ((sorted : Sorted) × IsSorting ms sorted × (text ≡ in_braces (values_of sorted))) × ValuesKeepOrder ms
 
   -- one text for each element
   pub InTurn : Items → List (List ℕ) → Type 0

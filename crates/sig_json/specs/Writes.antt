@@ -21,15 +21,15 @@ abbrev pub comma_before : ℕ → List ℕ
 comma_before place = if place == 0 then [] else codes ","
 
 -- a name and the value that it has
-abbrev pub Named : Type 0
-Named = List ℕ × Data
+abbrev pub Pair : Type 0
+Pair = List ℕ × Data
 
-abbrev pub shown : Member → Named
-shown m = (m.name.now, view m.value.now)
+abbrev pub pair_of : Member → Pair
+pair_of m = (m.name.now, view m.value.now)
 
 -- members by the units of their names
 abbrev pub ByUnits : Type 0
-ByUnits = List (List ℕ × Named)
+ByUnits = List (List ℕ × Pair)
 
 -- the members into those that are sorted already
 abbrev pub by_units : Members → ByUnits → ByUnits
@@ -37,9 +37,9 @@ by_units no_members sorted = sorted
 by_units (member name d ms) sorted = by_units ms (insert_entry (slice_cmp nat_cmp) sorted (utf16_units name) (name, d))
 
 -- none where the value has no canonical text
-abbrev pub member_text : Named → Option (List ℕ)
+abbrev pub member_text : Pair → Option (List ℕ)
 member_text m = canon m.1 >>= λ text. Some (canon_string m.0 ++ (codes ":" ++ text))
 
-abbrev pub texts_in_turn : List Named → Option (List (List ℕ))
+abbrev pub texts_in_turn : List Pair → Option (List (List ℕ))
 texts_in_turn [] = Some []
 texts_in_turn (m ∷ ms) = member_text m >>= λ text. texts_in_turn ms >>= λ texts. Some (text ∷ texts)

@@ -9,7 +9,7 @@ ghost use Rattle.sig_json.specs.Canonical.{canon, canon_integer, canon_string, c
 ghost use Rattle.sig_json.specs.Large.{has_large};
 ghost use Rattle.sig_json.specs.Order.{HasNames, KeepsOrder};
 ghost use Rattle.sig_json.specs.Tree.{tree};
-ghost use Rattle.sig_json.specs.Writes.{Writes, comma_before, by_units, member_text, shown, texts_in_turn};
+ghost use Rattle.sig_json.specs.Writes.{Writes, comma_before, by_units, member_text, pair_of, texts_in_turn};
 
 use crate::error::CanonicalError;
 use crate::view::Json;
@@ -21,9 +21,8 @@ use std::collections::BTreeMap;
 /// The greatest integer that a number of 64 bits (IEEE 754) keeps apart from its neighbours: 2^53 - 1.
 const GREATEST_INTEGER: u128 = 9_007_199_254_740_991;
 
-/// The canonical text of a value (RFC 8785): members in the order of the UTF-16 code units of their names, at every depth, no white space, the
-/// shortest escapes.
-/// Refuses with `IntegerTooLarge` exactly where the value holds an integer beyond plus or minus 2^53 - 1, at any depth (`laws::large_integers`).
+/// The canonical text of a value (RFC 8785): the members of each object in the order of the UTF-16 code units of their names, no white space, the
+/// shortest escapes. Refuses with `IntegerTooLarge` exactly where the value holds an integer beyond plus or minus 2^53 - 1, at any depth.
 #[tactic(auto, using(crate::proofs::Large::large_integers))]
 pub fn canonical(alloc: Global, json: Json<'_>) -> Result<Text, CanonicalError>
     ensures answer { Answers CanonicalError.OutOfMemory (λ text. text) result (canonical_of (tree json.entry)) }
@@ -143,7 +142,7 @@ fn write_members(
     out: &mut String,
 ) -> Result<(), CanonicalError>
     ensures { Writes (string_bytes out.old) result (string_bytes out.new)
-        (option_and_then (λ texts. Some (in_braces texts)) (texts_in_turn (map shown members.now.items))) }
+        (option_and_then (λ texts. Some (in_braces texts)) (texts_in_turn (map pair_of members.now.items))) }
 {
     write_text(out, "{")?;
     'members: for (place, member) in members.iter().enumerate() {
@@ -156,7 +155,7 @@ fn write_members(
 #[cycle(canon)]
 #[tactic(auto, using(crate::proofs::MemberTexts::parts))]
 fn write_member(alloc: Global, member: &Member<'_>, out: &mut String) -> Result<(), CanonicalError>
-    ensures { Writes (string_bytes out.old) result (string_bytes out.new) (member_text (shown member.now)) }
+    ensures { Writes (string_bytes out.old) result (string_bytes out.new) (member_text (pair_of member.now)) }
 {
     write_quoted(alloc, member.name, out)?;
     write_text(out, ":")?;
@@ -177,7 +176,7 @@ fn sorted_members<'a>(
     members: &'a Map<String, Value>,
 ) -> Result<Vec<Member<'a>>, OutOfMemory>
     ensures sorted { IfOk result (λ sorted.
-        map shown sorted.items ≡ values_of (by_units (members_view members.now.entries) [])) }
+        map pair_of sorted.items ≡ values_of (by_units (members_view members.now.entries) [])) }
     ensures named { IfOk result (λ _. HasNames (members_view members.now.entries)) }
 {
     let mut sorted = BTreeMap::new(alloc);

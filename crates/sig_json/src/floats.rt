@@ -6,7 +6,7 @@ ghost use Rattle.sig_json.specs.Named.{IsNamed, AreNamed, NamesAscend, HasNamedV
 
 use serde_json::{Map, Value};
 
-/// Whether a number of the tree is held as a float.
+/// Whether a number of the tree is held as a float. Where none is, the names of each object ascend: the walk looks at them all.
 #[cycle(floats)]
 #[tactic(auto, using(crate::proofs::Named::names_found))]
 pub(crate) fn is_float_in(value: &Value) -> bool

@@ -11,7 +11,7 @@ ghost use Rattle.sig_json.specs.Canonical.{Sorted, canon, canon_members, in_brac
 ghost use Rattle.sig_json.specs.Large.{has_large};
 ghost use Rattle.sig_json.specs.List.{list_of};
 ghost use Rattle.sig_json.specs.Named.{IsNamed, NamesAscend};
-ghost use Rattle.sig_json.specs.Order.{HasNames, UnitsAscend, IsInOrder};
+ghost use Rattle.sig_json.specs.Order.{HasNames, UnitsAscend, IsSorting};
 ghost use Rattle.sig_json.specs.SameTree.{same_tree};
 ghost use Rattle.sig_json.specs.Tree.{document_tree, tree};
 ghost use Rattle.sig_json.specs.declared.document.Document.{Document};
@@ -28,9 +28,9 @@ pub fn units_of_texts()
 pub fn members_in_order()
     ensures object { (ms : Members) → HasNames ms → (text : List ℕ)
         → (canon (object ms) ≡ Some text)
-        ↔ ((sorted : Sorted) × IsInOrder ms sorted × (text ≡ in_braces (values_of sorted))) }
+        ↔ ((sorted : Sorted) × IsSorting ms sorted × (text ≡ in_braces (values_of sorted))) }
     ensures exact { (ms : Members) → HasNames ms → (sorted : Sorted)
-        → (canon_members ms [] ≡ Some sorted) ↔ IsInOrder ms sorted }
+        → (canon_members ms [] ≡ Some sorted) ↔ IsSorting ms sorted }
     ensures ascend { (ms : Members) (sorted : Sorted)
         → canon_members ms [] ≡ Some sorted → UnitsAscend sorted }
 {}

@@ -1,9 +1,16 @@
 //! JSON documents (RFC 8259) without floats: one way in, a view of the tree, and readers of the members that the formats of Sigstore have.
 //!
-//! The layer above uses three facts. A document is the tree that its text is, exactly where it has one without floats. A reader answers what
-//! the member means by its row of a table, and `Member` exactly where it breaks that row. The canonical text of a tree is that of RFC 8785, and
-//! an object's members stand in it in the ascending order of the UTF-16 code units of their names, each once and no others. The names of each
-//! object of a document are different texts, whether it was read or built (`laws`).
+//! What the layer above uses:
+//!
+//! - A document is the tree that its text is, exactly where it has one without floats. What is built is the tree that was asked for. In both the
+//!   names of each object are different texts. Documents, and views of them, are equal exactly where their trees are.
+//! - A view's calls are the tree's; the members of an object come in the byte order of their names, each name once.
+//! - A reader answers what the member means by its row of a table, and `Member` exactly where it breaks that row.
+//! - The compact text of a tree that nests to 127 is read back as the same tree.
+//! - The canonical text of a tree is that of RFC 8785, refused exactly where the tree holds an integer beyond plus or minus 2^53 - 1. In each of
+//!   its objects the members stand in the ascending order of the UTF-16 code units of their names, each once and no others.
+//!
+//! `laws` says what the definitions mean.
 #![tactic(auto)]
 
 mod any;

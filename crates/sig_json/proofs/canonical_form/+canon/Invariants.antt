@@ -3,7 +3,7 @@ use Rattle.std.specs.Prelude.{codes}
 use Rattle.serde_json.specs.Data.{depth, items_depth, members_depth}
 use Rattle.serde_json.specs.View.{view, items_view, members_view}
 use Rattle.sig_json.specs.Canonical.{canon_items}
-use Rattle.sig_json.specs.Writes.{shown, texts_in_turn}
+use Rattle.sig_json.specs.Writes.{pair_of, texts_in_turn}
 use Rattle.sig_json.proofs.MemberTexts.{deepest, whole, with_left}
 use Rattle.sig_json.proofs.canonical_form.+canon.Given as goal
 
@@ -18,7 +18,7 @@ abbrev pub decreases-write_object : goal.decreases-write_object
 decreases-write_object l = 4 * members_depth (members_view l.members.now.entries) + 3
 
 abbrev pub decreases-write_members : goal.decreases-write_members
-decreases-write_members l = 4 * deepest (map shown l.members.now.items) + 2
+decreases-write_members l = 4 * deepest (map pair_of l.members.now.items) + 2
 
 abbrev pub decreases-write_member : goal.decreases-write_member
 decreases-write_member l = 4 * depth (view l.member.now.value.now) + 1
@@ -31,4 +31,4 @@ invariant-write_list-items l =
 -- what is written and the parts that are left make the object
 abbrev pub invariant-write_members-members : goal.invariant-write_members-members
 invariant-write_members-members l =
-    whole (string_bytes l.fn.out) (codes "{") (codes "}") (texts_in_turn (map shown l.fn.members.items)) ≡ with_left (string_bytes l.out) (codes "}") l.place (texts_in_turn (map shown (drop l.place l.fn.members.items)))
+    whole (string_bytes l.fn.out) (codes "{") (codes "}") (texts_in_turn (map pair_of l.fn.members.items)) ≡ with_left (string_bytes l.out) (codes "}") l.place (texts_in_turn (map pair_of (drop l.place l.fn.members.items)))
