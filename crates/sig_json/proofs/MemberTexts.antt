@@ -20,6 +20,7 @@ use Rattle.sig_json.specs.Order.{HasNames}
 use Rattle.sig_json.specs.Writes.{comma_before, Pair, ByUnits, by_units, member_text, pair_of, texts_in_turn}
 use Rattle.sig_json.specs.declared.canonical_form.Member.{Member}
 use Rattle.sig_base.proofs.Ascending.{all_keys}
+use Rattle.sig_json.proofs.ByOrdering.{choice_of_each}
 use Rattle.sig_json.proofs.MemberOrder.{same_units}
 use Rattle.sig_json.proofs.Named.{has_names}
 use Rattle.sig_json.proofs.SameTrees.{items_depth_at}
@@ -211,14 +212,9 @@ Entry = Vec ℕ Global × Member
 abbrev pub entries_of : List (Vec ℕ Global × Member) → ByUnits
 entries_of = map (λ e. (e.0.items, pair_of e.1))
 
-entries-match_ordering : (o : Ordering) (a b c : List Entry) → entries_of (match_ordering o a b c) ≡ match_ordering o (entries_of a) (entries_of b) (entries_of c)
-entries-match_ordering Less a b c = refl
-entries-match_ordering Equal a b c = refl
-entries-match_ordering Greater a b c = refl
-
 entries-insert_entry : (es : List Entry) (units : Vec ℕ Global) (m : Member) → entries_of (insert_entry (λ x y. cmp x.items y.items) es units m) ≡ insert_entry cmp (entries_of es) units.items (pair_of m)
 entries-insert_entry [] units m = refl
-entries-insert_entry (e ∷ es) units m = entries-match_ordering (cmp units.items e.0.items) _ _ _ ∙ rw (entries-insert_entry es units m) refl
+entries-insert_entry (e ∷ es) units m = choice_of_each entries_of (cmp units.items e.0.items) _ _ _ ∙ rw (entries-insert_entry es units m) refl
 
 -- a member is put in where the walk stands
 pub members-inserted : (es after : List Entry) (units : Vec ℕ Global) (m : Member) (name : List ℕ) (d : Data) (ms : Members) → after ≡ insert_entry (λ x y. cmp x.items y.items) es units m → units.items ≡ utf16_units name → pair_of m ≡ (name, d) → by_units (member name d ms) (entries_of es) ≡ by_units ms (entries_of after)

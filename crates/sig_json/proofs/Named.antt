@@ -8,11 +8,10 @@ use Rattle.std.specs.Cmp.Lexicographic.{slice_cmp}
 use Rattle.std.specs.List.{AllByRecursion}
 use Rattle.std.specs.List.Sorted.{IsStrictlySortedBy}
 use Rattle.std.specs.Map.{keys_of}
-use Rattle.std.specs.Ordering.{nat_cmp, match_ordering}
+use Rattle.std.specs.Ordering.{nat_cmp}
 use Rattle.std.specs.Str.{IsUtf8}
 use Rattle.std.specs.String.{string_bytes, string_cmp}
-use Rattle.std.specs.declared.cmp.Ordering.{Ordering}
-use Rattle.std.specs.declared.cmp.Ordering.TheVariants.{Less, Equal, Greater}
+use Rattle.std.specs.declared.cmp.Ordering.TheVariants.{Less, Equal}
 use Rattle.sig_base.proofs.Ascending.{all_keys, ascend-insert_entry}
 use Rattle.sig_base.proofs.OptionSteps.{bind_is, some_is}
 use Rattle.sig_base.proofs.Texts.{ascend-entries}
@@ -24,7 +23,7 @@ use Rattle.serde_json.specs.View.{view, items_view, members_view}
 use Rattle.serde_json.specs.declared.value.Value.{Value, Array, Object}
 use Rattle.sig_json.proofs.Building.{pushed, with_member-object}
 use Rattle.sig_json.proofs.ByKind.{as_object_is}
-use Rattle.sig_json.proofs.ByOrdering.{holds_of_choice}
+use Rattle.sig_json.proofs.ByOrdering.{choice_of_each, holds_of_choice}
 use Rattle.sig_json.proofs.Lists.{items_from}
 use Rattle.sig_json.proofs.MemberOrder.{object_exact}
 use Rattle.sig_json.specs.Builders.{with_member, with_last, items_with_last}
@@ -160,14 +159,9 @@ pub ruleset named = (get_named, at_named, as_object_named, as_object_ascends, ne
 
 -- ---- what is built
 
-list_either : (o : Ordering) (a b c : Members) → members_list (match_ordering o a b c) ≡ match_ordering o (members_list a) (members_list b) (members_list c)
-list_either Less a b c = refl
-list_either Equal a b c = refl
-list_either Greater a b c = refl
-
 members_list-put : (k : List ℕ) (d : Data) (ms : Members) → members_list (put k d ms) ≡ insert_entry (slice_cmp nat_cmp) (members_list ms) k d
 members_list-put k d no_members = refl
-members_list-put k d (member l e ms) = list_either (slice_cmp nat_cmp k l) _ _ _ ∙ rw (members_list-put k d ms) refl
+members_list-put k d (member l e ms) = choice_of_each members_list (slice_cmp nat_cmp k l) _ _ _ ∙ rw (members_list-put k d ms) refl
 
 ascend-put : (k : List ℕ) (d : Data) (ms : Members) → IsUtf8 k → NamesAscend ms → NamesAscend (put k d ms)
 ascend-put k d ms utf8 up =
