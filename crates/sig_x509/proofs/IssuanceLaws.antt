@@ -6,10 +6,10 @@ use Rattle.std.proofs.lemmas.Bool.{ne_eqb}
 use Rattle.std.proofs.lemmas.List.{take_more}
 use Rattle.std.proofs.lemmas.List.Folds.{list_all_more, list_all_at}
 use Rattle.std.proofs.lemmas.Option.{slice_get_within, slice_get-get_or, get_or_from_slice_get}
-use Rattle.sig_x509.specs.declared.error.X509ReadError.{X509ReadError}
-use Rattle.sig_x509.specs.declared.error.X509ReadError.TheVariants.{Der, OutOfMemory as NoMemory}
-use Rattle.sig_x509.specs.Answers.{IsRefusedOnlyWithout}
-use Rattle.sig_x509.specs.Certificate.{Extension, Cert, IsCertificate}
+use Rattle.sig_certificate.specs.declared.error.X509ReadError.{X509ReadError}
+use Rattle.sig_certificate.specs.declared.error.X509ReadError.TheVariants.{Der, OutOfMemory as NoMemory}
+use Rattle.sig_certificate.specs.Answers.{IsRefusedOnlyWithout}
+use Rattle.sig_certificate.specs.Certificate.{Extension, Cert, IsCertificate}
 use Rattle.sig_base.specs.declared.memory.OutOfMemory.{OutOfMemory as Memory}
 use Rattle.sig_base.specs.declared.fault.PoolError.TheVariants.{Malformed}
 use Rattle.sig_x509.specs.Issuance.{Accepts, placed, is_issued, is_profiled, issuer_of, is_unconstrained, IsAnchor, IsNoAnchor, AreAnchors}

@@ -11,15 +11,15 @@ use Rattle.sig_base.specs.Answers.{Answers}
 use Rattle.sig_base.specs.declared.fault.PoolError.{PoolError}
 use Rattle.sig_base.specs.declared.fault.PoolError.TheVariants.{Malformed, VerificationFailed, OutOfMemory}
 use Rattle.sig_der.specs.declared.oid.TheConstants.{KEY_USAGE, EXTENDED_KEY_USAGE, BASIC_CONSTRAINTS, SUBJECT_ALTERNATIVE_NAME, NAME_CONSTRAINTS}
-use Rattle.sig_x509.specs.declared.values.BasicConstraints.{BasicConstraints as Constraints}
-use Rattle.sig_x509.specs.Answers.{ComesWhere}
-use Rattle.sig_x509.specs.Certificate.{Extension, Cert, IsCertificate}
-use Rattle.sig_x509.specs.Lookups.{with_oid, oids}
-use Rattle.sig_x509.specs.Profile.{Held, constraints, code_signing}
-use Rattle.sig_x509.specs.Trust.{may_sign_code}
+use Rattle.sig_certificate.specs.declared.values.BasicConstraints.{BasicConstraints as Constraints}
+use Rattle.sig_certificate.specs.Answers.{ComesWhere}
+use Rattle.sig_certificate.specs.Certificate.{Extension, Cert, IsCertificate}
+use Rattle.sig_certificate.specs.Lookups.{with_oid, oids}
+use Rattle.sig_certificate.specs.Profile.{Held, constraints, code_signing}
+use Rattle.sig_certificate.specs.Trust.{may_sign_code}
 use Rattle.sig_x509.specs.Issuance.{Accepts, may_be_critical, is_understood, are_understood, is_fit, is_no_authority, is_profiled, is_issued, placed, issuer_of}
 use Rattle.sig_x509.specs.Issued.{MayBeCritical, IsFit, HasProfile, IsIssuedBy, IsIssuedByNone, IsFirstIssuer, HasNoProfile, IsIssuedText, IsUnissuedText, IsJudgedText}
-use Rattle.sig_x509.proofs.DistinctLaws.{distinct_from, distinct_is}
+use Rattle.sig_certificate.proofs.DistinctLaws.{distinct_from, distinct_is}
 
 bytes_same : (xs ys : List ℕ) → bytes_eq xs ys ≡ true → xs ≡ ys
 bytes_same xs ys e = (bytes_eq-Decides xs ys).0 e

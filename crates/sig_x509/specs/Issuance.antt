@@ -5,11 +5,11 @@ use Rattle.std.specs.List.{list_all}
 use Rattle.sig_base.specs.declared.fault.PoolError.{PoolError}
 use Rattle.sig_base.specs.declared.fault.PoolError.TheVariants.{Anchor, Malformed, VerificationFailed, OutOfMemory}
 use Rattle.sig_der.specs.declared.oid.TheConstants.{KEY_USAGE, EXTENDED_KEY_USAGE, BASIC_CONSTRAINTS, SUBJECT_ALTERNATIVE_NAME, NAME_CONSTRAINTS}
-use Rattle.sig_x509.specs.declared.values.BasicConstraints.{BasicConstraints as Constraints}
-use Rattle.sig_x509.specs.Certificate.{Extension, Cert, IsCertificate}
-use Rattle.sig_x509.specs.Lookups.{with_oid, are_single}
-use Rattle.sig_x509.specs.Profile.{Held, constraints, code_signing}
-use Rattle.sig_x509.specs.Trust.{may_sign_code}
+use Rattle.sig_certificate.specs.declared.values.BasicConstraints.{BasicConstraints as Constraints}
+use Rattle.sig_certificate.specs.Certificate.{Extension, Cert, IsCertificate}
+use Rattle.sig_certificate.specs.Lookups.{with_oid, are_single}
+use Rattle.sig_certificate.specs.Profile.{Held, constraints, code_signing}
+use Rattle.sig_certificate.specs.Trust.{may_sign_code}
 
 -- ---- extensions, RFC 5280 section 4.2
 

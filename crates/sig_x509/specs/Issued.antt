@@ -6,10 +6,10 @@ use Rattle.std.specs.List.{AllByRecursion, IsDistinct}
 use Rattle.sig_base.specs.declared.fault.PoolError.{PoolError}
 use Rattle.sig_base.specs.declared.fault.PoolError.TheVariants.{Malformed, OutOfMemory}
 use Rattle.sig_der.specs.declared.oid.TheConstants.{KEY_USAGE, EXTENDED_KEY_USAGE, BASIC_CONSTRAINTS, SUBJECT_ALTERNATIVE_NAME, NAME_CONSTRAINTS}
-use Rattle.sig_x509.specs.declared.values.BasicConstraints.{BasicConstraints as Constraints}
-use Rattle.sig_x509.specs.Certificate.{Cert, IsCertificate}
-use Rattle.sig_x509.specs.Lookups.{with_oid, oids}
-use Rattle.sig_x509.specs.Profile.{constraints, code_signing}
+use Rattle.sig_certificate.specs.declared.values.BasicConstraints.{BasicConstraints as Constraints}
+use Rattle.sig_certificate.specs.Certificate.{Cert, IsCertificate}
+use Rattle.sig_certificate.specs.Lookups.{with_oid, oids}
+use Rattle.sig_certificate.specs.Profile.{constraints, code_signing}
 use Rattle.sig_x509.specs.Issuance.{Accepts, issuer_of}
 
 -- ---- what may be issued

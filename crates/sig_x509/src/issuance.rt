@@ -1,15 +1,13 @@
 //! Which certificates may be issued, and by which anchor: RFC 5280 sections 4.2 and 6.1, in the profile of Sigstore.
 
 ghost use Rattle.std.specs.Prelude.{◌≡◌};
-ghost use Rattle.sig_x509.specs.Lookups.{lent, with_oid};
-ghost use Rattle.sig_x509.specs.Profile.{constraints, code_signing};
-ghost use Rattle.sig_x509.specs.Trust.{may_sign_code};
+ghost use Rattle.sig_certificate.specs.Lookups.{lent, with_oid};
+ghost use Rattle.sig_certificate.specs.Profile.{constraints, code_signing};
+ghost use Rattle.sig_certificate.specs.Trust.{may_sign_code};
 ghost use Rattle.sig_x509.specs.Issuance.{may_be_critical, is_understood, are_understood, is_unconstrained, is_fit, is_no_authority, is_profiled, is_signed, signs_code_at, is_issued};
 
-use crate::certificate::Certificate;
-use crate::lookup::{ExtensionRef, Lookup};
-use crate::profile::{basic_constraints, code_signing};
 use sig_base::SignatureChecker;
+use sig_certificate::{Certificate, ExtensionRef, Lookup, basic_constraints, code_signing};
 use sig_der::oid::{
     BASIC_CONSTRAINTS, EXTENDED_KEY_USAGE, KEY_USAGE, NAME_CONSTRAINTS, SUBJECT_ALTERNATIVE_NAME,
 };

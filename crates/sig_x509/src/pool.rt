@@ -2,15 +2,14 @@
 
 ghost use Rattle.std.specs.Prelude.{◌≡◌, ◌↔◌, ℕ, Ok, Err, option_map, slice_get, position, MatchOption, IfOk, IfErr, IsErrOf};
 ghost use Rattle.sig_base.specs.Answers.{Answers};
-ghost use Rattle.sig_x509.specs.Answers.{ComesWhere};
-ghost use Rattle.sig_x509.specs.Certificate.{Cert, IsCertificate};
+ghost use Rattle.sig_certificate.specs.Answers.{ComesWhere};
+ghost use Rattle.sig_certificate.specs.Certificate.{Cert, IsCertificate};
 ghost use Rattle.sig_x509.specs.Issuance.{is_issued, issuer_of, IsAnchor, IsNoAnchor, AreAnchors, IsPoolRefusal};
 ghost use Rattle.sig_x509.specs.Issued.{HasProfile, IsFirstIssuer, IsIssuedByNone, HasNoProfile, IsIssuedText, IsUnissuedText, IsJudgedText};
 
-use crate::certificate::Certificate;
-use crate::error::X509ReadError;
 use crate::issuance::{is_issued, is_profiled, is_unconstrained};
 use sig_base::{Entries, OutOfMemory, PoolError, Register, SignatureChecker};
+use sig_certificate::{Certificate, X509ReadError};
 use std::alloc::Global;
 use std::marker::Model;
 
@@ -23,7 +22,7 @@ pub struct CertificatePool {
 
 impl Model for CertificatePool {
     ghost use Rattle.std.specs.Prelude.{List};
-    ghost use Rattle.sig_x509.specs.Certificate.{Cert};
+    ghost use Rattle.sig_certificate.specs.Certificate.{Cert};
 
     ghost Value = { List Cert };
 

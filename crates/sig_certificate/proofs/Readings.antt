@@ -1,0 +1,48 @@
+-- What was read at places is the certificate, and what was not read is none.
+use Rattle.std.proofs.Common.{◌≡◌, ℕ, ◌≤◌, ℤ, List, Some, None, refl, sym, ap, ◌∙◌, arith}
+use Rattle.std.specs.List.{All}
+use Rattle.sig_base.proofs.OptionSteps.{some_is}
+use Rattle.sig_der.specs.Taking.{many_at}
+use Rattle.sig_certificate.specs.declared.span.Span.{Span}
+use Rattle.sig_certificate.specs.declared.extensions.ExtensionPlaces.{ExtensionPlaces}
+use Rattle.sig_certificate.specs.Certificate.{Extension, Cert, IsCertificate}
+use Rattle.sig_certificate.specs.Cutting.{Parts, extension_at, certificate_of, IsCut}
+use Rattle.sig_certificate.specs.Places.{IsSpan, AreSpans}
+use Rattle.sig_certificate.proofs.CertificateLaws.{certificate_again}
+
+-- a text that is cut into no parts is no certificate
+pub no_parts : (text : List ℕ) → ((p : Parts) (a b : ℤ) → IsCut text p a b → ⊥) → (c : Cert) → IsCertificate text c → ⊥
+no_parts text none c is = let r = certificate_again text c is in none r.parts c.not_before c.not_after r.cut
+
+-- the text is cut into these parts and these times alone
+abbrev pub IsCutAs : List ℕ → Parts → ℤ → ℤ → Type 0
+IsCutAs text p a b = (q : Parts) (x y : ℤ) → IsCut text q x y → (p ≡ q) × (a ≡ x) × (b ≡ y)
+
+same_certificate : (text : List ℕ) (p q : Parts) (a b x y : ℤ) (es fs : List Extension) → p ≡ q → a ≡ x → b ≡ y → es ≡ fs
+    → certificate_of text q x y fs ≡ certificate_of text p a b es
+same_certificate text p q a b x y es fs e f g h = rw (e, f, g, h) refl
+
+pub read_is : (text : List ℕ) (p : Parts) (a b : ℤ) (es : List Extension) → IsCutAs text p a b → many_at extension_at p.list ≡ Some es
+    → (c : Cert) → IsCertificate text c → c ≡ certificate_of text p a b es
+read_is text p a b es cut read c is =
+    let r = certificate_again text c is in
+    let same = cut r.parts c.not_before c.not_after r.cut in
+    let list = some_is es c.extensions (sym read ∙ ap (λ (w : Parts). many_at extension_at w.list) same.0 ∙ r.list) in
+    sym r.is ∙ same_certificate text p r.parts a b c.not_before c.not_after es c.extensions same.0 same.1 same.2 list
+
+-- a text whose list is none of extensions is no certificate
+pub no_list : (text : List ℕ) (p : Parts) (a b : ℤ) → IsCutAs text p a b → many_at extension_at p.list ≡ None
+    → (c : Cert) → IsCertificate text c → ⊥
+no_list text p a b cut none c is =
+    let r = certificate_again text c is in
+    let same = cut r.parts c.not_before c.not_after r.cut in
+    let no = sym none ∙ ap (λ (w : Parts). many_at extension_at w.list) same.0 ∙ r.list in
+    cc
+
+-- spans below a number lie below a greater one
+wider : (m n : ℕ) (s : Span) → m ≤ n → IsSpan m s → IsSpan n s
+wider m n s le is = record { ordered = is.ordered; below = omega (arith, is.below) }
+
+pub all_wider : (m n : ℕ) (es : List ExtensionPlaces) → m ≤ n → All (AreSpans m) es → All (AreSpans n) es
+all_wider m n es le all = λ k d lt. let is = all k d lt in
+    record { oid = wider m n _ le is.oid; value = wider m n _ le is.value; whole = wider m n _ le is.whole }

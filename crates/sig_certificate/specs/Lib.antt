@@ -1,0 +1,13 @@
+pub mod Certificate
+pub mod Cutting
+pub mod Places
+pub mod Answers
+pub mod Held
+pub mod Lookups
+pub mod Values
+pub mod Names
+pub mod NamePlaces
+pub mod Profile
+pub mod Trust
+pub mod Pem
+pub mod AlternativeNames

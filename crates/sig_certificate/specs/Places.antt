@@ -1,0 +1,156 @@
+-- Places of a certificate's parts in its text, and what they stand for.
+use Rattle.std.specs.Prelude.{ℕ, ◌<◌, ◌≤◌, ℤ, List, Bool, slice_range, map}
+use Rattle.std.specs.List.{AllPairs}
+use Rattle.sig_der.specs.declared.place.Place.{Place}
+use Rattle.sig_der.specs.Reading.{Piece}
+use Rattle.sig_der.specs.Places.{piece_at}
+use Rattle.sig_certificate.specs.declared.span.Span.{Span}
+use Rattle.sig_certificate.specs.declared.parts.Head.{Head as HeadPlaces}
+use Rattle.sig_certificate.specs.declared.parts.Body.{Body as BodyPlaces}
+use Rattle.sig_certificate.specs.declared.parts.Outer.{Outer as OuterPlaces}
+use Rattle.sig_certificate.specs.declared.parts.Places.{Places}
+use Rattle.sig_certificate.specs.declared.extensions.ExtensionPlaces.{ExtensionPlaces}
+use Rattle.sig_certificate.specs.Certificate.{Extension, Cert}
+use Rattle.sig_certificate.specs.Cutting.{Head, Body, Outer, Parts, certificate_of}
+
+abbrev pub part : List ℕ → Span → List ℕ
+part bytes s = slice_range bytes s.start s.end
+
+-- the span lies below the number
+pub record IsSpan (end : ℕ) (s : Span) : Type 0 where
+  pub ordered : s.start ≤ s.end
+  pub below : s.end ≤ end
+
+-- the place of an element lies below the number
+pub record IsPlace (end : ℕ) (p : Place) : Type 0 where
+  pub headed : p.start ≤ p.content
+  pub filled : p.content ≤ p.end
+  pub below : p.end ≤ end
+
+-- ---- extensions
+
+abbrev pub extension_of : List ℕ → ExtensionPlaces → Extension
+extension_of bytes e =
+    record { oid = part bytes e.oid; critical = e.critical; value = part bytes e.value; whole = part bytes e.whole }
+
+abbrev pub placed_extension : List ℕ → ℕ → ExtensionPlaces → Extension × List ℕ
+placed_extension bytes end e = (extension_of bytes e, slice_range bytes e.whole.end end)
+
+pub record AreSpans (end : ℕ) (e : ExtensionPlaces) : Type 0 where
+  pub oid : IsSpan end e.oid
+  pub value : IsSpan end e.value
+  pub whole : IsSpan end e.whole
+
+-- each extension begins before those behind it
+abbrev pub Ascend : List ExtensionPlaces → Type 0
+Ascend es = AllPairs (λ d e. d.whole.start < e.whole.start) es
+
+-- a number read, and what follows from a place on
+abbrev pub placed_value : {A : Type 0} → List ℕ → ℕ → A × ℕ → A × List ℕ
+placed_value bytes end x = (x.0, slice_range bytes x.1 end)
+
+-- the second lies between the two numbers
+abbrev pub GoesTo : {A : Type 0} → ℕ → ℕ → A × ℕ → Type 0
+GoesTo at end x = (at ≤ x.1) × (x.1 ≤ end)
+
+-- ---- the parts
+
+abbrev pub head_of : List ℕ → HeadPlaces → Head
+head_of bytes h = record { version = h.version; algorithm = part bytes h.algorithm; issuer = part bytes h.issuer }
+
+abbrev pub placed_head : List ℕ → ℕ → HeadPlaces → Head × List ℕ
+placed_head bytes end h = (head_of bytes h, slice_range bytes h.issuer.end end)
+
+pub record IsHeadWithin (at end : ℕ) (h : HeadPlaces) : Type 0 where
+  pub algorithm : IsSpan end h.algorithm
+  pub issuer : IsSpan end h.issuer
+  pub after : at ≤ h.issuer.end
+
+-- the two elements of a validity, and what follows it
+abbrev pub placed_validity : List ℕ → ℕ → (Place × Place) × ℕ → (Piece × Piece) × List ℕ
+placed_validity bytes end x = ((piece_at bytes x.0.0, piece_at bytes x.0.1), slice_range bytes x.1 end)
+
+abbrev pub IsValidityWithin : ℕ → ℕ → (Place × Place) × ℕ → Type 0
+IsValidityWithin at end x = IsPlace end x.0.0 × IsPlace end x.0.1 × (at ≤ x.1) × (x.1 ≤ end)
+
+abbrev pub body_of : List ℕ → BodyPlaces → Body
+body_of bytes b =
+    record {
+      first = piece_at bytes b.not_before;
+      second = piece_at bytes b.not_after;
+      subject = part bytes b.subject;
+      spki = part bytes b.spki;
+    }
+
+abbrev pub placed_body : List ℕ → ℕ → BodyPlaces → Body × List ℕ
+placed_body bytes end b = (body_of bytes b, slice_range bytes b.spki.end end)
+
+pub record IsBodyWithin (at end : ℕ) (b : BodyPlaces) : Type 0 where
+  pub not_before : IsPlace end b.not_before
+  pub not_after : IsPlace end b.not_after
+  pub subject : IsSpan end b.subject
+  pub spki : IsSpan end b.spki
+  pub after : at ≤ b.spki.end
+
+abbrev pub outer_of : List ℕ → OuterPlaces → Outer
+outer_of bytes o =
+    record { tbs = piece_at bytes o.tbs; algorithm = part bytes o.algorithm; signature = part bytes o.signature }
+
+pub record IsOuterWithin (at end : ℕ) (o : OuterPlaces) : Type 0 where
+  pub from : at ≤ o.tbs.start
+  pub headed : o.tbs.start ≤ o.tbs.content
+  pub filled : o.tbs.content ≤ o.tbs.end
+  pub to : o.tbs.end ≤ end
+  pub algorithm : IsSpan end o.algorithm
+  pub signature : IsSpan end o.signature
+
+abbrev pub listed_of : List ℕ → Bool × Span → Bool × List ℕ
+listed_of bytes l = (l.0, part bytes l.1)
+
+abbrev pub IsListedWithin : ℕ → Bool × Span → Type 0
+IsListedWithin end l = IsSpan end l.1
+
+-- ---- the whole
+
+abbrev pub parts_of : List ℕ → Places → Parts
+parts_of bytes p =
+    record {
+      outer = outer_of bytes p.outer;
+      front = part bytes p.front;
+      head = head_of bytes p.head;
+      body = body_of bytes p.body;
+      listed = p.listed;
+      list = part bytes p.list;
+    }
+
+-- every part lies below the number
+pub record ArePlaces (end : ℕ) (p : Places) : Type 0 where
+  pub outer : IsOuterWithin 0 end p.outer
+  pub front : IsSpan end p.front
+  pub head : IsHeadWithin 0 end p.head
+  pub body : IsBodyWithin 0 end p.body
+  pub list : IsSpan end p.list
+
+-- the certificate at the places of its parts and of its extensions
+abbrev pub placed_certificate : List ℕ → Places → ℤ → ℤ → List ExtensionPlaces → Cert
+placed_certificate bytes p not_before not_after es =
+    certificate_of bytes (parts_of bytes p) not_before not_after (map (extension_of bytes) es)
+
+-- what stands from a place on up to the end
+abbrev pub rest_from : List ℕ → ℕ → ℕ → List ℕ
+rest_from bytes end next = slice_range bytes next end
+
+-- the content of a place lies below the number
+pub record IsContent (end : ℕ) (p : Place) : Type 0 where
+  pub filled : p.content ≤ p.end
+  pub below : p.end ≤ end
+
+-- the part at a span, and what follows it up to the end
+abbrev pub placed_front : List ℕ → ℕ → Span → List ℕ × List ℕ
+placed_front bytes end s = (part bytes s, slice_range bytes s.end end)
+
+-- the span lies after the first number, ends after it, and lies below the second
+pub record IsFrontWithin (at end : ℕ) (s : Span) : Type 0 where
+  pub ordered : s.start ≤ s.end
+  pub below : s.end ≤ end
+  pub after : at < s.end

@@ -1,0 +1,70 @@
+//! The list of a certificate's extensions, and whether an object identifier stands in it twice: RFC 5280 section 4.2.
+
+ghost use Rattle.std.specs.Prelude.{◌≡◌, ◌≤◌, length, slice_range, map, IfOk};
+ghost use Rattle.std.specs.List.{All};
+ghost use Rattle.std.specs.Ordering.{nat_cmp};
+ghost use Rattle.std.specs.Cmp.Lexicographic.{slice_cmp};
+ghost use Rattle.sig_der.specs.Taking.{many_at};
+ghost use Rattle.sig_certificate.specs.Answers.{Reads};
+ghost use Rattle.sig_certificate.specs.Cutting.{extension_at};
+ghost use Rattle.sig_certificate.specs.Held.{IsRecorded};
+ghost use Rattle.sig_certificate.specs.Lookups.{are_single};
+ghost use Rattle.sig_certificate.specs.Places.{part, extension_of, AreSpans, Ascend};
+
+use crate::error::X509ReadError;
+use crate::extensions::ExtensionPlaces;
+use crate::reading::extensions_at;
+use crate::span::clipped;
+use std::alloc::Global;
+use std::cmp::Ordering;
+
+/// Where the extensions of a certificate stand. Whether an object identifier stands twice is found once, since the test of a
+/// leaf takes no memory.
+#[derive(Drop)]
+pub(crate) struct Listed {
+    pub(crate) places: Vec<ExtensionPlaces>,
+    pub(crate) single: bool,
+}
+
+/// How the object identifiers of two extensions compare, byte for byte.
+fn compared(bytes: &[u8], first: &ExtensionPlaces, second: &ExtensionPlaces) -> Ordering
+    ensures { result ≡ slice_cmp nat_cmp (part bytes.now first.now.oid) (part bytes.now second.now.oid) }
+{
+    clipped(bytes, first.oid).cmp(clipped(bytes, second.oid))
+}
+
+/// Whether no object identifier stands twice. The list is sorted by them, so that equal ones are neighbours, and then back into the
+/// order of the text, both in place: this takes no memory, and the time of a sort, since whoever makes a certificate chooses how
+/// many extensions it has.
+fn are_single(bytes: &[u8], extensions: &mut [ExtensionPlaces]) -> bool
+    requires { Ascend extensions.old }
+    ensures single { result ≡ are_single (map (extension_of bytes.now) extensions.old) }
+    ensures same { extensions.new ≡ extensions.old }
+{
+    extensions.sort_unstable_by(|a, b| compared(bytes, a, b));
+    let single = extensions.is_sorted_by(|a, b| compared(bytes, a, b).is_lt());
+    extensions.sort_unstable_by_key(|places| places.whole.start);
+    single
+}
+
+/// The extensions from `at` to `end` itself. `Der` where something else stands there.
+pub(crate) fn listed_at(
+    alloc: Global,
+    bytes: &[u8],
+    at: usize,
+    end: usize,
+) -> Result<Listed, X509ReadError>
+    requires from { at ≤ end }
+    requires to { end ≤ length bytes.now }
+    ensures exact { Reads (λ l. map (extension_of bytes.now) l.places.items) result (many_at extension_at (slice_range bytes.now at end)) }
+    ensures within { IfOk result (λ l. All (AreSpans end) l.places.items) }
+    ensures recorded { IfOk result (IsRecorded bytes.now) }
+{
+    match extensions_at(alloc, bytes, at, end) {
+        Err(e) => Err(e),
+        Ok(mut places) => {
+            let single = are_single(bytes, places.as_mut_slice());
+            Ok(Listed { places, single })
+        }
+    }
+}

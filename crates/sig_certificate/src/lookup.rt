@@ -1,0 +1,63 @@
+//! A certificate's extensions, lent, and the look-up of an object identifier.
+
+ghost use Rattle.std.specs.Prelude.{◌≡◌, length, map};
+ghost use Rattle.std.specs.List.{All};
+ghost use Rattle.sig_certificate.specs.Lookups.{lent, with_oid, Finds};
+ghost use Rattle.sig_certificate.specs.Places.{extension_of, AreSpans};
+
+use crate::extensions::ExtensionPlaces;
+use crate::span::part;
+
+/// An extension of a certificate: RFC 5280 section 4.1. Its parts are lent from the certificate.
+#[derive(Clone, Copy, Debug)]
+pub struct ExtensionRef<'a> {
+    /// The contents octets of the object identifier.
+    pub oid: &'a [u8],
+    /// Whether who does not know the extension has to refuse the certificate.
+    pub critical: bool,
+    /// The contents octets of the OCTET STRING.
+    pub value: &'a [u8],
+    /// The whole SEQUENCE.
+    pub whole: &'a [u8],
+}
+
+/// The extensions of one object identifier.
+#[derive(Clone, Copy, Debug)]
+pub enum Lookup<'a> {
+    /// There is none.
+    Absent,
+    /// There is this one alone.
+    One(ExtensionRef<'a>),
+    /// There are two or more.
+    Several,
+}
+
+/// The extension at the places.
+pub(crate) fn lend<'a>(bytes: &'a [u8], places: &ExtensionPlaces) -> ExtensionRef<'a>
+    requires { AreSpans (length bytes.now) places.now }
+    ensures { lent result ≡ extension_of bytes.now places.now }
+{
+    ExtensionRef {
+        oid: part(bytes, places.oid),
+        critical: places.critical,
+        value: part(bytes, places.value),
+        whole: part(bytes, places.whole),
+    }
+}
+
+/// The extensions of this object identifier among those at the places.
+pub(crate) fn look_up<'a>(bytes: &'a [u8], extensions: &[ExtensionPlaces], oid: &[u8]) -> Lookup<'a>
+    requires { All (AreSpans (length bytes.now)) extensions.now }
+    ensures { Finds (with_oid oid.now (map (extension_of bytes.now) extensions.now)) result }
+{
+    let mut found = Lookup::Absent;
+    for places in extensions {
+        if part(bytes, places.oid) == oid {
+            found = match found {
+                Lookup::Absent => Lookup::One(lend(bytes, places)),
+                _ => Lookup::Several,
+            };
+        }
+    }
+    found
+}

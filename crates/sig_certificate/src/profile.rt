@@ -1,0 +1,167 @@
+//! What a certificate may be: a leaf, an authority, a root.
+
+ghost use Rattle.std.specs.Prelude.{◌≡◌};
+ghost use Rattle.sig_certificate.specs.Profile.{refusal, usage, constraints, code_signing, authority, signer, ca_refusal, root_refusal, leaf_refusal};
+
+use crate::certificate::Certificate;
+use crate::lookup::Lookup;
+use crate::profile_error::{
+    CertificateValidationError, ExtensionErrorKind, NotCAErrorKind, NotLeafErrorKind, PartName,
+};
+use crate::values::{BasicConstraints, KeyUsage, read_basic_constraints, read_key_usage};
+use crate::walks::read_purpose;
+use sig_der::oid::{BASIC_CONSTRAINTS, CODE_SIGNING, EXTENDED_KEY_USAGE, KEY_USAGE};
+
+/// What the key usage of the certificate says: None where there is none, `Malformed` where it is malformed or stands several
+/// times.
+#[tactic(auto, using(crate::proofs::HeldLaws::held_absent, crate::proofs::HeldLaws::held_one, crate::proofs::HeldLaws::held_several))]
+pub(crate) fn key_usage(
+    certificate: &Certificate,
+) -> Result<Option<KeyUsage>, CertificateValidationError>
+    ensures { result ≡ usage certificate.now }
+{
+    match certificate.extension(KEY_USAGE) {
+        Lookup::Absent => Ok(None),
+        Lookup::Several => Err(CertificateValidationError::Malformed),
+        Lookup::One(extension) => match read_key_usage(extension.value) {
+            None => Err(CertificateValidationError::Malformed),
+            Some(usage) => Ok(Some(usage)),
+        },
+    }
+}
+
+/// Whether the basic constraints of the certificate are critical, and what they say. None where there are none, `Malformed`
+/// where they are malformed or stand several times. For the pools of sig_x509.
+#[tactic(auto, using(crate::proofs::HeldLaws::held_absent, crate::proofs::HeldLaws::held_one, crate::proofs::HeldLaws::held_several))]
+pub fn basic_constraints(
+    certificate: &Certificate,
+) -> Result<Option<(bool, BasicConstraints)>, CertificateValidationError>
+    ensures { result ≡ constraints certificate.now }
+{
+    match certificate.extension(BASIC_CONSTRAINTS) {
+        Lookup::Absent => Ok(None),
+        Lookup::Several => Err(CertificateValidationError::Malformed),
+        Lookup::One(extension) => match read_basic_constraints(extension.value) {
+            None => Err(CertificateValidationError::Malformed),
+            Some(constraints) => Ok(Some((extension.critical, constraints))),
+        },
+    }
+}
+
+/// Whether code signing is among the purposes of the certificate's extended key usage. None where there is none, `Malformed`
+/// where it is malformed or stands several times. For the pools of sig_x509.
+#[tactic(auto, using(crate::proofs::HeldLaws::held_absent, crate::proofs::HeldLaws::held_one, crate::proofs::HeldLaws::held_several))]
+pub fn code_signing(certificate: &Certificate) -> Result<Option<bool>, CertificateValidationError>
+    ensures { result ≡ code_signing certificate.now }
+{
+    match certificate.extension(EXTENDED_KEY_USAGE) {
+        Lookup::Absent => Ok(None),
+        Lookup::Several => Err(CertificateValidationError::Malformed),
+        Lookup::One(extension) => match read_purpose(extension.value, CODE_SIGNING) {
+            None => Err(CertificateValidationError::Malformed),
+            Some(is) => Ok(Some(is)),
+        },
+    }
+}
+
+fn missing(part: PartName) -> CertificateValidationError
+    ensures { result ≡ CertificateValidationError.Extension (ExtensionErrorKind.Missing part) }
+{
+    ExtensionErrorKind::Missing(part).into()
+}
+
+/// Whether what the two extensions say makes an authority.
+fn judge_authority(
+    constraints: Result<Option<(bool, BasicConstraints)>, CertificateValidationError>,
+    usage: Result<Option<KeyUsage>, CertificateValidationError>,
+) -> Result<(), CertificateValidationError>
+    ensures { refusal result ≡ authority constraints usage }
+{
+    let (critical, constraints) = match constraints {
+        Err(e) => return Err(e),
+        Ok(None) => return Err(missing(PartName::BasicConstraints)),
+        Ok(Some(found)) => found,
+    };
+    if !critical {
+        return Err(ExtensionErrorKind::NotCritical(PartName::BasicConstraints).into());
+    }
+    let usage = match usage {
+        Err(e) => return Err(e),
+        Ok(None) => return Err(missing(PartName::KeyUsage)),
+        Ok(Some(found)) => found,
+    };
+    match (constraints.ca, usage.key_cert_sign) {
+        (true, true) => Ok(()),
+        (false, false) => Err(NotCAErrorKind::NotCA.into()),
+        (ca, key_cert_sign) => Err(NotCAErrorKind::Invalid { ca, key_cert_sign }.into()),
+    }
+}
+
+/// Whether the certificate is an authority. The first of these that has a cause is answered:
+///
+/// `VersionUnsupported` unless the version is 3. `Malformed` or missing basic constraints, or ones that are not critical.
+/// `Malformed` or missing key usage. `NotCA` where neither cA nor keyCertSign is set, `Invalid` where one alone is.
+pub fn is_ca(certificate: &Certificate) -> Result<(), CertificateValidationError>
+    ensures { refusal result ≡ ca_refusal certificate.now }
+{
+    if certificate.version() != 3 {
+        return Err(CertificateValidationError::VersionUnsupported);
+    }
+    judge_authority(basic_constraints(certificate), key_usage(certificate))
+}
+
+/// Whether the certificate is a root: the refusals of `is_ca`, then `NotRootCA` where issuer and subject differ.
+pub fn is_root_ca(certificate: &Certificate) -> Result<(), CertificateValidationError>
+    ensures { refusal result ≡ root_refusal certificate.now }
+{
+    match is_ca(certificate) {
+        Err(e) => Err(e),
+        Ok(()) if certificate.issuer() == certificate.subject() => Ok(()),
+        Ok(()) => Err(NotCAErrorKind::NotRootCA.into()),
+    }
+}
+
+fn bit_unset(part: PartName) -> CertificateValidationError
+    ensures { result ≡ CertificateValidationError.Extension (ExtensionErrorKind.BitUnset part) }
+{
+    ExtensionErrorKind::BitUnset(part).into()
+}
+
+/// Whether what the two extensions say lets the key sign code.
+fn judge_signer(
+    usage: Result<Option<KeyUsage>, CertificateValidationError>,
+    code_signing: Result<Option<bool>, CertificateValidationError>,
+) -> Result<(), CertificateValidationError>
+    ensures { refusal result ≡ signer usage code_signing }
+{
+    let usage = match usage {
+        Err(e) => return Err(e),
+        Ok(None) => return Err(missing(PartName::KeyUsage)),
+        Ok(Some(found)) => found,
+    };
+    if !usage.digital_signature {
+        return Err(bit_unset(PartName::KeyUsageDigitalSignature));
+    }
+    match code_signing {
+        Err(e) => Err(e),
+        Ok(None) => Err(missing(PartName::ExtendedKeyUsage)),
+        Ok(Some(true)) => Ok(()),
+        Ok(Some(false)) => Err(bit_unset(PartName::ExtendedKeyUsageDigitalSignature)),
+    }
+}
+
+/// Whether the certificate is a leaf that may sign code. The first of these that has a cause is answered:
+///
+/// `VersionUnsupported` unless the version is 3. `IsCA` where `is_ca` is Ok. `Malformed` or missing key usage, or one without the
+/// bit for digital signatures. `Malformed` or missing extended key usage, or one without code signing.
+pub fn is_leaf(certificate: &Certificate) -> Result<(), CertificateValidationError>
+    ensures { refusal result ≡ leaf_refusal certificate.now }
+{
+    if certificate.version() != 3 {
+        return Err(CertificateValidationError::VersionUnsupported);
+    }
+    match is_ca(certificate) {
+        Ok(()) => Err(NotLeafErrorKind::IsCA.into()),
+        Err(_) => judge_signer(key_usage(certificate), code_signing(certificate)),
+    }
+}

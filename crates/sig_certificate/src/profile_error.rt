@@ -1,0 +1,106 @@
+//! Why a certificate does not have the profile that is asked for.
+
+ghost use Rattle.std.specs.Prelude.{◌≡◌};
+ghost use Rattle.sig_certificate.specs.declared.profile_error.CertificateValidationError.TheVariants.{NotLeaf, NotCA, Extension};
+
+use thiserror::Error;
+
+/// Why a certificate is no leaf, no authority or no root.
+#[derive(Clone, Copy, Debug, PartialEq, Eq, Error)]
+pub enum CertificateValidationError {
+    /// The version is not 3.
+    #[error("VersionUnsupported")]
+    VersionUnsupported,
+    /// An extension is malformed, or stands several times.
+    #[error("Malformed")]
+    Malformed,
+    /// The certificate is no leaf.
+    #[error("NotLeaf")]
+    NotLeaf(NotLeafErrorKind),
+    /// The certificate is no authority, or no root.
+    #[error("NotCA")]
+    NotCA(NotCAErrorKind),
+    /// An extension is missing, or is not as it has to be.
+    #[error("Extension")]
+    Extension(ExtensionErrorKind),
+}
+
+/// Why a certificate is no leaf.
+#[derive(Clone, Copy, Debug, PartialEq, Eq, Error)]
+pub enum NotLeafErrorKind {
+    /// It is an authority.
+    #[error("IsCA")]
+    IsCA,
+}
+
+/// Why a certificate is no authority, or no root.
+#[derive(Clone, Copy, Debug, PartialEq, Eq, Error)]
+pub enum NotCAErrorKind {
+    /// Neither cA nor keyCertSign is set.
+    #[error("NotCA")]
+    NotCA,
+    /// Issuer and subject differ.
+    #[error("NotRootCA")]
+    NotRootCA,
+    /// One of cA and keyCertSign is set without the other.
+    #[error("Invalid")]
+    Invalid {
+        /// Whether cA is set.
+        ca: bool,
+        /// Whether keyCertSign is set.
+        key_cert_sign: bool,
+    },
+}
+
+/// What is wrong with an extension.
+#[derive(Clone, Copy, Debug, PartialEq, Eq, Error)]
+pub enum ExtensionErrorKind {
+    /// It is not there.
+    #[error("Missing")]
+    Missing(PartName),
+    /// It is not critical.
+    #[error("NotCritical")]
+    NotCritical(PartName),
+    /// A bit or a purpose is not there.
+    #[error("BitUnset")]
+    BitUnset(PartName),
+}
+
+/// A part of a certificate's extensions.
+#[derive(Clone, Copy, Debug, PartialEq, Eq)]
+pub enum PartName {
+    /// Basic constraints.
+    BasicConstraints,
+    /// Key usage.
+    KeyUsage,
+    /// The bit of key usage for digital signatures.
+    KeyUsageDigitalSignature,
+    /// Extended key usage.
+    ExtendedKeyUsage,
+    /// The purpose of code signing in extended key usage, under the name that the ported crate gives it.
+    ExtendedKeyUsageDigitalSignature,
+}
+
+impl From<NotLeafErrorKind> for CertificateValidationError {
+    ghost from_gives = { λ kind e. e ≡ NotLeaf kind };
+
+    fn from(kind: NotLeafErrorKind) -> CertificateValidationError {
+        CertificateValidationError::NotLeaf(kind)
+    }
+}
+
+impl From<NotCAErrorKind> for CertificateValidationError {
+    ghost from_gives = { λ kind e. e ≡ NotCA kind };
+
+    fn from(kind: NotCAErrorKind) -> CertificateValidationError {
+        CertificateValidationError::NotCA(kind)
+    }
+}
+
+impl From<ExtensionErrorKind> for CertificateValidationError {
+    ghost from_gives = { λ kind e. e ≡ Extension kind };
+
+    fn from(kind: ExtensionErrorKind) -> CertificateValidationError {
+        CertificateValidationError::Extension(kind)
+    }
+}

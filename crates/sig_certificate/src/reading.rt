@@ -1,0 +1,67 @@
+//! Reading a certificate into places.
+
+ghost use Rattle.std.specs.Prelude.{◌≡◌, ◌≤◌, ℤ, length, slice_range, map, IfOk, IfSome};
+ghost use Rattle.std.specs.List.{All};
+ghost use Rattle.sig_der.specs.Taking.{many_at};
+ghost use Rattle.sig_certificate.specs.Answers.{Reads};
+ghost use Rattle.sig_certificate.specs.Cutting.{Parts, extension_at, IsCut};
+ghost use Rattle.sig_certificate.specs.Places.{extension_of, parts_of, AreSpans, ArePlaces, Ascend};
+ghost use Rattle.sig_certificate.specs.Held.{IsDatedAs};
+
+use crate::error::X509ReadError;
+use crate::extensions::{ExtensionPlaces, extension_at};
+use crate::parts::{Places, parts_of};
+use crate::seconds::second_at;
+use std::alloc::Global;
+
+/// A certificate whose extensions are not read yet: the places of its parts, and the times of its validity in seconds since 1970.
+#[derive(Clone, Copy, Debug)]
+pub(crate) struct Dated {
+    pub(crate) places: Places,
+    pub(crate) not_before: i64,
+    pub(crate) not_after: i64,
+}
+
+/// The parts and the validity of the certificate that the bytes are. None where there is none.
+pub(crate) fn dated_parts(der: &[u8]) -> Option<Dated>
+    ensures found { IfSome result (λ d. IsCut der.now (parts_of der.now d.places) d.not_before d.not_after) }
+    ensures only { (p : Parts) (not_before not_after : ℤ) → IsCut der.now p not_before not_after
+        → IsDatedAs der.now p not_before not_after result }
+    ensures within { IfSome result (λ d. ArePlaces (length der.now) d.places) }
+{
+    let places = parts_of(der)?;
+    let not_before = second_at(der, places.body.not_before)?;
+    let not_after = second_at(der, places.body.not_after)?;
+    Some(Dated {
+        places,
+        not_before,
+        not_after,
+    })
+}
+
+/// Where the extensions from `at` to `end` itself stand. `Der` where something else stands there.
+pub(crate) fn extensions_at(
+    alloc: Global,
+    bytes: &[u8],
+    at: usize,
+    end: usize,
+) -> Result<Vec<ExtensionPlaces>, X509ReadError>
+    requires from { at ≤ end }
+    requires to { end ≤ length bytes.now }
+    ensures exact { Reads (λ v. map (extension_of bytes.now) v.items) result (many_at extension_at (slice_range bytes.now at end)) }
+    ensures within { IfOk result (λ v. All (AreSpans end) v.items) }
+    ensures ascend { IfOk result (λ v. Ascend v.items) }
+{
+    let mut found = Vec::new(alloc);
+    let mut next = at;
+    while next < end {
+        match extension_at(bytes, next, end) {
+            None => return Err(X509ReadError::Der),
+            Some(extension) => {
+                next = extension.whole.end;
+                found.push(extension)?;
+            }
+        }
+    }
+    Ok(found)
+}

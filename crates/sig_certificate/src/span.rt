@@ -1,0 +1,52 @@
+//! A part of a text by its ends.
+
+ghost use Rattle.std.specs.Prelude.{◌≡◌, ◌≤◌, length};
+ghost use Rattle.sig_certificate.specs.Places.{part};
+
+use sig_der::Place;
+
+/// Where a part of a text begins and ends, in bytes. For sig_policy, which reads names by their places.
+#[derive(Clone, Copy, Debug)]
+pub struct Span {
+    /// The place of its first byte.
+    pub start: usize,
+    /// The place behind its last byte.
+    pub end: usize,
+}
+
+/// The whole element at the place.
+pub(crate) fn whole_of(place: Place) -> Span
+    ensures { result ≡ record { start = place.start; end = place.end } }
+{
+    Span {
+        start: place.start,
+        end: place.end,
+    }
+}
+
+/// The contents octets at the place.
+pub(crate) fn content_of(place: Place) -> Span
+    ensures { result ≡ record { start = place.content; end = place.end } }
+{
+    Span {
+        start: place.content,
+        end: place.end,
+    }
+}
+
+/// The part of the text. For sig_policy, as `Span`.
+pub fn part(bytes: &[u8], span: Span) -> &[u8]
+    requires ordered { span.start ≤ span.end }
+    requires below { span.end ≤ length bytes.now }
+    ensures { result.now ≡ part bytes.now span }
+{
+    &bytes[span.start..span.end]
+}
+
+/// The part of the text as far as the text goes: `part` at a span that may lie anywhere.
+pub(crate) fn clipped(bytes: &[u8], span: Span) -> &[u8]
+    ensures { result.now ≡ part bytes.now span }
+{
+    let end = span.end.min(bytes.len());
+    &bytes[span.start.min(end)..end]
+}

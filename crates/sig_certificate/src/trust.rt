@@ -1,0 +1,127 @@
+//! The checks of a certificate that signed what a log has recorded.
+
+ghost use Rattle.std.specs.Prelude.{◌≡◌};
+ghost use Rattle.sig_certificate.specs.Profile.{refusal};
+ghost use Rattle.sig_certificate.specs.Trust.{may_sign, may_sign_code, is_named, usages_refusal, names_refusal, validity_refusal, expiration_refusal, trust_refusal};
+ghost use Rattle.sig_certificate.specs.Lookups.{with_oid};
+
+use crate::certificate::Certificate;
+use crate::lookup::Lookup;
+use crate::profile::{code_signing, key_usage};
+use crate::profile_error::CertificateValidationError;
+use crate::values::KeyUsage;
+use crate::walks::holds_names;
+use sig_base::{Result, SigstoreError};
+use sig_der::oid::SUBJECT_ALTERNATIVE_NAME;
+
+fn may_sign(usage: std::result::Result<Option<KeyUsage>, CertificateValidationError>) -> bool
+    ensures { result ≡ may_sign usage }
+{
+    match usage {
+        Ok(Some(found)) => found.digital_signature,
+        _ => false,
+    }
+}
+
+fn may_sign_code(
+    code_signing: std::result::Result<Option<bool>, CertificateValidationError>,
+) -> bool
+    ensures { result ≡ may_sign_code code_signing }
+{
+    match code_signing {
+        Ok(Some(found)) => found,
+        _ => false,
+    }
+}
+
+/// Whether the key may sign code (RFC 5280 sections 4.2.1.3 and 4.2.1.12).
+///
+/// `CertificateWithoutDigitalSignatureKeyUsage` where key usage is absent, malformed or without digitalSignature; then
+/// `CertificateWithoutCodeSigningKeyUsage` where extended key usage is absent, malformed or without code signing.
+pub fn verify_key_usages(certificate: &Certificate) -> Result<()>
+    ensures { refusal result ≡ usages_refusal certificate.now }
+{
+    if !may_sign(key_usage(certificate)) {
+        return Err(SigstoreError::CertificateWithoutDigitalSignatureKeyUsage);
+    }
+    if !may_sign_code(code_signing(certificate)) {
+        return Err(SigstoreError::CertificateWithoutCodeSigningKeyUsage);
+    }
+    Ok(())
+}
+
+/// Whether exactly one well-formed extension of alternative names is there.
+#[tactic(auto, using(crate::proofs::HeldLaws::named_absent, crate::proofs::HeldLaws::named_one, crate::proofs::HeldLaws::named_several))]
+fn is_named(certificate: &Certificate) -> bool
+    ensures { result ≡ is_named (with_oid SUBJECT_ALTERNATIVE_NAME.now certificate.now.extensions) }
+{
+    match certificate.extension(SUBJECT_ALTERNATIVE_NAME) {
+        Lookup::One(extension) => holds_names(extension.value),
+        Lookup::Absent => false,
+        Lookup::Several => false,
+    }
+}
+
+/// Whether the subject has alternative names (RFC 5280 section 4.2.1.6): `CertificateWithoutSubjectAlternativeName` unless there
+/// is exactly one such extension and it is well formed.
+pub fn verify_has_san(certificate: &Certificate) -> Result<()>
+    ensures { refusal result ≡ names_refusal certificate.now }
+{
+    if is_named(certificate) {
+        Ok(())
+    } else {
+        Err(SigstoreError::CertificateWithoutSubjectAlternativeName)
+    }
+}
+
+/// Whether the validity has begun by now, in seconds since 1970: `CertificateValidityError` with its first second where it has
+/// not.
+pub fn verify_validity(certificate: &Certificate, now: i64) -> Result<()>
+    ensures { refusal result ≡ validity_refusal certificate.now now }
+{
+    let not_before = certificate.not_before();
+    if now < not_before {
+        Err(SigstoreError::CertificateValidityError(not_before))
+    } else {
+        Ok(())
+    }
+}
+
+/// Whether the time at which the entry was logged, in seconds since 1970, is within the validity.
+///
+/// `CertificateExpiredBeforeSignaturesSubmittedToRekor` where it is before the first second, and
+/// `CertificateIssuedAfterSignaturesSubmittedToRekor` where it is after the last. The names are the ported crate's.
+pub fn verify_expiration(certificate: &Certificate, integrated_time: i64) -> Result<()>
+    ensures { refusal result ≡ expiration_refusal certificate.now integrated_time }
+{
+    let not_before = certificate.not_before();
+    if integrated_time < not_before {
+        return Err(
+            SigstoreError::CertificateExpiredBeforeSignaturesSubmittedToRekor {
+                integrated_time,
+                not_before,
+            },
+        );
+    }
+    let not_after = certificate.not_after();
+    if integrated_time > not_after {
+        return Err(
+            SigstoreError::CertificateIssuedAfterSignaturesSubmittedToRekor {
+                integrated_time,
+                not_after,
+            },
+        );
+    }
+    Ok(())
+}
+
+/// The four checks in order: key usages, alternative names, validity by now, and validity at the time of the entry. The first
+/// refusal is answered. Both times are seconds since 1970.
+pub fn is_trusted(certificate: &Certificate, integrated_time: i64, now: i64) -> Result<()>
+    ensures { refusal result ≡ trust_refusal certificate.now integrated_time now }
+{
+    verify_key_usages(certificate)?;
+    verify_has_san(certificate)?;
+    verify_validity(certificate, now)?;
+    verify_expiration(certificate, integrated_time)
+}

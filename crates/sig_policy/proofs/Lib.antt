@@ -1,0 +1,3 @@
+pub mod Utf8Laws
+pub mod IdentityLaws
+pub mod RequestLaws

@@ -1,0 +1,58 @@
+-- The policy of one identity: who the certificate was issued for, and by whose word.
+use Rattle.std.specs.Prelude.{ℕ, List, [], ◌∷◌, Bool, false, ◌&&◌, Option, Some, None, option_map, codes, if◌then◌else◌}
+use Rattle.std.specs.List.{list_any, filter_map, join_by}
+use Rattle.std.specs.Str.{bytes_eq}
+use Rattle.sig_certificate.specs.Certificate.{Extension, Cert}
+use Rattle.sig_policy.specs.Claim.{Claim}
+use Rattle.sig_certificate.specs.Lookups.{with_oid}
+use Rattle.sig_policy.specs.Texts.{utf8_text}
+use Rattle.sig_certificate.specs.Names.{Name, Email, Uri, Other, Unread, names_of}
+use Rattle.sig_policy.specs.Single.{fulcio, extension_text, is_text, single_refusal}
+use Rattle.sig_policy.specs.declared.failure.PolicyError.{PolicyError}
+use Rattle.sig_policy.specs.declared.failure.PolicyError.TheVariants.{ExtensionNotFound, ExtensionCheckFailed}
+
+-- the object identifier of the subject alternative name, 2.5.29.17
+abbrev pub subject_alternative_name : List ℕ
+subject_alternative_name = 85 ∷ 29 ∷ 17 ∷ []
+
+-- the identity that a name gives: the text of an email, of a URI, or of an other name of Fulcio's kind, 1.3.6.1.4.1.57264.1.7
+abbrev pub identity_of : Name → Option (List ℕ)
+identity_of (Email text) = utf8_text text
+identity_of (Uri text) = utf8_text text
+identity_of (Other oid value) = if bytes_eq oid (fulcio 7) then utf8_text value else None
+identity_of Unread = None
+
+-- the identities that a subject alternative name of this value gives, in order; none where it is malformed
+abbrev pub identities_of : List ℕ → Option (List (List ℕ))
+identities_of value = option_map (λ ns. filter_map identity_of ns) (names_of value)
+
+-- those of the only extension
+abbrev pub only_identities : List Extension → Option (List (List ℕ))
+only_identities [] = None
+only_identities (e ∷ []) = identities_of e.value
+only_identities (e ∷ f ∷ es) = None
+
+abbrev pub identities : Cert → Option (List (List ℕ))
+identities c = only_identities (with_oid subject_alternative_name c.extensions)
+
+-- the identities are there, and this is one of them
+abbrev pub is_among : List ℕ → Option (List (List ℕ)) → Bool
+is_among identity None = false
+is_among identity (Some texts) = list_any (λ t. bytes_eq t identity) texts
+
+-- why the identity is not among them
+abbrev pub name_refusal : List ℕ → Option (List (List ℕ)) → PolicyError
+name_refusal identity None = ExtensionNotFound
+name_refusal identity (Some texts) = ExtensionCheckFailed (codes "SubjectAltName") identity (join_by (λ t. t) (codes ", ") texts)
+
+abbrev pub is_issued_by : List ℕ → Cert → Bool
+is_issued_by issuer c = is_text issuer (extension_text (fulcio 1) c)
+
+abbrev pub identity_holds : Claim → Cert → Bool
+identity_holds p c = is_issued_by p.issuer c && is_among p.identity (identities c)
+
+-- the issuer is asked first
+abbrev pub identity_refusal : Claim → Cert → PolicyError
+identity_refusal p c =
+    if is_issued_by p.issuer c then name_refusal p.identity (identities c)
+    else single_refusal (codes "OIDCIssuer") p.issuer (extension_text (fulcio 1) c)

@@ -1,0 +1,7 @@
+pub mod Texts
+pub mod Failures
+pub mod Verdict
+pub mod Single
+pub mod Claim
+pub mod Identities
+pub mod Requests

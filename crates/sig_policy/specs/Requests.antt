@@ -1,0 +1,61 @@
+-- The policies of a request: a list of which each, or at least one, has to hold.
+use Rattle.std.specs.Prelude.{◌≡◌, ℕ, List, length, Bool, Option, Some, None, codes, if◌then◌else◌}
+use Rattle.std.specs.List.{list_all, list_any, filter_map}
+use Rattle.sig_certificate.specs.Certificate.{Cert}
+use Rattle.sig_policy.specs.Single.{fulcio, extension_text, is_text, single_refusal}
+use Rattle.sig_policy.specs.Identities.{identity_holds, identity_refusal}
+use Rattle.sig_policy.specs.Failures.{IsAllOf}
+use Rattle.sig_policy.specs.declared.failure.PolicyError.{PolicyError}
+use Rattle.sig_policy.specs.declared.failure.PolicyError.TheVariants.{AnyOf}
+use Rattle.sig_policy.specs.declared.request.LeafPolicy.{LeafPolicy}
+use Rattle.sig_policy.specs.declared.request.LeafPolicy.TheVariants.{OIDCIssuer, GitHubWorkflowTrigger, GitHubWorkflowSHA, GitHubWorkflowName, GitHubWorkflowRepository, GitHubWorkflowRef, Identity}
+use Rattle.sig_policy.specs.declared.request.RequestPolicy.{RequestPolicy}
+use Rattle.sig_policy.specs.declared.request.RequestPolicy.TheVariants.{All, Any}
+
+-- ---- one policy
+
+abbrev pub holds_at : ℕ → List ℕ → Cert → Bool
+holds_at n asked c = is_text asked (extension_text (fulcio n) c)
+
+abbrev pub refusal_at : ℕ → List ℕ → List ℕ → Cert → PolicyError
+refusal_at n name asked c = single_refusal name asked (extension_text (fulcio n) c)
+
+abbrev pub leaf_holds : LeafPolicy → Cert → Bool
+leaf_holds (OIDCIssuer p) c = holds_at 1 p.0 c
+leaf_holds (GitHubWorkflowTrigger p) c = holds_at 2 p.0 c
+leaf_holds (GitHubWorkflowSHA p) c = holds_at 3 p.0 c
+leaf_holds (GitHubWorkflowName p) c = holds_at 4 p.0 c
+leaf_holds (GitHubWorkflowRepository p) c = holds_at 5 p.0 c
+leaf_holds (GitHubWorkflowRef p) c = holds_at 6 p.0 c
+leaf_holds (Identity p) c = identity_holds p c
+
+abbrev pub leaf_refusal : LeafPolicy → Cert → PolicyError
+leaf_refusal (OIDCIssuer p) c = refusal_at 1 (codes "OIDCIssuer") p.0 c
+leaf_refusal (GitHubWorkflowTrigger p) c = refusal_at 2 (codes "GitHubWorkflowTrigger") p.0 c
+leaf_refusal (GitHubWorkflowSHA p) c = refusal_at 3 (codes "GitHubWorkflowSHA") p.0 c
+leaf_refusal (GitHubWorkflowName p) c = refusal_at 4 (codes "GitHubWorkflowName") p.0 c
+leaf_refusal (GitHubWorkflowRepository p) c = refusal_at 5 (codes "GitHubWorkflowRepository") p.0 c
+leaf_refusal (GitHubWorkflowRef p) c = refusal_at 6 (codes "GitHubWorkflowRef") p.0 c
+leaf_refusal (Identity p) c = identity_refusal p c
+
+-- the refusal, where the policy does not hold
+abbrev pub refused : Cert → LeafPolicy → Option PolicyError
+refused c p = if leaf_holds p c then None else Some (leaf_refusal p c)
+
+-- ---- a list of policies
+
+abbrev pub all_hold : List LeafPolicy → Cert → Bool
+all_hold ps c = list_all (λ p. leaf_holds p c) ps
+
+-- none of an empty list does
+abbrev pub any_holds : List LeafPolicy → Cert → Bool
+any_holds ps c = list_any (λ p. leaf_holds p c) ps
+
+abbrev pub request_holds : RequestPolicy → Cert → Bool
+request_holds (All ps) c = all_hold ps c
+request_holds (Any ps) c = any_holds ps c
+
+-- the refusals of those that do not hold, in order; or the number of policies alone
+abbrev pub RequestRefuses : RequestPolicy → Cert → PolicyError → Type 0
+RequestRefuses (All ps) c e = IsAllOf (length ps) (filter_map (refused c) ps) e
+RequestRefuses (Any ps) c e = e ≡ AnyOf (length ps)

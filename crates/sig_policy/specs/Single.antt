@@ -1,0 +1,31 @@
+-- The policies of one extension: Fulcio's extensions whose values are texts themselves, and no DER.
+use Rattle.std.specs.Prelude.{ℕ, List, [], ◌∷◌, Bool, false, Option, Some, None}
+use Rattle.std.specs.Str.{bytes_eq}
+use Rattle.sig_certificate.specs.Certificate.{Extension, Cert}
+use Rattle.sig_certificate.specs.Lookups.{with_oid}
+use Rattle.sig_policy.specs.Texts.{utf8_text}
+use Rattle.sig_policy.specs.declared.failure.PolicyError.{PolicyError}
+use Rattle.sig_policy.specs.declared.failure.PolicyError.TheVariants.{ExtensionNotFound, ExtensionCheckFailed}
+
+-- the value of the only extension, where it is UTF-8
+abbrev pub only_text : List Extension → Option (List ℕ)
+only_text [] = None
+only_text (e ∷ []) = utf8_text e.value
+only_text (e ∷ f ∷ es) = None
+
+abbrev pub extension_text : List ℕ → Cert → Option (List ℕ)
+extension_text oid c = only_text (with_oid oid c.extensions)
+
+-- the text is there, and it is this one
+abbrev pub is_text : List ℕ → Option (List ℕ) → Bool
+is_text asked None = false
+is_text asked (Some actual) = bytes_eq actual asked
+
+-- why the text is not the one asked for
+abbrev pub single_refusal : List ℕ → List ℕ → Option (List ℕ) → PolicyError
+single_refusal name asked None = ExtensionNotFound
+single_refusal name asked (Some actual) = ExtensionCheckFailed name asked actual
+
+-- the object identifier of Fulcio's extension n, 1.3.6.1.4.1.57264.1.n
+abbrev pub fulcio : ℕ → List ℕ
+fulcio n = 43 ∷ 6 ∷ 1 ∷ 4 ∷ 1 ∷ 131 ∷ 191 ∷ 48 ∷ 1 ∷ n ∷ []

@@ -1,0 +1,117 @@
+//! Why a policy does not hold of a certificate.
+
+ghost use Rattle.std.specs.Prelude.{◌≡◌, ◌++◌, [], ◌∷◌, length, slice_get, OnOk, OnErr};
+ghost use Rattle.std.specs.Option.{option_copied};
+ghost use Rattle.sig_policy.specs.declared.failure.PolicyError.TheVariants.{OutOfMemory as Memory};
+ghost use Rattle.sig_policy.specs.Failures.{failures, IsAllOf};
+
+use sig_base::{OutOfMemory, Text};
+use std::alloc::{AllocError, AllocFailed, Global};
+use thiserror::Error;
+
+/// Why a policy does not hold of a certificate, or that memory ran out before the answer.
+#[cycle(policy_error)]
+#[derive(Debug, Drop, Error)]
+pub enum PolicyError {
+    /// The certificate has not exactly one extension that the policy asks for, or its value has not the form that it must have.
+    #[error("ExtensionNotFound")]
+    ExtensionNotFound,
+    /// The extension says something else than the policy asks for.
+    #[error("ExtensionCheckFailed")]
+    ExtensionCheckFailed {
+        /// The policy's name, or the extension's.
+        extension: Text,
+        /// What the policy asks for.
+        expected: Text,
+        /// What the extension says.
+        actual: Text,
+    },
+    /// Policies of a list of which each has to hold do not hold.
+    #[error("AllOf")]
+    AllOf {
+        /// The number of policies in the list.
+        total: usize,
+        /// The refusals of those that do not hold, in order.
+        errors: PolicyErrors,
+    },
+    /// No policy of a list of which one has to hold does.
+    #[error("AnyOf")]
+    AnyOf {
+        /// The number of policies in the list.
+        total: usize,
+    },
+    /// No memory could be had.
+    #[error("OutOfMemory")]
+    OutOfMemory,
+}
+
+/// Refusals in order.
+#[cycle(policy_error)]
+#[derive(Debug, Drop)]
+pub struct PolicyErrors {
+    items: Vec<PolicyError>,
+}
+
+impl PolicyErrors {
+    pub(crate) fn new(alloc: Global) -> PolicyErrors
+        ensures { failures result ≡ [] }
+    {
+        PolicyErrors {
+            items: Vec::new(alloc),
+        }
+    }
+
+    /// Adds a refusal at the end. Refuses for want of memory alone; the list is then as before.
+    pub(crate) fn push(&mut self, error: PolicyError) -> Result<(), OutOfMemory>
+        ensures ok { OnOk result (failures self.new ≡ failures self.old ++ error ∷ []) }
+        ensures err { OnErr result (failures self.new ≡ failures self.old) }
+    {
+        self.items.push(error)?;
+        Ok(())
+    }
+
+    /// The number of refusals.
+    pub fn len(&self) -> usize
+        ensures { result ≡ length (failures self.now) }
+    {
+        self.items.len()
+    }
+
+    /// The refusal at a place, counted from 0; none where the place is not below the length.
+    pub fn get(&self, place: usize) -> Option<&PolicyError>
+        ensures { option_copied result ≡ slice_get (failures self.now) place }
+    {
+        self.items.as_slice().get(place)
+    }
+}
+
+/// The refusal of a list of policies of which each has to hold.
+pub(crate) fn all_of(total: usize, errors: PolicyErrors) -> PolicyError
+    ensures { IsAllOf total (failures errors) result }
+{
+    PolicyError::AllOf { total, errors }
+}
+
+impl From<OutOfMemory> for PolicyError {
+    ghost from_gives = { λ _ e. e ≡ Memory };
+
+    fn from(_error: OutOfMemory) -> PolicyError {
+        PolicyError::OutOfMemory
+    }
+}
+
+impl From<AllocError> for PolicyError {
+    ghost from_gives = { λ _ e. e ≡ Memory };
+
+    fn from(_error: AllocError) -> PolicyError {
+        PolicyError::OutOfMemory
+    }
+}
+
+impl<T: Drop> From<AllocFailed<T>> for PolicyError {
+    ghost from_gives = { λ _ e. e ≡ Memory };
+
+    fn from(_error: AllocFailed<T>) -> PolicyError {
+        PolicyError::OutOfMemory
+    }
+}

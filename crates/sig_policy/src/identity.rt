@@ -1,0 +1,110 @@
+//! The policy of one identity.
+
+ghost use Rattle.std.specs.Prelude.{◌≡◌, Some, option_map, map, codes, IfOk};
+ghost use Rattle.std.specs.List.{list_any, join_by};
+ghost use Rattle.std.specs.Str.{bytes_eq};
+ghost use Rattle.sig_policy.specs.Identities.{identities, is_among, name_refusal, identity_holds, identity_refusal};
+ghost use Rattle.sig_policy.specs.Verdict.{IsVerdict};
+
+use crate::failure::PolicyError;
+use crate::fulcio::OIDCIssuer;
+use crate::identities::identities_of;
+use crate::policy::{PolicyResult, VerificationPolicy};
+use crate::single::{SingleX509ExtPolicy, check_failed};
+use sig_base::{OutOfMemory, Text};
+use sig_certificate::{Certificate, Lookup};
+use sig_der::oid;
+use std::alloc::Global;
+use std::marker::Model;
+
+/// The policy that a certificate was issued for this identity, by the word of this issuer. Contracts see both texts.
+#[derive(Debug, Drop)]
+pub struct Identity {
+    identity: Text,
+    issuer: OIDCIssuer,
+}
+
+impl Model for Identity {
+    ghost use Rattle.sig_policy.specs.Claim.{Claim};
+
+    ghost Value = { Claim };
+
+    ghost view = { λ p. record { identity = p.identity; issuer = p.issuer.0 } };
+}
+
+impl Identity {
+    /// The policy that asks for this identity and this issuer. Refuses for want of memory alone.
+    pub fn new(alloc: Global, identity: &str, issuer: &str) -> Result<Identity, OutOfMemory>
+        ensures { IfOk result (λ p. p ≡ record { identity = identity.now; issuer = issuer.now }) }
+    {
+        let identity = Text::copy_of(alloc, identity)?;
+        let issuer = OIDCIssuer::new(alloc, issuer)?;
+        Ok(Identity { identity, issuer })
+    }
+}
+
+impl VerificationPolicy for Identity {
+    ghost holds = { identity_holds };
+
+    ghost refuses = { λ p c e. e ≡ identity_refusal p c };
+
+    /// Nothing exactly where the issuer's policy holds, the certificate has exactly one subject alternative name, it is well formed,
+    /// and one of its emails, URIs or names of Fulcio's kind is the identity. In this order: the issuer's refusal;
+    /// `ExtensionNotFound` for none, several or a malformed one; `ExtensionCheckFailed` with the names, joined.
+    fn verify(&self, alloc: Global, cert: &Certificate) -> PolicyResult {
+        self.issuer.verify(alloc, cert)?;
+        verify_name(alloc, self.identity.as_str(), cert)
+    }
+}
+
+fn verify_name(alloc: Global, identity: &str, cert: &Certificate) -> PolicyResult
+    ensures { IsVerdict
+        (is_among identity.now (identities cert.now))
+        (λ e. e ≡ name_refusal identity.now (identities cert.now))
+        result }
+{
+    match identities(alloc, cert)? {
+        None => Err(PolicyError::ExtensionNotFound),
+        Some(texts) => verify_among(alloc, identity, texts.as_slice()),
+    }
+}
+
+fn verify_among(alloc: Global, identity: &str, texts: &[&str]) -> PolicyResult
+    ensures { IsVerdict
+        (is_among identity.now (Some (map (λ t. t.now) texts.now)))
+        (λ e. e ≡ name_refusal identity.now (Some (map (λ t. t.now) texts.now)))
+        result }
+{
+    if contains(texts, identity) {
+        return Ok(());
+    }
+    let actual = joined(alloc, texts)?;
+    Err(check_failed(alloc, "SubjectAltName", identity, actual.as_str())?)
+}
+
+#[tactic(auto, using(crate::proofs::IdentityLaws::list_any_seen))]
+fn contains(texts: &[&str], text: &str) -> bool
+    ensures { result ≡ list_any (λ t. bytes_eq t text.now) (map (λ t. t.now) texts.now) }
+{
+    texts.contains(&text)
+}
+
+/// The texts with a comma and a blank between each two. Refuses for want of memory alone.
+#[tactic(auto, using(crate::proofs::IdentityLaws::join_by_seen))]
+fn joined(alloc: Global, texts: &[&str]) -> Result<Text, OutOfMemory>
+    ensures { IfOk result (λ s. s ≡ join_by (λ t. t) (codes ", ") (map (λ t. t.now) texts.now)) }
+{
+    let joined = texts.join(alloc, ", ")?;
+    Ok(Text::from(joined))
+}
+
+/// The identities that the certificate names. None where it has not exactly one well-formed subject alternative name. Refuses for
+/// want of memory alone.
+fn identities(alloc: Global, cert: &Certificate) -> Result<Option<Vec<&str>>, OutOfMemory>
+    ensures { IfOk result (λ o. option_map (λ v. map (λ t. t.now) v.items) o ≡ identities cert.now) }
+{
+    match cert.extension(oid::SUBJECT_ALTERNATIVE_NAME) {
+        Lookup::One(extension) => identities_of(alloc, extension.value),
+        _ => Ok(None),
+    }
+}

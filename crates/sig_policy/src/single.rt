@@ -1,0 +1,98 @@
+//! Policies that compare a text with the value of one extension.
+
+ghost use Rattle.std.specs.Prelude.{◌≡◌, ℕ, List, Some, IfOk, option_map};
+ghost use Rattle.sig_certificate.specs.Certificate.{Cert};
+ghost use Rattle.sig_policy.specs.Single.{extension_text, is_text, single_refusal};
+ghost use Rattle.sig_policy.specs.Verdict.{IsVerdict};
+
+use crate::failure::PolicyError;
+use crate::policy::{PolicyResult, VerificationPolicy};
+use crate::utf8::utf8_text;
+use sig_base::{OutOfMemory, Text};
+use sig_certificate::{Certificate, Lookup};
+use std::alloc::Global;
+
+/// A policy that compares a text with the value of one extension, which is the text itself and no DER.
+pub trait SingleX509ExtPolicy {
+    // The policy's name, the contents octets of the extension's object identifier, and the text asked for.
+    ghost title: { List ℕ };
+
+    ghost identifier: { List ℕ };
+
+    ghost asked: { Self → List ℕ };
+
+    /// The policy that asks for this text. Refuses for want of memory alone.
+    fn new(alloc: Global, val: &str) -> Result<Self, OutOfMemory>
+        ensures { IfOk result (λ p. asked p ≡ val.now) };
+
+    /// The policy's name.
+    fn name() -> &'static str
+        ensures { result.now ≡ title };
+
+    /// The text that the policy asks for.
+    fn value(&self) -> &str
+        ensures { result.now ≡ asked self.now };
+
+    /// The contents octets of the extension's object identifier.
+    fn oid() -> &'static [u8]
+        ensures { result.now ≡ identifier };
+}
+
+/// The text of the only extension with this object identifier. None where there is none, where there are several, and where
+/// its value is not UTF-8.
+pub(crate) fn extension_text<'a>(cert: &'a Certificate, oid: &[u8]) -> Option<&'a str>
+    ensures { option_map (λ t. t.now) result ≡ extension_text oid.now cert.now }
+{
+    match cert.extension(oid) {
+        Lookup::One(extension) => utf8_text(extension.value),
+        _ => None,
+    }
+}
+
+/// Whether the certificate has exactly one extension of the policy's object identifier, and its value is UTF-8 and the text that
+/// the policy asks for. `ExtensionNotFound` where the certificate has none or several, or the value is not UTF-8; else
+/// `ExtensionCheckFailed` with the policy's name, the text that it asks for and the text that is there.
+pub fn verify_single<T: SingleX509ExtPolicy>(
+    alloc: Global,
+    policy: &T,
+    cert: &Certificate,
+) -> PolicyResult
+    ensures { IsVerdict
+        (is_text (T.asked policy.now) (extension_text T.identifier cert.now))
+        (λ e. e ≡ single_refusal T.title (T.asked policy.now) (extension_text T.identifier cert.now))
+        result }
+{
+    let Some(actual) = extension_text(cert, T::oid()) else {
+        return Err(PolicyError::ExtensionNotFound);
+    };
+    if actual == policy.value() {
+        return Ok(());
+    }
+    Err(check_failed(alloc, T::name(), policy.value(), actual)?)
+}
+
+/// That an extension says another text than the one asked for. Refuses for want of memory alone.
+pub(crate) fn check_failed(
+    alloc: Global,
+    extension: &str,
+    expected: &str,
+    actual: &str,
+) -> Result<PolicyError, OutOfMemory>
+    ensures { IfOk result (λ e. e ≡ single_refusal extension.now expected.now (Some actual.now)) }
+{
+    Ok(PolicyError::ExtensionCheckFailed {
+        extension: Text::copy_of(alloc, extension)?,
+        expected: Text::copy_of(alloc, expected)?,
+        actual: Text::copy_of(alloc, actual)?,
+    })
+}
+
+impl<T: SingleX509ExtPolicy + Drop> VerificationPolicy for T {
+    ghost holds = { λ p c. is_text (T.asked p) (extension_text T.identifier c) };
+
+    ghost refuses = { λ p c e. e ≡ single_refusal T.title (T.asked p) (extension_text T.identifier c) };
+
+    fn verify(&self, alloc: Global, cert: &Certificate) -> PolicyResult {
+        verify_single(alloc, self, cert)
+    }
+}

@@ -1,0 +1,171 @@
+-- The precertificate's signed part: it is one of the same parts, no longer than the certificate's.
+use Rattle.std.proofs.Common.{◌≡◌, ℕ, ◌+◌, ◌/◌, ◌%◌, ◌<◌, ◌≤◌, Bool, true, false, not, cond, ltb, List, [], ◌∷◌, ◌++◌, length, take, Some, None, refl, sym, ap, subst, ◌∙◌, append_assoc, arith, inl, inr}
+use Rattle.std.specs.Prelude.{slice_get, Result, Ok, Err, IfOk}
+use Rattle.sig_base.specs.declared.memory.OutOfMemory.{OutOfMemory}
+use Rattle.std.specs.Str.{bytes_eq}
+use Rattle.std.specs.List.{AllByRecursion}
+use Rattle.std.proofs.lemmas.Bool.{cases_Bool, cond-true, cond-false}
+use Rattle.std.proofs.lemmas.List.{length-append, append-nil, take_more}
+use Rattle.std.proofs.lemmas.Bool.Decides.{nat_tests}
+use Rattle.std.proofs.lemmas.Option.{slice_get_within, slice_get-get_or, get_or_from_slice_get}
+use Rattle.sig_der.specs.Element.{IsElement, element, spelled_length}
+use Rattle.sig_der.specs.declared.oid.TheConstants.{SCT_LIST}
+use Rattle.sig_certificate.specs.Certificate.{Extension, Cert, IsExtension, IsList, AreExtensions, IsSignedPart}
+use Rattle.sig_timestamp.specs.Precert.{without_oid, kept_extensions, kept_of, texts_of, extensions_element, precertificate, HaveSpelling, IsWithoutScts}
+
+-- ---- what is kept
+
+kept_texts_cond : (b : Bool) (e : Extension) (es : List Extension) → texts_of (cond (not b) (e ∷ es) es) ≡ cond b [] e.whole ++ texts_of es
+kept_texts_cond true e es = refl
+kept_texts_cond false e es = refl
+
+pub kept_push : (es : List Extension) (e : Extension) → texts_of (without_oid SCT_LIST.now (es ++ e ∷ [])) ≡ texts_of (without_oid SCT_LIST.now es) ++ kept_of e
+kept_push [] e = kept_texts_cond (bytes_eq e.oid SCT_LIST.now) e [] ∙ append-nil (kept_of e)
+kept_push (x ∷ es) e =
+    kept_texts_cond (bytes_eq x.oid SCT_LIST.now) x (without_oid SCT_LIST.now (es ++ e ∷ []))
+    ∙ ap (λ (w : List ℕ). kept_of x ++ w) (kept_push es e)
+    ∙ sym (append_assoc (kept_of x) (texts_of (without_oid SCT_LIST.now es)) (kept_of e))
+    ∙ ap (λ (w : List ℕ). w ++ kept_of e) (sym (kept_texts_cond (bytes_eq x.oid SCT_LIST.now) x (without_oid SCT_LIST.now es)))
+
+-- one turn of the loop over the extensions
+pub kept_more : (es : List Extension) (place : ℕ) (e : Extension) (before after : List ℕ) → slice_get es place ≡ Some e → after ≡ before ++ kept_of e
+    → before ≡ texts_of (without_oid SCT_LIST.now (take place es)) → after ≡ texts_of (without_oid SCT_LIST.now (take (place + 1) es))
+kept_more es place e before after got is h =
+    is ∙ ap (λ (w : List ℕ). w ++ kept_of e) h ∙ sym (kept_push (take place es) e)
+    ∙ ap (λ (xs : List Extension). texts_of (without_oid SCT_LIST.now xs))
+    (sym (take_more es place e (slice_get_within es place e got) ∙ ap (λ (x : Extension). take place es ++ x ∷ []) (get_or_from_slice_get es place e e got)))
+
+pub place_within : (es : List Extension) (place : ℕ) → place < length es → None ≡ slice_get es place → ⊥
+place_within [] place lt e = absurd (omega arith)
+place_within (x ∷ es) place lt e = let some = slice_get-get_or (x ∷ es) place x lt in let no = e ∙ some in cc
+
+kept_each : (es : List Extension) → AllByRecursion IsExtension es → AllByRecursion IsExtension (without_oid SCT_LIST.now es)
+kept_each [] h = tt
+kept_each (e ∷ es) h = by_test (not (bytes_eq e.oid SCT_LIST.now)) (kept_each es h.1)
+  where
+    by_test : (b : Bool) → AllByRecursion IsExtension (without_oid SCT_LIST.now es)
+        → AllByRecursion IsExtension (cond b (e ∷ without_oid SCT_LIST.now es) (without_oid SCT_LIST.now es))
+    by_test true rest = (h.0, rest)
+    by_test false rest = rest
+
+-- ---- lengths
+
+kept_shorter : (es : List Extension) → length (texts_of (without_oid SCT_LIST.now es)) ≤ length (texts_of es)
+kept_shorter [] = omega arith
+kept_shorter (e ∷ es) =
+    let rest = kept_shorter es in
+    let more = length-append e.whole (texts_of es) in
+    elim (cases_Bool (bytes_eq e.oid SCT_LIST.now)) [
+      | inl out ↦
+          let is = ap (λ (w : List ℕ). length w) (kept_texts_cond (bytes_eq e.oid SCT_LIST.now) e (without_oid SCT_LIST.now es)
+          ∙ ap (λ (w : List ℕ). w ++ texts_of (without_oid SCT_LIST.now es)) (cond-true (bytes_eq e.oid SCT_LIST.now) [] e.whole out)) in
+          omega arith
+      | inr in_it ↦
+          let is = ap (λ (w : List ℕ). length w) (kept_texts_cond (bytes_eq e.oid SCT_LIST.now) e (without_oid SCT_LIST.now es)
+          ∙ ap (λ (w : List ℕ). w ++ texts_of (without_oid SCT_LIST.now es)) (cond-false (bytes_eq e.oid SCT_LIST.now) [] e.whole in_it)) in
+          omega (arith, length-append e.whole (texts_of (without_oid SCT_LIST.now es)))
+    ]
+
+octets_of : ℕ → ℕ
+octets_of n = cond (ltb n 128) 1 (cond (ltb n 256) 2 (cond (ltb n 65536) 3 (cond (ltb n 16777216) 4 5)))
+
+length-spelled : (n : ℕ) → length (spelled_length n) ≡ octets_of n
+unfolding octets_of
+length-spelled n = by_tests (ltb n 128) (ltb n 256) (ltb n 65536) (ltb n 16777216)
+  where
+    by_tests : (a b c d : Bool)
+        → length (cond a (n ∷ []) (cond b (129 ∷ n ∷ []) (cond c (130 ∷ (n / 256) ∷ (n % 256) ∷ []) (cond d (131 ∷ (n / 65536) ∷ (n / 256 % 256) ∷ (n % 256) ∷ [])
+        (132 ∷ (n / 16777216) ∷ (n / 65536 % 256) ∷ (n / 256 % 256) ∷ (n % 256) ∷ [])))))
+        ≡ cond a 1 (cond b 2 (cond c 3 (cond d 4 5)))
+    by_tests true b c d = refl
+    by_tests false true c d = refl
+    by_tests false false true d = refl
+    by_tests false false false true = refl
+    by_tests false false false false = refl
+
+octets_grow : (m n : ℕ) → m ≤ n → octets_of m ≤ octets_of n
+unfolding octets_of
+octets_grow m n le = grind (arith, nat_tests)
+
+element_shorter : (tag : ℕ) (a b : List ℕ) → length a ≤ length b → length (element tag a) ≤ length (element tag b)
+element_shorter tag a b le =
+    let grows = octets_grow (length a) (length b) le in
+    let la = length-append (spelled_length (length a)) a in
+    let lb = length-append (spelled_length (length b)) b in
+    let sa = length-spelled (length a) in
+    let sb = length-spelled (length b) in
+    omega arith
+
+-- ---- the signed part
+
+list_of : (c : Cert) (is : IsSignedPart c) → c.listed ≡ true → IsList is.extensions_text c.extensions
+list_of c is listed = subst (λ (b : Bool). AreExtensions is.extensions_text b c.extensions) listed is.extensions
+
+pub have_spelling : (c : Cert) → IsSignedPart c → c.listed ≡ true → HaveSpelling c
+have_spelling c is listed =
+    let l = list_of c is listed in
+    let kept = texts_of (kept_extensions c) in
+    let inner : length kept ≤ length l.inner = subst (λ (w : List ℕ). length kept ≤ length w) (sym l.joined.parts) (kept_shorter c.extensions) in
+    let list : length (element 48 kept) ≤ length l.sequence =
+    subst (λ (w : List ℕ). length (element 48 kept) ≤ length w) (sym l.list.spelled) (element_shorter 48 kept l.inner inner) in
+    let outer : length (extensions_element (kept_extensions c)) ≤ length is.extensions_text =
+    subst (λ (w : List ℕ). length (extensions_element (kept_extensions c)) ≤ length w) (sym l.outer.spelled)
+    (element_shorter 163 (element 48 kept) l.sequence list) in
+    record {
+      kept = omega (arith, l.list.short);
+      list = omega (arith, l.outer.short);
+      body = omega (arith, is.tbs.short, length-append c.front is.extensions_text, length-append c.front (extensions_element (kept_extensions c)));
+    }
+
+signed_part_of : (c : Cert) (is : IsSignedPart c) (text extensions_text : List ℕ) → IsElement text 48 (c.front ++ extensions_text)
+    → AreExtensions extensions_text c.listed (kept_extensions c) → IsWithoutScts c text
+signed_part_of c is text extensions_text tbs extensions =
+    record {
+      version_text = is.version_text;
+      serial_text = is.serial_text;
+      validity_text = is.validity_text;
+      issuer_id_text = is.issuer_id_text;
+      subject_id_text = is.subject_id_text;
+      extensions_text = extensions_text;
+      tbs = tbs;
+      front = is.front;
+      version = is.version;
+      serial = is.serial;
+      algorithm = is.algorithm;
+      issuer = is.issuer;
+      validity = is.validity;
+      subject = is.subject;
+      key = is.key;
+      issuer_id = is.issuer_id;
+      subject_id = is.subject_id;
+      extensions = extensions;
+    }
+
+pub without_scts : (c : Cert) → IsSignedPart c → IsWithoutScts c (precertificate c)
+without_scts c is =
+    elim (cases_Bool c.listed) [
+      | inl listed ↦
+          let l = list_of c is listed in
+          let s = have_spelling c is listed in
+          let kept = texts_of (kept_extensions c) in
+          subst (λ (w : List ℕ). IsWithoutScts c w) (sym (cond-true c.listed _ _ listed))
+          (signed_part_of c is (element 48 (c.front ++ extensions_element (kept_extensions c))) (extensions_element (kept_extensions c))
+          (record { tagged = is.tbs.tagged; short = s.body; spelled = refl })
+          (subst (λ (b : Bool). AreExtensions (extensions_element (kept_extensions c)) b (kept_extensions c)) (sym listed) (record {
+            sequence = element 48 kept;
+            inner = kept;
+            outer = record { tagged = l.outer.tagged; short = s.list; spelled = refl };
+            list = record { tagged = l.list.tagged; short = s.kept; spelled = refl };
+            joined = record { each = kept_each c.extensions l.joined.each; parts = refl };
+          })))
+      | inr absent ↦
+          let none = subst (λ (b : Bool). AreExtensions is.extensions_text b c.extensions) absent is.extensions in
+          subst (λ (w : List ℕ). IsWithoutScts c w) (sym (cond-false c.listed _ _ absent))
+          (signed_part_of c is c.tbs is.extensions_text is.tbs
+          (subst (λ (b : Bool). AreExtensions is.extensions_text b (kept_extensions c)) (sym absent)
+          (none.0, ap (λ (es : List Extension). without_oid SCT_LIST.now es) none.1)))
+    ]
+
+pub keeps_of : (c : Cert) → IsSignedPart c → (r : Result (List ℕ) OutOfMemory) → IfOk r (λ t. t ≡ precertificate c) → IfOk r (IsWithoutScts c)
+keeps_of c is (Ok t) e = subst (λ (w : List ℕ). IsWithoutScts c w) (sym e) (without_scts c is)
+keeps_of c is (Err d) e = tt

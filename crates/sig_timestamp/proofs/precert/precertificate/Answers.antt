@@ -1,0 +1,7 @@
+-- What is written anew is no longer than what stands there.
+use Rattle.std.proofs.Common.{sym}
+use Rattle.sig_timestamp.proofs.PrecertLaws.{have_spelling}
+use Rattle.sig_timestamp.proofs.precert.precertificate.Goals as goal
+
+pub made_anew-requires : goal.made_anew-requires
+made_anew-requires c = have_spelling c.args.leaf.now c.requires (sym c.if-is_listed.ensures)

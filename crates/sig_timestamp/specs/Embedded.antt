@@ -1,0 +1,93 @@
+-- The timestamp that a certificate carries, made ready to be checked: RFC 6962 sections 3.2 and 3.3.
+use Rattle.std.specs.Prelude.{◌≡◌, ◌≢◌, ◌⊎◌, ℕ, length, Bool, false, List, [], ◌∷◌, Option, Some, None, option_map, slice_get, unwrap_or, Result, Ok, Err, is_some, if◌then◌else◌}
+use Rattle.sig_base.specs.Answers.{Answers}
+use Rattle.sig_der.specs.declared.oid.TheConstants.{EXTENDED_KEY_USAGE, PRECERTIFICATE_SIGNING}
+use Rattle.sig_timestamp.specs.declared.signed.DigitallySigned.{DigitallySigned}
+use Rattle.sig_timestamp.specs.declared.sct_error.CertificateErrorKind.{CertificateErrorKind}
+use Rattle.sig_timestamp.specs.declared.sct_error.CertificateErrorKind.TheVariants.{LeafSCTMissing, IssuerMissing, LeafSCTMalformed}
+use Rattle.sig_timestamp.specs.declared.sct_error.SCTError.{SCTError}
+use Rattle.sig_timestamp.specs.declared.sct_error.SCTError.TheVariants.{Parsing, Serialization, Verification, OutOfMemory}
+use Rattle.sig_certificate.specs.Certificate.{Extension, Cert}
+use Rattle.sig_certificate.specs.Lookups.{with_oid}
+use Rattle.sig_certificate.specs.Values.{purposes_of, has_purpose}
+use Rattle.sig_certificate.specs.Profile.{ca_refusal}
+use Rattle.sig_timestamp.specs.SctList.{Sct, IsSct, IsSctList}
+use Rattle.sig_timestamp.specs.SctBytes.{signed_of}
+use Rattle.sig_timestamp.specs.Timestamps.{HasSct, LacksSct, HasBadSct, IsNoList, ListsNoSct, sct_of}
+
+-- ---- the issuer
+
+-- the only extended key usage has the purpose of precertificate signing
+abbrev pub signs_by : List Extension → Bool
+signs_by [] = false
+signs_by (e ∷ []) = unwrap_or (option_map (has_purpose PRECERTIFICATE_SIGNING.now) (purposes_of e.value)) false
+signs_by (e ∷ f ∷ es) = false
+
+abbrev pub signs_precertificates : Cert → Bool
+signs_precertificates c = signs_by (with_oid EXTENDED_KEY_USAGE.now c.extensions)
+
+-- the first of the chain, or the second where the first only signed the precertificate (RFC 6962 section 3.1)
+abbrev pub candidate_of : List Cert → Option Cert
+candidate_of [] = None
+candidate_of (c ∷ chain) = if signs_precertificates c then slice_get chain 0 else Some c
+
+abbrev pub if_authority : Option Cert → Option Cert
+if_authority None = None
+if_authority (Some c) = if is_some (ca_refusal c) then None else Some c
+
+-- the issuer that a chain begins with, if it is an authority
+abbrev pub issuer_of : List Cert → Option Cert
+issuer_of chain = if_authority (candidate_of chain)
+
+-- ---- what is answered
+
+abbrev pub ready : Cert → List ℕ → Result Sct CertificateErrorKind → Result DigitallySigned SCTError
+ready c spki (Ok s) = Ok (signed_of c spki s)
+ready c spki (Err e) = Err (Parsing e)
+
+-- The certificate's one timestamp, ready to be checked for an issuer with this key info.
+pub record IsReady (c : Cert) (spki : List ℕ) (d : DigitallySigned) : Type 0 where
+  pub sct : Sct
+  pub has : HasSct c sct
+  pub is : d ≡ signed_of c spki sct
+
+-- each answer and its cause
+abbrev pub HasCause : Cert → List ℕ → Result DigitallySigned SCTError → Type 0
+HasCause c spki (Ok d) = IsReady c spki d
+HasCause c spki (Err (Parsing LeafSCTMissing)) = LacksSct c
+HasCause c spki (Err (Parsing LeafSCTMalformed)) = HasBadSct c
+HasCause c spki (Err (Parsing IssuerMissing)) = ⊥
+HasCause c spki (Err Serialization) = ⊥
+HasCause c spki (Err (Verification e)) = ⊥
+HasCause c spki (Err OutOfMemory) = Unit {0}
+
+-- The answer for an issuer with this key info.
+pub record IsEmbedded (c : Cert) (spki : List ℕ) (answer : Result DigitallySigned SCTError) : Type 0 where
+  -- no answer without its cause
+  pub cause : HasCause c spki answer
+  -- and no cause without its answer
+  pub has : (s : Sct) → HasSct c s → Answers OutOfMemory (λ d. d) answer (Ok (signed_of c spki s))
+  pub lacks : LacksSct c → Answers OutOfMemory (λ d. d) answer (Err (Parsing LeafSCTMissing))
+  pub bad : HasBadSct c → Answers OutOfMemory (λ d. d) answer (Err (Parsing LeafSCTMalformed))
+  pub read : Answers OutOfMemory (λ d. d) answer (ready c spki (sct_of c))
+
+-- The answer for the issuer that a chain begins with.
+abbrev pub IsEmbeddedUnder : Cert → Option Cert → Result DigitallySigned SCTError → Type 0
+IsEmbeddedUnder c None answer = answer ≡ Err (Parsing IssuerMissing)
+IsEmbeddedUnder c (Some issuer) answer = IsEmbedded c issuer.spki answer
+
+-- ---- the cause of an answer of the reader
+
+-- of an extension's value
+abbrev pub IsSaidOfValue : List ℕ → Result Sct CertificateErrorKind → Type 0
+IsSaidOfValue v (Ok s) = (text : List ℕ) × (IsSctList v (text ∷ []) × IsSct text s)
+IsSaidOfValue v (Err LeafSCTMissing) = (texts : List (List ℕ)) × (IsSctList v texts × (length texts ≢ 1))
+IsSaidOfValue v (Err LeafSCTMalformed) = IsNoList v ⊎ ListsNoSct v
+IsSaidOfValue v (Err IssuerMissing) = ⊥
+
+-- of a certificate
+abbrev pub IsSaidOf : Cert → Result Sct CertificateErrorKind → Type 0
+IsSaidOf c (Ok s) = HasSct c s
+IsSaidOf c (Err LeafSCTMissing) = LacksSct c
+IsSaidOf c (Err LeafSCTMalformed) = HasBadSct c
+IsSaidOf c (Err IssuerMissing) = ⊥

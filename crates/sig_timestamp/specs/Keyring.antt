@@ -1,0 +1,82 @@
+-- *Keyring key*: which key infos are keys of a certificate log, and the key that a list of key infos has for an id.
+use Rattle.std.specs.Prelude.{◌≡◌, ◌≤◌, ℕ, Bool, not, ◌&&◌, ◌==◌, if◌then◌else◌, List, [], ◌∷◌, Option, Some, None, Result, Ok, Err, bytes_eq}
+use Rattle.std.specs.Borrow.{Bor}
+use Rattle.std.specs.Option.{option_or}
+use Rattle.std.specs.Result.{result_ok}
+use Rattle.sig_base.specs.Sha256.{sha256}
+use Rattle.sig_der.specs.Reading.{Piece}
+use Rattle.sig_der.specs.KeyInfo.{KeyInfo, IsKeyInfo, is_empty, whole_key_info}
+use Rattle.sig_der.specs.declared.place.Place.{Place}
+use Rattle.sig_der.specs.declared.oid.TheConstants.{EC_PUBLIC_KEY, P256, RSA}
+use Rattle.sig_timestamp.specs.declared.keyring_error.KeyringError.{KeyringError}
+use Rattle.sig_timestamp.specs.declared.keyring_error.KeyringError.TheVariants.{KeyMalformed, AlgoUnsupported, KeyNotFound, VerificationFailed}
+
+-- ---- one key
+
+-- an object identifier, X.690 section 8.19
+abbrev pub is_identifier : Piece → Bool
+is_identifier p = (p.tag == 6) && not (is_empty p.content)
+
+-- NULL, X.690 section 8.8
+abbrev pub is_null : Piece → Bool
+is_null p = (p.tag == 5) && is_empty p.content
+
+-- What the algorithm and its parameters say of the bits: a point of P-256 is a key on an elliptic curve whose parameters are the
+-- curve's identifier (RFC 5480 section 2.1.1).
+abbrev pub point_under : List ℕ → List ℕ → Option Piece → Result (List ℕ) KeyringError
+point_under bits oid None = Err AlgoUnsupported
+point_under bits oid (Some p) =
+    if is_identifier p
+    then (if bytes_eq oid EC_PUBLIC_KEY.now && bytes_eq p.content P256.now then Ok bits else Err AlgoUnsupported)
+    else if is_null p && bytes_eq oid RSA.now then Err AlgoUnsupported
+    else Err KeyMalformed
+
+-- the point of a key info, or why it is no key of a ring
+abbrev pub point_in : KeyInfo → Result (List ℕ) KeyringError
+point_in k = point_under k.bits k.algorithm.oid k.algorithm.parameters
+
+-- The text is a key info that is a key of a ring, and this is its point.
+pub record IsRingKey (spki point : List ℕ) : Type 0 where
+  pub info : KeyInfo
+  pub is : IsKeyInfo info
+  pub text : info.whole ≡ spki
+  pub parameters : Piece
+  pub has : info.algorithm.parameters ≡ Some parameters
+  pub elliptic : info.algorithm.oid ≡ EC_PUBLIC_KEY.now
+  pub identifier : parameters.tag ≡ 6
+  pub curve : parameters.content ≡ P256.now
+  pub bits : info.bits ≡ point
+
+abbrev pub point_of_info : Option KeyInfo → Result (List ℕ) KeyringError
+point_of_info None = Err KeyMalformed
+point_of_info (Some k) = point_in k
+
+-- the point of a text, or why it is no key of a ring
+unfoldable pub point_of : List ℕ → Result (List ℕ) KeyringError
+point_of spki = point_of_info (whole_key_info spki)
+
+-- the point that was lent
+abbrev pub lent_point : Result (Bor (List ℕ)) KeyringError → Result (List ℕ) KeyringError
+lent_point (Ok p) = Ok p.now
+lent_point (Err e) = Err e
+
+-- the place of the parameters, if there are any, lies within the text
+abbrev pub IsParametersWithin : ℕ → Option Place → Type 0
+IsParametersWithin end None = Unit {0}
+IsParametersWithin end (Some p) = (p.content ≤ p.end) × (p.end ≤ end)
+
+-- ---- a ring
+
+-- the point of the key info, where it is a key of a ring and has this id
+abbrev pub point_if : List ℕ → List ℕ → Option (List ℕ)
+point_if id spki = if bytes_eq id (sha256 spki) then result_ok (point_of spki) else None
+
+-- *Keyring key*: the point of the last key info in the list that is a key of a ring and has this id
+unfoldable pub key_of : List (List ℕ) → List ℕ → Option (List ℕ)
+key_of [] id = None
+key_of (spki ∷ keys) id = option_or (key_of keys id) (point_if id spki)
+
+-- whether a signature is genuine under the point
+abbrev pub vouch : (List ℕ → List ℕ → List ℕ → Bool) → Option (List ℕ) → List ℕ → List ℕ → Result (Unit {0}) KeyringError
+vouch accepts None message signature = Err KeyNotFound
+vouch accepts (Some point) message signature = if accepts point message signature then Ok tt else Err VerificationFailed

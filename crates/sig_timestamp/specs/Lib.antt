@@ -1,0 +1,9 @@
+pub mod RingKey
+pub mod Keyring
+pub mod Vectors
+pub mod SctList
+pub mod Timestamps
+pub mod Lent
+pub mod Precert
+pub mod SctBytes
+pub mod Embedded

@@ -1,0 +1,41 @@
+-- *Precertificate TBS*: RFC 6962 section 3.2. The signed part of the certificate without its lists of timestamps.
+use Rattle.std.specs.Prelude.{ℕ, ◌^◌, ◌<◌, not, List, [], ◌++◌, length, filter, if◌then◌else◌}
+use Rattle.std.specs.Str.{bytes_eq}
+use Rattle.sig_der.specs.Element.{element}
+use Rattle.sig_der.specs.Joined.{joined}
+use Rattle.sig_der.specs.declared.oid.TheConstants.{SCT_LIST}
+use Rattle.sig_certificate.specs.Certificate.{Extension, Cert, IsSignedPart}
+
+-- the extensions with another object identifier, in order
+abbrev pub without_oid : List ℕ → List Extension → List Extension
+without_oid oid es = filter (λ e. not (bytes_eq e.oid oid)) es
+
+abbrev pub kept_extensions : Cert → List Extension
+kept_extensions c = without_oid SCT_LIST.now c.extensions
+
+-- the whole texts of extensions
+abbrev pub texts_of : List Extension → List ℕ
+texts_of es = joined (λ (e : Extension). e.whole) es
+
+-- the text of an extension that is kept
+abbrev pub kept_of : Extension → List ℕ
+kept_of e = if bytes_eq e.oid SCT_LIST.now then [] else e.whole
+
+-- the element of the extensions, RFC 5280 section 4.1.2.9
+abbrev pub extensions_element : List Extension → List ℕ
+extensions_element es = element 163 (element 48 (texts_of es))
+
+-- *Precertificate TBS*: the elements of the signed part, each as it stands, but that of the extensions, which is made anew of the
+-- whole texts of those that list no timestamps. Where the certificate has no extensions, the signed part is kept as it is.
+abbrev pub precertificate : Cert → List ℕ
+precertificate c = if c.listed then element 48 (c.front ++ extensions_element (kept_extensions c)) else c.tbs
+
+-- the lengths of what is written anew have a spelling
+pub record HaveSpelling (c : Cert) : Type 0 where
+  pub kept : length (texts_of (kept_extensions c)) < 2 ^ 32
+  pub list : length (element 48 (texts_of (kept_extensions c))) < 2 ^ 32
+  pub body : length (c.front ++ extensions_element (kept_extensions c)) < 2 ^ 32
+
+-- The text is the signed part of a certificate that has every part of this one, but no list of timestamps.
+abbrev pub IsWithoutScts : Cert → List ℕ → Type 0
+IsWithoutScts c text = IsSignedPart (record c { tbs = text; extensions = kept_extensions c })

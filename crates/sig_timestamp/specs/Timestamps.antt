@@ -1,0 +1,80 @@
+-- The timestamp of a certificate: RFC 6962 section 3.3.
+use Rattle.std.specs.Prelude.{◌≡◌, ◌≢◌, ℕ, List, [], ◌∷◌, length, Option, Some, None, Result, Ok, Err, ◌⊎◌}
+use Rattle.sig_der.specs.declared.oid.TheConstants.{SCT_LIST}
+use Rattle.sig_timestamp.specs.declared.sct_error.CertificateErrorKind.{CertificateErrorKind}
+use Rattle.sig_timestamp.specs.declared.sct_error.CertificateErrorKind.TheVariants.{LeafSCTMissing, LeafSCTMalformed}
+use Rattle.sig_certificate.specs.Certificate.{Extension, Cert}
+use Rattle.sig_certificate.specs.Lookups.{with_oid}
+use Rattle.sig_timestamp.specs.SctList.{Sct, IsSct, IsSctList, sct_at, sct_list_at}
+
+-- ---- what it is
+
+-- the extensions that list timestamps
+abbrev pub sct_extensions : Cert → List Extension
+sct_extensions c = with_oid SCT_LIST.now c.extensions
+
+-- The certificate has this timestamp: one extension lists timestamps, and it lists this one alone.
+pub record HasSct (c : Cert) (s : Sct) : Type 0 where
+  pub extension : Extension
+  pub text : List ℕ
+  pub one : sct_extensions c ≡ extension ∷ []
+  pub lists : IsSctList extension.value (text ∷ [])
+  pub is : IsSct text s
+
+-- The only extension that lists timestamps lists none, or several.
+pub record ListsOthers (c : Cert) : Type 0 where
+  pub extension : Extension
+  pub texts : List (List ℕ)
+  pub one : sct_extensions c ≡ extension ∷ []
+  pub lists : IsSctList extension.value texts
+  pub others : length texts ≢ 1
+
+-- The certificate has not one timestamp.
+abbrev pub LacksSct : Cert → Type 0
+LacksSct c = (length (sct_extensions c) ≢ 1) ⊎ ListsOthers c
+
+-- The value is no list of timestamps.
+abbrev pub IsNoList : List ℕ → Type 0
+IsNoList value = (texts : List (List ℕ)) → ¬ IsSctList value texts
+
+-- The value lists one text, which is no timestamp.
+pub record ListsNoSct (value : List ℕ) : Type 0 where
+  pub text : List ℕ
+  pub lists : IsSctList value (text ∷ [])
+  pub none : (s : Sct) → ¬ IsSct text s
+
+-- The only extension that lists timestamps is malformed.
+pub record HasBadSct (c : Cert) : Type 0 where
+  pub extension : Extension
+  pub one : sct_extensions c ≡ extension ∷ []
+  pub bad : IsNoList extension.value ⊎ ListsNoSct extension.value
+
+-- ---- how it is read
+
+-- the only text of a list
+abbrev pub only_one : Option (List (List ℕ)) → Result (List ℕ) CertificateErrorKind
+only_one None = Err LeafSCTMalformed
+only_one (Some []) = Err LeafSCTMissing
+only_one (Some (text ∷ [])) = Ok text
+only_one (Some (text ∷ other ∷ texts)) = Err LeafSCTMissing
+
+abbrev pub sct_or_not : Option Sct → Result Sct CertificateErrorKind
+sct_or_not None = Err LeafSCTMalformed
+sct_or_not (Some s) = Ok s
+
+abbrev pub sct_in : Result (List ℕ) CertificateErrorKind → Result Sct CertificateErrorKind
+sct_in (Err e) = Err e
+sct_in (Ok text) = sct_or_not (sct_at text)
+
+-- the timestamp of an extension's value
+unfoldable pub sct_of_value : List ℕ → Result Sct CertificateErrorKind
+sct_of_value value = sct_in (only_one (sct_list_at value))
+
+abbrev pub sct_of_list : List Extension → Result Sct CertificateErrorKind
+sct_of_list [] = Err LeafSCTMissing
+sct_of_list (e ∷ []) = sct_of_value e.value
+sct_of_list (e ∷ f ∷ es) = Err LeafSCTMissing
+
+-- the timestamp of a certificate
+unfoldable pub sct_of : Cert → Result Sct CertificateErrorKind
+sct_of c = sct_of_list (sct_extensions c)

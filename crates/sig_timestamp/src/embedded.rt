@@ -1,0 +1,195 @@
+//! `CertificateEmbeddedSCT`: the timestamp that a certificate carries (RFC 6962 section 3.3).
+
+ghost use Rattle.std.specs.Prelude.{◌≡◌, ◌↔◌, IfOk, IsSome, IsErrOf, Ok, Err, None};
+ghost use Rattle.sig_base.specs.Answers.{Answers};
+ghost use Rattle.sig_timestamp.specs.SctBytes.{signed_of};
+ghost use Rattle.sig_certificate.specs.Answers.{ComesWhere};
+ghost use Rattle.sig_timestamp.specs.Timestamps.{LacksSct, HasBadSct, only_one, sct_in, sct_of, sct_of_value};
+ghost use Rattle.sig_der.specs.Taking.{many_at};
+ghost use Rattle.sig_timestamp.specs.Vectors.{vector_at};
+ghost use Rattle.sig_timestamp.specs.Embedded.{issuer_of, ready, IsEmbedded, IsEmbeddedUnder, IsSaidOf, IsSaidOfValue};
+ghost use Rattle.sig_timestamp.specs.Lent.{sct_answer, sct_now};
+
+use crate::issuer::find_issuer;
+use crate::precert::precert_tbs_der;
+use crate::sct_error::{CertificateErrorKind, SCTError};
+use crate::sct_list::{LentSct, list_in, only_one, sct_at};
+use crate::signed::DigitallySigned;
+use sig_base::{Bytes, OutOfMemory, sha256};
+use sig_certificate::{Certificate, Lookup};
+use sig_der::oid::SCT_LIST;
+use std::alloc::Global;
+use std::marker::Model;
+
+/// The one timestamp that a certificate carries, with the signed part of its precertificate and the SHA-256 of its issuer's key
+/// info. Contracts see what it signs.
+#[derive(Drop)]
+pub struct CertificateEmbeddedSCT {
+    signed: DigitallySigned,
+}
+
+impl Model for CertificateEmbeddedSCT {
+    ghost use Rattle.sig_timestamp.specs.declared.signed.DigitallySigned.{DigitallySigned};
+
+    ghost Value = { DigitallySigned };
+
+    ghost view = { λ e. e.signed };
+}
+
+impl CertificateEmbeddedSCT {
+    /// The timestamp of a certificate whose issuer the chain begins with: the first certificate, or the second where the first has
+    /// the purpose of precertificate signing.
+    ///
+    /// `Parsing` of `IssuerMissing` exactly where that certificate is not there or is no authority; else the answers of
+    /// [`CertificateEmbeddedSCT::new_with_verified_path`] for its key info.
+    pub fn new(
+        alloc: Global,
+        leaf: &Certificate,
+        chain: &[Certificate],
+    ) -> Result<CertificateEmbeddedSCT, SCTError>
+        // The one timestamp is answered, ready to be checked under the issuer's key.
+        ensures embedded { IsEmbeddedUnder leaf.now (issuer_of chain.now) result }
+        // The chain begins with no issuer.
+        ensures issuer { IsErrOf result (SCTError.Parsing CertificateErrorKind.IssuerMissing) ↔ (issuer_of chain.now ≡ None) }
+        // It begins with one, and not one extension lists timestamps, or it does not list exactly one.
+        ensures missing { ComesWhere SCTError.OutOfMemory result (Err (SCTError.Parsing CertificateErrorKind.LeafSCTMissing)) (IsSome (issuer_of chain.now) × LacksSct leaf.now) }
+        // It begins with one, and the one list of timestamps is malformed, or the only one in it.
+        ensures malformed { ComesWhere SCTError.OutOfMemory result (Err (SCTError.Parsing CertificateErrorKind.LeafSCTMalformed)) (IsSome (issuer_of chain.now) × HasBadSct leaf.now) }
+    {
+        embed_under(alloc, leaf, chain)
+    }
+
+    /// The timestamp of a certificate whose issuer has this key info (DER).
+    ///
+    /// `Parsing` of the first that applies: `LeafSCTMissing` where not exactly one extension lists timestamps, `LeafSCTMalformed`
+    /// where the list is malformed, `LeafSCTMissing` where it does not list exactly one, `LeafSCTMalformed` where that one is
+    /// malformed. `OutOfMemory` where no memory could be had.
+    pub fn new_with_verified_path(
+        alloc: Global,
+        leaf: &Certificate,
+        issuer_spki: &[u8],
+    ) -> Result<CertificateEmbeddedSCT, SCTError>
+        // The one timestamp is answered, ready to be checked under the issuer's key.
+        ensures embedded { IsEmbedded leaf.now issuer_spki.now result }
+        // Not one extension lists timestamps, or it does not list exactly one.
+        ensures missing { ComesWhere SCTError.OutOfMemory result (Err (SCTError.Parsing CertificateErrorKind.LeafSCTMissing)) (LacksSct leaf.now) }
+        // The one list of timestamps is malformed, or the only one in it.
+        ensures malformed { ComesWhere SCTError.OutOfMemory result (Err (SCTError.Parsing CertificateErrorKind.LeafSCTMalformed)) (HasBadSct leaf.now) }
+    {
+        embed(alloc, leaf, issuer_spki)
+    }
+}
+
+impl DigitallySigned {
+    /// What the timestamp signs, in memory of its own. Refuses for want of memory alone.
+    pub fn from_embedded(
+        alloc: Global,
+        value: &CertificateEmbeddedSCT,
+    ) -> Result<DigitallySigned, OutOfMemory>
+        ensures { IfOk result (λ d. d ≡ value.now) }
+    {
+        let signed = &value.signed;
+        Ok(DigitallySigned {
+            timestamp: signed.timestamp,
+            issuer_key_hash: signed.issuer_key_hash,
+            tbs_certificate: signed.tbs_certificate.copy(alloc)?,
+            extensions: signed.extensions.copy(alloc)?,
+            log_id: signed.log_id,
+            signature: signed.signature.copy(alloc)?,
+        })
+    }
+}
+
+/// The timestamp of a certificate under the issuer that the chain begins with.
+fn embed_under(
+    alloc: Global,
+    leaf: &Certificate,
+    chain: &[Certificate],
+) -> Result<CertificateEmbeddedSCT, SCTError>
+    ensures { IsEmbeddedUnder leaf.now (issuer_of chain.now) result }
+{
+    match find_issuer(chain) {
+        None => Err(SCTError::Parsing(CertificateErrorKind::IssuerMissing)),
+        Some(issuer) => CertificateEmbeddedSCT::new_with_verified_path(alloc, leaf, issuer.spki()),
+    }
+}
+
+/// The timestamp of a certificate.
+fn embed(
+    alloc: Global,
+    leaf: &Certificate,
+    issuer_spki: &[u8],
+) -> Result<CertificateEmbeddedSCT, SCTError>
+    ensures read { Answers SCTError.OutOfMemory (λ d. d) result (ready leaf.now issuer_spki.now (sct_of leaf.now)) }
+    ensures said { IsSaidOf leaf.now (sct_of leaf.now) }
+{
+    match sct_of(leaf) {
+        Err(kind) => Err(SCTError::Parsing(kind)),
+        Ok(sct) => {
+            let signed = sign(alloc, leaf, issuer_spki, sct)?;
+            Ok(CertificateEmbeddedSCT { signed })
+        }
+    }
+}
+
+/// What the timestamp of the certificate signs.
+fn sign(
+    alloc: Global,
+    leaf: &Certificate,
+    issuer_spki: &[u8],
+    sct: LentSct<'_>,
+) -> Result<DigitallySigned, OutOfMemory>
+    ensures { IfOk result (λ d. d ≡ signed_of leaf.now issuer_spki.now (sct_now sct.entry)) }
+{
+    Ok(DigitallySigned {
+        timestamp: sct.timestamp,
+        issuer_key_hash: sha256(issuer_spki),
+        tbs_certificate: precert_tbs_der(alloc, leaf)?,
+        extensions: Bytes::copy_of(alloc, sct.extensions)?,
+        log_id: *sct.log_id,
+        signature: Bytes::copy_of(alloc, sct.signature)?,
+    })
+}
+
+/// The one timestamp of the certificate.
+fn sct_of(leaf: &Certificate) -> Result<LentSct<'_>, CertificateErrorKind>
+    ensures read { sct_answer result ≡ sct_of leaf.now }
+    ensures said { IsSaidOf leaf.now (sct_answer result) }
+{
+    match leaf.extension(SCT_LIST) {
+        Lookup::Absent => Err(CertificateErrorKind::LeafSCTMissing),
+        Lookup::Several => Err(CertificateErrorKind::LeafSCTMissing),
+        Lookup::One(extension) => sct_of_value(extension.value),
+    }
+}
+
+/// The one timestamp that an extension of this value lists.
+fn sct_of_value(value: &[u8]) -> Result<LentSct<'_>, CertificateErrorKind>
+    ensures read { sct_answer result ≡ sct_of_value value.now }
+    ensures said { IsSaidOfValue value.now (sct_answer result) }
+{
+    read_value(value)
+}
+
+#[tactic(auto, unfolding(crate::specs::Timestamps::sct_of_value, crate::specs::SctList::sct_list_at))]
+fn read_value(value: &[u8]) -> Result<LentSct<'_>, CertificateErrorKind>
+    ensures { sct_answer result ≡ sct_of_value value.now }
+{
+    match list_in(value) {
+        None => Err(CertificateErrorKind::LeafSCTMalformed),
+        Some(list) => read_only(list),
+    }
+}
+
+/// The one timestamp of a list.
+fn read_only(list: &[u8]) -> Result<LentSct<'_>, CertificateErrorKind>
+    ensures { sct_answer result ≡ sct_in (only_one (many_at vector_at list.now)) }
+{
+    match only_one(list) {
+        Err(kind) => Err(kind),
+        Ok(text) => match sct_at(text) {
+            None => Err(CertificateErrorKind::LeafSCTMalformed),
+            Some(sct) => Ok(sct),
+        },
+    }
+}

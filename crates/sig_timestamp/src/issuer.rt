@@ -1,0 +1,48 @@
+//! The issuer that a chain begins with: RFC 6962 section 3.1.
+
+ghost use Rattle.std.specs.Prelude.{◌≡◌, option_map};
+ghost use Rattle.sig_timestamp.specs.Embedded.{signs_precertificates, candidate_of, issuer_of};
+
+use sig_certificate::{Certificate, Lookup, is_ca, read_purpose};
+use sig_der::oid::{EXTENDED_KEY_USAGE, PRECERTIFICATE_SIGNING};
+
+/// The issuer that the chain begins with. None where it is not there, or is no authority.
+pub(crate) fn find_issuer(chain: &[Certificate]) -> Option<&Certificate>
+    ensures { option_map (λ c. c.now) result ≡ issuer_of chain.now }
+{
+    let issuer = candidate(chain)?;
+    match is_ca(issuer) {
+        Ok(()) => Some(issuer),
+        Err(_) => None,
+    }
+}
+
+/// The first of the chain, or the second where the first only signs precertificates.
+fn candidate(chain: &[Certificate]) -> Option<&Certificate>
+    ensures { option_map (λ c. c.now) result ≡ candidate_of chain.now }
+{
+    match chain {
+        [] => None,
+        [first, rest @ ..] => {
+            if signs_precertificates(first) {
+                rest.first()
+            } else {
+                Some(first)
+            }
+        }
+    }
+}
+
+/// Whether precertificate signing is among the purposes of the certificate's one extended key usage.
+#[tactic(auto, using(crate::proofs::EmbeddedLaws::signs_several))]
+fn signs_precertificates(certificate: &Certificate) -> bool
+    ensures { result ≡ signs_precertificates certificate.now }
+{
+    match certificate.extension(EXTENDED_KEY_USAGE) {
+        Lookup::Absent => false,
+        Lookup::Several => false,
+        Lookup::One(extension) => {
+            read_purpose(extension.value, PRECERTIFICATE_SIGNING).unwrap_or(false)
+        }
+    }
+}

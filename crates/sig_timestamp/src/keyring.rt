@@ -1,0 +1,94 @@
+//! `Keyring`: the keys of certificate logs by their ids.
+
+ghost use Rattle.std.specs.Prelude.{◌≡◌, ℕ, option_map, List, IfOk, IfErr, OnOk};
+ghost use Rattle.std.specs.Option.{option_or};
+ghost use Rattle.sig_timestamp.specs.Keyring.{key_of, point_if, vouch};
+ghost use Rattle.sig_timestamp.specs.RingKey.{point_at};
+
+use crate::key::Key;
+use crate::keyring_error::KeyringError;
+use sig_base::{Entries, SignatureChecker};
+use std::alloc::Global;
+use std::collections::BTreeMap;
+use std::marker::Model;
+
+/// The keys of certificate logs, each found by its id without another look at the others (RFC 6962 section 3.2). Contracts see the
+/// list of its entries; `point_at` is the point that it has for an id.
+#[derive(Drop)]
+pub struct Keyring {
+    keys: BTreeMap<[u8; 32], Key>,
+}
+
+impl Model for Keyring {
+    ghost use Rattle.std.specs.Prelude.{ℕ, List};
+    ghost use Rattle.sig_timestamp.specs.RingKey.{RingKey};
+
+    ghost Value = { List (List ℕ × RingKey) };
+
+    ghost view = { λ r. r.keys.entries };
+}
+
+impl Keyring {
+    /// The keys of these key infos (DER). One that is no point of P-256 is left out; of two with one id the last stands. Refuses
+    /// for want of memory alone.
+    pub fn new(alloc: Global, keys: &Entries) -> Result<Keyring, KeyringError>
+        ensures keys { IfOk result (λ r. (id : List ℕ) → point_at r id ≡ key_of keys.now id) }
+        ensures refusal { IfErr result (λ e. e ≡ KeyringError.OutOfMemory) }
+    {
+        let mut ring = Keyring {
+            keys: BTreeMap::new(alloc),
+        };
+        for place in 0..keys.len() {
+            match keys.get(place) {
+                None => {}
+                Some(spki) => ring.add(alloc, spki)?,
+            }
+        }
+        Ok(ring)
+    }
+
+    /// Adds the key of a key info in place of one of the same id, or leaves it out.
+    fn add(&mut self, alloc: Global, spki: &[u8]) -> Result<(), KeyringError>
+        ensures ok { OnOk result ((id : List ℕ) → point_at self.new id ≡ option_or (point_if id spki.now) (point_at self.old id)) }
+        ensures refusal { IfErr result (λ e. e ≡ KeyringError.OutOfMemory) }
+    {
+        match Key::new(alloc, spki) {
+            Ok(key) => {
+                self.keys.insert(key.id, key)?;
+                Ok(())
+            }
+            Err(KeyringError::OutOfMemory) => Err(KeyringError::OutOfMemory),
+            Err(_) => Ok(()),
+        }
+    }
+
+    /// The key of an id.
+    fn key(&self, id: &[u8; 32]) -> Option<&Key>
+        ensures { option_map (λ k. k.now.point) result ≡ point_at self.now id.now }
+    {
+        self.keys.get(id)
+    }
+
+    /// Whether the signature over the message is genuine under the key of this id. `KeyNotFound` exactly where the keyring has no
+    /// such key, `VerificationFailed` exactly where it has one and the checker refuses its point. Takes no memory.
+    pub fn verify<C: SignatureChecker>(
+        &self,
+        key_id: &[u8; 32],
+        signature: &[u8],
+        message: &[u8],
+        checker: &C,
+    ) -> Result<(), KeyringError>
+        ensures { result ≡ vouch (C.point_accepts checker.now) (point_at self.now key_id.now) message.now signature.now }
+    {
+        match self.key(key_id) {
+            None => Err(KeyringError::KeyNotFound),
+            Some(key) => {
+                if key.verify(message, signature, checker) {
+                    Ok(())
+                } else {
+                    Err(KeyringError::VerificationFailed)
+                }
+            }
+        }
+    }
+}

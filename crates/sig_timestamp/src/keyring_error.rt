@@ -1,0 +1,52 @@
+//! Why a certificate log's key, or a signature under such keys, is refused.
+
+ghost use Rattle.std.specs.Prelude.{◌≡◌};
+ghost use Rattle.sig_timestamp.specs.declared.keyring_error.KeyringError.TheVariants.{OutOfMemory as Memory};
+
+use sig_base::OutOfMemory;
+use std::alloc::{AllocError, AllocFailed};
+use thiserror::Error;
+
+/// Why a key did not get into a keyring, or why a keyring does not vouch for a signature.
+#[derive(Clone, Copy, Debug, PartialEq, Eq, Error)]
+pub enum KeyringError {
+    /// The bytes are no key info, or its parameters are neither an object identifier nor the NULL of an RSA key.
+    #[error("KeyMalformed")]
+    KeyMalformed,
+    /// The key is of another kind than a point of P-256.
+    #[error("AlgoUnsupported")]
+    AlgoUnsupported,
+    /// The keyring has no key of this id.
+    #[error("KeyNotFound")]
+    KeyNotFound,
+    /// The signature is not genuine under the key of this id.
+    #[error("VerificationFailed")]
+    VerificationFailed,
+    /// No memory could be had.
+    #[error("OutOfMemory")]
+    OutOfMemory,
+}
+
+impl From<OutOfMemory> for KeyringError {
+    ghost from_gives = { λ _ e. e ≡ Memory };
+
+    fn from(_error: OutOfMemory) -> KeyringError {
+        KeyringError::OutOfMemory
+    }
+}
+
+impl From<AllocError> for KeyringError {
+    ghost from_gives = { λ _ e. e ≡ Memory };
+
+    fn from(_error: AllocError) -> KeyringError {
+        KeyringError::OutOfMemory
+    }
+}
+
+impl<T: Drop> From<AllocFailed<T>> for KeyringError {
+    ghost from_gives = { λ _ e. e ≡ Memory };
+
+    fn from(_error: AllocFailed<T>) -> KeyringError {
+        KeyringError::OutOfMemory
+    }
+}

@@ -1,0 +1,77 @@
+//! The precertificate's signed part: RFC 6962 section 3.2.
+
+ghost use Rattle.std.specs.Prelude.{◌≡◌, [], ◌∷◌, ◌++◌, IfOk, OnOk};
+ghost use Rattle.sig_der.specs.Element.{element};
+ghost use Rattle.sig_certificate.specs.Certificate.{IsSignedPart};
+ghost use Rattle.sig_certificate.specs.Lookups.{lent};
+ghost use Rattle.sig_timestamp.specs.Precert.{precertificate, kept_extensions, kept_of, texts_of, extensions_element, HaveSpelling, IsWithoutScts};
+
+use sig_base::{Bytes, OutOfMemory};
+use sig_certificate::{Certificate, ExtensionRef};
+use sig_der::oid::SCT_LIST;
+use sig_der::write_short;
+use std::alloc::{AllocError, Global};
+
+const SEQUENCE: u8 = 48;
+
+const EXTENSIONS: u8 = 163;
+
+/// The signed part that a log saw before it issued the certificate's timestamp: the elements of the certificate's signed part, each
+/// byte for byte, without the extensions that list timestamps. Only the lengths of the extensions' element, of its SEQUENCE and of
+/// the whole are written anew; where no extension is left, the element is `a3 02 30 00`. Refuses for want of memory alone.
+pub fn precert_tbs_der(alloc: Global, leaf: &Certificate) -> Result<Bytes, OutOfMemory>
+    ensures is { IfOk result (λ t. t ≡ precertificate leaf.now) }
+    ensures keeps { IfOk result (IsWithoutScts leaf.now) }
+{
+    // What is written anew is no longer than what a certificate holds, so that its lengths have a spelling.
+    leaf.is_certificate();
+    precertificate(alloc, leaf)
+}
+
+fn precertificate(alloc: Global, leaf: &Certificate) -> Result<Bytes, OutOfMemory>
+    requires { IsSignedPart leaf.now }
+    ensures { IfOk result (λ t. t ≡ precertificate leaf.now) }
+{
+    if leaf.is_listed() {
+        made_anew(alloc, leaf)
+    } else {
+        Bytes::copy_of(alloc, leaf.tbs())
+    }
+}
+
+/// The signed part with the element of the extensions made anew.
+fn made_anew(alloc: Global, leaf: &Certificate) -> Result<Bytes, OutOfMemory>
+    requires { HaveSpelling leaf.now }
+    ensures { IfOk result (λ t. t ≡ element 48 (leaf.now.front ++ extensions_element (kept_extensions leaf.now))) }
+{
+    let kept = kept_extensions(alloc, leaf)?;
+    let list = write_short(alloc, SEQUENCE, &kept)?;
+    let extensions = write_short(alloc, EXTENSIONS, list.as_slice())?;
+    let mut elements = Vec::from_slice(alloc, leaf.front())?;
+    elements.extend_from_slice(extensions.as_slice())?;
+    write_short(alloc, SEQUENCE, &elements)
+}
+
+/// The whole texts of the extensions that list no timestamps, one after another.
+fn kept_extensions(alloc: Global, leaf: &Certificate) -> Result<Vec<u8>, OutOfMemory>
+    ensures { IfOk result (λ v. v.items ≡ texts_of (kept_extensions leaf.now)) }
+{
+    let mut kept = Vec::new(alloc);
+    for place in 0..leaf.extension_count() {
+        match leaf.extension_at(place) {
+            None => {}
+            Some(extension) => push_kept(&mut kept, extension)?,
+        }
+    }
+    Ok(kept)
+}
+
+/// Appends the extension, if it lists no timestamps.
+fn push_kept(kept: &mut Vec<u8>, extension: ExtensionRef<'_>) -> Result<(), AllocError>
+    ensures { OnOk result (kept.new.items ≡ kept.old.items ++ kept_of (lent extension.entry)) }
+{
+    if extension.oid == SCT_LIST {
+        return Ok(());
+    }
+    kept.extend_from_slice(extension.whole)
+}

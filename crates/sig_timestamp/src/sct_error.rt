@@ -1,0 +1,73 @@
+//! Why a timestamp of a certificate log is refused.
+
+ghost use Rattle.std.specs.Prelude.{◌≡◌};
+ghost use Rattle.sig_timestamp.specs.declared.sct_error.SCTError.TheVariants.{OutOfMemory as Memory, Parsing};
+
+use crate::keyring_error::KeyringError;
+use sig_base::OutOfMemory;
+use std::alloc::{AllocError, AllocFailed};
+use thiserror::Error;
+
+/// Why a certificate's timestamp was not read.
+#[derive(Clone, Copy, Debug, PartialEq, Eq, Error)]
+pub enum CertificateErrorKind {
+    /// The certificate has not exactly one extension that lists timestamps, or that does not list exactly one.
+    #[error("LeafSCTMissing")]
+    LeafSCTMissing,
+    /// The chain does not begin with a certificate authority that issued the certificate.
+    #[error("IssuerMissing")]
+    IssuerMissing,
+    /// The list of timestamps, or the only timestamp in it, is malformed.
+    #[error("LeafSCTMalformed")]
+    LeafSCTMalformed,
+}
+
+/// Why a certificate's timestamp was not accepted.
+#[derive(Clone, Copy, Debug, PartialEq, Eq, Error)]
+pub enum SCTError {
+    /// It was not read.
+    #[error("Parsing")]
+    Parsing(CertificateErrorKind),
+    /// The bytes that it signs have no spelling: the certificate's body has more than 2^24 - 1 bytes, or the extensions of the
+    /// timestamp have more than 2^16 - 1.
+    #[error("Serialization")]
+    Serialization,
+    /// The keyring does not vouch for it.
+    #[error("Verification")]
+    Verification(KeyringError),
+    /// No memory could be had.
+    #[error("OutOfMemory")]
+    OutOfMemory,
+}
+
+impl From<CertificateErrorKind> for SCTError {
+    ghost from_gives = { λ k e. e ≡ Parsing k };
+
+    fn from(kind: CertificateErrorKind) -> SCTError {
+        SCTError::Parsing(kind)
+    }
+}
+
+impl From<OutOfMemory> for SCTError {
+    ghost from_gives = { λ _ e. e ≡ Memory };
+
+    fn from(_error: OutOfMemory) -> SCTError {
+        SCTError::OutOfMemory
+    }
+}
+
+impl From<AllocError> for SCTError {
+    ghost from_gives = { λ _ e. e ≡ Memory };
+
+    fn from(_error: AllocError) -> SCTError {
+        SCTError::OutOfMemory
+    }
+}
+
+impl<T: Drop> From<AllocFailed<T>> for SCTError {
+    ghost from_gives = { λ _ e. e ≡ Memory };
+
+    fn from(_error: AllocFailed<T>) -> SCTError {
+        SCTError::OutOfMemory
+    }
+}

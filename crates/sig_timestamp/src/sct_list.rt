@@ -1,0 +1,108 @@
+//! Lists of signed certificate timestamps in certificates: RFC 6962 sections 3.3 and 3.2.
+
+ghost use Rattle.std.specs.Prelude.{◌≡◌, option_map, is_some, length};
+ghost use Rattle.sig_der.specs.Taking.{many_at};
+ghost use Rattle.sig_timestamp.specs.Vectors.{vector_at};
+ghost use Rattle.sig_timestamp.specs.SctList.{signed_at, sct_at, list_in};
+ghost use Rattle.sig_der.specs.KeyInfo.{after_zero};
+ghost use Rattle.sig_timestamp.specs.Timestamps.{only_one};
+ghost use Rattle.sig_timestamp.specs.Lent.{both_now, sct_now, part_now};
+
+use crate::opaque::{bytes_at, vector_at, whole_vector};
+use crate::sct_error::CertificateErrorKind;
+use sig_der::whole_at;
+
+const OCTET_STRING: u8 = 4;
+
+/// A signed certificate timestamp, lent from its text.
+#[derive(Clone, Copy)]
+pub(crate) struct LentSct<'a> {
+    /// The SHA-256 of the log's key info.
+    pub(crate) log_id: &'a [u8; 32],
+    /// Milliseconds since 1970.
+    pub(crate) timestamp: u64,
+    pub(crate) extensions: &'a [u8],
+    pub(crate) signature: &'a [u8],
+}
+
+/// The timestamp that is all of the text.
+#[tactic(auto, unfolding(crate::specs::SctList::sct_at, crate::specs::Vectors::bytes_at))]
+pub(crate) fn sct_at(text: &[u8]) -> Option<LentSct<'_>>
+    ensures { sct_at text.now ≡ option_map sct_now result }
+{
+    let rest = after_version(text)?;
+    let (log_id, rest) = rest.split_first_chunk::<32>()?;
+    let (timestamp, rest) = rest.split_first_chunk::<8>()?;
+    let (extensions, signature) = signed_at(rest)?;
+    Some(LentSct {
+        log_id,
+        timestamp: u64::from_be_bytes(*timestamp),
+        extensions,
+        signature,
+    })
+}
+
+/// What follows version 0.
+#[tactic(auto, unfolding(sig_der::specs::KeyInfo::after_zero))]
+fn after_version(text: &[u8]) -> Option<&[u8]>
+    ensures { after_zero text.now ≡ option_map (λ r. r.now) result }
+{
+    match text {
+        [0, rest @ ..] => Some(rest),
+        _ => None,
+    }
+}
+
+/// The extensions and the signature, which are all of the text.
+#[tactic(auto, unfolding(crate::specs::SctList::signed_at))]
+fn signed_at(bytes: &[u8]) -> Option<(&[u8], &[u8])>
+    ensures { signed_at bytes.now ≡ option_map both_now result }
+{
+    let (extensions, rest) = vector_at(bytes)?;
+    let (_algorithm, rest) = bytes_at(rest, 2)?;
+    let signature = whole_vector(rest)?;
+    Some((extensions, signature))
+}
+
+/// The bytes of the list that is the value of an extension, without its lengths.
+#[tactic(auto, using(sig_certificate::proofs::Spans::all_part), unfolding(crate::specs::SctList::list_in))]
+pub(crate) fn list_in(value: &[u8]) -> Option<&[u8]>
+    ensures { list_in value.now ≡ option_map (λ l. l.now) result }
+{
+    let string = whole_at(value, 0, value.len(), OCTET_STRING)?;
+    whole_vector(&value[string.content..string.end])
+}
+
+/// The only vector of a list of vectors. `LeafSCTMalformed` where the bytes are no such list, `LeafSCTMissing` where it has another
+/// length.
+pub(crate) fn only_one(list: &[u8]) -> Result<&[u8], CertificateErrorKind>
+    ensures { part_now result ≡ only_one (many_at vector_at list.now) }
+{
+    if !are_vectors(list) {
+        return Err(CertificateErrorKind::LeafSCTMalformed);
+    }
+    match vector_at(list) {
+        None => Err(CertificateErrorKind::LeafSCTMissing),
+        Some((text, rest)) => {
+            if rest.is_empty() {
+                Ok(text)
+            } else {
+                Err(CertificateErrorKind::LeafSCTMissing)
+            }
+        }
+    }
+}
+
+/// Whether the bytes are vectors, one after another.
+fn are_vectors(list: &[u8]) -> bool
+    ensures { result ≡ is_some (many_at vector_at list.now) }
+{
+    let mut rest = list;
+    while !rest.is_empty() {
+        match vector_at(rest) {
+            None => return false,
+            Some((_, after)) => rest = after,
+        }
+    }
+    true
+}

@@ -1,7 +1,0 @@
-use Rattle.std.proofs.Common.{◌≡◌, false, take}
-use Rattle.sig_x509.specs.Requests.{any_holds}
-use Rattle.sig_x509.proofs.policy.request.verify_any.Given as goal
-
--- no policy so far holds
-abbrev pub invariant-loop-policy : goal.invariant-loop-policy
-invariant-loop-policy l = any_holds (take l.policy-index l.policies) l.cert ≡ false

@@ -1,6 +1,0 @@
--- What is answered is a signed part of the same parts.
-use Rattle.sig_x509.proofs.PrecertLaws.{keeps_of}
-use Rattle.sig_x509.proofs.precert.precert_tbs_der.Goals as goal
-
-pub returns-clause-keeps : goal.returns-clause-keeps
-returns-clause-keeps c = keeps_of c.args.leaf.now c.is_certificate.ensures.tbs c.precertificate.result c.precertificate.ensures
