@@ -1,6 +1,6 @@
 //! Certificates, read again and again.
 
-use sig_x509::Certificate;
+use sig_certificate::Certificate;
 use std::alloc::Global;
 
 /// How many extensions were read in all; none where the bytes are no certificate.

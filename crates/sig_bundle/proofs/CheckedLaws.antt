@@ -1,7 +1,7 @@
 -- The checks behind the signer's, where the signer is known.
 use Rattle.std.proofs.Common.{◌≡◌, ◌⊎◌, inl, inr, Option, Some, Result, Ok, Err, refl, sym, subst}
 use Rattle.sig_base.specs.Answers.{Answers}
-use Rattle.sig_x509.specs.Certificate.{Cert}
+use Rattle.sig_certificate.specs.Certificate.{Cert}
 use Rattle.sig_bundle.specs.Checked.{Checked, checked, IsCheckedWith}
 use Rattle.sig_bundle.specs.Signer.{IsSigner}
 use Rattle.sig_bundle.specs.Meant.{IsMeant, IsOnlyMeant}

@@ -13,9 +13,9 @@ use Rattle.sig_dsse.specs.declared.envelope.DsseEnvelope.{DsseEnvelope as Envelo
 use Rattle.sig_dsse.specs.declared.envelope.DsseSignature.{DsseSignature}
 use Rattle.sig_dsse.specs.declared.recognized.SubjectFault.{SubjectFault}
 use Rattle.sig_dsse.specs.Statement.{Statement}
-use Rattle.sig_x509.specs.Certificate.{Cert, IsCertificate}
-use Rattle.sig_x509.specs.Profile.{leaf_refusal}
-use Rattle.sig_x509.specs.declared.profile_error.CertificateValidationError.{CertificateValidationError}
+use Rattle.sig_certificate.specs.Certificate.{Cert, IsCertificate}
+use Rattle.sig_certificate.specs.Profile.{leaf_refusal}
+use Rattle.sig_certificate.specs.declared.profile_error.CertificateValidationError.{CertificateValidationError}
 use Rattle.sig_bundle.specs.Checked.{Checked, checked, IsChecked, IsCheckedWith}
 use Rattle.sig_bundle.specs.Content.{SignedContent, signature_among, statement_or_refusal, under_bundle_names, digests_in, enveloped, signed}
 use Rattle.sig_bundle.specs.Passed.{IsSignedBy, IsEnvelopeOf, HasProof, IsPassed}

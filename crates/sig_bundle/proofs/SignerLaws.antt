@@ -1,12 +1,12 @@
 -- The signer among the certificates of one text.
 use Rattle.std.proofs.Common.{◌≡◌, inr, ℕ, List, [], ◌∷◌, Option, Some, None, Result, Ok, Err, refl, sym, subst}
-use Rattle.sig_x509.specs.declared.error.X509ReadError.{X509ReadError}
-use Rattle.sig_x509.specs.declared.error.X509ReadError.TheVariants.{Der}
-use Rattle.sig_x509.specs.declared.profile_error.CertificateValidationError.{CertificateValidationError}
-use Rattle.sig_x509.specs.Answers.{IsRefusedOnlyWithout}
-use Rattle.sig_x509.specs.Certificate.{Cert, IsCertificate}
-use Rattle.sig_x509.specs.Profile.{leaf_refusal}
-use Rattle.sig_bundle.specs.Meant.{IsMeant, IsOnlyMeant}
+use Rattle.sig_certificate.specs.declared.error.X509ReadError.{X509ReadError}
+use Rattle.sig_certificate.specs.declared.error.X509ReadError.TheVariants.{Der}
+use Rattle.sig_certificate.specs.declared.profile_error.CertificateValidationError.{CertificateValidationError}
+use Rattle.sig_certificate.specs.Answers.{IsRefusedOnlyWithout}
+use Rattle.sig_certificate.specs.Certificate.{Cert, IsCertificate}
+use Rattle.sig_certificate.specs.Profile.{leaf_refusal}
+use Rattle.sig_bundle.specs.Steps.{IsMeant, IsOnlyMeant}
 use Rattle.sig_bundle.specs.Signer.{AreReadings, IsSignerAmong, signer_among, leaf_or_refusal}
 use Rattle.sig_bundle.specs.declared.bundle_error.BundleErrorKind.{BundleErrorKind}
 use Rattle.sig_bundle.specs.declared.bundle_error.BundleErrorKind.TheVariants.{OutOfMemory, CertificateMalformed, NoLeaf}

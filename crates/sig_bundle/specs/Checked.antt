@@ -1,7 +1,7 @@
 -- *Checked bundle*: what a bundle's own checks, one after another, make of it (Sigstore bundle format).
 use Rattle.std.specs.Prelude.{◌≡◌, ℕ, List, Option, Some, None, Result, Ok, Err}
 use Rattle.sig_base.specs.ResultSteps.{◌>>=◌}
-use Rattle.sig_x509.specs.Certificate.{Cert}
+use Rattle.sig_certificate.specs.Certificate.{Cert}
 use Rattle.sig_bundle.specs.Content.{signed}
 use Rattle.sig_bundle.specs.Profile.{entry_among, meets_profile}
 use Rattle.sig_bundle.specs.Signer.{IsSigner}

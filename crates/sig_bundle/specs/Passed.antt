@@ -7,8 +7,8 @@ use Rattle.sig_dsse.specs.Statement.{Statement, statement_of}
 use Rattle.sig_dsse.specs.declared.artifact_digest.ArtifactDigest.{ArtifactDigest}
 use Rattle.sig_dsse.specs.declared.envelope.DsseEnvelope.{DsseEnvelope}
 use Rattle.sig_dsse.specs.declared.envelope.DsseSignature.{DsseSignature}
-use Rattle.sig_x509.specs.Certificate.{Cert, IsCertificate}
-use Rattle.sig_x509.specs.Profile.{leaf_refusal}
+use Rattle.sig_certificate.specs.Certificate.{Cert, IsCertificate}
+use Rattle.sig_certificate.specs.Profile.{leaf_refusal}
 use Rattle.sig_bundle.specs.Checked.{Checked}
 use Rattle.sig_bundle.specs.Version.{IsMediaType}
 use Rattle.sig_bundle.specs.declared.bundle.Bundle.{Bundle}

@@ -2,9 +2,9 @@
 use Rattle.std.specs.Prelude.{⊤, ◌≡◌, ℕ, ◌+◌, List, [], ◌∷◌, Bool, Option, Some, None, is_none, Result, Ok, Err, if◌then◌else◌}
 use Rattle.std.specs.List.{list_any}
 use Rattle.sig_base.specs.ResultSteps.{◌>>=◌}
-use Rattle.sig_x509.specs.Certificate.{Cert, IsCertificate}
-use Rattle.sig_x509.specs.Profile.{leaf_refusal, root_refusal}
-use Rattle.sig_x509.specs.declared.profile_error.CertificateValidationError.{CertificateValidationError}
+use Rattle.sig_certificate.specs.Certificate.{Cert, IsCertificate}
+use Rattle.sig_certificate.specs.Profile.{leaf_refusal, root_refusal}
+use Rattle.sig_certificate.specs.declared.profile_error.CertificateValidationError.{CertificateValidationError}
 use Rattle.sig_bundle.specs.declared.bundle_error.BundleErrorKind.{BundleErrorKind}
 use Rattle.sig_bundle.specs.declared.bundle_error.BundleErrorKind.TheVariants.{VerificationMaterialContentUnsupported, CertificateMalformed, CertificatesMissing, NoLeaf, RootInChain}
 use Rattle.sig_bundle.specs.declared.material.MaterialContent.{MaterialContent}

@@ -6,8 +6,8 @@ ghost use Rattle.sig_bundle.specs.declared.bundle_error.BundleProfileErrorKind.T
 ghost use Rattle.sig_bundle.specs.Content.{subject_refusal};
 
 use sig_base::{OutOfMemory, Text};
+use sig_certificate::CertificateValidationError;
 use sig_dsse::{DigestName, SubjectFault};
-use sig_x509::CertificateValidationError;
 use thiserror::Error;
 
 /// Why a bundle does not pass its own checks, or that memory ran out before the answer. The variants stand in the order of the checks.

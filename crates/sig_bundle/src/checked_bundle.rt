@@ -12,7 +12,7 @@ use crate::material::{TransparencyLogEntry, VerificationMaterial};
 use crate::profile_check::{meets_profile, only_entry};
 use crate::signer::signer;
 use sig_base::Bytes;
-use sig_x509::Certificate;
+use sig_certificate::Certificate;
 use std::alloc::Global;
 use std::marker::Model;
 
@@ -75,7 +75,7 @@ impl CheckedBundle {
     /// 1. `VerificationMaterialMissing`: there is no verification material.
     /// 2. `VerificationMaterialContentUnsupported`: the material has no content, or a hint at a key, or a chain, which is not read yet.
     /// 3. `CertificateMalformed` of place 0: the certificate is none (RFC 5280 section 4.1).
-    /// 4. `NoLeaf`: the certificate may not sign, with the refusal of [`sig_x509::is_leaf`].
+    /// 4. `NoLeaf`: the certificate may not sign, with the refusal of [`sig_certificate::is_leaf`].
     /// 5. `SignatureMissing`: there is no content, or a signature over an artifact alone, which is not read yet.
     /// 6. `DsseInvalidSignatureCount`: the envelope has not one signature.
     /// 7. `DssePayloadDecode`: its payload is no statement.

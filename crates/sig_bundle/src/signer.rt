@@ -8,7 +8,7 @@ ghost use Rattle.sig_bundle.specs.Signer.{IsSigner, IsSignerAmong, certificate_t
 use crate::bundle_error::BundleErrorKind;
 use crate::material::MaterialContent;
 use sig_base::Bytes;
-use sig_x509::{Certificate, X509ReadError, is_leaf};
+use sig_certificate::{Certificate, X509ReadError, is_leaf};
 use std::alloc::Global;
 
 /// The text of the certificate. `VerificationMaterialContentUnsupported` exactly where there is none to read: no content, a hint at a key, or a

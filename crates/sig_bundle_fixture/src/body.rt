@@ -2,8 +2,8 @@
 
 use base64::engine::general_purpose::STANDARD;
 use sig_base::{Bytes, OutOfMemory, RootHex, sha256};
+use sig_certificate::der_to_pem;
 use sig_dsse::{DsseEnvelope, envelope_json};
-use sig_x509::der_to_pem;
 use std::alloc::Global;
 
 /// The body that says that the log saw this envelope, with this signature first among its own, and the certificate of its signer. Refuses for

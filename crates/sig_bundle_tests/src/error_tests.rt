@@ -5,7 +5,7 @@ use sig_bundle::{
     Bundle01ProfileErrorKind, Bundle02ProfileErrorKind, BundleErrorKind, BundleProfileErrorKind,
     DigestName,
 };
-use sig_x509::CertificateValidationError;
+use sig_certificate::CertificateValidationError;
 use std::alloc::Global;
 use std::fmt::Display;
 use std::test::Fail;
