@@ -1,6 +1,6 @@
 -- How often an object identifier stands, by what a look-up finds; lists of extensions, and of anchors, that grow.
-use Rattle.std.proofs.Common.{◌≡◌, ℕ, ◌+◌, ◌<◌, ◌≤◌, Bool, true, false, cond, List, [], ◌∷◌, ◌++◌, length, take, get_or, ℤ, Option, Some, None, Result, Ok, Err, refl, sym, ap, subst, ◌∙◌, arith}
-use Rattle.std.specs.Prelude.{nat_eq, slice_get, position, is_err, OnOk, MatchOption}
+use Rattle.std.proofs.Common.{◌≡◌, ℕ, ◌+◌, ◌<◌, ◌≤◌, Bool, true, false, cond, List, [], ◌∷◌, ◌++◌, length, take, get_or, ℤ, Option, Some, None, Err, refl, sym, ap, ◌∙◌, arith}
+use Rattle.std.specs.Prelude.{nat_eq, slice_get, position}
 use Rattle.std.specs.List.{list_all}
 use Rattle.std.proofs.lemmas.Bool.{ne_eqb}
 use Rattle.std.proofs.lemmas.List.{take_more}
@@ -10,9 +10,8 @@ use Rattle.sig_certificate.specs.declared.error.X509ReadError.{X509ReadError}
 use Rattle.sig_certificate.specs.declared.error.X509ReadError.TheVariants.{Der, OutOfMemory as NoMemory}
 use Rattle.sig_certificate.specs.Answers.{IsRefusedOnlyWithout}
 use Rattle.sig_certificate.specs.Certificate.{Extension, Cert, IsCertificate}
-use Rattle.sig_base.specs.declared.memory.OutOfMemory.{OutOfMemory as Memory}
 use Rattle.sig_base.specs.declared.fault.PoolError.TheVariants.{Malformed}
-use Rattle.sig_x509.specs.Issuance.{Accepts, placed, is_issued, is_profiled, issuer_of, is_unconstrained, IsAnchor, IsNoAnchor, AreAnchors}
+use Rattle.sig_x509.specs.Issuance.{Accepts, placed, is_issued, is_profiled, issuer_of, is_unconstrained, IsAnchor, AreAnchors}
 
 pub none_absent : (es : List Extension) → es ≡ [] → nat_eq (length es) 0 ≡ true
 none_absent es is = rw is refl
@@ -48,10 +47,13 @@ anchors_push (u ∷ ts) (d ∷ cs) t c are is = (are.0, anchors_push ts cs t c a
 anchors_push [] (d ∷ cs) t c are is = absurd are
 anchors_push (u ∷ ts) [] t c are is = absurd are
 
-pub anchors_more : (ts : List (List ℕ)) (place : ℕ) (t : List ℕ) (c : Cert) (before after : List Cert) → slice_get ts place ≡ Some t → IsAnchor t c
-    → after ≡ before ++ c ∷ [] → AreAnchors (take place ts) before → AreAnchors (take (place + 1) ts) after
-anchors_more ts place t c before after got is grown are =
-    rw (grown, take_more ts place t (slice_get_within ts place t got), at_place ts place t got) (anchors_push (take place ts) before t c are is)
+-- the texts are walked in the list's own memory, us
+pub anchors_more : (ts us : List (List ℕ)) (place : ℕ) (t u : List ℕ) (c : Cert) (before after : List Cert) → us ≡ ts → place < length us → u ≡ get_or us place u
+    → t ≡ u → IsAnchor t c → after ≡ before ++ c ∷ [] → AreAnchors (take place ts) before → AreAnchors (take (place + 1) ts) after
+anchors_more ts us place t u c before after same lt there seen is grown are =
+    let below : place < length ts = rw (sym same) lt in
+    let got : t ≡ get_or ts place t = rw (seen, sym same) there in
+    rw (grown, take_more ts place t below, sym got) (anchors_push (take place ts) before t c are is)
 
 -- ---- what was read is the only certificate of its text
 
@@ -70,14 +72,6 @@ no_anchor c d b same answer is un =
 pub der_only : (text : List ℕ) (e : X509ReadError) → e ≡ Der → IsRefusedOnlyWithout text e → (d : Cert) → IsCertificate text d → ⊥
 der_only text Der is none = none
 der_only text NoMemory is none = absurd cc
-
-pub is_anchor : (text : List ℕ) (c : Cert) (o : Option Cert) → o ≡ Some c → MatchOption o (IsNoAnchor text) (IsAnchor text) → IsAnchor text c
-is_anchor text c (Some d) same is = subst (λ (x : Cert). IsAnchor text x) (read_same c d same) is
-is_anchor text c None same is = absurd cc
-
-pub pushed : {P : Type 0} (r : Result (Unit {0}) Memory) → OnOk r P → is_err r ≡ false → P
-pushed (Ok x) is done = is
-pushed (Err e) is done = absurd cc
 
 -- ---- the issuer
 

@@ -102,6 +102,13 @@ pub record IsFirstNoAnchor (texts : List (List ℕ)) (place : ℕ) : Type 0 wher
   pub there : slice_get texts place ≡ Some text
   pub no : IsNoAnchor text
 
+-- why the text at this place is refused
+abbrev pub IsRefusedAt : List ℕ → ℕ → PoolError → Type 0
+IsRefusedAt text place (Anchor at) = (at ≡ place) × IsNoAnchor text
+IsRefusedAt text place OutOfMemory = ⊤
+IsRefusedAt text place Malformed = ⊥
+IsRefusedAt text place VerificationFailed = ⊥
+
 -- why a pool of these texts is refused
 abbrev pub IsPoolRefusal : List (List ℕ) → PoolError → Type 0
 IsPoolRefusal texts (Anchor place) = IsFirstNoAnchor texts place

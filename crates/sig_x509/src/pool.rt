@@ -1,14 +1,14 @@
 //! `CertificatePool`: the anchors that may have issued a certificate.
 
-ghost use Rattle.std.specs.Prelude.{◌≡◌, ◌↔◌, ℕ, Ok, Err, option_map, slice_get, position, MatchOption, IfOk, IfErr, IsErrOf};
+ghost use Rattle.std.specs.Prelude.{◌≡◌, ◌↔◌, ℕ, Ok, Err, option_map, slice_get, position, IfOk, IfErr, IsErrOf};
 ghost use Rattle.sig_base.specs.Answers.{Answers};
 ghost use Rattle.sig_certificate.specs.Answers.{ComesWhere};
 ghost use Rattle.sig_certificate.specs.Certificate.{Cert, IsCertificate};
-ghost use Rattle.sig_x509.specs.Issuance.{is_issued, issuer_of, IsAnchor, IsNoAnchor, AreAnchors, IsPoolRefusal};
+ghost use Rattle.sig_x509.specs.Issuance.{is_issued, issuer_of, IsAnchor, AreAnchors, IsRefusedAt, IsPoolRefusal};
 ghost use Rattle.sig_x509.specs.Issued.{HasProfile, IsFirstIssuer, IsIssuedByNone, HasNoProfile, IsIssuedText, IsUnissuedText, IsJudgedText};
 
 use crate::issuance::{is_issued, is_profiled, is_unconstrained};
-use sig_base::{Entries, OutOfMemory, PoolError, Register, SignatureChecker};
+use sig_base::{Entries, PoolError, Register, SignatureChecker};
 use sig_certificate::{Certificate, X509ReadError};
 use std::alloc::Global;
 use std::marker::Model;
@@ -29,20 +29,22 @@ impl Model for CertificatePool {
     ghost view = { λ p. p.anchors };
 }
 
-/// The anchor that the bytes are. None exactly where they are none. Refuses for want of memory alone.
-fn read_anchor(alloc: Global, der: &[u8]) -> Result<Option<Certificate>, OutOfMemory>
-    ensures { IfOk result (λ o. MatchOption o (IsNoAnchor der.now) (IsAnchor der.now)) }
+/// The anchor that the bytes are, the text at this place. `Anchor` with the place exactly where they are none; `OutOfMemory` for want
+/// of memory.
+fn read_anchor(alloc: Global, place: usize, der: &[u8]) -> Result<Certificate, PoolError>
+    ensures found { IfOk result (IsAnchor der.now) }
+    ensures refused { IfErr result (IsRefusedAt der.now place) }
 {
     match Certificate::try_from_der(alloc, der) {
         Ok(anchor) => {
             if is_unconstrained(&anchor) {
-                Ok(Some(anchor))
+                Ok(anchor)
             } else {
-                Ok(None)
+                Err(PoolError::Anchor(place))
             }
         }
-        Err(X509ReadError::Der) => Ok(None),
-        Err(X509ReadError::OutOfMemory) => Err(OutOfMemory),
+        Err(X509ReadError::Der) => Err(PoolError::Anchor(place)),
+        Err(X509ReadError::OutOfMemory) => Err(PoolError::OutOfMemory),
     }
 }
 
@@ -59,19 +61,9 @@ impl CertificatePool {
         ensures refusal { IfErr result (IsPoolRefusal trusted_roots.now) }
     {
         let mut anchors = Register::new(alloc);
-        for place in 0..trusted_roots.len() {
-            match trusted_roots.get(place) {
-                None => {}
-                Some(der) => match read_anchor(alloc, der) {
-                    Ok(Some(anchor)) => {
-                        if anchors.push(anchor).is_err() {
-                            return Err(PoolError::OutOfMemory);
-                        }
-                    }
-                    Ok(None) => return Err(PoolError::Anchor(place)),
-                    Err(OutOfMemory) => return Err(PoolError::OutOfMemory),
-                },
-            }
+        'texts: for (place, der) in trusted_roots.as_slice().iter().enumerate() {
+            let anchor = read_anchor(alloc, place, der.as_slice())?;
+            anchors.push(anchor)?;
         }
         Ok(CertificatePool { anchors })
     }

@@ -3,5 +3,5 @@ use Rattle.sig_x509.specs.Issuance.{AreAnchors}
 use Rattle.sig_x509.proofs.pool.CertificatePool.from_certificates.Given as goal
 
 -- the anchors so far are those of the texts so far
-abbrev pub invariant-loop-place : goal.invariant-loop-place
-invariant-loop-place l = AreAnchors (take l.place l.trusted_roots) l.anchors
+abbrev pub invariant-texts : goal.invariant-texts
+invariant-texts l = AreAnchors (take l.place l.trusted_roots) l.anchors
