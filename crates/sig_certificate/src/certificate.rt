@@ -42,8 +42,8 @@ impl Certificate {
     /// The certificate that the bytes are: one SEQUENCE of the signed part, an algorithm and the bits of the signature, and
     /// nothing after it (RFC 5280 section 4.1).
     ///
-    /// `Der` exactly where the bytes are no certificate. `OutOfMemory` where the copy of the bytes, the list of the extensions or,
-    /// for more than 64 extensions and the time of this call, the set of their object identifiers could not be made.
+    /// `Der` exactly where the bytes are no certificate. `OutOfMemory` where the copy of the bytes or the list of the extensions
+    /// could not be made.
     pub fn try_from_der(alloc: Global, der: &[u8]) -> Result<Certificate, X509ReadError>
         // What is answered is the certificate.
         ensures found { IfOk result (IsCertificate der.now) }
