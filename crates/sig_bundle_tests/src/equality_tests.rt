@@ -145,7 +145,8 @@ fn a_part_is_equal_where_it_is_not_changed(rt: HostRuntime) {
 /// The signature over an artifact that a text is.
 fn message_signature(alloc: Global, signature: &str) -> Option<MessageSignature> {
     let text = format!(in alloc; "{{\"messageSignature\":{signature}}}").ok()?;
-    match read(alloc, text.as_str())?.content {
+    let Bundle { content, .. } = read(alloc, text.as_str())?;
+    match content {
         Some(Content::MessageSignature(signature)) => Some(signature),
         _ => None,
     }
