@@ -53,11 +53,10 @@ module _ {V : Type 0} where
 
   pub absent_exactly : (text : List ℕ) (es : List (List ℕ × V)) → KeysAscend es
       → (text_lookup text es ≡ None) ↔ ((value : V) → Contains es (text, value) → ⊥)
-  absent_exactly text es up =
-      (
-        (λ none value held. let found : text_lookup text es ≡ Some value = (found_exactly text value es up).1 held in absurd cc),
-        (λ out. by (text_lookup text es) refl out),
-      ) where
+  absent_exactly text es up = (
+    (λ none value held. let found : text_lookup text es ≡ Some value = (found_exactly text value es up).1 held in absurd cc),
+    (λ out. by (text_lookup text es) refl out),
+  ) where
     by : (found : Option V) → text_lookup text es ≡ found → ((value : V) → Contains es (text, value) → ⊥) → found ≡ None
     by None is out = refl
     by (Some value) is out = absurd (out value ((found_exactly text value es up).0 is))

@@ -6,7 +6,7 @@ use Rattle.sig_certificate.specs.declared.profile_error.CertificateValidationErr
 use Rattle.sig_certificate.specs.Answers.{IsRefusedOnlyWithout}
 use Rattle.sig_certificate.specs.Certificate.{Cert, IsCertificate}
 use Rattle.sig_certificate.specs.Profile.{leaf_refusal}
-use Rattle.sig_bundle.specs.Steps.{IsMeant, IsOnlyMeant}
+use Rattle.sig_bundle.specs.Meant.{IsMeant, IsOnlyMeant}
 use Rattle.sig_bundle.specs.Signer.{AreReadings, IsSignerAmong, signer_among, leaf_or_refusal}
 use Rattle.sig_bundle.specs.declared.bundle_error.BundleErrorKind.{BundleErrorKind}
 use Rattle.sig_bundle.specs.declared.bundle_error.BundleErrorKind.TheVariants.{OutOfMemory, CertificateMalformed, NoLeaf}

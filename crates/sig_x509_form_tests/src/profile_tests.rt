@@ -169,6 +169,10 @@ fn authorities_have_a_key_usage(rt: HostRuntime) {
 #[test]
 fn roots_answer_the_first_cause(rt: HostRuntime) {
     for line in ROOT.lines() {
-        assert_eq!(rt; is_true(rt.alloc(), "is_root_ca", line), Some(true), "{line}");
+        assert_eq!(rt;
+            is_true(rt.alloc(), "is_root_ca", line),
+            Some(true),
+            "{line}"
+        );
     }
 }

@@ -148,41 +148,65 @@ fn is_true(alloc: Global, name: &str, line: &str) -> Option<bool> {
 #[test]
 fn issuers_are_compared(rt: HostRuntime) {
     for line in ISSUERS.lines() {
-        assert_eq!(rt; is_true(rt.alloc(), "OIDCIssuer", line), Some(true), "{line}");
+        assert_eq!(rt;
+            is_true(rt.alloc(), "OIDCIssuer", line),
+            Some(true),
+            "{line}"
+        );
     }
 }
 
 #[test]
 fn triggers_are_compared(rt: HostRuntime) {
     for line in TRIGGERS.lines() {
-        assert_eq!(rt; is_true(rt.alloc(), "GitHubWorkflowTrigger", line), Some(true), "{line}");
+        assert_eq!(rt;
+            is_true(rt.alloc(), "GitHubWorkflowTrigger", line),
+            Some(true),
+            "{line}"
+        );
     }
 }
 
 #[test]
 fn commits_are_compared(rt: HostRuntime) {
     for line in COMMITS.lines() {
-        assert_eq!(rt; is_true(rt.alloc(), "GitHubWorkflowSHA", line), Some(true), "{line}");
+        assert_eq!(rt;
+            is_true(rt.alloc(), "GitHubWorkflowSHA", line),
+            Some(true),
+            "{line}"
+        );
     }
 }
 
 #[test]
 fn names_are_compared(rt: HostRuntime) {
     for line in NAMES.lines() {
-        assert_eq!(rt; is_true(rt.alloc(), "GitHubWorkflowName", line), Some(true), "{line}");
+        assert_eq!(rt;
+            is_true(rt.alloc(), "GitHubWorkflowName", line),
+            Some(true),
+            "{line}"
+        );
     }
 }
 
 #[test]
 fn repositories_are_compared(rt: HostRuntime) {
     for line in REPOSITORIES.lines() {
-        assert_eq!(rt; is_true(rt.alloc(), "GitHubWorkflowRepository", line), Some(true), "{line}");
+        assert_eq!(rt;
+            is_true(rt.alloc(), "GitHubWorkflowRepository", line),
+            Some(true),
+            "{line}"
+        );
     }
 }
 
 #[test]
 fn refs_are_compared(rt: HostRuntime) {
     for line in REFS.lines() {
-        assert_eq!(rt; is_true(rt.alloc(), "GitHubWorkflowRef", line), Some(true), "{line}");
+        assert_eq!(rt;
+            is_true(rt.alloc(), "GitHubWorkflowRef", line),
+            Some(true),
+            "{line}"
+        );
     }
 }

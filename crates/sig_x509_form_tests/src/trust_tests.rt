@@ -76,28 +76,44 @@ fn is_true(alloc: Global, call: &str, line: &str) -> Option<bool> {
 #[test]
 fn key_usages_answer_the_first_cause(rt: HostRuntime) {
     for line in USAGES.lines() {
-        assert_eq!(rt; is_true(rt.alloc(), "verify_key_usages", line), Some(true), "{line}");
+        assert_eq!(rt;
+            is_true(rt.alloc(), "verify_key_usages", line),
+            Some(true),
+            "{line}"
+        );
     }
 }
 
 #[test]
 fn alternative_names_are_well_formed(rt: HostRuntime) {
     for line in NAMES.lines() {
-        assert_eq!(rt; is_true(rt.alloc(), "verify_has_san", line), Some(true), "{line}");
+        assert_eq!(rt;
+            is_true(rt.alloc(), "verify_has_san", line),
+            Some(true),
+            "{line}"
+        );
     }
 }
 
 #[test]
 fn other_names_are_well_formed(rt: HostRuntime) {
     for line in OTHER_NAMES.lines() {
-        assert_eq!(rt; is_true(rt.alloc(), "verify_has_san", line), Some(true), "{line}");
+        assert_eq!(rt;
+            is_true(rt.alloc(), "verify_has_san", line),
+            Some(true),
+            "{line}"
+        );
     }
 }
 
 #[test]
 fn well_formed_names_are_accepted(rt: HostRuntime) {
     for line in GOOD_NAMES.lines() {
-        assert_eq!(rt; is_true(rt.alloc(), "verify_has_san", line), Some(true), "{line}");
+        assert_eq!(rt;
+            is_true(rt.alloc(), "verify_has_san", line),
+            Some(true),
+            "{line}"
+        );
     }
 }
 
