@@ -1,0 +1,66 @@
+//! The line that is written for a case.
+use crate::error::CaseError;
+use base64::engine::general_purpose::STANDARD;
+use std::alloc::Global;
+use std::fmt::{Debug, Display};
+
+/// The line that is written for a case, as far as it is written.
+#[derive(Drop)]
+pub struct Answer {
+    alloc: Global,
+    text: String,
+}
+
+impl Answer {
+    /// `ok`, to which the values of the result are added. Fails for memory alone, as each call here.
+    pub fn ok(alloc: Global) -> Result<Answer, CaseError> {
+        Answer::of(alloc, &"ok")
+    }
+
+    /// An error, by its Debug text.
+    pub fn error<E: Debug>(alloc: Global, error: &E) -> Result<Answer, CaseError> {
+        let text = format!(in alloc; "{error:?}")?;
+        Ok(Answer { alloc, text })
+    }
+
+    /// A value alone, as it prints.
+    pub fn of<T: Display>(alloc: Global, value: &T) -> Result<Answer, CaseError> {
+        let text = format!(in alloc; "{value}")?;
+        Ok(Answer { alloc, text })
+    }
+
+    /// Adds a value as it prints.
+    pub fn value<T: Display>(self, value: &T) -> Result<Answer, CaseError> {
+        let text = format!(in self.alloc; "{} {value}", self.text)?;
+        Ok(Answer { text, ..self })
+    }
+
+    /// Adds a value by its Debug text: of a `str` or a `String` in quotation marks and with escapes.
+    pub fn debug<T: Debug>(self, value: &T) -> Result<Answer, CaseError> {
+        let text = format!(in self.alloc; "{} {value:?}", self.text)?;
+        Ok(Answer { text, ..self })
+    }
+
+    /// Adds bytes in lower-case hexadecimal; `-` for no bytes.
+    pub fn hex(self, bytes: &[u8]) -> Result<Answer, CaseError> {
+        if bytes.is_empty() {
+            return self.value(&"-");
+        }
+        let written = hex::encode(self.alloc, bytes)?;
+        self.value(&written)
+    }
+
+    /// Adds bytes in base64; `-` for no bytes.
+    pub fn base64(self, bytes: &[u8]) -> Result<Answer, CaseError> {
+        if bytes.is_empty() {
+            return self.value(&"-");
+        }
+        let written = STANDARD.encode(self.alloc, bytes)?;
+        self.value(&written)
+    }
+
+    /// The line.
+    pub fn as_str(&self) -> &str {
+        self.text.as_str()
+    }
+}
