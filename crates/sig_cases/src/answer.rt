@@ -17,10 +17,18 @@ impl Answer {
         Answer::of(alloc, &"ok")
     }
 
-    /// An error, by its Debug text.
-    pub fn error<E: Debug>(alloc: Global, error: &E) -> Result<Answer, CaseError> {
+    /// An error, by its Debug text. Its Display text has to be the name of its variant, with which the Debug text begins; where it is another,
+    /// it follows in brackets.
+    pub fn error<E: Debug + Display>(alloc: Global, error: &E) -> Result<Answer, CaseError> {
         let text = format!(in alloc; "{error:?}")?;
-        Ok(Answer { alloc, text })
+        let name = format!(in alloc; "{error}")?;
+        if is_name_of(name.as_str(), text.as_str()) {
+            return Ok(Answer { alloc, text });
+        }
+        Answer::of(alloc, &text)?
+            .value(&"[")?
+            .value(&name)?
+            .value(&"]")
     }
 
     /// A value alone, as it prints.
@@ -62,5 +70,13 @@ impl Answer {
     /// The line.
     pub fn as_str(&self) -> &str {
         self.text.as_str()
+    }
+}
+
+/// Whether a text is the name with which the Debug text of a variant begins.
+fn is_name_of(name: &str, text: &str) -> bool {
+    match text.strip_prefix(name) {
+        Some(rest) => rest.is_empty() || rest.starts_with('(') || rest.starts_with(' '),
+        None => false,
     }
 }

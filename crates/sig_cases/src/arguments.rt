@@ -43,15 +43,23 @@ impl<'a> Arguments<'a> {
         }
     }
 
-    /// Reads the next argument as bytes in hexadecimal, in either case; `-` is no bytes. Fails with `BadLine` for other letters, and where the
-    /// arguments are at their end.
+    /// Reads the next argument as bytes in hexadecimal, in either case; `-` is no bytes, and `3082+00*65535+ff` joins parts of which one is so
+    /// many times the same bytes. Fails with `BadLine` for other letters, and where the arguments are at their end.
     pub fn hex(&mut self, alloc: Global) -> Result<Vec<u8>, CaseError> {
+        hex_bytes(alloc, shown(self.word()?))
+    }
+
+    /// Reads the next argument as a list of bytes in hexadecimal, divided by commas, each as [`Arguments::hex`] reads it; `-` is the empty list.
+    /// Fails with `BadLine` for other letters, and where the arguments are at their end.
+    pub fn hex_list(&mut self, alloc: Global) -> Result<Vec<Vec<u8>>, CaseError> {
+        let mut list = Vec::new(alloc);
         let word = self.word()?;
-        match hex::decode(alloc, shown(word)) {
-            Ok(bytes) => Ok(bytes),
-            Err(FromHexError::OutOfMemory) => Err(CaseError::OutOfMemory),
-            Err(_) => Err(CaseError::BadLine),
+        if word != "-" {
+            for item in word.split(',') {
+                list.push(hex_bytes(alloc, item)?)?;
+            }
         }
+        Ok(list)
     }
 
     /// Reads the next argument as bytes in base64, padded; `-` is no bytes. Fails with `BadLine` for other letters, and where the arguments are
@@ -84,6 +92,40 @@ impl<'a> Arguments<'a> {
     /// their end.
     pub fn natural(&mut self) -> Result<u64, CaseError> {
         self.word()?.parse::<u64>().map_err(|_| CaseError::BadLine)
+    }
+}
+
+/// The bytes of parts in hexadecimal that are joined by `+`.
+fn hex_bytes(alloc: Global, word: &str) -> Result<Vec<u8>, CaseError> {
+    let mut bytes = Vec::new(alloc);
+    for part in word.split('+') {
+        push_part(alloc, &mut bytes, part)?;
+    }
+    Ok(bytes)
+}
+
+/// Appends the bytes of a part: digits, or digits, `*` and how many times they come.
+fn push_part(alloc: Global, bytes: &mut Vec<u8>, part: &str) -> Result<(), CaseError> {
+    let (digits, times) = match part.split_once('*') {
+        Some((digits, times)) => (
+            digits,
+            times.parse::<u32>().map_err(|_| CaseError::BadLine)?,
+        ),
+        None => (part, 1),
+    };
+    let piece = decoded(alloc, digits)?;
+    for _ in 0..times {
+        bytes.extend_from_slice(&piece)?;
+    }
+    Ok(())
+}
+
+/// The bytes of a text of hexadecimal digits.
+fn decoded(alloc: Global, digits: &str) -> Result<Vec<u8>, CaseError> {
+    match hex::decode(alloc, digits) {
+        Ok(bytes) => Ok(bytes),
+        Err(FromHexError::OutOfMemory) => Err(CaseError::OutOfMemory),
+        Err(_) => Err(CaseError::BadLine),
     }
 }
 
