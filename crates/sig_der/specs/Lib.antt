@@ -1,3 +1,6 @@
+pub mod ObjectIdentifier
+pub mod ObjectIdentifiers
+pub mod Tag
 pub mod Element
 pub mod Reading
 pub mod Lent
