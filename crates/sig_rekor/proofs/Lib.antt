@@ -9,3 +9,4 @@ pub mod VerifyLaws
 pub mod Graphic
 pub mod WrittenCuts
 pub mod ReadBackLaws
+pub mod Equality

@@ -10,6 +10,7 @@ mod coding;
 mod cuts;
 mod fault;
 mod inclusion_proof;
+pub mod laws;
 mod note;
 mod signature;
 mod signed;

@@ -1,0 +1,5 @@
+use Rattle.sig_rekor.proofs.Equality.{answers, note_eq-tells}
+use Rattle.sig_rekor.proofs.laws.equal_notes.Goals as goal
+
+pub returns : goal.returns
+returns c = answers c.eq.result _ c.eq.ensures (note_eq-tells c.args.one.now c.args.other.now)
