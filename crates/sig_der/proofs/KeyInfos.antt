@@ -9,6 +9,7 @@ use Rattle.sig_der.specs.Taking.{take_any, take_tag, take_whole}
 use Rattle.sig_der.specs.KeyInfo.{Algorithm, IsAtMostOne, IsAlgorithm, KeyInfo, IsKeyInfo, at_most_one, algorithm_at, after_zero, bits_of, key_info_at, is_empty, whole_key_info}
 use Rattle.sig_der.proofs.Bytes.{IsBytes, IsBytes-left, IsBytes-right}
 use Rattle.sig_der.proofs.Takings.{take_any_takes, take_any_again, take_tag_takes, take_tag_again, take_whole_takes, take_whole_again}
+use Rattle.sig_der.specs.Tag.{BIT_STRING, OBJECT_IDENTIFIER, SEQUENCE}
 
 -- ---- bytes of parts
 
@@ -66,19 +67,19 @@ TakesAlgorithm bytes y = IsAlgorithm y.0 × (bytes ≡ y.0.whole ++ y.1)
 pub algorithm_at_takes : (bytes : List ℕ) → IsBytes bytes → (y : Algorithm × List ℕ) → algorithm_at bytes ≡ Some y → TakesAlgorithm bytes y
 unfolding algorithm_at
 algorithm_at_takes bytes fits y e =
-    let x = bind_is (take_tag 48 bytes) _ y e in
-    let o = bind_is (take_tag 6 x.0.0.content) _ y x.2 in
+    let x = bind_is (take_tag SEQUENCE bytes) _ y e in
+    let o = bind_is (take_tag OBJECT_IDENTIFIER x.0.0.content) _ y x.2 in
     let p = bind_is (at_most_one o.0.1) _ y o.2 in
     let g = unless_is (eqb (length o.0.0.content) 0) _ y p.2 in
-    let tx = (take_tag_takes 48 bytes fits x.0 x.1).0 in
+    let tx = (take_tag_takes SEQUENCE bytes fits x.0 x.1).0 in
     let inner = first_fits _ _ _ _ bytes tx fits in
-    let to = (take_tag_takes 6 x.0.0.content inner o.0 o.1).0 in
+    let to = (take_tag_takes OBJECT_IDENTIFIER x.0.0.content inner o.0 o.1).0 in
     let tp = one_takes o.0.1 (rest_fits _ _ _ _ x.0.0.content to inner) p.0 p.1 in
     subst (λ (w : Algorithm × List ℕ). TakesAlgorithm bytes w) (some_is _ y g.1) (
       record {
         oid_text = o.0.0.whole;
         parameters_text = o.0.1;
-        whole = subst (λ (w : List ℕ). IsElement x.0.0.whole 48 w) to.parts tx.is;
+        whole = subst (λ (w : List ℕ). IsElement x.0.0.whole SEQUENCE w) to.parts tx.is;
         oid = to.is;
         named = some_left o.0.0.content g.0;
         parameters = tp;
@@ -89,9 +90,9 @@ algorithm_at_takes bytes fits y e =
 pub algorithm_at_again : (a : Algorithm) (rest bytes : List ℕ) → IsAlgorithm a → bytes ≡ a.whole ++ rest → algorithm_at bytes ≡ Some (a, rest)
 unfolding algorithm_at
 algorithm_at_again a rest bytes is parts =
-    bind_of_some (take_tag 48 bytes) _ _ (take_tag_again a.whole 48 (is.oid_text ++ is.parameters_text) rest bytes is.whole parts)
-    ∙ bind_of_some (take_tag 6 (is.oid_text ++ is.parameters_text)) _ _
-    (take_tag_again is.oid_text 6 a.oid is.parameters_text (is.oid_text ++ is.parameters_text) is.oid refl)
+    bind_of_some (take_tag SEQUENCE bytes) _ _ (take_tag_again a.whole SEQUENCE (is.oid_text ++ is.parameters_text) rest bytes is.whole parts)
+    ∙ bind_of_some (take_tag OBJECT_IDENTIFIER (is.oid_text ++ is.parameters_text)) _ _
+    (take_tag_again is.oid_text OBJECT_IDENTIFIER a.oid is.parameters_text (is.oid_text ++ is.parameters_text) is.oid refl)
     ∙ bind_of_some (at_most_one is.parameters_text) _ a.parameters (one_again is.parameters_text a.parameters is.parameters)
     ∙ cond-false (eqb (length a.oid) 0) _ _ (left_some a.oid is.named)
 
@@ -106,16 +107,16 @@ after_zero_takes (n ∷ rest) bits e =
     let same : rest ≡ bits = some_is rest bits w.1 in
     rw (zero, same) refl
 
-pub bits_of_takes : (bytes : List ℕ) → IsBytes bytes → (bits : List ℕ) → bits_of bytes ≡ Some bits → IsElement bytes 3 (0 ∷ bits)
+pub bits_of_takes : (bytes : List ℕ) → IsBytes bytes → (bits : List ℕ) → bits_of bytes ≡ Some bits → IsElement bytes BIT_STRING (0 ∷ bits)
 unfolding bits_of
 bits_of_takes bytes fits bits e =
-    let s = bind_is (take_whole 3 bytes) _ bits e in
-    let t = take_whole_takes 3 bytes fits s.0 s.1 in
-    subst (λ (w : List ℕ). IsElement bytes 3 w) (after_zero_takes s.0.content bits s.2) t.0
+    let s = bind_is (take_whole BIT_STRING bytes) _ bits e in
+    let t = take_whole_takes BIT_STRING bytes fits s.0 s.1 in
+    subst (λ (w : List ℕ). IsElement bytes BIT_STRING w) (after_zero_takes s.0.content bits s.2) t.0
 
-pub bits_of_again : (bytes bits : List ℕ) → IsElement bytes 3 (0 ∷ bits) → bits_of bytes ≡ Some bits
+pub bits_of_again : (bytes bits : List ℕ) → IsElement bytes BIT_STRING (0 ∷ bits) → bits_of bytes ≡ Some bits
 unfolding bits_of after_zero
-bits_of_again bytes bits is = bind_of_some (take_whole 3 bytes) _ _ (take_whole_again bytes 3 (0 ∷ bits) is)
+bits_of_again bytes bits is = bind_of_some (take_whole BIT_STRING bytes) _ _ (take_whole_again bytes BIT_STRING (0 ∷ bits) is)
 
 -- ---- key infos
 
@@ -125,17 +126,17 @@ TakesKeyInfo bytes y = IsKeyInfo y.0 × (bytes ≡ y.0.whole ++ y.1)
 pub key_info_at_takes : (bytes : List ℕ) → IsBytes bytes → (y : KeyInfo × List ℕ) → key_info_at bytes ≡ Some y → TakesKeyInfo bytes y
 unfolding key_info_at
 key_info_at_takes bytes fits y e =
-    let x = bind_is (take_tag 48 bytes) _ y e in
+    let x = bind_is (take_tag SEQUENCE bytes) _ y e in
     let a = bind_is (algorithm_at x.0.0.content) _ y x.2 in
     let b = bind_is (bits_of a.0.1) _ y a.2 in
-    let tx = (take_tag_takes 48 bytes fits x.0 x.1).0 in
+    let tx = (take_tag_takes SEQUENCE bytes fits x.0 x.1).0 in
     let inner = first_fits _ _ _ _ bytes tx fits in
     let ta = algorithm_at_takes x.0.0.content inner a.0 a.1 in
     let bits_fit = IsBytes-right a.0.0.whole a.0.1 (subst (λ (w : List ℕ). IsBytes w) ta.1 inner) in
     subst (λ (w : KeyInfo × List ℕ). TakesKeyInfo bytes w) (some_is _ y b.2) (
       record {
         bits_text = a.0.1;
-        whole = subst (λ (w : List ℕ). IsElement x.0.0.whole 48 w) ta.1 tx.is;
+        whole = subst (λ (w : List ℕ). IsElement x.0.0.whole SEQUENCE w) ta.1 tx.is;
         algorithm = ta.0;
         bits = bits_of_takes a.0.1 bits_fit b.0 b.1;
       },
@@ -146,7 +147,7 @@ pub key_info_at_again : (k : KeyInfo) (rest bytes : List ℕ) → IsKeyInfo k �
 unfolding key_info_at
 key_info_at_again k rest bytes is parts =
     let content = k.algorithm.whole ++ is.bits_text in
-    bind_of_some (take_tag 48 bytes) _ _ (take_tag_again k.whole 48 content rest bytes is.whole parts)
+    bind_of_some (take_tag SEQUENCE bytes) _ _ (take_tag_again k.whole SEQUENCE content rest bytes is.whole parts)
     ∙ bind_of_some (algorithm_at content) _ (k.algorithm, is.bits_text) (algorithm_at_again k.algorithm is.bits_text content is.algorithm refl)
     ∙ bind_of_some (bits_of is.bits_text) _ k.bits (bits_of_again is.bits_text k.bits is.bits)
 

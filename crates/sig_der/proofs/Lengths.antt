@@ -10,23 +10,23 @@ use Rattle.sig_der.proofs.Bytes.{IsBytes, IsBytes-tail}
 
 -- ---- the five forms of a length
 
-spelled_short : (n : ℕ) → n < 128 → spelled_length n ≡ n ∷ []
+pub spelled_short : (n : ℕ) → n < 128 → spelled_length n ≡ n ∷ []
 spelled_short n high = cond-true (ltb n 128) _ _ (lt-ltb n 128 high)
 
-spelled_one : (n : ℕ) → 128 ≤ n → n < 256 → spelled_length n ≡ 129 ∷ n ∷ []
+pub spelled_one : (n : ℕ) → 128 ≤ n → n < 256 → spelled_length n ≡ 129 ∷ n ∷ []
 spelled_one n low high = cond-false (ltb n 128) _ _ (le-ltb n 128 low) ∙ cond-true (ltb n 256) _ _ (lt-ltb n 256 high)
 
-spelled_two : (n : ℕ) → 256 ≤ n → n < 65536 → spelled_length n ≡ 130 ∷ (n / 256) ∷ (n % 256) ∷ []
+pub spelled_two : (n : ℕ) → 256 ≤ n → n < 65536 → spelled_length n ≡ 130 ∷ (n / 256) ∷ (n % 256) ∷ []
 spelled_two n low high =
     cond-false (ltb n 128) _ _ (le-ltb n 128 (omega arith)) ∙ cond-false (ltb n 256) _ _ (le-ltb n 256 low)
     ∙ cond-true (ltb n 65536) _ _ (lt-ltb n 65536 high)
 
-spelled_three : (n : ℕ) → 65536 ≤ n → n < 16777216 → spelled_length n ≡ 131 ∷ (n / 65536) ∷ (n / 256 % 256) ∷ (n % 256) ∷ []
+pub spelled_three : (n : ℕ) → 65536 ≤ n → n < 16777216 → spelled_length n ≡ 131 ∷ (n / 65536) ∷ (n / 256 % 256) ∷ (n % 256) ∷ []
 spelled_three n low high =
     cond-false (ltb n 128) _ _ (le-ltb n 128 (omega arith)) ∙ cond-false (ltb n 256) _ _ (le-ltb n 256 (omega arith))
     ∙ cond-false (ltb n 65536) _ _ (le-ltb n 65536 low) ∙ cond-true (ltb n 16777216) _ _ (lt-ltb n 16777216 high)
 
-spelled_four : (n : ℕ) → 16777216 ≤ n → spelled_length n ≡ 132 ∷ (n / 16777216) ∷ (n / 65536 % 256) ∷ (n / 256 % 256) ∷ (n % 256) ∷ []
+pub spelled_four : (n : ℕ) → 16777216 ≤ n → spelled_length n ≡ 132 ∷ (n / 16777216) ∷ (n / 65536 % 256) ∷ (n / 256 % 256) ∷ (n % 256) ∷ []
 spelled_four n low =
     cond-false (ltb n 128) _ _ (le-ltb n 128 (omega arith)) ∙ cond-false (ltb n 256) _ _ (le-ltb n 256 (omega arith))
     ∙ cond-false (ltb n 65536) _ _ (le-ltb n 65536 (omega arith)) ∙ cond-false (ltb n 16777216) _ _ (le-ltb n 16777216 low)

@@ -1,6 +1,7 @@
 pub mod Bytes
 pub mod Steps
 pub mod Lengths
+mod LengthForms
 pub mod Elements
 pub mod Faults
 pub mod Ranges

@@ -8,6 +8,7 @@ use Rattle.sig_der.specs.Moment.{IsReal, IsSecondOf}
 use Rattle.sig_der.specs.Digits.{two_digits, four_digits, day_text, clock_text, two_at, four_at, day_at, clock_at}
 use Rattle.std.specs.Str.{bytes_eq}
 use Rattle.sig_base.specs.OptionSteps.{◌>>=◌}
+use Rattle.sig_der.specs.Tag.{GENERALIZED_TIME, UTC_TIME}
 
 -- MMDDHHMMSSZ
 abbrev pub after_year : Moment → List ℕ
@@ -29,11 +30,11 @@ pub record IsGeneralizedTime (text : List ℕ) (m : Moment) : Type 0 where
 -- the second since 1970 of an element of this tag and this content: a UTCTime or a GeneralizedTime
 abbrev pub IsTimeOf : ℕ → List ℕ → ℤ → Type 0
 IsTimeOf tag content second =
-    ((tag ≡ 23) × IsSecondOf (IsUtcTime content) second) ⊎ ((tag ≡ 24) × IsSecondOf (IsGeneralizedTime content) second)
+    ((tag ≡ UTC_TIME) × IsSecondOf (IsUtcTime content) second) ⊎ ((tag ≡ GENERALIZED_TIME) × IsSecondOf (IsGeneralizedTime content) second)
 
 -- why an element is no time
 abbrev pub time_fault : ℕ → DerError
-time_fault tag = if (tag == 23) || (tag == 24) then Value else WrongTag
+time_fault tag = if (tag == UTC_TIME) || (tag == GENERALIZED_TIME) then Value else WrongTag
 
 -- ---- readers
 

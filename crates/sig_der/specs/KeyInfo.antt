@@ -5,6 +5,7 @@ use Rattle.sig_base.specs.OptionSteps.{◌>>=◌}
 use Rattle.sig_der.specs.Element.{IsElement}
 use Rattle.sig_der.specs.Reading.{Piece}
 use Rattle.sig_der.specs.Taking.{take_any, take_tag, take_whole}
+use Rattle.sig_der.specs.Tag.{BIT_STRING, OBJECT_IDENTIFIER, SEQUENCE}
 
 -- ---- what they are
 
@@ -23,8 +24,8 @@ IsAtMostOne text (Some p) = IsElement text p.tag p.content × (p.whole ≡ text)
 pub record IsAlgorithm (a : Algorithm) : Type 0 where
   pub oid_text : List ℕ
   pub parameters_text : List ℕ
-  pub whole : IsElement a.whole 48 (oid_text ++ parameters_text)
-  pub oid : IsElement oid_text 6 a.oid
+  pub whole : IsElement a.whole SEQUENCE (oid_text ++ parameters_text)
+  pub oid : IsElement oid_text OBJECT_IDENTIFIER a.oid
   pub named : 0 < length a.oid
   pub parameters : IsAtMostOne parameters_text a.parameters
 
@@ -37,9 +38,9 @@ pub record KeyInfo : Type 0 where
 -- A SEQUENCE of an algorithm and a BIT STRING without unused bits.
 pub record IsKeyInfo (k : KeyInfo) : Type 0 where
   pub bits_text : List ℕ
-  pub whole : IsElement k.whole 48 (k.algorithm.whole ++ bits_text)
+  pub whole : IsElement k.whole SEQUENCE (k.algorithm.whole ++ bits_text)
   pub algorithm : IsAlgorithm k.algorithm
-  pub bits : IsElement bits_text 3 (0 ∷ k.bits)
+  pub bits : IsElement bits_text BIT_STRING (0 ∷ k.bits)
 
 -- ---- how they are read
 
@@ -55,8 +56,8 @@ at_most_one (b ∷ bytes) = do
 
 unfoldable pub algorithm_at : List ℕ → Option (Algorithm × List ℕ)
 algorithm_at bytes = do
-  x ← take_tag 48 bytes
-  o ← take_tag 6 x.0.content
+  x ← take_tag SEQUENCE bytes
+  o ← take_tag OBJECT_IDENTIFIER x.0.content
   p ← at_most_one o.1
   if is_empty o.0.content then None
       else Some (record { whole = x.0.whole; oid = o.0.content; parameters = p }, x.1)
@@ -68,11 +69,11 @@ after_zero (n ∷ bits) = if n == 0 then Some bits else None
 
 -- all of the text as a BIT STRING without unused bits: the bits
 unfoldable pub bits_of : List ℕ → Option (List ℕ)
-bits_of bytes = take_whole 3 bytes >>= λ s. after_zero s.content
+bits_of bytes = take_whole BIT_STRING bytes >>= λ s. after_zero s.content
 
 unfoldable pub key_info_at : List ℕ → Option (KeyInfo × List ℕ)
 key_info_at bytes = do
-  x ← take_tag 48 bytes
+  x ← take_tag SEQUENCE bytes
   a ← algorithm_at x.0.content
   b ← bits_of a.1
   Some (record { whole = x.0.whole; algorithm = a.0; bits = b }, x.1)

@@ -2,6 +2,7 @@ pub mod ObjectIdentifier
 pub mod ObjectIdentifiers
 pub mod Tag
 pub mod Element
+pub mod Length
 pub mod Reading
 pub mod Lent
 pub mod Children

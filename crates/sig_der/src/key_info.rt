@@ -6,12 +6,7 @@ ghost use Rattle.sig_der.specs.KeyInfo.{at_most_one, algorithm_at, bits_of, key_
 ghost use Rattle.sig_der.specs.KeyInfoPlaces.{placed_option, placed_algorithm, placed_key_info, key_info_of, part_from, IsOneWithin, IsAlgorithmWithin, IsKeyInfoWithin};
 
 use crate::place::{Place, place_at, tagged_at, whole_at};
-
-const SEQUENCE: u8 = 48;
-
-const OBJECT_IDENTIFIER: u8 = 6;
-
-const BIT_STRING: u8 = 3;
+use crate::tag;
 
 /// Where an algorithm and its parts stand in a text.
 #[derive(Clone, Copy, Debug)]
@@ -43,8 +38,8 @@ pub fn algorithm_at(bytes: &[u8], at: usize, end: usize) -> Option<AlgorithmPlac
     ensures cut { algorithm_at (slice_range bytes.now at end) ≡ option_map (placed_algorithm bytes.now end) result }
     ensures within { IfSome result (IsAlgorithmWithin at end) }
 {
-    let whole = tagged_at(bytes, at, end, SEQUENCE)?;
-    let oid = tagged_at(bytes, whole.content, whole.end, OBJECT_IDENTIFIER)?;
+    let whole = tagged_at(bytes, at, end, tag::SEQUENCE)?;
+    let oid = tagged_at(bytes, whole.content, whole.end, tag::OBJECT_IDENTIFIER)?;
     let parameters = one_at_most(bytes, oid.end, whole.end)?;
     if bytes[oid.content..oid.end].is_empty() {
         return None;
@@ -84,7 +79,7 @@ pub fn bits_at(bytes: &[u8], at: usize, end: usize) -> Option<usize>
     ensures after { IfSome result (λ n. at ≤ n) }
     ensures before { IfSome result (λ n. n ≤ end) }
 {
-    let string = whole_at(bytes, at, end, BIT_STRING)?;
+    let string = whole_at(bytes, at, end, tag::BIT_STRING)?;
     match &bytes[string.content..string.end] {
         [0, ..] => Some(string.content + 1),
         _ => None,
@@ -99,7 +94,7 @@ pub fn key_info_at(bytes: &[u8], at: usize, end: usize) -> Option<KeyInfoPlaces>
     ensures cut { key_info_at (slice_range bytes.now at end) ≡ option_map (placed_key_info bytes.now end) result }
     ensures within { IfSome result (IsKeyInfoWithin at end) }
 {
-    let whole = tagged_at(bytes, at, end, SEQUENCE)?;
+    let whole = tagged_at(bytes, at, end, tag::SEQUENCE)?;
     let algorithm = algorithm_at(bytes, whole.content, whole.end)?;
     let bits = bits_at(bytes, algorithm.whole.end, whole.end)?;
     Some(KeyInfoPlaces {

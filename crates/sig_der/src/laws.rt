@@ -1,7 +1,9 @@
-//! What the constants of this crate are, in the words of the standards. No function here does anything: each states
-//! laws, and its proof is that they hold.
+//! What the constants and the lengths of this crate are, in the words of the standards. No function here does anything: each
+//! states laws, and its proof is that they hold.
 
-ghost use Rattle.std.specs.Prelude.{◌≡◌, [], ◌∷◌, true, false};
+ghost use Rattle.std.specs.Prelude.{◌≡◌, ◌^◌, ◌<◌, ℕ, List};
+ghost use Rattle.sig_der.specs.Element.{spelled_length};
+ghost use Rattle.sig_der.specs.Length.{IsLength};
 ghost use Rattle.sig_der.specs.ObjectIdentifiers as dotted;
 ghost use Rattle.sig_der.specs.Tag as named;
 ghost use Rattle.sig_der.specs.declared.oid.TheConstants as oid;
@@ -53,4 +55,10 @@ pub fn tags()
     ensures other_name_value { tag.OTHER_NAME_VALUE ≡ named.OTHER_NAME_VALUE }
     ensures rfc822_name { tag.RFC822_NAME ≡ named.RFC822_NAME }
     ensures uniform_resource_identifier { tag.UNIFORM_RESOURCE_IDENTIFIER ≡ named.UNIFORM_RESOURCE_IDENTIFIER }
+{}
+
+/// A length below 2^32 is spelled in the definite form with the fewest octets (X.690 sections 8.1.3 and 10.1), and in no other.
+pub fn lengths()
+    ensures is { (n : ℕ) → n < 2 ^ 32 → IsLength n (spelled_length n) }
+    ensures only { (n : ℕ) (text : List ℕ) → n < 2 ^ 32 → IsLength n text → text ≡ spelled_length n }
 {}

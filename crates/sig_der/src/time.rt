@@ -7,12 +7,8 @@ ghost use Rattle.sig_der.specs.DerTime.{IsUtcTime, IsGeneralizedTime, IsTimeOf, 
 use crate::digits::{read_clock, read_day, read_four, read_two};
 use crate::element::Element;
 use crate::moment::{Moment, second_at};
+use crate::tag;
 use sig_base::DerError;
-
-/// The tag of a UTCTime.
-const UTC_TIME: u8 = 23;
-/// The tag of a GeneralizedTime.
-const GENERALIZED_TIME: u8 = 24;
 
 /// MMDDHHMMSSZ.
 #[tactic(auto, unfolding(crate::specs::DerTime::rest_at))]
@@ -104,8 +100,8 @@ pub fn time_of(element: &Element<'_>) -> Result<i64, DerError>
     ensures fault { IfErr result (λ e. e ≡ time_fault element.now.tag) }
 {
     match element.tag {
-        UTC_TIME => utc_second(element.content).ok_or(DerError::Value),
-        GENERALIZED_TIME => generalized_second(element.content).ok_or(DerError::Value),
+        tag::UTC_TIME => utc_second(element.content).ok_or(DerError::Value),
+        tag::GENERALIZED_TIME => generalized_second(element.content).ok_or(DerError::Value),
         _ => Err(DerError::WrongTag),
     }
 }
