@@ -15,34 +15,35 @@ use Rattle.sig_certificate.specs.Cutting.{Head, Body, Outer, Parts, before, oute
 use Rattle.sig_certificate.proofs.ExtensionLaws.{extension_reader}
 use Rattle.sig_certificate.proofs.HeadLaws.{after_fits, algorithm_text_again, TakesHead, head_at_takes, head_at_again}
 use Rattle.sig_certificate.proofs.BodyLaws.{TakesBody, body_at_takes, body_at_again, TakesIds, after_ids_takes, after_ids_again, IsListed, list_at_takes, list_at_again}
+use Rattle.sig_der.specs.Tag.{BIT_STRING, EXTENSIONS, ISSUER_UNIQUE_ID, SEQUENCE, SUBJECT_UNIQUE_ID}
 
 -- ---- the three parts
 
 pub record TakesOuter (text : List ℕ) (o : Outer) : Type 0 where
   pub signature_text : List ℕ
-  pub whole : IsElement text 48 (o.tbs.whole ++ (o.algorithm ++ signature_text))
-  pub tag : o.tbs.tag ≡ 48
-  pub tbs : IsElement o.tbs.whole 48 o.tbs.content
+  pub whole : IsElement text SEQUENCE (o.tbs.whole ++ (o.algorithm ++ signature_text))
+  pub tag : o.tbs.tag ≡ SEQUENCE
+  pub tbs : IsElement o.tbs.whole SEQUENCE o.tbs.content
   pub algorithm : IsAlgorithmText o.algorithm
-  pub signature : IsElement signature_text 3 (0 ∷ o.signature)
+  pub signature : IsElement signature_text BIT_STRING (0 ∷ o.signature)
   pub fits : IsBytes o.tbs.content
 
 outer_at_takes : (text : List ℕ) → IsBytes text → (o : Outer) → outer_at text ≡ Some o → TakesOuter text o
 unfolding outer_at
 outer_at_takes text fits o e =
-    let x = bind_is (take_whole 48 text) _ o e in
-    let t = bind_is (take_tag 48 x.0.content) _ o x.2 in
+    let x = bind_is (take_whole SEQUENCE text) _ o e in
+    let t = bind_is (take_tag SEQUENCE x.0.content) _ o x.2 in
     let a = bind_is (algorithm_at t.0.1) _ o t.2 in
     let s = bind_is (bits_of a.0.1) _ o a.2 in
-    let tx = take_whole_takes 48 text fits x.0 x.1 in
-    let inner = content_fits text 48 x.0.content tx.0 fits in
-    let tagged = take_tag_takes 48 x.0.content inner t.0 t.1 in
+    let tx = take_whole_takes SEQUENCE text fits x.0 x.1 in
+    let inner = content_fits text SEQUENCE x.0.content tx.0 fits in
+    let tagged = take_tag_takes SEQUENCE x.0.content inner t.0 t.1 in
     let fits_t = rest_fits _ _ _ _ x.0.content tagged.0 inner in
     let ta = algorithm_at_takes t.0.1 fits_t a.0 a.1 in
     let spelled : x.0.content ≡ t.0.0.whole ++ (a.0.0.whole ++ a.0.1) = tagged.0.parts ∙ ap (λ (w : List ℕ). t.0.0.whole ++ w) ta.1 in
     subst (λ (w : Outer). TakesOuter text w) (some_is _ o s.2) (record {
       signature_text = a.0.1;
-      whole = subst (λ (w : List ℕ). IsElement text 48 w) spelled tx.0;
+      whole = subst (λ (w : List ℕ). IsElement text SEQUENCE w) spelled tx.0;
       tag = tagged.1;
       tbs = tagged.0.is;
       algorithm = (a.0.0, (ta.0, refl));
@@ -54,15 +55,15 @@ abbrev some_outer : Piece → List ℕ → List ℕ → Option Outer
 some_outer tbs algorithm signature = Some (record { tbs = tbs; algorithm = algorithm; signature = signature })
 
 outer_at_again : (text tbs content algorithm signature signature_text : List ℕ)
-    → IsElement text 48 (tbs ++ (algorithm ++ signature_text)) → IsElement tbs 48 content → IsAlgorithmText algorithm → IsElement signature_text 3 (0 ∷ signature)
+    → IsElement text SEQUENCE (tbs ++ (algorithm ++ signature_text)) → IsElement tbs SEQUENCE content → IsAlgorithmText algorithm → IsElement signature_text BIT_STRING (0 ∷ signature)
     → outer_at text ≡ some_outer (record { tag = 48; whole = tbs; content = content }) algorithm signature
 unfolding outer_at
 outer_at_again text tbs content algorithm signature signature_text whole is named bits =
     let after = algorithm ++ signature_text in
     let all = tbs ++ after in
     let a = algorithm_text_again algorithm signature_text after named refl in
-    bind_of_some (take_whole 48 text) _ _ (take_whole_again text 48 all whole)
-    ∙ bind_of_some (take_tag 48 all) _ _ (take_tag_again tbs 48 content after all is refl)
+    bind_of_some (take_whole SEQUENCE text) _ _ (take_whole_again text SEQUENCE all whole)
+    ∙ bind_of_some (take_tag SEQUENCE all) _ _ (take_tag_again tbs SEQUENCE content after all is refl)
     ∙ bind_of_some (algorithm_at after) _ (a.0, signature_text) a.1
     ∙ bind_of_some (bits_of signature_text) _ signature (bits_of_again signature_text signature bits)
     ∙ ap (λ (w : List ℕ). some_outer (record { tag = 48; whole = tbs; content = content }) w signature) a.2
@@ -101,7 +102,7 @@ are_extensions : (text : List ℕ) (listed : Bool) (list : List ℕ) (es : List 
 are_extensions text false list es fits is read =
     (is.0, sym (some_is [] es (sym (many_at_none extension_at) ∙ ap (λ (w : List ℕ). many_at extension_at w) (sym is.1) ∙ read)))
 are_extensions text true list es fits is read =
-    let inner = content_fits is.sequence 48 list is.inner (content_fits text 163 is.sequence is.outer fits) in
+    let inner = content_fits is.sequence SEQUENCE list is.inner (content_fits text EXTENSIONS is.sequence is.outer fits) in
     record {
       sequence = is.sequence;
       inner = list;
@@ -174,7 +175,7 @@ certificate_takes text p not_before not_after es fits is read =
         issuer_id_text = t.ids.issuer_id_text;
         subject_id_text = t.ids.subject_id_text;
         extensions_text = t.rest;
-        tbs = subst (λ (w : List ℕ). IsElement p.outer.tbs.whole 48 w) (all ∙ ap (λ (w : List ℕ). w ++ t.rest) (sym front)) t.outer.tbs;
+        tbs = subst (λ (w : List ℕ). IsElement p.outer.tbs.whole SEQUENCE w) (all ∙ ap (λ (w : List ℕ). w ++ t.rest) (sym front)) t.outer.tbs;
         front = front;
         version = t.head.version;
         serial = t.head.serial;
@@ -204,8 +205,8 @@ pub record HasList (text : List ℕ) (listed : Bool) (es : List Extension) : Typ
   pub list : List ℕ
   pub is : IsListed text (listed, list)
   pub read : many_at extension_at list ≡ Some es
-  pub no_issuer_id : begins_with 129 text ≡ false
-  pub no_subject_id : begins_with 130 text ≡ false
+  pub no_issuer_id : begins_with ISSUER_UNIQUE_ID text ≡ false
+  pub no_subject_id : begins_with SUBJECT_UNIQUE_ID text ≡ false
 
 has_list : (text : List ℕ) (listed : Bool) (es : List Extension) → AreExtensions text listed es → HasList text listed es
 has_list text false es is =

@@ -12,6 +12,7 @@ use Rattle.sig_der.proofs.Takings.{take_tag_takes, take_tag_again, take_whole_ta
 use Rattle.sig_der.proofs.KeyInfos.{content_fits, rest_fits, some_left, left_some, algorithm_at_takes, algorithm_at_again}
 use Rattle.sig_certificate.specs.Certificate.{IsVersion, IsSerial, IsAlgorithmText, IsSequence}
 use Rattle.sig_certificate.specs.Cutting.{Head, version_number, explicit_version, version_of, version_at, head_at}
+use Rattle.sig_der.specs.Tag.{INTEGER, SEQUENCE, VERSION}
 
 pub after_fits : (text rest bytes : List ℕ) → bytes ≡ text ++ rest → IsBytes bytes → IsBytes rest
 after_fits text rest bytes parts fits = IsBytes-right text rest (subst (λ (w : List ℕ). IsBytes w) parts fits)
@@ -50,14 +51,14 @@ version_is : (text : List ℕ) (o : Option Piece) (version : ℕ) → IsBytes te
 unfolding explicit_version
 version_is text None version fits is e = inl (is, sym (some_is 1 version e))
 version_is text (Some p) version fits is e =
-    let q = bind_is (take_whole 2 p.content) _ version e in
-    let t = take_whole_takes 2 p.content (content_fits text 160 p.content is.0 fits) q.0 q.1 in
+    let q = bind_is (take_whole INTEGER p.content) _ version e in
+    let t = take_whole_takes INTEGER p.content (content_fits text VERSION p.content is.0 fits) q.0 q.1 in
     let n = version_number_takes q.0.content version q.2 in
     inr (record {
       number = n.number;
       inner = p.content;
       outer = is.0;
-      integer = subst (λ (w : List ℕ). IsElement p.content 2 w) n.spelled t.0;
+      integer = subst (λ (w : List ℕ). IsElement p.content INTEGER w) n.spelled t.0;
       known = n.known;
       is = n.is;
     })
@@ -70,25 +71,25 @@ pub record TakesVersion (bytes : List ℕ) (y : ℕ × List ℕ) : Type 0 where
 version_at_takes : (bytes : List ℕ) → IsBytes bytes → (y : ℕ × List ℕ) → version_at bytes ≡ Some y → TakesVersion bytes y
 unfolding version_at
 version_at_takes bytes fits y e =
-    let o = bind_is (take_optional 160 bytes) _ y e in
+    let o = bind_is (take_optional VERSION bytes) _ y e in
     let n = bind_is (version_of o.0.0) _ y o.2 in
-    let t = take_optional_takes 160 bytes fits o.0 o.1 in
+    let t = take_optional_takes VERSION bytes fits o.0 o.1 in
     subst (λ (w : ℕ × List ℕ). TakesVersion bytes w) (some_is _ y n.2) (record {
       text = t.text;
       is = version_is t.text o.0.0 n.0 (before_fits t.text o.0.1 bytes t.parts fits) t.is n.1;
       parts = t.parts;
     })
 
-version_at_again : (text : List ℕ) (version : ℕ) (rest bytes : List ℕ) → IsVersion text version → begins_with 160 rest ≡ false → bytes ≡ text ++ rest
+version_at_again : (text : List ℕ) (version : ℕ) (rest bytes : List ℕ) → IsVersion text version → begins_with VERSION rest ≡ false → bytes ≡ text ++ rest
     → version_at bytes ≡ Some (version, rest)
 unfolding version_at explicit_version
 version_at_again text version rest bytes (inl none) other parts =
     let same : bytes ≡ rest = parts ∙ ap (λ (w : List ℕ). w ++ rest) none.0 in
-    rw (same, none.1) (bind_of_some (take_optional 160 rest) _ _ (take_optional_absent 160 rest other))
+    rw (same, none.1) (bind_of_some (take_optional VERSION rest) _ _ (take_optional_absent VERSION rest other))
 version_at_again text version rest bytes (inr is) other parts =
-    bind_of_some (take_optional 160 bytes) _ _ (take_optional_here text 160 is.inner rest bytes is.outer parts)
-    ∙ bind_of_some (take_whole 2 is.inner >>= λ n. version_number n.content) _ version
-    (bind_of_some (take_whole 2 is.inner) _ _ (take_whole_again is.inner 2 (is.number ∷ []) is.integer)
+    bind_of_some (take_optional VERSION bytes) _ _ (take_optional_here text VERSION is.inner rest bytes is.outer parts)
+    ∙ bind_of_some (take_whole INTEGER is.inner >>= λ n. version_number n.content) _ version
+    (bind_of_some (take_whole INTEGER is.inner) _ _ (take_whole_again is.inner INTEGER (is.number ∷ []) is.integer)
     ∙ version_number_again is.number is.known ∙ ap (λ (n : ℕ). some n) (sym is.is))
 
 -- ---- the head
@@ -109,17 +110,17 @@ pub head_at_takes : (bytes : List ℕ) → IsBytes bytes → (y : Head × List �
 unfolding head_at
 head_at_takes bytes fits y e =
     let v = bind_is (version_at bytes) _ y e in
-    let n = bind_is (take_tag 2 v.0.1) _ y v.2 in
+    let n = bind_is (take_tag INTEGER v.0.1) _ y v.2 in
     let a = bind_is (algorithm_at n.0.1) _ y n.2 in
-    let i = bind_is (take_tag 48 a.0.1) _ y a.2 in
+    let i = bind_is (take_tag SEQUENCE a.0.1) _ y a.2 in
     let g = unless_is (eqb (length n.0.0.content) 0) _ y i.2 in
     let tv = version_at_takes bytes fits v.0 v.1 in
     let fits_v = after_fits tv.text v.0.1 bytes tv.parts fits in
-    let tn = (take_tag_takes 2 v.0.1 fits_v n.0 n.1).0 in
+    let tn = (take_tag_takes INTEGER v.0.1 fits_v n.0 n.1).0 in
     let fits_n = rest_fits _ _ _ _ v.0.1 tn fits_v in
     let ta = algorithm_at_takes n.0.1 fits_n a.0 a.1 in
     let fits_a = after_fits a.0.0.whole a.0.1 n.0.1 ta.1 fits_n in
-    let ti = (take_tag_takes 48 a.0.1 fits_a i.0 i.1).0 in
+    let ti = (take_tag_takes SEQUENCE a.0.1 fits_a i.0 i.1).0 in
     subst (λ (w : Head × List ℕ). TakesHead bytes w) (some_is _ y g.1) (record {
       version_text = tv.text;
       serial_text = n.0.0.whole;
@@ -141,11 +142,11 @@ head_at_again bytes y t =
     let after_issuer = h.issuer ++ y.1 in
     let after_algorithm = h.algorithm ++ after_issuer in
     let after_version = t.serial_text ++ after_algorithm in
-    let other : begins_with 160 after_version ≡ false = rw t.serial.is.spelled refl in
+    let other : begins_with VERSION after_version ≡ false = rw t.serial.is.spelled refl in
     let a = algorithm_text_again h.algorithm after_issuer after_algorithm t.algorithm refl in
     bind_of_some (version_at bytes) _ (h.version, after_version) (version_at_again t.version_text h.version after_version bytes t.version other t.parts)
-    ∙ bind_of_some (take_tag 2 after_version) _ _ (take_tag_again t.serial_text 2 t.serial.content after_algorithm after_version t.serial.is refl)
+    ∙ bind_of_some (take_tag INTEGER after_version) _ _ (take_tag_again t.serial_text INTEGER t.serial.content after_algorithm after_version t.serial.is refl)
     ∙ bind_of_some (algorithm_at after_algorithm) _ (a.0, after_issuer) a.1
-    ∙ bind_of_some (take_tag 48 after_issuer) _ _ (take_tag_again h.issuer 48 t.issuer.0 y.1 after_issuer t.issuer.1 refl)
+    ∙ bind_of_some (take_tag SEQUENCE after_issuer) _ _ (take_tag_again h.issuer SEQUENCE t.issuer.0 y.1 after_issuer t.issuer.1 refl)
     ∙ cond-false (eqb (length t.serial.content) 0) _ _ (left_some t.serial.content t.serial.some)
     ∙ ap (λ (w : List ℕ). some_head h.version w h.issuer y.1) a.2

@@ -9,15 +9,16 @@ use Rattle.sig_der.proofs.Takings.{take_any_shrinks, take_tag_shrinks}
 use Rattle.sig_der.proofs.Many.{Shrinks, many_at_none, many_at_more}
 use Rattle.sig_certificate.specs.Names.{Name, name_of, name_at}
 use Rattle.sig_certificate.specs.Values.{oid_at}
+use Rattle.sig_der.specs.Tag.{OBJECT_IDENTIFIER}
 
 -- ---- the readers take a byte at least
 
 pub oid_at_shrinks : (bytes : List ℕ) (y : List ℕ × List ℕ) → oid_at bytes ≡ Some y → length y.1 < length bytes
 unfolding oid_at
 oid_at_shrinks bytes y e =
-    let x = bind_is (take_tag 6 bytes) _ y e in
+    let x = bind_is (take_tag OBJECT_IDENTIFIER bytes) _ y e in
     let g = unless_is (eqb (length x.0.0.content) 0) _ y x.2 in
-    subst (λ (w : List ℕ × List ℕ). length w.1 < length bytes) (some_is _ y g.1) (take_tag_shrinks 6 bytes x.0 x.1)
+    subst (λ (w : List ℕ × List ℕ). length w.1 < length bytes) (some_is _ y g.1) (take_tag_shrinks OBJECT_IDENTIFIER bytes x.0 x.1)
 
 pub name_at_shrinks : (bytes : List ℕ) (y : Name × List ℕ) → name_at bytes ≡ Some y → length y.1 < length bytes
 unfolding name_at

@@ -5,6 +5,7 @@ use Rattle.sig_der.specs.Element.{IsElement}
 use Rattle.sig_der.specs.Joined.{AreJoined}
 use Rattle.sig_der.specs.KeyInfo.{Algorithm, IsAlgorithm, KeyInfo, IsKeyInfo}
 use Rattle.sig_der.specs.DerTime.{IsTimeOf}
+use Rattle.sig_der.specs.Tag.{BIT_STRING, BOOLEAN, EXTENSIONS, INTEGER, ISSUER_UNIQUE_ID, OBJECT_IDENTIFIER, OCTET_STRING, SEQUENCE, SUBJECT_UNIQUE_ID, VERSION}
 
 -- ---- the records
 
@@ -42,14 +43,14 @@ pub record Cert : Type 0 where
 
 -- BOOLEAN DEFAULT FALSE: absent, or one octet that is 00 or FF
 abbrev pub IsFlag : List ℕ → Bool → Type 0
-IsFlag text flag = ((text ≡ []) × (flag ≡ false)) ⊎ IsElement text 1 ((if flag then 255 else 0) ∷ [])
+IsFlag text flag = ((text ≡ []) × (flag ≡ false)) ⊎ IsElement text BOOLEAN ((if flag then 255 else 0) ∷ [])
 
 -- an element of this tag, or nothing
 abbrev pub IsOptionalElement : ℕ → List ℕ → Type 0
 IsOptionalElement tag text = (text ≡ []) ⊎ ((content : List ℕ) × IsElement text tag content)
 
 abbrev pub IsSequence : List ℕ → Type 0
-IsSequence text = (content : List ℕ) × IsElement text 48 content
+IsSequence text = (content : List ℕ) × IsElement text SEQUENCE content
 
 abbrev pub IsAlgorithmText : List ℕ → Type 0
 IsAlgorithmText text = (a : Algorithm) × (IsAlgorithm a × (text ≡ a.whole))
@@ -70,8 +71,8 @@ pub record IsTimeText (text : List ℕ) (second : ℤ) : Type 0 where
 pub record IsExplicitVersion (text : List ℕ) (version : ℕ) : Type 0 where
   pub number : ℕ
   pub inner : List ℕ
-  pub outer : IsElement text 160 inner
-  pub integer : IsElement inner 2 (number ∷ [])
+  pub outer : IsElement text VERSION inner
+  pub integer : IsElement inner INTEGER (number ∷ [])
   pub known : number < 3
   pub is : version ≡ number + 1
 
@@ -82,14 +83,14 @@ IsVersion text version = ((text ≡ []) × (version ≡ 1)) ⊎ IsExplicitVersio
 -- CertificateSerialNumber, section 4.1.2.2: an INTEGER that is not empty
 pub record IsSerial (text : List ℕ) : Type 0 where
   pub content : List ℕ
-  pub is : IsElement text 2 content
+  pub is : IsElement text INTEGER content
   pub some : 0 < length content
 
 -- Validity, section 4.1.2.5: a SEQUENCE of two times
 pub record IsValidity (text : List ℕ) (not_before not_after : ℤ) : Type 0 where
   pub first : List ℕ
   pub second : List ℕ
-  pub is : IsElement text 48 (first ++ second)
+  pub is : IsElement text SEQUENCE (first ++ second)
   pub begins : IsTimeText first not_before
   pub ends : IsTimeText second not_after
 
@@ -98,18 +99,18 @@ pub record IsExtension (e : Extension) : Type 0 where
   pub oid_text : List ℕ
   pub flag_text : List ℕ
   pub value_text : List ℕ
-  pub whole : IsElement e.whole 48 (oid_text ++ (flag_text ++ value_text))
-  pub oid : IsElement oid_text 6 e.oid
+  pub whole : IsElement e.whole SEQUENCE (oid_text ++ (flag_text ++ value_text))
+  pub oid : IsElement oid_text OBJECT_IDENTIFIER e.oid
   pub named : 0 < length e.oid
   pub flag : IsFlag flag_text e.critical
-  pub value : IsElement value_text 4 e.value
+  pub value : IsElement value_text OCTET_STRING e.value
 
 -- Extensions, section 4.1.2.9: an explicit SEQUENCE of extensions
 pub record IsList (text : List ℕ) (extensions : List Extension) : Type 0 where
   pub sequence : List ℕ
   pub inner : List ℕ
-  pub outer : IsElement text 163 sequence
-  pub list : IsElement sequence 48 inner
+  pub outer : IsElement text EXTENSIONS sequence
+  pub list : IsElement sequence SEQUENCE inner
   pub joined : AreJoined IsExtension (λ e. e.whole) inner extensions
 
 -- or nothing
@@ -127,7 +128,7 @@ pub record IsSignedPart (c : Cert) : Type 0 where
   pub issuer_id_text : List ℕ
   pub subject_id_text : List ℕ
   pub extensions_text : List ℕ
-  pub tbs : IsElement c.tbs 48 (c.front ++ extensions_text)
+  pub tbs : IsElement c.tbs SEQUENCE (c.front ++ extensions_text)
   pub front : c.front
       ≡ version_text ++ (serial_text ++ (c.inner_algorithm ++ (c.issuer ++ (validity_text ++ (c.subject ++ (c.spki ++ (issuer_id_text ++ subject_id_text)))))))
   pub version : IsVersion version_text c.version
@@ -137,15 +138,15 @@ pub record IsSignedPart (c : Cert) : Type 0 where
   pub validity : IsValidity validity_text c.not_before c.not_after
   pub subject : IsSequence c.subject
   pub key : IsKeyInfoText c.spki
-  pub issuer_id : IsOptionalElement 129 issuer_id_text
-  pub subject_id : IsOptionalElement 130 subject_id_text
+  pub issuer_id : IsOptionalElement ISSUER_UNIQUE_ID issuer_id_text
+  pub subject_id : IsOptionalElement SUBJECT_UNIQUE_ID subject_id_text
   pub extensions : AreExtensions extensions_text c.listed c.extensions
 
 -- *Certificate*: one SEQUENCE of the signed part, an algorithm, and the BIT STRING of the signature
 pub record IsCertificate (text : List ℕ) (c : Cert) : Type 0 where
   pub signature_text : List ℕ
   pub same : c.whole ≡ text
-  pub whole : IsElement text 48 (c.tbs ++ (c.algorithm ++ signature_text))
+  pub whole : IsElement text SEQUENCE (c.tbs ++ (c.algorithm ++ signature_text))
   pub tbs : IsSignedPart c
   pub algorithm : IsAlgorithmText c.algorithm
-  pub signature : IsElement signature_text 3 (0 ∷ c.signature)
+  pub signature : IsElement signature_text BIT_STRING (0 ∷ c.signature)

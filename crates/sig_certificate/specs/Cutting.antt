@@ -8,6 +8,7 @@ use Rattle.sig_der.specs.Taking.{take_any, take_tag, take_whole, take_optional}
 use Rattle.sig_der.specs.KeyInfo.{is_empty, algorithm_at, bits_of, key_info_at}
 use Rattle.sig_certificate.specs.Certificate.{Extension, Cert}
 use Rattle.sig_der.specs.DerTime.{IsTimeOf}
+use Rattle.sig_der.specs.Tag.{BOOLEAN, EXTENSIONS, INTEGER, ISSUER_UNIQUE_ID, OBJECT_IDENTIFIER, OCTET_STRING, SEQUENCE, SUBJECT_UNIQUE_ID, VERSION}
 
 -- ---- extensions
 
@@ -24,16 +25,16 @@ flag_of (Some p) = boolean_of p.content
 -- a BOOLEAN DEFAULT FALSE, and what follows it
 unfoldable pub flag_at : List ℕ → Option (Bool × List ℕ)
 flag_at bytes = do
-  f ← take_optional 1 bytes
+  f ← take_optional BOOLEAN bytes
   b ← flag_of f.0
   Some (b, f.1)
 
 unfoldable pub extension_at : List ℕ → Option (Extension × List ℕ)
 extension_at bytes = do
-  x ← take_tag 48 bytes
-  o ← take_tag 6 x.0.content
+  x ← take_tag SEQUENCE bytes
+  o ← take_tag OBJECT_IDENTIFIER x.0.content
   f ← flag_at o.1
-  v ← take_whole 4 f.1
+  v ← take_whole OCTET_STRING f.1
   if is_empty o.0.content then None
       else Some (record { oid = o.0.content; critical = f.0; value = v.content; whole = x.0.whole }, x.1)
 
@@ -52,7 +53,7 @@ version_number (n ∷ []) = if nat_lt n 3 then Some (n + 1) else None
 version_number (n ∷ m ∷ bytes) = None
 
 unfoldable pub explicit_version : List ℕ → Option ℕ
-explicit_version bytes = take_whole 2 bytes >>= λ n. version_number n.content
+explicit_version bytes = take_whole INTEGER bytes >>= λ n. version_number n.content
 
 abbrev pub version_of : Option Piece → Option ℕ
 version_of None = Some 1
@@ -60,16 +61,16 @@ version_of (Some p) = explicit_version p.content
 
 unfoldable pub version_at : List ℕ → Option (ℕ × List ℕ)
 version_at bytes = do
-  v ← take_optional 160 bytes
+  v ← take_optional VERSION bytes
   n ← version_of v.0
   Some (n, v.1)
 
 unfoldable pub head_at : List ℕ → Option (Head × List ℕ)
 head_at bytes = do
   v ← version_at bytes
-  n ← take_tag 2 v.1
+  n ← take_tag INTEGER v.1
   a ← algorithm_at n.1
-  i ← take_tag 48 a.1
+  i ← take_tag SEQUENCE a.1
   if is_empty n.0.content then None
       else Some (record { version = v.0; algorithm = a.0.whole; issuer = i.0.whole }, i.1)
 
@@ -83,7 +84,7 @@ pub record Body : Type 0 where
 -- the two elements of a validity, and what follows it
 unfoldable pub validity_at : List ℕ → Option ((Piece × Piece) × List ℕ)
 validity_at bytes = do
-  x ← take_tag 48 bytes
+  x ← take_tag SEQUENCE bytes
   b ← take_any x.0.content
   a ← take_any b.1
   if is_empty a.1 then Some ((b.0, a.0), x.1) else None
@@ -91,25 +92,25 @@ validity_at bytes = do
 unfoldable pub body_at : List ℕ → Option (Body × List ℕ)
 body_at bytes = do
   v ← validity_at bytes
-  s ← take_tag 48 v.1
+  s ← take_tag SEQUENCE v.1
   k ← key_info_at s.1
   Some (record { first = v.0.0; second = v.0.1; subject = s.0.whole; spki = k.0.whole }, k.1)
 
 -- what follows the two unique identifiers
 unfoldable pub after_ids : List ℕ → Option (List ℕ)
 after_ids bytes = do
-  a ← take_optional 129 bytes
-  b ← take_optional 130 a.1
+  a ← take_optional ISSUER_UNIQUE_ID bytes
+  b ← take_optional SUBJECT_UNIQUE_ID a.1
   Some b.1
 
 -- all of the text as the extensions: whether they are there, and the content of their SEQUENCE
 abbrev pub list_of : Option Piece → Option (Bool × List ℕ)
 list_of None = Some (false, [])
-list_of (Some p) = take_whole 48 p.content >>= λ s. Some (true, s.content)
+list_of (Some p) = take_whole SEQUENCE p.content >>= λ s. Some (true, s.content)
 
 unfoldable pub list_at : List ℕ → Option (Bool × List ℕ)
 list_at bytes = do
-  x ← take_optional 163 bytes
+  x ← take_optional EXTENSIONS bytes
   if is_empty x.1 then list_of x.0 else None
 
 -- ---- the whole
@@ -122,8 +123,8 @@ pub record Outer : Type 0 where
 
 unfoldable pub outer_at : List ℕ → Option Outer
 outer_at bytes = do
-  x ← take_whole 48 bytes
-  t ← take_tag 48 x.content
+  x ← take_whole SEQUENCE bytes
+  t ← take_tag SEQUENCE x.content
   a ← algorithm_at t.1
   s ← bits_of a.1
   Some (record { tbs = t.0; algorithm = a.0.whole; signature = s })

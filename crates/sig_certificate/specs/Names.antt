@@ -4,6 +4,7 @@ use Rattle.std.specs.List.{list_all}
 use Rattle.sig_base.specs.OptionSteps.{◌>>=◌}
 use Rattle.sig_der.specs.Taking.{take_any, take_tag, take_whole, many_at}
 use Rattle.sig_der.specs.KeyInfo.{is_empty}
+use Rattle.sig_der.specs.Tag.{OBJECT_IDENTIFIER, OTHER_NAME, OTHER_NAME_VALUE, RFC822_NAME, SEQUENCE, UNIFORM_RESOURCE_IDENTIFIER}
 
 -- A name: an email, a URI, an other name with its object identifier and its value, or one of a kind that is not read.
 pub data Name : Type 0 where
@@ -22,23 +23,23 @@ is_ascii_text text = list_all (λ b. nat_lt b 128) text
 -- an other name's value: the content of the one element in an explicit 0
 unfoldable pub other_value : List ℕ → Option (List ℕ)
 other_value bytes = do
-  x ← take_whole 160 bytes
+  x ← take_whole OTHER_NAME_VALUE bytes
   v ← take_any x.content
   if is_empty v.1 then Some v.0.content else None
 
 -- an other name: an object identifier that is not empty, and its value
 unfoldable pub other_name : List ℕ → Option (List ℕ × List ℕ)
 other_name bytes = do
-  o ← take_tag 6 bytes
+  o ← take_tag OBJECT_IDENTIFIER bytes
   v ← other_value o.1
   if is_empty o.0.content then None else Some (o.0.content, v)
 
 -- what the element of a tag and a content is
 unfoldable pub name_of : ℕ → List ℕ → Option Name
 name_of tag content =
-    if tag == 129 then (if is_ascii_text content then Some (Email content) else None)
-    else if tag == 134 then (if is_ascii_text content then Some (Uri content) else None)
-    else if tag == 160 then (other_name content >>= λ o. Some (Other o.0 o.1))
+    if tag == RFC822_NAME then (if is_ascii_text content then Some (Email content) else None)
+    else if tag == UNIFORM_RESOURCE_IDENTIFIER then (if is_ascii_text content then Some (Uri content) else None)
+    else if tag == OTHER_NAME then (other_name content >>= λ o. Some (Other o.0 o.1))
     else if is_context tag then Some Unread
     else None
 
@@ -50,4 +51,4 @@ name_at bytes = do
 
 -- a SEQUENCE of names
 unfoldable pub names_of : List ℕ → Option (List Name)
-names_of value = take_whole 48 value >>= λ s. many_at name_at s.content
+names_of value = take_whole SEQUENCE value >>= λ s. many_at name_at s.content

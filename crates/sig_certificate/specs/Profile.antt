@@ -1,7 +1,7 @@
 -- *Certificate profiles*: what a certificate may be, or the first cause against it.
 use Rattle.std.specs.Prelude.{List, [], ◌∷◌, Bool, true, false, Option, Some, None, option_map, Result, Ok, Err, ◌==◌, if◌then◌else◌}
 use Rattle.std.specs.Str.{bytes_eq}
-use Rattle.sig_der.specs.declared.oid.TheConstants.{KEY_USAGE, EXTENDED_KEY_USAGE, BASIC_CONSTRAINTS, CODE_SIGNING}
+use Rattle.sig_der.specs.ObjectIdentifiers as oid
 use Rattle.sig_certificate.specs.declared.values.KeyUsage.{KeyUsage as Usage}
 use Rattle.sig_certificate.specs.declared.values.BasicConstraints.{BasicConstraints as Constraints}
 use Rattle.sig_certificate.specs.declared.profile_error.CertificateValidationError.{CertificateValidationError}
@@ -36,15 +36,15 @@ held read (e ∷ f ∷ es) = Err Malformed
 -- ---- what a certificate's extensions say
 
 abbrev pub usage : Cert → Held Usage
-usage c = held (λ e. key_usage_of e.value) (with_oid KEY_USAGE.now c.extensions)
+usage c = held (λ e. key_usage_of e.value) (with_oid oid.key_usage c.extensions)
 
 -- whether code signing is among the purposes
 abbrev pub code_signing : Cert → Held Bool
-code_signing c = held (λ e. option_map (has_purpose CODE_SIGNING.now) (purposes_of e.value)) (with_oid EXTENDED_KEY_USAGE.now c.extensions)
+code_signing c = held (λ e. option_map (has_purpose oid.code_signing) (purposes_of e.value)) (with_oid oid.extended_key_usage c.extensions)
 
 -- whether they are critical, and what they say
 abbrev pub constraints : Cert → Held (Bool × Constraints)
-constraints c = held (λ e. option_map (λ b. (e.critical, b)) (basic_constraints_of e.value)) (with_oid BASIC_CONSTRAINTS.now c.extensions)
+constraints c = held (λ e. option_map (λ b. (e.critical, b)) (basic_constraints_of e.value)) (with_oid oid.basic_constraints c.extensions)
 
 -- ---- the tables
 

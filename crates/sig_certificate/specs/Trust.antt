@@ -2,7 +2,7 @@
 use Rattle.std.specs.Prelude.{ℤ, List, [], ◌∷◌, Bool, false, Option, Some, None, Ok, Err, int_lt, is_some, if◌then◌else◌}
 use Rattle.sig_base.specs.declared.error.SigstoreError.{SigstoreError}
 use Rattle.sig_base.specs.declared.error.SigstoreError.TheVariants.{CertificateValidityError, CertificateExpiredBeforeSignaturesSubmittedToRekor, CertificateIssuedAfterSignaturesSubmittedToRekor, CertificateWithoutDigitalSignatureKeyUsage, CertificateWithoutCodeSigningKeyUsage, CertificateWithoutSubjectAlternativeName}
-use Rattle.sig_der.specs.declared.oid.TheConstants.{SUBJECT_ALTERNATIVE_NAME}
+use Rattle.sig_der.specs.ObjectIdentifiers.{subject_alternative_name}
 use Rattle.sig_certificate.specs.declared.values.KeyUsage.{KeyUsage as Usage}
 use Rattle.sig_certificate.specs.Certificate.{Extension, Cert}
 use Rattle.sig_certificate.specs.Lookups.{with_oid}
@@ -33,7 +33,7 @@ is_named (e ∷ f ∷ es) = false
 
 abbrev pub names_refusal : Cert → Option SigstoreError
 names_refusal c =
-    if is_named (with_oid SUBJECT_ALTERNATIVE_NAME.now c.extensions) then None else Some CertificateWithoutSubjectAlternativeName
+    if is_named (with_oid subject_alternative_name c.extensions) then None else Some CertificateWithoutSubjectAlternativeName
 
 abbrev pub validity_refusal : Cert → ℤ → Option SigstoreError
 validity_refusal c now = if int_lt now c.not_before then Some (CertificateValidityError c.not_before) else None

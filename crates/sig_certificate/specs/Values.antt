@@ -9,6 +9,7 @@ use Rattle.sig_der.specs.KeyInfo.{is_empty}
 use Rattle.sig_certificate.specs.declared.values.KeyUsage.{KeyUsage}
 use Rattle.sig_certificate.specs.declared.values.BasicConstraints.{BasicConstraints}
 use Rattle.sig_certificate.specs.Cutting.{flag_at}
+use Rattle.sig_der.specs.Tag.{BIT_STRING, BOOLEAN, INTEGER, OBJECT_IDENTIFIER, SEQUENCE}
 
 -- ---- key usage, RFC 5280 section 4.2.1.3
 
@@ -23,17 +24,17 @@ usage_of (unused ∷ first ∷ rest) =
     if nat_lt unused 8 then Some (record { digital_signature = has_bit first 128; key_cert_sign = has_bit first 4 }) else None
 
 unfoldable pub key_usage_of : List ℕ → Option KeyUsage
-key_usage_of value = take_whole 3 value >>= λ s. usage_of s.content
+key_usage_of value = take_whole BIT_STRING value >>= λ s. usage_of s.content
 
 -- ---- extended key usage, RFC 5280 section 4.2.1.12
 
 -- an object identifier that is not empty, and what follows it
 unfoldable pub oid_at : List ℕ → Option (List ℕ × List ℕ)
-oid_at bytes = take_tag 6 bytes >>= λ x. (if is_empty x.0.content then None else Some (x.0.content, x.1))
+oid_at bytes = take_tag OBJECT_IDENTIFIER bytes >>= λ x. (if is_empty x.0.content then None else Some (x.0.content, x.1))
 
 -- a SEQUENCE of them
 unfoldable pub purposes_of : List ℕ → Option (List (List ℕ))
-purposes_of value = take_whole 48 value >>= λ s. many_at oid_at s.content
+purposes_of value = take_whole SEQUENCE value >>= λ s. many_at oid_at s.content
 
 -- whether this purpose is among them
 abbrev pub has_purpose : List ℕ → List (List ℕ) → Bool
@@ -61,9 +62,9 @@ path_len_of (Some p) = option_map (λ n. Some n) (number_of p.content)
 unfoldable pub constraints_in : List ℕ → Option BasicConstraints
 constraints_in bytes = do
   c ← flag_at bytes
-  i ← take_optional 2 c.1
+  i ← take_optional INTEGER c.1
   n ← path_len_of i.0
   if is_empty i.1 then Some (record { ca = c.0; path_len = n }) else None
 
 unfoldable pub basic_constraints_of : List ℕ → Option BasicConstraints
-basic_constraints_of value = take_whole 48 value >>= λ s. constraints_in s.content
+basic_constraints_of value = take_whole SEQUENCE value >>= λ s. constraints_in s.content

@@ -5,15 +5,7 @@ ghost use Rattle.sig_certificate.specs.Cutting.{boolean_of, flag_at, extension_a
 ghost use Rattle.sig_certificate.specs.Places.{placed_value, placed_extension, GoesTo, AreSpans};
 
 use crate::span::{Span, content_of, whole_of};
-use sig_der::{optional_at, tagged_at, whole_at};
-
-const BOOLEAN: u8 = 1;
-
-const OCTET_STRING: u8 = 4;
-
-const OBJECT_IDENTIFIER: u8 = 6;
-
-pub(crate) const SEQUENCE: u8 = 48;
+use sig_der::{optional_at, tag, tagged_at, whole_at};
 
 /// Where an extension and its parts stand in a text.
 #[derive(Clone, Copy, Debug)]
@@ -45,7 +37,7 @@ pub(crate) fn flag_at(bytes: &[u8], at: usize, end: usize) -> Option<(bool, usiz
     ensures cut { flag_at (slice_range bytes.now at end) ≡ option_map (placed_value bytes.now end) result }
     ensures within { IfSome result (GoesTo at end) }
 {
-    let (place, next) = optional_at(bytes, at, end, BOOLEAN)?;
+    let (place, next) = optional_at(bytes, at, end, tag::BOOLEAN)?;
     match place {
         None => Some((false, next)),
         Some(place) => {
@@ -65,10 +57,10 @@ pub(crate) fn extension_at(bytes: &[u8], at: usize, end: usize) -> Option<Extens
     ensures starts { IfSome result (λ e. e.whole.start ≡ at) }
     ensures after { IfSome result (λ e. at < e.whole.end) }
 {
-    let whole = tagged_at(bytes, at, end, SEQUENCE)?;
-    let oid = tagged_at(bytes, whole.content, whole.end, OBJECT_IDENTIFIER)?;
+    let whole = tagged_at(bytes, at, end, tag::SEQUENCE)?;
+    let oid = tagged_at(bytes, whole.content, whole.end, tag::OBJECT_IDENTIFIER)?;
     let (critical, next) = flag_at(bytes, oid.end, whole.end)?;
-    let value = whole_at(bytes, next, whole.end, OCTET_STRING)?;
+    let value = whole_at(bytes, next, whole.end, tag::OCTET_STRING)?;
     if bytes[oid.content..oid.end].is_empty() {
         return None;
     }

@@ -5,20 +5,9 @@ ghost use Rattle.sig_certificate.specs.Names.{is_context, is_ascii_text, other_v
 ghost use Rattle.sig_certificate.specs.NamePlaces.{placed_part, placed_other, name_in, placed_name, IsOtherWithin, IsNameWithin};
 ghost use Rattle.sig_certificate.specs.Places.{IsSpan};
 
-use crate::extensions::SEQUENCE;
 use crate::span::{Span, content_of};
 use crate::values::content_at;
-use sig_der::{Place, place_at, tagged_at, whole_at};
-
-const EMAIL: u8 = 129;
-
-const URI: u8 = 134;
-
-const OTHER_NAME: u8 = 160;
-
-const EXPLICIT_0: u8 = 160;
-
-const OBJECT_IDENTIFIER: u8 = 6;
+use sig_der::{Place, place_at, tag, tagged_at, whole_at};
 
 /// A name, where it stands in a text. For sig_policy, which finds identities among names.
 #[derive(Clone, Copy, Debug)]
@@ -53,7 +42,7 @@ fn other_value(bytes: &[u8], at: usize, end: usize) -> Option<Span>
     ensures cut { other_value (slice_range bytes.now at end) ≡ option_map (placed_part bytes.now) result }
     ensures within { IfSome result (IsSpan end) }
 {
-    let explicit = whole_at(bytes, at, end, EXPLICIT_0)?;
+    let explicit = whole_at(bytes, at, end, tag::OTHER_NAME_VALUE)?;
     let value = place_at(bytes, explicit.content, explicit.end)?;
     if bytes[value.end..explicit.end].is_empty() {
         Some(content_of(value))
@@ -70,7 +59,7 @@ fn other_name(bytes: &[u8], at: usize, end: usize) -> Option<(Span, Span)>
     ensures cut { other_name (slice_range bytes.now at end) ≡ option_map (placed_other bytes.now) result }
     ensures within { IfSome result (IsOtherWithin end) }
 {
-    let oid = tagged_at(bytes, at, end, OBJECT_IDENTIFIER)?;
+    let oid = tagged_at(bytes, at, end, tag::OBJECT_IDENTIFIER)?;
     let value = other_value(bytes, oid.end, end)?;
     if bytes[oid.content..oid.end].is_empty() {
         return None;
@@ -87,21 +76,21 @@ fn name_of(bytes: &[u8], place: Place) -> Option<NamePlaces>
     ensures within { IfSome result (IsNameWithin place.end) }
 {
     let content = &bytes[place.content..place.end];
-    if place.tag == EMAIL {
+    if place.tag == tag::RFC822_NAME {
         return if is_ascii(content) {
             Some(NamePlaces::Email(content_of(place)))
         } else {
             None
         };
     }
-    if place.tag == URI {
+    if place.tag == tag::UNIFORM_RESOURCE_IDENTIFIER {
         return if is_ascii(content) {
             Some(NamePlaces::Uri(content_of(place)))
         } else {
             None
         };
     }
-    if place.tag == OTHER_NAME {
+    if place.tag == tag::OTHER_NAME {
         let (oid, value) = other_name(bytes, place.content, place.end)?;
         return Some(NamePlaces::Other(oid, value));
     }

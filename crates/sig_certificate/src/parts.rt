@@ -4,21 +4,10 @@ ghost use Rattle.std.specs.Prelude.{◌≡◌, ◌≤◌, length, slice_range, o
 ghost use Rattle.sig_certificate.specs.Cutting.{version_number, explicit_version, version_at, head_at, validity_at, body_at, after_ids, list_at, outer_at, parts_at};
 ghost use Rattle.sig_certificate.specs.Places.{placed_value, GoesTo, placed_head, IsHeadWithin, placed_validity, IsValidityWithin, placed_body, IsBodyWithin, outer_of, IsOuterWithin, listed_of, IsListedWithin, parts_of, ArePlaces, rest_from};
 
-use crate::extensions::SEQUENCE;
 use crate::span::{Span, content_of, whole_of};
 use sig_der::{
-    Place, algorithm_at, bits_at, key_info_at, optional_at, place_at, tagged_at, whole_at,
+    Place, algorithm_at, bits_at, key_info_at, optional_at, place_at, tag, tagged_at, whole_at,
 };
-
-const INTEGER: u8 = 2;
-
-const VERSION: u8 = 160;
-
-const ISSUER_UNIQUE_ID: u8 = 129;
-
-const SUBJECT_UNIQUE_ID: u8 = 130;
-
-const EXTENSIONS: u8 = 163;
 
 /// The parts of the signed part up to the issuer.
 #[derive(Clone, Copy, Debug)]
@@ -77,7 +66,7 @@ fn explicit_version(bytes: &[u8], at: usize, end: usize) -> Option<u8>
     requires to { end ≤ length bytes.now }
     ensures { explicit_version (slice_range bytes.now at end) ≡ result }
 {
-    let number = whole_at(bytes, at, end, INTEGER)?;
+    let number = whole_at(bytes, at, end, tag::INTEGER)?;
     version_number(&bytes[number.content..number.end])
 }
 
@@ -89,7 +78,7 @@ fn version_at(bytes: &[u8], at: usize, end: usize) -> Option<(u8, usize)>
     ensures cut { version_at (slice_range bytes.now at end) ≡ option_map (placed_value bytes.now end) result }
     ensures within { IfSome result (GoesTo at end) }
 {
-    let (place, next) = optional_at(bytes, at, end, VERSION)?;
+    let (place, next) = optional_at(bytes, at, end, tag::VERSION)?;
     match place {
         None => Some((1, next)),
         Some(place) => {
@@ -107,9 +96,9 @@ fn head_at(bytes: &[u8], at: usize, end: usize) -> Option<Head>
     ensures within { IfSome result (IsHeadWithin at end) }
 {
     let (version, next) = version_at(bytes, at, end)?;
-    let serial = tagged_at(bytes, next, end, INTEGER)?;
+    let serial = tagged_at(bytes, next, end, tag::INTEGER)?;
     let algorithm = algorithm_at(bytes, serial.end, end)?;
-    let issuer = tagged_at(bytes, algorithm.whole.end, end, SEQUENCE)?;
+    let issuer = tagged_at(bytes, algorithm.whole.end, end, tag::SEQUENCE)?;
     if bytes[serial.content..serial.end].is_empty() {
         return None;
     }
@@ -128,7 +117,7 @@ fn validity_at(bytes: &[u8], at: usize, end: usize) -> Option<((Place, Place), u
     ensures cut { validity_at (slice_range bytes.now at end) ≡ option_map (placed_validity bytes.now end) result }
     ensures within { IfSome result (IsValidityWithin at end) }
 {
-    let whole = tagged_at(bytes, at, end, SEQUENCE)?;
+    let whole = tagged_at(bytes, at, end, tag::SEQUENCE)?;
     let not_before = place_at(bytes, whole.content, whole.end)?;
     let not_after = place_at(bytes, not_before.end, whole.end)?;
     if bytes[not_after.end..whole.end].is_empty() {
@@ -146,7 +135,7 @@ fn body_at(bytes: &[u8], at: usize, end: usize) -> Option<Body>
     ensures within { IfSome result (IsBodyWithin at end) }
 {
     let ((not_before, not_after), next) = validity_at(bytes, at, end)?;
-    let subject = tagged_at(bytes, next, end, SEQUENCE)?;
+    let subject = tagged_at(bytes, next, end, tag::SEQUENCE)?;
     let key = key_info_at(bytes, subject.end, end)?;
     Some(Body {
         not_before,
@@ -165,8 +154,8 @@ fn after_ids(bytes: &[u8], at: usize, end: usize) -> Option<usize>
     ensures after { IfSome result (λ next. at ≤ next) }
     ensures before { IfSome result (λ next. next ≤ end) }
 {
-    let (_, next) = optional_at(bytes, at, end, ISSUER_UNIQUE_ID)?;
-    let (_, next) = optional_at(bytes, next, end, SUBJECT_UNIQUE_ID)?;
+    let (_, next) = optional_at(bytes, at, end, tag::ISSUER_UNIQUE_ID)?;
+    let (_, next) = optional_at(bytes, next, end, tag::SUBJECT_UNIQUE_ID)?;
     Some(next)
 }
 
@@ -179,14 +168,14 @@ fn list_at(bytes: &[u8], at: usize, end: usize) -> Option<(bool, Span)>
     ensures cut { list_at (slice_range bytes.now at end) ≡ option_map (listed_of bytes.now) result }
     ensures within { IfSome result (IsListedWithin end) }
 {
-    let (place, next) = optional_at(bytes, at, end, EXTENSIONS)?;
+    let (place, next) = optional_at(bytes, at, end, tag::EXTENSIONS)?;
     if !bytes[next..end].is_empty() {
         return None;
     }
     match place {
         None => Some((false, Span { start: end, end })),
         Some(place) => {
-            let sequence = whole_at(bytes, place.content, place.end, SEQUENCE)?;
+            let sequence = whole_at(bytes, place.content, place.end, tag::SEQUENCE)?;
             Some((true, content_of(sequence)))
         }
     }
@@ -200,8 +189,8 @@ fn outer_at(bytes: &[u8], at: usize, end: usize) -> Option<Outer>
     ensures cut { outer_at (slice_range bytes.now at end) ≡ option_map (outer_of bytes.now) result }
     ensures within { IfSome result (IsOuterWithin at end) }
 {
-    let whole = whole_at(bytes, at, end, SEQUENCE)?;
-    let tbs = tagged_at(bytes, whole.content, whole.end, SEQUENCE)?;
+    let whole = whole_at(bytes, at, end, tag::SEQUENCE)?;
+    let tbs = tagged_at(bytes, whole.content, whole.end, tag::SEQUENCE)?;
     let algorithm = algorithm_at(bytes, tbs.end, whole.end)?;
     let bits = bits_at(bytes, algorithm.whole.end, whole.end)?;
     Some(Outer {

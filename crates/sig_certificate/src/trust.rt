@@ -3,6 +3,7 @@
 ghost use Rattle.std.specs.Prelude.{◌≡◌};
 ghost use Rattle.sig_certificate.specs.Profile.{refusal};
 ghost use Rattle.sig_certificate.specs.Trust.{may_sign, may_sign_code, is_named, usages_refusal, names_refusal, validity_refusal, expiration_refusal, trust_refusal};
+ghost use Rattle.sig_der.specs.ObjectIdentifiers.{subject_alternative_name};
 ghost use Rattle.sig_certificate.specs.Lookups.{with_oid};
 
 use crate::certificate::Certificate;
@@ -53,7 +54,7 @@ pub fn verify_key_usages(certificate: &Certificate) -> Result<()>
 /// Whether exactly one well-formed extension of alternative names is there.
 #[tactic(auto, using(crate::proofs::HeldLaws::named_absent, crate::proofs::HeldLaws::named_one, crate::proofs::HeldLaws::named_several))]
 fn is_named(certificate: &Certificate) -> bool
-    ensures { result ≡ is_named (with_oid SUBJECT_ALTERNATIVE_NAME.now certificate.now.extensions) }
+    ensures { result ≡ is_named (with_oid subject_alternative_name certificate.now.extensions) }
 {
     match certificate.extension(SUBJECT_ALTERNATIVE_NAME) {
         Lookup::One(extension) => holds_names(extension.value),

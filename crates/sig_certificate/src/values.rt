@@ -6,15 +6,9 @@ ghost use Rattle.sig_der.specs.Places.{piece_at};
 ghost use Rattle.sig_certificate.specs.Places.{placed_value, IsContent, IsFrontWithin, placed_front};
 ghost use Rattle.sig_certificate.specs.Values.{usage_of, key_usage_of, oid_at, number_of, constraints_in, basic_constraints_of};
 
-use crate::extensions::{SEQUENCE, flag_at};
+use crate::extensions::flag_at;
 use crate::span::Span;
-use sig_der::{Place, optional_at, tagged_at, whole_at};
-
-const BIT_STRING: u8 = 3;
-
-const INTEGER: u8 = 2;
-
-const OBJECT_IDENTIFIER: u8 = 6;
+use sig_der::{Place, optional_at, tag, tagged_at, whole_at};
 
 /// The bits of a key usage that decide here: RFC 5280 section 4.2.1.3.
 #[derive(Clone, Copy, Debug)]
@@ -65,7 +59,7 @@ fn usage(content: &[u8]) -> Option<KeyUsage>
 pub(crate) fn read_key_usage(value: &[u8]) -> Option<KeyUsage>
     ensures { result ≡ key_usage_of value.now }
 {
-    let string = content_at(value, BIT_STRING)?;
+    let string = content_at(value, tag::BIT_STRING)?;
     usage(&value[string.content..string.end])
 }
 
@@ -77,7 +71,7 @@ pub(crate) fn oid_at(bytes: &[u8], at: usize, end: usize) -> Option<Span>
     ensures cut { oid_at (slice_range bytes.now at end) ≡ option_map (placed_front bytes.now end) result }
     ensures within { IfSome result (IsFrontWithin at end) }
 {
-    let oid = tagged_at(bytes, at, end, OBJECT_IDENTIFIER)?;
+    let oid = tagged_at(bytes, at, end, tag::OBJECT_IDENTIFIER)?;
     if bytes[oid.content..oid.end].is_empty() {
         return None;
     }
@@ -111,7 +105,7 @@ fn constraints_at(bytes: &[u8], at: usize, end: usize) -> Option<BasicConstraint
     ensures { constraints_in (slice_range bytes.now at end) ≡ result }
 {
     let (ca, next) = flag_at(bytes, at, end)?;
-    let (place, next) = optional_at(bytes, next, end, INTEGER)?;
+    let (place, next) = optional_at(bytes, next, end, tag::INTEGER)?;
     let path_len = match place {
         None => None,
         Some(place) => Some(number(&bytes[place.content..place.end])?),
@@ -128,6 +122,6 @@ fn constraints_at(bytes: &[u8], at: usize, end: usize) -> Option<BasicConstraint
 pub(crate) fn read_basic_constraints(value: &[u8]) -> Option<BasicConstraints>
     ensures { result ≡ basic_constraints_of value.now }
 {
-    let sequence = content_at(value, SEQUENCE)?;
+    let sequence = content_at(value, tag::SEQUENCE)?;
     constraints_at(value, sequence.content, sequence.end)
 }

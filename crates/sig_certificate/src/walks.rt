@@ -5,10 +5,10 @@ ghost use Rattle.sig_der.specs.Taking.{many_at, take_whole};
 ghost use Rattle.sig_certificate.specs.Names.{name_at, names_of};
 ghost use Rattle.sig_certificate.specs.Values.{oid_at, has_purpose, purposes_of};
 
-use crate::extensions::SEQUENCE;
 use crate::names::name_at;
 use crate::span::part;
 use crate::values::{content_at, oid_at};
+use sig_der::tag;
 
 fn either(left: bool, right: bool) -> bool
     ensures { result ≡ (left || right) }
@@ -42,7 +42,7 @@ fn purpose_among(bytes: &[u8], at: usize, end: usize, purpose: &[u8]) -> Option<
 pub fn read_purpose(value: &[u8], purpose: &[u8]) -> Option<bool>
     ensures { option_map (has_purpose purpose.now) (purposes_of value.now) ≡ result }
 {
-    let sequence = content_at(value, SEQUENCE)?;
+    let sequence = content_at(value, tag::SEQUENCE)?;
     purpose_among(value, sequence.content, sequence.end, purpose)
 }
 
@@ -67,7 +67,7 @@ fn are_names(bytes: &[u8], at: usize, end: usize) -> bool
 pub(crate) fn holds_names(value: &[u8]) -> bool
     ensures { is_some (names_of value.now) ≡ result }
 {
-    match content_at(value, SEQUENCE) {
+    match content_at(value, tag::SEQUENCE) {
         None => false,
         Some(sequence) => are_names(value, sequence.content, sequence.end),
     }
