@@ -52,7 +52,7 @@ pub origin-only : (line : List ℕ) → is_blank line ≡ false → origin_of li
 unfolding origin_of
 origin-only line written = rw written refl
 
-size-found : (line : List ℕ) (n : ℕ) → size_of line ≡ Ok n → IsSize line n
+pub size-found : (line : List ℕ) (n : ℕ) → size_of line ≡ Ok n → IsSize line n
 unfolding size_of
 size-found line n e =
     let ds = without_leading_plus line in
@@ -66,7 +66,7 @@ size-found line n e =
       | inr none ↦ (let f = none.1 in cc)
     ]
 
-size-only : (line : List ℕ) (n : ℕ) → IsSize line n → size_of line ≡ Ok n
+pub size-only : (line : List ℕ) (n : ℕ) → IsSize line n → size_of line ≡ Ok n
 size-only line n is = size_of-numeral line n (is.0, subst (λ m. m < 2 ^ 64) is.1 is.2) is.1
 
 hash-found : (line hash : List ℕ) → hash_of line ≡ Ok hash → (base64_bytes line ≡ Some hash) × (length hash ≡ 32)

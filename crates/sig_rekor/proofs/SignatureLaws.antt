@@ -17,7 +17,7 @@ use Rattle.sig_rekor.proofs.Cutting.{parts-found, parts-only, trimmed-found, tri
 use Rattle.sig_rekor.proofs.Steps.{chosen, ok_or-ok}
 
 -- the line behind its dash
-line-found : (text line : List ℕ) → line_of text ≡ Ok line → IsTrimmed 10 text line × (line ≡ em_dash ++ drop 3 line)
+pub line-found : (text line : List ℕ) → line_of text ≡ Ok line → IsTrimmed 10 text line × (line ≡ em_dash ++ drop 3 line)
 unfolding line_of
 line-found text line e = elim (chosen (starts_with nat_eq (trimmed 10 text) em_dash) (Ok (trimmed 10 text)) (Err NoDash) (Ok line) e) [
   | inl dash ↦
@@ -26,7 +26,7 @@ line-found text line e = elim (chosen (starts_with nat_eq (trimmed 10 text) em_d
   | inr none ↦ (let f = none.1 in cc)
 ]
 
-line-only : (text line behind : List ℕ) → IsTrimmed 10 text line → line ≡ em_dash ++ behind → line_of text ≡ Ok line
+pub line-only : (text line behind : List ℕ) → IsTrimmed 10 text line → line ≡ em_dash ++ behind → line_of text ≡ Ok line
 unfolding line_of
 line-only text line behind is dash =
     rw (trimmed-only 10 text line is, (starts_is Decides-eqb line em_dash (starts_with nat_eq line em_dash) refl).1 behind dash) refl

@@ -1,5 +1,10 @@
 //! What equality is, and where each refusal comes.
-ghost use Rattle.std.specs.Prelude.{◌≡◌, ◌↔◌, IsTrue};
+ghost use Rattle.std.specs.Prelude.{◌≡◌, ◌↔◌, IsTrue, List, ℕ, Err};
+ghost use Rattle.sig_base.specs.declared.fault.CheckpointFault.{CheckpointFault};
+ghost use Rattle.sig_rekor.specs.CheckpointText.{checkpoint_of};
+ghost use Rattle.sig_rekor.specs.Faults.{IsCheckpointFault, IsNoteFault, IsSignatureFault};
+ghost use Rattle.sig_rekor.specs.NoteText.{note_of};
+ghost use Rattle.sig_rekor.specs.SignatureText.{signature_of};
 
 use crate::checkpoint::{Checkpoint, CheckpointSignature, OtherContent, SignedCheckpoint};
 use crate::fault::ParseCheckpointError;
@@ -46,3 +51,19 @@ pub fn equal_refusals(one: &ParseCheckpointError, other: &ParseCheckpointError) 
 {
     one == other
 }
+
+/// A text is refused as a note with a fault if and only if it is the first of the note's rules that the text breaks. It has no code.
+pub fn note_faults()
+    ensures { (text : List ℕ) (fault : CheckpointFault) → (note_of text ≡ Err fault) ↔ IsNoteFault text fault }
+{}
+
+/// A text is refused as a signature with a fault if and only if it is the first of the signature's rules that the text breaks. It has no code.
+pub fn signature_faults()
+    ensures { (text : List ℕ) (fault : CheckpointFault) → (signature_of text ≡ Err fault) ↔ IsSignatureFault text fault }
+{}
+
+/// A text is refused as a checkpoint with a fault if and only if the fault is `Format` and no empty line is there, or it is the fault of the first
+/// piece, from the left, that is no signature, or all are and it is the note's. It has no code.
+pub fn checkpoint_faults()
+    ensures { (text : List ℕ) (fault : CheckpointFault) → (checkpoint_of text ≡ Err fault) ↔ IsCheckpointFault text fault }
+{}
