@@ -1,3 +1,4 @@
 pub mod Utf8Laws
 pub mod IdentityLaws
 pub mod RequestLaws
+pub mod RefusalLaws

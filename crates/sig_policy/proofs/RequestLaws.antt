@@ -1,50 +1,80 @@
--- A list of policies: whether all hold, by the list of the refusals.
-use Rattle.std.proofs.Common.{◌≡◌, ◌≢◌, ℕ, Bool, true, false, ◌&&◌, cond, List, [], ◌∷◌, ◌++◌, length, ◌+◌, ◌<◌, take, get_or, Option, Some, None, refl, sym, ap, ◌∙◌, arith}
-use Rattle.std.specs.List.{filter_map, cons_option}
+-- A list of policies: whether all hold, by the list of their refusals.
+use Rattle.std.proofs.Common.{◌≡◌, ◌≢◌, ℕ, suc, Bool, true, false, ◌&&◌, cond, List, [], ◌∷◌, ◌++◌, length, ◌+◌, ◌<◌, take}
+use Rattle.std.proofs.Common.{get_or, Option, Some, None, refl, sym, ap, subst, ◌∙◌, arith}
+use Rattle.std.specs.List.{filter_map, cons_option, list_all}
 use Rattle.std.proofs.lemmas.List.{append-nil, take_more}
 use Rattle.std.proofs.lemmas.List.Elements.{filter_map-append}
-use Rattle.sig_certificate.specs.Certificate.{Cert}
-use Rattle.sig_policy.specs.Requests.{leaf_holds, leaf_refusal, refused, all_hold}
+use Rattle.sig_policy.specs.Refusals.{Refusal, IsRefusal, AreRefusals, IsRefusalOf, refusals_of}
+use Rattle.sig_policy.specs.Requests.{refused, refusals}
 use Rattle.sig_policy.specs.declared.failure.PolicyError.{PolicyError}
-use Rattle.sig_policy.specs.declared.request.LeafPolicy.{LeafPolicy}
 
-none_more : (b : Bool) (e : PolicyError) (es : List PolicyError) (others : Bool) → (length es ≡ 0 → others ≡ true)
-    → length (cons_option (cond b None (Some e)) es) ≡ 0 → (b && others) ≡ true
-none_more true e es others so none = so none
-none_more false e es others so none = absurd (omega arith)
+-- ---- errors that say refusals
 
-some_more : (b : Bool) (e : PolicyError) (es : List PolicyError) (others : Bool) → (length es ≢ 0 → others ≡ false)
-    → length (cons_option (cond b None (Some e)) es) ≢ 0 → (b && others) ≡ false
-some_more true e es others so some_left = so some_left
-some_more false e es others so some_left = refl
+pub are_push : (rs : List Refusal) (es : List PolicyError) (r : Refusal) (e : PolicyError)
+    → AreRefusals (refusals_of rs) es → IsRefusal r e → AreRefusals (refusals_of (rs ++ r ∷ [])) (es ++ e ∷ [])
+are_push [] es r e are is = (e, ([], (ap (λ (w : List PolicyError). w ++ e ∷ []) are, (is, refl))))
+are_push (s ∷ rs) es r e are is =
+    let rest = are.1.0 in
+    let same = ap (λ (w : List PolicyError). w ++ e ∷ []) are.1.1.0 in
+    (are.0, (rest ++ e ∷ [], (same, (are.1.1.1.0, are_push rs rest r e are.1.1.1.1 is))))
 
-pub all_hold_none : (ps : List LeafPolicy) (c : Cert) → length (filter_map (refused c) ps) ≡ 0 → all_hold ps c ≡ true
-all_hold_none [] c none = refl
-all_hold_none (p ∷ ps) c none =
-    none_more (leaf_holds p c) (leaf_refusal p c) (filter_map (refused c) ps) (all_hold ps c) (all_hold_none ps c) none
+pub are_as_many : (rs : List Refusal) (es : List PolicyError) → AreRefusals (refusals_of rs) es → length es ≡ length rs
+are_as_many [] es are = ap (λ (w : List PolicyError). length w) are
+are_as_many (r ∷ rs) es are =
+    ap (λ (w : List PolicyError). length w) are.1.1.0 ∙ ap suc (are_as_many rs are.1.0 are.1.1.1.1)
 
-pub all_hold_some : (ps : List LeafPolicy) (c : Cert) → length (filter_map (refused c) ps) ≢ 0 → all_hold ps c ≡ false
-all_hold_some [] c some_left = absurd (some_left refl)
-all_hold_some (p ∷ ps) c some_left =
-    some_more (leaf_holds p c) (leaf_refusal p c) (filter_map (refused c) ps) (all_hold ps c) (all_hold_some ps c) some_left
+-- ---- whether all hold
 
--- ---- one more policy
+module _ {P : Type 0} (holds : P → Bool) (refusal : P → Refusal) where
+  none_refused : (ps : List P) → length (refusals holds refusal ps) ≡ 0 → list_all holds ps ≡ true
+  none_refused [] none = refl
+  none_refused (p ∷ ps) none = by_test (holds p) (λ e. none_refused ps e) none
+    where
+      by_test : (b : Bool) → (length (refusals holds refusal ps) ≡ 0 → list_all holds ps ≡ true)
+          → length (cons_option (cond b None (Some (refusal p))) (refusals holds refusal ps)) ≡ 0 → (b && list_all holds ps) ≡ true
+      by_test true so e = so e
+      by_test false so e = absurd (omega arith)
 
-refusals_more : (c : Cert) (ps : List LeafPolicy) (i : ℕ) (p : LeafPolicy) → i < length ps → p ≡ get_or ps i p
-    → filter_map (refused c) (take (i + 1) ps) ≡ filter_map (refused c) (take i ps) ++ filter_map (refused c) (p ∷ [])
-refusals_more c ps i p below is =
-    ap (λ (w : List LeafPolicy). filter_map (refused c) w) (take_more ps i p below ∙ ap (λ (q : LeafPolicy). take i ps ++ q ∷ []) (sym is))
-    ∙ filter_map-append (refused c) (take i ps) (p ∷ [])
+  some_refused : (ps : List P) → length (refusals holds refusal ps) ≢ 0 → list_all holds ps ≡ false
+  some_refused [] some_left = absurd (some_left refl)
+  some_refused (p ∷ ps) some_left = by_test (holds p) (λ e. some_refused ps e) some_left
+    where
+      by_test : (b : Bool) → (length (refusals holds refusal ps) ≢ 0 → list_all holds ps ≡ false)
+          → length (cons_option (cond b None (Some (refusal p))) (refusals holds refusal ps)) ≢ 0 → (b && list_all holds ps) ≡ false
+      by_test true so e = so e
+      by_test false so e = refl
 
-pub refusals_push : (c : Cert) (ps : List LeafPolicy) (i : ℕ) (p : LeafPolicy) (e : PolicyError) → i < length ps → p ≡ get_or ps i p → refused c p ≡ Some e
-    → filter_map (refused c) (take (i + 1) ps) ≡ filter_map (refused c) (take i ps) ++ e ∷ []
-refusals_push c ps i p e below is gives =
-    refusals_more c ps i p below is
-    ∙ ap (λ (o : Option PolicyError). filter_map (refused c) (take i ps) ++ cons_option o []) gives
+  pub all_hold : (ps : List P) (es : List PolicyError) → AreRefusals (refusals_of (refusals holds refusal ps)) es → length es ≡ 0
+      → list_all holds ps ≡ true
+  all_hold ps es are none = none_refused ps (sym (are_as_many (refusals holds refusal ps) es are) ∙ none)
 
-pub refusals_pass : (c : Cert) (ps : List LeafPolicy) (i : ℕ) (p : LeafPolicy) → i < length ps → p ≡ get_or ps i p → refused c p ≡ None
-    → filter_map (refused c) (take (i + 1) ps) ≡ filter_map (refused c) (take i ps)
-refusals_pass c ps i p below is gives =
-    refusals_more c ps i p below is
-    ∙ ap (λ (o : Option PolicyError). filter_map (refused c) (take i ps) ++ cons_option o []) gives
-    ∙ append-nil (filter_map (refused c) (take i ps))
+  pub not_all_hold : (ps : List P) (es : List PolicyError) → AreRefusals (refusals_of (refusals holds refusal ps)) es → length es ≢ 0
+      → list_all holds ps ≡ false
+  not_all_hold ps es are some_left =
+      some_refused ps (λ e. some_left (are_as_many (refusals holds refusal ps) es are ∙ e))
+
+  -- ---- one more policy
+
+  refusals_more : (ps : List P) (i : ℕ) (p : P) → i < length ps → p ≡ get_or ps i p
+      → refusals holds refusal (take (i + 1) ps) ≡ refusals holds refusal (take i ps) ++ refusals holds refusal (p ∷ [])
+  refusals_more ps i p below is =
+      ap (λ (w : List P). refusals holds refusal w) (take_more ps i p below ∙ ap (λ (q : P). take i ps ++ q ∷ []) (sym is))
+      ∙ filter_map-append (refused holds refusal) (take i ps) (p ∷ [])
+
+  pub are_more : (ps : List P) (i : ℕ) (p : P) (o : Option PolicyError) (before after : List PolicyError) → i < length ps
+      → p ≡ get_or ps i p → IsRefusalOf (refused holds refusal p) o → after ≡ before ++ cons_option o []
+      → AreRefusals (refusals_of (refusals holds refusal (take i ps))) before
+      → AreRefusals (refusals_of (refusals holds refusal (take (i + 1) ps))) after
+  are_more ps i p o before after below is said grown are =
+      subst (λ (w : List Refusal). AreRefusals (refusals_of w) after) (sym (refusals_more ps i p below is))
+      (subst (λ (w : List PolicyError). AreRefusals (refusals_of (refusals holds refusal (take i ps) ++ refusals holds refusal (p ∷ []))) w)
+      (sym grown) (by_answer (refused holds refusal p) o said))
+    where
+      by_answer : (r : Option Refusal) (o : Option PolicyError) → IsRefusalOf r o
+          → AreRefusals (refusals_of (refusals holds refusal (take i ps) ++ cons_option r [])) (before ++ cons_option o [])
+      by_answer None None h =
+          subst (λ (w : List PolicyError). AreRefusals (refusals_of (refusals holds refusal (take i ps) ++ [])) w) (sym (append-nil before))
+          (subst (λ (w : List Refusal). AreRefusals (refusals_of w) before) (sym (append-nil (refusals holds refusal (take i ps)))) are)
+      by_answer (Some r) (Some e) h = are_push (refusals holds refusal (take i ps)) before r e are h
+      by_answer None (Some e) h = absurd h
+      by_answer (Some r) None h = absurd h

@@ -8,8 +8,7 @@ use Rattle.sig_certificate.specs.Lookups.{with_oid}
 use Rattle.sig_policy.specs.Texts.{utf8_text}
 use Rattle.sig_certificate.specs.Names.{Name, Email, Uri, Other, Unread, names_of}
 use Rattle.sig_policy.specs.Single.{fulcio, extension_text, is_text, single_refusal}
-use Rattle.sig_policy.specs.declared.failure.PolicyError.{PolicyError}
-use Rattle.sig_policy.specs.declared.failure.PolicyError.TheVariants.{ExtensionNotFound, ExtensionCheckFailed}
+use Rattle.sig_policy.specs.Refusals.{Refusal, not_found, check_failed}
 
 -- the object identifier of the subject alternative name, 2.5.29.17
 abbrev pub subject_alternative_name : List ℕ
@@ -41,9 +40,9 @@ is_among identity None = false
 is_among identity (Some texts) = list_any (λ t. bytes_eq t identity) texts
 
 -- why the identity is not among them
-abbrev pub name_refusal : List ℕ → Option (List (List ℕ)) → PolicyError
-name_refusal identity None = ExtensionNotFound
-name_refusal identity (Some texts) = ExtensionCheckFailed (codes "SubjectAltName") identity (join_by (λ t. t) (codes ", ") texts)
+abbrev pub name_refusal : List ℕ → Option (List (List ℕ)) → Refusal
+name_refusal identity None = not_found
+name_refusal identity (Some texts) = check_failed (codes "SubjectAltName") identity (join_by (λ t. t) (codes ", ") texts)
 
 abbrev pub is_issued_by : List ℕ → Cert → Bool
 is_issued_by issuer c = is_text issuer (extension_text (fulcio 1) c)
@@ -52,7 +51,7 @@ abbrev pub identity_holds : Claim → Cert → Bool
 identity_holds p c = is_issued_by p.issuer c && is_among p.identity (identities c)
 
 -- the issuer is asked first
-abbrev pub identity_refusal : Claim → Cert → PolicyError
+abbrev pub identity_refusal : Claim → Cert → Refusal
 identity_refusal p c =
     if is_issued_by p.issuer c then name_refusal p.identity (identities c)
     else single_refusal (codes "OIDCIssuer") p.issuer (extension_text (fulcio 1) c)

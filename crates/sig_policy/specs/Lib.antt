@@ -1,5 +1,6 @@
 pub mod Texts
 pub mod Failures
+pub mod Refusals
 pub mod Verdict
 pub mod Single
 pub mod Claim

@@ -4,8 +4,7 @@ use Rattle.std.specs.Str.{bytes_eq}
 use Rattle.sig_certificate.specs.Certificate.{Extension, Cert}
 use Rattle.sig_certificate.specs.Lookups.{with_oid}
 use Rattle.sig_policy.specs.Texts.{utf8_text}
-use Rattle.sig_policy.specs.declared.failure.PolicyError.{PolicyError}
-use Rattle.sig_policy.specs.declared.failure.PolicyError.TheVariants.{ExtensionNotFound, ExtensionCheckFailed}
+use Rattle.sig_policy.specs.Refusals.{Refusal, not_found, check_failed}
 
 -- the value of the only extension, where it is UTF-8
 abbrev pub only_text : List Extension → Option (List ℕ)
@@ -22,9 +21,9 @@ is_text asked None = false
 is_text asked (Some actual) = bytes_eq actual asked
 
 -- why the text is not the one asked for
-abbrev pub single_refusal : List ℕ → List ℕ → Option (List ℕ) → PolicyError
-single_refusal name asked None = ExtensionNotFound
-single_refusal name asked (Some actual) = ExtensionCheckFailed name asked actual
+abbrev pub single_refusal : List ℕ → List ℕ → Option (List ℕ) → Refusal
+single_refusal name asked None = not_found
+single_refusal name asked (Some actual) = check_failed name asked actual
 
 -- the object identifier of Fulcio's extension n, 1.3.6.1.4.1.57264.1.n
 abbrev pub fulcio : ℕ → List ℕ

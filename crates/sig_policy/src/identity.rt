@@ -46,7 +46,7 @@ impl Identity {
 impl VerificationPolicy for Identity {
     ghost holds = { identity_holds };
 
-    ghost refuses = { λ p c e. e ≡ identity_refusal p c };
+    ghost refusal = { identity_refusal };
 
     /// Nothing exactly where the issuer's policy holds, the certificate has exactly one subject alternative name, it is well formed,
     /// and one of its emails, URIs or names of Fulcio's kind is the identity. In this order: the issuer's refusal;
@@ -60,7 +60,7 @@ impl VerificationPolicy for Identity {
 fn verify_name(alloc: Global, identity: &str, cert: &Certificate) -> PolicyResult
     ensures { IsVerdict
         (is_among identity.now (identities cert.now))
-        (λ e. e ≡ name_refusal identity.now (identities cert.now))
+        (name_refusal identity.now (identities cert.now))
         result }
 {
     match identities(alloc, cert)? {
@@ -72,7 +72,7 @@ fn verify_name(alloc: Global, identity: &str, cert: &Certificate) -> PolicyResul
 fn verify_among(alloc: Global, identity: &str, texts: &[&str]) -> PolicyResult
     ensures { IsVerdict
         (is_among identity.now (Some (map (λ t. t.now) texts.now)))
-        (λ e. e ≡ name_refusal identity.now (Some (map (λ t. t.now) texts.now)))
+        (name_refusal identity.now (Some (map (λ t. t.now) texts.now)))
         result }
 {
     if contains(texts, identity) {

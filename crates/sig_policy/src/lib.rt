@@ -10,6 +10,7 @@ mod failure;
 mod fulcio;
 mod identities;
 mod identity;
+mod laws;
 mod policy;
 mod request;
 mod single;
@@ -21,6 +22,7 @@ pub use fulcio::{
     GitHubWorkflowTrigger, OIDCIssuer,
 };
 pub use identity::Identity;
+pub use laws::refusal_laws;
 pub use policy::{PolicyResult, VerificationPolicy};
 pub use request::{LeafPolicies, LeafPolicy, RequestPolicy};
 pub use single::{SingleX509ExtPolicy, verify_single};

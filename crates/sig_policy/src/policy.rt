@@ -1,15 +1,15 @@
-//! What a policy is: a predicate of the certificate, with one refusal for each certificate of which it does not hold.
+//! What a policy is: a predicate of certificates, with one refusal for each certificate of which it does not hold.
 
 ghost use Rattle.std.specs.Prelude.{Bool};
 ghost use Rattle.sig_certificate.specs.Certificate.{Cert};
-ghost use Rattle.sig_policy.specs.declared.failure.PolicyError.{PolicyError};
+ghost use Rattle.sig_policy.specs.Refusals.{Refusal};
 ghost use Rattle.sig_policy.specs.Verdict.{IsVerdict};
 
 use crate::failure::PolicyError;
 use sig_certificate::Certificate;
 use std::alloc::Global;
 
-/// Nothing where the policy holds of the certificate, else why not.
+/// `Ok` if the policy holds of the certificate, else why not.
 pub type PolicyResult = Result<(), PolicyError>;
 
 /// A predicate of certificates.
@@ -17,11 +17,11 @@ pub trait VerificationPolicy: Drop {
     // The certificates of which the policy holds.
     ghost holds: { Self → Cert → Bool };
 
-    // The refusal of a certificate of which it does not hold.
-    ghost refuses: { Self → Cert → PolicyError → Type 0 };
+    // The one refusal of a certificate of which it does not hold. Out of memory is none.
+    ghost refusal: { Self → Cert → Refusal };
 
-    /// Nothing exactly where the policy holds of the certificate, else its refusal. `OutOfMemory` where the refusal could not be
-    /// made.
+    /// Returns `Ok` if and only if the policy holds of the certificate, unless memory ran out; else the error that says its
+    /// refusal. `OutOfMemory` says nothing of the certificate, also if a policy that this one asks ran out of memory.
     fn verify(&self, alloc: Global, cert: &Certificate) -> PolicyResult
-        ensures { IsVerdict (holds self.now cert.now) (refuses self.now cert.now) result };
+        ensures { IsVerdict (holds self.now cert.now) (refusal self.now cert.now) result };
 }

@@ -1,12 +1,11 @@
 //! A list of policies, of which each or at least one has to hold.
 
-ghost use Rattle.std.specs.Prelude.{◌≡◌, List, length, IfOk};
-ghost use Rattle.std.specs.List.{filter_map};
-ghost use Rattle.sig_certificate.specs.Certificate.{Cert};
-ghost use Rattle.sig_policy.specs.Requests.{leaf_holds, leaf_refusal, refused, all_hold, any_holds, request_holds, RequestRefuses};
-ghost use Rattle.sig_policy.specs.Failures.{failures, IsAllOf};
+ghost use Rattle.std.specs.Prelude.{◌≡◌, length, IfOk};
+ghost use Rattle.std.specs.List.{list_all, list_any};
+ghost use Rattle.sig_policy.specs.Requests.{leaf_holds, leaf_refusal, refused, refusals, all_refusal, request_holds, request_refusal};
+ghost use Rattle.sig_policy.specs.Failures.{failures};
+ghost use Rattle.sig_policy.specs.Refusals.{any_of, refusals_of, AreRefusals, IsRefusalOf};
 ghost use Rattle.sig_policy.specs.Verdict.{IsVerdict};
-ghost use Rattle.sig_policy.specs.declared.failure.PolicyError.TheVariants.{AnyOf};
 
 use crate::failure::{PolicyError, PolicyErrors, all_of};
 use crate::fulcio::{
@@ -53,9 +52,9 @@ pub enum RequestPolicy {
 impl VerificationPolicy for LeafPolicy {
     ghost holds = { leaf_holds };
 
-    ghost refuses = { λ p c e. e ≡ leaf_refusal p c };
+    ghost refusal = { leaf_refusal };
 
-    /// The answer of the policy that it holds.
+    /// Returns what the policy returns that it holds.
     fn verify(&self, alloc: Global, cert: &Certificate) -> PolicyResult {
         match self {
             LeafPolicy::OIDCIssuer(policy) => policy.verify(alloc, cert),
@@ -72,10 +71,10 @@ impl VerificationPolicy for LeafPolicy {
 impl VerificationPolicy for RequestPolicy {
     ghost holds = { request_holds };
 
-    ghost refuses = { RequestRefuses };
+    ghost refusal = { request_refusal };
 
-    /// `All`: nothing exactly where each policy holds, else `AllOf` with the number of policies and the refusals of those that do
-    /// not hold, in order. `Any`: nothing exactly where at least one holds, else `AnyOf` with the number of policies.
+    /// `All`: returns `Ok` if and only if each policy holds, else `AllOf` with the number of policies and the refusals of those
+    /// that do not hold, in order. `Any`: returns `Ok` if and only if at least one holds, else `AnyOf` with the number of policies.
     fn verify(&self, alloc: Global, cert: &Certificate) -> PolicyResult {
         match self {
             RequestPolicy::All(policies) => verify_all(alloc, policies.as_slice(), cert),
@@ -84,13 +83,13 @@ impl VerificationPolicy for RequestPolicy {
     }
 }
 
-/// None where the policy holds, else its refusal. Refuses for want of memory alone.
-fn refusal(
+/// Returns `None` if the policy holds, else its refusal. Fails only if out of memory.
+fn refusal<P: VerificationPolicy>(
     alloc: Global,
-    policy: &LeafPolicy,
+    policy: &P,
     cert: &Certificate,
 ) -> Result<Option<PolicyError>, OutOfMemory>
-    ensures { IfOk result (λ o. o ≡ refused cert.now policy.now) }
+    ensures { IfOk result (IsRefusalOf (refused (λ p. P.holds p cert.now) (λ p. P.refusal p cert.now) policy.now)) }
 {
     match policy.verify(alloc, cert) {
         Ok(()) => Ok(None),
@@ -99,13 +98,14 @@ fn refusal(
     }
 }
 
-/// The refusals of the policies that do not hold, in order. Refuses for want of memory alone.
-fn refusals(
+/// Returns the refusals of the policies that do not hold, in order. Fails only if out of memory.
+fn refusals<P: VerificationPolicy>(
     alloc: Global,
-    policies: &[LeafPolicy],
+    policies: &[P],
     cert: &Certificate,
 ) -> Result<PolicyErrors, OutOfMemory>
-    ensures { IfOk result (λ es. failures es ≡ filter_map (refused cert.now) policies.now) }
+    ensures { IfOk result (λ es. AreRefusals
+        (refusals_of (refusals (λ p. P.holds p cert.now) (λ p. P.refusal p cert.now) policies.now)) (failures es)) }
 {
     let mut errors = PolicyErrors::new(alloc);
     for policy in policies {
@@ -117,11 +117,14 @@ fn refusals(
     Ok(errors)
 }
 
-#[tactic(auto, using(crate::proofs::RequestLaws::all_hold_none, crate::proofs::RequestLaws::all_hold_some))]
-fn verify_all(alloc: Global, policies: &[LeafPolicy], cert: &Certificate) -> PolicyResult
+pub(crate) fn verify_all<P: VerificationPolicy>(
+    alloc: Global,
+    policies: &[P],
+    cert: &Certificate,
+) -> PolicyResult
     ensures { IsVerdict
-        (all_hold policies.now cert.now)
-        (IsAllOf (length policies.now) (filter_map (refused cert.now) policies.now))
+        (list_all (λ p. P.holds p cert.now) policies.now)
+        (all_refusal (λ p. P.holds p cert.now) (λ p. P.refusal p cert.now) policies.now)
         result }
 {
     let errors = refusals(alloc, policies, cert)?;
@@ -131,8 +134,12 @@ fn verify_all(alloc: Global, policies: &[LeafPolicy], cert: &Certificate) -> Pol
     Err(all_of(policies.len(), errors))
 }
 
-fn verify_any(alloc: Global, policies: &[LeafPolicy], cert: &Certificate) -> PolicyResult
-    ensures { IsVerdict (any_holds policies.now cert.now) (λ e. e ≡ AnyOf (length policies.now)) result }
+pub(crate) fn verify_any<P: VerificationPolicy>(
+    alloc: Global,
+    policies: &[P],
+    cert: &Certificate,
+) -> PolicyResult
+    ensures { IsVerdict (list_any (λ p. P.holds p cert.now) policies.now) (any_of (length policies.now)) result }
 {
     for policy in policies {
         match refusal(alloc, policy, cert)? {

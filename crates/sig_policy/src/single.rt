@@ -3,6 +3,7 @@
 ghost use Rattle.std.specs.Prelude.{◌≡◌, ℕ, List, Some, IfOk, option_map};
 ghost use Rattle.sig_certificate.specs.Certificate.{Cert};
 ghost use Rattle.sig_policy.specs.Single.{extension_text, is_text, single_refusal};
+ghost use Rattle.sig_policy.specs.Refusals.{IsRefusal, check_failed};
 ghost use Rattle.sig_policy.specs.Verdict.{IsVerdict};
 
 use crate::failure::PolicyError;
@@ -59,7 +60,7 @@ pub fn verify_single<T: SingleX509ExtPolicy>(
 ) -> PolicyResult
     ensures { IsVerdict
         (is_text (T.asked policy.now) (extension_text T.identifier cert.now))
-        (λ e. e ≡ single_refusal T.title (T.asked policy.now) (extension_text T.identifier cert.now))
+        (single_refusal T.title (T.asked policy.now) (extension_text T.identifier cert.now))
         result }
 {
     let Some(actual) = extension_text(cert, T::oid()) else {
@@ -78,7 +79,7 @@ pub(crate) fn check_failed(
     expected: &str,
     actual: &str,
 ) -> Result<PolicyError, OutOfMemory>
-    ensures { IfOk result (λ e. e ≡ single_refusal extension.now expected.now (Some actual.now)) }
+    ensures { IfOk result (IsRefusal (check_failed extension.now expected.now actual.now)) }
 {
     Ok(PolicyError::ExtensionCheckFailed {
         extension: Text::copy_of(alloc, extension)?,
@@ -90,7 +91,7 @@ pub(crate) fn check_failed(
 impl<T: SingleX509ExtPolicy + Drop> VerificationPolicy for T {
     ghost holds = { λ p c. is_text (T.asked p) (extension_text T.identifier c) };
 
-    ghost refuses = { λ p c e. e ≡ single_refusal T.title (T.asked p) (extension_text T.identifier c) };
+    ghost refusal = { λ p c. single_refusal T.title (T.asked p) (extension_text T.identifier c) };
 
     fn verify(&self, alloc: Global, cert: &Certificate) -> PolicyResult {
         verify_single(alloc, self, cert)

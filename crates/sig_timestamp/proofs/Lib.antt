@@ -1,5 +1,7 @@
 pub mod KeyLaws
 pub mod KeyringLaws
+pub mod ComesLaws
+pub mod VouchedLaws
 pub mod VectorLaws
 pub mod SctLaws
 pub mod OnlyOne

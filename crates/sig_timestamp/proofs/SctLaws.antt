@@ -6,13 +6,13 @@ use Rattle.std.proofs.lemmas.Nat.{be_bytes_8, from_be_bytes-to_be_bytes_8}
 use Rattle.sig_base.proofs.OptionSteps.{bind_is, bind_of_some, when_is, some_is}
 use Rattle.sig_der.specs.Element.{IsElement}
 use Rattle.sig_der.specs.Taking.{take_whole}
-use Rattle.sig_der.specs.KeyInfo.{after_zero}
+use Rattle.sig_timestamp.specs.Numbers.{v1}
 use Rattle.sig_der.proofs.Bytes.{IsBytes, IsBytes-right, IsBytes-left, IsBytes-tail}
 use Rattle.sig_der.proofs.Takings.{take_whole_takes, take_whole_again}
 use Rattle.sig_der.proofs.KeyInfos.{content_fits}
 use Rattle.sig_der.proofs.Many.{many_at_takes, many_at_again}
 use Rattle.sig_timestamp.specs.Vectors.{vector, two_bytes, IsShort, bytes_at, vector_at, whole_vector}
-use Rattle.sig_timestamp.specs.SctList.{Sct, IsSct, IsSctList, eight_bytes, signed_at, sct_at, list_in, sct_list_at}
+use Rattle.sig_timestamp.specs.SctList.{Sct, IsSct, IsSctList, eight_bytes, signed_at, after_version, sct_at, list_in, sct_list_at}
 use Rattle.sig_timestamp.proofs.VectorLaws.{bytes_at_takes, bytes_at_again, vector_at_takes, vector_at_again, vectors, whole_vector_takes, whole_vector_again}
 
 -- ---- the list
@@ -77,10 +77,10 @@ signed_at_again e a s fe fa fs =
 
 -- ---- an SCT
 
-after_zero_takes : (text rest : List ℕ) → after_zero text ≡ Some rest → text ≡ 0 ∷ rest
-unfolding after_zero
-after_zero_takes [] rest e = absurd cc
-after_zero_takes (n ∷ bytes) rest e =
+after_version_takes : (text rest : List ℕ) → after_version text ≡ Some rest → text ≡ v1 ∷ rest
+unfolding after_version
+after_version_takes [] rest e = absurd cc
+after_version_takes (n ∷ bytes) rest e =
     let w = when_is (eqb n 0) (Some bytes) rest e in
     let zero : n ≡ 0 = eqb-true n 0 w.0 in
     let same : bytes ≡ rest = some_is bytes rest w.1 in
@@ -92,11 +92,11 @@ below_8 bytes fits = omega (arith, fits 0, fits 1, fits 2, fits 3, fits 4, fits 
 pub sct_at_takes : (text : List ℕ) → IsBytes text → (s : Sct) → sct_at text ≡ Some s → IsSct text s
 unfolding sct_at
 sct_at_takes text fits s e =
-    let r = bind_is (after_zero text) _ s e in
+    let r = bind_is (after_version text) _ s e in
     let i = bind_is (bytes_at 32 r.0) _ s r.2 in
     let t = bind_is (bytes_at 8 i.0.1) _ s i.2 in
     let x = bind_is (signed_at t.0.1) _ s t.2 in
-    let tr = after_zero_takes text r.0 r.1 in
+    let tr = after_version_takes text r.0 r.1 in
     let fits_r = IsBytes-tail 0 r.0 (subst (λ (w : List ℕ). IsBytes w) tr fits) in
     let ti = bytes_at_takes 32 r.0 i.0 i.1 in
     let fits_i = IsBytes-right i.0.0 i.0.1 (subst (λ (w : List ℕ). IsBytes w) ti.1 fits_r) in
@@ -118,7 +118,7 @@ sct_at_takes text fits s e =
     })
 
 pub sct_at_again : (text : List ℕ) (s : Sct) → IsSct text s → sct_at text ≡ Some s
-unfolding sct_at after_zero
+unfolding sct_at after_version
 sct_at_again text s is =
     let last = vector s.extensions ++ (is.algorithm ++ vector s.signature) in
     let middle = eight_bytes s.timestamp ++ last in

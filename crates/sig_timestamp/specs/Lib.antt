@@ -1,9 +1,12 @@
 pub mod RingKey
 pub mod Keyring
+pub mod Numbers
 pub mod Vectors
 pub mod SctList
 pub mod Timestamps
 pub mod Lent
 pub mod Precert
+pub mod SctErrors
 pub mod SctBytes
+pub mod Vouched
 pub mod Embedded

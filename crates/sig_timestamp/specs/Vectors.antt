@@ -1,5 +1,6 @@
--- The presentation language of TLS, as far as timestamps need it: RFC 5246 section 4.
-use Rattle.std.specs.Prelude.{ℕ, ◌+◌, ◌*◌, ◌/◌, ◌%◌, ◌<◌, List, [], ◌∷◌, ◌++◌, length, take, drop, Option, Some, None, nat_lt, if◌then◌else◌}
+-- The presentation language of TLS, as far as SCTs need it: RFC 5246 section 4.
+use Rattle.std.specs.Prelude.{ℕ, ◌+◌, ◌*◌, ◌/◌, ◌%◌, ◌^◌, ◌<◌, List, [], ◌∷◌, ◌++◌, length, take, drop, Option, Some, None, nat_lt}
+use Rattle.std.specs.Prelude.{if◌then◌else◌}
 use Rattle.sig_base.specs.OptionSteps.{◌>>=◌}
 use Rattle.sig_der.specs.KeyInfo.{is_empty}
 
@@ -15,7 +16,14 @@ abbrev pub vector : List ℕ → List ℕ
 vector content = two_bytes (length content) ++ content
 
 abbrev pub IsShort : List ℕ → Type 0
-IsShort content = length content < 65536
+IsShort content = length content < 2 ^ 16
+
+-- opaque<0..2^24-1>: the length in three bytes, and the bytes
+abbrev pub long_vector : List ℕ → List ℕ
+long_vector content = three_bytes (length content) ++ content
+
+abbrev pub IsLong : List ℕ → Type 0
+IsLong content = length content < 2 ^ 24
 
 -- ---- how they are read
 

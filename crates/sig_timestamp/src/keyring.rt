@@ -1,9 +1,10 @@
 //! `Keyring`: the keys of certificate logs by their ids.
 
-ghost use Rattle.std.specs.Prelude.{◌≡◌, ℕ, option_map, List, IfOk, IfErr, OnOk};
+ghost use Rattle.std.specs.Prelude.{◌≡◌, ◌↔◌, ℕ, true, false, option_map, List, None, Ok, IfOk, IfErr, IsErrOf, OnOk};
 ghost use Rattle.std.specs.Option.{option_or};
 ghost use Rattle.sig_timestamp.specs.Keyring.{key_of, point_if, vouch};
 ghost use Rattle.sig_timestamp.specs.RingKey.{point_at};
+ghost use Rattle.sig_timestamp.specs.Vouched.{IsSignedUnder};
 
 use crate::key::Key;
 use crate::keyring_error::KeyringError;
@@ -69,9 +70,29 @@ impl Keyring {
         self.keys.get(id)
     }
 
-    /// Whether the signature over the message is genuine under the key of this id. `KeyNotFound` exactly where the keyring has no
-    /// such key, `VerificationFailed` exactly where it has one and the checker refuses its point. Takes no memory.
+    /// Whether the key of this id accepts the signature over the message. Takes no memory. Errors:
+    ///
+    /// - `KeyNotFound` if and only if the keyring has no such key;
+    /// - `VerificationFailed` if and only if it has one, and the checker does not accept the signature under its point.
     pub fn verify<C: SignatureChecker>(
+        &self,
+        key_id: &[u8; 32],
+        signature: &[u8],
+        message: &[u8],
+        checker: &C,
+    ) -> Result<(), KeyringError>
+        ensures accepted { (result ≡ Ok tt)
+            ↔ IsSignedUnder (C.point_accepts checker.now) self.now key_id.now message.now signature.now true }
+        ensures unknown { IsErrOf result KeyringError.KeyNotFound ↔ (point_at self.now key_id.now ≡ None) }
+        ensures forged { IsErrOf result KeyringError.VerificationFailed
+            ↔ IsSignedUnder (C.point_accepts checker.now) self.now key_id.now message.now signature.now false }
+        // The same in one equation.
+        ensures exact { result ≡ vouch (C.point_accepts checker.now) (point_at self.now key_id.now) message.now signature.now }
+    {
+        self.judge(key_id, signature, message, checker)
+    }
+
+    fn judge<C: SignatureChecker>(
         &self,
         key_id: &[u8; 32],
         signature: &[u8],

@@ -1,6 +1,7 @@
 //! Why a timestamp of a certificate log is refused.
 
 ghost use Rattle.std.specs.Prelude.{◌≡◌};
+ghost use Rattle.sig_timestamp.specs.SctErrors.{of_keyring};
 ghost use Rattle.sig_timestamp.specs.declared.sct_error.SCTError.TheVariants.{OutOfMemory as Memory, Parsing};
 
 use crate::keyring_error::KeyringError;
@@ -45,6 +46,17 @@ impl From<CertificateErrorKind> for SCTError {
 
     fn from(kind: CertificateErrorKind) -> SCTError {
         SCTError::Parsing(kind)
+    }
+}
+
+impl From<KeyringError> for SCTError {
+    ghost from_gives = { λ k e. e ≡ of_keyring k };
+
+    fn from(error: KeyringError) -> SCTError {
+        match error {
+            KeyringError::OutOfMemory => SCTError::OutOfMemory,
+            refusal => SCTError::Verification(refusal),
+        }
     }
 }
 

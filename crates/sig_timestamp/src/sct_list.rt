@@ -3,8 +3,7 @@
 ghost use Rattle.std.specs.Prelude.{◌≡◌, option_map, is_some, length};
 ghost use Rattle.sig_der.specs.Taking.{many_at};
 ghost use Rattle.sig_timestamp.specs.Vectors.{vector_at};
-ghost use Rattle.sig_timestamp.specs.SctList.{signed_at, sct_at, list_in};
-ghost use Rattle.sig_der.specs.KeyInfo.{after_zero};
+ghost use Rattle.sig_timestamp.specs.SctList.{signed_at, after_version, sct_at, list_in};
 ghost use Rattle.sig_timestamp.specs.Timestamps.{only_one};
 ghost use Rattle.sig_timestamp.specs.Lent.{both_now, sct_now, part_now};
 
@@ -13,6 +12,9 @@ use crate::sct_error::CertificateErrorKind;
 use sig_der::whole_at;
 
 const OCTET_STRING: u8 = 4;
+
+/// The version of SCTs (RFC 6962 section 3.2).
+pub(crate) const SCT_V1: u8 = 0;
 
 /// A signed certificate timestamp, lent from its text.
 #[derive(Clone, Copy)]
@@ -42,13 +44,13 @@ pub(crate) fn sct_at(text: &[u8]) -> Option<LentSct<'_>>
     })
 }
 
-/// What follows version 0.
-#[tactic(auto, unfolding(sig_der::specs::KeyInfo::after_zero))]
+/// Returns what follows version v1.
+#[tactic(auto, unfolding(crate::specs::SctList::after_version))]
 fn after_version(text: &[u8]) -> Option<&[u8]>
-    ensures { after_zero text.now ≡ option_map (λ r. r.now) result }
+    ensures { after_version text.now ≡ option_map (λ r. r.now) result }
 {
     match text {
-        [0, rest @ ..] => Some(rest),
+        [version, rest @ ..] if *version == SCT_V1 => Some(rest),
         _ => None,
     }
 }

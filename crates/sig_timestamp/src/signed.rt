@@ -1,20 +1,29 @@
 //! `DigitallySigned`: what a timestamp signs, and whether a keyring vouches for it (RFC 6962 section 3.2).
 
-ghost use Rattle.std.specs.Prelude.{◌≡◌, ◌≤◌, [], ◌∷◌, ◌++◌, length, IfOk, OnOk};
+ghost use Rattle.std.specs.Prelude.{◌≡◌, ◌∷◌, ◌++◌, true, false, Ok, Err, IfOk, OnOk};
 ghost use Rattle.sig_base.specs.Answers.{Answers};
-ghost use Rattle.sig_timestamp.specs.Vectors.{two_bytes, three_bytes};
+ghost use Rattle.sig_certificate.specs.Answers.{ComesWhere};
+ghost use Rattle.sig_timestamp.specs.Numbers.{v1, certificate_timestamp, precert_entry};
+ghost use Rattle.sig_timestamp.specs.Vectors.{two_bytes, vector, long_vector, IsShort, IsLong};
 ghost use Rattle.sig_timestamp.specs.SctList.{eight_bytes};
 ghost use Rattle.sig_timestamp.specs.SctBytes.{judged, signed_bytes};
+ghost use Rattle.sig_timestamp.specs.Vouched.{HasBytes, IsSignedByLog, IsOfUnknownLog};
 
 use crate::keyring::Keyring;
+use crate::keyring_error::KeyringError;
 use crate::sct_error::SCTError;
+use crate::sct_list::SCT_V1;
 use sig_base::{Bytes, OutOfMemory, SignatureChecker};
 use std::alloc::{AllocError, Global};
 
-/// The longest body that three bytes count.
-const TBS_LIMIT: usize = 16_777_215;
-/// The longest extensions that two bytes count.
-const EXTENSIONS_LIMIT: usize = 65_535;
+/// `SignatureType` (RFC 6962 section 3.2).
+const CERTIFICATE_TIMESTAMP: u8 = 0;
+/// `LogEntryType` (RFC 6962 section 3.1).
+const PRECERT_ENTRY: u16 = 1;
+/// The length of the longest `TBSCertificate<1..2^24-1>`.
+const TBS_CERTIFICATE_MAX: usize = 0xff_ffff;
+/// The length of the longest `CtExtensions<0..2^16-1>`.
+const CT_EXTENSIONS_MAX: usize = 0xffff;
 
 /// What the timestamp of a certificate signs, and its signature.
 #[derive(Drop)]
@@ -33,10 +42,37 @@ pub struct DigitallySigned {
     pub signature: Bytes,
 }
 
-/// Whether the keyring vouches for the timestamp. `Serialization` exactly where the body has more than 2^24 - 1 bytes or the
-/// extensions have more than 2^16 - 1; else `Verification` with the refusal of the keyring: `KeyNotFound` where it has no key of the
-/// log's id, `VerificationFailed` where the signature over the signed bytes is not genuine under that key.
+/// Whether the keyring vouches for the SCT: whether the key of its log's id accepts its signature over what it signs (RFC 6962
+/// section 3.2). The first of these errors that applies, or `OutOfMemory`:
+///
+/// - `Serialization` if and only if the TBSCertificate is longer than 2^24 - 1 bytes or the extensions are longer than 2^16 - 1;
+/// - `Verification(KeyNotFound)` if and only if the keyring has no key of the log's id;
+/// - `Verification(VerificationFailed)` if and only if the checker does not accept the signature under that key.
 pub fn verify_sct<C: SignatureChecker>(
+    alloc: Global,
+    sct: &DigitallySigned,
+    keyring: &Keyring,
+    checker: &C,
+) -> Result<(), SCTError>
+    // The key of the log's id accepts the signature.
+    ensures accepted { ComesWhere SCTError.OutOfMemory result (Ok tt)
+        (IsSignedByLog (C.point_accepts checker.now) sct.now keyring.now true) }
+    // What it signs has no bytes.
+    ensures long { ComesWhere SCTError.OutOfMemory result (Err SCTError.Serialization) (¬ HasBytes sct.now) }
+    // It has bytes, and there is no key of the log's id.
+    ensures unknown { ComesWhere SCTError.OutOfMemory result
+        (Err (SCTError.Verification KeyringError.KeyNotFound)) (IsOfUnknownLog sct.now keyring.now) }
+    // It has bytes, there is such a key, and it does not accept the signature.
+    ensures forged { ComesWhere SCTError.OutOfMemory result (Err (SCTError.Verification KeyringError.VerificationFailed))
+        (IsSignedByLog (C.point_accepts checker.now) sct.now keyring.now false) }
+    // The same in one equation.
+    ensures exact { Answers SCTError.OutOfMemory (λ done. done) result
+        (judged (C.point_accepts checker.now) sct.now keyring.now) }
+{
+    judge(alloc, sct, keyring, checker)
+}
+
+fn judge<C: SignatureChecker>(
     alloc: Global,
     sct: &DigitallySigned,
     keyring: &Keyring,
@@ -44,23 +80,21 @@ pub fn verify_sct<C: SignatureChecker>(
 ) -> Result<(), SCTError>
     ensures { Answers SCTError.OutOfMemory (λ done. done) result (judged (C.point_accepts checker.now) sct.now keyring.now) }
 {
-    if sct.tbs_certificate.as_slice().len() > TBS_LIMIT {
+    if sct.tbs_certificate.as_slice().len() > TBS_CERTIFICATE_MAX {
         return Err(SCTError::Serialization);
     }
-    if sct.extensions.as_slice().len() > EXTENSIONS_LIMIT {
+    if sct.extensions.as_slice().len() > CT_EXTENSIONS_MAX {
         return Err(SCTError::Serialization);
     }
     let message = signed_bytes(alloc, sct)?;
-    match keyring.verify(&sct.log_id, sct.signature.as_slice(), &message, checker) {
-        Ok(()) => Ok(()),
-        Err(refusal) => Err(SCTError::Verification(refusal)),
-    }
+    keyring.verify(&sct.log_id, sct.signature.as_slice(), &message, checker)?;
+    Ok(())
 }
 
 /// The signed bytes.
 fn signed_bytes(alloc: Global, sct: &DigitallySigned) -> Result<Vec<u8>, OutOfMemory>
-    requires body { length sct.now.tbs_certificate ≤ 16777215 }
-    requires extensions { length sct.now.extensions ≤ 65535 }
+    requires body { IsLong sct.now.tbs_certificate }
+    requires extensions { IsShort sct.now.extensions }
     ensures { IfOk result (λ v. v.items ≡ signed_bytes sct.now) }
 {
     let mut text = Vec::new(alloc);
@@ -73,24 +107,24 @@ fn signed_bytes(alloc: Global, sct: &DigitallySigned) -> Result<Vec<u8>, OutOfMe
 
 /// Version v1, the signature type certificate_timestamp, and the time.
 fn push_time(text: &mut Vec<u8>, timestamp: u64) -> Result<(), AllocError>
-    ensures { OnOk result (text.new.items ≡ text.old.items ++ (0 ∷ 0 ∷ eight_bytes timestamp)) }
+    ensures { OnOk result (text.new.items ≡ text.old.items ++ (v1 ∷ certificate_timestamp ∷ eight_bytes timestamp)) }
 {
-    text.extend_from_slice(&[0, 0])?;
+    text.extend_from_slice(&[SCT_V1, CERTIFICATE_TIMESTAMP])?;
     text.extend_from_slice(&timestamp.to_be_bytes())
 }
 
 /// The entry type precert_entry, and the SHA-256 of the issuer's key info.
 fn push_issuer(text: &mut Vec<u8>, issuer_key_hash: &[u8; 32]) -> Result<(), AllocError>
-    ensures { OnOk result (text.new.items ≡ text.old.items ++ (0 ∷ 1 ∷ issuer_key_hash.now)) }
+    ensures { OnOk result (text.new.items ≡ text.old.items ++ (two_bytes precert_entry ++ issuer_key_hash.now)) }
 {
-    text.extend_from_slice(&[0, 1])?;
+    text.extend_from_slice(&PRECERT_ENTRY.to_be_bytes())?;
     text.extend_from_slice(issuer_key_hash)
 }
 
 /// The body after its length in three bytes.
 fn push_body(text: &mut Vec<u8>, body: &[u8]) -> Result<(), AllocError>
-    requires { length body.now ≤ 16777215 }
-    ensures { OnOk result (text.new.items ≡ text.old.items ++ (three_bytes (length body.now) ++ body.now)) }
+    requires { IsLong body.now }
+    ensures { OnOk result (text.new.items ≡ text.old.items ++ long_vector body.now) }
 {
     let len = body.len();
     text.extend_from_slice(&[
@@ -103,8 +137,8 @@ fn push_body(text: &mut Vec<u8>, body: &[u8]) -> Result<(), AllocError>
 
 /// The extensions after their length in two bytes.
 fn push_extensions(text: &mut Vec<u8>, extensions: &[u8]) -> Result<(), AllocError>
-    requires { length extensions.now ≤ 65535 }
-    ensures { OnOk result (text.new.items ≡ text.old.items ++ (two_bytes (length extensions.now) ++ extensions.now)) }
+    requires { IsShort extensions.now }
+    ensures { OnOk result (text.new.items ≡ text.old.items ++ vector extensions.now) }
 {
     let len = extensions.len();
     text.extend_from_slice(&[(len / 256) as u8, (len % 256) as u8])?;

@@ -1,7 +1,7 @@
 use Rattle.std.proofs.Common.{◌≡◌, false, take}
-use Rattle.sig_policy.specs.Requests.{any_holds}
+use Rattle.std.specs.List.{list_any}
 use Rattle.sig_policy.proofs.request.verify_any.Given as goal
 
 -- no policy so far holds
 abbrev pub invariant-loop-policy : goal.invariant-loop-policy
-invariant-loop-policy l = any_holds (take l.policy-index l.policies) l.cert ≡ false
+invariant-loop-policy g l = list_any (λ p. g.P.VerificationPolicy.holds p l.cert) (take l.policy-index l.policies) ≡ false

@@ -1,0 +1,18 @@
+-- A result comes only where its rule holds, by what the definition says of it.
+use Rattle.std.proofs.Common.{◌≡◌, ◌≢◌, ◌⊎◌, Result, Ok, Err, sym, ap, ◌∙◌, inl, inr}
+use Rattle.sig_base.specs.Answers.{Answers}
+use Rattle.sig_certificate.specs.Answers.{ComesWhere}
+
+abbrev err : (X : Type 0) {E : Type 0} → E → Result X E
+err X e = Err e
+
+pub comes_where : {X E : Type 0} (memory : E) (r m answer : Result X E) (P : Type 0) → Answers memory (λ (x : X). x) r m
+    → answer ≢ Err memory → (m ≡ answer → P) → (P → m ≡ answer) → ComesWhere memory r answer P
+comes_where memory (Ok x) m answer P is other to from = ((λ e. to (is ∙ e)), (λ p. inl (sym is ∙ from p)))
+comes_where {X = X} memory (Err e) m answer P is other to from = by_cause is
+  where
+    by_cause : (e ≡ memory) ⊎ (m ≡ Err e) → ComesWhere memory (Err e) answer P
+    by_cause (inl out) =
+        let ran = ap (err X) out in
+        ((λ same. absurd (other (sym same ∙ ran))), (λ p. inr ran))
+    by_cause (inr meant) = ((λ same. to (meant ∙ same)), (λ p. inl (sym meant ∙ from p)))
