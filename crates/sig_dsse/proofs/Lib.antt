@@ -5,3 +5,5 @@ pub mod Equality
 pub mod NamedDigests
 pub mod DigestsAlone
 pub mod Payloads
+pub mod FaultCauses
+pub mod PayloadCauses

@@ -5,6 +5,7 @@ pub mod Statement
 pub mod Seen
 pub mod Recognized
 pub mod Named
+pub mod Faults
 pub mod Payload
 pub mod DigestsAlone
 pub mod CosignStatement

@@ -1,6 +1,7 @@
 //! What the definitions mean.
 ghost use Rattle.std.specs.Prelude.{◌≡◌, ◌↔◌, IsTrue};
 ghost use Rattle.sig_dsse.specs.Digest.{algorithm_of, bytes_of};
+ghost use Rattle.sig_dsse.specs.Faults.{DigitsAreOfTheHash, FaultsHaveTheirCause, PayloadFaultsHaveTheirCause, CosignFaultsHaveTheirCause};
 ghost use Rattle.sig_dsse.specs.Pae.{PaeIsInjective};
 ghost use Rattle.sig_dsse.specs.Named.{TakesTheNamed, FindsNone};
 
@@ -38,4 +39,14 @@ pub fn equal_signatures(one: &DsseSignature, other: &DsseSignature) -> bool
 pub fn taken_digests()
     ensures taken { TakesTheNamed }
     ensures none { FindsNone }
+{}
+
+/// Each fault comes if and only if it has its cause in the words of the subjects: the rules before it hold, and this one does not. So do the
+/// faults of a statement's digests, of a payload, and of a statement as `cosign` asks for it. The digits that a digest must have are those of
+/// its hash. It has no code.
+pub fn causes_of_faults()
+    ensures digits { DigitsAreOfTheHash }
+    ensures subjects { FaultsHaveTheirCause }
+    ensures payloads { PayloadFaultsHaveTheirCause }
+    ensures cosign { CosignFaultsHaveTheirCause }
 {}
