@@ -1,0 +1,138 @@
+"""Programs that are measured: that they are there and up to date, how long they take over a file, and how much memory."""
+import ctypes
+import os
+import pathlib
+import shutil
+import subprocess
+import sys
+import tempfile
+import time
+
+TOP = pathlib.Path(__file__).resolve().parent.parent
+SMALL = 2**20  # the time over a file of fewer bytes is the best of ten times as many runs
+
+
+class Bench:
+    """A run of this program: the folder of its inputs, how often each command runs, and the goals that were missed."""
+
+    def __init__(self, runs, most):
+        self.runs = runs
+        self.most = most  # how many bytes the largest input has
+        self.missed = []
+        self._folder = tempfile.TemporaryDirectory()
+        self._paths = 0
+
+    def kept(self, text):
+        """A file of this text."""
+        self._paths += 1
+        path = pathlib.Path(self._folder.name) / str(self._paths)
+        path.write_bytes(text)
+        return path
+
+    def goal(self, what, value, most):
+        """Notes that a value is above the most that it is to be."""
+        if value > most:
+            self.missed.append(f"{what}: {value:.2f}, and not {most}")
+
+    def seconds(self, path, *commands, status=0):
+        """The best wall-clock time of each command over a file, in turns; each has to end with this status."""
+        best = [float("inf")] * len(commands)
+        for _ in range(self.runs if path.stat().st_size > SMALL else self.runs * 10):
+            for place, words in enumerate(commands):
+                with open(path, "rb") as given:
+                    begun = time.perf_counter()
+                    ran = subprocess.run(words, stdin=given, stdout=subprocess.DEVNULL)
+                    best[place] = min(best[place], time.perf_counter() - begun)
+                expect(words, path, ran.returncode, status)
+        return best
+
+
+def fail(said):
+    sys.exit(f"bench/run: {said}")
+
+
+def expect(words, path, found, wanted):
+    """Ends this program where a command over a file had another status, or wrote another line, than it has to."""
+    if found != wanted:
+        kept = shutil.copy(path, tempfile.gettempdir() + "/bench-input")
+        fail(f"{' '.join(map(str, words))} over {kept}: {found}, and not {wanted}")
+
+
+def written(words, path, status=0):
+    """What a command writes over a file, without the newline."""
+    with open(path, "rb") as given:
+        ran = subprocess.run(words, stdin=given, stdout=subprocess.PIPE)
+    expect(words, path, ran.returncode, status)
+    return ran.stdout.decode().strip()
+
+
+# The shell makes a process that waits for the end of the shell's input, and then becomes the command over the file. The shell ends
+# at once, and this program, as their nearest reaper, is handed the process and at its end what it used.
+LATER = 'exec 3<&0; (read -r _ <&3; exec "$@" <"$0" >/dev/null 3<&-) & echo $!'
+PR_SET_CHILD_SUBREAPER = 36
+
+
+def megabytes(words, path, status=0):
+    """The peak memory of a command over a file. A process's peak counts what it was before it became the command: here a copy of
+    `sh`, which is smaller than any command (of `true` one megabyte is told)."""
+    ctypes.CDLL(None).prctl(PR_SET_CHILD_SUBREAPER, 1, 0, 0, 0)
+    shell = subprocess.Popen(["sh", "-c", LATER, path, *words], stdin=subprocess.PIPE, stdout=subprocess.PIPE)
+    process = int(shell.stdout.readline())
+    # The shell's own end is waited for with its input open, so that the command does not begin before.
+    os.waitpid(shell.pid, 0)
+    shell.returncode = 0
+    shell.stdin.close()
+    shell.stdout.close()
+    _, ended, used = os.wait4(process, 0)
+    expect(words, path, os.waitstatus_to_exitcode(ended), status)
+    return used.ru_maxrss / 1024
+
+
+def below(crate):
+    """The crates of this repository that a crate is built of, itself included."""
+    lines = [line.split(":") for line in (TOP / "crates.txt").read_text().splitlines() if ":" in line and line[0] != "#"]
+    on = {name: words.split() for name, words in lines}
+    found = [crate]
+    for name in found:
+        found += [other for other in on[name] if other in on and other not in found]
+    return found
+
+
+def sources(crate):
+    """What a crate is built of: files, and folders, which are newer where a file of them is gone."""
+    yield TOP / "crates.txt"
+    for folder in (TOP / "crates" / name / part for name in below(crate) for part in ("src", "specs")):
+        if folder.is_dir():
+            yield folder
+            yield from folder.rglob("*")
+
+
+def built(crate, named=None):
+    """The program of a crate, or the one that was named in its place. Ends this program where it is not there, or where a source is newer than
+    it, or than the stamp that ./sigverify made before the build; of a named one, which may be another tree's, the latter is only said."""
+    program = named or TOP / "crates" / crate / "out" / crate
+    if not program.is_file():
+        fail(f"{program} is not there: .ci/run builds it")
+    stamp = program.parent / "sources.stamp"
+    since = min(path.stat().st_mtime_ns for path in (program, stamp) if path.exists())
+    newer = next((path for path in sources(crate) if path.stat().st_mtime_ns > since), None)
+    if newer:
+        said = f"{program} is older than {newer.relative_to(TOP)}"
+        if not named:
+            fail(f"{said}: .ci/run builds it anew")
+        print(f"bench/run: {said}", file=sys.stderr)
+    return program
+
+
+def peer(folder, name, packages):
+    """The program of bench/peers/FOLDER, built by cargo of Debian's packages; None, which is said, where it cannot be built."""
+    if not shutil.which("cargo"):
+        said = "cargo is not there"
+    else:
+        words = ["cargo", "build", "--release", "--quiet"]
+        ran = subprocess.run(words, cwd=TOP / "bench/peers" / folder, stderr=subprocess.PIPE, text=True)
+        if ran.returncode == 0:
+            return TOP / "bench/peers/out/release" / name
+        said = ran.stderr.strip().splitlines()[0] if ran.stderr.strip() else f"cargo ends with status {ran.returncode}"
+    print(f"bench/run: without {name}: {said} (Debian: cargo {packages})", file=sys.stderr)
+    return None

@@ -1,0 +1,246 @@
+"""Inputs of the worst kinds: each a function from a count to the bytes."""
+import base64
+import json
+import pathlib
+import random
+
+EXAMPLE = json.loads((pathlib.Path(__file__).resolve().parent.parent / "examples/log.json").read_text())
+NOTE = EXAMPLE["checkpoint"].split("\n\n")[0] + "\n"  # what is signed
+DEEPEST = 127  # how deep a document may nest
+
+
+def filled(make, most):
+    """A text of nearly so many bytes, and of no more: the count by the sizes of two small ones, and then less until it fits."""
+    few, more = len(make(50)), len(make(100))
+    count = 50 + max(0, most - few) * 50 // (more - few)
+    while len(text := make(count)) > most and count > 1:
+        count = min(count - 1, count * most // len(text))
+    return text
+
+
+def coded(data):
+    return base64.b64encode(data).decode()
+
+
+def numbered(prefix, count):
+    """So many byte strings that share a prefix, in an order that is none, each once."""
+    places = list(range(count))
+    random.Random(count).shuffle(places)
+    return (prefix + place.to_bytes(4, "big") for place in places)
+
+
+# Requests of `log`
+
+
+def request(**changed):
+    """The request of the first example with members changed."""
+    return json.dumps({**EXAMPLE, **changed}, separators=(",", ":"), ensure_ascii=False).encode()
+
+
+def row(message=NOTE.encode(), signature=b"sig", key=EXAMPLE["key"]):
+    """An accepted signature; without arguments the example's."""
+    return {**EXAMPLE["accepted"][0], "key": key, "message": coded(message), "signature": coded(signature)}
+
+
+def signature_line(signature, name="log.example"):
+    return f"\u2014 {name} {coded(bytes(4) + signature)}\n"
+
+
+def one_entry(count):
+    return request(entry=coded(bytes(3 * count)))
+
+
+def escaped_entry(count):
+    return request(entry="?").replace(b'"?"', b'"' + rb"\u0041" * (4 * count) + b'"')
+
+
+def hashes(count):
+    return request(hashes=["a5" * 32] * count)
+
+
+def equal_rows(count):
+    return request(accepted=[row()] * count)
+
+
+def rows_by_signature(count):
+    """Rows that differ in the last bytes of the signature, and as the last the one that is asked for."""
+    return request(accepted=[row(signature=signature) for signature in numbered(b"s" * 66, count)] + [row()])
+
+
+def rows_by_key(count):
+    """Rows whose keys share a thousand bytes with the log's key."""
+    key = coded(b"k" * 1000)
+    return request(key=key, accepted=[row(key=coded(other)) for other in numbered(b"k" * 1000, count)] + [row(key=key)])
+
+
+def rows_by_message(count):
+    """Rows whose messages share a thousand bytes with the note."""
+    note = NOTE + "c" * 1000 + "\n"
+    rows = [row(message=message) for message in numbered(note.encode()[:-1], count)] + [row(message=note.encode())]
+    return request(checkpoint=note + "\n" + signature_line(b"sig"), accepted=rows)
+
+
+def signatures_and_rows(count):
+    """As many signatures of a note as rows, of which the last alone agree."""
+    lines = [signature_line(signature) for signature in numbered(b"s" * 66, count)] + [signature_line(b"sig")]
+    rows = [row(signature=signature) for signature in numbered(b"t" * 66, count)] + [row()]
+    return request(checkpoint=NOTE + "\n" + "\n".join(lines), accepted=rows)
+
+
+def signatures_of_a_long_note(count):
+    """The shortest signatures, over a note of five bytes for each, and two rows over that note, of which one is the last signature's."""
+    note = NOTE + "c" * (5 * count) + "\n"
+    lines = [signature_line(b"", name="")] * count + [signature_line(b"sig")]
+    rows = [row(note.encode(), signature) for signature in (b"sig", b"another")]
+    return request(checkpoint=note + "\n" + "\n".join(lines), accepted=rows)
+
+
+def signatures(count):
+    """Signatures of which none is accepted."""
+    return request(checkpoint=NOTE + "\n" + "\n".join([signature_line(b"s" * 70)] * count))
+
+
+def contents(line):
+    """Notes of so many lines behind the hash; their signature is over another note."""
+    return lambda count: request(checkpoint=NOTE + line * count + "\n" + signature_line(b"sig"))
+
+
+def ignored(items):
+    """A request with a member that is ignored, the list of these items."""
+    return lambda count: request()[:-1] + b',"ignored":' + items(count) + b"}"
+
+
+def ignored_members(prefix):
+    """Requests with so many members that are ignored, whose names share a prefix."""
+    return lambda count: request()[:-1] + b"," + members(prefix)(count)[1:]
+
+
+# Documents
+
+
+def repeated(item):
+    """The list of so many equal items."""
+    return lambda count: ("[" + ",".join([item] * count) + "]").encode()
+
+
+def members(prefix):
+    """The object of so many members whose names share a prefix, in an order that is none."""
+    def make(count):
+        names = (prefix + str(int.from_bytes(place, "big")) for place in numbered(b"", count))
+        return ("{" + ",".join(f'"{name}":1' for name in names) + "}").encode()
+    return make
+
+
+def name_of(place):
+    """A name that begins past U+FFFF for an odd place, and from U+E000 to U+FEFF for an even one: by bytes the odd ones come last, by UTF-16 units first."""
+    first = 0x10000 + place // 2 if place % 2 else 0xE000 + place // 2 % 0x1F00
+    return chr(first) + str(place)
+
+
+def two_orders(count):
+    """An object of members whose names have another order by bytes than by UTF-16 units, which canonical JSON wants."""
+    return ("{" + ",".join(f'"{name_of(place)}":1' for place in range(count)) + "}").encode()
+
+
+def one_text(depth=0, unit=b"a"):
+    """One text of so many units, as the only member of objects so deep."""
+    return lambda count: b'{"a":' * depth + b'"' + unit * count + b'"' + b"}" * depth
+
+
+def nested(begin, inner, end, depth):
+    return begin * (depth - 1) + inner + end * (depth - 1)
+
+
+def worst(above):
+    """Items that take most memory for a byte, in a list that stands in so many others: names, and the item of each."""
+    deepest = DEEPEST - above - 1
+    return (
+        (f"objects nested to {deepest}", nested('{"a":', "{}", "}", deepest)),
+        ("objects nested to 5", nested('{"a":', '{"a":1}', "}", 5)),
+        ('{"":1}', '{"":1}'),
+        ('{"a":1}', '{"a":1}'),
+        (f"lists nested to {deepest}", nested("[", "[]", "]", deepest)),
+    )
+
+
+# Bundles and statements
+
+
+def bundle(member, items):
+    """Bundles with a list in a member of their verification material."""
+    return lambda count: b'{"verificationMaterial":{' + member.encode() + b":" + items(count) + b"}}"
+
+
+def bundle_of_hashes(count):
+    return bundle('"tlogEntries"', lambda count: b'[{"inclusionProof":{"hashes":' + repeated('"AA=="')(count) + b"}}]")(count)
+
+
+def bundle_of_certificates(count):
+    return bundle('"x509CertificateChain"', lambda count: b'{"certificates":' + repeated("{}")(count) + b"}")(count)
+
+
+def bundle_of_signatures(count):
+    return b'{"dsseEnvelope":{"signatures":' + repeated("{}")(count) + b"}}"
+
+
+def bundle_of_payload(count):
+    return b'{"dsseEnvelope":{"payload":"' + b"AAAA" * count + b'"}}'
+
+
+DIGESTS = '{"sha256":"' + "a5" * 32 + '"}'
+
+
+def statement(annotations="null", predicate="null", subjects=""):
+    """A statement of a subject with one digest that can be compared with an artifact's, and of the subjects that are given."""
+    first = f'{{"digest":{DIGESTS},"annotations":{annotations}}}'
+    return f'{{"_type":"","predicateType":"","subject":[{first}{subjects}],"predicate":{predicate}}}'.encode()
+
+
+def statement_of(member, items):
+    return lambda count: statement(**{member: items(count).decode()})
+
+
+def many_subjects():
+    """A statement of 1,024 subjects of 32 digests each, but the first of one; of the 32 two can be compared with an artifact's."""
+    others = "".join(f',"other{place}":"' + "a5" * 32 + '"' for place in range(30))
+    digests = '{"sha256":"' + "a5" * 32 + '","sha512":"' + "a5" * 64 + '"' + others + "}"
+    return statement(subjects=(',{"digest":' + digests + "}") * 1023)
+
+
+# Certificates
+
+
+def element(tag, content):
+    """A DER element."""
+    size = len(content)
+    if size < 128:
+        return bytes([tag, size]) + content
+    length = size.to_bytes((size.bit_length() + 7) // 8, "big")
+    return bytes([tag, 128 + len(length)]) + length + content
+
+
+def arc(number):
+    """The bytes of an object identifier's number from 2^14 to 2^21 - 1 (X.690 section 8.19)."""
+    return bytes([128 | number >> 14, 128 | number >> 7 & 127, number & 127])
+
+
+def in_order(count):
+    return range(count)
+
+
+def shuffled(count):
+    return random.Random(count).sample(range(count), count)
+
+
+def certificate(count, order, prefix=b""):
+    """A certificate of so many extensions, whose object identifiers share a prefix and come in an order."""
+    algorithm = element(0x30, bytes.fromhex("06082a8648ce3d040302"))
+    curve = element(0x30, bytes.fromhex("06072a8648ce3d020106082a8648ce3d030107"))
+    key = element(0x30, curve + element(0x03, b"\0\4" + b"k" * 64))
+    name = element(0x30, b"")
+    validity = element(0x30, element(0x17, b"231213055055Z") + element(0x17, b"231213060055Z"))
+    value = element(0x04, b"v" * 40)
+    identifiers = (element(0x06, b"\x2b\x06\x01" + prefix + arc(2**14 + place)) for place in order(count))
+    extensions = element(0xA3, element(0x30, b"".join(element(0x30, identifier + value) for identifier in identifiers)))
+    head = bytes.fromhex("a003020102020101") + algorithm + name + validity + name + key
+    return element(0x30, element(0x30, head + extensions) + algorithm + element(0x03, b"\0signature"))
