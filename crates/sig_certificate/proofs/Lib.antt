@@ -6,6 +6,7 @@ pub mod CertificateLaws
 pub mod Readings
 pub mod HeldLaws
 pub mod WalkLaws
+mod FrontNames
 pub mod PemLaws
 pub mod Spans
 pub mod NameLaws

@@ -6,6 +6,7 @@ pub mod Held
 pub mod Lookups
 pub mod Values
 pub mod Names
+pub mod BorrowedNames
 pub mod NamePlaces
 pub mod Profile
 pub mod Trust

@@ -9,6 +9,8 @@
 mod certificate;
 mod error;
 mod extensions;
+mod general_name;
+mod general_names;
 mod listed;
 mod lookup;
 pub mod name_laws;
@@ -26,6 +28,8 @@ mod walks;
 
 pub use certificate::Certificate;
 pub use error::X509ReadError;
+pub use general_name::GeneralName;
+pub use general_names::{AlternativeNames, alternative_names};
 pub use lookup::{ExtensionRef, Lookup};
 pub use names::{NamePlaces, name_at};
 pub use pem::der_to_pem;

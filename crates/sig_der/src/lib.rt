@@ -14,6 +14,7 @@ mod out;
 mod place;
 mod stamp;
 pub mod tag;
+mod taking;
 mod time;
 mod walk;
 mod write;
@@ -26,6 +27,7 @@ pub use key_info::{
 pub use out::DerOut;
 pub use place::{Place, optional_at, place_at, tagged_at, whole_at};
 pub use stamp::rfc3339_second;
+pub use taking::{take_any, take_tag, take_whole};
 pub use time::time_of;
 pub use walk::children;
 pub use write::{DerWriteError, write_element, write_short};
