@@ -14,3 +14,4 @@ pub mod RuleLaws
 pub mod NoteFaults
 pub mod SignatureFaults
 pub mod CheckpointFaults
+pub mod WhiteSpace

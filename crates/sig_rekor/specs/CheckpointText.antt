@@ -11,12 +11,12 @@ use Rattle.sig_rekor.specs.Reading.{each}
 use Rattle.sig_rekor.specs.NoteText.{newline, is_blank, IsNote, note_of, note_text}
 use Rattle.sig_rekor.specs.SignatureText.{IsSignature, signature_of, signature_text}
 
--- `"`
+-- U+0022, `"`
 abbrev pub quotation_mark : ℕ
 quotation_mark = 34
 
 abbrev pub empty_line : List ℕ
-empty_line = 10 ∷ 10 ∷ []
+empty_line = newline ++ newline
 
 -- more than white space
 abbrev pub is_written : List ℕ → Bool

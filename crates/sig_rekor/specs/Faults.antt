@@ -9,8 +9,8 @@ use Rattle.sig_base.specs.declared.fault.CheckpointFault.TheVariants.{Format, No
 use Rattle.sig_rekor.specs.declared.checkpoint.CheckpointSignature.{CheckpointSignature}
 use Rattle.sig_rekor.specs.Cut.{IsTrimmed, IsCut, IsParts, Lacks}
 use Rattle.sig_rekor.specs.Rules.{FailsFirst}
-use Rattle.sig_rekor.specs.NoteText.{newline, is_blank, IsSize}
-use Rattle.sig_rekor.specs.SignatureText.{em_dash, space, IsSignature}
+use Rattle.sig_rekor.specs.NoteText.{line_feed, newline, hash_len, is_blank, IsSize}
+use Rattle.sig_rekor.specs.SignatureText.{em_dash, space, fingerprint_len, IsSignature}
 use Rattle.sig_rekor.specs.CheckpointText.{quotation_mark, empty_line, is_written}
 
 -- the text is at least three lines, and this holds of the first three
@@ -28,7 +28,7 @@ NoteKeeps text NoteFormat = OfLines text (λ origin size hash. ⊤)
 NoteKeeps text EmptyOrigin = OfLines text (λ origin size hash. is_blank origin ≡ false)
 NoteKeeps text Size = OfLines text (λ origin size hash. (n : ℕ) × IsSize size n)
 NoteKeeps text HashBase64 = OfLines text (λ origin size hash. OfBytes hash (λ bytes. ⊤))
-NoteKeeps text HashLength = OfLines text (λ origin size hash. OfBytes hash (λ bytes. length bytes ≡ 32))
+NoteKeeps text HashLength = OfLines text (λ origin size hash. OfBytes hash (λ bytes. length bytes ≡ hash_len))
 NoteKeeps text _ = ⊤
 
 abbrev pub note_rules : List CheckpointFault
@@ -41,14 +41,14 @@ IsNoteFault text fault = FailsFirst (NoteKeeps text) note_rules fault
 -- with newlines trimmed, the text has three parts between single spaces, and this holds of the third
 abbrev pub OfThird : List ℕ → (List ℕ → Type 0) → Type 0
 OfThird text P =
-    (line first name coded : List ℕ) × IsTrimmed 10 text line × IsParts space line (first ∷ name ∷ coded ∷ []) × P coded
+    (line first name coded : List ℕ) × IsTrimmed line_feed text line × IsParts space line (first ∷ name ∷ coded ∷ []) × P coded
 
 -- what a rule asks of a signature: an em dash, three parts, the third in base64, and of at least four bytes
 abbrev pub SignatureKeeps : List ℕ → CheckpointFault → Type 0
-SignatureKeeps text NoDash = (line behind : List ℕ) × IsTrimmed 10 text line × (line ≡ em_dash ++ behind)
+SignatureKeeps text NoDash = (line behind : List ℕ) × IsTrimmed line_feed text line × (line ≡ em_dash ++ behind)
 SignatureKeeps text SignatureFormat = OfThird text (λ coded. ⊤)
 SignatureKeeps text SignatureBase64 = OfThird text (λ coded. OfBytes (trim_end coded) (λ bytes. ⊤))
-SignatureKeeps text SignatureLength = OfThird text (λ coded. OfBytes (trim_end coded) (λ bytes. 4 ≤ length bytes))
+SignatureKeeps text SignatureLength = OfThird text (λ coded. OfBytes (trim_end coded) (λ bytes. fingerprint_len ≤ length bytes))
 SignatureKeeps text _ = ⊤
 
 abbrev pub signature_rules : List CheckpointFault

@@ -15,8 +15,16 @@ use Rattle.sig_rekor.specs.Cut.{IsCut, IsParts, Lacks, cut_at, parts}
 use Rattle.sig_base.specs.Base64.{base64_bytes, base64_text}
 use Rattle.sig_rekor.specs.Reading.{base64_of}
 
+-- U+000A, which ends a line
+abbrev pub line_feed : ℕ
+line_feed = 10
+
 abbrev pub newline : List ℕ
-newline = 10 ∷ []
+newline = line_feed ∷ []
+
+-- the bytes of a root hash, a SHA-256
+abbrev pub hash_len : ℕ
+hash_len = 32
 
 -- `: `, between a key and its value
 abbrev pub colon : List ℕ
@@ -46,7 +54,7 @@ pub record IsNote (text : List ℕ) (note : Checkpoint) : Type 0 where
   pub lines : IsParts newline text (note.origin ∷ size_line ∷ hash_line ∷ others)
   pub origin : is_blank note.origin ≡ false
   pub size : IsSize size_line note.size
-  pub hash : (base64_bytes hash_line ≡ Some note.hash) × (length note.hash ≡ 32)
+  pub hash : (base64_bytes hash_line ≡ Some note.hash) × (length note.hash ≡ hash_len)
   pub contents : AllZip IsContent (filter is_not_empty others) note.other_content
 
 -- the content of a line, from its cut
@@ -70,7 +78,7 @@ size_of line = size_by (without_leading_plus line)
 
 -- the hash that a line stands for
 abbrev pub hash_by : List ℕ → Result (List ℕ) CheckpointFault
-hash_by bytes = if length bytes == 32 then Ok bytes else Err HashLength
+hash_by bytes = if length bytes == hash_len then Ok bytes else Err HashLength
 
 unfoldable pub hash_of : List ℕ → Result (List ℕ) CheckpointFault
 hash_of line = base64_of HashBase64 line >>= hash_by

@@ -7,8 +7,8 @@ use Rattle.sig_rekor.specs.declared.checkpoint.Checkpoint.{Checkpoint}
 use Rattle.sig_rekor.specs.declared.checkpoint.CheckpointSignature.{CheckpointSignature}
 use Rattle.sig_rekor.specs.declared.checkpoint.OtherContent.{OtherContent}
 use Rattle.sig_rekor.specs.Cut.{Lacks}
-use Rattle.sig_rekor.specs.NoteText.{newline, is_blank, content_of, content_text}
-use Rattle.sig_rekor.specs.SignatureText.{space, signed_bytes}
+use Rattle.sig_rekor.specs.NoteText.{newline, hash_len, is_blank, content_of, content_text}
+use Rattle.sig_rekor.specs.SignatureText.{space, fingerprint_len, signed_bytes}
 use Rattle.sig_rekor.specs.CheckpointText.{quotation_mark}
 
 -- one line that is not empty and stands for this content: a value has no `: `, and a key none either
@@ -32,10 +32,10 @@ pub record ReadsBack (checkpoint : SignedCheckpoint) : Type 0 where
 
 -- what the types say of a signature and of a note: numbers below 2^64, arrays of their length, bytes below 256
 pub record IsSignatureValue (signature : CheckpointSignature) : Type 0 where
-  pub fingerprint : length signature.key_fingerprint ≡ 4
+  pub fingerprint : length signature.key_fingerprint ≡ fingerprint_len
   pub bytes : IsBytes (signed_bytes signature)
 
 pub record IsNoteValue (note : Checkpoint) : Type 0 where
   pub size : note.size < 2 ^ 64
-  pub hash : length note.hash ≡ 32
+  pub hash : length note.hash ≡ hash_len
   pub bytes : IsBytes note.hash

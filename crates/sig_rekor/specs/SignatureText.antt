@@ -10,14 +10,18 @@ use Rattle.sig_rekor.specs.declared.checkpoint.CheckpointSignature.{CheckpointSi
 use Rattle.sig_rekor.specs.Cut.{IsTrimmed, IsParts, trimmed, parts}
 use Rattle.sig_base.specs.Base64.{base64_bytes, base64_text}
 use Rattle.sig_rekor.specs.Reading.{base64_of}
-use Rattle.sig_rekor.specs.NoteText.{newline}
+use Rattle.sig_rekor.specs.NoteText.{line_feed, newline}
 
--- U+2014 in UTF-8
+-- U+2014 EM DASH in UTF-8
 abbrev pub em_dash : List ℕ
-em_dash = 226 ∷ 128 ∷ 148 ∷ []
+em_dash = 0xE2 ∷ 0x80 ∷ 0x94 ∷ []
 
 abbrev pub space : List ℕ
 space = 32 ∷ []
+
+-- the bytes of a fingerprint, a key's hash in 32 bits
+abbrev pub fingerprint_len : ℕ
+fingerprint_len = 4
 
 -- the fingerprint's four bytes and the signature's, in one
 abbrev pub signed_bytes : CheckpointSignature → List ℕ
@@ -30,15 +34,15 @@ pub record IsSignature (text : List ℕ) (signature : CheckpointSignature) : Typ
   pub behind_dash : List ℕ
   pub first : List ℕ
   pub coded : List ℕ
-  pub newlines : IsTrimmed 10 text line
+  pub newlines : IsTrimmed line_feed text line
   pub dash : line ≡ em_dash ++ behind_dash
   pub parts : IsParts space line (first ∷ signature.name ∷ coded ∷ [])
   pub bytes : base64_bytes (trim_end coded) ≡ Some (signed_bytes signature)
-  pub fingerprint : length signature.key_fingerprint ≡ 4
+  pub fingerprint : length signature.key_fingerprint ≡ fingerprint_len
 
 -- the line, where it starts with the dash
 unfoldable pub line_of : List ℕ → Result (List ℕ) CheckpointFault
-line_of text = if starts_with nat_eq (trimmed 10 text) em_dash then Ok (trimmed 10 text) else Err NoDash
+line_of text = if starts_with nat_eq (trimmed line_feed text) em_dash then Ok (trimmed line_feed text) else Err NoDash
 
 -- the second and the third of three parts
 abbrev pub name_and_bytes : List (List ℕ) → Result (List ℕ × List ℕ) CheckpointFault
@@ -47,8 +51,8 @@ name_and_bytes _ = Err SignatureFormat
 
 -- the signature of a name and of the decoded bytes, at least four
 abbrev pub signature_by : List ℕ → List ℕ → Result CheckpointSignature CheckpointFault
-signature_by name bytes = if nat_lt (length bytes) 4 then Err SignatureLength
-    else Ok (record { key_fingerprint = take 4 bytes; raw = drop 4 bytes; name = name })
+signature_by name bytes = if nat_lt (length bytes) fingerprint_len then Err SignatureLength
+    else Ok (record { key_fingerprint = take fingerprint_len bytes; raw = drop fingerprint_len bytes; name = name })
 
 -- the signature that a text stands for, or the first rule that is broken
 unfoldable pub signature_of : List ℕ → Result CheckpointSignature CheckpointFault

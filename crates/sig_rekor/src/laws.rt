@@ -1,14 +1,30 @@
-//! What equality is, and where each refusal comes.
+//! What the format's constants are, where each refusal comes, and what equality is.
 ghost use Rattle.std.specs.Prelude.{◌≡◌, ◌↔◌, IsTrue, List, ℕ, Err};
+ghost use Rattle.std.specs.Char.{is_whitespace};
+ghost use Rattle.std.specs.List.{list_all};
+ghost use Rattle.std.specs.Str.{IsUtf8, chars};
 ghost use Rattle.sig_base.specs.declared.fault.CheckpointFault.{CheckpointFault};
+ghost use Rattle.sig_rekor.specs.Characters.{is_white_space, MarksAreUnicode, LengthsAreStandard};
 ghost use Rattle.sig_rekor.specs.CheckpointText.{checkpoint_of};
 ghost use Rattle.sig_rekor.specs.Faults.{IsCheckpointFault, IsNoteFault, IsSignatureFault};
-ghost use Rattle.sig_rekor.specs.NoteText.{note_of};
+ghost use Rattle.sig_rekor.specs.NoteText.{is_blank, note_of};
 ghost use Rattle.sig_rekor.specs.SignatureText.{signature_of};
 
 use crate::checkpoint::{Checkpoint, CheckpointSignature, OtherContent, SignedCheckpoint};
 use crate::fault::ParseCheckpointError;
 use crate::inclusion_proof::InclusionProof;
+
+/// The characters that the format names are those of Unicode's code points, and its fixed lengths those of the standards. It has no code.
+pub fn constants()
+    ensures marks { MarksAreUnicode }
+    ensures lengths { LengthsAreStandard }
+{}
+
+/// White space, which is dropped at the end of a signature's base64 and is no origin alone, is Unicode's. It has no code.
+pub fn white_space()
+    ensures points { (c : ℕ) → IsTrue (is_whitespace c) ↔ IsTrue (is_white_space c) }
+    ensures blank { (text : List ℕ) → IsUtf8 text → IsTrue (is_blank text) ↔ IsTrue (list_all is_white_space (chars text)) }
+{}
 
 /// Whether two signed checkpoints are equal: if and only if their notes and their lists of signatures are.
 pub fn equal_checkpoints(one: &SignedCheckpoint, other: &SignedCheckpoint) -> bool
