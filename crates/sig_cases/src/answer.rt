@@ -39,14 +39,16 @@ impl Answer {
 
     /// Adds a value as it prints.
     pub fn value<T: Display>(self, value: &T) -> Result<Answer, CaseError> {
-        let text = format!(in self.alloc; "{} {value}", self.text)?;
-        Ok(Answer { text, ..self })
+        let mut answer = self;
+        let written = format!(in answer.alloc; " {value}")?;
+        answer.text.push_str(written.as_str())?;
+        Ok(answer)
     }
 
     /// Adds a value by its Debug text: of a `str` or a `String` in quotation marks and with escapes.
     pub fn debug<T: Debug>(self, value: &T) -> Result<Answer, CaseError> {
-        let text = format!(in self.alloc; "{} {value:?}", self.text)?;
-        Ok(Answer { text, ..self })
+        let written = format!(in self.alloc; "{value:?}")?;
+        self.value(&written)
     }
 
     /// Adds bytes in lower-case hexadecimal; `-` for no bytes.

@@ -10,9 +10,9 @@
 //! ```
 //!
 //! [`Answer`] writes a result: `ok` and its values, each after one space, or the Debug text of an error. [`Arguments`] reads the arguments:
-//! bytes in hexadecimal or in base64, a list of bytes, an integer, a text in percent-encoding, or the rest of the line. `-` stands for
-//! no bytes, for the empty text and for the empty list. A line that the program cannot read gives `bad line`; no stored output has one. Out of memory and a fault of a stream end
-//! the program with a status that is not 0.
+//! bytes in hexadecimal or in base64, a list of bytes, an integer, a text in percent-encoding, a checker of signatures, or the rest of the
+//! line. `-` stands for no bytes, for the empty text and for the empty list. A line that the program cannot read gives `bad line`; no
+//! stored output has one. Out of memory and a fault of a stream end the program with a status that is not 0.
 //!
 //! ```text
 //! struct HashCases;
@@ -36,6 +36,7 @@ mod answer;
 mod arguments;
 mod error;
 mod program;
+mod values;
 
 pub use answer::Answer;
 pub use arguments::Arguments;

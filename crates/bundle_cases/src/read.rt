@@ -1,0 +1,28 @@
+//! Bundles as texts.
+
+use sig_bundle::{Bundle, TransparencyLogEntry, bundle_text, read_bundle};
+use sig_cases::{Answer, CaseError};
+use sig_json::JsonError;
+use std::alloc::Global;
+
+/// The bundle that the text is. `BadLine` where it is none.
+pub(crate) fn bundle(alloc: Global, text: &str) -> Result<Bundle, CaseError> {
+    match read_bundle(alloc, text.as_bytes()) {
+        Ok(bundle) => Ok(bundle),
+        Err(JsonError::OutOfMemory) => Err(CaseError::OutOfMemory),
+        Err(_) => Err(CaseError::BadLine),
+    }
+}
+
+/// `read_bundle TEXT`: the text that is written for the bundle.
+pub(crate) fn written(alloc: Global, text: &str) -> Result<Answer, CaseError> {
+    match read_bundle(alloc, text.as_bytes()) {
+        Ok(bundle) => Answer::ok(alloc)?.value(&bundle_text(alloc, &bundle)?.as_str()),
+        Err(refusal) => Answer::error(alloc, &refusal),
+    }
+}
+
+/// The first log entry of a bundle.
+pub(crate) fn entry(bundle: &Bundle) -> Option<&TransparencyLogEntry> {
+    bundle.verification_material.as_ref()?.tlog_entries.get(0)
+}

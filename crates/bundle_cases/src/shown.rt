@@ -1,0 +1,41 @@
+//! Errors that no text of this version's bundles meets, and errors inside errors: each shows the name of its variant.
+
+use sig_base::Text;
+use sig_bundle::{
+    Bundle01ProfileErrorKind, Bundle02ProfileErrorKind, BundleErrorKind, BundleProfileErrorKind,
+};
+use sig_cases::{Answer, CaseError};
+use std::alloc::Global;
+
+/// `shown NAME`: the error of this name.
+pub(crate) fn answer(alloc: Global, name: &str) -> Result<Answer, CaseError> {
+    match name {
+        "CertificatesMissing" => Answer::error(alloc, &BundleErrorKind::CertificatesMissing),
+        "RootInChain" => Answer::error(alloc, &BundleErrorKind::RootInChain),
+        "InclusionPromiseMissing" => {
+            Answer::error(alloc, &Bundle01ProfileErrorKind::InclusionPromiseMissing)
+        }
+        "InclusionProofMissing" => {
+            Answer::error(alloc, &Bundle02ProfileErrorKind::InclusionProofMissing)
+        }
+        "CheckpointMissing" => Answer::error(alloc, &Bundle02ProfileErrorKind::CheckpointMissing),
+        _ => profile(alloc, name),
+    }
+}
+
+/// The same of a bundle's profile.
+fn profile(alloc: Global, name: &str) -> Result<Answer, CaseError> {
+    let error = match name {
+        "Bundle01Profile" => {
+            let missing = Bundle01ProfileErrorKind::InclusionPromiseMissing;
+            BundleProfileErrorKind::Bundle01Profile(missing)
+        }
+        "Bundle02Profile" => {
+            let missing = Bundle02ProfileErrorKind::CheckpointMissing;
+            BundleProfileErrorKind::Bundle02Profile(missing)
+        }
+        "Unknown" => BundleProfileErrorKind::Unknown(Text::copy_of(alloc, "text/plain")?),
+        _ => return Err(CaseError::BadLine),
+    };
+    Answer::error(alloc, &error)
+}

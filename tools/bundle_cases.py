@@ -1,0 +1,393 @@
+#!/usr/bin/env python3
+"""Writes the tables of crates/bundle_cases: `stdin`, the calls, and `stdout`, what they return.
+
+    tools/bundle_cases.py
+
+Bundles are read and written here a second time, by the table of the format alone; the rows of bundle_cases.txt state the refusals and,
+for some, the text that is written. The checked bundles are that of fixture.py with the faults that a row names put into it.
+"""
+import base64
+import binascii
+import copy
+import json
+import os
+import re
+
+import fixture
+from fixture import base64_of, compact
+
+HERE = os.path.dirname(os.path.abspath(__file__))
+CRATE = os.path.join(HERE, "..", "crates", "bundle_cases")
+
+
+# A bundle read by the table of the format: an absent member and null mean an empty text, no bytes, 0, no elements, or nothing.
+
+class Refused(Exception):
+    pass
+
+
+def ask(holds):
+    if not holds:
+        raise Refused("Member")
+
+
+def text(value):
+    ask(value is None or isinstance(value, str))
+    return value or ""
+
+
+def octets(value):
+    try:
+        decoded = base64.b64decode(text(value).encode(), validate=True)
+    except (binascii.Error, UnicodeError):
+        raise Refused("Member")
+    ask(base64_of(decoded) == text(value))
+    return text(value)
+
+
+def integer(value):
+    """A whole number of 64 bits with a sign, or a text of one; written as a text."""
+    value = 0 if value is None else value
+    if isinstance(value, str):
+        ask(re.fullmatch(r"-?[0-9]+", value))
+        value = int(value)
+    ask(isinstance(value, int) and not isinstance(value, bool) and -2 ** 63 <= value < 2 ** 63)
+    return str(value)
+
+
+def element(value, members):
+    """An object with these readers of its members."""
+    ask(isinstance(value, dict))
+    read = {name: reader(value.get(name)) for name, reader in members.items()}
+    return {name: each for name, each in read.items() if each is not None}
+
+
+def optional(members):
+    return lambda value: None if value is None else element(value, members)
+
+
+def elements(reader):
+    def read(value):
+        ask(value is None or isinstance(value, list))
+        ask(all(each is not None for each in value or []))
+        return [reader(each) for each in value or []]
+    return read
+
+
+def objects(members):
+    return elements(lambda value: element(value, members))
+
+
+CERTIFICATE = {"rawBytes": octets}
+PROOF = {"logIndex": integer, "treeSize": integer, "rootHash": octets, "hashes": elements(octets),
+         "checkpoint": optional({"envelope": text})}
+ENTRY = {"logIndex": integer, "integratedTime": integer, "logId": optional({"keyId": octets}),
+         "kindVersion": optional({"kind": text, "version": text}),
+         "inclusionPromise": optional({"signedEntryTimestamp": octets}), "inclusionProof": optional(PROOF),
+         "canonicalizedBody": octets}
+MATERIAL = {"certificate": optional(CERTIFICATE), "x509CertificateChain": optional({"certificates": objects(CERTIFICATE)}),
+            "publicKey": optional({}), "tlogEntries": objects(ENTRY)}
+SIGNATURE = {"signature": octets, "messageDigest": optional({"digest": octets})}
+ENVELOPE = {"payload": octets, "payloadType": text, "signatures": objects({"sig": octets, "keyid": text})}
+BUNDLE = {"mediaType": text, "verificationMaterial": optional(MATERIAL), "messageSignature": optional(SIGNATURE),
+          "dsseEnvelope": optional(ENVELOPE)}
+
+
+class Float:
+    pass
+
+
+def has_float(tree):
+    if isinstance(tree, dict):
+        tree = list(tree.values())
+    return isinstance(tree, Float) or isinstance(tree, list) and any(map(has_float, tree))
+
+
+def read_bundle(content):
+    """The text that is written for a bundle, or the name of the refusal."""
+    try:
+        tree = json.loads(content, parse_float=lambda _: Float())
+    except ValueError:
+        return "NotJson"
+    if has_float(tree):
+        return "Float"
+    try:
+        bundle = element(tree, BUNDLE)
+        ask("messageSignature" not in bundle or "dsseEnvelope" not in bundle)
+        material = bundle.get("verificationMaterial", {})
+        ask(len({"certificate", "x509CertificateChain", "publicKey"} & set(material)) < 2)
+    except Refused as refusal:
+        return str(refusal)
+    return "ok " + compact(bundle, canonical=True)
+
+
+# Lines.
+
+LINES_IN, LINES_OUT = [], []
+
+
+def comment(line):
+    LINES_IN.append(line)
+    LINES_OUT.append(line)
+
+
+def group(title):
+    if LINES_IN:
+        comment("")
+    comment("# " + title)
+
+
+def case(call, expected):
+    LINES_IN.append(call)
+    LINES_OUT.append(expected)
+
+
+def named_case(cause, call, expected):
+    comment("# " + cause)
+    case(call, expected)
+
+
+# Bundles that differ in one part.
+
+WHOLE = compact({
+    "dsseEnvelope": {"payload": "cA==", "payloadType": "t", "signatures": [{"keyid": "k", "sig": "cw=="}]},
+    "mediaType": "m",
+    "verificationMaterial": {
+        "tlogEntries": [{
+            "canonicalizedBody": "Yg==", "inclusionPromise": {"signedEntryTimestamp": "dA=="},
+            "inclusionProof": {"checkpoint": {"envelope": "c"}, "hashes": ["aA=="], "logIndex": "1", "rootHash": "cg==", "treeSize": "2"},
+            "integratedTime": "3", "kindVersion": {"kind": "k", "version": "v"}, "logId": {"keyId": "aQ=="}, "logIndex": "4"}],
+        "x509CertificateChain": {"certificates": [{"rawBytes": "YQ=="}]}}})
+
+
+def parts(content):
+    """Bundle, content, material, signer, first entry, its kind, its proof, as what they are read as."""
+    bundle = json.loads(read_bundle(content)[3:])
+    material = bundle.get("verificationMaterial")
+    signer = {name: each for name, each in (material or {}).items() if name != "tlogEntries"} or None
+    signed = {name: bundle[name] for name in ("dsseEnvelope", "messageSignature") if name in bundle} or None
+    entry = ((material or {}).get("tlogEntries") or [None])[0]
+    return [bundle, signed, material, signer, entry, (entry or {}).get("kindVersion"), (entry or {}).get("inclusionProof")]
+
+
+def equal_case(cause, one, other):
+    pairs = zip(parts(one), parts(other))
+    words = ["-" if None in pair else str(pair[0] == pair[1]).lower() for pair in pairs]
+    named_case(cause, "equal %s %s" % (one, other), " ".join(["ok"] + words))
+
+
+def changed_case(line):
+    old, new = line.split(" => ")
+    assert WHOLE.count(old) == 1, line
+    other = WHOLE.replace(old, new)
+    assert parts(WHOLE)[0] != parts(other)[0], line
+    equal_case(line, WHOLE, other)
+    equal_case("the same, and itself", other, other)
+
+
+# Bundles with faults.
+
+MEDIA_TYPE = "application/vnd.dev.sigstore.bundle.v0.3+json"
+NARROW, WIDE = "a" * 64, "b" * 128
+OTHERS = {"%d" % number: "zz" for number in range(31)}
+DIGESTS = {
+    "none": {}, "narrow": {"sha256": NARROW}, "capital-name": {"SHA256": NARROW}, "capital-digits": {"sha256": "A" * 64},
+    "wide": {"sha512": WIDE}, "wide-and-narrow": {"sha512": WIDE, "sha256": NARROW}, "zz": {"sha256": "zz"},
+    "wide-zz": {"sha512": "zz"}, "both-zz": {"sha512": "zz", "sha256": "zz"}, "short-wide": {"sha512": NARROW},
+    "long-narrow": {"sha256": WIDE}, "31-others-and-narrow": {**OTHERS, "sha256": NARROW}, "32-others": {**OTHERS, "other": "zz"},
+    "33-others": {**OTHERS, "31": "zz", "other": "zz"}, "32-others-and-zz": {**OTHERS, "31": "zz", "sha256": "zz"}}
+
+
+def about(digests):
+    return compact({"_type": "", "predicateType": "", "subject": [{"digest": each} for each in digests]}).encode()
+
+
+def payload(name):
+    if name == "no-statement":
+        return b"{}"
+    if name == "1025-and-zz":
+        return fixture.statement(first="zz", subjects=1025)
+    if name in ("1023-nones-and-narrow", "1024-nones-and-narrow"):
+        return about([{}] * int(name[:4]) + [DIGESTS["narrow"]])
+    return about([DIGESTS[each] for each in name.split("+")])
+
+
+def entries(names, entry):
+    found = []
+    for name in names.split("+") if names != "none" else []:
+        each = copy.deepcopy(entry)
+        if name == "no-promise":
+            del each["inclusionPromise"]
+        elif name == "no-proof":
+            del each["inclusionProof"]
+        elif name == "no-checkpoint":
+            del each["inclusionProof"]["checkpoint"]
+        else:
+            assert name == "empty-checkpoint"
+            each["inclusionProof"]["checkpoint"] = {"envelope": ""}
+        found.append(each)
+    return found
+
+
+def spoil(bundle, fault):
+    material, envelope = bundle.get("verificationMaterial"), bundle.get("dsseEnvelope")
+    kind, _, name = fault.partition(":")
+    if fault == "no-material":
+        del bundle["verificationMaterial"]
+    elif fault == "no-content":
+        del bundle["dsseEnvelope"]
+    elif fault == "content:message":
+        del bundle["dsseEnvelope"]
+        bundle["messageSignature"] = {"signature": base64_of(b"sig-msg")}
+    elif kind == "media":
+        bundle["mediaType"] = name
+    elif kind == "signer":
+        leaf = material.pop("certificate")
+        material.update({"none": {}, "key": {"publicKey": {}}, "chain": {"x509CertificateChain": {"certificates": [leaf]}},
+                         "no-certificate": {"certificate": {"rawBytes": base64_of(b"\x30\x00")}},
+                         "authority": {"certificate": {"rawBytes": base64_of(fixture.certificate(fixture.anchor()))}}}[name])
+    elif kind == "entries":
+        material["tlogEntries"] = entries(name, material["tlogEntries"][0])
+    elif kind == "signatures":
+        envelope["signatures"] = {"none": [], "two": envelope["signatures"] + [{"sig": base64_of(b"sig-other"), "keyid": ""}]}[name]
+    else:
+        assert kind == "payload"
+        envelope["payload"] = base64_of(payload(name))
+
+
+def digests(words):
+    return " ".join(["ok"] + [{"narrow": "sha256 " + NARROW, "wide": "sha512 " + WIDE}[word] for word in words])
+
+
+def faulty_case(line):
+    faults, expected = line.split(" => ")
+    bundle = fixture.Request().bundle()
+    for fault in faults.split(" "):
+        spoil(bundle, fault)
+    if expected.startswith("Ok"):
+        expected = digests(expected.split(" ")[1:])
+    named_case(faults, "try_from_bundle " + compact(bundle, canonical=True), expected)
+
+
+def fixture_bundle():
+    request = fixture.Request()
+    bundle = compact(request.bundle(), canonical=True)
+    group("the fixture's bundle: its text is read back, it passes its checks, and it lends its parts")
+    case("read_bundle " + bundle, "ok " + bundle)
+    case("try_from_bundle " + bundle, digests(["narrow", "wide", "narrow"]))
+    case("checked " + bundle, " ".join([
+        "ok", request.leaf_der.hex(), request.signature.hex(), "true", "true", fixture.pae(request.payload).hex(),
+        request.payload.hex(), fixture.envelope_json(request.payload, request.signature)]))
+    for title, more, expected in [("1024 subjects", 1024, digests(["narrow", "wide"] + ["narrow"] * 1021)),
+                                  ("1025 subjects", 1025, "DsseTooManySubjects(1025)")]:
+        many = fixture.Request(payload=fixture.statement(subjects=more)).bundle()
+        named_case(title, "try_from_bundle " + compact(many, canonical=True), expected)
+    spoiled = fixture.Request(payload=fixture.statement(first="zz")).bundle()
+    named_case("a digest of other letters", "try_from_bundle " + compact(spoiled, canonical=True), "DsseSubjectDigestMalformed(Sha256)")
+    group("a statement's first SHA-256 digest, and digests as text")
+    case("subject_sha256_digest " + request.payload.decode(), "ok " + NARROW)
+    case("artifact_digest " + NARROW, "ok sha256 %s %s" % (NARROW, NARROW))
+    case("artifact_digest " + WIDE, "ok sha512 %s %s" % (WIDE, WIDE))
+
+
+# What stands for itself.
+
+def versions():
+    group("media types that name a version, and how the version is shown")
+    older = "application/vnd.dev.sigstore.bundle+json;version="
+    for media_type, version, shown in [
+            (older + "0.1", "Bundle0_1", older + "0.1"), (older + "0.2", "Bundle0_2", older + "0.2"),
+            (MEDIA_TYPE, "Bundle0_3", MEDIA_TYPE), (older + "0.3", "Bundle0_3", MEDIA_TYPE)]:
+        case("version " + media_type, "ok %s %s" % (version, shown))
+    group("media types that name none")
+    for media_type in [
+            "", "application/json", "application/vnd.dev.sigstore.bundle", "application/vnd.dev.sigstore.bundle+json", older + "0",
+            older, older + "0.4", older + "0.10", older.replace(";", "; ") + "0.1", older.replace("a", "A", 1) + "0.1",
+            MEDIA_TYPE.replace("0.3", "0.1"), MEDIA_TYPE.replace("0.3", "0.2"), MEDIA_TYPE.replace("0.3", "0.4"), MEDIA_TYPE[:-5],
+            MEDIA_TYPE + " ", " " + MEDIA_TYPE, "0.1", older + "0.1 "]:
+        case("version " + media_type, "no version")
+
+
+def message_signatures():
+    whole = '{"messageSignature":{"signature":"cw==","messageDigest":{"digest":"ZA=="}}}'
+    group("signatures over artifacts compared")
+    equal_case("itself", whole, whole)
+    equal_case("without a digest", whole, '{"messageSignature":{"signature":"cw=="}}')
+    equal_case("without a signature", whole, '{"messageSignature":{"messageDigest":{"digest":"ZA=="}}}')
+    equal_case("an empty digest and none", '{"messageSignature":{"messageDigest":{}}}', '{"messageSignature":{}}')
+
+
+def members(rows, values):
+    """Each member with each value: read where the value's kind is the member's."""
+    for row in rows:
+        kind, bundle = row.split(" ", 1)
+        group("a member that is %s, with each value: %s" % (kind, bundle))
+        for line in values:
+            value, kinds = line.split(" ", 1)
+            content = bundle.replace("@", value)
+            expected = read_bundle(content)
+            assert (expected == "Member") == (kind not in kinds.split(" ")), (row, line)
+            case("read_bundle " + content, expected)
+
+
+def errors():
+    group("errors that no bundle of this version meets, and errors inside errors, show the names of their variants")
+    for name, shown in [("CertificatesMissing", ""), ("RootInChain", ""), ("InclusionPromiseMissing", ""), ("InclusionProofMissing", ""),
+                        ("CheckpointMissing", ""), ("Bundle01Profile", "(InclusionPromiseMissing)"),
+                        ("Bundle02Profile", "(CheckpointMissing)"), ("Unknown", '("text/plain")')]:
+        case("shown " + name, name + shown)
+
+
+def table():
+    """The sections of the table: their heads, and their rows."""
+    sections = []
+    with open(os.path.join(HERE, "bundle_cases.txt"), encoding="utf-8") as file:
+        for line in file.read().split("\n"):
+            if line.startswith("@"):
+                sections.append((line[1:], []))
+            elif line:
+                sections[-1][1].append(line)
+    return sections
+
+
+def refused_rows(rows):
+    for row in rows:
+        expected, content = row.split(" ", 1)
+        assert read_bundle(content) == expected, row
+        case("read_bundle " + content, expected)
+
+
+def written_rows(rows):
+    for content, expected in zip(rows[::2], rows[1::2]):
+        assert read_bundle(content) == "ok " + expected.strip(), content
+        case("read_bundle " + content, "ok " + expected.strip())
+
+
+def main():
+    found = {}
+    for head, rows in table():
+        kind, _, title = head.partition(" ")
+        found[kind] = rows
+        if kind in ("member", "value"):
+            continue
+        group(title)
+        if kind == "read_bundle":
+            refused_rows(rows)
+        elif kind == "written":
+            written_rows(rows)
+        else:
+            for row in rows:
+                {"equal": changed_case, "checked": faulty_case}[kind](row)
+    named_case("a bundle with every member is written as it was read", "read_bundle " + WHOLE, "ok " + WHOLE)
+    members(found["member"], found["value"])
+    message_signatures()
+    fixture_bundle()
+    versions()
+    errors()
+    for title, lines in [("stdin", LINES_IN), ("stdout", LINES_OUT)]:
+        with open(os.path.join(CRATE, title), "w", encoding="utf-8") as file:
+            file.write("\n".join(lines) + "\n")
+
+
+if __name__ == "__main__":
+    main()
