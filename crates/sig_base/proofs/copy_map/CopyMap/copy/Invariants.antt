@@ -1,6 +1,6 @@
 -- What was copied so far, and what is left, are the map.
 use Rattle.std.proofs.Common.{◌≡◌, ◌++◌}
-use Rattle.sig_base.proofs.text_map.TextMap.copy.Given as goal
+use Rattle.sig_base.proofs.copy_map.CopyMap.copy.Given as goal
 
 abbrev pub invariant-entry : goal.invariant-entry
-invariant-entry l = l.copied ++ l.key-iterator ≡ l.self
+invariant-entry g l = l.copied ++ l.key-iterator ≡ l.self
