@@ -1,4 +1,7 @@
 pub mod Schemes
+pub mod AcceptedRows
+pub mod Orderings
+pub mod RowOrders
 pub mod Texts
 pub mod Ascending
 pub mod OptionSteps

@@ -3,6 +3,7 @@ pub mod OptionSteps
 pub mod ResultSteps
 pub mod Sha256
 pub mod Checker
+pub mod RowOrder
 pub mod MemoryStream
 pub mod Scheme
 pub mod Stream

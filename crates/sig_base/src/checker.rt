@@ -1,10 +1,11 @@
 //! Who says whether a signature is genuine: a [`SignatureChecker`]; the one of this program is a table of accepted rows.
-ghost use Rattle.std.specs.Prelude.{◌≡◌, ◌↔◌, Bool, List, ℕ, [], ◌∷◌, ◌++◌, OnOk, OnErr, IsTrue, Contains};
+ghost use Rattle.std.specs.Prelude.{◌≡◌, ◌↔◌, Bool, List, ℕ, [], ◌∷◌, ◌++◌, IfOk, OnOk, OnErr, IsTrue, Contains};
 ghost use Rattle.sig_base.specs.declared.scheme.VerifyScheme.{VerifyScheme as scheme_type};
 
 use crate::bytes::Bytes;
 use crate::memory::OutOfMemory;
 use crate::register::Register;
+use crate::row_order::{RowParts, order_of, order_to, put_in_order};
 use crate::scheme::VerifyScheme;
 use std::alloc::Global;
 use std::marker::Model;
@@ -91,6 +92,7 @@ pub struct AcceptedRow {
 #[derive(Drop)]
 pub struct TableChecker {
     rows: Register<AcceptedRow>,
+    order: Vec<usize>,
 }
 
 impl Model for TableChecker {
@@ -100,29 +102,52 @@ impl Model for TableChecker {
     ghost Value = { List AcceptedRow };
 
     ghost view = { λ t. t.rows };
+
+    ghost use Rattle.sig_base.specs.RowOrder.{IsOrderOf};
+
+    ghost invariant = { λ t. IsOrderOf t.rows t.order.items };
 }
 
 impl TableChecker {
     ghost use Rattle.sig_base.specs.Checker.{accepted};
 
-    /// The empty table, which accepts nothing.
+    /// Returns the empty table, which accepts nothing.
     pub fn new(alloc: Global) -> TableChecker
         ensures { result ≡ [] }
     {
         TableChecker {
             rows: Register::new(alloc),
+            order: Vec::new(alloc),
         }
     }
 
-    /// Adds a row at the end. Refused only for want of memory; the table is then as it was.
+    /// Returns the table of these rows, which it sorts once. Fails if out of memory alone.
+    pub fn from_rows(
+        alloc: Global,
+        rows: Register<AcceptedRow>,
+    ) -> Result<TableChecker, OutOfMemory>
+        ensures { IfOk result (λ table. table ≡ rows) }
+    {
+        let order = order_of(alloc, rows.as_slice())?;
+        Ok(TableChecker { rows, order })
+    }
+
+    /// Adds a row at the end. It sorts the table anew, so make a table of many rows by `from_rows`. Fails if out of memory alone; the table is
+    /// then unchanged.
     pub fn push(&mut self, row: AcceptedRow) -> Result<(), OutOfMemory>
         ensures ok { OnOk result (self.new ≡ self.old ++ row ∷ []) }
         ensures err { OnErr result (self.new ≡ self.old) }
     {
-        self.rows.push(row)
+        let index = self.rows.len();
+        self.order.reserve(1)?;
+        self.rows.push(row)?;
+        self.order.push(index)?;
+        put_in_order(self.rows.as_slice(), &mut self.order);
+        Ok(())
     }
 
-    /// Whether a row of the table equals all five parts.
+    /// Whether a row of the table equals all five parts. It compares with at most as many rows as the number of rows has binary digits, and
+    /// compares messages only where a row equals all other parts.
     pub fn accepts(
         &self,
         operation: Operation,
@@ -140,24 +165,19 @@ impl TableChecker {
           signature = signature.now;
         }) }
     {
-        self.rows.as_slice().iter().any(|row| {
-            row.operation == operation
-                && row.scheme.as_slice() == scheme
-                && row.key.as_slice() == key
-                && row.message.as_slice() == message
-                && row.signature.as_slice() == signature
-        })
-    }
-}
-
-/// The table of these rows.
-impl From<Register<AcceptedRow>> for TableChecker {
-    ghost from_gives = { λ rows table. table ≡ rows };
-
-    fn from(rows: Register<AcceptedRow>) -> TableChecker
-        ensures { result ≡ rows }
-    {
-        TableChecker { rows }
+        let sought = RowParts {
+            operation,
+            scheme,
+            key,
+            message,
+            signature,
+        };
+        let rows = self.rows.as_slice();
+        let found = self
+            .order
+            .as_slice()
+            .binary_search_by(|index| order_to(rows, *index, &sought));
+        found.is_ok()
     }
 }
 

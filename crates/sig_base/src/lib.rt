@@ -24,6 +24,7 @@ mod memory_source;
 mod merkle_error;
 mod owned;
 mod register;
+mod row_order;
 mod scheme;
 mod steps;
 mod stream;

@@ -145,6 +145,6 @@ impl RequestParts {
 
     /// The checker that accepts these rows and nothing else. Refuses as [`RequestParts::accepted`].
     pub fn checker(&self, alloc: Global) -> Result<TableChecker, DerWriteError> {
-        Ok(TableChecker::from(self.accepted(alloc)?))
+        Ok(TableChecker::from_rows(alloc, self.accepted(alloc)?)?)
     }
 }

@@ -55,6 +55,7 @@ impl ElementReader for LogRequestReader {
         let key = required_bytes(alloc, json, "key")?;
         let accepted = optional_list::<RowReader>(alloc, json, "accepted")?;
         let _ = optional::<AbsentReader>(alloc, json, "entries")?;
+        let accepted = TableChecker::from_rows(alloc, accepted)?;
         Ok(LogRequest {
             entry,
             log_index,
@@ -64,7 +65,7 @@ impl ElementReader for LogRequestReader {
             checkpoint,
             scheme,
             key,
-            accepted: TableChecker::from(accepted),
+            accepted,
         })
     }
 }

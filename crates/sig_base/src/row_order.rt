@@ -1,0 +1,132 @@
+//! The order in which a table of accepted rows is searched: the signature first and the message last, so that a message is compared only where
+//! all else is equal.
+ghost use Rattle.std.specs.Prelude.{◌≡◌, Some, IfOk, slice_get, IsPermutation};
+ghost use Rattle.std.specs.Option.{option_cmp};
+ghost use Rattle.sig_base.specs.Checker.{operation_code};
+ghost use Rattle.sig_base.specs.RowOrder.{row_order, order_at, Ascends, IsOrderOf};
+
+use crate::checker::{AcceptedRow, Operation};
+use crate::memory::OutOfMemory;
+use std::alloc::Global;
+use std::cmp::Ordering;
+use std::marker::Model;
+
+/// The five parts of a row, borrowed. Contracts see the row.
+#[derive(Drop)]
+pub struct RowParts<'a> {
+    pub(crate) operation: Operation,
+    pub(crate) scheme: &'a [u8],
+    pub(crate) key: &'a [u8],
+    pub(crate) message: &'a [u8],
+    pub(crate) signature: &'a [u8],
+}
+
+impl<'a> Model for RowParts<'a> {
+    ghost use Rattle.sig_base.specs.declared.checker.AcceptedRow.{AcceptedRow};
+
+    ghost Value = { AcceptedRow };
+
+    ghost view = { λ p. record {
+      operation = p.operation;
+      scheme = p.scheme.now;
+      key = p.key.now;
+      message = p.message.now;
+      signature = p.signature.now;
+    } };
+}
+
+impl Operation {
+    /// Returns the index of the operation among the four.
+    fn code(self) -> u8
+        ensures { result ≡ operation_code self }
+    {
+        match self {
+            Operation::Message => 0,
+            Operation::Prehash => 1,
+            Operation::Point => 2,
+            Operation::Certificate => 3,
+        }
+    }
+}
+
+impl<'a> RowParts<'a> {
+    /// Returns the parts of a row.
+    fn of(row: &'a AcceptedRow) -> RowParts<'a>
+        ensures { result ≡ row.now }
+    {
+        RowParts {
+            operation: row.operation,
+            scheme: row.scheme.as_slice(),
+            key: row.key.as_slice(),
+            message: row.message.as_slice(),
+            signature: row.signature.as_slice(),
+        }
+    }
+
+    /// Compares two rows: by signature, then operation, scheme, key, message.
+    #[tactic(auto, using(crate::proofs::Orderings::steps), unfolding(crate::specs::RowOrder::row_order))]
+    fn order(&self, other: &RowParts<'_>) -> Ordering
+        ensures { result ≡ row_order self.now other.now }
+    {
+        match self.signature.cmp(other.signature) {
+            Ordering::Equal => {}
+            unequal => return unequal,
+        }
+        match self.operation.code().cmp(&other.operation.code()) {
+            Ordering::Equal => {}
+            unequal => return unequal,
+        }
+        match self.scheme.cmp(other.scheme) {
+            Ordering::Equal => {}
+            unequal => return unequal,
+        }
+        match self.key.cmp(other.key) {
+            Ordering::Equal => {}
+            unequal => return unequal,
+        }
+        self.message.cmp(other.message)
+    }
+}
+
+/// Compares the row at an index with another row. An index that no row has comes first.
+pub fn order_to(rows: &[AcceptedRow], index: usize, other: &RowParts<'_>) -> Ordering
+    ensures { result ≡ option_cmp row_order (slice_get rows.now index) (Some other.now) }
+{
+    match rows.get(index) {
+        Some(row) => RowParts::of(row).order(other),
+        None => Ordering::Less,
+    }
+}
+
+/// Compares the rows at two indices. An index that no row has comes first.
+fn order_between(rows: &[AcceptedRow], one: usize, other: usize) -> Ordering
+    ensures { result ≡ order_at rows.now one other }
+{
+    match rows.get(other) {
+        Some(other) => order_to(rows, one, &RowParts::of(other)),
+        None => match rows.get(one) {
+            Some(_) => Ordering::Greater,
+            None => Ordering::Equal,
+        },
+    }
+}
+
+/// Sorts indices by their rows.
+pub fn put_in_order(rows: &[AcceptedRow], order: &mut Vec<usize>)
+    ensures moved { IsPermutation order.old.items order.new.items }
+    ensures ascends { Ascends rows.now order.new.items }
+{
+    order.sort_unstable_by(|one, other| order_between(rows, *one, *other));
+}
+
+/// Returns the indices of all rows in the order of the rows. Fails if out of memory alone.
+pub fn order_of(alloc: Global, rows: &[AcceptedRow]) -> Result<Vec<usize>, OutOfMemory>
+    ensures { IfOk result (λ order. IsOrderOf rows.now order.items) }
+{
+    let mut order = Vec::new(alloc);
+    for index in 0..rows.len() {
+        order.push(index)?;
+    }
+    put_in_order(rows, &mut order);
+    Ok(order)
+}
