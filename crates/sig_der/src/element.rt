@@ -1,4 +1,11 @@
 //! One element: X.690 section 8.1.1.
+//!
+//! ```text
+//! 30 03 02 01 05        SEQUENCE of 3 bytes: INTEGER of 1 byte, 5
+//! |  |  +------+ contents octets
+//! |  +- length octets (section 8.1.3): 03; 81 80 is 128, 82 01 00 is 256
+//! +---- identifier octet (section 8.1.2): class, constructed or not, number
+//! ```
 
 ghost use Rattle.std.specs.Prelude.{◌≡◌, ◌↔◌, ℕ, List, Ok, IfOk, IfErr, IsErrOf};
 ghost use Rattle.sig_der.specs.Element.{IsElement, StandsFirst, IsFollowed, IsOfAnother};
@@ -8,7 +15,7 @@ ghost use Rattle.sig_der.specs.Lent.{piece_of, front_of};
 use crate::length::read_length;
 use sig_base::DerError;
 
-/// An element as it stands in a text.
+/// An element, borrowed from the bytes that it was read from.
 #[derive(Clone, Copy, Debug)]
 pub struct Element<'a> {
     /// The identifier octet.
@@ -46,19 +53,21 @@ fn cut(bytes: &[u8]) -> Result<(Element<'_>, &[u8]), DerError>
     ))
 }
 
-/// The element at the front of the bytes, and what follows it.
+/// Reads the element at the front of the bytes, and returns it with what follows it.
 ///
-/// `LongTag` where the tag's low five bits are all ones; else `Length` where the length is indefinite, has more than four bytes
-/// after the first, or is not written in the fewest; else `Truncated` where bytes are missing.
+/// Fails with the first of
+/// - `LongTag` if the low five bits of the tag are all ones;
+/// - `Length` if the length is indefinite, has more than four bytes after the first, or is not in the fewest bytes;
+/// - `Truncated` if bytes are missing.
 pub fn read_element(bytes: &[u8]) -> Result<(Element<'_>, &[u8]), DerError>
-    // What is answered stands at the front.
+    // What is returned is at the front.
     ensures found { IfOk result (λ x. StandsFirst x.0.whole.now x.0.tag x.0.content.now x.1.now bytes.now) }
-    // What stands at the front is answered.
+    // What is at the front is returned.
     ensures only { (whole content rest : List ℕ) (tag : ℕ) → StandsFirst whole tag content rest bytes.now
         → Gives front_of result (Ok (record { tag = tag; whole = whole; content = content }, rest)) }
     // Which fault it is.
     ensures fault { IfErr result (λ e. e ≡ fault_of bytes.now) }
-    // What the plain reader answers.
+    // The result is that of the plain reader.
     ensures exact { Gives front_of result (element_at bytes.now) }
 {
     cut(bytes)
@@ -78,18 +87,18 @@ fn cut_all(bytes: &[u8], tag: u8) -> Result<Element<'_>, DerError>
     Ok(element)
 }
 
-/// The one element of this tag that the bytes are.
+/// Reads the one element of this tag that the bytes are.
 ///
-/// The refusals of `read_element`; then `Trailing` where bytes follow the element; then `WrongTag` where it has another tag.
+/// Fails as `read_element` does; then with `Trailing` if bytes follow the element; then with `WrongTag` if it has another tag.
 pub fn read_all(bytes: &[u8], tag: u8) -> Result<Element<'_>, DerError>
-    // What is answered is the whole text.
+    // What is returned is all of the bytes.
     ensures found { IfOk result (λ e. IsElement bytes.now tag e.content.now × (e.whole.now ≡ bytes.now) × (e.tag ≡ tag)) }
-    // An element of the tag is answered.
+    // An element of the tag is returned.
     ensures only { (content : List ℕ) → IsElement bytes.now tag content
         → Gives piece_of result (Ok (record { tag = tag; whole = bytes.now; content = content })) }
     ensures trailing { IsErrOf result DerError.Trailing ↔ IsFollowed bytes.now }
     ensures wrong_tag { IsErrOf result DerError.WrongTag ↔ IsOfAnother tag bytes.now }
-    // What the plain reader answers.
+    // The result is that of the plain reader.
     ensures exact { Gives piece_of result (all_at tag bytes.now) }
 {
     cut_all(bytes, tag)

@@ -30,7 +30,7 @@ ghost use Rattle.std.specs.Prelude.{◌≡◌, [], ◌∷◌, MatchOption};
 ghost use Rattle.sig_der.specs.Walks.{item_of};
 ghost use Rattle.sig_der.specs.Children.{children_of};
 
-/// The first answer and what is left after it, nothing after an error.
+/// Returns the first item and what is left after it: nothing after an error.
 fn step(rest: &[u8]) -> Option<(Result<Element<'_>, DerError>, &[u8])>
     ensures { MatchOption result
         (children_of rest.now ≡ [])

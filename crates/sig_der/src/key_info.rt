@@ -1,5 +1,13 @@
-//! Algorithms and key infos by their places in one text: AlgorithmIdentifier of RFC 5280 section 4.1.1.2 and
-//! SubjectPublicKeyInfo of section 4.1.2.7.
+//! The parts of AlgorithmIdentifier and SubjectPublicKeyInfo by their offsets in one buffer.
+//!
+//! ```text
+//! AlgorithmIdentifier  ::= SEQUENCE {                     -- RFC 5280 section 4.1.1.2
+//!      algorithm            OBJECT IDENTIFIER,
+//!      parameters           ANY DEFINED BY algorithm OPTIONAL }
+//! SubjectPublicKeyInfo ::= SEQUENCE {                     -- RFC 5280 section 4.1.2.7
+//!      algorithm            AlgorithmIdentifier,
+//!      subjectPublicKey     BIT STRING }                  -- of whole octets here
+//! ```
 
 ghost use Rattle.std.specs.Prelude.{◌≡◌, ◌≤◌, length, slice_range, option_map, IfSome};
 ghost use Rattle.sig_der.specs.KeyInfo.{at_most_one, algorithm_at, bits_of, key_info_at, whole_key_info};
@@ -8,7 +16,7 @@ ghost use Rattle.sig_der.specs.KeyInfoPlaces.{placed_option, placed_algorithm, p
 use crate::place::{Place, place_at, tagged_at, whole_at};
 use crate::tag;
 
-/// Where an algorithm and its parts stand in a text.
+/// Where an AlgorithmIdentifier and its parts are in a buffer.
 #[derive(Clone, Copy, Debug)]
 pub struct AlgorithmPlaces {
     /// The whole SEQUENCE.
@@ -19,7 +27,7 @@ pub struct AlgorithmPlaces {
     pub parameters: Option<Place>,
 }
 
-/// Where a key info and its parts stand in a text.
+/// Where a SubjectPublicKeyInfo and its parts are in a buffer.
 #[derive(Clone, Copy, Debug)]
 pub struct KeyInfoPlaces {
     /// The whole SEQUENCE.
@@ -30,7 +38,7 @@ pub struct KeyInfoPlaces {
     pub bits: usize,
 }
 
-/// The algorithm that begins at `at` and ends at `end` or before it. None where no algorithm stands there.
+/// Reads the AlgorithmIdentifier that begins at `at` and ends at `end` or before it. `None` if there is none.
 #[tactic(auto, unfolding(crate::specs::KeyInfo::algorithm_at))]
 pub fn algorithm_at(bytes: &[u8], at: usize, end: usize) -> Option<AlgorithmPlaces>
     requires from { at ≤ end }
@@ -69,8 +77,8 @@ fn one_at_most(bytes: &[u8], at: usize, end: usize) -> Option<Option<Place>>
     }
 }
 
-/// Where the bits begin of the BIT STRING without unused bits that begins at `at` and ends at `end` itself. None where no such
-/// BIT STRING stands there.
+/// Returns where the bits begin of the BIT STRING without unused bits that begins at `at` and ends at `end` itself. `None` if there
+/// is no such BIT STRING.
 #[tactic(auto, unfolding(crate::specs::KeyInfo::bits_of, crate::specs::KeyInfo::after_zero))]
 pub fn bits_at(bytes: &[u8], at: usize, end: usize) -> Option<usize>
     requires from { at ≤ end }
@@ -86,7 +94,7 @@ pub fn bits_at(bytes: &[u8], at: usize, end: usize) -> Option<usize>
     }
 }
 
-/// The key info that begins at `at` and ends at `end` or before it. None where no key info stands there.
+/// Reads the SubjectPublicKeyInfo that begins at `at` and ends at `end` or before it. `None` if there is none.
 #[tactic(auto, unfolding(crate::specs::KeyInfo::key_info_at))]
 pub fn key_info_at(bytes: &[u8], at: usize, end: usize) -> Option<KeyInfoPlaces>
     requires from { at ≤ end }
@@ -104,7 +112,7 @@ pub fn key_info_at(bytes: &[u8], at: usize, end: usize) -> Option<KeyInfoPlaces>
     })
 }
 
-/// The key info that is all of the text. None where there is none.
+/// Reads the SubjectPublicKeyInfo that the bytes are. `None` if they are none.
 #[tactic(auto, unfolding(crate::specs::KeyInfo::whole_key_info))]
 pub fn whole_key_info(bytes: &[u8]) -> Option<KeyInfoPlaces>
     ensures cut { whole_key_info bytes.now ≡ option_map (key_info_of bytes.now) result }

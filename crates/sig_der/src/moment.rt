@@ -18,7 +18,7 @@ pub(crate) struct Moment {
     pub(crate) second: u8,
 }
 
-/// The day number, from 1970-01-01 on. None where the calendar has no such day.
+/// Returns the day number, from 1970-01-01 on. `None` if the calendar has no such day.
 fn day_at(year: u16, month: u8, day: u8) -> Option<i32>
     requires years { year < 10000 }
     requires months { month < 100 }
@@ -33,7 +33,7 @@ fn day_at(year: u16, month: u8, day: u8) -> Option<i32>
     }
 }
 
-/// The second since 1970. None where the calendar has no such day, or the day no such second.
+/// Returns the second since 1970. `None` if the calendar has no such day, or the day no such second.
 pub(crate) fn second_at(moment: Moment) -> Option<i64>
     requires { IsDecimal moment }
     ensures real { IsSome result ↔ IsReal moment }

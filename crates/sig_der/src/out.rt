@@ -34,7 +34,7 @@ impl DerOut {
         }
     }
 
-    /// Appends the bytes to the content. Refuses for want of memory alone, and then changes nothing.
+    /// Appends the bytes to the content. Fails only if memory runs out, and then changes nothing.
     pub fn push(&mut self, bytes: &[u8]) -> Result<(), OutOfMemory>
         ensures ok { OnOk result (self.new ≡ self.old ++ bytes.now) }
         ensures err { OnErr result (self.new ≡ self.old) }
@@ -43,7 +43,8 @@ impl DerOut {
         Ok(())
     }
 
-    /// The element of this tag and of the content. `TooLong` exactly where the content has 2^32 bytes or more.
+    /// Returns the element of this tag and of the content. Fails with `TooLong` if and only if the content has 2^32 bytes or more, and with
+    /// `OutOfMemory`.
     ///
     /// The low five bits of the tag are not all ones.
     pub fn close(self, tag: u8) -> Result<Bytes, DerWriteError>

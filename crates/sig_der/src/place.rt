@@ -1,4 +1,4 @@
-//! Elements by their places in one text, so that a reader of many parts keeps numbers and no slices of slices.
+//! Elements by their offsets in one buffer, so that a reader of many parts keeps numbers and no slices of slices.
 
 ghost use Rattle.std.specs.Prelude.{◌≡◌, ◌≤◌, length, slice_range, option_map, IfSome};
 ghost use Rattle.sig_der.specs.Taking.{take_any, take_tag, take_whole, take_optional, begins_with};
@@ -6,7 +6,7 @@ ghost use Rattle.sig_der.specs.Places.{piece_at, placed, placed_if, IsWithin, Go
 
 use crate::element::read_element;
 
-/// Where an element stands in a text.
+/// Where an element is in a buffer, by offsets.
 #[derive(Clone, Copy, Debug)]
 pub struct Place {
     /// The identifier octet.
@@ -19,7 +19,7 @@ pub struct Place {
     pub end: usize,
 }
 
-/// The element that begins at `at` and ends at `end` or before it. None where no element stands there.
+/// Reads the element that begins at `at` and ends at `end` or before it. `None` if there is none.
 pub fn place_at(bytes: &[u8], at: usize, end: usize) -> Option<Place>
     requires from { at ≤ end }
     requires to { end ≤ length bytes.now }
@@ -40,7 +40,7 @@ pub fn place_at(bytes: &[u8], at: usize, end: usize) -> Option<Place>
     }
 }
 
-/// The element of this tag that begins at `at` and ends at `end` or before it. None where no such element stands there.
+/// Reads the element of this tag that begins at `at` and ends at `end` or before it. `None` if there is none.
 #[tactic(auto, unfolding(crate::specs::Taking::take_tag))]
 pub fn tagged_at(bytes: &[u8], at: usize, end: usize, tag: u8) -> Option<Place>
     requires from { at ≤ end }
@@ -52,7 +52,7 @@ pub fn tagged_at(bytes: &[u8], at: usize, end: usize, tag: u8) -> Option<Place>
     if place.tag == tag { Some(place) } else { None }
 }
 
-/// The element of this tag that begins at `at` and ends at `end` itself. None where no such element stands there.
+/// Reads the element of this tag that begins at `at` and ends at `end` itself. `None` if there is none.
 #[tactic(auto, unfolding(crate::specs::Taking::take_whole))]
 pub fn whole_at(bytes: &[u8], at: usize, end: usize, tag: u8) -> Option<Place>
     requires from { at ≤ end }
@@ -69,8 +69,8 @@ pub fn whole_at(bytes: &[u8], at: usize, end: usize, tag: u8) -> Option<Place>
     }
 }
 
-/// The element of this tag where the byte at `at` is the tag, and where what follows begins. Where another byte or the end
-/// stands at `at`, no element is taken. None where the tag is there and no element begins with it.
+/// Reads the element of this tag if the byte at `at` is the tag, and returns it with the offset of what follows. If another byte or
+/// the end is at `at`, no element is taken. `None` if the tag is there and no element begins with it.
 #[tactic(auto, unfolding(crate::specs::Taking::take_optional))]
 pub fn optional_at(bytes: &[u8], at: usize, end: usize, tag: u8) -> Option<(Option<Place>, usize)>
     requires from { at ≤ end }

@@ -8,10 +8,10 @@ ghost use Rattle.sig_der.specs.Walks.{left_of};
 
 use crate::iter::Children;
 
-/// The elements of the content in order. The items are the answers of `read_element` on the content and then on each rest; they
-/// end where the rest is empty, and after the first error.
+/// Returns the elements of the content in order. The items are the results of `read_element` on the content and then on each rest;
+/// they end when the rest is empty, and after the first error.
 pub fn children(content: &[u8]) -> Children<'_>
-    // The answers, one after another.
+    // The results, one after another.
     ensures answers { left_of result ≡ children_of content.now }
     // A content that is elements one after another has these as its children.
     ensures elements { (ps : List Piece) → AreJoined IsPiece (λ p. p.whole) content.now ps
