@@ -5,9 +5,16 @@ pub mod BodyLaws
 pub mod CertificateLaws
 pub mod Readings
 pub mod HeldLaws
+mod SaidLaws
+mod ProfileFaults
+mod TrustFaults
+mod BitLaws
+mod ValueLaws
+mod OneCertificate
 pub mod WalkLaws
 mod FrontNames
 pub mod PemLaws
+mod WrapLaws
 pub mod Spans
 pub mod NameLaws
 pub mod DistinctLaws

@@ -5,10 +5,12 @@ pub mod Answers
 pub mod Held
 pub mod Lookups
 pub mod Values
+pub mod ExtensionValues
 pub mod Names
 pub mod BorrowedNames
 pub mod NamePlaces
 pub mod Profile
 pub mod Trust
+pub mod Faults
 pub mod Pem
 pub mod AlternativeNames

@@ -1,4 +1,11 @@
 //! `Certificate`: RFC 5280 section 4.1, in the profile of Sigstore.
+//!
+//! ```text
+//! Certificate ::= SEQUENCE {
+//!      tbsCertificate       TBSCertificate,           -- parts.rt has its fields
+//!      signatureAlgorithm   AlgorithmIdentifier,
+//!      signatureValue       BIT STRING }
+//! ```
 
 ghost use Rattle.std.specs.Prelude.{◌≡◌, ◌≤◌, ◌+◌, ℕ, pos, ◌≤ℤ◌, Some, length, slice_get, option_map, IfOk, IfErr};
 ghost use Rattle.sig_certificate.specs.Answers.{Reads, IsRefusedOnlyWithout};
@@ -14,7 +21,7 @@ use crate::span::part;
 use std::alloc::Global;
 use std::marker::Model;
 
-/// A certificate. It owns its text and the places of its parts in it, and lends the parts. Contracts see the record of
+/// A certificate. It owns its DER and the ranges of its parts in it, and its getters borrow the parts. Contracts see the record of
 /// *Certificate*.
 #[derive(Drop)]
 pub struct Certificate {
@@ -39,15 +46,16 @@ impl Model for Certificate {
 }
 
 impl Certificate {
-    /// The certificate that the bytes are: one SEQUENCE of the signed part, an algorithm and the bits of the signature, and
-    /// nothing after it (RFC 5280 section 4.1).
+    /// Reads the certificate that the bytes are: one SEQUENCE of the TBSCertificate, an algorithm and the bits of the signature, and
+    /// nothing after it (RFC 5280 section 4.1). Two extensions may have one object identifier: `are_single` tells.
     ///
-    /// `Der` exactly where the bytes are no certificate. `OutOfMemory` where the copy of the bytes or the list of the extensions
-    /// could not be made.
+    /// Fails with
+    /// - `Der` if and only if the bytes are no certificate;
+    /// - `OutOfMemory` if memory ran out for the copy of the bytes or the list of the extensions.
     pub fn try_from_der(alloc: Global, der: &[u8]) -> Result<Certificate, X509ReadError>
-        // What is answered is the certificate.
+        // What is returned is the certificate.
         ensures found { IfOk result (IsCertificate der.now) }
-        // A certificate is answered, and there is one at most.
+        // A certificate is returned.
         ensures only { (c : Cert) → IsCertificate der.now c → Reads (λ r. r) result (Some c) }
         // `Der` comes only where the bytes are no certificate.
         ensures refused { IfErr result (IsRefusedOnlyWithout der.now) }
@@ -68,14 +76,14 @@ impl Certificate {
         }
     }
 
-    /// The whole text.
+    /// Returns the DER of the whole.
     pub fn der(&self) -> &[u8]
         ensures { result.now ≡ self.now.whole }
     {
         self.der.as_slice()
     }
 
-    /// The signed part, a whole element.
+    /// Returns the TBSCertificate, a whole element.
     pub fn tbs(&self) -> &[u8]
         ensures { result.now ≡ self.now.tbs }
     {
@@ -83,77 +91,78 @@ impl Certificate {
         &self.der[place.start..place.end]
     }
 
-    /// The elements of the signed part before its extensions. For sig_timestamp, which writes the signed part anew.
+    /// Returns the elements of the TBSCertificate before its extensions. For sig_timestamp, which writes the TBSCertificate of a
+    /// precertificate from them.
     pub fn front(&self) -> &[u8]
         ensures { result.now ≡ self.now.front }
     {
         part(&self.der, self.places.front)
     }
 
-    /// The outer algorithm, a whole element.
+    /// Returns the signatureAlgorithm, a whole element.
     pub fn algorithm(&self) -> &[u8]
         ensures { result.now ≡ self.now.algorithm }
     {
         part(&self.der, self.places.outer.algorithm)
     }
 
-    /// The algorithm that the signed part names, a whole element.
+    /// Returns the signature field of the TBSCertificate, an AlgorithmIdentifier, a whole element.
     pub fn inner_algorithm(&self) -> &[u8]
         ensures { result.now ≡ self.now.inner_algorithm }
     {
         part(&self.der, self.places.head.algorithm)
     }
 
-    /// The issuer's name, a whole element.
+    /// Returns the issuer's name, a whole element.
     pub fn issuer(&self) -> &[u8]
         ensures { result.now ≡ self.now.issuer }
     {
         part(&self.der, self.places.head.issuer)
     }
 
-    /// The subject's name, a whole element.
+    /// Returns the subject's name, a whole element.
     pub fn subject(&self) -> &[u8]
         ensures { result.now ≡ self.now.subject }
     {
         part(&self.der, self.places.body.subject)
     }
 
-    /// The subject's key info, a whole element.
+    /// Returns the SubjectPublicKeyInfo, a whole element.
     pub fn spki(&self) -> &[u8]
         ensures { result.now ≡ self.now.spki }
     {
         part(&self.der, self.places.body.spki)
     }
 
-    /// The bits of the signature, without the count of unused bits.
+    /// Returns the bits of the signature, without the count of unused bits.
     pub fn signature(&self) -> &[u8]
         ensures { result.now ≡ self.now.signature }
     {
         part(&self.der, self.places.outer.signature)
     }
 
-    /// The version, 1 to 3.
+    /// Returns the version, 1 to 3.
     pub fn version(&self) -> u8
         ensures { result ≡ self.now.version }
     {
         self.places.head.version
     }
 
-    /// The first second of the validity, in seconds since 1970.
+    /// Returns the first second of the validity, in seconds since 1970.
     pub fn not_before(&self) -> i64
         ensures { result ≡ self.now.not_before }
     {
         self.not_before
     }
 
-    /// The last second of the validity, in seconds since 1970.
+    /// Returns the last second of the validity, in seconds since 1970.
     pub fn not_after(&self) -> i64
         ensures { result ≡ self.now.not_after }
     {
         self.not_after
     }
 
-    /// Whether the element of the extensions is there. For sig_timestamp, which writes the signed part anew.
+    /// Whether the extensions field is there. For sig_timestamp, as `front`.
     pub fn is_listed(&self) -> bool
         ensures { result ≡ self.now.listed }
     {
@@ -167,21 +176,23 @@ impl Certificate {
         let _ = &self.places;
     }
 
-    /// The number of extensions.
+    /// Returns the number of extensions.
     pub fn extension_count(&self) -> usize
         ensures { result ≡ length self.now.extensions }
     {
         self.extensions.places.len()
     }
 
-    /// Whether no object identifier stands twice among the extensions (RFC 5280 section 4.2).
+    /// Whether no two extensions have one object identifier (RFC 5280 section 4.2). `try_from_der` reads a certificate with duplicate
+    /// extensions; the pools of sig_x509 find no issuer of a certificate that has them, by this call,
+    /// and a look-up of a duplicate is `Several`.
     pub fn are_single(&self) -> bool
         ensures { result ≡ are_single self.now.extensions }
     {
         self.extensions.single
     }
 
-    /// The extension at this place, counted from 0. None exactly where the place is not below the number of extensions.
+    /// Returns the extension at this index. `None` if and only if the index is not below the number of extensions.
     pub fn extension_at(&self, place: usize) -> Option<ExtensionRef<'_>>
         ensures { option_map lent result ≡ slice_get self.now.extensions place }
     {
@@ -191,7 +202,7 @@ impl Certificate {
         }
     }
 
-    /// The extensions with this object identifier, which is given by its contents octets and compared byte for byte.
+    /// Looks up the extensions with this object identifier, which is given by its contents octets and compared byte for byte.
     pub fn extension(&self, oid: &[u8]) -> Lookup<'_>
         ensures { Finds (with_oid oid.now self.now.extensions) result }
     {

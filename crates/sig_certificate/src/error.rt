@@ -13,7 +13,7 @@ pub enum X509ReadError {
     /// The bytes are no certificate.
     #[error("Der")]
     Der,
-    /// No memory could be had.
+    /// Memory ran out.
     #[error("OutOfMemory")]
     OutOfMemory,
 }

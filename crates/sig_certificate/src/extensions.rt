@@ -1,4 +1,11 @@
-//! Extensions by their places in one text: RFC 5280 section 4.1.
+//! One extension by the offsets of its parts in one buffer: RFC 5280 section 4.1.
+//!
+//! ```text
+//! Extension ::= SEQUENCE {
+//!      extnID      OBJECT IDENTIFIER,
+//!      critical    BOOLEAN DEFAULT FALSE,
+//!      extnValue   OCTET STRING }
+//! ```
 
 ghost use Rattle.std.specs.Prelude.{◌≡◌, ◌<◌, ◌≤◌, length, slice_range, option_map, IfSome};
 ghost use Rattle.sig_certificate.specs.Cutting.{boolean_of, flag_at, extension_at};
@@ -7,7 +14,7 @@ ghost use Rattle.sig_certificate.specs.Places.{placed_value, placed_extension, G
 use crate::span::{Span, content_of, whole_of};
 use sig_der::{optional_at, tag, tagged_at, whole_at};
 
-/// Where an extension and its parts stand in a text.
+/// Where an extension and its parts are in a buffer.
 #[derive(Clone, Copy, Debug)]
 pub(crate) struct ExtensionPlaces {
     pub(crate) oid: Span,
@@ -28,8 +35,8 @@ fn boolean(content: &[u8]) -> Option<bool>
     }
 }
 
-/// A BOOLEAN DEFAULT FALSE at `at`, and where what follows it begins. None where a BOOLEAN there has another value than 00 or
-/// FF.
+/// Reads a BOOLEAN DEFAULT FALSE at `at`, and returns it with the offset of what follows. `None` if a BOOLEAN there has another value
+/// than 00 or FF.
 #[tactic(auto, unfolding(crate::specs::Cutting::flag_at))]
 pub(crate) fn flag_at(bytes: &[u8], at: usize, end: usize) -> Option<(bool, usize)>
     requires from { at ≤ end }
@@ -47,7 +54,7 @@ pub(crate) fn flag_at(bytes: &[u8], at: usize, end: usize) -> Option<(bool, usiz
     }
 }
 
-/// The extension that begins at `at` and ends at `end` or before it. None where no extension stands there.
+/// Reads the extension that begins at `at` and ends at `end` or before it. `None` if there is none.
 #[tactic(auto, unfolding(crate::specs::Cutting::extension_at))]
 pub(crate) fn extension_at(bytes: &[u8], at: usize, end: usize) -> Option<ExtensionPlaces>
     requires from { at ≤ end }

@@ -1,4 +1,4 @@
-//! The list of a certificate's extensions, and whether an object identifier stands in it twice: RFC 5280 section 4.2.
+//! The list of a certificate's extensions, and whether two of them have one object identifier: RFC 5280 section 4.2.
 
 ghost use Rattle.std.specs.Prelude.{◌≡◌, ◌≤◌, length, slice_range, map, IfOk};
 ghost use Rattle.std.specs.List.{All};
@@ -18,7 +18,7 @@ use crate::span::clipped;
 use std::alloc::Global;
 use std::cmp::Ordering;
 
-/// Where the extensions of a certificate stand. Whether an object identifier stands twice is found once, since the test of a
+/// Where the extensions of a certificate are. Whether there are duplicate extensions is found once, since the test of a
 /// leaf takes no memory.
 #[derive(Drop)]
 pub(crate) struct Listed {
@@ -33,7 +33,7 @@ fn compared(bytes: &[u8], first: &ExtensionPlaces, second: &ExtensionPlaces) -> 
     clipped(bytes, first.oid).cmp(clipped(bytes, second.oid))
 }
 
-/// Whether no object identifier stands twice. The list is sorted by them, so that equal ones are neighbours, and then back into the
+/// Whether no two have one object identifier. The list is sorted by them, so that equal ones are neighbours, and then back into the
 /// order of the text, both in place: this takes no memory, and the time of a sort, since whoever makes a certificate chooses how
 /// many extensions it has.
 fn are_single(bytes: &[u8], extensions: &mut [ExtensionPlaces]) -> bool
@@ -47,7 +47,7 @@ fn are_single(bytes: &[u8], extensions: &mut [ExtensionPlaces]) -> bool
     single
 }
 
-/// The extensions from `at` to `end` itself. `Der` where something else stands there.
+/// Reads the extensions from `at` to `end` itself. Fails with `Der` if anything else is there, and with `OutOfMemory`.
 pub(crate) fn listed_at(
     alloc: Global,
     bytes: &[u8],

@@ -1,4 +1,4 @@
-//! A certificate's extensions, lent, and the look-up of an object identifier.
+//! A certificate's extensions, borrowed, and the look-up of an object identifier.
 
 ghost use Rattle.std.specs.Prelude.{◌≡◌, length, map};
 ghost use Rattle.std.specs.List.{All};
@@ -8,12 +8,12 @@ ghost use Rattle.sig_certificate.specs.Places.{extension_of, AreSpans};
 use crate::extensions::ExtensionPlaces;
 use crate::span::part;
 
-/// An extension of a certificate: RFC 5280 section 4.1. Its parts are lent from the certificate.
+/// An extension of a certificate: RFC 5280 section 4.1. Its parts are borrowed from the certificate.
 #[derive(Clone, Copy, Debug)]
 pub struct ExtensionRef<'a> {
     /// The contents octets of the object identifier.
     pub oid: &'a [u8],
-    /// Whether who does not know the extension has to refuse the certificate.
+    /// Whether who does not know the extension has to reject the certificate.
     pub critical: bool,
     /// The contents octets of the OCTET STRING.
     pub value: &'a [u8],
@@ -32,7 +32,7 @@ pub enum Lookup<'a> {
     Several,
 }
 
-/// The extension at the places.
+/// Returns the extension at the offsets.
 pub(crate) fn lend<'a>(bytes: &'a [u8], places: &ExtensionPlaces) -> ExtensionRef<'a>
     requires { AreSpans (length bytes.now) places.now }
     ensures { lent result ≡ extension_of bytes.now places.now }
@@ -45,7 +45,7 @@ pub(crate) fn lend<'a>(bytes: &'a [u8], places: &ExtensionPlaces) -> ExtensionRe
     }
 }
 
-/// The extensions of this object identifier among those at the places.
+/// Looks up the extensions of this object identifier.
 pub(crate) fn look_up<'a>(bytes: &'a [u8], extensions: &[ExtensionPlaces], oid: &[u8]) -> Lookup<'a>
     requires { All (AreSpans (length bytes.now)) extensions.now }
     ensures { Finds (with_oid oid.now (map (extension_of bytes.now) extensions.now)) result }

@@ -1,4 +1,18 @@
-//! The parts of a certificate by their places in its text: RFC 5280 section 4.1. Each reader takes at most five steps.
+//! The parts of a certificate by their offsets in its DER: RFC 5280 section 4.1. Each reader takes at most five steps.
+//!
+//! ```text
+//! TBSCertificate ::= SEQUENCE {
+//!      version         [0]  EXPLICIT Version DEFAULT v1,          -- head_at
+//!      serialNumber         CertificateSerialNumber,
+//!      signature            AlgorithmIdentifier,
+//!      issuer               Name,
+//!      validity             Validity,                             -- body_at
+//!      subject              Name,
+//!      subjectPublicKeyInfo SubjectPublicKeyInfo,
+//!      issuerUniqueID  [1]  IMPLICIT UniqueIdentifier OPTIONAL,   -- after_ids
+//!      subjectUniqueID [2]  IMPLICIT UniqueIdentifier OPTIONAL,
+//!      extensions      [3]  EXPLICIT Extensions OPTIONAL }        -- list_at
+//! ```
 
 ghost use Rattle.std.specs.Prelude.{◌≡◌, ◌≤◌, length, slice_range, option_map, IfSome};
 ghost use Rattle.sig_certificate.specs.Cutting.{version_number, explicit_version, version_at, head_at, validity_at, body_at, after_ids, list_at, outer_at, parts_at};
@@ -9,7 +23,7 @@ use sig_der::{
     Place, algorithm_at, bits_at, key_info_at, optional_at, place_at, tag, tagged_at, whole_at,
 };
 
-/// The parts of the signed part up to the issuer.
+/// The fields of the TBSCertificate up to the issuer.
 #[derive(Clone, Copy, Debug)]
 pub(crate) struct Head {
     pub(crate) version: u8,
@@ -17,7 +31,7 @@ pub(crate) struct Head {
     pub(crate) issuer: Span,
 }
 
-/// The parts of the signed part from the validity to the key.
+/// The fields of the TBSCertificate from the validity to the SubjectPublicKeyInfo.
 #[derive(Clone, Copy, Debug)]
 pub(crate) struct Body {
     pub(crate) not_before: Place,
@@ -34,11 +48,11 @@ pub(crate) struct Outer {
     pub(crate) signature: Span,
 }
 
-/// Where the parts of a certificate stand in its text.
+/// Where the parts of a certificate are in its DER.
 #[derive(Clone, Copy, Debug)]
 pub(crate) struct Places {
     pub(crate) outer: Outer,
-    /// The elements of the signed part before its extensions.
+    /// The elements of the TBSCertificate before its extensions.
     pub(crate) front: Span,
     pub(crate) head: Head,
     pub(crate) body: Body,
@@ -70,7 +84,7 @@ fn explicit_version(bytes: &[u8], at: usize, end: usize) -> Option<u8>
     version_number(&bytes[number.content..number.end])
 }
 
-/// The version, which is 1 where none stands, and where what follows it begins.
+/// Reads the version, which is 1 if the field is absent, and returns it with the offset of what follows.
 #[tactic(auto, unfolding(crate::specs::Cutting::version_at))]
 fn version_at(bytes: &[u8], at: usize, end: usize) -> Option<(u8, usize)>
     requires from { at ≤ end }
@@ -109,7 +123,7 @@ fn head_at(bytes: &[u8], at: usize, end: usize) -> Option<Head>
     })
 }
 
-/// The places of the two elements of the validity at `at`, and where what follows it begins.
+/// Reads the two elements of the validity at `at`, and returns them with the offset of what follows.
 #[tactic(auto, unfolding(crate::specs::Cutting::validity_at))]
 fn validity_at(bytes: &[u8], at: usize, end: usize) -> Option<((Place, Place), usize)>
     requires from { at ≤ end }
@@ -159,8 +173,8 @@ fn after_ids(bytes: &[u8], at: usize, end: usize) -> Option<usize>
     Some(next)
 }
 
-/// The extensions from `at` to `end` itself: whether they are there, and the content of their SEQUENCE. None where something
-/// else stands there.
+/// Reads the extensions from `at` to `end` itself: whether they are there, and the content of their SEQUENCE. `None` if anything
+/// else is there.
 #[tactic(auto, unfolding(crate::specs::Cutting::list_at))]
 fn list_at(bytes: &[u8], at: usize, end: usize) -> Option<(bool, Span)>
     requires from { at ≤ end }
@@ -203,7 +217,7 @@ fn outer_at(bytes: &[u8], at: usize, end: usize) -> Option<Outer>
     })
 }
 
-/// The parts of the certificate from `at` to `end` itself, but for what its extensions are. None where there is none.
+/// Reads the parts of the certificate from `at` to `end` itself, but for what its extensions are. `None` if there is none.
 #[tactic(auto, unfolding(crate::specs::Cutting::parts_at), using(crate::proofs::Fronts::front_is))]
 fn parts_at(bytes: &[u8], at: usize, end: usize) -> Option<Places>
     requires from { at ≤ end }
@@ -230,7 +244,7 @@ fn parts_at(bytes: &[u8], at: usize, end: usize) -> Option<Places>
     })
 }
 
-/// The parts of the certificate that the bytes are, but for what its extensions are. None where there is none.
+/// Reads the parts of the certificate that the bytes are, but for what its extensions are. `None` if they are none.
 #[tactic(auto, using(crate::proofs::Fronts::part_whole))]
 pub(crate) fn parts_of(der: &[u8]) -> Option<Places>
     ensures cut { parts_at der.now ≡ option_map (parts_of der.now) result }

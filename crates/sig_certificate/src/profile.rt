@@ -12,8 +12,8 @@ use crate::values::{BasicConstraints, KeyUsage, read_basic_constraints, read_key
 use crate::walks::read_purpose;
 use sig_der::oid::{BASIC_CONSTRAINTS, CODE_SIGNING, EXTENDED_KEY_USAGE, KEY_USAGE};
 
-/// What the key usage of the certificate says: None where there is none, `Malformed` where it is malformed or stands several
-/// times.
+/// Returns what the key usage of the certificate says, `None` if there is none. Fails with `Malformed` if it is malformed or a
+/// duplicate extension.
 #[tactic(auto, using(crate::proofs::HeldLaws::held_absent, crate::proofs::HeldLaws::held_one, crate::proofs::HeldLaws::held_several))]
 pub(crate) fn key_usage(
     certificate: &Certificate,
@@ -30,8 +30,8 @@ pub(crate) fn key_usage(
     }
 }
 
-/// Whether the basic constraints of the certificate are critical, and what they say. None where there are none, `Malformed`
-/// where they are malformed or stand several times. For the pools of sig_x509.
+/// Returns whether the basic constraints of the certificate are critical, and what they say, `None` if there are none. Fails with
+/// `Malformed` if they are malformed or a duplicate extension. For the pools of sig_x509.
 #[tactic(auto, using(crate::proofs::HeldLaws::held_absent, crate::proofs::HeldLaws::held_one, crate::proofs::HeldLaws::held_several))]
 pub fn basic_constraints(
     certificate: &Certificate,
@@ -48,8 +48,8 @@ pub fn basic_constraints(
     }
 }
 
-/// Whether code signing is among the purposes of the certificate's extended key usage. None where there is none, `Malformed`
-/// where it is malformed or stands several times. For the pools of sig_x509.
+/// Returns whether code signing is among the purposes of the certificate's extended key usage, `None` if there is none. Fails with
+/// `Malformed` if it is malformed or a duplicate extension. For the pools of sig_x509.
 #[tactic(auto, using(crate::proofs::HeldLaws::held_absent, crate::proofs::HeldLaws::held_one, crate::proofs::HeldLaws::held_several))]
 pub fn code_signing(certificate: &Certificate) -> Result<Option<bool>, CertificateValidationError>
     ensures { result ≡ code_signing certificate.now }
@@ -97,10 +97,13 @@ fn judge_authority(
     }
 }
 
-/// Whether the certificate is an authority. The first of these that has a cause is answered:
+/// Whether the certificate is an authority (RFC 5280 sections 4.2.1.9 and 4.2.1.3). Fails with the first of these that has its cause:
+/// - `VersionUnsupported`: the version is not 3;
+/// - `Malformed`, `Missing`, `NotCritical`: basic constraints are malformed or duplicate, absent, or not critical;
+/// - `Malformed`, `Missing`: key usage is malformed or duplicate, or absent;
+/// - `NotCA`: neither cA nor keyCertSign is set; `Invalid`: one alone is.
 ///
-/// `VersionUnsupported` unless the version is 3. `Malformed` or missing basic constraints, or ones that are not critical.
-/// `Malformed` or missing key usage. `NotCA` where neither cA nor keyCertSign is set, `Invalid` where one alone is.
+/// `laws::profile_faults` says when each comes.
 pub fn is_ca(certificate: &Certificate) -> Result<(), CertificateValidationError>
     ensures { refusal result ≡ ca_refusal certificate.now }
 {
@@ -110,7 +113,7 @@ pub fn is_ca(certificate: &Certificate) -> Result<(), CertificateValidationError
     judge_authority(basic_constraints(certificate), key_usage(certificate))
 }
 
-/// Whether the certificate is a root: the refusals of `is_ca`, then `NotRootCA` where issuer and subject differ.
+/// Whether the certificate is a root. Fails as `is_ca` does, then with `NotRootCA` if issuer and subject differ.
 pub fn is_root_ca(certificate: &Certificate) -> Result<(), CertificateValidationError>
     ensures { refusal result ≡ root_refusal certificate.now }
 {
@@ -150,10 +153,13 @@ fn judge_signer(
     }
 }
 
-/// Whether the certificate is a leaf that may sign code. The first of these that has a cause is answered:
+/// Whether the certificate is a leaf that may sign code. Fails with the first of these that has its cause:
+/// - `VersionUnsupported`: the version is not 3;
+/// - `IsCA`: `is_ca` is `Ok`;
+/// - `Malformed`, `Missing`, `BitUnset`: key usage is malformed or duplicate, absent, or without digitalSignature;
+/// - `Malformed`, `Missing`, `BitUnset`: extended key usage is malformed or duplicate, absent, or without code signing.
 ///
-/// `VersionUnsupported` unless the version is 3. `IsCA` where `is_ca` is Ok. `Malformed` or missing key usage, or one without the
-/// bit for digital signatures. `Malformed` or missing extended key usage, or one without code signing.
+/// `laws::profile_faults` says when each comes.
 pub fn is_leaf(certificate: &Certificate) -> Result<(), CertificateValidationError>
     ensures { refusal result ≡ leaf_refusal certificate.now }
 {

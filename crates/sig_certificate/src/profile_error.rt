@@ -11,7 +11,7 @@ pub enum CertificateValidationError {
     /// The version is not 3.
     #[error("VersionUnsupported")]
     VersionUnsupported,
-    /// An extension is malformed, or stands several times.
+    /// An extension is malformed, or a duplicate.
     #[error("Malformed")]
     Malformed,
     /// The certificate is no leaf.

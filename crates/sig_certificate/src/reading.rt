@@ -1,4 +1,4 @@
-//! Reading a certificate into places.
+//! Reading a certificate into ranges of its DER.
 
 ghost use Rattle.std.specs.Prelude.{◌≡◌, ◌≤◌, ℤ, length, slice_range, map, IfOk, IfSome};
 ghost use Rattle.std.specs.List.{All};
@@ -14,7 +14,7 @@ use crate::parts::{Places, parts_of};
 use crate::seconds::second_at;
 use std::alloc::Global;
 
-/// A certificate whose extensions are not read yet: the places of its parts, and the times of its validity in seconds since 1970.
+/// A certificate whose extensions are not read yet: the ranges of its parts, and the times of its validity in seconds since 1970.
 #[derive(Clone, Copy, Debug)]
 pub(crate) struct Dated {
     pub(crate) places: Places,
@@ -22,7 +22,7 @@ pub(crate) struct Dated {
     pub(crate) not_after: i64,
 }
 
-/// The parts and the validity of the certificate that the bytes are. None where there is none.
+/// Reads the parts and the validity of the certificate that the bytes are. `None` if they are none.
 pub(crate) fn dated_parts(der: &[u8]) -> Option<Dated>
     ensures found { IfSome result (λ d. IsCut der.now (parts_of der.now d.places) d.not_before d.not_after) }
     ensures only { (p : Parts) (not_before not_after : ℤ) → IsCut der.now p not_before not_after
@@ -39,7 +39,7 @@ pub(crate) fn dated_parts(der: &[u8]) -> Option<Dated>
     })
 }
 
-/// Where the extensions from `at` to `end` itself stand. `Der` where something else stands there.
+/// Reads the extensions from `at` to `end` itself. Fails with `Der` if anything else is there, and with `OutOfMemory`.
 pub(crate) fn extensions_at(
     alloc: Global,
     bytes: &[u8],

@@ -5,12 +5,12 @@ ghost use Rattle.sig_certificate.specs.Places.{part};
 
 use sig_der::Place;
 
-/// Where a part of a text begins and ends, in bytes. For sig_policy, which reads names by their places.
+/// A range of a buffer, in bytes. For sig_policy, which reads names by their ranges.
 #[derive(Clone, Copy, Debug)]
 pub struct Span {
-    /// The place of its first byte.
+    /// The offset of its first byte.
     pub start: usize,
-    /// The place behind its last byte.
+    /// The offset after its last byte.
     pub end: usize,
 }
 

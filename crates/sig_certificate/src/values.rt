@@ -1,4 +1,12 @@
-//! What the values of extensions say: key usage, extended key usage and basic constraints.
+//! What the values of extensions say.
+//!
+//! ```text
+//! KeyUsage ::= BIT STRING { digitalSignature (0), .., keyCertSign (5), .. }    -- RFC 5280 section 4.2.1.3
+//! ExtKeyUsageSyntax ::= SEQUENCE OF OBJECT IDENTIFIER                          -- section 4.2.1.12
+//! BasicConstraints ::= SEQUENCE {                                              -- section 4.2.1.9
+//!      cA                  BOOLEAN DEFAULT FALSE,
+//!      pathLenConstraint   INTEGER (0..MAX) OPTIONAL }
+//! ```
 
 ghost use Rattle.std.specs.Prelude.{◌≡◌, ◌≤◌, ◌<◌, length, slice_range, option_map, IfSome};
 ghost use Rattle.sig_der.specs.Taking.{take_whole};
@@ -54,7 +62,7 @@ fn usage(content: &[u8]) -> Option<KeyUsage>
     }
 }
 
-/// What a key usage of this value says. None where it is malformed.
+/// Returns what a key usage of this value says. `None` if it is malformed.
 #[tactic(auto, unfolding(crate::specs::Values::key_usage_of))]
 pub(crate) fn read_key_usage(value: &[u8]) -> Option<KeyUsage>
     ensures { result ≡ key_usage_of value.now }
@@ -63,7 +71,7 @@ pub(crate) fn read_key_usage(value: &[u8]) -> Option<KeyUsage>
     usage(&value[string.content..string.end])
 }
 
-/// The object identifier that begins at `at`. None where none stands there, or an empty one.
+/// Reads the object identifier that begins at `at`. `None` if there is none, or an empty one.
 #[tactic(auto, unfolding(crate::specs::Values::oid_at))]
 pub(crate) fn oid_at(bytes: &[u8], at: usize, end: usize) -> Option<Span>
     requires from { at ≤ end }
@@ -117,7 +125,7 @@ fn constraints_at(bytes: &[u8], at: usize, end: usize) -> Option<BasicConstraint
     }
 }
 
-/// What basic constraints of this value say. None where they are malformed.
+/// Returns what basic constraints of this value say. `None` if they are malformed.
 #[tactic(auto, unfolding(crate::specs::Values::basic_constraints_of))]
 pub(crate) fn read_basic_constraints(value: &[u8]) -> Option<BasicConstraints>
     ensures { result ≡ basic_constraints_of value.now }

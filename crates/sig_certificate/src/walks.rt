@@ -16,7 +16,7 @@ fn either(left: bool, right: bool) -> bool
     left || right
 }
 
-/// Whether this object identifier is among those from `at` to `end` itself. None where something else stands there.
+/// Returns whether this object identifier is among those from `at` to `end` itself. `None` if anything else is there.
 fn purpose_among(bytes: &[u8], at: usize, end: usize, purpose: &[u8]) -> Option<bool>
     requires from { at ≤ end }
     requires to { end ≤ length bytes.now }
@@ -36,8 +36,8 @@ fn purpose_among(bytes: &[u8], at: usize, end: usize, purpose: &[u8]) -> Option<
     Some(found)
 }
 
-/// Whether this purpose is in an extended key usage of this value. None where it is malformed. For sig_timestamp, whose issuers may
-/// only sign precertificates.
+/// Returns whether this purpose is in an extended key usage of this value. `None` if it is malformed. For sig_timestamp, whose issuers
+/// may only sign precertificates.
 #[tactic(auto, unfolding(crate::specs::Values::purposes_of))]
 pub fn read_purpose(value: &[u8], purpose: &[u8]) -> Option<bool>
     ensures { option_map (has_purpose purpose.now) (purposes_of value.now) ≡ result }

@@ -12,8 +12,8 @@ pub use pool::CertificatePool;
 pub use sig_certificate::{
     BasicConstraints, Certificate, CertificateValidationError, ExtensionErrorKind, ExtensionRef,
     KeyUsage, Lookup, NotCAErrorKind, NotLeafErrorKind, PartName, X509ReadError, der_to_pem, is_ca,
-    is_leaf, is_root_ca, is_trusted, name_laws, verify_expiration, verify_has_san,
-    verify_key_usages, verify_validity,
+    is_leaf, is_root_ca, is_trusted, verify_expiration, verify_has_san, verify_key_usages,
+    verify_validity,
 };
 pub use sig_policy::{
     GitHubWorkflowName, GitHubWorkflowRef, GitHubWorkflowRepository, GitHubWorkflowSHA,
