@@ -2,3 +2,6 @@ pub mod Utf8Laws
 pub mod IdentityLaws
 pub mod RequestLaws
 pub mod RefusalLaws
+pub mod ComesLaws
+pub mod SingleLaws
+pub mod IdentityRefusals

@@ -7,12 +7,9 @@ use Rattle.sig_policy.specs.Claim.{Claim}
 use Rattle.sig_certificate.specs.Lookups.{with_oid}
 use Rattle.sig_policy.specs.Texts.{utf8_text}
 use Rattle.sig_certificate.specs.Names.{Name, Email, Uri, Other, Unread, names_of}
-use Rattle.sig_policy.specs.Single.{fulcio, extension_text, is_text, single_refusal}
+use Rattle.sig_der.specs.ObjectIdentifiers.{subject_alternative_name, fulcio}
+use Rattle.sig_policy.specs.Single.{extension_text, is_text, single_refusal}
 use Rattle.sig_policy.specs.Refusals.{Refusal, not_found, check_failed}
-
--- the object identifier of the subject alternative name, 2.5.29.17
-abbrev pub subject_alternative_name : List ℕ
-subject_alternative_name = 85 ∷ 29 ∷ 17 ∷ []
 
 -- the identity that a name gives: the text of an email, of a URI, or of an other name of Fulcio's kind, 1.3.6.1.4.1.57264.1.7
 abbrev pub identity_of : Name → Option (List ℕ)

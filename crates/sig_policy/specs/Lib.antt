@@ -5,4 +5,5 @@ pub mod Verdict
 pub mod Single
 pub mod Claim
 pub mod Identities
+pub mod Held
 pub mod Requests

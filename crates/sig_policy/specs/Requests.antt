@@ -2,7 +2,8 @@
 use Rattle.std.specs.Prelude.{ℕ, List, length, Bool, Option, Some, None, codes, if◌then◌else◌}
 use Rattle.std.specs.List.{list_all, list_any, filter_map}
 use Rattle.sig_certificate.specs.Certificate.{Cert}
-use Rattle.sig_policy.specs.Single.{fulcio, extension_text, is_text, single_refusal}
+use Rattle.sig_der.specs.ObjectIdentifiers.{fulcio}
+use Rattle.sig_policy.specs.Single.{extension_text, is_text, single_refusal}
 use Rattle.sig_policy.specs.Identities.{identity_holds, identity_refusal}
 use Rattle.sig_policy.specs.Refusals.{Refusal, all_of, any_of, refusals_of}
 use Rattle.sig_policy.specs.declared.request.LeafPolicy.{LeafPolicy}

@@ -24,7 +24,3 @@ is_text asked (Some actual) = bytes_eq actual asked
 abbrev pub single_refusal : List ℕ → List ℕ → Option (List ℕ) → Refusal
 single_refusal name asked None = not_found
 single_refusal name asked (Some actual) = check_failed name asked actual
-
--- the object identifier of Fulcio's extension n, 1.3.6.1.4.1.57264.1.n
-abbrev pub fulcio : ℕ → List ℕ
-fulcio n = 43 ∷ 6 ∷ 1 ∷ 4 ∷ 1 ∷ 131 ∷ 191 ∷ 48 ∷ 1 ∷ n ∷ []

@@ -1,7 +1,7 @@
 //! The policies of Fulcio's extensions: https://github.com/sigstore/fulcio/blob/main/docs/oid-info.md.
 
 ghost use Rattle.std.specs.Prelude.{codes};
-ghost use Rattle.sig_policy.specs.Single.{fulcio};
+ghost use Rattle.sig_der.specs.ObjectIdentifiers.{fulcio};
 
 use crate::single::SingleX509ExtPolicy;
 use sig_base::{OutOfMemory, Text};

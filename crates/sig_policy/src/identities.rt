@@ -11,9 +11,8 @@ use crate::utf8::utf8_text;
 use sig_base::OutOfMemory;
 use sig_certificate::{NamePlaces, content_at, name_at, part};
 use sig_der::oid;
+use sig_der::tag::SEQUENCE;
 use std::alloc::Global;
-
-const SEQUENCE: u8 = 48;
 
 /// The identity that the name gives, if it gives one.
 fn identity_of(bytes: &[u8], name: NamePlaces) -> Option<&str>

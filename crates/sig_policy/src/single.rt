@@ -1,8 +1,10 @@
 //! Policies that compare a text with the value of one extension.
 
-ghost use Rattle.std.specs.Prelude.{◌≡◌, ℕ, List, Some, IfOk, option_map};
+ghost use Rattle.std.specs.Prelude.{◌≡◌, ◌≢◌, ℕ, List, Ok, Err, IfOk, option_map};
+ghost use Rattle.sig_certificate.specs.Answers.{ComesWhere};
 ghost use Rattle.sig_certificate.specs.Certificate.{Cert};
 ghost use Rattle.sig_policy.specs.Single.{extension_text, is_text, single_refusal};
+ghost use Rattle.sig_policy.specs.Held.{HasText};
 ghost use Rattle.sig_policy.specs.Refusals.{IsRefusal, check_failed};
 ghost use Rattle.sig_policy.specs.Verdict.{IsVerdict};
 
@@ -51,13 +53,36 @@ pub(crate) fn extension_text<'a>(cert: &'a Certificate, oid: &[u8]) -> Option<&'
 }
 
 /// Whether the certificate has exactly one extension of the policy's object identifier, and its value is UTF-8 and the text that
-/// the policy asks for. `ExtensionNotFound` where the certificate has none or several, or the value is not UTF-8; else
-/// `ExtensionCheckFailed` with the policy's name, the text that it asks for and the text that is there.
+/// the policy asks for. Errors:
+///
+/// - `ExtensionNotFound` if and only if it has none or several, or the value is not UTF-8;
+/// - `ExtensionCheckFailed`, with the policy's name, the text that it asks for and the text of the extension, if and only if the
+///   certificate has one, and its value is another text;
+/// - `OutOfMemory`.
 pub fn verify_single<T: SingleX509ExtPolicy>(
     alloc: Global,
     policy: &T,
     cert: &Certificate,
 ) -> PolicyResult
+    // The extension has the text that is asked for.
+    ensures accepted { ComesWhere PolicyError.OutOfMemory result (Ok tt) (HasText T.identifier cert.now (T.asked policy.now)) }
+    // It has no text.
+    ensures extension_not_found { ComesWhere PolicyError.OutOfMemory result (Err PolicyError.ExtensionNotFound)
+        ((text : List ℕ) → ¬ HasText T.identifier cert.now text) }
+    // It has another.
+    ensures extension_check_failed { (actual : List ℕ) → ComesWhere PolicyError.OutOfMemory result
+        (Err (PolicyError.ExtensionCheckFailed T.title (T.asked policy.now) actual))
+        (HasText T.identifier cert.now actual × (actual ≢ T.asked policy.now)) }
+    // The same by the definition.
+    ensures verdict { IsVerdict
+        (is_text (T.asked policy.now) (extension_text T.identifier cert.now))
+        (single_refusal T.title (T.asked policy.now) (extension_text T.identifier cert.now))
+        result }
+{
+    check(alloc, policy, cert)
+}
+
+fn check<T: SingleX509ExtPolicy>(alloc: Global, policy: &T, cert: &Certificate) -> PolicyResult
     ensures { IsVerdict
         (is_text (T.asked policy.now) (extension_text T.identifier cert.now))
         (single_refusal T.title (T.asked policy.now) (extension_text T.identifier cert.now))

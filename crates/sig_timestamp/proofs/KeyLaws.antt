@@ -6,7 +6,7 @@ use Rattle.std.proofs.lemmas.Bool.{cases_Bool, eqb-true, cond-true, cond-false}
 use Rattle.std.proofs.lemmas.Slice.Eq.{bytes_eq-Decides}
 use Rattle.sig_der.specs.Reading.{Piece}
 use Rattle.sig_der.specs.KeyInfo.{KeyInfo, IsKeyInfo, whole_key_info}
-use Rattle.sig_der.specs.declared.oid.TheConstants.{EC_PUBLIC_KEY, P256, RSA}
+use Rattle.sig_der.specs.ObjectIdentifiers.{ec_public_key, p256, rsa}
 use Rattle.sig_der.proofs.Bytes.{IsBytes}
 use Rattle.sig_der.proofs.KeyInfos.{whole_key_info_takes, whole_key_info_again}
 use Rattle.sig_timestamp.specs.declared.keyring_error.KeyringError.{KeyringError}
@@ -29,25 +29,25 @@ both false b e = absurd cc
 
 -- the parameters are the identifier of the curve
 record IsPoint (bits oid : List ℕ) (p : Piece) (point : List ℕ) : Type 0 where
-  elliptic : oid ≡ EC_PUBLIC_KEY.now
+  elliptic : oid ≡ ec_public_key
   identifier : p.tag ≡ 6
-  curve : p.content ≡ P256.now
+  curve : p.content ≡ p256
   point_is : bits ≡ point
 
 point_under_takes : (bits oid : List ℕ) (p : Piece) (point : List ℕ) → point_under bits oid (Some p) ≡ Ok point → IsPoint bits oid p point
 point_under_takes bits oid p point e =
     elim (cases_Bool (is_identifier p)) [
       | inl named ↦
-          let h = refused (bytes_eq oid EC_PUBLIC_KEY.now && bytes_eq p.content P256.now) (Ok bits) AlgoUnsupported point
+          let h = refused (bytes_eq oid ec_public_key && bytes_eq p.content p256) (Ok bits) AlgoUnsupported point
           (sym (cond-true (is_identifier p) _ _ named) ∙ e) in
           let t = both _ _ h.0 in
           record {
-            elliptic = (bytes_eq-Decides oid EC_PUBLIC_KEY.now).0 t.0;
+            elliptic = (bytes_eq-Decides oid ec_public_key).0 t.0;
             identifier = eqb-true p.tag 6 (both _ _ named).0;
-            curve = (bytes_eq-Decides p.content P256.now).0 t.1;
+            curve = (bytes_eq-Decides p.content p256).0 t.1;
             point_is = let is = h.1 in cc;
           }
-      | inr other ↦ absurd (no_other (is_null p && bytes_eq oid RSA.now) (sym (cond-false (is_identifier p) _ _ other) ∙ e))
+      | inr other ↦ absurd (no_other (is_null p && bytes_eq oid rsa) (sym (cond-false (is_identifier p) _ _ other) ∙ e))
     ]
   where
     no_other : (b : Bool) → cond b (Err AlgoUnsupported) (Err KeyMalformed) ≡ Ok point → ⊥

@@ -9,7 +9,7 @@ use Rattle.std.proofs.lemmas.List.{length-append, append-nil, take_more}
 use Rattle.std.proofs.lemmas.Bool.Decides.{nat_tests}
 use Rattle.std.proofs.lemmas.Option.{slice_get_within, slice_get-get_or, get_or_from_slice_get}
 use Rattle.sig_der.specs.Element.{IsElement, element, spelled_length}
-use Rattle.sig_der.specs.declared.oid.TheConstants.{SCT_LIST}
+use Rattle.sig_der.specs.ObjectIdentifiers.{sct_list}
 use Rattle.sig_certificate.specs.Certificate.{Extension, Cert, IsExtension, IsList, AreExtensions, IsSignedPart}
 use Rattle.sig_timestamp.specs.Precert.{without_oid, kept_extensions, kept_of, texts_of, extensions_element, precertificate, HaveSpelling, IsWithoutScts}
 
@@ -19,51 +19,51 @@ kept_texts_cond : (b : Bool) (e : Extension) (es : List Extension) → texts_of 
 kept_texts_cond true e es = refl
 kept_texts_cond false e es = refl
 
-pub kept_push : (es : List Extension) (e : Extension) → texts_of (without_oid SCT_LIST.now (es ++ e ∷ [])) ≡ texts_of (without_oid SCT_LIST.now es) ++ kept_of e
-kept_push [] e = kept_texts_cond (bytes_eq e.oid SCT_LIST.now) e [] ∙ append-nil (kept_of e)
+pub kept_push : (es : List Extension) (e : Extension) → texts_of (without_oid sct_list (es ++ e ∷ [])) ≡ texts_of (without_oid sct_list es) ++ kept_of e
+kept_push [] e = kept_texts_cond (bytes_eq e.oid sct_list) e [] ∙ append-nil (kept_of e)
 kept_push (x ∷ es) e =
-    kept_texts_cond (bytes_eq x.oid SCT_LIST.now) x (without_oid SCT_LIST.now (es ++ e ∷ []))
+    kept_texts_cond (bytes_eq x.oid sct_list) x (without_oid sct_list (es ++ e ∷ []))
     ∙ ap (λ (w : List ℕ). kept_of x ++ w) (kept_push es e)
-    ∙ sym (append_assoc (kept_of x) (texts_of (without_oid SCT_LIST.now es)) (kept_of e))
-    ∙ ap (λ (w : List ℕ). w ++ kept_of e) (sym (kept_texts_cond (bytes_eq x.oid SCT_LIST.now) x (without_oid SCT_LIST.now es)))
+    ∙ sym (append_assoc (kept_of x) (texts_of (without_oid sct_list es)) (kept_of e))
+    ∙ ap (λ (w : List ℕ). w ++ kept_of e) (sym (kept_texts_cond (bytes_eq x.oid sct_list) x (without_oid sct_list es)))
 
 -- one turn of the loop over the extensions
 pub kept_more : (es : List Extension) (place : ℕ) (e : Extension) (before after : List ℕ) → slice_get es place ≡ Some e → after ≡ before ++ kept_of e
-    → before ≡ texts_of (without_oid SCT_LIST.now (take place es)) → after ≡ texts_of (without_oid SCT_LIST.now (take (place + 1) es))
+    → before ≡ texts_of (without_oid sct_list (take place es)) → after ≡ texts_of (without_oid sct_list (take (place + 1) es))
 kept_more es place e before after got is h =
     is ∙ ap (λ (w : List ℕ). w ++ kept_of e) h ∙ sym (kept_push (take place es) e)
-    ∙ ap (λ (xs : List Extension). texts_of (without_oid SCT_LIST.now xs))
+    ∙ ap (λ (xs : List Extension). texts_of (without_oid sct_list xs))
     (sym (take_more es place e (slice_get_within es place e got) ∙ ap (λ (x : Extension). take place es ++ x ∷ []) (get_or_from_slice_get es place e e got)))
 
 pub place_within : (es : List Extension) (place : ℕ) → place < length es → None ≡ slice_get es place → ⊥
 place_within [] place lt e = absurd (omega arith)
 place_within (x ∷ es) place lt e = let some = slice_get-get_or (x ∷ es) place x lt in let no = e ∙ some in cc
 
-kept_each : (es : List Extension) → AllByRecursion IsExtension es → AllByRecursion IsExtension (without_oid SCT_LIST.now es)
+kept_each : (es : List Extension) → AllByRecursion IsExtension es → AllByRecursion IsExtension (without_oid sct_list es)
 kept_each [] h = tt
-kept_each (e ∷ es) h = by_test (not (bytes_eq e.oid SCT_LIST.now)) (kept_each es h.1)
+kept_each (e ∷ es) h = by_test (not (bytes_eq e.oid sct_list)) (kept_each es h.1)
   where
-    by_test : (b : Bool) → AllByRecursion IsExtension (without_oid SCT_LIST.now es)
-        → AllByRecursion IsExtension (cond b (e ∷ without_oid SCT_LIST.now es) (without_oid SCT_LIST.now es))
+    by_test : (b : Bool) → AllByRecursion IsExtension (without_oid sct_list es)
+        → AllByRecursion IsExtension (cond b (e ∷ without_oid sct_list es) (without_oid sct_list es))
     by_test true rest = (h.0, rest)
     by_test false rest = rest
 
 -- ---- lengths
 
-kept_shorter : (es : List Extension) → length (texts_of (without_oid SCT_LIST.now es)) ≤ length (texts_of es)
+kept_shorter : (es : List Extension) → length (texts_of (without_oid sct_list es)) ≤ length (texts_of es)
 kept_shorter [] = omega arith
 kept_shorter (e ∷ es) =
     let rest = kept_shorter es in
     let more = length-append e.whole (texts_of es) in
-    elim (cases_Bool (bytes_eq e.oid SCT_LIST.now)) [
+    elim (cases_Bool (bytes_eq e.oid sct_list)) [
       | inl out ↦
-          let is = ap (λ (w : List ℕ). length w) (kept_texts_cond (bytes_eq e.oid SCT_LIST.now) e (without_oid SCT_LIST.now es)
-          ∙ ap (λ (w : List ℕ). w ++ texts_of (without_oid SCT_LIST.now es)) (cond-true (bytes_eq e.oid SCT_LIST.now) [] e.whole out)) in
+          let is = ap (λ (w : List ℕ). length w) (kept_texts_cond (bytes_eq e.oid sct_list) e (without_oid sct_list es)
+          ∙ ap (λ (w : List ℕ). w ++ texts_of (without_oid sct_list es)) (cond-true (bytes_eq e.oid sct_list) [] e.whole out)) in
           omega arith
       | inr in_it ↦
-          let is = ap (λ (w : List ℕ). length w) (kept_texts_cond (bytes_eq e.oid SCT_LIST.now) e (without_oid SCT_LIST.now es)
-          ∙ ap (λ (w : List ℕ). w ++ texts_of (without_oid SCT_LIST.now es)) (cond-false (bytes_eq e.oid SCT_LIST.now) [] e.whole in_it)) in
-          omega (arith, length-append e.whole (texts_of (without_oid SCT_LIST.now es)))
+          let is = ap (λ (w : List ℕ). length w) (kept_texts_cond (bytes_eq e.oid sct_list) e (without_oid sct_list es)
+          ∙ ap (λ (w : List ℕ). w ++ texts_of (without_oid sct_list es)) (cond-false (bytes_eq e.oid sct_list) [] e.whole in_it)) in
+          omega (arith, length-append e.whole (texts_of (without_oid sct_list es)))
     ]
 
 octets_of : ℕ → ℕ
@@ -163,7 +163,7 @@ without_scts c is =
           subst (λ (w : List ℕ). IsWithoutScts c w) (sym (cond-false c.listed _ _ absent))
           (signed_part_of c is c.tbs is.extensions_text is.tbs
           (subst (λ (b : Bool). AreExtensions is.extensions_text b (kept_extensions c)) (sym absent)
-          (none.0, ap (λ (es : List Extension). without_oid SCT_LIST.now es) none.1)))
+          (none.0, ap (λ (es : List Extension). without_oid sct_list es) none.1)))
     ]
 
 pub keeps_of : (c : Cert) → IsSignedPart c → (r : Result (List ℕ) OutOfMemory) → IfOk r (λ t. t ≡ precertificate c) → IfOk r (IsWithoutScts c)

@@ -1,7 +1,7 @@
 -- The timestamp that a certificate carries, made ready to be checked: RFC 6962 sections 3.2 and 3.3.
 use Rattle.std.specs.Prelude.{◌≡◌, ◌≢◌, ◌⊎◌, ℕ, length, Bool, false, List, [], ◌∷◌, Option, Some, None, option_map, slice_get, unwrap_or, Result, Ok, Err, is_some, if◌then◌else◌}
 use Rattle.sig_base.specs.Answers.{Answers}
-use Rattle.sig_der.specs.declared.oid.TheConstants.{EXTENDED_KEY_USAGE, PRECERTIFICATE_SIGNING}
+use Rattle.sig_der.specs.ObjectIdentifiers.{extended_key_usage, precertificate_signing}
 use Rattle.sig_timestamp.specs.declared.signed.DigitallySigned.{DigitallySigned}
 use Rattle.sig_timestamp.specs.declared.sct_error.CertificateErrorKind.{CertificateErrorKind}
 use Rattle.sig_timestamp.specs.declared.sct_error.CertificateErrorKind.TheVariants.{LeafSCTMissing, IssuerMissing, LeafSCTMalformed}
@@ -20,11 +20,11 @@ use Rattle.sig_timestamp.specs.Timestamps.{HasSct, LacksSct, HasBadSct, IsNoList
 -- the only extended key usage has the purpose of precertificate signing
 abbrev pub signs_by : List Extension → Bool
 signs_by [] = false
-signs_by (e ∷ []) = unwrap_or (option_map (has_purpose PRECERTIFICATE_SIGNING.now) (purposes_of e.value)) false
+signs_by (e ∷ []) = unwrap_or (option_map (has_purpose precertificate_signing) (purposes_of e.value)) false
 signs_by (e ∷ f ∷ es) = false
 
 abbrev pub signs_precertificates : Cert → Bool
-signs_precertificates c = signs_by (with_oid EXTENDED_KEY_USAGE.now c.extensions)
+signs_precertificates c = signs_by (with_oid extended_key_usage c.extensions)
 
 -- the first of the chain, or the second where the first only signed the precertificate (RFC 6962 section 3.1)
 abbrev pub candidate_of : List Cert → Option Cert

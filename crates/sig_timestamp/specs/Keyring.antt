@@ -6,8 +6,9 @@ use Rattle.std.specs.Result.{result_ok}
 use Rattle.sig_base.specs.Sha256.{sha256}
 use Rattle.sig_der.specs.Reading.{Piece}
 use Rattle.sig_der.specs.KeyInfo.{KeyInfo, IsKeyInfo, is_empty, whole_key_info}
+use Rattle.sig_der.specs.Tag.{OBJECT_IDENTIFIER, NULL}
 use Rattle.sig_der.specs.declared.place.Place.{Place}
-use Rattle.sig_der.specs.declared.oid.TheConstants.{EC_PUBLIC_KEY, P256, RSA}
+use Rattle.sig_der.specs.ObjectIdentifiers.{ec_public_key, p256, rsa}
 use Rattle.sig_timestamp.specs.declared.keyring_error.KeyringError.{KeyringError}
 use Rattle.sig_timestamp.specs.declared.keyring_error.KeyringError.TheVariants.{KeyMalformed, AlgoUnsupported, KeyNotFound, VerificationFailed}
 
@@ -15,11 +16,11 @@ use Rattle.sig_timestamp.specs.declared.keyring_error.KeyringError.TheVariants.{
 
 -- an object identifier, X.690 section 8.19
 abbrev pub is_identifier : Piece → Bool
-is_identifier p = (p.tag == 6) && not (is_empty p.content)
+is_identifier p = (p.tag == OBJECT_IDENTIFIER) && not (is_empty p.content)
 
 -- NULL, X.690 section 8.8
 abbrev pub is_null : Piece → Bool
-is_null p = (p.tag == 5) && is_empty p.content
+is_null p = (p.tag == NULL) && is_empty p.content
 
 -- What the algorithm and its parameters say of the bits: a point of P-256 is a key on an elliptic curve whose parameters are the
 -- curve's identifier (RFC 5480 section 2.1.1).
@@ -27,8 +28,8 @@ abbrev pub point_under : List ℕ → List ℕ → Option Piece → Result (List
 point_under bits oid None = Err AlgoUnsupported
 point_under bits oid (Some p) =
     if is_identifier p
-    then (if bytes_eq oid EC_PUBLIC_KEY.now && bytes_eq p.content P256.now then Ok bits else Err AlgoUnsupported)
-    else if is_null p && bytes_eq oid RSA.now then Err AlgoUnsupported
+    then (if bytes_eq oid ec_public_key && bytes_eq p.content p256 then Ok bits else Err AlgoUnsupported)
+    else if is_null p && bytes_eq oid rsa then Err AlgoUnsupported
     else Err KeyMalformed
 
 -- the point of a key info, or why it is no key of a ring
@@ -42,9 +43,9 @@ pub record IsRingKey (spki point : List ℕ) : Type 0 where
   pub text : info.whole ≡ spki
   pub parameters : Piece
   pub has : info.algorithm.parameters ≡ Some parameters
-  pub elliptic : info.algorithm.oid ≡ EC_PUBLIC_KEY.now
-  pub identifier : parameters.tag ≡ 6
-  pub curve : parameters.content ≡ P256.now
+  pub elliptic : info.algorithm.oid ≡ ec_public_key
+  pub identifier : parameters.tag ≡ OBJECT_IDENTIFIER
+  pub curve : parameters.content ≡ p256
   pub bits : info.bits ≡ point
 
 abbrev pub point_of_info : Option KeyInfo → Result (List ℕ) KeyringError

@@ -3,7 +3,8 @@ use Rattle.std.specs.Prelude.{ℕ, ◌^◌, ◌<◌, not, List, [], ◌++◌, le
 use Rattle.std.specs.Str.{bytes_eq}
 use Rattle.sig_der.specs.Element.{element}
 use Rattle.sig_der.specs.Joined.{joined}
-use Rattle.sig_der.specs.declared.oid.TheConstants.{SCT_LIST}
+use Rattle.sig_der.specs.Tag.{SEQUENCE, EXTENSIONS}
+use Rattle.sig_der.specs.ObjectIdentifiers.{sct_list}
 use Rattle.sig_certificate.specs.Certificate.{Extension, Cert, IsSignedPart}
 
 -- the extensions with another object identifier, in order
@@ -11,7 +12,7 @@ abbrev pub without_oid : List ℕ → List Extension → List Extension
 without_oid oid es = filter (λ e. not (bytes_eq e.oid oid)) es
 
 abbrev pub kept_extensions : Cert → List Extension
-kept_extensions c = without_oid SCT_LIST.now c.extensions
+kept_extensions c = without_oid sct_list c.extensions
 
 -- the whole texts of extensions
 abbrev pub texts_of : List Extension → List ℕ
@@ -19,21 +20,25 @@ texts_of es = joined (λ (e : Extension). e.whole) es
 
 -- the text of an extension that is kept
 abbrev pub kept_of : Extension → List ℕ
-kept_of e = if bytes_eq e.oid SCT_LIST.now then [] else e.whole
+kept_of e = if bytes_eq e.oid sct_list then [] else e.whole
 
--- the element of the extensions, RFC 5280 section 4.1.2.9
+-- extensions [3] EXPLICIT SEQUENCE OF Extension, RFC 5280 section 4.1
 abbrev pub extensions_element : List Extension → List ℕ
-extensions_element es = element 163 (element 48 (texts_of es))
+extensions_element es = element EXTENSIONS (element SEQUENCE (texts_of es))
 
--- *Precertificate TBS*: the elements of the signed part, each as it stands, but that of the extensions, which is made anew of the
--- whole texts of those that list no timestamps. Where the certificate has no extensions, the signed part is kept as it is.
+-- the TBSCertificate with these extensions: each element before them as it is
+abbrev pub tbs_with : Cert → List Extension → List ℕ
+tbs_with c es = element SEQUENCE (c.front ++ extensions_element es)
+
+-- *Precertificate TBS*: the elements of the TBSCertificate, each as it is, but for its extensions, which are made anew without
+-- those that list SCTs. A TBSCertificate without extensions is kept as it is.
 abbrev pub precertificate : Cert → List ℕ
-precertificate c = if c.listed then element 48 (c.front ++ extensions_element (kept_extensions c)) else c.tbs
+precertificate c = if c.listed then tbs_with c (kept_extensions c) else c.tbs
 
 -- the lengths of what is written anew have a spelling
 pub record HaveSpelling (c : Cert) : Type 0 where
   pub kept : length (texts_of (kept_extensions c)) < 2 ^ 32
-  pub list : length (element 48 (texts_of (kept_extensions c))) < 2 ^ 32
+  pub list : length (element SEQUENCE (texts_of (kept_extensions c))) < 2 ^ 32
   pub body : length (c.front ++ extensions_element (kept_extensions c)) < 2 ^ 32
 
 -- The text is the signed part of a certificate that has every part of this one, but no list of timestamps.

@@ -5,6 +5,7 @@ use Rattle.std.specs.Int.{w64, to_be_bytes, from_be_bytes}
 use Rattle.sig_base.specs.OptionSteps.{◌>>=◌}
 use Rattle.sig_der.specs.Element.{IsElement}
 use Rattle.sig_der.specs.Joined.{AreJoined}
+use Rattle.sig_der.specs.Tag.{OCTET_STRING}
 use Rattle.sig_der.specs.Taking.{take_whole, many_at}
 use Rattle.sig_timestamp.specs.Numbers.{v1, hash_length}
 use Rattle.sig_timestamp.specs.Vectors.{vector, IsShort, bytes_at, vector_at, whole_vector}
@@ -36,7 +37,7 @@ pub record IsSct (text : List ℕ) (s : Sct) : Type 0 where
 -- *SCT list*: an OCTET STRING of a vector of vectors
 pub record IsSctList (value : List ℕ) (scts : List (List ℕ)) : Type 0 where
   pub list : List ℕ
-  pub is : IsElement value 4 (vector list)
+  pub is : IsElement value OCTET_STRING (vector list)
   pub short : IsShort list
   pub joined : AreJoined IsShort vector list scts
 
@@ -65,7 +66,7 @@ sct_at text = do
 
 -- the bytes of the list, without its lengths
 unfoldable pub list_in : List ℕ → Option (List ℕ)
-list_in value = take_whole 4 value >>= λ o. whole_vector o.content
+list_in value = take_whole OCTET_STRING value >>= λ o. whole_vector o.content
 
 unfoldable pub sct_list_at : List ℕ → Option (List (List ℕ))
 sct_list_at value = list_in value >>= λ l. many_at vector_at l

@@ -1,6 +1,6 @@
 -- The timestamp of a certificate: RFC 6962 section 3.3.
 use Rattle.std.specs.Prelude.{◌≡◌, ◌≢◌, ℕ, List, [], ◌∷◌, length, Option, Some, None, Result, Ok, Err, ◌⊎◌}
-use Rattle.sig_der.specs.declared.oid.TheConstants.{SCT_LIST}
+use Rattle.sig_der.specs.ObjectIdentifiers.{sct_list}
 use Rattle.sig_timestamp.specs.declared.sct_error.CertificateErrorKind.{CertificateErrorKind}
 use Rattle.sig_timestamp.specs.declared.sct_error.CertificateErrorKind.TheVariants.{LeafSCTMissing, LeafSCTMalformed}
 use Rattle.sig_certificate.specs.Certificate.{Extension, Cert}
@@ -11,7 +11,7 @@ use Rattle.sig_timestamp.specs.SctList.{Sct, IsSct, IsSctList, sct_at, sct_list_
 
 -- the extensions that list timestamps
 abbrev pub sct_extensions : Cert → List Extension
-sct_extensions c = with_oid SCT_LIST.now c.extensions
+sct_extensions c = with_oid sct_list c.extensions
 
 -- The certificate has this timestamp: one extension lists timestamps, and it lists this one alone.
 pub record HasSct (c : Cert) (s : Sct) : Type 0 where

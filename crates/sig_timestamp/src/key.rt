@@ -10,13 +10,10 @@ ghost use Rattle.sig_timestamp.specs.Keyring.{IsRingKey, IsParametersWithin, poi
 use crate::keyring_error::KeyringError;
 use sig_base::{Bytes, SignatureChecker, sha256};
 use sig_der::oid::{EC_PUBLIC_KEY, P256, RSA};
+use sig_der::tag::{NULL, OBJECT_IDENTIFIER};
 use sig_der::{Place, whole_key_info};
 use std::alloc::Global;
 use std::marker::Model;
-
-const OBJECT_IDENTIFIER: u8 = 6;
-
-const NULL: u8 = 5;
 
 /// The key of a certificate log: a point of P-256, and its id, the SHA-256 of its key info (RFC 6962 section 3.2).
 #[derive(Drop)]

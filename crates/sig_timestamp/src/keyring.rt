@@ -83,16 +83,16 @@ impl Keyring {
     ) -> Result<(), KeyringError>
         ensures accepted { (result ≡ Ok tt)
             ↔ IsSignedUnder (C.point_accepts checker.now) self.now key_id.now message.now signature.now true }
-        ensures unknown { IsErrOf result KeyringError.KeyNotFound ↔ (point_at self.now key_id.now ≡ None) }
-        ensures forged { IsErrOf result KeyringError.VerificationFailed
+        ensures key_not_found { IsErrOf result KeyringError.KeyNotFound ↔ (point_at self.now key_id.now ≡ None) }
+        ensures verification_failed { IsErrOf result KeyringError.VerificationFailed
             ↔ IsSignedUnder (C.point_accepts checker.now) self.now key_id.now message.now signature.now false }
         // The same in one equation.
         ensures exact { result ≡ vouch (C.point_accepts checker.now) (point_at self.now key_id.now) message.now signature.now }
     {
-        self.judge(key_id, signature, message, checker)
+        self.check(key_id, signature, message, checker)
     }
 
-    fn judge<C: SignatureChecker>(
+    fn check<C: SignatureChecker>(
         &self,
         key_id: &[u8; 32],
         signature: &[u8],

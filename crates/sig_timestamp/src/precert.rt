@@ -1,20 +1,16 @@
 //! The precertificate's signed part: RFC 6962 section 3.2.
 
 ghost use Rattle.std.specs.Prelude.{◌≡◌, [], ◌∷◌, ◌++◌, IfOk, OnOk};
-ghost use Rattle.sig_der.specs.Element.{element};
 ghost use Rattle.sig_certificate.specs.Certificate.{IsSignedPart};
 ghost use Rattle.sig_certificate.specs.Lookups.{lent};
-ghost use Rattle.sig_timestamp.specs.Precert.{precertificate, kept_extensions, kept_of, texts_of, extensions_element, HaveSpelling, IsWithoutScts};
+ghost use Rattle.sig_timestamp.specs.Precert.{precertificate, kept_extensions, kept_of, texts_of, tbs_with, HaveSpelling, IsWithoutScts};
 
 use sig_base::{Bytes, OutOfMemory};
 use sig_certificate::{Certificate, ExtensionRef};
 use sig_der::oid::SCT_LIST;
+use sig_der::tag::{EXTENSIONS, SEQUENCE};
 use sig_der::write_short;
 use std::alloc::{AllocError, Global};
-
-const SEQUENCE: u8 = 48;
-
-const EXTENSIONS: u8 = 163;
 
 /// The signed part that a log saw before it issued the certificate's timestamp: the elements of the certificate's signed part, each
 /// byte for byte, without the extensions that list timestamps. Only the lengths of the extensions' element, of its SEQUENCE and of
@@ -42,7 +38,7 @@ fn precertificate(alloc: Global, leaf: &Certificate) -> Result<Bytes, OutOfMemor
 /// The signed part with the element of the extensions made anew.
 fn made_anew(alloc: Global, leaf: &Certificate) -> Result<Bytes, OutOfMemory>
     requires { HaveSpelling leaf.now }
-    ensures { IfOk result (λ t. t ≡ element 48 (leaf.now.front ++ extensions_element (kept_extensions leaf.now))) }
+    ensures { IfOk result (λ t. t ≡ tbs_with leaf.now (kept_extensions leaf.now)) }
 {
     let kept = kept_extensions(alloc, leaf)?;
     let list = write_short(alloc, SEQUENCE, &kept)?;

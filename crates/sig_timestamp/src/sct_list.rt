@@ -9,9 +9,8 @@ ghost use Rattle.sig_timestamp.specs.Lent.{both_now, sct_now, part_now};
 
 use crate::opaque::{bytes_at, vector_at, whole_vector};
 use crate::sct_error::CertificateErrorKind;
+use sig_der::tag::OCTET_STRING;
 use sig_der::whole_at;
-
-const OCTET_STRING: u8 = 4;
 
 /// The version of SCTs (RFC 6962 section 3.2).
 pub(crate) const SCT_V1: u8 = 0;

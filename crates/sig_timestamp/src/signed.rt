@@ -58,21 +58,21 @@ pub fn verify_sct<C: SignatureChecker>(
     ensures accepted { ComesWhere SCTError.OutOfMemory result (Ok tt)
         (IsSignedByLog (C.point_accepts checker.now) sct.now keyring.now true) }
     // What it signs has no bytes.
-    ensures long { ComesWhere SCTError.OutOfMemory result (Err SCTError.Serialization) (¬ HasBytes sct.now) }
+    ensures serialization { ComesWhere SCTError.OutOfMemory result (Err SCTError.Serialization) (¬ HasBytes sct.now) }
     // It has bytes, and there is no key of the log's id.
-    ensures unknown { ComesWhere SCTError.OutOfMemory result
+    ensures key_not_found { ComesWhere SCTError.OutOfMemory result
         (Err (SCTError.Verification KeyringError.KeyNotFound)) (IsOfUnknownLog sct.now keyring.now) }
     // It has bytes, there is such a key, and it does not accept the signature.
-    ensures forged { ComesWhere SCTError.OutOfMemory result (Err (SCTError.Verification KeyringError.VerificationFailed))
+    ensures verification_failed { ComesWhere SCTError.OutOfMemory result (Err (SCTError.Verification KeyringError.VerificationFailed))
         (IsSignedByLog (C.point_accepts checker.now) sct.now keyring.now false) }
     // The same in one equation.
     ensures exact { Answers SCTError.OutOfMemory (λ done. done) result
         (judged (C.point_accepts checker.now) sct.now keyring.now) }
 {
-    judge(alloc, sct, keyring, checker)
+    check(alloc, sct, keyring, checker)
 }
 
-fn judge<C: SignatureChecker>(
+fn check<C: SignatureChecker>(
     alloc: Global,
     sct: &DigitallySigned,
     keyring: &Keyring,

@@ -10,7 +10,7 @@ use Rattle.std.proofs.lemmas.Slice.Eq.{bytes_eq-Decides}
 use Rattle.sig_base.specs.Answers.{Answers}
 use Rattle.sig_base.specs.declared.fault.PoolError.{PoolError}
 use Rattle.sig_base.specs.declared.fault.PoolError.TheVariants.{Malformed, VerificationFailed, OutOfMemory}
-use Rattle.sig_der.specs.declared.oid.TheConstants.{KEY_USAGE, EXTENDED_KEY_USAGE, BASIC_CONSTRAINTS, SUBJECT_ALTERNATIVE_NAME, NAME_CONSTRAINTS}
+use Rattle.sig_der.specs.ObjectIdentifiers.{key_usage, extended_key_usage, basic_constraints, subject_alternative_name, name_constraints}
 use Rattle.sig_certificate.specs.declared.values.BasicConstraints.{BasicConstraints as Constraints}
 use Rattle.sig_certificate.specs.Answers.{ComesWhere}
 use Rattle.sig_certificate.specs.Certificate.{Extension, Cert, IsCertificate}
@@ -32,28 +32,28 @@ same_bytes xs ys e = (bytes_eq-Decides xs ys).1 e
 critical_from : (oid : List ℕ) → may_be_critical oid ≡ true → MayBeCritical oid
 critical_from oid is = first (or_cases _ _ is)
   where
-    third : (bytes_eq oid BASIC_CONSTRAINTS.now ≡ true) ⊎ (bytes_eq oid EXTENDED_KEY_USAGE.now ≡ true) → MayBeCritical oid
-    third (inl e) = inr (inr (inl (bytes_same oid BASIC_CONSTRAINTS.now e)))
-    third (inr e) = inr (inr (inr (bytes_same oid EXTENDED_KEY_USAGE.now e)))
+    third : (bytes_eq oid basic_constraints ≡ true) ⊎ (bytes_eq oid extended_key_usage ≡ true) → MayBeCritical oid
+    third (inl e) = inr (inr (inl (bytes_same oid basic_constraints e)))
+    third (inr e) = inr (inr (inr (bytes_same oid extended_key_usage e)))
 
-    second : (bytes_eq oid SUBJECT_ALTERNATIVE_NAME.now ≡ true) ⊎ ((bytes_eq oid BASIC_CONSTRAINTS.now || bytes_eq oid EXTENDED_KEY_USAGE.now) ≡ true) → MayBeCritical oid
-    second (inl e) = inr (inl (bytes_same oid SUBJECT_ALTERNATIVE_NAME.now e))
+    second : (bytes_eq oid subject_alternative_name ≡ true) ⊎ ((bytes_eq oid basic_constraints || bytes_eq oid extended_key_usage) ≡ true) → MayBeCritical oid
+    second (inl e) = inr (inl (bytes_same oid subject_alternative_name e))
     second (inr e) = third (or_cases _ _ e)
 
-    first : (bytes_eq oid KEY_USAGE.now ≡ true) ⊎ ((bytes_eq oid SUBJECT_ALTERNATIVE_NAME.now || (bytes_eq oid BASIC_CONSTRAINTS.now || bytes_eq oid EXTENDED_KEY_USAGE.now)) ≡ true) → MayBeCritical oid
-    first (inl e) = inl (bytes_same oid KEY_USAGE.now e)
+    first : (bytes_eq oid key_usage ≡ true) ⊎ ((bytes_eq oid subject_alternative_name || (bytes_eq oid basic_constraints || bytes_eq oid extended_key_usage)) ≡ true) → MayBeCritical oid
+    first (inl e) = inl (bytes_same oid key_usage e)
     first (inr e) = second (or_cases _ _ e)
 
 critical_is : (oid : List ℕ) → MayBeCritical oid → may_be_critical oid ≡ true
-critical_is oid (inl e) = rw (same_bytes oid KEY_USAGE.now e) refl
-critical_is oid (inr (inl e)) = or_right (bytes_eq oid KEY_USAGE.now) _ (rw (same_bytes oid SUBJECT_ALTERNATIVE_NAME.now e) refl)
+critical_is oid (inl e) = rw (same_bytes oid key_usage e) refl
+critical_is oid (inr (inl e)) = or_right (bytes_eq oid key_usage) _ (rw (same_bytes oid subject_alternative_name e) refl)
 critical_is oid (inr (inr (inl e))) =
-    or_right (bytes_eq oid KEY_USAGE.now) _
-    (or_right (bytes_eq oid SUBJECT_ALTERNATIVE_NAME.now) _ (rw (same_bytes oid BASIC_CONSTRAINTS.now e) refl))
+    or_right (bytes_eq oid key_usage) _
+    (or_right (bytes_eq oid subject_alternative_name) _ (rw (same_bytes oid basic_constraints e) refl))
 critical_is oid (inr (inr (inr e))) =
-    or_right (bytes_eq oid KEY_USAGE.now) _
-    (or_right (bytes_eq oid SUBJECT_ALTERNATIVE_NAME.now) _
-    (or_right (bytes_eq oid BASIC_CONSTRAINTS.now) (bytes_eq oid EXTENDED_KEY_USAGE.now) (same_bytes oid EXTENDED_KEY_USAGE.now e)))
+    or_right (bytes_eq oid key_usage) _
+    (or_right (bytes_eq oid subject_alternative_name) _
+    (or_right (bytes_eq oid basic_constraints) (bytes_eq oid extended_key_usage) (same_bytes oid extended_key_usage e)))
 
 understood_one : (critical : Bool) (oid : List ℕ) → (not critical || may_be_critical oid) ≡ true → critical ≡ true → MayBeCritical oid
 understood_one true oid is e = critical_from oid is
@@ -87,7 +87,7 @@ fit_from c is =
     record {
       version = eqb-true c.version 3 a.0;
       algorithms = bytes_same c.inner_algorithm c.algorithm b.0;
-      unconstrained = none_from (with_oid NAME_CONSTRAINTS.now c.extensions) d.0;
+      unconstrained = none_from (with_oid name_constraints c.extensions) d.0;
       understood = understood_from c.extensions e.0;
       single = distinct_from (oids c.extensions) e.1;
     }

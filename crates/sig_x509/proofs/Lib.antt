@@ -1,2 +1,4 @@
 pub mod IssuanceLaws
 pub mod IssuedLaws
+pub mod AskedLaws
+pub mod AnchorLaws

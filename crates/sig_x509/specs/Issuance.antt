@@ -4,7 +4,7 @@ use Rattle.std.specs.Str.{bytes_eq}
 use Rattle.std.specs.List.{list_all}
 use Rattle.sig_base.specs.declared.fault.PoolError.{PoolError}
 use Rattle.sig_base.specs.declared.fault.PoolError.TheVariants.{Anchor, Malformed, VerificationFailed, OutOfMemory}
-use Rattle.sig_der.specs.declared.oid.TheConstants.{KEY_USAGE, EXTENDED_KEY_USAGE, BASIC_CONSTRAINTS, SUBJECT_ALTERNATIVE_NAME, NAME_CONSTRAINTS}
+use Rattle.sig_der.specs.ObjectIdentifiers.{key_usage, extended_key_usage, basic_constraints, subject_alternative_name, name_constraints}
 use Rattle.sig_certificate.specs.declared.values.BasicConstraints.{BasicConstraints as Constraints}
 use Rattle.sig_certificate.specs.Certificate.{Extension, Cert, IsCertificate}
 use Rattle.sig_certificate.specs.Lookups.{with_oid, are_single}
@@ -16,7 +16,7 @@ use Rattle.sig_certificate.specs.Trust.{may_sign_code}
 -- the extensions that may be critical
 abbrev pub may_be_critical : List ℕ → Bool
 may_be_critical oid =
-    bytes_eq oid KEY_USAGE.now || (bytes_eq oid SUBJECT_ALTERNATIVE_NAME.now || (bytes_eq oid BASIC_CONSTRAINTS.now || bytes_eq oid EXTENDED_KEY_USAGE.now))
+    bytes_eq oid key_usage || (bytes_eq oid subject_alternative_name || (bytes_eq oid basic_constraints || bytes_eq oid extended_key_usage))
 
 -- a critical extension that is not known refuses the certificate
 abbrev pub is_understood : Extension → Bool
@@ -27,7 +27,7 @@ are_understood es = list_all is_understood es
 
 -- name constraints, section 4.2.1.10, are not read: no certificate here may have them
 abbrev pub is_unconstrained : Cert → Bool
-is_unconstrained c = length (with_oid NAME_CONSTRAINTS.now c.extensions) == 0
+is_unconstrained c = length (with_oid name_constraints c.extensions) == 0
 
 -- ---- what may be issued
 

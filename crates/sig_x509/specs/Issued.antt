@@ -5,7 +5,7 @@ use Rattle.std.specs.Str.{bytes_eq}
 use Rattle.std.specs.List.{AllByRecursion, IsDistinct}
 use Rattle.sig_base.specs.declared.fault.PoolError.{PoolError}
 use Rattle.sig_base.specs.declared.fault.PoolError.TheVariants.{Malformed, OutOfMemory}
-use Rattle.sig_der.specs.declared.oid.TheConstants.{KEY_USAGE, EXTENDED_KEY_USAGE, BASIC_CONSTRAINTS, SUBJECT_ALTERNATIVE_NAME, NAME_CONSTRAINTS}
+use Rattle.sig_der.specs.ObjectIdentifiers.{key_usage, extended_key_usage, basic_constraints, subject_alternative_name, name_constraints}
 use Rattle.sig_certificate.specs.declared.values.BasicConstraints.{BasicConstraints as Constraints}
 use Rattle.sig_certificate.specs.Certificate.{Cert, IsCertificate}
 use Rattle.sig_certificate.specs.Lookups.{with_oid, oids}
@@ -17,7 +17,7 @@ use Rattle.sig_x509.specs.Issuance.{Accepts, issuer_of}
 -- the extensions that may be critical, section 4.2
 abbrev pub MayBeCritical : List ℕ → Type 0
 MayBeCritical oid =
-    (oid ≡ KEY_USAGE.now) ⊎ ((oid ≡ SUBJECT_ALTERNATIVE_NAME.now) ⊎ ((oid ≡ BASIC_CONSTRAINTS.now) ⊎ (oid ≡ EXTENDED_KEY_USAGE.now)))
+    (oid ≡ key_usage) ⊎ ((oid ≡ subject_alternative_name) ⊎ ((oid ≡ basic_constraints) ⊎ (oid ≡ extended_key_usage)))
 
 -- *Fit*: a certificate that can be judged
 pub record IsFit (c : Cert) : Type 0 where
@@ -25,7 +25,7 @@ pub record IsFit (c : Cert) : Type 0 where
   -- section 4.1.1.2
   pub algorithms : c.inner_algorithm ≡ c.algorithm
   -- section 4.2.1.10: they are not read
-  pub unconstrained : with_oid NAME_CONSTRAINTS.now c.extensions ≡ []
+  pub unconstrained : with_oid name_constraints c.extensions ≡ []
   -- section 4.2: a critical extension that is not known refuses the certificate
   pub understood : AllByRecursion (λ e. e.critical ≡ true → MayBeCritical e.oid) c.extensions
   -- section 4.2: no object identifier stands twice
@@ -64,6 +64,23 @@ pub record IsFirstIssuer (accepts : Accepts) (c : Cert) (t : ℤ) (anchors : Lis
   pub there : slice_get anchors place ≡ Some anchor
   pub issued : IsIssuedBy accepts c t anchor
   pub first : (earlier : ℕ) (x : Cert) → earlier < place → slice_get anchors earlier ≡ Some x → ¬ IsIssuedBy accepts c t x
+
+-- ---- what the checker is asked
+
+-- Only then does the checker's word on the key of x matter: c has the profile, signs code and is valid at the time t, and x has the
+-- name of its issuer.
+pub record IsAsked (c : Cert) (t : ℤ) (x : Cert) : Type 0 where
+  pub profile : HasProfile c
+  pub begun : c.not_before ≤ℤ t
+  pub lasting : t ≤ℤ c.not_after
+  pub purpose : code_signing c ≡ Ok (Some true)
+  pub issuer : c.issuer ≡ x.subject
+
+-- two checkers say the same of the anchors that are asked
+abbrev pub AgreeWhereAsked : Accepts → Accepts → Cert → ℤ → List Cert → Type 0
+AgreeWhereAsked accepts other c t anchors =
+    (place : ℕ) (x : Cert) → slice_get anchors place ≡ Some x → IsAsked c t x
+    → accepts x.spki c.algorithm c.tbs c.signature ≡ other x.spki c.algorithm c.tbs c.signature
 
 -- ---- of a text
 

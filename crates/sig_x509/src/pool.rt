@@ -4,8 +4,9 @@ ghost use Rattle.std.specs.Prelude.{◌≡◌, ◌↔◌, ℕ, Ok, Err, option_m
 ghost use Rattle.sig_base.specs.Answers.{Answers};
 ghost use Rattle.sig_certificate.specs.Answers.{ComesWhere};
 ghost use Rattle.sig_certificate.specs.Certificate.{Cert, IsCertificate};
-ghost use Rattle.sig_x509.specs.Issuance.{is_issued, issuer_of, IsAnchor, AreAnchors, IsRefusedAt, IsPoolRefusal};
+ghost use Rattle.sig_x509.specs.Issuance.{Accepts, is_issued, issuer_of, IsAnchor, AreAnchors, IsFirstNoAnchor, IsRefusedAt, IsPoolRefusal};
 ghost use Rattle.sig_x509.specs.Issued.{HasProfile, IsFirstIssuer, IsIssuedByNone, HasNoProfile, IsIssuedText, IsUnissuedText, IsJudgedText};
+ghost use Rattle.sig_x509.specs.Issued.{AgreeWhereAsked};
 
 use crate::issuance::{is_issued, is_profiled, is_unconstrained};
 use sig_base::{Entries, PoolError, Register, SignatureChecker};
@@ -49,8 +50,10 @@ fn read_anchor(alloc: Global, place: usize, der: &[u8]) -> Result<Certificate, P
 }
 
 impl CertificatePool {
-    /// The pool of these anchors (DER). `Anchor` with the place of the first that is no certificate or has name constraints;
-    /// `OutOfMemory` for want of memory.
+    /// Returns the pool of these trust anchors (DER). Errors:
+    ///
+    /// - `Anchor` with the index of the first that is no certificate or has name constraints;
+    /// - `OutOfMemory`.
     pub fn from_certificates(
         alloc: Global,
         trusted_roots: &Entries,
@@ -58,6 +61,16 @@ impl CertificatePool {
         // The anchors are those of the texts, one by one.
         ensures anchors { IfOk result (AreAnchors trusted_roots.now) }
         // A refusal names the first text that is no anchor, unless memory ran out.
+        ensures refusal { IfErr result (IsPoolRefusal trusted_roots.now) }
+        // The text at an index is refused if and only if it is the first that is no anchor, unless memory ran out.
+        ensures anchor { (place : ℕ) → ComesWhere PoolError.OutOfMemory result
+            (Err (PoolError.Anchor place)) (IsFirstNoAnchor trusted_roots.now place) }
+    {
+        CertificatePool::read(alloc, trusted_roots)
+    }
+
+    fn read(alloc: Global, trusted_roots: &Entries) -> Result<CertificatePool, PoolError>
+        ensures anchors { IfOk result (AreAnchors trusted_roots.now) }
         ensures refusal { IfErr result (IsPoolRefusal trusted_roots.now) }
     {
         let mut anchors = Register::new(alloc);
@@ -84,7 +97,7 @@ impl CertificatePool {
     }
 
     /// The place of the first anchor that issued the leaf, or why there is none.
-    fn judge<C: SignatureChecker>(
+    fn check<C: SignatureChecker>(
         &self,
         leaf: &Certificate,
         time: i64,
@@ -120,14 +133,18 @@ impl CertificatePool {
         ensures malformed { IsErrOf result PoolError.Malformed ↔ (HasProfile leaf.now → ⊥) }
         // `VerificationFailed` is answered exactly where it has the profile, and no anchor issued it.
         ensures none { IsErrOf result PoolError.VerificationFailed ↔ (HasProfile leaf.now × IsIssuedByNone (C.cert_accepts checker.now) leaf.now verification_time self.now) }
+        // Of the anchors that the checker is not asked about, its word does not matter: another checker that says the same of the
+        // others has the same result.
+        ensures asked { (other : Accepts) → AgreeWhereAsked (C.cert_accepts checker.now) other leaf.now verification_time self.now
+            → result ≡ issuer_of other self.now leaf.now verification_time }
         // The same in one equation.
         ensures exact { result ≡ issuer_of (C.cert_accepts checker.now) self.now leaf.now verification_time }
     {
-        self.judge(leaf, verification_time, checker)
+        self.check(leaf, verification_time, checker)
     }
 
     /// The answer for the certificate that the bytes are.
-    fn judge_der<C: SignatureChecker>(
+    fn check_der<C: SignatureChecker>(
         &self,
         alloc: Global,
         der: &[u8],
@@ -137,7 +154,7 @@ impl CertificatePool {
         ensures { IsJudgedText (C.cert_accepts checker.now) der.now time self.now result }
     {
         match Certificate::try_from_der(alloc, der) {
-            Ok(leaf) => self.judge(&leaf, time, checker),
+            Ok(leaf) => self.check(&leaf, time, checker),
             Err(X509ReadError::Der) => Err(PoolError::Malformed),
             Err(X509ReadError::OutOfMemory) => Err(PoolError::OutOfMemory),
         }
@@ -162,10 +179,14 @@ impl CertificatePool {
         ensures failed { ComesWhere PoolError.OutOfMemory result (Err PoolError.VerificationFailed) (IsUnissuedText (C.cert_accepts checker.now) der.now verification_time self.now) }
         // Of a certificate, the answer is that of its record.
         ensures certificate { (c : Cert) → IsCertificate der.now c → Answers PoolError.OutOfMemory (λ place. place) result (issuer_of (C.cert_accepts checker.now) self.now c verification_time) }
+        // Of the anchors that the checker is not asked about, its word does not matter.
+        ensures asked { (other : Accepts) (c : Cert) → IsCertificate der.now c
+            → AgreeWhereAsked (C.cert_accepts checker.now) other c verification_time self.now
+            → Answers PoolError.OutOfMemory (λ place. place) result (issuer_of other self.now c verification_time) }
         // Bytes that are no certificate are malformed.
         ensures none { ((c : Cert) → IsCertificate der.now c → ⊥) → Answers PoolError.OutOfMemory (λ (place : ℕ). place) result (Err PoolError.Malformed) }
     {
-        self.judge_der(alloc, der, verification_time, checker)
+        self.check_der(alloc, der, verification_time, checker)
     }
 
     /// The key info (DER) of the anchor at this place, counted from 0. None exactly where the place is not below the number of

@@ -4,16 +4,16 @@ use Rattle.sig_timestamp.proofs.signed.verify_sct.Goals as goal
 
 pub returns-clause-accepted : goal.returns-clause-accepted
 returns-clause-accepted g c =
-    comes_genuine (g.C.SignatureChecker.point_accepts c.args.checker.now) c.args.sct.now c.args.keyring.now c.judge.result c.judge.ensures
+    comes_genuine (g.C.SignatureChecker.point_accepts c.args.checker.now) c.args.sct.now c.args.keyring.now c.check.result c.check.ensures
 
-pub returns-clause-long : goal.returns-clause-long
-returns-clause-long g c =
-    comes_long (g.C.SignatureChecker.point_accepts c.args.checker.now) c.args.sct.now c.args.keyring.now c.judge.result c.judge.ensures
+pub returns-clause-serialization : goal.returns-clause-serialization
+returns-clause-serialization g c =
+    comes_long (g.C.SignatureChecker.point_accepts c.args.checker.now) c.args.sct.now c.args.keyring.now c.check.result c.check.ensures
 
-pub returns-clause-unknown : goal.returns-clause-unknown
-returns-clause-unknown g c =
-    comes_unknown (g.C.SignatureChecker.point_accepts c.args.checker.now) c.args.sct.now c.args.keyring.now c.judge.result c.judge.ensures
+pub returns-clause-key_not_found : goal.returns-clause-key_not_found
+returns-clause-key_not_found g c =
+    comes_unknown (g.C.SignatureChecker.point_accepts c.args.checker.now) c.args.sct.now c.args.keyring.now c.check.result c.check.ensures
 
-pub returns-clause-forged : goal.returns-clause-forged
-returns-clause-forged g c =
-    comes_forged (g.C.SignatureChecker.point_accepts c.args.checker.now) c.args.sct.now c.args.keyring.now c.judge.result c.judge.ensures
+pub returns-clause-verification_failed : goal.returns-clause-verification_failed
+returns-clause-verification_failed g c =
+    comes_forged (g.C.SignatureChecker.point_accepts c.args.checker.now) c.args.sct.now c.args.keyring.now c.check.result c.check.ensures

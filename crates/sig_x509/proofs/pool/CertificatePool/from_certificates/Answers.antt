@@ -1,8 +1,6 @@
-use Rattle.sig_x509.proofs.IssuanceLaws.{anchors_more}
+-- The first text that is no anchor is refused, and no other.
+use Rattle.sig_x509.proofs.AnchorLaws.{first_refused}
 use Rattle.sig_x509.proofs.pool.CertificatePool.from_certificates.Goals as goal
 
-pub texts-preserved : goal.texts-preserved
-texts-preserved c =
-    anchors_more c.args.trusted_roots.now c.as_slice-der-items.result.now c.texts.place c.as_slice.result.now c.der-item.result c.in_ok-anchor.anchor
-    c.texts.anchors c.push.new.self c.as_slice-der-items.ensures c.texts-test.true c.der-item.is c.as_slice.ensures c.in_ok-anchor.ensures.found
-    c.in_ok-push.ensures.ok c.texts.invariant
+pub returns-clause-anchor : goal.returns-clause-anchor
+returns-clause-anchor c = λ place. first_refused c.args.trusted_roots.now c.read.result c.read.ensures.anchors c.read.ensures.refusal place

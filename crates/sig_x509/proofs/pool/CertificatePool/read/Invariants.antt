@@ -1,6 +1,6 @@
 use Rattle.std.proofs.Common.{take}
 use Rattle.sig_x509.specs.Issuance.{AreAnchors}
-use Rattle.sig_x509.proofs.pool.CertificatePool.from_certificates.Given as goal
+use Rattle.sig_x509.proofs.pool.CertificatePool.read.Given as goal
 
 -- the anchors so far are those of the texts so far
 abbrev pub invariant-texts : goal.invariant-texts

@@ -1,7 +1,7 @@
 use Rattle.std.proofs.Common.{rules, Some, None}
 use Rattle.std.proofs.Math.Facts.{to_z-of_z}
 use Rattle.sig_x509.proofs.IssuanceLaws.{judged}
-use Rattle.sig_x509.proofs.pool.CertificatePool.judge.Goals as goal
+use Rattle.sig_x509.proofs.pool.CertificatePool.check.Goals as goal
 
 pub returns-in-Some : goal.returns-in-Some
 returns-in-Some g c =
