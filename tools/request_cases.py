@@ -1,0 +1,82 @@
+#!/usr/bin/env python3
+"""Writes the tables of crates/request_cases, `stdin` and `stdout`, and the fixture's request into its `data`.
+
+    tools/request_cases.py
+
+A request of fixture.py, as it is and with one part changed: each signature in it is genuine by the request's own rows, and each row is
+needed by one signature alone. The signatures of the leaf and of its SCT are among the cases of x509_cases.py.
+"""
+import json
+import os
+from urllib.parse import quote
+
+import fixture
+from fixture import compact, key
+from x509_cases import spelled
+
+HERE = os.path.dirname(os.path.abspath(__file__))
+CRATE = os.path.join(HERE, "..", "crates", "request_cases")
+REFUSALS = {"envelope": "PublicKeyVerificationError", "promise": "PublicKeyVerificationError",
+            "checkpoint": "CheckpointSignatureVerificationError"}
+PLACES = {"envelope": 2, "promise": 3, "checkpoint": 4}
+
+
+def words_of(row):
+    """A row of `accepted` as arguments."""
+    octets = {name: fixture.base64.b64decode(row[name]) for name in ("key", "message", "signature")}
+    scheme = row.get("scheme")
+    if row["operation"] == "certificate":
+        scheme = spelled(fixture.base64.b64decode(scheme))
+    return " ".join(filter(None, [row["operation"], scheme, *map(spelled, octets.values())]))
+
+
+def calls(request):
+    """What asks for a signature: its arguments before the rows."""
+    promised = json.loads(request.promised())
+    other_order = json.dumps(dict(reversed(promised.items())))
+    return {
+        "envelope": " ".join([spelled(request.leaf["key"]), fixture.PAYLOAD_TYPE.replace("+", "%2B"), spelled(request.payload),
+                              spelled(request.signature)]),
+        "promise": " ".join([spelled(key(fixture.LOG_KEY)), quote(other_order), spelled(request.promise)]),
+        "checkpoint": " ".join([spelled(key(fixture.LOG_KEY)), quote(fixture.checkpoint(request.root))])}
+
+
+CHANGES = {
+    "the fixture": {},
+    "another anchor's key": {"anchor": fixture.anchor(key=fixture.wide_key())},
+    "another leaf": {"leaf": fixture.leaf(fixture.leaf_extensions(
+        scts=fixture.sct_list(fixture.sct(time=1702446656789, more=b"more", signature=b"sig-other")),
+        issued=fixture.extension(fixture.FULCIO["issuer"], b"https://other.example")))},
+    "another time": {"integrated_time": -1},
+    "another log index": {"log_index": 901},
+    "another promise": {"promise": b"promise"},
+    "another signature": {"signature": b"sig"},
+    "1024 subjects": {"payload": fixture.statement(subjects=1024)},
+}
+
+
+def main():
+    lines = []
+
+    def comment(text):
+        lines.append((text, text))
+
+    for title, change in CHANGES.items():
+        request = fixture.Request(**change)
+        rows = list(map(words_of, request.accepted()))
+        if lines:
+            comment("")
+        comment("# %s: each signature by all rows%s" % (title, " and without each row" if not change else ""))
+        for call, arguments in calls(request).items():
+            lines.append((" ".join([call, arguments, *rows]), "ok"))
+            for place in range(len(rows)) if not change else []:
+                comment("# without row %d" % place)
+                fewer = rows[:place] + rows[place + 1:]
+                lines.append((" ".join([call, arguments, *fewer]), REFUSALS[call] if place == PLACES[call] else "ok"))
+    for title, texts in [("stdin", [one for one, _ in lines]), ("stdout", [other for _, other in lines])]:
+        with open(os.path.join(CRATE, title), "w", encoding="utf-8") as file:
+            file.write("\n".join(texts) + "\n")
+
+
+if __name__ == "__main__":
+    main()
