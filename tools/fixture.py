@@ -14,6 +14,7 @@ import base64
 import hashlib
 import json
 import os
+import re
 import sys
 
 
@@ -276,9 +277,9 @@ def row(operation, scheme, under, message, signature):
 
 
 class Request:
-    """A request by its parts. Each argument changes one of them."""
+    """A request by its parts. Each argument changes one of them; `stamp` says how the leaf's SCT differs from `sct()`."""
 
-    def __init__(self, anchor=anchor(), leaf=leaf(), payload=statement(), signature=b"sig-dsse", promise=b"sig-set",
+    def __init__(self, anchor=anchor(), leaf=leaf(), stamp={}, payload=statement(), signature=b"sig-dsse", promise=b"sig-set",
                  log_index=900, integrated_time=1702446700, now=1702500000, digest="sha256:" + DIGEST,
                  media_type="application/vnd.dev.sigstore.bundle.v0.3+json",
                  policy={"all": [{"identity": WORKFLOW, "issuer": ISSUER}]}):
@@ -326,9 +327,11 @@ class Request:
     def accepted(self):
         """The rows in the order in which `verify` asks for them: of the leaf, its SCT, the envelope, the promise, the checkpoint."""
         under = self.anchor["key"]
+        stamp = {"time": 1702446655000, "more": b"", "signature": b"sig-sct", **self.stamp}
+        logged = signed_by_log(under, self.precertificate(), stamp["time"], stamp["more"])
         return [
             row("certificate", base64_of(self.leaf["algorithm"]), under, tbs(self.leaf), self.leaf["signature"][3:]),
-            row("point", None, point(CERTIFICATE_LOG_KEY), signed_by_log(under, self.precertificate()), b"sig-sct"),
+            row("point", None, point(CERTIFICATE_LOG_KEY), logged, stamp["signature"]),
             row("message", SCHEME, self.leaf["key"], pae(self.payload), self.signature),
             row("message", SCHEME, key(LOG_KEY), self.promised(), self.promise),
             row("message", SCHEME, key(LOG_KEY), note(self.root).encode(), b"sig-note")]
@@ -357,6 +360,17 @@ def without_scts(tagged):
         return tagged
     listed = pieces(pieces(pieces(tagged)[0][1])[0][1])
     return extensions(*[whole for _, content, whole in listed if pieces(content)[0][1] != SCT_LIST])
+
+
+# Arguments of a program of cases.
+
+def spelled(content):
+    """Bytes as the program reads them: a long run of one byte by its length."""
+    parts = []
+    for match in re.finditer(rb"(?s)(.)\1{23,}|(?:(?!(.)\2{23,}).)+", content):
+        run = match.group()
+        parts.append("%s*%d" % (run[:1].hex(), len(run)) if match.group(1) is not None else run.hex())
+    return "+".join(parts) or "-"
 
 
 def main(folder):

@@ -11,14 +11,14 @@ import os
 from urllib.parse import quote
 
 import fixture
-from fixture import compact, key
-from x509_cases import spelled
+from fixture import key, spelled
 
 HERE = os.path.dirname(os.path.abspath(__file__))
 CRATE = os.path.join(HERE, "..", "crates", "request_cases")
 REFUSALS = {"envelope": "PublicKeyVerificationError", "promise": "PublicKeyVerificationError",
-            "checkpoint": "CheckpointSignatureVerificationError"}
-PLACES = {"envelope": 2, "promise": 3, "checkpoint": 4}
+            "checkpoint": "CheckpointSignatureVerificationError",
+            "verify_der_cert": "VerificationFailed", "verify_sct": "Verification(VerificationFailed)"}
+PLACES = {"verify_der_cert": 0, "verify_sct": 1, "envelope": 2, "promise": 3, "checkpoint": 4}
 
 
 def words_of(row):
@@ -41,11 +41,12 @@ def calls(request):
         "checkpoint": " ".join([spelled(key(fixture.LOG_KEY)), quote(fixture.checkpoint(request.root))])}
 
 
+STAMP = {"time": 1702446656789, "more": b"more", "signature": b"sig-other"}
 CHANGES = {
     "the fixture": {},
     "another anchor's key": {"anchor": fixture.anchor(key=fixture.wide_key())},
-    "another leaf": {"leaf": fixture.leaf(fixture.leaf_extensions(
-        scts=fixture.sct_list(fixture.sct(time=1702446656789, more=b"more", signature=b"sig-other")),
+    "another leaf": {"stamp": STAMP, "leaf": fixture.leaf(fixture.leaf_extensions(
+        scts=fixture.sct_list(fixture.sct(**STAMP)),
         issued=fixture.extension(fixture.FULCIO["issuer"], b"https://other.example")))},
     "another time": {"integrated_time": -1},
     "another log index": {"log_index": 901},
@@ -55,24 +56,44 @@ CHANGES = {
 }
 
 
-def main():
+def leaf_calls(request):
+    """The same of the signatures of the leaf and of its SCT, which x509_cases asks for."""
+    stamp = {**fixture_stamp(), **request.stamp}
+    issuer = request.anchor["key"]
+    return {
+        "verify_der_cert": " ".join(["1702446655", spelled(request.leaf_der), spelled(fixture.certificate(request.anchor))]),
+        "verify_sct": " ".join([spelled(fixture.sha256(key(fixture.CERTIFICATE_LOG_KEY))), str(stamp["time"]), spelled(fixture.sha256(issuer)),
+                                spelled(request.precertificate()), spelled(stamp["more"]), spelled(stamp["signature"]),
+                                spelled(key(fixture.CERTIFICATE_LOG_KEY))])}
+
+
+def fixture_stamp():
+    return {"time": 1702446655000, "more": b"", "signature": b"sig-sct"}
+
+
+def written(asked):
+    """The lines for these calls of each request: by all rows, and of the fixture without each row."""
     lines = []
-
-    def comment(text):
-        lines.append((text, text))
-
     for title, change in CHANGES.items():
         request = fixture.Request(**change)
         rows = list(map(words_of, request.accepted()))
         if lines:
-            comment("")
-        comment("# %s: each signature by all rows%s" % (title, " and without each row" if not change else ""))
-        for call, arguments in calls(request).items():
-            lines.append((" ".join([call, arguments, *rows]), "ok"))
+            lines.append(("", ""))
+        title = "# a request's signatures by its rows: " + title
+        lines.append((title, title))
+        for call, arguments in asked(request).items():
+            good = "ok 0" if call == "verify_der_cert" else "ok"
+            lines.append((" ".join([call, arguments, *rows]), good))
             for place in range(len(rows)) if not change else []:
-                comment("# without row %d" % place)
                 fewer = rows[:place] + rows[place + 1:]
-                lines.append((" ".join([call, arguments, *fewer]), REFUSALS[call] if place == PLACES[call] else "ok"))
+                without = "# without row %d" % place
+                lines.append((without, without))
+                lines.append((" ".join([call, arguments, *fewer]), REFUSALS[call] if place == PLACES[call] else good))
+    return lines
+
+
+def main():
+    lines = written(calls)
     for title, texts in [("stdin", [one for one, _ in lines]), ("stdout", [other for _, other in lines])]:
         with open(os.path.join(CRATE, title), "w", encoding="utf-8") as file:
             file.write("\n".join(texts) + "\n")

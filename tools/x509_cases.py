@@ -13,7 +13,8 @@ import os
 import re
 
 import fixture
-from fixture import der, extension, extensions, key, leaf_extensions, sha256
+import request_cases
+from fixture import der, extension, extensions, key, leaf_extensions, sha256, spelled
 
 HERE = os.path.dirname(os.path.abspath(__file__))
 CRATE = os.path.join(HERE, "..", "crates", "x509_cases")
@@ -182,15 +183,6 @@ def read_or_none(content):
 def written(content):
     """Bytes as the program writes them."""
     return content.hex() or "-"
-
-
-def spelled(content):
-    """Bytes as the program reads them: a long run of one byte by its length."""
-    parts = []
-    for match in re.finditer(rb"(?s)(.)\1{23,}|(?:(?!(.)\2{23,}).)+", content):
-        run = match.group()
-        parts.append("%s*%d" % (run[:1].hex(), len(run)) if match.group(1) is not None else run.hex())
-    return "+".join(parts) or "-"
 
 
 def listed(items):
@@ -612,6 +604,14 @@ def all_of(total, *refusals):
     return "AllOf { total: %d, errors: PolicyErrors { items: [%s] } }" % (total, ", ".join(refusals))
 
 
+def requests():
+    """The signatures of the leaf and of its SCT in the requests of request_cases.py."""
+    comment("")
+    for call, expected in request_cases.written(request_cases.leaf_calls):
+        LINES_IN.append(call)
+        LINES_OUT.append(expected)
+
+
 def errors():
     group("errors inside errors show the names of their variants")
     for name in ["IsCA", "NotCA", "NotRootCA", "Invalid { ca: true, key_cert_sign: false }", "Missing(KeyUsage)", "NotCritical(BasicConstraints)",
@@ -627,6 +627,7 @@ def main():
     pools()
     keyrings()
     policies()
+    requests()
     errors()
     for title, lines in [("stdin", LINES_IN), ("stdout", LINES_OUT)]:
         with open(os.path.join(CRATE, title), "w", encoding="utf-8") as file:
