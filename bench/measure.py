@@ -1,4 +1,4 @@
-"""Programs that are measured: that they are there and up to date, how long they take over a file, and how much memory."""
+"""Programs that are measured: whether they are up to date, how long they take over a file, and how much memory."""
 import ctypes
 import os
 import pathlib
@@ -13,7 +13,10 @@ SMALL = 2**20  # the time over a file of fewer bytes is the best of ten times as
 
 
 class Bench:
-    """A run of this program: the folder of its inputs, how often each command runs, and the goals that were missed."""
+    """A run of this program: what it measures, its inputs, how often each command runs, which goals were missed."""
+
+    program = None  # sigverify's
+    reader = None  # sig_bench's, which reads one certificate or one document alone
 
     def __init__(self, runs, most):
         self.runs = runs
@@ -66,15 +69,15 @@ def written(words, path, status=0):
     return ran.stdout.decode().strip()
 
 
-# The shell makes a process that waits for the end of the shell's input, and then becomes the command over the file. The shell ends
-# at once, and this program, as their nearest reaper, is handed the process and at its end what it used.
+# The shell makes a process that waits for the end of the shell's input, and then becomes the command over the file.
+# The shell ends at once, and this program, as their nearest reaper, is handed the process, and at its end what it used.
 LATER = 'exec 3<&0; (read -r _ <&3; exec "$@" <"$0" >/dev/null 3<&-) & echo $!'
 PR_SET_CHILD_SUBREAPER = 36
 
 
 def megabytes(words, path, status=0):
-    """The peak memory of a command over a file. A process's peak counts what it was before it became the command: here a copy of
-    `sh`, which is smaller than any command (of `true` one megabyte is told)."""
+    """The peak memory of a command over a file. A process's peak counts what it was before it became the command: here
+    a copy of `sh`, which is smaller than any command (of `true` it tells one megabyte)."""
     ctypes.CDLL(None).prctl(PR_SET_CHILD_SUBREAPER, 1, 0, 0, 0)
     shell = subprocess.Popen(["sh", "-c", LATER, path, *words], stdin=subprocess.PIPE, stdout=subprocess.PIPE)
     process = int(shell.stdout.readline())
@@ -90,8 +93,8 @@ def megabytes(words, path, status=0):
 
 def below(crate):
     """The crates of this repository that a crate is built of, itself included."""
-    lines = [line.split(":") for line in (TOP / "crates.txt").read_text().splitlines() if ":" in line and line[0] != "#"]
-    on = {name: words.split() for name, words in lines}
+    lines = (TOP / "crates.txt").read_text().splitlines()
+    on = {line.split(":")[0]: line.split(":")[1].split() for line in lines if ":" in line and line[0] != "#"}
     found = [crate]
     for name in found:
         found += [other for other in on[name] if other in on and other not in found]
@@ -108,8 +111,9 @@ def sources(crate):
 
 
 def built(crate, named=None):
-    """The program of a crate, or the one that was named in its place. Ends this program where it is not there, or where a source is newer than
-    it, or than the stamp that ./sigverify made before the build; of a named one, which may be another tree's, the latter is only said."""
+    """The program of a crate, or the one that was named in its place. Ends this program where it is not there, or where
+    a source is newer than it, or than the stamp that ./sigverify made before the build; of a named one, which may be
+    another tree's, the latter is only said."""
     program = named or TOP / "crates" / crate / "out" / crate
     if not program.is_file():
         fail(f"{program} is not there: .ci/run builds it")
@@ -125,7 +129,7 @@ def built(crate, named=None):
 
 
 def peer(folder, name, packages):
-    """The program of bench/peers/FOLDER, built by cargo of Debian's packages; None, which is said, where it cannot be built."""
+    """The program of bench/peers/FOLDER, built by cargo of Debian's packages; None where it cannot be, which is said."""
     if not shutil.which("cargo"):
         said = "cargo is not there"
     else:
@@ -133,6 +137,6 @@ def peer(folder, name, packages):
         ran = subprocess.run(words, cwd=TOP / "bench/peers" / folder, stderr=subprocess.PIPE, text=True)
         if ran.returncode == 0:
             return TOP / "bench/peers/out/release" / name
-        said = ran.stderr.strip().splitlines()[0] if ran.stderr.strip() else f"cargo ends with status {ran.returncode}"
+        said = (ran.stderr.strip() or f"cargo ends with status {ran.returncode}").splitlines()[0]
     print(f"bench/run: without {name}: {said} (Debian: cargo {packages})", file=sys.stderr)
     return None

@@ -10,7 +10,7 @@ DEEPEST = 127  # how deep a document may nest
 
 
 def filled(make, most):
-    """A text of nearly so many bytes, and of no more: the count by the sizes of two small ones, and then less until it fits."""
+    """A text of nearly so many bytes, and of no more: the count by the sizes of two small ones, then less until it fits."""
     few, more = len(make(50)), len(make(100))
     count = 50 + max(0, most - few) * 50 // (more - few)
     while len(text := make(count)) > most and count > 1:
@@ -70,7 +70,8 @@ def rows_by_signature(count):
 def rows_by_key(count):
     """Rows whose keys share a thousand bytes with the log's key."""
     key = coded(b"k" * 1000)
-    return request(key=key, accepted=[row(key=coded(other)) for other in numbered(b"k" * 1000, count)] + [row(key=key)])
+    others = [row(key=coded(other)) for other in numbered(b"k" * 1000, count)]
+    return request(key=key, accepted=others + [row(key=key)])
 
 
 def rows_by_message(count):
@@ -88,7 +89,7 @@ def signatures_and_rows(count):
 
 
 def signatures_of_a_long_note(count):
-    """The shortest signatures, over a note of five bytes for each, and two rows over that note, of which one is the last signature's."""
+    """The shortest signatures, over a note of five bytes for each, and two rows over it, one of the last signature."""
     note = NOTE + "c" * (5 * count) + "\n"
     lines = [signature_line(b"", name="")] * count + [signature_line(b"sig")]
     rows = [row(note.encode(), signature) for signature in (b"sig", b"another")]
@@ -132,13 +133,14 @@ def members(prefix):
 
 
 def name_of(place):
-    """A name that begins past U+FFFF for an odd place, and from U+E000 to U+FEFF for an even one: by bytes the odd ones come last, by UTF-16 units first."""
+    """A name that begins past U+FFFF for an odd place, and from U+E000 to U+FEFF for an even one: by bytes the odd ones
+    come last, by UTF-16 units first."""
     first = 0x10000 + place // 2 if place % 2 else 0xE000 + place // 2 % 0x1F00
     return chr(first) + str(place)
 
 
 def two_orders(count):
-    """An object of members whose names have another order by bytes than by UTF-16 units, which canonical JSON wants."""
+    """An object whose names have another order by bytes than by UTF-16 units, which canonical JSON wants."""
     return ("{" + ",".join(f'"{name_of(place)}":1' for place in range(count)) + "}").encode()
 
 
@@ -166,17 +168,18 @@ def worst(above):
 # Bundles and statements
 
 
-def bundle(member, items):
-    """Bundles with a list in a member of their verification material."""
-    return lambda count: b'{"verificationMaterial":{' + member.encode() + b":" + items(count) + b"}}"
+def bundle_of_entries(item):
+    """Bundles of so many equal log entries."""
+    return lambda count: b'{"verificationMaterial":{"tlogEntries":' + repeated(item)(count) + b"}}"
 
 
 def bundle_of_hashes(count):
-    return bundle('"tlogEntries"', lambda count: b'[{"inclusionProof":{"hashes":' + repeated('"AA=="')(count) + b"}}]")(count)
+    hashes = repeated('"AA=="')(count)
+    return b'{"verificationMaterial":{"tlogEntries":[{"inclusionProof":{"hashes":' + hashes + b"}}]}}"
 
 
 def bundle_of_certificates(count):
-    return bundle('"x509CertificateChain"', lambda count: b'{"certificates":' + repeated("{}")(count) + b"}")(count)
+    return b'{"verificationMaterial":{"x509CertificateChain":{"certificates":' + repeated("{}")(count) + b"}}}"
 
 
 def bundle_of_signatures(count):
@@ -191,7 +194,7 @@ DIGESTS = '{"sha256":"' + "a5" * 32 + '"}'
 
 
 def statement(annotations="null", predicate="null", subjects=""):
-    """A statement of a subject with one digest that can be compared with an artifact's, and of the subjects that are given."""
+    """A statement of a subject with one digest that can be compared with an artifact's, and of the subjects given."""
     first = f'{{"digest":{DIGESTS},"annotations":{annotations}}}'
     return f'{{"_type":"","predicateType":"","subject":[{first}{subjects}],"predicate":{predicate}}}'.encode()
 
@@ -201,7 +204,7 @@ def statement_of(member, items):
 
 
 def many_subjects():
-    """A statement of 1,024 subjects of 32 digests each, but the first of one; of the 32 two can be compared with an artifact's."""
+    """A statement of 1,024 subjects of 32 digests each, but the first of one; of the 32 two can be compared."""
     others = "".join(f',"other{place}":"' + "a5" * 32 + '"' for place in range(30))
     digests = '{"sha256":"' + "a5" * 32 + '","sha512":"' + "a5" * 64 + '"' + others + "}"
     return statement(subjects=(',{"digest":' + digests + "}") * 1023)
@@ -241,6 +244,7 @@ def certificate(count, order, prefix=b""):
     validity = element(0x30, element(0x17, b"231213055055Z") + element(0x17, b"231213060055Z"))
     value = element(0x04, b"v" * 40)
     identifiers = (element(0x06, b"\x2b\x06\x01" + prefix + arc(2**14 + place)) for place in order(count))
-    extensions = element(0xA3, element(0x30, b"".join(element(0x30, identifier + value) for identifier in identifiers)))
+    listed = b"".join(element(0x30, identifier + value) for identifier in identifiers)
+    extensions = element(0xA3, element(0x30, listed))
     head = bytes.fromhex("a003020102020101") + algorithm + name + validity + name + key
     return element(0x30, element(0x30, head + extensions) + algorithm + element(0x03, b"\0signature"))
