@@ -3,7 +3,7 @@
 use sig_certificate::Certificate;
 use std::alloc::Global;
 
-/// How many extensions were read in all; none where the bytes are no certificate.
+/// Returns how many extensions were read in all; `None` if the bytes are no certificate.
 pub fn extensions_of(alloc: Global, der: &[u8], times: u32) -> Option<u64> {
     let mut extensions = 0u64;
     for _ in 0..times {

@@ -1,7 +1,14 @@
-//! A program for `bench/run`: it reads standard input as its first word says, so that one call of a lower crate can be measured alone, which no
-//! command of sigverify can. `certificate N` reads a certificate N times and prints how many extensions were read; `read`, `compact` and
-//! `canonical` read a JSON document, write it so, and print how many bytes were written; `bundle` reads a bundle; `statement` reads a payload as a
-//! statement, `digests` reads it as the checks of a bundle do, and both print how many digests were taken of it.
+//! A program for `bench/run`: it makes one call of a lower crate over standard input, so that the call can be measured
+//! alone. The words:
+//!
+//! - `certificate N` reads a certificate N times, and prints how many extensions were read;
+//! - `read` reads a JSON document, and prints 0;
+//! - `compact` and `canonical` read one, write it so, and print how many bytes were written;
+//! - `bundle` reads a bundle, and prints 0;
+//! - `statement` reads a payload as a statement, `digests` as the checks of a bundle do, and both print how many digests
+//!   were taken.
+//!
+//! It promises nothing.
 #![tactic(auto)]
 
 mod bundle;
