@@ -1,7 +1,16 @@
-//! Cases of sig_base. The digests are those of FIPS 180-4's examples.
+//! Cases of sig_base, sig_merkle and sig_key: `stdin` lists calls, and `stdout` what they return.
+//!
+//! Who made them: the digests are FIPS 180-4's examples, the texts in base64 those of RFC 4648 section 10 and Python's; the hashes and roots of the
+//! first tree are published with Certificate Transparency's reference tree, and those of the trees of 0 to 33 entries, with a path for each
+//! index, come from `tools/base_cases.py`, a program in another language that was written from RFC 6962 section 2.1. OpenSSL made the keys.
 #![tactic(auto)]
 
-use sig_base::sha256;
+mod base;
+mod errors;
+mod keys;
+mod maps;
+mod merkle;
+
 use sig_cases::{Answer, Arguments, CaseError, Cases, run};
 use std::alloc::Global;
 
@@ -13,10 +22,7 @@ impl Cases for BaseCases {
         call: &str,
         arguments: &mut Arguments<'_>,
     ) -> Result<Answer, CaseError> {
-        match call {
-            "sha256" => Answer::ok(alloc)?.hex(&sha256(arguments.hex(alloc)?.as_slice())),
-            _ => Err(CaseError::BadLine),
-        }
+        base::answer(alloc, call, arguments)
     }
 }
 

@@ -10,8 +10,11 @@ use crate::scheme::VerifyScheme;
 use std::alloc::Global;
 use std::marker::Model;
 
-/// Decides whether signatures are genuine. Each call answers exactly its predicate of the listed bytes: a checker has no faults.
+/// Decides whether signatures are genuine. Each call returns exactly its predicate of the listed bytes: a checker has no faults.
 /// What this project proves is relative to these four predicates.
+///
+/// A checker is asked for each signature of a signed note until it accepts one, with the whole text of the note as message. One that hashes the
+/// message in each call hashes signatures times text: keep the digest of the last message, or check the lengths of signatures first.
 pub trait SignatureChecker {
     /// The signatures over messages that are genuine under a scheme and a key info (DER).
     ghost spki_accepts: { Self → scheme_type → List ℕ → List ℕ → List ℕ → Bool };
@@ -146,8 +149,8 @@ impl TableChecker {
         Ok(())
     }
 
-    /// Whether a row of the table equals all five parts. It compares with at most as many rows as the number of rows has binary digits, and
-    /// compares messages only where a row equals all other parts.
+    /// Whether a row of the table equals all five parts. A binary search: it compares with about as many rows as the number of rows has binary
+    /// digits, and compares messages only with a row that equals all other parts.
     pub fn accepts(
         &self,
         operation: Operation,

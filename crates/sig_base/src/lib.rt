@@ -28,8 +28,6 @@ mod row_order;
 mod scheme;
 mod steps;
 mod stream;
-#[cfg(test)]
-mod tests;
 mod text;
 mod unexpected;
 

@@ -60,24 +60,3 @@ fn digit(value: u8) -> char
 {
     char::from(b"0123456789abcdef"[usize::from(value)])
 }
-
-#[cfg(test)]
-mod tests {
-    use super::*;
-    use std::test::Fail;
-
-    #[test]
-    fn shows_digits_and_names(rt: HostRuntime) -> Result<(), Fail> {
-        let mut root = [0xa0; 32];
-        root[0] = 0x0f;
-        let shown = format!(in rt.alloc(); "{}", RootHex { root })?;
-        assert_eq!(rt; shown.len(), 64);
-        assert_eq!(rt; shown.as_str().starts_with("0fa0a0"), true);
-        let refusal = MerkleProofError::WrongProofSize { got: 1, want: 2 };
-        assert_eq!(rt;
-            format!(in rt.alloc(); "{refusal}")?.as_str(),
-            "WrongProofSize"
-        );
-        Ok(())
-    }
-}

@@ -1,12 +1,13 @@
--- *Key kind*: what kind of key a text is, a function of its bytes. SubjectPublicKeyInfo of RFC 5280 section 4.1.2.7, with the
--- algorithms of RFC 5480 section 2.1 (elliptic curves), RFC 3279 section 2.3.1 (RSA) and RFC 8410 section 3 (Ed25519).
+-- *Key kind*: what kind of key some bytes are. SubjectPublicKeyInfo of RFC 5280 section 4.1.2.7, with the algorithms of RFC 5480 section 2.1
+-- (elliptic curves), RFC 3279 section 2.3.1 and RFC 8017 appendix A.1 (RSA) and RFC 8410 section 3 (Ed25519), by their dotted numbers.
 use Rattle.std.specs.Prelude.{◌≡◌, ◌≢◌, ℕ, List, Option, Some, None, Result, Ok, Err, ◌==◌, if◌then◌else◌}
 use Rattle.std.specs.Str.{bytes_eq}
 use Rattle.sig_base.specs.declared.scheme.VerifyScheme.{VerifyScheme}
 use Rattle.sig_base.specs.declared.scheme.VerifyScheme.TheVariants as scheme
 use Rattle.sig_base.specs.declared.error.SigstoreError.{SigstoreError}
 use Rattle.sig_base.specs.declared.error.SigstoreError.TheVariants.{KeyParsingError, PublicKeyUnsupportedAlgorithmError}
-use Rattle.sig_der.specs.declared.oid.TheConstants.{EC_PUBLIC_KEY, P256, P384, P521, RSA, ED25519}
+use Rattle.sig_der.specs.ObjectIdentifiers.{ec_public_key, p256, p384, p521, rsa, ed25519}
+use Rattle.sig_der.specs.Tag.{OBJECT_IDENTIFIER}
 use Rattle.sig_der.specs.Reading.{Piece}
 use Rattle.sig_der.specs.KeyInfo.{Algorithm, KeyInfo, IsKeyInfo, whole_key_info}
 use Rattle.sig_key.specs.declared.kind.KeyKind.{KeyKind}
@@ -17,22 +18,22 @@ use Rattle.sig_key.specs.Key.{key_scheme, key_info}
 -- the scheme of a curve
 abbrev pub curve_scheme : List ℕ → Option VerifyScheme
 curve_scheme oid =
-    if bytes_eq oid P256.now then Some scheme.ECDSA_P256_SHA256_ASN1
-    else if bytes_eq oid P384.now then Some scheme.ECDSA_P384_SHA384_ASN1
-    else if bytes_eq oid P521.now then Some scheme.ECDSA_P521_SHA512_ASN1
+    if bytes_eq oid p256 then Some scheme.ECDSA_P256_SHA256_ASN1
+    else if bytes_eq oid p384 then Some scheme.ECDSA_P384_SHA384_ASN1
+    else if bytes_eq oid p521 then Some scheme.ECDSA_P521_SHA512_ASN1
     else None
 
 -- parameters that name one of the three curves
 abbrev pub parameters_scheme : Option Piece → Option VerifyScheme
 parameters_scheme None = None
-parameters_scheme (Some p) = if p.tag == 6 then curve_scheme p.content else None
+parameters_scheme (Some p) = if p.tag == OBJECT_IDENTIFIER then curve_scheme p.content else None
 
 -- the scheme by an object identifier and parameters; RSA and Ed25519 have any parameters or none
 abbrev pub scheme_by : List ℕ → Option Piece → Option VerifyScheme
 scheme_by oid parameters =
-    if bytes_eq oid EC_PUBLIC_KEY.now then parameters_scheme parameters
-    else if bytes_eq oid RSA.now then Some scheme.RSA_PKCS1_SHA256
-    else if bytes_eq oid ED25519.now then Some scheme.ED25519
+    if bytes_eq oid ec_public_key then parameters_scheme parameters
+    else if bytes_eq oid rsa then Some scheme.RSA_PKCS1_SHA256
+    else if bytes_eq oid ed25519 then Some scheme.ED25519
     else None
 
 abbrev pub algorithm_scheme : Algorithm → Option VerifyScheme

@@ -6,10 +6,8 @@ ghost use Rattle.sig_key.specs.declared.kind.KeyKind.{KeyKind as Kind};
 ghost use Rattle.sig_key.specs.Kind.{curve_scheme, parameters_scheme, scheme_by, algorithm_scheme, key_kind, IsKind};
 
 use sig_base::VerifyScheme;
+use sig_der::tag::OBJECT_IDENTIFIER;
 use sig_der::{Element, KeyInfoPlaces, oid, whole_key_info};
-
-/// The tag of an object identifier.
-const OBJECT_IDENTIFIER: u8 = 6;
 
 /// What kind of key a text is.
 #[derive(Clone, Copy, PartialEq, Eq)]

@@ -6,11 +6,7 @@
 #![tactic(auto)]
 
 mod kind;
-#[cfg(test)]
-mod kind_tests;
 mod signature;
-#[cfg(test)]
-mod tests;
 mod verification_key;
 mod verification_keys;
 

@@ -12,8 +12,6 @@ mod hashing;
 mod inclusion;
 pub mod laws;
 mod split;
-#[cfg(test)]
-mod tests;
 pub mod uncounted;
 
 pub use hashing::{empty_root, hash_children, hash_leaf};

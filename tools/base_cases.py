@@ -1,0 +1,432 @@
+#!/usr/bin/env python3
+"""Writes the table of base_cases: `stdin`, the calls, and `stdout`, what they return.
+
+Trees and paths are computed by the recursion of RFC 6962 sections 2.1 and 2.1.1, digests by Python's hashlib, texts by its base64. The reference
+tree and its roots are those that Certificate Transparency's implementations publish. The keys are OpenSSL's, in `tools/base_cases.txt`.
+
+    python3 tools/base_cases.py crates/base_cases
+"""
+import base64
+import hashlib
+import os
+import sys
+
+CALLS, RETURNS = [], []
+
+
+def note(text):
+    CALLS.append("# " + text)
+    RETURNS.append("# " + text)
+
+
+def case(call, result):
+    CALLS.append(call)
+    RETURNS.append(result)
+
+
+def hexed(data):
+    return data.hex() or "-"
+
+
+def quoted(text):
+    """The Debug text of a str of these letters."""
+    return '"' + text.replace("\\", "\\\\").replace('"', '\\"') + '"'
+
+
+# ---- sig_base
+
+DIGESTS = [b"abc", b"abcdbcdecdefdefgefghfghighijhijkijkljklmklmnlmnomnopnopq", b""]
+
+# RFC 4648 section 10, and the last two letters of the alphabet
+BASE64 = [(b"", b""), (b"Zg==", b"f"), (b"Zm8=", b"fo"), (b"Zm9v", b"foo"), (b"Zm9vYg==", b"foob"), (b"Zm9vYmE=", b"fooba"),
+          (b"Zm9vYmFy", b"foobar"), (b"w7/Dvg==", "\xff\xfe".encode()), (b"4pi+", "\u263e".encode())]
+
+# padding that is missing, short or too much, stray bits, line ends, spaces, other letters, and the URL alphabet
+NO_BASE64 = [b"Z", b"Zg", b"Zg=", b"Zm8", b"Zm9v====", b"Zg==Zg==", b"=", b"Zh==", b"Zm9=", b"Zm9v\n", b"Zm9v\nZm9v", b"Zg==\n", b" Zm9v",
+             "Zm9v\xe9".encode(), b"w7_Dvg==", b"4pi-"]
+
+SCHEMES = [("RSA_PSS_SHA256", True), ("RSA_PKCS1_SHA256", True), ("ECDSA_P256_SHA256_ASN1", False), ("ECDSA_P384_SHA384_ASN1", False),
+           ("ECDSA_P521_SHA512_ASN1", False), ("ED25519", False)]
+
+ERRORS = [
+    ('OutOfMemory', ['OutOfMemory']),
+    ('Failed', ['Failed']),
+    ('UnknownScheme', ['UnknownScheme']),
+    ('DerError', ['Truncated', 'LongTag', 'Length', 'Trailing', 'WrongTag', 'Value']),
+    ('CheckpointFault', ['Format', 'NoDash', 'SignatureFormat', 'SignatureBase64', 'SignatureLength', 'NoteFormat', 'EmptyOrigin', 'Size', 'HashBase64', 'HashLength']),
+    ('PoolError', ['Anchor(3)', 'Malformed', 'VerificationFailed', 'OutOfMemory']),
+    ('TokenFault', ['NotThreeParts', 'ClaimsBase64', 'ClaimsJson', 'NotSigstore']),
+    ('PkiFault', ['NotReadable', 'TrustedRootMissing']),
+    ('TrustPart', ['Fulcio', 'Ctfe']),
+    ('UnexpectedKind', ['BundleUnreadable', 'ContentNotDsse', 'PayloadType', 'Statement', 'StatementType', 'PredicateType', 'NoSubjects', 'FirstSubjectWithoutSha256', 'SubjectDigest', 'SignatureCount(4)', 'MaterialMissing', 'MaterialNotCertificate', 'EntryCount(4)', 'KeysMissing', 'LogIdMissing', 'PromiseMissing', 'PromiseInteger', 'Promise', 'ProofMissing', 'RootLength', 'HashLength(4)', 'TreeSize', 'CheckpointMissing', 'ProofConversion', 'CanonicalBody', 'Body', 'LayerUnreadable', 'ImageDigest']),
+    ('MerkleProofError', ['MismatchedRoot { expected: RootHex { root: [7, 7, 7, 7, 7, 7, 7, 7, 7, 7, 7, 7, 7, 7, 7, 7, 7, 7, 7, 7, 7, 7, 7, 7, 7, 7, 7, 7, 7, 7, 7, 7] }, got: RootHex { root: [7, 7, 7, 7, 7, 7, 7, 7, 7, 7, 7, 7, 7, 7, 7, 7, 7, 7, 7, 7, 7, 7, 7, 7, 7, 7, 7, 7, 7, 7, 7, 7] } }', 'IndexGtTreeSize', 'UnexpectedNonEmptyProof', 'UnexpectedEmptyProof', 'NewTreeSmaller { new: 1, old: 2 }', 'WrongProofSize { got: 1, want: 2 }', 'WrongEmptyTreeHash']),
+    ('SigstoreError', ['Base64DecodeError', 'HexDecodeError', 'Utf8Error', 'SerdeJsonError', 'PublicKeyUnsupportedAlgorithmError', 'PublicKeyVerificationError', 'KeyParsingError', 'CheckpointSignatureVerificationError', 'CertificateWithoutDigitalSignatureKeyUsage', 'CertificateWithoutCodeSigningKeyUsage', 'CertificateWithoutSubjectAlternativeName', 'CertificateWithIncompleteSubjectAlternativeName', 'CertificateParsingError', 'X509Error', 'SigstoreMediaTypeNotFoundError', 'SigstoreLayerDigestMismatchError', 'SigstoreAnnotationNotFoundError', 'SigstoreNoVerifiedLayer', 'OutOfMemory']),
+    ('SigstoreError_with_values', ['ParseCheckpointError(Size)', 'CertificateValidityError(7)', 'CertificatePoolError(Malformed)', 'ConsistencyProofError(IndexGtTreeSize)', 'InclusionProofError(IndexGtTreeSize)', 'SigstorePKIFileMalformedError(NotReadable)', 'TufMetadataError(Ctfe)', 'IdentityTokenError(NotSigstore)', 'UnexpectedError(Body)', 'CertificateExpiredBeforeSignaturesSubmittedToRekor { integrated_time: 6, not_before: 7 }', 'CertificateIssuedAfterSignaturesSubmittedToRekor { integrated_time: 8, not_after: 7 }', 'RekorPublicKeyNotFoundError("id")', 'VerificationConstraintError("text")', 'ApplyConstraintError("text")']),
+]
+
+
+def base():
+    note("sha256 BYTES: their digest. FIPS 180-4's examples of one and of two blocks, and no bytes.")
+    for data in DIGESTS:
+        case(f"sha256 {hexed(data)}", f"ok {hashlib.sha256(data).hexdigest()}")
+    note("of_base64 TEXT: the bytes of a text in base64. RFC 4648 section 10, and both ends of the alphabet.")
+    for text, data in BASE64:
+        assert base64.b64encode(data) == text
+        case(f"of_base64 {hexed(text)}", f"ok {hexed(data)}")
+    note("no base64: padding that is missing, short or too much, stray bits, line ends, spaces, other letters")
+    for text in NO_BASE64:
+        case(f"of_base64 {hexed(text)}", "None")
+    note("in_base64 BYTES: the text of some bytes")
+    for text, data in BASE64:
+        case(f"in_base64 {hexed(data)}", "ok " + quoted(text.decode()))
+    note("root_hex ROOT: a root as an error shows it")
+    case("root_hex 0f" + "a0" * 31, "ok 0f" + "a0" * 31)
+    case("root_hex " + bytes(range(224, 256)).hex(), "ok " + bytes(range(224, 256)).hex())
+    note("scheme TEXT: the scheme that a text names, and its name")
+    for name, sized in SCHEMES:
+        case(f"scheme {name}", f"ok {name}{'(2048)' if sized else ''} {name}")
+    for name in ["-", "ED2551", "ED255199", "ed25519", "ECDSA_P256_SHA256_ASN2", "RSA_PSS_SHA256%20", "%20RSA_PSS_SHA256"]:
+        case(f"scheme {name}", "UnknownScheme")
+    note("equal ONE OTHER: whether two texts are equal, and whether their bytes are")
+    for one, other in [("-", "-"), ("a", "a"), ("a", "b"), ("a", "-"), ("ab", "abc"), ("%e2%80%94", "%e2%80%94")]:
+        same = "true" if one == other else "false"
+        case(f"equal {one} {other}", f"ok {same} {same}")
+    tables()
+    maps()
+    note("errors TYPE: the Debug text of each variant; Display is the name, or follows in brackets")
+    for name, texts in ERRORS:
+        case(f"errors {name}", " ".join(["ok"] + texts))
+
+
+def tables():
+    note("accepts OPERATION SCHEME KEY MESSAGE SIGNATURE and rows: whether a row equals all five parts")
+    rows = [("message", "ED25519", "01", "0a", f"{n:02x}") for n in (5, 3, 9, 3, 7)]
+    rows += [("message", "ED25519", "01", f"{n:02x}", "20") for n in (9, 4, 4, 7, 1, 8)]
+    rows += [("message", "ED25519", f"{n:02x}", "0a", "21") for n in (3, 1, 2)]
+    rows += [("message", name, "05", "0a", "22") for name in ("RSA_PSS_SHA256", "ED25519")]
+    rows += [("prehash", "ED25519", "01", "0a", "23"), ("point", "-", "01", "0a", "24"), ("certificate", "3000", "01", "0a", "25")]
+    listed = " ".join(" ".join(part for part in row if not (row[0] == "point" and part == "-")) for row in rows)
+    asked = list(rows)
+    asked += [("message", "ED25519", "01", "0a", f"{n:02x}") for n in range(0, 12)]
+    asked += [("message", "ED25519", "01", f"{n:02x}", "20") for n in range(0, 12)]
+    asked += [("message", "ED25519", f"{n:02x}", "0a", "21") for n in range(0, 5)]
+    asked += [("message", "RSA_PKCS1_SHA256", "05", "0a", "22"), ("message", "ED25519", "05", "0a", "22")]
+    asked += [(kind, "ED25519", "01", "0a", "23") for kind in ("message", "prehash")]
+    asked += [(kind, "-", "01", "0a", "24") for kind in ("message", "prehash", "point")]
+    asked += [("message", "ED25519", "-", "-", "-"), ("message", "ED25519", "01", "0a", "0505"), ("message", "ED25519", "01", "0a0a", "05")]
+    asked = list(dict.fromkeys(asked))
+    for row in asked:
+        # a scheme is a text here, and in a row of a certificate bytes in hexadecimal
+        scheme = "0%00" if row[0] == "certificate" else row[1]
+        case(f"accepts {row[0]} {scheme} {row[2]} {row[3]} {row[4]} {listed}", "ok " + ("true" if row in rows else "false"))
+    case("accepts message ED25519 01 0a 05", "ok false")
+
+
+def maps():
+    note("key_map SOUGHT and entries: the number of entries, the value, the entry at index 1, and all in byte order")
+    entries = [("b", "6f6c64"), ("ab", "ff"), ("b", "6e6577"), ("a", "-"), ("%c3%a9", "01"), ("z", "02")]
+    held = dict(entries)
+    order = sorted(held, key=lambda key: percent(key))
+    shown = " ".join(f"{quoted(percent(key).decode())} {held[key]}" for key in order)
+    second = f"{quoted(percent(order[1]).decode())} {held[order[1]]}"
+    listed = " ".join(f"{key} {value}" for key, value in entries)
+    for sought in ["b", "a", "ab", "z", "%c3%a9", "-", "abc"]:
+        case(f"key_map {sought} {listed}", f"ok {len(held)} {held.get(sought, 'None')} {second} {shown}")
+    case("key_map a", "ok 0 None None")
+    case("key_map a a 01", 'ok 1 01 None "a" 01')
+    note("text_map SOUGHT and entries: the same with texts")
+    entries = [("%c3%a9", "old"), ("z", "last%20of%20ASCII"), ("%c3%a9", "new"), ("-", "-")]
+    held = dict(entries)
+    order = sorted(held, key=lambda key: percent(key))
+    text = lambda word: quoted(percent(word).decode())
+    shown = " ".join(f"{text(key)} {text(held[key])}" for key in order)
+    second = f"{text(order[1])} {text(held[order[1]])}"
+    listed = " ".join(f"{key} {value}" for key, value in entries)
+    for sought in ["%c3%a9", "z", "-", "e"]:
+        value = text(held[sought]) if sought in held else "None"
+        case(f"text_map {sought} {listed}", f"ok {len(held)} {value} {second} {shown}")
+    case("text_map a", "ok 0 None None")
+    note("entries INDEX LIST: the number, whether a copy is equal, the entry at the index, and all")
+    for index in range(0, 4):
+        value = ["6669727374", "-", "00ff"][index] if index < 3 else "None"
+        case(f"entries {index} 6669727374,,00ff", f"ok 3 true {value} 6669727374 - 00ff")
+    case("entries 0 -", "ok 0 true None")
+    note("numbers INDEX and numbers; hashes and digests")
+    case("numbers 1 5", "ok 1 true None 5")
+    case("numbers 0 5 0 18446744073709551615", "ok 3 true 5 5 0 18446744073709551615")
+    case("hashes", "ok 0")
+    case("hashes " + "03" * 32 + " " + "ff" * 32, "ok 2 " + "03" * 32 + " " + "ff" * 32)
+
+
+def percent(word):
+    from urllib.parse import unquote_to_bytes
+    return b"" if word == "-" else unquote_to_bytes(word)
+
+
+# ---- sig_merkle: RFC 6962 section 2.1
+
+REFERENCE = [b"", b"\x00", b"\x10", b"\x20\x21", b"\x30\x31", b"\x40\x41\x42\x43", b"PQRSTUVW", b"`abcdefghijklmno"]
+
+# the published roots of the first 0 to 8 entries
+ROOTS = ["e3b0c44298fc1c149afbf4c8996fb92427ae41e4649b934ca495991b7852b855",
+         "6e340b9cffb37a989ca544e6bb780a2c78901d3fb33738768511a30617afa01d",
+         "fac54203e7cc696cf0dfcb42c92a1d9dbaf70ad9e621f4bd8d98662f00e3c125",
+         "aeb6bcfe274b70a14fb067a5e5578264db0fa9b51af5e0ba159158f329e06e77",
+         "d37ee418976dd95753c1c73862b9398fa2a2cf9b4ff0fdfe8b30cd95209614b7",
+         "4e3bbb1f7b478dcfe71fb631631519a3bca12c9aefca1612bfce4c13a86264d4",
+         "76e67dadbcdf1e10e1b74ddc608abd2f98dfb16fbce75277b5232a127f2087ef",
+         "ddb89be403809e325750d3d263cd78929c2942b7942a34b77e122c9594a74c8c",
+         "5dc9da79a70659a9ad559cb701ded9a2ab9d823aad2f4960cfe370eff4604328"]
+
+
+def leaf_hash(entry):
+    return hashlib.sha256(b"\x00" + entry).digest()
+
+
+def node_hash(left, right):
+    return hashlib.sha256(b"\x01" + left + right).digest()
+
+
+def cut(n):
+    """The largest power of two smaller than n."""
+    k = 1
+    while 2 * k < n:
+        k *= 2
+    return k
+
+
+def tree_hash(entries):
+    """MTH (section 2.1)."""
+    if not entries:
+        return hashlib.sha256(b"").digest()
+    if len(entries) == 1:
+        return leaf_hash(entries[0])
+    k = cut(len(entries))
+    return node_hash(tree_hash(entries[:k]), tree_hash(entries[k:]))
+
+
+def audit_path(m, entries):
+    """PATH(m, D[n]) (section 2.1.1)."""
+    if len(entries) == 1:
+        return []
+    k = cut(len(entries))
+    if m < k:
+        return audit_path(m, entries[:k]) + [tree_hash(entries[k:])]
+    return audit_path(m - k, entries[k:]) + [tree_hash(entries[:k])]
+
+
+def root_of(index, leaf, size, path):
+    """The root that a path leads to, by the recursion of the path; no such root where the number of hashes does not fit."""
+    if size == 1:
+        return leaf if not path else None
+    if not path:
+        return None
+    k = cut(size)
+    if index < k:
+        left = root_of(index, leaf, k, path[:-1])
+        return left and node_hash(left, path[-1])
+    right = root_of(index - k, leaf, size - k, path[:-1])
+    return right and node_hash(path[-1], right)
+
+
+def path_len(index, size):
+    if size == 1:
+        return 0
+    k = cut(size)
+    return 1 + (path_len(index, k) if index < k else path_len(index - k, size - k))
+
+
+def inclusion(index, leaf, size, path, root):
+    """What section 2.1.1 says of a proof."""
+    if index >= size:
+        return "IndexGtTreeSize"
+    led = root_of(index, leaf, size, path)
+    if led is None:
+        return f"WrongProofSize {{ got: {len(path)}, want: {path_len(index, size)} }}"
+    if led != root:
+        shown = lambda digest: f"RootHex {{ root: [{', '.join(str(byte) for byte in digest)}] }}"
+        return f"MismatchedRoot {{ expected: {shown(led)}, got: {shown(root)} }}"
+    return "ok"
+
+
+def check(index, leaf, size, path, root):
+    listed = ",".join(digest.hex() for digest in path) or "-"
+    case(f"verify_inclusion {index} {leaf.hex()} {size} {listed} {root.hex()}", inclusion(index, leaf, size, path, root))
+
+
+def turned(index, leaf, size, path, root):
+    """A proof, and the proof with each of its parts turned."""
+    check(index, leaf, size, path, root)
+    check(size, leaf, size, path, root)
+    check(index, leaf, size, path, bytes([7] * 32))
+    if path:
+        check(index, leaf, size, path[:-1], root)
+    check(index, leaf, size, path + [leaf], root)
+
+
+def merkle():
+    note("empty_root, hash_leaf ENTRY, hash_children LEFT RIGHT: the published hashes")
+    case("empty_root", "ok " + ROOTS[0])
+    case("hash_leaf " + b"L123456".hex(), "ok 395aa064aa4c29f7010acfe3f25db9485bbd4b91897b6ad7ad547639252b4d56")
+    case(f"hash_children {b'N123'.hex()} {b'N456'.hex()}", "ok aa217fe888e47007fa15edab33c2b492a722cb106c64667fc2b044444de66bbb")
+    for entry in REFERENCE:
+        case(f"hash_leaf {hexed(entry)}", "ok " + leaf_hash(entry).hex())
+    note("verify_inclusion INDEX LEAF SIZE PATH ROOT: each leaf of the reference tree, with each part turned")
+    for size in range(1, 9):
+        entries = REFERENCE[:size]
+        assert tree_hash(entries).hex() == ROOTS[size]
+        for index in range(size):
+            turned(index, leaf_hash(entries[index]), size, audit_path(index, entries), tree_hash(entries))
+    note("another leaf, size or order of the hashes leads to another root")
+    entries = REFERENCE[:7]
+    leaves = [leaf_hash(entry) for entry in entries]
+    path, root = audit_path(6, entries), tree_hash(entries)
+    check(6, leaves[5], 7, path, root)
+    check(2, leaves[6], 4, path, root)
+    check(6, leaves[6], 7, path[::-1], root)
+    note("trees of 9 to 33 entries: each index, and its path with a hash less and a hash more")
+    for size in range(9, 34):
+        entries = [f"entry {number} of {size}".encode() for number in range(size)]
+        root = tree_hash(entries)
+        for index in range(size):
+            leaf, path = leaf_hash(entries[index]), audit_path(index, entries)
+            check(index, leaf, size, path, root)
+            check(index ^ 1, leaf, size, path, root)
+        check(size, leaf, size, path, root)
+        check(0, leaf, size, audit_path(0, entries)[:-1], root)
+        check(0, leaf, size, audit_path(0, entries) + [leaf], root)
+    note("no leaf is in the empty tree; the largest tree")
+    leaf, sibling = leaf_hash(b""), bytes([1] * 32)
+    check(0, leaf, 0, [], leaf)
+    first, last = leaf, leaf
+    for level in range(64):
+        first = node_hash(first, sibling)
+    for level in range(63):
+        last = node_hash(sibling, last)
+    most = 2 ** 64 - 1
+    turned(0, leaf, most, [sibling] * 64, first)
+    turned(most - 1, leaf, most, [sibling] * 63, last)
+    note("counted INDEX LEAF SIZE PATH: the root that a path leads to, with a counter of steps")
+    entries = REFERENCE[:7]
+    for index in range(7):
+        listed = ",".join(digest.hex() for digest in audit_path(index, entries)) or "-"
+        case(f"counted {index} {leaf_hash(entries[index]).hex()} 7 {listed}", "ok " + ROOTS[7])
+    case(f"counted 7 {leaf_hash(b'').hex()} 7 -", "IndexGtTreeSize")
+    case(f"counted 0 {leaf_hash(b'').hex()} 7 -", "WrongProofSize { got: 0, want: 3 }")
+    case(f"counted 0 {leaf_hash(b'').hex()} 1 -", "ok " + ROOTS[1])
+
+
+# ---- sig_key
+
+def keys(path):
+    made = {}
+    for line in open(path):
+        if line.strip() and not line.startswith("#"):
+            name, data = line.split()
+            made[name] = bytes.fromhex(data)
+    p256 = made["P256"]
+
+    def changed(data, index, byte):
+        return data[:index] + bytes([byte]) + data[index + 1:]
+
+    note("key_kind SPKI, try_from_der SPKI, try_from_spki SPKI. Keys that OpenSSL made: RFC 5480, RFC 8017, RFC 8410")
+    kinds = [(made["P256"], "ECDSA_P256_SHA256_ASN1"), (made["P384"], "ECDSA_P384_SHA384_ASN1"), (made["P521"], "ECDSA_P521_SHA512_ASN1"),
+             (made["RSA"], "RSA_PKCS1_SHA256"), (made["ED25519"], "ED25519"),
+             # RSA without parameters, Ed25519 with NULL
+             (bytes.fromhex("3011300b06092a864886f70d01010103020001"), "RSA_PKCS1_SHA256"),
+             (bytes.fromhex("300d300706032b6570050003020001"), "ED25519")]
+    unsupported = [made["SECP256K1"], made["X25519"], changed(p256, 12, p256[12] ^ 2), changed(p256, 22, p256[22] ^ 1), changed(p256, 13, 4),
+                   # EC without parameters
+                   bytes.fromhex("300f300906072a8648ce3d020103020001")]
+    # each bit of each object identifier turned is another algorithm; that of P-384 and that of P-521 are one bit apart
+    curves = {bytes.fromhex("2b81040022"): "ECDSA_P384_SHA384_ASN1", bytes.fromhex("2b81040023"): "ECDSA_P521_SHA512_ASN1"}
+    for name, start, end in [("P256", 6, 13), ("P256", 15, 23), ("P384", 15, 20), ("P521", 16, 21), ("RSA", 8, 17), ("ED25519", 6, 9)]:
+        for index in range(start, end):
+            for bit in range(8):
+                other = changed(made[name], index, made[name][index] ^ 1 << bit)
+                if other[start:end] in curves:
+                    kinds.append((other, curves[other[start:end]]))
+                elif is_identifier(other[start:end]):
+                    unsupported.append(other)
+    none = [b"", p256[:90], changed(p256, 25, 1),
+            # two parameters, an empty identifier, a byte behind
+            bytes.fromhex("300f300906032b65700500050003020001"), bytes.fromhex("30083002060003020001"), bytes.fromhex("300b300506032b65700302000100"),
+            b"key"]
+    for spki, scheme in kinds:
+        case(f"key_kind {spki.hex()}", f"ok {scheme}")
+        case(f"try_from_der {spki.hex()}", f"ok {scheme} {spki.hex()}")
+        case(f"try_from_spki {spki.hex()}", f"ok {scheme} {spki.hex()}")
+    for spki in unsupported:
+        case(f"key_kind {spki.hex()}", "Unsupported")
+    for spki in unsupported[:6]:
+        case(f"try_from_der {spki.hex()}", "PublicKeyUnsupportedAlgorithmError")
+        case(f"try_from_spki {spki.hex()}", "PublicKeyUnsupportedAlgorithmError")
+    for spki in none:
+        case(f"key_kind {hexed(spki)}", "NoKeyInfo")
+        case(f"try_from_der {hexed(spki)}", "KeyParsingError")
+        case(f"try_from_spki {hexed(spki)}", "KeyParsingError")
+    note("from_der SCHEME DER: a key of this scheme, whatever the DER is")
+    for name, _ in SCHEMES:
+        case(f"from_der {name} {b'key'.hex()}", f"ok {name} {b'key'.hex()}")
+    signatures()
+    checks()
+
+
+def is_identifier(contents):
+    """Whether contents octets are those of an object identifier: X.690 section 8.19.2."""
+    start = True
+    for octet in contents:
+        if start and octet == 0x80:
+            return False
+        start = octet < 0x80
+    return start
+
+
+def signatures():
+    note("decode_bytes raw|base64 SIGNATURE: the bytes, of a text in base64 that may be in lines")
+    case(f"decode_bytes raw {b'c2 ln'.hex()}", "ok " + b"c2 ln".hex())
+    case("decode_bytes raw -", "ok -")
+    for text, data in [(b"", b""), (b"c2ln", b"sig"), (b"c2lnbg==", b"sign"), (b"c2\nln\n", b"sig"), (b"c2\r\nlnb\r\ng==\r\n", b"sign"), (b"\n\r", b"")]:
+        case(f"decode_bytes base64 {hexed(text)}", "ok " + hexed(data))
+    for text in [b"c2lnbg", b"c2lnbh==", b"c2 ln", b"c2ln=", b"-_-_", b"\xff\xff\xff\xff", b"c2\tln", b"c2lnbg==\nc2ln", b"c2lnbg\n=\n"]:
+        case(f"decode_bytes base64 {hexed(text)}", "Base64DecodeError")
+
+
+def checks():
+    note("key_accepts SCHEME KEY SIGNATURE MESSAGE and rows; verify_signature and verify_prehash SCHEME KEY FORM SIGNATURE MESSAGE and rows")
+    key, other, msg, sig = b"key".hex(), b"yek".hex(), b"msg".hex(), b"sig".hex()
+    row = f"message ECDSA_P256_SHA256_ASN1 {key} {msg} {sig}"
+    for scheme, k, s, m, fits in [("ECDSA_P256_SHA256_ASN1", key, sig, msg, True), ("ED25519", key, sig, msg, False),
+                                  ("ECDSA_P256_SHA256_ASN1", other, sig, msg, False), ("ECDSA_P256_SHA256_ASN1", key, msg, sig, False),
+                                  ("ECDSA_P256_SHA256_ASN1", key, sig, "-", False)]:
+        verdict = "ok" if fits else "PublicKeyVerificationError"
+        case(f"key_accepts {scheme} {k} {s} {m} {row}", "ok " + ("true" if fits else "false"))
+        case(f"verify_signature {scheme} {k} raw {s} {m} {row}", verdict)
+        text = base64.b64encode(bytes.fromhex(s))
+        lines = text[:2] + b"\n" + text[2:]
+        case(f"verify_signature {scheme} {k} base64 {hexed(lines)} {m} {row}", verdict)
+        case(f"verify_prehash {scheme} {k} raw {s} {m} {row}", "PublicKeyVerificationError")
+        prehash = row.replace("message", "prehash")
+        case(f"verify_prehash {scheme} {k} raw {s} {m} {prehash}", verdict)
+        case(f"verify_prehash {scheme} {k} base64 {hexed(text)} {m} {prehash}", verdict)
+        case(f"verify_signature {scheme} {k} raw {s} {m} {prehash}", "PublicKeyVerificationError")
+    for call in ["verify_signature", "verify_prehash"]:
+        case(f"{call} ED25519 {key} base64 {b'c2l'.hex()} {msg} {row}", "Base64DecodeError")
+        case(f"{call} ED25519 {key} base64 {b'c2ln!'.hex()} {msg} {row}", "Base64DecodeError")
+    note("keys SOUGHT and names, schemes and keys: the last key of the name")
+    listed = "a ECDSA_P256_SHA256_ASN1 01 b ECDSA_P521_SHA512_ASN1 02 a ED25519 03"
+    for sought, found in [("a", "ok ED25519 03"), ("b", "ok ECDSA_P521_SHA512_ASN1 02"), ("c", "None"), ("-", "None")]:
+        case(f"keys {sought} {listed}", found)
+    case("keys a", "None")
+
+
+def main():
+    base()
+    merkle()
+    keys(os.path.join(os.path.dirname(__file__), "base_cases.txt"))
+    for name, lines in [("stdin", CALLS), ("stdout", RETURNS)]:
+        with open(os.path.join(sys.argv[1], name), "w") as out:
+            out.write("\n".join(lines) + "\n")
+
+
+main()
