@@ -5,10 +5,10 @@ use Rattle.std.specs.Cmp.Lexicographic.{slice_cmp}
 use Rattle.std.specs.Ordering.{nat_cmp}
 use Rattle.serde_json.specs.Data.{Data, null, boolean, number, string, array, object, Items, no_items, item, Members, no_members, member, put}
 use Rattle.serde_json.specs.Find.{as_array, as_object}
-use Rattle.serde_json.proofs.Views.{view-Array, view-Object}
-use Rattle.serde_json.specs.View.{view, items_view, members_view}
+use Rattle.sig_json.proofs.Trees.{view-Array, view-Object}
+use Rattle.sig_json.specs.View.{view, items_view, members_view}
 use Rattle.serde_json.specs.Written.{has_float, items_have_float, members_have_float}
-use Rattle.serde_json.specs.declared.value.Value.{Value, Array, Object}
+use Rattle.sig_json.specs.declared.tree.Tree.{Tree, Array, Object}
 use Rattle.sig_json.proofs.ByKind.{as_array_is, as_object_is}
 use Rattle.sig_json.proofs.ByOrdering.{holds_of_choice}
 use Rattle.sig_json.specs.Builders.{with_member, with_last, items_with_last}
@@ -55,11 +55,11 @@ with_last_floatless value (string s) one whole = refl
 with_last_floatless value (array ds) one whole = last_floatless ds value one whole
 with_last_floatless value (object ms) one whole = whole
 
-items_view-append : (values : List Value) (last : Value) → items_view (values ++ last ∷ []) ≡ items_with_last (items_view values) (view last)
+items_view-append : (values : List Tree) (last : Tree) → items_view (values ++ last ∷ []) ≡ items_with_last (items_view values) (view last)
 items_view-append [] last = refl
 items_view-append (v ∷ vs) last = ap (λ rest. item (view v) rest) (items_view-append vs last)
 
-with_last-array : (tree : Data) (values : List Value) (last : Value) → Some (items_view values) ≡ as_array tree → with_last (view last) tree ≡ array (items_view (values ++ last ∷ []))
+with_last-array : (tree : Data) (values : List Tree) (last : Tree) → Some (items_view values) ≡ as_array tree → with_last (view last) tree ≡ array (items_view (values ++ last ∷ []))
 with_last-array tree values last e =
     ap (with_last (view last)) (as_array_is tree (items_view values) e) ∙ ap array (sym (items_view-append values last))
 
@@ -71,17 +71,29 @@ with_last-other value (string s) e = refl
 with_last-other value (array ds) e = cc
 with_last-other value (object ms) e = refl
 
--- what the code's change of a value is, where it made one
-pub pushed : (tree : Data) (values after : Vec Value Global) (last : Value) → Some (items_view values.items) ≡ as_array tree → after.items ≡ values.items ++ last ∷ [] → view (Array after) ≡ with_last (view last) tree
-pushed tree values after last e pushes = rw (view-Array after, pushes) (sym (with_last-array tree values.items last e))
+-- what the code makes of a list or an object
+pub pushed_in : (before after : Vec Tree Global) (last : Tree) → after.items ≡ before.items ++ last ∷ [] → view (Array after) ≡ with_last (view last) (view (Array before))
+pushed_in before after last pushes = rw (view-Array after, view-Array before, pushes) (ap array (items_view-append before.items last))
 
-pub pushed_floatless : (tree : Data) (values after : Vec Value Global) (last : Value) → Some (items_view values.items) ≡ as_array tree → after.items ≡ values.items ++ last ∷ [] → has_float tree ≡ false → has_float (view last) ≡ false → has_float (view (Array after)) ≡ false
-pushed_floatless tree values after last e pushes whole one =
-    rw (pushed tree values after last e pushes) (with_last_floatless (view last) tree one whole)
+pub put_in : (name : List ℕ) (value : Data) (before after : Vec (String Global × Tree) Global) → members_view after.items ≡ put name value (members_view before.items) → view (Object after) ≡ with_member name value (view (Object before))
+put_in name value before after puts = rw (view-Object after, view-Object before, puts) refl
 
-pub put_in_floatless : (name : List ℕ) (value tree : Data) (ms : Members) (after : BTreeMap (String Global) Value) → Some ms ≡ as_object tree → members_view after.entries ≡ put name value ms → has_float tree ≡ false → has_float value ≡ false → has_float (view (Object after)) ≡ false
-put_in_floatless name value tree ms after e puts whole one =
-    let made = rw (with_member-object name value tree ms e) at (with_member_floatless name value tree one whole) in
-    rw (view-Object after, puts) made
+pub kept : (before after : Vec (String Global × Tree) Global) → after.items ≡ before.items → view (Object after) ≡ view (Object before)
+kept before after same = rw (view-Object after, view-Object before, same) refl
 
-pub ruleset building = (with_member_floatless, with_member-object, with_member-other, with_last_floatless, with_last-other, pushed, pushed_floatless, put_in_floatless)
+pub pushed_kept : (before after : Vec Tree Global) → after.items ≡ before.items → view (Array after) ≡ view (Array before)
+pushed_kept before after same = rw (view-Array after, view-Array before, same) refl
+
+pub put_in_floatless : (name : List ℕ) (value : Data) (before after : Vec (String Global × Tree) Global) → members_view after.items ≡ put name value (members_view before.items) → has_float (view (Object before)) ≡ false → has_float value ≡ false → has_float (view (Object after)) ≡ false
+put_in_floatless name value before after puts whole one = rw (put_in name value before after puts) (with_member_floatless name value (view (Object before)) one whole)
+
+pub kept_floatless : (before after : Vec (String Global × Tree) Global) → after.items ≡ before.items → has_float (view (Object before)) ≡ false → has_float (view (Object after)) ≡ false
+kept_floatless before after same whole = rw (kept before after same) whole
+
+pub pushed_floatless : (before after : Vec Tree Global) (last : Tree) → after.items ≡ before.items ++ last ∷ [] → has_float (view (Array before)) ≡ false → has_float (view last) ≡ false → has_float (view (Array after)) ≡ false
+pushed_floatless before after last pushes whole one = rw (pushed_in before after last pushes) (with_last_floatless (view last) (view (Array before)) one whole)
+
+pub pushed_kept_floatless : (before after : Vec Tree Global) → after.items ≡ before.items → has_float (view (Array before)) ≡ false → has_float (view (Array after)) ≡ false
+pushed_kept_floatless before after same whole = rw (pushed_kept before after same) whole
+
+pub ruleset building = (with_member-object, with_member-other, with_last-other, pushed_in, put_in, kept, pushed_kept, put_in_floatless, kept_floatless, pushed_floatless, pushed_kept_floatless)

@@ -1,3 +1,9 @@
+pub mod Trees
+pub mod Ordered
+pub mod CompactTexts
+pub mod Copies
+pub mod Converted
+pub mod Tokens
 pub mod ByKind
 pub mod ByOrdering
 pub mod Reading

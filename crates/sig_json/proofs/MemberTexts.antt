@@ -1,5 +1,5 @@
 -- The parts of a list or an object, one after another behind one text, and members that are sorted before they are written.
-use Rattle.std.proofs.Common.{◌≡◌, ◌≢◌, ◌<◌, ◌≤◌, ◌+◌, ◌==◌, false, ℕ, zero, suc, max, List, [], ◌∷◌, ◌++◌, length, map, drop, get_or, Option, Some, None, Vec, Global, refl, sym, ap, ◌∙◌, append_assoc, arith}
+use Rattle.std.proofs.Common.{◌≡◌, ◌≢◌, ◌<◌, ◌≤◌, ◌+◌, ◌==◌, false, ℕ, zero, suc, max, List, [], ◌∷◌, ◌++◌, length, map, drop, get_or, Option, Some, None, String, Vec, Global, refl, sym, ap, subst, ◌∙◌, append_assoc, arith}
 use Rattle.std.proofs.lemmas.List.{at_drop_more}
 use Rattle.std.specs.BTreeMap.{insert_entry}
 use Rattle.std.specs.Cmp.Lexicographic.{slice_cmp}
@@ -12,17 +12,19 @@ use Rattle.std.specs.Str.{IsUtf8}
 use Rattle.std.specs.declared.cmp.Ordering.{Ordering}
 use Rattle.std.specs.declared.cmp.Ordering.TheVariants.{Less, Equal, Greater}
 use Rattle.serde_json.specs.Data.{Data, Members, no_members, member, depth, members_depth}
-use Rattle.serde_json.specs.View.{view, items_view}
-use Rattle.serde_json.specs.declared.value.Value.{Value}
+use Rattle.sig_json.specs.Named.{IsNamed, AreNamed, NamesAscend, HasNamedValues}
+use Rattle.sig_json.specs.View.{view, items_view, members_view}
+use Rattle.sig_json.specs.declared.tree.Tree.{Tree, Array, Object}
+use Rattle.sig_json.proofs.Trees.{view-Array, view-Object}
 use Rattle.sig_json.specs.Canonical.{Sorted, canon, canon_items, canon_members, canon_string, in_braces, utf16_units, with_text}
 use Rattle.sig_json.specs.Members.{members_list}
 use Rattle.sig_json.specs.Order.{HasNames}
 use Rattle.sig_json.specs.Writes.{comma_before, Pair, ByUnits, by_units, member_text, pair_of, texts_in_turn}
-use Rattle.sig_json.specs.declared.canonical_form.Member.{Member}
+use Rattle.sig_json.specs.declared.named_member.Member.{Member}
 use Rattle.sig_base.proofs.Ascending.{all_keys}
 use Rattle.sig_json.proofs.ByOrdering.{choice_of_each}
 use Rattle.sig_json.proofs.MemberOrder.{same_units}
-use Rattle.sig_json.proofs.Named.{has_names}
+use Rattle.sig_json.proofs.Lists.{none_left}
 use Rattle.sig_json.proofs.SameTrees.{items_depth_at}
 
 -- ---- parts behind one text
@@ -71,15 +73,15 @@ with_left-more written spaced after end place (Some text) (Some texts) comma is 
     let same : spaced ++ text ≡ after = cc in
     ap Some (more_written written spaced after end text place texts comma same)
 
-left_items : (values : List Value) (i : ℕ) (value : Value) → i < length values → value ≡ get_or values i value → canon_items (items_view (drop i values)) ≡ one_more (canon (view value)) (canon_items (items_view (drop (i + 1) values)))
+left_items : (values : List Tree) (i : ℕ) (value : Tree) → i < length values → value ≡ get_or values i value → canon_items (items_view (drop i values)) ≡ one_more (canon (view value)) (canon_items (items_view (drop (i + 1) values)))
 left_items values i value h is =
     at_drop_more (λ vs. canon_items (items_view vs)) values i value h ∙ ap (λ v. one_more (canon (view v)) (canon_items (items_view (drop (i + 1) values)))) (sym is)
 
-pub items-more : (values : List Value) (i : ℕ) (value : Value) (total : Option (List ℕ)) (written spaced after end : List ℕ) → i < length values → value ≡ get_or values i value → total ≡ with_left written end i (canon_items (items_view (drop i values))) → spaced ≡ written ++ comma_before i → option_map (λ text. spaced ++ text) (canon (view value)) ≡ Some after → total ≡ with_left after end (i + 1) (canon_items (items_view (drop (i + 1) values)))
+pub items-more : (values : List Tree) (i : ℕ) (value : Tree) (total : Option (List ℕ)) (written spaced after end : List ℕ) → i < length values → value ≡ get_or values i value → total ≡ with_left written end i (canon_items (items_view (drop i values))) → spaced ≡ written ++ comma_before i → option_map (λ text. spaced ++ text) (canon (view value)) ≡ Some after → total ≡ with_left after end (i + 1) (canon_items (items_view (drop (i + 1) values)))
 items-more values i value total written spaced after end h is so_far comma more =
     so_far ∙ rw (left_items values i value h is) (with_left-more written spaced after end i (canon (view value)) _ comma more)
 
-pub items-refused : (values : List Value) (i : ℕ) (value : Value) (before begin written end : List ℕ) (parts : Option (List (List ℕ))) → i < length values → value ≡ get_or values i value → whole before begin end parts ≡ with_left written end i (canon_items (items_view (drop i values))) → canon (view value) ≡ None → option_and_then (λ texts. Some (begin ++ (join_by (λ text. text) (codes ",") texts ++ end))) parts ≡ None
+pub items-refused : (values : List Tree) (i : ℕ) (value : Tree) (before begin written end : List ℕ) (parts : Option (List (List ℕ))) → i < length values → value ≡ get_or values i value → whole before begin end parts ≡ with_left written end i (canon_items (items_view (drop i values))) → canon (view value) ≡ None → option_and_then (λ texts. Some (begin ++ (join_by (λ text. text) (codes ",") texts ++ end))) parts ≡ None
 items-refused values i value before begin written end parts h is so_far refused =
     whole-none before begin end parts (so_far ∙ rw (left_items values i value h is, refused) refl)
 
@@ -225,8 +227,31 @@ pub values_of-entries : (es : List Entry) → values_of (entries_of es) ≡ map 
 values_of-entries [] = refl
 values_of-entries (e ∷ es) = ap (λ rest. pair_of e.1 ∷ rest) (values_of-entries es)
 
-pub ruleset parts = (whole-begins, items-more, items-refused, members-more, members-refused, items_depth_at, deepest_at)
+-- ---- named values
+
+pub items_named_at : (trees : List Tree) (i : ℕ) (tree : Tree) → i < length trees → tree ≡ get_or trees i tree → AreNamed (items_view trees) → IsNamed (view tree)
+items_named_at [] i tree h is named = absurd (omega arith)
+items_named_at (t ∷ trees) zero tree h is named = rw is named.0
+items_named_at (t ∷ trees) (suc i) tree h is named = items_named_at trees i tree (omega arith) is named.1
+
+pub members_named_at : (es : List (String Global × Tree)) (i : ℕ) (e : String Global × Tree) → i < length es → e ≡ get_or es i e → HasNamedValues (members_view es) → IsNamed (view e.1)
+members_named_at [] i e h is named = absurd (omega arith)
+members_named_at (f ∷ es) zero e h is named = rw is named.0
+members_named_at (f ∷ es) (suc i) e h is named = members_named_at es i e (omega arith) is named.1
+
+pub array_named : (tree : Tree) (items : Vec Tree Global) → tree ≡ Array items → IsNamed (view tree) → AreNamed (items_view items.items)
+array_named tree items is named = subst IsNamed (ap view is ∙ view-Array items) named
+
+pub object_named : (tree : Tree) (members : Vec (String Global × Tree) Global) → tree ≡ Object members → IsNamed (view tree) → NamesAscend (members_view members.items) × HasNamedValues (members_view members.items)
+object_named tree members is named = subst IsNamed (ap view is ∙ view-Object members) named
+
+pub ruleset parts = (whole-begins, items-more, items-refused, members-more, members-refused, items_depth_at, deepest_at, items_named_at, array_named, object_named)
 
 pub ruleset objects = (object_meant, object_deepest)
 
-pub ruleset sorts = (values_of-entries, has_names)
+pub sorted_end : (all left : List (String Global × Tree)) (i : ℕ) (es : List Entry) (members : List Member) → i ≡ length left → by_units (members_view all) [] ≡ by_units (members_view (drop i left)) (entries_of es) → members ≡ values_of es
+    → map pair_of members ≡ values_of (by_units (members_view all) [])
+sorted_end all left i es members end so_far are =
+    ap (map pair_of) are ∙ sym (values_of-entries es) ∙ ap values_of (sym (so_far ∙ ap (λ ms. by_units (members_view ms) (entries_of es)) (none_left left i end)))
+
+pub ruleset sorts = (sorted_end, members_named_at)

@@ -16,12 +16,12 @@ use Rattle.sig_base.proofs.Ascending.{all_keys, ascend-insert_entry}
 use Rattle.sig_base.proofs.OptionSteps.{bind_is, some_is}
 use Rattle.sig_base.proofs.Texts.{ascend-entries}
 use Rattle.sig_base.specs.ByText.{KeysAscend, text_entries}
-use Rattle.serde_json.proofs.Views.{view-Array, view-Object}
+use Rattle.sig_json.proofs.Trees.{view-Array, view-Object}
 use Rattle.serde_json.specs.Data.{Num, Data, null, boolean, number, string, array, object, Items, no_items, item, Members, no_members, member, put}
 use Rattle.serde_json.specs.Find.{get, at, get_member, get_item, as_object, as_array}
-use Rattle.serde_json.specs.View.{view, items_view, members_view}
-use Rattle.serde_json.specs.declared.value.Value.{Value, Array, Object}
-use Rattle.sig_json.proofs.Building.{pushed, with_member-object}
+use Rattle.sig_json.specs.View.{view, items_view, members_view}
+use Rattle.sig_json.specs.declared.tree.Tree.{Tree, Array, Object}
+use Rattle.sig_json.proofs.Building.{put_in, kept, pushed_in, pushed_kept}
 use Rattle.sig_json.proofs.ByKind.{as_object_is}
 use Rattle.sig_json.proofs.ByOrdering.{choice_of_each, holds_of_choice}
 use Rattle.sig_json.proofs.Lists.{items_from}
@@ -31,31 +31,6 @@ use Rattle.sig_json.specs.Canonical.{Sorted, canon, canon_items, in_brackets}
 use Rattle.sig_json.specs.Members.{members_list}
 use Rattle.sig_json.specs.Named.{NamesAscend, IsNamed, AreNamed, HasNamedValues}
 use Rattle.sig_json.specs.Order.{HasNames, KeepsOrder, InTurn, ValuesKeepOrder, member_texts}
-
--- ---- what a walk finds
-
--- one element more is named
-pub named_more : (P : Type 0) (vs : List Value) (i : ℕ) (v : Value) → i < length vs → v ≡ get_or vs i v → IsNamed (view v) → (AreNamed (items_view (drop i vs)) → P) → AreNamed (items_view (drop (i + 1) vs)) → P
-named_more P vs i v h is one so_far rest = so_far (subst AreNamed (sym (items_from vs i v h is)) (one, rest))
-
-pub list_named : (v : Vec Value Global) → AreNamed (items_view v.items) → IsNamed (view (Array v))
-list_named v named = subst IsNamed (sym (view-Array v)) named
-
-pub object_named : (m : BTreeMap (String Global) Value) → NamesAscend (members_view m.entries) × HasNamedValues (members_view m.entries) → IsNamed (view (Object m))
-object_named m named = subst IsNamed (sym (view-Object m)) named
-
-texts_names : (es : List (String Global × Value)) → AllByRecursion IsUtf8 (keys_of (members_list (members_view es)))
-texts_names [] = tt
-texts_names (e ∷ es) = (IsUtf8-string_bytes e.0, texts_names es)
-
-names_are : (es : List (String Global × Value)) → keys_of (text_entries es) ≡ keys_of (members_list (members_view es))
-names_are [] = refl
-names_are (e ∷ es) = ap (λ names. string_bytes e.0 ∷ names) (names_are es)
-
-pub names_ascend : (es : List (String Global × Value)) → IsStrictlySortedBy string_cmp (keys_of es) → NamesAscend (members_view es)
-names_ascend es up = (texts_names es, subst (IsStrictlySortedBy (slice_cmp nat_cmp)) (names_are es) (ascend-entries es up))
-
-pub ruleset names_found = (named_more, list_named, object_named, names_ascend)
 
 -- ---- what ascends differs
 
@@ -71,10 +46,6 @@ pub names_differ : (ms : Members) → NamesAscend ms → HasNames ms
 unfolding IsStrictlySortedBy
 names_differ no_members up = tt
 names_differ (member name d ms) up = (up.0.0, unlike name (keys_of (members_list ms)) up.1.0, names_differ ms (up.0.1, up.1.1))
-
--- the members of a map from strings
-pub has_names : (es : List (String Global × Value)) → IsStrictlySortedBy string_cmp (keys_of es) → HasNames (members_view es)
-has_names es up = names_differ (members_view es) (names_ascend es up)
 
 mutual
   pub keeps_order : (d : Data) (text : List ℕ) → IsNamed d → canon d ≡ Some text → KeepsOrder d text
@@ -163,11 +134,11 @@ members_list-put : (k : List ℕ) (d : Data) (ms : Members) → members_list (pu
 members_list-put k d no_members = refl
 members_list-put k d (member l e ms) = choice_of_each members_list (slice_cmp nat_cmp k l) _ _ _ ∙ rw (members_list-put k d ms) refl
 
-ascend-put : (k : List ℕ) (d : Data) (ms : Members) → IsUtf8 k → NamesAscend ms → NamesAscend (put k d ms)
+pub ascend-put : (k : List ℕ) (d : Data) (ms : Members) → IsUtf8 k → NamesAscend ms → NamesAscend (put k d ms)
 ascend-put k d ms utf8 up =
     rw (members_list-put k d ms) (all_keys (slice_cmp nat_cmp) IsUtf8 (members_list ms) k d up.0 utf8, ascend-insert_entry (slice_cmp nat_cmp) nat_list_cmp_total (members_list ms) k d up.1)
 
-values-put : (k : List ℕ) (d : Data) (ms : Members) → IsNamed d → HasNamedValues ms → HasNamedValues (put k d ms)
+pub values-put : (k : List ℕ) (d : Data) (ms : Members) → IsNamed d → HasNamedValues ms → HasNamedValues (put k d ms)
 values-put k d no_members one rest = (one, tt)
 values-put k d (member l e ms) one rest =
     holds_of_choice HasNamedValues (slice_cmp nat_cmp k l) (member k d (member l e ms)) (member l d ms) (member l e (put k d ms)) (one, rest) (one, rest.1) (rest.0, values-put k d ms one rest.1)
@@ -192,21 +163,26 @@ with_last_named value (string s) whole one = tt
 with_last_named value (array ds) whole one = last_named ds value whole one
 with_last_named value (object ms) whole one = whole
 
-pub put_named : (name : List ℕ) (value tree : Data) (ms : Members) (after : BTreeMap (String Global) Value) → IsUtf8 name → Some ms ≡ as_object tree → members_view after.entries ≡ put name value ms → IsNamed tree → IsNamed value → IsNamed (view (Object after))
-put_named name value tree ms after utf8 e puts whole one =
-    let is : view (Object after) ≡ with_member name value tree = view-Object after ∙ ap object puts ∙ sym (with_member-object name value tree ms e) in
-    subst IsNamed (sym is) (with_member_named name value tree utf8 whole one)
+pub put_named : (name : List ℕ) (value : Data) (before after : Vec (String Global × Tree) Global) → IsUtf8 name → members_view after.items ≡ put name value (members_view before.items) → IsNamed (view (Object before)) → IsNamed value → IsNamed (view (Object after))
+put_named name value before after utf8 puts whole one =
+    subst IsNamed (sym (put_in name value before after puts)) (with_member_named name value (view (Object before)) utf8 whole one)
 
-pub pushed_named : (tree : Data) (values after : Vec Value Global) (last : Value) → Some (items_view values.items) ≡ as_array tree → after.items ≡ values.items ++ last ∷ [] → IsNamed tree → IsNamed (view last) → IsNamed (view (Array after))
-pushed_named tree values after last e pushes whole one =
-    subst IsNamed (sym (pushed tree values after last e pushes)) (with_last_named (view last) tree whole one)
+pub kept_named : (before after : Vec (String Global × Tree) Global) → after.items ≡ before.items → IsNamed (view (Object before)) → IsNamed (view (Object after))
+kept_named before after same whole = subst IsNamed (sym (kept before after same)) whole
+
+pub pushed_named : (before after : Vec Tree Global) (last : Tree) → after.items ≡ before.items ++ last ∷ [] → IsNamed (view (Array before)) → IsNamed (view last) → IsNamed (view (Array after))
+pushed_named before after last pushes whole one =
+    subst IsNamed (sym (pushed_in before after last pushes)) (with_last_named (view last) (view (Array before)) whole one)
+
+pub pushed_kept_named : (before after : Vec Tree Global) → after.items ≡ before.items → IsNamed (view (Array before)) → IsNamed (view (Array after))
+pushed_kept_named before after same whole = subst IsNamed (sym (pushed_kept before after same)) whole
 
 pub same_named : (d e : Data) → d ≡ e → IsNamed e → IsNamed d
 same_named d e same named = subst IsNamed (sym same) named
 
-pub ruleset named_changes = (put_named, pushed_named, same_named)
+pub ruleset named_changes = (put_named, kept_named, pushed_named, pushed_kept_named)
 
-pub empty_object_named : (m : BTreeMap (String Global) Value) → m.entries ≡ [] → IsNamed (view (Object m))
+pub empty_object_named : (m : Vec (String Global × Tree) Global) → m.items ≡ [] → IsNamed (view (Object m))
 unfolding IsStrictlySortedBy
 empty_object_named m is = subst IsNamed (sym (view-Object m ∙ ap (λ es. object (members_view es)) is)) ((tt, tt), tt)
 

@@ -7,10 +7,11 @@ use Rattle.std.specs.Map.{keys_of}
 use Rattle.std.specs.Option.{option_and_then}
 use Rattle.serde_json.specs.Data.{Data}
 use Rattle.serde_json.specs.Find.{as_str}
-use Rattle.serde_json.specs.View.{view, members_view}
-use Rattle.serde_json.specs.declared.value.Value.{Value}
-use Rattle.sig_base.specs.ByText.{text_entries, text_put, KeysAscend}
-use Rattle.sig_base.proofs.Texts.{ascend-entries, text_put-next}
+use Rattle.sig_json.specs.View.{view, members_view}
+use Rattle.sig_json.specs.declared.tree.Tree.{Tree}
+use Rattle.sig_base.specs.ByText.{text_put, KeysAscend}
+use Rattle.sig_base.proofs.Texts.{text_put-next}
+use Rattle.sig_json.specs.Gathered.{InOrder}
 use Rattle.sig_json.specs.Kinds.{text_of, texts_by_name}
 use Rattle.sig_json.specs.Members.{members_list}
 
@@ -22,7 +23,7 @@ abbrev pub with_texts : Texts → List (List ℕ × Data) → Option Texts
 with_texts texts left = option_and_then (λ rest. Some (texts ++ rest)) (texts_by_name left)
 
 -- the names of what is left
-abbrev pub named : List (String Global × Value) → Texts
+abbrev pub named : List (String Global × Tree) → Texts
 named left = map (λ m. (string_bytes m.0, [])) left
 
 pub with_texts-none : (left : List (List ℕ × Data)) → texts_by_name left ≡ with_texts [] left
@@ -42,22 +43,22 @@ same_keys : (texts : Texts) (name one other : List ℕ) (rest : Texts) → keys_
 same_keys [] name one other rest = refl
 same_keys (t ∷ texts) name one other rest = ap (λ ks. t.0 ∷ ks) (same_keys texts name one other rest)
 
-named-keys : (es : List (String Global × Value)) → keys_of (text_entries es) ≡ keys_of (named es)
+named-keys : (es : List (String Global × Tree)) → keys_of (members_list (members_view es)) ≡ keys_of (named es)
 named-keys [] = refl
 named-keys (e ∷ es) = ap (λ ks. string_bytes e.0 ∷ ks) (named-keys es)
 
-pub ascend-named : (es : List (String Global × Value)) → IsStrictlySortedBy (λ a b. slice_cmp nat_cmp (string_bytes a) (string_bytes b)) (keys_of es) → KeysAscend (named es)
-ascend-named es up = subst (IsStrictlySortedBy (slice_cmp nat_cmp)) (named-keys es) (ascend-entries es up)
+pub ascend-named : (es : List (String Global × Tree)) → InOrder es → KeysAscend (named es)
+ascend-named es up = subst (IsStrictlySortedBy (slice_cmp nat_cmp)) (named-keys es) up
 
 -- the members so far are texts of ascending names, and those that are left decide
-pub record SoFar (all left : List (String Global × Value)) (texts : Texts) : Type 0 where
+pub record SoFar (all left : List (String Global × Tree)) (texts : Texts) : Type 0 where
   pub meant : texts_by_name (members_list (members_view all)) ≡ with_texts texts (members_list (members_view left))
   pub order : KeysAscend (texts ++ named left)
 
-pub start_of : (all left : List (String Global × Value)) (texts : Texts) → IsStrictlySortedBy (λ a b. slice_cmp nat_cmp (string_bytes a) (string_bytes b)) (keys_of all) → left ≡ all → texts ≡ [] → SoFar all left texts
+pub start_of : (all left : List (String Global × Tree)) (texts : Texts) → InOrder all → left ≡ all → texts ≡ [] → SoFar all left texts
 start_of all left texts up whole none = rw (whole, none) (record { meant = with_texts-none (members_list (members_view all)); order = ascend-named all up })
 
-pub step_of : (all left after : List (String Global × Value)) (name : String Global) (value : Value) (texts more : Texts) (text : List ℕ) → SoFar all left texts → left ≡ (name, value) ∷ after → Some text ≡ as_str (view value) → more ≡ text_put (string_bytes name) text texts → SoFar all after more
+pub step_of : (all left after : List (String Global × Tree)) (name : String Global) (value : Tree) (texts more : Texts) (text : List ℕ) → SoFar all left texts → left ≡ (name, value) ∷ after → Some text ≡ as_str (view value) → more ≡ text_put (string_bytes name) text texts → SoFar all after more
 unfolding text_of
 step_of all left after name value texts more text so_far next is put =
     let up : KeysAscend (texts ++ (string_bytes name, []) ∷ named after) = subst (λ l. KeysAscend (texts ++ named l)) next so_far.order in
@@ -68,11 +69,11 @@ step_of all left after name value texts more text so_far next is put =
       order = rw (pushed, append_assoc texts ((string_bytes name, text) ∷ []) (named after)) here;
     }
 
-pub refused_of : (all left after : List (String Global × Value)) (name : String Global) (value : Value) (texts : Texts) → SoFar all left texts → left ≡ (name, value) ∷ after → None ≡ as_str (view value) → texts_by_name (members_list (members_view all)) ≡ None
+pub refused_of : (all left after : List (String Global × Tree)) (name : String Global) (value : Tree) (texts : Texts) → SoFar all left texts → left ≡ (name, value) ∷ after → None ≡ as_str (view value) → texts_by_name (members_list (members_view all)) ≡ None
 unfolding text_of
 refused_of all left after name value texts so_far next is = so_far.meant ∙ rw (next, sym is) refl
 
-pub end_of : (all left : List (String Global × Value)) (texts : Texts) → SoFar all left texts → left ≡ [] → texts_by_name (members_list (members_view all)) ≡ Some texts
+pub end_of : (all left : List (String Global × Tree)) (texts : Texts) → SoFar all left texts → left ≡ [] → texts_by_name (members_list (members_view all)) ≡ Some texts
 end_of all left texts so_far none = so_far.meant ∙ rw none (with_texts-all texts)
 
 pub ruleset text_maps = (start_of, step_of, refused_of, end_of)

@@ -5,6 +5,12 @@ use Rattle.sig_json.specs.declared.error.JsonError.{JsonError}
 use Rattle.sig_json.specs.declared.error.JsonError.TheVariants.{NotJson, Float, Member, OutOfMemory}
 use Rattle.sig_json.specs.declared.error.MemberError.{MemberError}
 use Rattle.sig_json.specs.declared.error.MemberError.TheVariants as member
+use Rattle.sig_json.specs.declared.error.ReadError.{ReadError}
+use Rattle.sig_json.specs.declared.error.ReadError.TheVariants as reading
+
+abbrev pub cause_of_reading : ReadError → DocumentError
+cause_of_reading reading.NotJson = document.NotJson
+cause_of_reading reading.OutOfMemory = document.OutOfMemory
 
 abbrev pub cause_of_document : DocumentError → JsonError
 cause_of_document document.NotJson = NotJson

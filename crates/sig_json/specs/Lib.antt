@@ -3,6 +3,7 @@ pub mod Canonical
 pub mod Causes
 pub mod Choice
 pub mod Document
+pub mod Gathered
 pub mod Integer
 pub mod Kinds
 pub mod Large
@@ -13,6 +14,7 @@ pub mod Named
 pub mod Numerals
 pub mod Order
 pub mod Props
+pub mod Range
 pub mod Reads
 pub mod Record
 pub mod SameLaws
@@ -20,6 +22,7 @@ pub mod SameTree
 pub mod SeenAs
 pub mod Spells
 pub mod Tree
+pub mod View
 pub mod Walk
 pub mod Writes
 -- the trees, the words that look into them, and what texts they are read from and written as

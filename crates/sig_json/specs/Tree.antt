@@ -1,6 +1,6 @@
 -- The tree that a document holds, and that a view shows.
 use Rattle.serde_json.specs.Data.{Data}
-use Rattle.serde_json.specs.View.{view}
+use Rattle.sig_json.specs.View.{view}
 use Rattle.sig_json.specs.declared.document.Document.{Document}
 use Rattle.sig_json.specs.declared.view.Json.{Json}
 

@@ -5,9 +5,9 @@ use Rattle.std.specs.Cmp.Lexicographic.{slice_cmp}
 use Rattle.std.specs.Ordering.{nat_cmp}
 use Rattle.sig_base.specs.OptionSteps.{◌>>=◌}
 use Rattle.serde_json.specs.Data.{Data, Members, no_members, member}
-use Rattle.serde_json.specs.View.{view}
+use Rattle.sig_json.specs.View.{view}
 use Rattle.sig_json.specs.Canonical.{canon, canon_string, utf16_units}
-use Rattle.sig_json.specs.declared.canonical_form.Member.{Member}
+use Rattle.sig_json.specs.declared.named_member.Member.{Member}
 use Rattle.sig_json.specs.declared.error.CanonicalError.{CanonicalError}
 use Rattle.sig_json.specs.declared.error.CanonicalError.TheVariants.{IntegerTooLarge}
 

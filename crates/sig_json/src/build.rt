@@ -1,8 +1,10 @@
 //! Documents built from their parts.
 use crate::change::{push_last, put_member};
+use crate::copy::copy;
 use crate::document::Document;
+use crate::tree::Tree;
 use crate::view::Json;
-use serde_json::{Map, Value};
+use serde_json::Number;
 use sig_base::OutOfMemory;
 use std::alloc::Global;
 
@@ -19,7 +21,7 @@ impl Document {
         ensures { document_tree result ≡ object no_members }
     {
         Document {
-            value: Value::Object(Map::new(alloc)),
+            value: Tree::Object(Vec::new(alloc)),
         }
     }
 
@@ -28,7 +30,7 @@ impl Document {
         ensures { document_tree result ≡ array no_items }
     {
         Document {
-            value: Value::Array(Vec::new(alloc)),
+            value: Tree::Array(Vec::new(alloc)),
         }
     }
 
@@ -36,7 +38,7 @@ impl Document {
     pub fn of_text(alloc: Global, text: &str) -> Result<Document, OutOfMemory>
         ensures { IfOk result (λ document. document_tree document ≡ string text.now) }
     {
-        let value = Value::try_from_str(alloc, text)?;
+        let value = Tree::Text(String::from_str(alloc, text)?);
         Ok(Document { value })
     }
 
@@ -45,7 +47,7 @@ impl Document {
         ensures { document_tree result ≡ number (of_integer integer) }
     {
         Document {
-            value: Value::from(integer),
+            value: Tree::Number(Number::from(integer)),
         }
     }
 
@@ -57,7 +59,7 @@ impl Document {
             ≡ with_member name.now (document_tree value) (document_tree self.old)) }
         ensures err { OnErr result (document_tree self.new ≡ document_tree self.old) }
     {
-        put_member(&mut self.value, alloc, name, value.value)
+        put_member(alloc, &mut self.value, name, value.value)
     }
 
     /// Adds a value at the end of a list. Refuses for want of memory alone; the list is then as before.
@@ -76,12 +78,11 @@ impl Json<'_> {
     ghost use Rattle.std.specs.Prelude.{◌≡◌, IfOk};
     ghost use Rattle.sig_json.specs.Tree.{document_tree, tree};
 
-    /// The value in memory of its own, which the copied tree's own allocator gives; `_alloc` stands here as in every call that takes memory.
-    /// Refuses for want of memory alone.
-    pub fn copy(self, _alloc: Global) -> Result<Document, OutOfMemory>
+    /// The value in memory of its own. Refuses for want of memory alone.
+    pub fn copy(self, alloc: Global) -> Result<Document, OutOfMemory>
         ensures { IfOk result (λ document. document_tree document ≡ tree self.entry) }
     {
-        let value = self.value.clone()?;
+        let value = copy(alloc, self.value)?;
         Ok(Document { value })
     }
 }

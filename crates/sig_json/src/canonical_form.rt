@@ -4,16 +4,20 @@ ghost use Rattle.std.specs.Map.{values_of};
 ghost use Rattle.std.specs.Prelude.{◌≡◌, ◌++◌, Some, IfOk, IfErr, IsTrue, IsFalse, OnOk, [], map, string_bytes, option_and_then};
 ghost use Rattle.sig_base.specs.Answers.{Answers};
 ghost use Rattle.serde_json.specs.Find.{as_integer};
-ghost use Rattle.serde_json.specs.View.{view, number_view, items_view, members_view};
+ghost use Rattle.serde_json.specs.View.{number_view};
+ghost use Rattle.sig_json.specs.View.{view, items_view, members_view};
 ghost use Rattle.sig_json.specs.Canonical.{canon, canon_integer, canon_string, canon_items, canon_members, canonical_of, in_braces, in_brackets, utf16_units};
 ghost use Rattle.sig_json.specs.Large.{has_large};
-ghost use Rattle.sig_json.specs.Order.{HasNames, KeepsOrder};
+ghost use Rattle.sig_json.specs.Named.{IsNamed, AreNamed, NamesAscend, HasNamedValues};
+ghost use Rattle.sig_json.specs.Order.{KeepsOrder};
 ghost use Rattle.sig_json.specs.Tree.{tree};
 ghost use Rattle.sig_json.specs.Writes.{Writes, comma_before, by_units, member_text, pair_of, texts_in_turn};
 
 use crate::error::CanonicalError;
+use crate::named_member::Member;
+use crate::tree::Tree;
 use crate::view::Json;
-use serde_json::{Map, Number, Value};
+use serde_json::{Number, Value};
 use sig_base::{OutOfMemory, Text};
 use std::alloc::Global;
 use std::collections::BTreeMap;
@@ -38,17 +42,18 @@ pub fn canonical(alloc: Global, json: Json<'_>) -> Result<Text, CanonicalError>
 
 /// Writes a value behind the text so far.
 #[cycle(canon)]
-fn write_value(alloc: Global, value: &Value, out: &mut String) -> Result<(), CanonicalError>
+fn write_value(alloc: Global, value: &Tree, out: &mut String) -> Result<(), CanonicalError>
+    requires { IsNamed (view value.now) }
     ensures { Writes (string_bytes out.old) result (string_bytes out.new) (canon (view value.now)) }
 {
     match value {
-        Value::Null => Ok(write_text(out, "null")?),
-        Value::Bool(true) => Ok(write_text(out, "true")?),
-        Value::Bool(false) => Ok(write_text(out, "false")?),
-        Value::Number(number) => write_number(alloc, number, out),
-        Value::String(text) => Ok(write_quoted(alloc, text.as_str(), out)?),
-        Value::Array(items) => write_list(alloc, items, out),
-        Value::Object(members) => write_object(alloc, members, out),
+        Tree::Null => Ok(write_text(out, "null")?),
+        Tree::Bool(true) => Ok(write_text(out, "true")?),
+        Tree::Bool(false) => Ok(write_text(out, "false")?),
+        Tree::Number(number) => write_number(alloc, number, out),
+        Tree::Text(text) => Ok(write_quoted(alloc, text.as_str(), out)?),
+        Tree::Array(items) => write_list(alloc, items, out),
+        Tree::Object(members) => write_object(alloc, members, out),
     }
 }
 
@@ -108,7 +113,8 @@ fn write_comma(out: &mut String, place: usize) -> Result<(), OutOfMemory>
 
 #[cycle(canon)]
 #[tactic(auto, using(crate::proofs::MemberTexts::parts))]
-fn write_list(alloc: Global, items: &Vec<Value>, out: &mut String) -> Result<(), CanonicalError>
+fn write_list(alloc: Global, items: &Vec<Tree>, out: &mut String) -> Result<(), CanonicalError>
+    requires { AreNamed (items_view items.now.items) }
     ensures { Writes (string_bytes out.old) result (string_bytes out.new)
         (option_and_then (λ texts. Some (in_brackets texts)) (canon_items (items_view items.now.items))) }
 {
@@ -124,11 +130,12 @@ fn write_list(alloc: Global, items: &Vec<Value>, out: &mut String) -> Result<(),
 #[tactic(auto, using(crate::proofs::MemberTexts::objects))]
 fn write_object(
     alloc: Global,
-    members: &Map<String, Value>,
+    members: &Vec<(String, Tree)>,
     out: &mut String,
 ) -> Result<(), CanonicalError>
+    requires { NamesAscend (members_view members.now.items) × HasNamedValues (members_view members.now.items) }
     ensures { Writes (string_bytes out.old) result (string_bytes out.new)
-        (option_and_then (λ sorted. Some (in_braces (values_of sorted))) (canon_members (members_view members.now.entries) [])) }
+        (option_and_then (λ sorted. Some (in_braces (values_of sorted))) (canon_members (members_view members.now.items) [])) }
 {
     let sorted = sorted_members(alloc, members)?;
     write_members(alloc, &sorted, out)
@@ -163,27 +170,21 @@ fn write_member(alloc: Global, member: &Member<'_>, out: &mut String) -> Result<
     write_value(alloc, member.value, out)
 }
 
-/// A member of an object, lent.
-#[derive(Clone, Copy)]
-struct Member<'a> {
-    name: &'a str,
-    value: &'a Value,
-}
-
 /// The members in the ascending order of the UTF-16 code units of their names.
 #[tactic(auto, using(crate::proofs::MemberTexts::sorts))]
 fn sorted_members<'a>(
     alloc: Global,
-    members: &'a Map<String, Value>,
+    members: &'a Vec<(String, Tree)>,
 ) -> Result<Vec<Member<'a>>, OutOfMemory>
-    ensures sorted { IfOk result (λ sorted.
-        map pair_of sorted.items ≡ values_of (by_units (members_view members.now.entries) [])) }
-    ensures named { IfOk result (λ _. HasNames (members_view members.now.entries)) }
+    requires { HasNamedValues (members_view members.now.items) }
+    ensures { IfOk result (λ sorted.
+        map pair_of sorted.items ≡ values_of (by_units (members_view members.now.items) [])) }
 {
     let mut sorted = BTreeMap::new(alloc);
-    'members: for (name, value) in members {
-        let name = name.as_str();
+    'members: for member in members {
+        let name = member.0.as_str();
         let units = utf16_units(alloc, name)?;
+        let value = &member.1;
         sorted.insert(units, Member { name, value })?;
     }
     Ok(sorted.into_values().collect(alloc)?)

@@ -1,21 +1,22 @@
 //! `Document`: a JSON text read as a tree without floats.
 ghost use Rattle.std.specs.Prelude.{◌≡◌, false};
-ghost use Rattle.serde_json.specs.View.{view};
+ghost use Rattle.sig_json.specs.View.{view};
 ghost use Rattle.serde_json.specs.Written.{has_float};
 ghost use Rattle.sig_json.specs.Named.{IsNamed};
 ghost use Rattle.sig_json.specs.Props.{IsNamed-prop};
 
 use crate::error::DocumentError;
 use crate::floats::is_float_in;
+use crate::read::read_text;
+use crate::tree::Tree;
 use crate::view::Json;
-use serde_json::Value;
 use std::alloc::Global;
 
 /// The tree of a JSON text (RFC 8259): null, a truth value, an integer from -2^63 to 2^64 - 1, a text, a list, or an object, whose members
 /// have each name once. Lists and objects of a document that was read nest to 127 at most; of one that was built they nest as it was asked for.
 #[derive(Drop)]
 pub struct Document {
-    pub(crate) value: Value,
+    pub(crate) value: Tree,
     ghost without_float: { has_float (view value) ≡ false },
     ghost named: { IsNamed (view value) } by { IsNamed-prop (view value) },
 }
@@ -38,11 +39,7 @@ impl Document {
         let Ok(text) = simdutf8::compat::from_utf8(text) else {
             return Err(DocumentError::NotJson);
         };
-        let value = match Value::from_str(alloc, text) {
-            Ok(value) => value,
-            Err(error) if error.is_memory() => return Err(DocumentError::OutOfMemory),
-            Err(_) => return Err(DocumentError::NotJson),
-        };
+        let value = read_text(alloc, text)?;
         if is_float_in(&value) {
             return Err(DocumentError::Float);
         }

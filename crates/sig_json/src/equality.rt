@@ -1,12 +1,14 @@
 //! Whether two trees are equal: a recursion over kinds, elements and members. Documents are equal exactly where their trees are.
 ghost use Rattle.std.specs.Prelude.{◌≡◌, ◌↔◌, IsTrue, false};
-ghost use Rattle.serde_json.specs.View.{view, number_view, items_view, members_view};
+ghost use Rattle.serde_json.specs.View.{number_view};
+ghost use Rattle.sig_json.specs.View.{view, items_view, members_view};
 ghost use Rattle.serde_json.specs.Find.{is_float};
 ghost use Rattle.serde_json.specs.Written.{has_float, items_have_float, members_have_float};
 
 use crate::document::Document;
+use crate::tree::Tree;
 use crate::view::Json;
-use serde_json::{Map, Number, Value};
+use serde_json::Number;
 
 impl Json<'_> {
     ghost use Rattle.sig_json.specs.Tree.{tree};
@@ -45,30 +47,30 @@ impl Eq for Document {
 
 #[cycle(same)]
 #[tactic(auto, using(crate::proofs::SameTrees::same_trees))]
-fn is_same(a: &Value, b: &Value) -> bool
+fn is_same(a: &Tree, b: &Tree) -> bool
     requires a_whole { has_float (view a.now) ≡ false }
     requires b_whole { has_float (view b.now) ≡ false }
     ensures { IsTrue result ↔ (view a.now ≡ view b.now) }
 {
     match a {
-        Value::Null => b.is_null(),
-        Value::Bool(truth) => match b.as_bool() {
+        Tree::Null => b.is_null(),
+        Tree::Bool(truth) => match b.as_bool() {
             Some(other) => *truth == other,
             None => false,
         },
-        Value::Number(number) => match b.as_number() {
+        Tree::Number(number) => match b.as_number() {
             Some(other) => is_same_number(number, other),
             None => false,
         },
-        Value::String(text) => match b.as_str() {
+        Tree::Text(text) => match b.as_str() {
             Some(other) => text.as_str() == other,
             None => false,
         },
-        Value::Array(items) => match b.as_array() {
+        Tree::Array(items) => match b.as_array() {
             Some(others) => are_same_items(items, others),
             None => false,
         },
-        Value::Object(members) => match b.as_object() {
+        Tree::Object(members) => match b.as_object() {
             Some(others) => are_same_members(members, others),
             None => false,
         },
@@ -90,7 +92,7 @@ fn is_same_number(a: &Number, b: &Number) -> bool
 
 #[cycle(same)]
 #[tactic(auto, using(crate::proofs::SameTrees::same_trees))]
-fn are_same_items(a: &Vec<Value>, b: &Vec<Value>) -> bool
+fn are_same_items(a: &Vec<Tree>, b: &Vec<Tree>) -> bool
     requires a_whole { items_have_float (items_view a.now.items) ≡ false }
     requires b_whole { items_have_float (items_view b.now.items) ≡ false }
     ensures { IsTrue result ↔ (items_view a.now.items ≡ items_view b.now.items) }
@@ -108,21 +110,19 @@ fn are_same_items(a: &Vec<Value>, b: &Vec<Value>) -> bool
 
 #[cycle(same)]
 #[tactic(auto, using(crate::proofs::SameTrees::same_members))]
-fn are_same_members(a: &Map<String, Value>, b: &Map<String, Value>) -> bool
-    requires a_whole { members_have_float (members_view a.now.entries) ≡ false }
-    requires b_whole { members_have_float (members_view b.now.entries) ≡ false }
-    ensures { IsTrue result ↔ (members_view a.now.entries ≡ members_view b.now.entries) }
+fn are_same_members(a: &Vec<(String, Tree)>, b: &Vec<(String, Tree)>) -> bool
+    requires a_whole { members_have_float (members_view a.now.items) ≡ false }
+    requires b_whole { members_have_float (members_view b.now.items) ≡ false }
+    ensures { IsTrue result ↔ (members_view a.now.items ≡ members_view b.now.items) }
 {
-    let mut others = b.iter();
-    'members: for (name, member) in a {
-        match others.next() {
-            Some((other_name, other)) => if name.as_str() != other_name.as_str()
-                || !is_same(member, other)
-            {
-                return false;
-            },
-            None => return false,
+    if a.len() != b.len() {
+        return false;
+    }
+    'members: for (place, member) in a.iter().enumerate() {
+        let other = &b[place];
+        if member.0.as_str() != other.0.as_str() || !is_same(&member.1, &other.1) {
+            return false;
         }
     }
-    others.next().is_none()
+    true
 }

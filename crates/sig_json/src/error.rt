@@ -1,5 +1,7 @@
 //! Why a text is no document, and why a member is not what it has to be.
+use json::Invalid;
 use sig_base::OutOfMemory;
+use std::alloc::AllocError;
 use thiserror::Error;
 
 /// Why a text is no document.
@@ -13,6 +15,13 @@ pub enum DocumentError {
     Float,
     /// No memory could be had.
     #[error("OutOfMemory")]
+    OutOfMemory,
+}
+
+/// Why a text has no tree.
+#[derive(Clone, Copy, Drop)]
+pub(crate) enum ReadError {
+    NotJson,
     OutOfMemory,
 }
 
@@ -53,6 +62,53 @@ pub enum CanonicalError {
     /// No memory could be had.
     #[error("OutOfMemory")]
     OutOfMemory,
+}
+
+impl From<OutOfMemory> for ReadError {
+    ghost use Rattle.std.specs.Prelude.{◌≡◌};
+    ghost use Rattle.sig_json.specs.declared.error.ReadError.TheVariants.{OutOfMemory};
+
+    ghost from_gives = { λ _ e. e ≡ OutOfMemory };
+
+    fn from(_error: OutOfMemory) -> ReadError {
+        ReadError::OutOfMemory
+    }
+}
+
+impl From<AllocError> for ReadError {
+    ghost use Rattle.std.specs.Prelude.{◌≡◌};
+    ghost use Rattle.sig_json.specs.declared.error.ReadError.TheVariants.{OutOfMemory};
+
+    ghost from_gives = { λ _ e. e ≡ OutOfMemory };
+
+    fn from(_error: AllocError) -> ReadError {
+        ReadError::OutOfMemory
+    }
+}
+
+impl From<Invalid> for ReadError {
+    ghost use Rattle.std.specs.Prelude.{◌≡◌};
+    ghost use Rattle.sig_json.specs.declared.error.ReadError.TheVariants.{NotJson};
+
+    ghost from_gives = { λ _ e. e ≡ NotJson };
+
+    fn from(_error: Invalid) -> ReadError {
+        ReadError::NotJson
+    }
+}
+
+impl From<ReadError> for DocumentError {
+    ghost use Rattle.std.specs.Prelude.{◌≡◌};
+    ghost use Rattle.sig_json.specs.Causes.{cause_of_reading};
+
+    ghost from_gives = { λ cause e. e ≡ cause_of_reading cause };
+
+    fn from(error: ReadError) -> DocumentError {
+        match error {
+            ReadError::NotJson => DocumentError::NotJson,
+            ReadError::OutOfMemory => DocumentError::OutOfMemory,
+        }
+    }
 }
 
 impl From<OutOfMemory> for MemberError {

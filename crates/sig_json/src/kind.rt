@@ -1,6 +1,7 @@
 //! The kinds of the values of member tables: text, bytes, hash, texts by their names.
 ghost use Rattle.std.specs.Prelude.{◌≡◌};
-ghost use Rattle.serde_json.specs.View.{members_view};
+ghost use Rattle.sig_json.specs.View.{members_view};
+ghost use Rattle.sig_json.specs.Gathered.{InOrder};
 ghost use Rattle.sig_json.specs.Kinds.{hash_of, texts_by_name};
 ghost use Rattle.sig_json.specs.Members.{members_list};
 ghost use Rattle.sig_json.specs.Reads.{Reads};
@@ -8,9 +9,9 @@ ghost use Rattle.sig_json.specs.Tree.{tree};
 
 use crate::element::ElementReader;
 use crate::error::MemberError;
+use crate::tree::Tree;
 use crate::view::Json;
 use hex::FromHex;
-use serde_json::{Map, Value};
 use sig_base::{Bytes, Text, TextMap};
 use std::alloc::Global;
 
@@ -92,15 +93,16 @@ impl ElementReader for TextMapReader {
 
 /// The texts that members are, by their names. Refuses with `Member` where one is no text.
 #[tactic(auto, using(crate::proofs::TextMaps::text_maps))]
-fn texts_of_members(alloc: Global, members: &Map<String, Value>) -> Result<TextMap, MemberError>
-    ensures { Reads (λ x. x) result (texts_by_name (members_list (members_view members.now.entries))) }
+fn texts_of_members(alloc: Global, members: &Vec<(String, Tree)>) -> Result<TextMap, MemberError>
+    requires { InOrder members.now.items }
+    ensures { Reads (λ x. x) result (texts_by_name (members_list (members_view members.now.items))) }
 {
     let mut texts = TextMap::new(alloc);
-    'members: for (name, value) in members.iter() {
-        let Some(text) = value.as_str() else {
+    'members: for member in members {
+        let Some(text) = member.1.as_str() else {
             return Err(MemberError::Member);
         };
-        texts.insert(name.as_str(), text)?;
+        texts.insert(member.0.as_str(), text)?;
     }
     Ok(texts)
 }

@@ -18,6 +18,7 @@ mod build;
 mod canonical_form;
 mod change;
 mod compact_form;
+mod copy;
 mod document;
 mod element;
 mod equality;
@@ -28,9 +29,14 @@ mod kind;
 pub mod laws;
 mod member;
 mod members;
+mod named_member;
+mod number;
+mod order;
+mod read;
 mod record;
 #[cfg(test)]
 mod tests;
+mod tree;
 mod view;
 
 pub use any::AnyReader;

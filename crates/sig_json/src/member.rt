@@ -18,7 +18,7 @@ pub(crate) fn find_member<'a>(json: Json<'a>, name: &str) -> Result<Option<Json<
     ensures value { Reads (λ m. option_map tree m) result (member_of name.now (tree json.entry)) }
     ensures no_memory { IfErr result (λ e. e ≡ MemberError.Member) }
 {
-    if !json.value.is_object() {
+    if json.value.as_object().is_none() {
         return Err(MemberError::Member);
     }
     match json.get(name) {

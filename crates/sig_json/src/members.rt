@@ -1,20 +1,19 @@
 //! `Members`: the members of an object in the byte order of their names.
 ghost use Rattle.std.specs.Prelude.{◌≡◌, false};
-ghost use Rattle.serde_json.specs.View.{members_view};
+ghost use Rattle.sig_json.specs.View.{members_view};
 ghost use Rattle.serde_json.specs.Written.{members_have_float};
 ghost use Rattle.sig_json.specs.Named.{HasNamedValues};
 ghost use Rattle.sig_json.specs.Props.{HasNamedValues-prop};
 
+use crate::tree::Tree;
 use crate::view::Json;
-use serde_json::Value;
-use std::collections::btree_map::Iter;
 
 /// A walk over the members of an object, in the byte order of their names.
 #[derive(Drop)]
 pub struct Members<'a> {
-    inner: Iter<'a, String, Value>,
-    ghost without_float: { members_have_float (members_view inner) ≡ false },
-    ghost named: { HasNamedValues (members_view inner) } by { HasNamedValues-prop (members_view inner) },
+    left: &'a [(String, Tree)],
+    ghost without_float: { members_have_float (members_view left.now) ≡ false },
+    ghost named: { HasNamedValues (members_view left.now) } by { HasNamedValues-prop (members_view left.now) },
 }
 
 impl<'a> Iterator for Members<'a> {
@@ -29,10 +28,9 @@ impl<'a> Iterator for Members<'a> {
 
     #[tactic(auto, using(crate::proofs::Floatless::floatless, crate::proofs::Named::named))]
     fn next(&mut self) -> Option<(&'a str, Json<'a>)> {
-        match self.inner.next() {
-            Some((name, value)) => Some((name.as_str(), Json { value })),
-            None => None,
-        }
+        let (first, rest) = self.left.split_first()?;
+        self.left = rest;
+        Some((first.0.as_str(), Json { value: &first.1 }))
     }
 }
 
@@ -50,9 +48,7 @@ impl<'a> Json<'a> {
         ensures ordered { IfSome result (λ members. KeysAscend (members_left members)) }
     {
         match self.value.as_object() {
-            Some(members) => Some(Members {
-                inner: members.iter(),
-            }),
+            Some(members) => Some(Members { left: members }),
             None => None,
         }
     }

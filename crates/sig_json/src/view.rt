@@ -1,17 +1,17 @@
 //! `Json`: a view of a value of a document.
 ghost use Rattle.std.specs.Prelude.{◌≡◌, false};
-ghost use Rattle.serde_json.specs.View.{view};
+ghost use Rattle.sig_json.specs.View.{view};
 ghost use Rattle.serde_json.specs.Written.{has_float};
 ghost use Rattle.sig_json.specs.Named.{IsNamed};
 ghost use Rattle.sig_json.specs.Props.{IsNamed-prop};
 
-use serde_json::Value;
+use crate::tree::Tree;
 
 /// A value of a document, lent. Its calls take no memory, and answer `None` exactly where the value is of another kind or what is asked for
 /// is not there.
 #[derive(Clone, Copy)]
 pub struct Json<'a> {
-    pub(crate) value: &'a Value,
+    pub(crate) value: &'a Tree,
     ghost without_float: { has_float (view value.now) ≡ false },
     ghost named: { IsNamed (view value.now) } by { IsNamed-prop (view value.now) },
 }
@@ -79,7 +79,7 @@ impl<'a> Json<'a> {
     pub fn item(self, place: usize) -> Option<Json<'a>>
         ensures { option_map tree result ≡ at place (tree self.entry) }
     {
-        match self.value.get(place) {
+        match self.value.item(place) {
             Some(value) => Some(Json { value }),
             None => None,
         }

@@ -1,7 +1,7 @@
 use Rattle.std.proofs.Common.{◌≡◌, ◌+◌, ◌*◌, drop, map, string_bytes}
 use Rattle.std.specs.Prelude.{codes}
 use Rattle.serde_json.specs.Data.{depth, items_depth, members_depth}
-use Rattle.serde_json.specs.View.{view, items_view, members_view}
+use Rattle.sig_json.specs.View.{view, items_view, members_view}
 use Rattle.sig_json.specs.Canonical.{canon_items}
 use Rattle.sig_json.specs.Writes.{pair_of, texts_in_turn}
 use Rattle.sig_json.proofs.MemberTexts.{deepest, whole, with_left}
@@ -15,7 +15,7 @@ abbrev pub decreases-write_list : goal.decreases-write_list
 decreases-write_list l = 4 * items_depth (items_view l.items.now.items) + 1
 
 abbrev pub decreases-write_object : goal.decreases-write_object
-decreases-write_object l = 4 * members_depth (members_view l.members.now.entries) + 3
+decreases-write_object l = 4 * members_depth (members_view l.members.now.items) + 3
 
 abbrev pub decreases-write_members : goal.decreases-write_members
 decreases-write_members l = 4 * deepest (map pair_of l.members.now.items) + 2

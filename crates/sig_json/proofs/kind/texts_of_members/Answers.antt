@@ -1,11 +1,21 @@
-use Rattle.std.proofs.Common.{ap, ◌∙◌}
+use Rattle.std.proofs.Common.{ap, ◌∙◌, arith, rules}
 use Rattle.sig_base.specs.ByText.{text_put}
-use Rattle.sig_json.proofs.TextMaps.{start_of, step_of}
+use Rattle.sig_json.proofs.Lists.{next_entry}
+use Rattle.sig_json.proofs.TextMaps.{start_of, step_of, refused_of}
 use Rattle.sig_json.proofs.kind.texts_of_members.Goals as goal
 
 pub members-init : goal.members-init
-members-init c = start_of _ _ _ c.iter-name-items.ensures.ordered (c.into_iter-name-iterator.ensures.into_iter_gives ∙ c.iter-name-items.ensures.rest) c.new-texts.ensures
+members-init c = start_of _ _ _ c.requires c.deref-member-items.ensures.value c.new-texts.ensures
+
+pub returns-in_default : goal.returns-in_default
+returns-in_default c =
+    let l = c.members in
+    let next = next_entry c.deref-member-items.result.now l.member-index c.member-item.result (omega arith) c.member-item.is in
+    λ refused. refused_of _ _ _ _ _ _ l.invariant next (search rules)
 
 pub members-preserved : goal.members-preserved
-members-preserved c = step_of _ _ _ _ _ _ _ _ c.members.invariant c.in-Some.ensures.steps c.in-Some-as_str.ensures
-    (c.in_ok-insert.ensures.ok ∙ ap (λ name. text_put name c.in-Some-as_str.text.now c.members.texts) c.as_str-in-members.ensures.value)
+members-preserved c =
+    let l = c.members in
+    let next = next_entry c.deref-member-items.result.now l.member-index c.member-item.result (omega arith) c.member-item.is in
+    step_of _ _ _ _ _ _ _ _ l.invariant next c.in-Some.ensures
+    (c.in_ok-insert.ensures.ok ∙ ap (λ name. text_put name c.in-Some.text.now l.texts) c.as_str-in-members.ensures.value)

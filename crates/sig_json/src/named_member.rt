@@ -1,0 +1,14 @@
+//! `Member`: a member of an object, borrowed, while an object is sorted.
+ghost use Rattle.sig_json.specs.Named.{IsNamed};
+ghost use Rattle.sig_json.specs.Props.{IsNamed-prop};
+ghost use Rattle.sig_json.specs.View.{view};
+
+use crate::tree::Tree;
+
+/// A name and its value.
+#[derive(Clone, Copy)]
+pub(crate) struct Member<'a> {
+    pub(crate) name: &'a str,
+    pub(crate) value: &'a Tree,
+    ghost named: { IsNamed (view value.now) } by { IsNamed-prop (view value.now) },
+}

@@ -1,0 +1,127 @@
+//! From a text to a tree, in one pass over the tokens of `json`'s reader.
+ghost use Rattle.std.specs.Prelude.{◌≡◌, ◌<◌, ◌≤◌, ◌++◌, [], ◌∷◌, length, Some, None, Err, IfOk, IfErr, OnOk};
+ghost use Rattle.json.specs.Json.{value, items, members};
+ghost use Rattle.serde_json.specs.Data.{no_members, depth as nesting};
+ghost use Rattle.serde_json.specs.Read.{of_json, of_items, of_members, converted, max_depth, read as tree_of};
+ghost use Rattle.sig_json.specs.Gathered.{gathered};
+ghost use Rattle.sig_json.specs.Named.{IsNamed, AreNamed, NamesAscend, HasNamedValues};
+ghost use Rattle.sig_json.specs.View.{view, items_view, members_view};
+
+use crate::error::ReadError;
+use crate::number::number_in;
+use crate::order::in_order;
+use crate::tree::Tree;
+use json::{Reader, Scratch, Token};
+use sig_base::OutOfMemory;
+use std::alloc::Global;
+
+/// How deep lists and objects nest at most.
+const MAX_DEPTH: usize = 127;
+
+/// The tree of a text. Fails with `NotJson` if and only if it has none, unless memory runs out.
+#[tactic(auto, using(crate::proofs::Tokens::whole_texts))]
+pub(crate) fn read_text(alloc: Global, text: &str) -> Result<Tree, ReadError>
+    ensures ok { IfOk result (λ t. tree_of text.now ≡ Some (view t)) }
+    ensures err { result ≡ Err ReadError.NotJson → tree_of text.now ≡ None }
+    ensures nests { IfOk result (λ t. nesting (view t) ≤ max_depth) }
+    ensures named { IfOk result (λ t. IsNamed (view t)) }
+{
+    let mut scratch = Scratch::new(alloc);
+    let mut reader = Reader::new(text, &mut scratch)?;
+    let tree = read_value(alloc, &mut reader, MAX_DEPTH)?;
+    match reader.next() {
+        Some(_) => Err(ReadError::NotJson),
+        None => Ok(tree),
+    }
+}
+
+/// The next value, whose lists and objects nest to at most `depth`.
+#[cycle(read)]
+#[tactic(auto, using(crate::proofs::Tokens::values))]
+fn read_value(alloc: Global, reader: &mut Reader<'_>, depth: usize) -> Result<Tree, ReadError>
+    ensures ok { IfOk result (λ t. converted of_json (value depth reader.old) ≡ Some (view t, reader.new)) }
+    ensures err { result ≡ Err ReadError.NotJson → converted of_json (value depth reader.old) ≡ None }
+    ensures shorter { OnOk result (length reader.new < length reader.old) }
+    ensures named { IfOk result (λ t. IsNamed (view t)) }
+{
+    let token = reader.next().ok_or(ReadError::NotJson)?;
+    match token {
+        Token::Null => Ok(Tree::Null),
+        Token::Bool(truth) => Ok(Tree::Bool(truth)),
+        Token::Number(text) => match number_in(text) {
+            Some(number) => Ok(Tree::Number(number)),
+            None => Err(ReadError::NotJson),
+        },
+        Token::String(text) => Ok(Tree::Text(String::from_str(alloc, text)?)),
+        Token::BeginArray => {
+            if depth == 0 {
+                return Err(ReadError::NotJson);
+            }
+            Ok(Tree::Array(read_items(alloc, reader, depth - 1)?))
+        }
+        Token::BeginObject => {
+            if depth == 0 {
+                return Err(ReadError::NotJson);
+            }
+            Ok(Tree::Object(read_members(alloc, reader, depth - 1)?))
+        }
+        Token::EndObject | Token::EndArray | Token::Key(_) | Token::Bad => Err(ReadError::NotJson),
+    }
+}
+
+/// The elements of a list, behind its opening bracket.
+#[cycle(read)]
+#[tactic(auto, using(crate::proofs::Tokens::lists))]
+fn read_items(alloc: Global, reader: &mut Reader<'_>, depth: usize) -> Result<Vec<Tree>, ReadError>
+    ensures ok { IfOk result (λ v. converted of_items (items (value depth) (length reader.old) reader.old)
+        ≡ Some (items_view v.items, reader.new)) }
+    ensures err { result ≡ Err ReadError.NotJson
+        → converted of_items (items (value depth) (length reader.old) reader.old) ≡ None }
+    ensures shorter { OnOk result (length reader.new < length reader.old) }
+    ensures named { IfOk result (λ v. AreNamed (items_view v.items)) }
+{
+    let mut found = Vec::new(alloc);
+    'items: while !reader.take_end_array() {
+        let item = read_value(alloc, reader, depth)?;
+        add(&mut found, item)?;
+    }
+    found.shrink_to_fit();
+    Ok(found)
+}
+
+/// The members of an object, behind its opening brace.
+#[cycle(read)]
+#[tactic(auto, using(crate::proofs::Tokens::objects))]
+fn read_members(
+    alloc: Global,
+    reader: &mut Reader<'_>,
+    depth: usize,
+) -> Result<Vec<(String, Tree)>, ReadError>
+    ensures ok { IfOk result (λ v. converted (λ ms. of_members ms no_members)
+        (members (value depth) (length reader.old) reader.old) ≡ Some (members_view v.items, reader.new)) }
+    ensures err { result ≡ Err ReadError.NotJson → converted (λ ms. of_members ms no_members)
+        (members (value depth) (length reader.old) reader.old) ≡ None }
+    ensures shorter { OnOk result (length reader.new < length reader.old) }
+    ensures named { IfOk result (λ v. NamesAscend (members_view v.items) × HasNamedValues (members_view v.items)) }
+{
+    let mut found = Vec::new(alloc);
+    'members: while let Some(name) = reader.next_key()? {
+        let key = String::from_str(alloc, name)?;
+        let value = read_value(alloc, reader, depth)?;
+        add(&mut found, (key, value))?;
+    }
+    let mut ordered = in_order(alloc, found)?;
+    ordered.shrink_to_fit();
+    Ok(ordered)
+}
+
+/// Adds an element. The first takes room for itself alone: most lists and objects of a large document have no other.
+fn add<T: Drop>(found: &mut Vec<T>, element: T) -> Result<(), OutOfMemory>
+    ensures { OnOk result (found.new.items ≡ found.old.items ++ element ∷ []) }
+{
+    if found.is_empty() {
+        found.reserve_exact(1)?;
+    }
+    found.push(element)?;
+    Ok(())
+}
