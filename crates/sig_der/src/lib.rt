@@ -31,6 +31,3 @@ pub use taking::{take_any, take_tag, take_whole};
 pub use time::time_of;
 pub use walk::children;
 pub use write::{DerWriteError, write_element, write_short};
-
-#[cfg(test)]
-mod tests;
