@@ -1,6 +1,6 @@
 -- What a source gives and a sink takes, and what a fault of either rests on. A source means the bytes that it has left, a sink those that
 -- it took so far, where they are told; and each a count of faults.
-use Rattle.std.specs.Prelude.{◌≡◌, ℕ, ◌+◌, ◌-◌, ◌^◌, ◌<◌, ◌≤◌, min, List, ◌++◌, length, drop, ⊤, Option, None, Some, Result, IfOk, OnErr}
+use Rattle.std.specs.Prelude.{◌≡◌, ℕ, ◌+◌, ◌-◌, ◌^◌, ◌<◌, ◌≤◌, min, List, [], ◌∷◌, ◌++◌, length, drop, ⊤, Option, None, Some, Result, IfOk, OnErr}
 use Rattle.std.specs.Io.KnownBytes.{Consumes, Appends, IsAtEnd}
 
 -- the count of faults rose, or stood at its greatest value
@@ -15,6 +15,11 @@ pub record HasCause {T E : Type 0} (before now : ℕ) (result : Result T E) : Ty
 -- a piece that is not empty moves a byte
 abbrev pub Moves : {E : Type 0} → Result ℕ E → List ℕ → Type 0
 Moves result piece = IfOk result (λ count. 0 < length piece → 0 < count)
+
+-- this piece was handed over behind those before it, where they are told
+abbrev pub Hands : Option (List (List ℕ)) → Option (List (List ℕ)) → List ℕ → Type 0
+Hands None new piece = ⊤
+Hands (Some before) new piece = new ≡ Some (before ++ piece ∷ [])
 
 -- these are all the bytes that were left, and the source is at its end
 pub record HandsOver (old new : Option (List ℕ)) (bytes : List ℕ) : Type 0 where

@@ -1,8 +1,8 @@
 //! `MemorySink`: a sink over memory of a fixed size, whose calls can be made to fail.
-ghost use Rattle.std.specs.Prelude.{◌≡◌, ◌⊎◌, ℕ, ◌+◌, ◌≤◌, ◌<◌, ◌↔◌, Some, [], min, length, IsErr, IfOk, OnOk, OnErr};
+ghost use Rattle.std.specs.Prelude.{◌≡◌, ◌⊎◌, ℕ, ◌+◌, ◌≤◌, ◌<◌, ◌↔◌, Some, None, [], min, length, IsErr, IfOk, OnOk, OnErr};
 ghost use Rattle.std.specs.Io.{WritesAtMost};
 ghost use Rattle.std.specs.Io.KnownBytes.{WriteAppends};
-ghost use Rattle.sig_base.specs.Stream.{HasCause, Moves};
+ghost use Rattle.sig_base.specs.Stream.{Hands, HasCause, Moves};
 ghost use Rattle.sig_base.specs.MemoryStream.{FailsAt, one_more};
 
 use crate::memory::OutOfMemory;
@@ -76,6 +76,8 @@ impl MemorySink {
 impl Sink for MemorySink {
     ghost taken = { λ s. Some s.taken };
 
+    ghost handed = { λ _. None };
+
     ghost faults = { λ s. s.faults };
 
     /// Fails exactly at the calls whose numbers were given, and where `buf` is not empty and no room is left. It then changes nothing but the
@@ -84,6 +86,7 @@ impl Sink for MemorySink {
         ensures bound { WritesAtMost result buf.now }
         ensures moves { Moves result buf.now }
         ensures bytes { WriteAppends (Some self.old.taken) (Some self.new.taken) result buf.now }
+        ensures piece { Hands None None buf.now }
         ensures cause { HasCause self.old.faults self.new.faults result }
         ensures fails { IsErr result ↔ (FailsAt self.old.failing self.old.calls
             ⊎ ((self.old.room ≡ 0) × (0 < length buf.now))) }

@@ -2,7 +2,7 @@
 ghost use Rattle.std.specs.Prelude.{Option, List, ℕ};
 ghost use Rattle.std.specs.Io.{ReadsAtMost, WritesAtMost};
 ghost use Rattle.std.specs.Io.KnownBytes.{ReadConsumes, WriteAppends};
-ghost use Rattle.sig_base.specs.Stream.{HasCause, Moves};
+ghost use Rattle.sig_base.specs.Stream.{Hands, HasCause, Moves};
 
 use thiserror::Error;
 
@@ -32,6 +32,9 @@ pub trait Sink {
     /// The bytes that were taken so far, where the sink tells them.
     ghost taken: { Self → Option (List ℕ) };
 
+    /// The pieces that were handed over so far, in order, where the sink tells them.
+    ghost handed: { Self → Option (List (List ℕ)) };
+
     /// How many faults there were so far.
     ghost faults: { Self → ℕ };
 
@@ -40,5 +43,6 @@ pub trait Sink {
         ensures bound { WritesAtMost result buf.now }
         ensures moves { Moves result buf.now }
         ensures bytes { WriteAppends (taken self.old) (taken self.new) result buf.now }
+        ensures piece { Hands (handed self.old) (handed self.new) buf.now }
         ensures cause { HasCause (faults self.old) (faults self.new) result };
 }
