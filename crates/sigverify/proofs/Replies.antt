@@ -1,43 +1,23 @@
 -- One reply is meant: a text is one request, and one link is the first that fails.
-use Rattle.std.proofs.Common.{◌≡◌, ℕ, ◌==◌, inl, inr, List, Some, None, ap, sym, ◌∙◌, refl, subst, cond, arith}
-use Rattle.std.proofs.lemmas.Bool.{cases_lt}
-use Rattle.std.proofs.Math.Nat.{eq-or-lt_of_le}
+use Rattle.std.proofs.Common.{◌≡◌, ◌<◌, ℕ, inl, inr, List, [], ◌∷◌, length, Option, Some, None, Result, Ok, Err, IfOk, ap, refl, sym, subst, arith}
+use Rattle.std.specs.List.{AllByRecursion}
+use Rattle.sig_base.specs.declared.memory.OutOfMemory.{OutOfMemory}
+use Rattle.sig_rekor.proofs.RuleLaws.{one_fails, none_fails}
+use Rattle.sig_rekor.specs.Rules.{FailsFirst}
+use Rattle.sigverify.specs.declared.command.Command.{Command}
+use Rattle.sigverify.specs.declared.command.Command.TheVariants.{Log}
 use Rattle.sigverify.specs.declared.link.Link.{Link}
 use Rattle.sigverify.specs.declared.link.Link.TheVariants.{Request, Checkpoint, NoteKey, NoteMatch, Inclusion}
+use Rattle.sigverify.specs.declared.reply.Reply.{Reply}
 use Rattle.sigverify.specs.declared.request.LogRequest.{LogRequest}
+use Rattle.sigverify.specs.Limit.{most_bytes}
 use Rattle.sigverify.specs.Request.{IsRequest, IsReadFrom}
-use Rattle.sigverify.specs.Link.{place_of, HoldsOf, EveryLinkHolds, FailsFirst, FailsFirstOf, IsVerdict}
-use Rattle.sigverify.specs.Reply.{IsReply, success, refusal, status_of}
+use Rattle.sigverify.specs.Link.{log_links, links, HoldsOf, Holds, EveryLinkHolds, IsFirstFailing, IsVerdict}
+use Rattle.sigverify.specs.Reply.{IsReply, Succeeds, success, refusal, status_of}
 
 -- a text is one request
 one_request : (text : List ℕ) (a b : LogRequest) → IsRequest text a → IsRequest text b → a ≡ b
 one_request text a b p q = let e = p.members in let f = q.members in cc
-
--- the link at a place
-link_at : ℕ → Link
-link_at n = cond (n == 0) Request (cond (n == 1) Checkpoint (cond (n == 2) NoteKey (cond (n == 3) NoteMatch Inclusion)))
-
-link_at-place_of : (link : Link) → link_at (place_of link) ≡ link
-unfolding link_at
-link_at-place_of Request = refl
-link_at-place_of Checkpoint = refl
-link_at-place_of NoteKey = refl
-link_at-place_of NoteMatch = refl
-link_at-place_of Inclusion = refl
-
-one_place : (a b : Link) → place_of a ≡ place_of b → a ≡ b
-one_place a b e = sym (link_at-place_of a) ∙ ap link_at e ∙ link_at-place_of b
-
--- one link is the first that fails
-one_failing : (text : List ℕ) (a b : Link) → FailsFirst text a → FailsFirst text b → a ≡ b
-one_failing text a b p q =
-    elim (cases_lt (place_of a) (place_of b)) [
-      | inl before ↦ absurd (p.fails (q.earlier a before))
-      | inr behind ↦ elim (eq-or-lt_of_le behind) [
-        | inl same ↦ sym (one_place b a same)
-        | inr after ↦ absurd (q.fails (p.earlier b after))
-      ]
-    ]
 
 -- a refusal has no status 0
 refused-status : (link : Link) → status_of link ≡ 0 → ⊥
@@ -48,43 +28,77 @@ refused-status NoteMatch e = cc
 refused-status Inclusion e = cc
 
 -- the reply where every link holds
-every-reply : (text : List ℕ) (request : LogRequest) → IsRequest text request → EveryLinkHolds text → IsReply text (success request)
-every-reply text request is every = record {
+every-reply : (command : Command) (text : List ℕ) (reply : Reply) → reply.status ≡ 0 → Succeeds command text reply → EveryLinkHolds command text → IsReply command text reply
+every-reply command text reply zero succeeds every = record {
   decided = inl every;
-  succeeds = (λ _. every, λ _. refl);
-  vouched = λ _ other other_is. ap success (one_request text request other is other_is);
-  refused = λ link first. absurd (first.fails (every link));
+  succeeds = (λ _. every, λ _. zero);
+  vouched = λ _. succeeds;
+  refused = λ link first. absurd (none_fails (Holds command text) (links command) link every first);
 }
 
 -- the reply where a link is the first that fails
-first-reply : (text : List ℕ) (link : Link) → FailsFirst text link → IsReply text (refusal link)
-first-reply text link first = record {
+first-reply : (command : Command) (text : List ℕ) (link : Link) → IsFirstFailing command text link → IsReply command text (refusal link)
+first-reply command text link first = record {
   decided = inr (link, first);
-  succeeds = (λ e. absurd (refused-status link e), λ every. absurd (first.fails (every link)));
-  vouched = λ every other _. absurd (first.fails (every link));
-  refused = λ other other_first. ap refusal (one_failing text link other first other_first);
+  succeeds = (λ e. absurd (refused-status link e), λ every. absurd (none_fails (Holds command text) (links command) link every first));
+  vouched = λ every. absurd (none_fails (Holds command text) (links command) link every first);
+  refused = λ other other_first. ap refusal (one_fails (Holds command text) (links command) link other first other_first);
 }
 
--- what fails first of a request fails first of its text
-first-of_text : (text : List ℕ) (request : LogRequest) (link : Link) → IsRequest text request → FailsFirstOf request link → FailsFirst text link
-first-of_text text request link is first = record {
-  earlier = λ other before. (request, is, first.earlier other before);
-  fails = λ holds. first.fails (let P : LogRequest → Type 0 = λ r. HoldsOf r link in
-      subst P (one_request text holds.0 request holds.1 is) holds.2);
-}
+-- what holds of the request, and what fails first of it, does so of its text
+every-of_text : (text : List ℕ) (request : LogRequest) (ls : List Link) → IsRequest text request → AllByRecursion (HoldsOf request) ls → AllByRecursion (Holds Log text) ls
+every-of_text text request [] is every = tt
+every-of_text text request (link ∷ ls) is every = ((request, is, every.0), every-of_text text request ls is every.1)
+
+first-of_text : (text : List ℕ) (request : LogRequest) (ls : List Link) (link : Link) → IsRequest text request → FailsFirst (HoldsOf request) ls link → FailsFirst (Holds Log text) ls link
+first-of_text text request [] link is first = first
+first-of_text text request (l ∷ ls) link is (inl here) = inl (
+  λ holds. here.0 (let P : LogRequest → Type 0 = λ r. HoldsOf r l in subst P (one_request text holds.0 request holds.1 is) holds.2),
+  here.1,
+)
+first-of_text text request (l ∷ ls) link is (inr later) = inr ((request, is, later.0), first-of_text text request ls link is later.1)
 
 -- no text that is no request has the link `request`
-pub unread-reply : (text : List ℕ) → IsReadFrom text None → IsReply text (refusal Request)
-unread-reply text none = first-reply text Request (record {
-  earlier = λ other before. absurd (omega arith);
-  fails = λ holds. none holds.0 holds.1;
-})
+pub unread-reply : (text : List ℕ) → IsReadFrom text None → IsReply Log text (refusal Request)
+unread-reply text none = first-reply Log text Request (inl (λ holds. none holds.0 holds.1, refl))
 
-pub vouched-reply : (text : List ℕ) (request : LogRequest) → IsReadFrom text (Some request) → IsVerdict request None → IsReply text (success request)
-vouched-reply text request is every = every-reply text request is (λ link. (request, is, every link))
+-- nor has one that is too long
+pub long-reply : (command : Command) (text : List ℕ) → most_bytes < length text → IsReply command text (refusal Request)
+long-reply Log text long = unread-reply text (λ request is. absurd (omega (arith, is.short, long)))
+
+pub vouched-reply : (text : List ℕ) (request : LogRequest) → IsReadFrom text (Some request) → IsVerdict request None → IsReply Log text (success request)
+vouched-reply text request is every =
+    every-reply Log text (success request) refl (λ other other_is. ap success (one_request text request other is other_is)) (every-of_text text request log_links is every)
 
 pub refused-reply : (text : List ℕ) (request : LogRequest) (link : Link) → IsReadFrom text (Some request) → IsVerdict request (Some link)
-    → IsReply text (refusal link)
-refused-reply text request link is first = first-reply text link (first-of_text text request link is first)
+    → IsReply Log text (refusal link)
+refused-reply text request link is first = first-reply Log text link (first-of_text text request log_links link is first)
 
-pub ruleset replies = (unread-reply, vouched-reply, refused-reply)
+-- the replies of a call
+unread-replied_by : (text : List ℕ) (r : Result Reply OutOfMemory) → IfOk r (λ reply. reply ≡ refusal Request) → IsReadFrom text None → IfOk r (IsReply Log text)
+unread-replied_by text (Ok reply) is none = subst (IsReply Log text) (sym is) (unread-reply text none)
+unread-replied_by text (Err memory) is none = tt
+
+pub unread-replied : (text : List ℕ) (found : Option LogRequest) (r : Result Reply OutOfMemory)
+    → IfOk r (λ reply. reply ≡ refusal Request) → found ≡ None → IsReadFrom text found → IfOk r (IsReply Log text)
+unread-replied text found r is none read = unread-replied_by text r is (subst (IsReadFrom text) none read)
+
+refused-replied_by : (text : List ℕ) (request : LogRequest) (link : Link) (r : Result Reply OutOfMemory)
+    → IfOk r (λ reply. reply ≡ refusal link) → IsReadFrom text (Some request) → IsVerdict request (Some link) → IfOk r (IsReply Log text)
+refused-replied_by text request link (Ok reply) is read first = subst (IsReply Log text) (sym is) (refused-reply text request link read first)
+refused-replied_by text request link (Err memory) is read first = tt
+
+pub refused-replied : (text : List ℕ) (found : Option LogRequest) (request : LogRequest) (verdict : Option Link) (link : Link) (r : Result Reply OutOfMemory)
+    → IfOk r (λ reply. reply ≡ refusal link) → found ≡ Some request → IsReadFrom text found → verdict ≡ Some link → IsVerdict request verdict → IfOk r (IsReply Log text)
+refused-replied text found request verdict link r is some read which first =
+    refused-replied_by text request link r is (subst (IsReadFrom text) some read) (subst (IsVerdict request) which first)
+
+vouched-replied_by : (text : List ℕ) (request : LogRequest) (r : Result Reply OutOfMemory)
+    → IfOk r (λ reply. reply ≡ success request) → IsReadFrom text (Some request) → IsVerdict request None → IfOk r (IsReply Log text)
+vouched-replied_by text request (Ok reply) is read every = subst (IsReply Log text) (sym is) (vouched-reply text request read every)
+vouched-replied_by text request (Err memory) is read every = tt
+
+pub vouched-replied : (text : List ℕ) (found : Option LogRequest) (request : LogRequest) (verdict : Option Link) (r : Result Reply OutOfMemory)
+    → IfOk r (λ reply. reply ≡ success request) → found ≡ Some request → IsReadFrom text found → verdict ≡ None → IsVerdict request verdict → IfOk r (IsReply Log text)
+vouched-replied text found request verdict r is some read none every =
+    vouched-replied_by text request r is (subst (IsReadFrom text) some read) (subst (IsVerdict request) none every)

@@ -9,8 +9,10 @@ use Rattle.sigverify.specs.declared.link.Link.{Link}
 use Rattle.sigverify.specs.declared.link.Link.TheVariants.{Request, Checkpoint, NoteKey, NoteMatch, Inclusion}
 use Rattle.sigverify.specs.declared.reply.Reply.{Reply}
 use Rattle.sigverify.specs.Reply.{IsReply, refusal, status_of}
-use Rattle.sigverify.specs.Run.{IsLog, RepliesTo, WriteFaulted, usage_line}
-use Rattle.sigverify.proofs.Replies.{unread-reply}
+use Rattle.sigverify.specs.declared.command.Command.{Command}
+use Rattle.sigverify.specs.Command.{word_of, Names, IsCommand}
+use Rattle.sigverify.specs.Run.{RepliesTo, WriteFaulted, HandsRests, WritesRests, usage_line}
+use Rattle.sigverify.proofs.Replies.{long-reply}
 
 -- all that was left, fewer than n bytes
 TakesUpTo-whole : (n : ℕ) (old new : Option (List ℕ)) (bytes : List ℕ) → HandsOver old new bytes → length bytes < n → TakesUpTo n old new bytes
@@ -34,20 +36,20 @@ TakesUpTo-long n (Some xs) (Some ys) took =
     (xs, (refl, ap (λ t. Some t) (sym seam)), long)
 
 -- the reply to a request that was read
-pub RepliesTo-whole : (old new : Option (List ℕ)) (bytes : List ℕ) (reply : Reply)
-    → HandsOver old new bytes → length bytes < 16777217 → IsReply bytes reply → RepliesTo old new reply
-RepliesTo-whole old new bytes reply all short meant = record {
+pub RepliesTo-whole : (command : Command) (old new : Option (List ℕ)) (bytes : List ℕ) (reply : Reply)
+    → HandsOver old new bytes → length bytes < 16777217 → IsReply command bytes reply → RepliesTo command old new reply
+RepliesTo-whole command old new bytes reply all short meant = record {
   text = bytes;
   request = TakesUpTo-whole 16777217 old new bytes all short;
   meant = meant;
 }
 
 -- the reply to one that is too long
-pub RepliesTo-long : (old new : Option (List ℕ)) (reply : Reply) → TookCount old new 16777217 → reply ≡ refusal Request → RepliesTo old new reply
-RepliesTo-long old new reply took refused =
+pub RepliesTo-long : (command : Command) (old new : Option (List ℕ)) (reply : Reply) → TookCount old new 16777217 → reply ≡ refusal Request → RepliesTo command old new reply
+RepliesTo-long command old new reply took refused =
     let long = TakesUpTo-long 16777217 old new took in
-    let meant : IsReply long.0 (refusal Request) = unread-reply long.0 (λ request is. absurd (omega (arith, is.short, long.2))) in
-    record { text = long.0; request = long.1; meant = subst (IsReply long.0) (sym refused) meant }
+    let meant : IsReply command long.0 (refusal Request) = long-reply command long.0 long.2 in
+    record { text = long.0; request = long.1; meant = subst (IsReply command long.0) (sym refused) meant }
 
 -- the status of a refusal, and of every reply
 status_of-small : (link : Link) → status_of link < 3
@@ -57,38 +59,61 @@ status_of-small NoteKey = lit< tt
 status_of-small NoteMatch = lit< tt
 status_of-small Inclusion = lit< tt
 
-IsReply-small : (text : List ℕ) (reply : Reply) → IsReply text reply → reply.status < 3
-IsReply-small text reply meant =
+IsReply-small : (command : Command) (text : List ℕ) (reply : Reply) → IsReply command text reply → reply.status < 3
+IsReply-small command text reply meant =
     elim meant.decided [
       | inl every ↦ let zero = meant.succeeds.1 every in omega arith
       | inr first ↦ let P : Reply → Type 0 = λ r. r.status < 3 in
           subst P (sym (meant.refused first.0 first.1)) (status_of-small first.0)
     ]
 
-pub RepliesTo-small : (old new : Option (List ℕ)) (reply : Reply) → RepliesTo old new reply → reply.status < 3
-RepliesTo-small old new reply replies = IsReply-small replies.text reply replies.meant
+pub RepliesTo-small : (command : Command) (old new : Option (List ℕ)) (reply : Reply) → RepliesTo command old new reply → reply.status < 3
+RepliesTo-small command old new reply replies = IsReply-small command replies.text reply replies.meant
 
 -- a write of the line for other words that failed
 pub WriteFaulted-usage : (words : List (List ℕ)) (left_old left_new : Option (List ℕ)) (before now : ℕ) (taken_old taken_new : Option (List ℕ))
-    → ¬ IsLog words → Rose before now → AppendsFront taken_old taken_new usage_line
+    → ¬ IsCommand words → Rose before now → AppendsFront taken_old taken_new usage_line
     → WriteFaulted words left_old left_new before now taken_old taken_new
 WriteFaulted-usage words left_old left_new before now taken_old taken_new other rose written =
-    record { bytes = usage_line; meant = inr (other, refl); rose = rose; written = written }
+    record { bytes = usage_line; output = inr (other, refl); rose = rose; written = written }
 
 -- a write of a reply that failed
-pub WriteFaulted-reply : (words : List (List ℕ)) (left_old left_new : Option (List ℕ)) (before now : ℕ) (taken_old taken_new : Option (List ℕ)) (reply : Reply)
-    → IsLog words → RepliesTo left_old left_new reply → Rose before now → AppendsFront taken_old taken_new reply.text
+pub WriteFaulted-reply : (words : List (List ℕ)) (command : Command) (left_old left_new : Option (List ℕ)) (before now : ℕ) (taken_old taken_new : Option (List ℕ)) (reply : Reply)
+    → Names words command → RepliesTo command left_old left_new reply → Rose before now → AppendsFront taken_old taken_new reply.text
     → WriteFaulted words left_old left_new before now taken_old taken_new
-WriteFaulted-reply words left_old left_new before now taken_old taken_new reply log replies rose written =
-    record { bytes = reply.text; meant = inl (log, (reply, replies, refl)); rose = rose; written = written }
+WriteFaulted-reply words command left_old left_new before now taken_old taken_new reply named replies rose written =
+    record { bytes = reply.text; output = inl (command, named, (reply, replies, refl)); rose = rose; written = written }
+
+pub faulted-reply : (words : List (List ℕ)) (command : Command) (left_old left_new : Option (List ℕ)) (before now : ℕ) (taken_old taken_new : Option (List ℕ)) (reply : Reply) (text : List ℕ)
+    → text ≡ reply.text → Names words command → RepliesTo command left_old left_new reply → Rose before now → AppendsFront taken_old taken_new text
+    → WriteFaulted words left_old left_new before now taken_old taken_new
+faulted-reply words command left_old left_new before now taken_old taken_new reply text same named replies rose written =
+    WriteFaulted-reply words command left_old left_new before now taken_old taken_new reply named replies rose (subst (AppendsFront taken_old taken_new) same written)
+
+-- the pieces of the line for other words, and of a reply
+pub WritesRests-usage : (words : List (List ℕ)) (left_old left_new : Option (List ℕ)) (handed_old handed_new : Option (List (List ℕ)))
+    → ¬ IsCommand words → HandsRests handed_old handed_new usage_line → WritesRests words left_old left_new handed_old handed_new
+WritesRests-usage words left_old left_new handed_old handed_new other rests = inr (usage_line, inr (other, refl), rests)
+
+pub WritesRests-reply : (words : List (List ℕ)) (command : Command) (left_old left_new : Option (List ℕ)) (handed_old handed_new : Option (List (List ℕ))) (reply : Reply)
+    → Names words command → RepliesTo command left_old left_new reply → HandsRests handed_old handed_new reply.text
+    → WritesRests words left_old left_new handed_old handed_new
+WritesRests-reply words command left_old left_new handed_old handed_new reply named replies rests = inr (reply.text, inl (command, named, (reply, replies, refl)), rests)
+
+-- words that are not one word name no command
+unnamed : (words : List (List ℕ)) → ((word : List ℕ) → words ≡ word ∷ [] → ⊥) → ¬ IsCommand words
+unnamed words many (command, named) = many (word_of command) named
+
+pub IsCommand-many : (words : List (List ℕ)) → 2 ≤ length words → ¬ IsCommand words
+IsCommand-many words many = unnamed words (λ word e. omega (arith, many, ap length e))
+
+pub IsCommand-none : (words : List (List ℕ)) → length words < 1 → ¬ IsCommand words
+IsCommand-none words few = unnamed words (λ word e. omega (arith, few, ap length e))
 
 -- one word, and the test whether it is a name
-pub is_one_word : (words : List (List ℕ)) (word name : List ℕ) → word ≡ get_or words 0 word → 1 ≤ length words → length words < 2
-    → (bytes_eq word name ≡ true) ↔ (words ≡ name ∷ [])
-is_one_word [] word name is some few = absurd (omega arith)
-is_one_word (first ∷ []) word name is some few =
-    let same = bytes_eq-Decides word name in
-    (λ e. ap (λ w. w ∷ []) (sym is ∙ same.0 e), λ e. same.1 (let f : first ≡ name = cc in is ∙ f))
-is_one_word (first ∷ second ∷ rest) word name is some few = absurd (omega arith)
+pub is_one_word : (words : List (List ℕ)) (word : List ℕ) → word ≡ get_or words 0 word → 1 ≤ length words → length words < 2 → words ≡ word ∷ []
+is_one_word [] word is some few = absurd (omega arith)
+is_one_word (first ∷ []) word is some few = ap (λ w. w ∷ []) (sym is)
+is_one_word (first ∷ second ∷ rest) word is some few = absurd (omega arith)
 
-pub ruleset runs = (RepliesTo-whole, RepliesTo-long, RepliesTo-small, WriteFaulted-usage, WriteFaulted-reply)
+pub ruleset runs = (RepliesTo-whole, RepliesTo-long, RepliesTo-small, WriteFaulted-usage, WriteFaulted-reply, WritesRests-usage, WritesRests-reply, IsCommand-many, IsCommand-none, is_one_word)

@@ -1,5 +1,5 @@
 -- The first failing link of a request, from what holds under its checkpoint.
-use Rattle.std.proofs.Common.{◌≡◌, ◌<◌, ℕ, List, Option, Some, None, Result, Ok, Err, IfOk, subst, sym, arith}
+use Rattle.std.proofs.Common.{◌≡◌, ℕ, List, Option, Some, None, Result, Ok, Err, IfOk, inl, inr, refl, subst, sym}
 use Rattle.sig_base.specs.declared.memory.OutOfMemory.{OutOfMemory}
 use Rattle.sig_base.specs.declared.fault.CheckpointFault.{CheckpointFault}
 use Rattle.sig_rekor.specs.declared.checkpoint.SignedCheckpoint.{SignedCheckpoint}
@@ -7,18 +7,12 @@ use Rattle.sig_rekor.specs.CheckpointText.{IsCheckpoint}
 use Rattle.sigverify.specs.declared.link.Link.{Link}
 use Rattle.sigverify.specs.declared.link.Link.TheVariants.{Request, Checkpoint, NoteKey, NoteMatch, Inclusion}
 use Rattle.sigverify.specs.declared.request.LogRequest.{LogRequest}
-use Rattle.sigverify.specs.Link.{place_of, HoldsOf, IsVerdict, IsVerdictUnder, OfCheckpoint, IsSigned, IsMatched}
+use Rattle.sigverify.specs.Link.{IsVerdict, IsVerdictUnder, OfCheckpoint, IsSigned, IsMatched}
 
 -- the text has no reading
 pub unread-verdict : (request : LogRequest) → ((checkpoint : SignedCheckpoint) → ¬ IsCheckpoint request.checkpoint checkpoint)
     → IsVerdict request (Some Checkpoint)
-unread-verdict request none = record { earlier = before; fails = λ holds. none holds.0 holds.1 } where
-  before : (other : Link) → place_of other < place_of Checkpoint → HoldsOf request other
-  before Request lt = tt
-  before Checkpoint lt = absurd (omega arith)
-  before NoteKey lt = absurd (omega arith)
-  before NoteMatch lt = absurd (omega arith)
-  before Inclusion lt = absurd (omega arith)
+unread-verdict request none = inr (tt, inl (λ holds. none holds.0 holds.1, refl))
 
 -- what does not hold of the one reading holds of none
 other-reading : (request : LogRequest) (checkpoint : SignedCheckpoint) (P : SignedCheckpoint → Type 0)
@@ -29,38 +23,16 @@ other-reading request checkpoint P only fails holds = fails (subst P (only holds
 pub under-verdict : (request : LogRequest) (checkpoint : SignedCheckpoint) (verdict : Option Link) → IsCheckpoint request.checkpoint checkpoint
     → ((other : SignedCheckpoint) → IsCheckpoint request.checkpoint other → other ≡ checkpoint)
     → IsVerdictUnder request checkpoint verdict → IsVerdict request verdict
-under-verdict request checkpoint None is only under = every where
-  every : (link : Link) → HoldsOf request link
-  every Request = tt
-  every Checkpoint = (checkpoint, is, tt)
-  every NoteKey = (checkpoint, is, under.0)
-  every NoteMatch = (checkpoint, is, under.1)
-  every Inclusion = under.2
+under-verdict request checkpoint None is only under =
+    (tt, ((checkpoint, is, tt), ((checkpoint, is, under.0), ((checkpoint, is, under.1), (under.2, tt)))))
 under-verdict request checkpoint (Some Request) is only under = absurd under
 under-verdict request checkpoint (Some Checkpoint) is only under = absurd under
 under-verdict request checkpoint (Some NoteKey) is only under =
-    record { earlier = before; fails = other-reading request checkpoint (IsSigned request) only under } where
-      before : (other : Link) → place_of other < place_of NoteKey → HoldsOf request other
-      before Request lt = tt
-      before Checkpoint lt = (checkpoint, is, tt)
-      before NoteKey lt = absurd (omega arith)
-      before NoteMatch lt = absurd (omega arith)
-      before Inclusion lt = absurd (omega arith)
+    inr (tt, inr ((checkpoint, is, tt), inl (other-reading request checkpoint (IsSigned request) only under, refl)))
 under-verdict request checkpoint (Some NoteMatch) is only under =
-    record { earlier = before; fails = other-reading request checkpoint (IsMatched request) only under.1 } where
-      before : (other : Link) → place_of other < place_of NoteMatch → HoldsOf request other
-      before Request lt = tt
-      before Checkpoint lt = (checkpoint, is, tt)
-      before NoteKey lt = (checkpoint, is, under.0)
-      before NoteMatch lt = absurd (omega arith)
-      before Inclusion lt = absurd (omega arith)
-under-verdict request checkpoint (Some Inclusion) is only under = record { earlier = before; fails = under.2 } where
-  before : (other : Link) → place_of other < place_of Inclusion → HoldsOf request other
-  before Request lt = tt
-  before Checkpoint lt = (checkpoint, is, tt)
-  before NoteKey lt = (checkpoint, is, under.0)
-  before NoteMatch lt = (checkpoint, is, under.1)
-  before Inclusion lt = absurd (omega arith)
+    inr (tt, inr ((checkpoint, is, tt), inr ((checkpoint, is, under.0), inl (other-reading request checkpoint (IsMatched request) only under.1, refl))))
+under-verdict request checkpoint (Some Inclusion) is only under =
+    inr (tt, inr ((checkpoint, is, tt), inr ((checkpoint, is, under.0), inr ((checkpoint, is, under.1), inl (under.2, refl)))))
 
 -- the answers of the reader: no reading, and one
 pub refused-verdict : (request : LogRequest) (text : List ℕ) (fault : CheckpointFault) → text ≡ request.checkpoint

@@ -1,3 +1,4 @@
+pub mod Command
 pub mod Limit
 pub mod Link
 pub mod Reply

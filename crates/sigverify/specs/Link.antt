@@ -1,5 +1,6 @@
--- The links of `log`. Each is stated for requests of which all links before it hold.
-use Rattle.std.specs.Prelude.{◌≡◌, ℕ, ◌<◌, pos, List, Any, Contains, codes, Option, Some, None}
+-- The links of each command, in their order.
+use Rattle.std.specs.Prelude.{◌≡◌, ℕ, ◌<◌, pos, List, [], ◌∷◌, Any, Contains, codes, Option, Some, None}
+use Rattle.std.specs.List.{AllByRecursion}
 use Rattle.sig_base.specs.declared.checker.AcceptedRow.{AcceptedRow}
 use Rattle.sig_base.specs.declared.checker.Operation.TheVariants.{Message}
 use Rattle.sig_base.specs.Scheme.{name_of, scheme_of}
@@ -9,6 +10,9 @@ use Rattle.sig_rekor.specs.declared.checkpoint.CheckpointSignature.{CheckpointSi
 use Rattle.sig_rekor.specs.declared.checkpoint.SignedCheckpoint.{SignedCheckpoint}
 use Rattle.sig_rekor.specs.CheckpointText.{IsCheckpoint}
 use Rattle.sig_rekor.specs.NoteText.{note_text}
+use Rattle.sig_rekor.specs.Rules.{FailsFirst}
+use Rattle.sigverify.specs.declared.command.Command.{Command}
+use Rattle.sigverify.specs.declared.command.Command.TheVariants.{Log}
 use Rattle.sigverify.specs.declared.link.Link.{Link}
 use Rattle.sigverify.specs.declared.link.Link.TheVariants.{Request, Checkpoint, NoteKey, NoteMatch, Inclusion}
 use Rattle.sigverify.specs.declared.request.LogRequest.{LogRequest}
@@ -22,13 +26,12 @@ link_name NoteKey = codes "note-key"
 link_name NoteMatch = codes "note-match"
 link_name Inclusion = codes "inclusion"
 
--- the order of the links
-abbrev pub place_of : Link → ℕ
-place_of Request = 0
-place_of Checkpoint = 1
-place_of NoteKey = 2
-place_of NoteMatch = 3
-place_of Inclusion = 4
+-- the links of `log`
+abbrev pub log_links : List Link
+log_links = Request ∷ Checkpoint ∷ NoteKey ∷ NoteMatch ∷ Inclusion ∷ []
+
+abbrev pub links : Command → List Link
+links Log = log_links
 
 -- the row that says that the log's key signed the note
 abbrev pub note_row : LogRequest → SignedCheckpoint → CheckpointSignature → AcceptedRow
@@ -59,7 +62,7 @@ pub record IsLogged (request : LogRequest) : Type 0 where
 abbrev pub OfCheckpoint : LogRequest → (SignedCheckpoint → Type 0) → Type 0
 OfCheckpoint request P = (checkpoint : SignedCheckpoint) × IsCheckpoint request.checkpoint checkpoint × P checkpoint
 
--- what a link asks of a request
+-- what a link asks of a request of `log`
 abbrev pub HoldsOf : LogRequest → Link → Type 0
 HoldsOf request Request = Unit {0}
 HoldsOf request Checkpoint = OfCheckpoint request (λ _. Unit {0})
@@ -67,28 +70,22 @@ HoldsOf request NoteKey = OfCheckpoint request (IsSigned request)
 HoldsOf request NoteMatch = OfCheckpoint request (IsMatched request)
 HoldsOf request Inclusion = IsLogged request
 
--- a link holds of a text: the text is a request, and the link holds of it
-abbrev pub Holds : List ℕ → Link → Type 0
-Holds text link = (request : LogRequest) × IsRequest text request × HoldsOf request link
+-- a link holds of a text: the text is a request of the command, and the link holds of it
+abbrev pub Holds : Command → List ℕ → Link → Type 0
+Holds Log text link = (request : LogRequest) × IsRequest text request × HoldsOf request link
 
--- every link holds of a text
-abbrev pub EveryLinkHolds : List ℕ → Type 0
-EveryLinkHolds text = (link : Link) → Holds text link
+-- every link of the command holds of a text
+abbrev pub EveryLinkHolds : Command → List ℕ → Type 0
+EveryLinkHolds command text = AllByRecursion (Holds command text) (links command)
 
--- the first link that does not hold of a text
-pub record FailsFirst (text : List ℕ) (link : Link) : Type 0 where
-  pub earlier : (other : Link) → place_of other < place_of link → Holds text other
-  pub fails : ¬ Holds text link
-
--- the first link that does not hold of a request, where not every link holds
-pub record FailsFirstOf (request : LogRequest) (link : Link) : Type 0 where
-  pub earlier : (other : Link) → place_of other < place_of link → HoldsOf request other
-  pub fails : ¬ HoldsOf request link
+-- of the command's links, the first that does not hold of a text
+abbrev pub IsFirstFailing : Command → List ℕ → Link → Type 0
+IsFirstFailing command text link = FailsFirst (Holds command text) (links command) link
 
 -- the first failing link of a request, or none
 abbrev pub IsVerdict : LogRequest → Option Link → Type 0
-IsVerdict request None = (link : Link) → HoldsOf request link
-IsVerdict request (Some link) = FailsFirstOf request link
+IsVerdict request None = AllByRecursion (HoldsOf request) log_links
+IsVerdict request (Some link) = FailsFirst (HoldsOf request) log_links link
 
 -- the first failing link behind the checkpoint, or none, where this is the checkpoint's reading
 abbrev pub IsVerdictUnder : LogRequest → SignedCheckpoint → Option Link → Type 0

@@ -2,6 +2,7 @@
 ghost use Rattle.std.specs.Prelude.{◌↔◌, IfOk, IsTrue};
 ghost use Rattle.sigverify.specs.Link.{IsLogged, IsMatched, IsSigned, IsVerdict, IsVerdictUnder};
 ghost use Rattle.sigverify.specs.Reply.{IsReply};
+ghost use Rattle.sigverify.specs.declared.command.Command.TheVariants.{Log};
 
 use crate::link::Link;
 use crate::reply::Reply;
@@ -15,9 +16,8 @@ use std::alloc::Global;
 
 /// The reply to a request's text: `logged I N` with status 0 exactly where every link holds, else `refused NAME` for the first that fails, with
 /// status 2 for the link `request` and 1 for every other. Refuses for want of memory alone.
-#[tactic(auto, using(crate::proofs::Replies::replies))]
 pub fn log_reply(alloc: Global, request: &[u8]) -> Result<Reply, OutOfMemory>
-    ensures { IfOk result (IsReply request.now) }
+    ensures { IfOk result (IsReply Log request.now) }
 {
     let Some(request) = LogRequest::read(alloc, request)? else {
         return Reply::refused(alloc, Link::Request);

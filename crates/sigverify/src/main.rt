@@ -3,6 +3,7 @@
 //! [`run::run`] is the program, and its contract the promise of this project; what stands here gives it the words and the standard streams.
 #![tactic(auto)]
 
+mod command;
 mod help;
 mod link;
 mod log;
@@ -18,10 +19,14 @@ mod words;
 mod write;
 
 use help::answer_of;
-use run::{FAULT, NO_MEMORY, run};
+use run::{FAULT, NO_MEMORY, USAGE, run};
+use sig_base::Text;
 use std::process::ExitCode;
 use std_stream::{StdSink, StdSource};
 use words::{WordsFault, words_of};
+
+/// Where a word that names no command may look further.
+const HINT: &str = "try 'sigverify --help'";
 
 fn main(rt: HostRuntime) -> ExitCode {
     ExitCode::from(match words_of(&rt) {
@@ -30,20 +35,25 @@ fn main(rt: HostRuntime) -> ExitCode {
                 Ok(()) => 0,
                 Err(_) => FAULT,
             },
-            None => run(
-                rt.alloc(),
-                words.as_slice(),
-                &mut StdSource::new(rt.stdin()),
-                &mut StdSink::new(rt.stdout()),
-            ),
+            None => run_over(&rt, words.as_slice()),
         },
         // Words that are no text are no command.
-        Err(WordsFault::NotText) => run(
-            rt.alloc(),
-            &[],
-            &mut StdSource::new(rt.stdin()),
-            &mut StdSink::new(rt.stdout()),
-        ),
+        Err(WordsFault::NotText) => run_over(&rt, &[]),
         Err(WordsFault::OutOfMemory) => NO_MEMORY,
     })
+}
+
+/// Runs over the standard streams. For words that are no command a hint follows on standard error.
+fn run_over(rt: &HostRuntime, words: &[Text]) -> u8 {
+    let status = run(
+        rt.alloc(),
+        words,
+        &mut StdSource::new(rt.stdin()),
+        &mut StdSink::new(rt.stdout()),
+    );
+    if status == USAGE {
+        // The status is the same where the hint could not be written.
+        let _ = rt.eprintln(HINT);
+    }
+    status
 }

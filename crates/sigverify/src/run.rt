@@ -1,10 +1,13 @@
 //! The program but for its words and streams: it reads a request, answers it, and writes the reply.
-ghost use Rattle.std.specs.Prelude.{◌≡◌, ◌⊎◌, ◌<◌, ◌≤◌, ◌↔◌, IsTrue, IfOk, IsErrOf};
+ghost use Rattle.std.specs.Prelude.{◌≡◌, ◌⊎◌, ◌<◌, ◌≤◌, IfOk, IsErrOf};
 ghost use Rattle.std.specs.Io.KnownBytes.{Appends};
 ghost use Rattle.sig_base.specs.Stream.{Rose, AppendsFront};
+ghost use Rattle.sigverify.specs.Command.{IsCommand};
 ghost use Rattle.sigverify.specs.Limit.{TookAtMost};
-ghost use Rattle.sigverify.specs.Run.{IsLog, RepliesTo, Answered, ReadFaulted, WriteFaulted, usage_line};
+ghost use Rattle.sigverify.specs.Reply.{IsReply};
+ghost use Rattle.sigverify.specs.Run.{RepliesTo, Answered, ReadFaulted, WriteFaulted, HandsRests, WritesRests, usage_line};
 
+use crate::command::Command;
 use crate::link::Link;
 use crate::log::log_reply;
 use crate::read::{READ_LIMIT, ReadFault, read_request};
@@ -40,74 +43,77 @@ impl From<OutOfMemory> for NoReply {
     }
 }
 
-/// Runs the command that the words name, and answers the program's status.
+/// Runs the command that the words name, and returns the program's status.
 ///
-/// `log` reads a request, at most 2^24 + 1 bytes of what the source has left, and writes one line: `logged I N` with status 0 where every link of
-/// the request holds, else `refused NAME` for the first that fails, with status 1, or 2 for the link `request`. The reply is whole before its first
-/// byte is written. Other words are a usage error: nothing is read, no memory is taken, `usage` is written, and the status is 64.
-/// The status is 74 only where the count of faults of the source or of the sink rose: nothing is written after a fault of the source, and after
-/// one of the sink a prefix of the reply was. For want of memory it is 71, and nothing is written.
+/// A command reads a request, at most 2^24 + 1 bytes of what the source has left, and writes one line: for `log` it is `logged I N` with status
+/// 0 if every link of the request holds, else `refused NAME` for the first that fails, with status 1, or 2 for the link `request`. The reply is
+/// whole before its first byte is written, and each write is handed all that is left of it.
+///
+/// - 64 for words that name no command: nothing is read, no memory is taken, and `usage` is written.
+/// - 74 only where the count of faults of the source or of the sink rose: nothing is written after a fault of the source, and after one of the
+///   sink a prefix of the reply was.
+/// - 71 out of memory, and nothing is written.
 #[tactic(auto, using(crate::proofs::Runs::runs))]
 pub fn run<S: Source, K: Sink>(alloc: Global, words: &[Text], source: &mut S, sink: &mut K) -> u8
     ensures status { (result < 3) ⊎ (result ≡ USAGE) ⊎ (result ≡ NO_MEMORY) ⊎ (result ≡ FAULT) }
 
     // The headline: what `Answered` says of the reply is that every link holds where the status is 0, and that it shows the first that fails else.
-    ensures answered { result < 3 → IsLog words.now
-        × Answered (S.left source.old) (S.left source.new) (K.taken sink.old) (K.taken sink.new) result }
-    ensures usage { result ≡ USAGE → ¬ IsLog words.now
+    ensures answered { result < 3 →
+        Answered words.now (S.left source.old) (S.left source.new) (K.taken sink.old) (K.taken sink.new) result }
+    ensures usage { result ≡ USAGE → ¬ IsCommand words.now
         × Appends (K.taken sink.old) (K.taken sink.new) usage_line }
-    ensures unread { ¬ IsLog words.now → source.new ≡ source.old }
+    ensures unread { ¬ IsCommand words.now → source.new ≡ source.old }
     ensures most { TookAtMost READ_LIMIT (S.left source.old) (S.left source.new) }
-    ensures memory { result ≡ NO_MEMORY → IsLog words.now × (sink.new ≡ sink.old) }
+    ensures memory { result ≡ NO_MEMORY → IsCommand words.now × (sink.new ≡ sink.old) }
     ensures fault { result ≡ FAULT →
         ReadFaulted words.now (S.faults source.old) (S.faults source.new) sink.old sink.new
         ⊎ WriteFaulted words.now (S.left source.old) (S.left source.new)
         (K.faults sink.old) (K.faults sink.new) (K.taken sink.old) (K.taken sink.new) }
+    ensures pieces { WritesRests words.now (S.left source.old) (S.left source.new) (K.handed sink.old) (K.handed sink.new) }
     ensures later { (S.faults source.old ≤ S.faults source.new) × (K.faults sink.old ≤ K.faults sink.new) }
 {
-    if !is_log(words) {
+    let Some(command) = Command::named(words) else {
         return finish(sink, USAGE, USAGE_LINE.as_bytes());
-    }
-    match reply_to(alloc, source) {
+    };
+    match reply_to(alloc, command, source) {
         Ok(reply) => finish(sink, reply.status, reply.text.as_str().as_bytes()),
         Err(NoReply::Failed) => FAULT,
         Err(NoReply::OutOfMemory) => NO_MEMORY,
     }
 }
 
-/// Whether the words are the one word `log`.
+/// Returns the command's reply to the request that the source has left.
 #[tactic(auto, using(crate::proofs::Runs::runs))]
-fn is_log(words: &[Text]) -> bool
-    ensures { IsTrue result ↔ IsLog words.now }
-{
-    match words {
-        [word] => word.as_str() == "log",
-        _ => false,
-    }
-}
-
-/// The reply to the request that the source has left.
-#[tactic(auto, using(crate::proofs::Runs::runs))]
-fn reply_to<S: Source>(alloc: Global, source: &mut S) -> Result<Reply, NoReply>
-    ensures ok { IfOk result (RepliesTo (S.left source.old) (S.left source.new)) }
+fn reply_to<S: Source>(alloc: Global, command: Command, source: &mut S) -> Result<Reply, NoReply>
+    ensures ok { IfOk result (RepliesTo command (S.left source.old) (S.left source.new)) }
     ensures failed { IsErrOf result NoReply.Failed → Rose (S.faults source.old) (S.faults source.new) }
     ensures most { TookAtMost READ_LIMIT (S.left source.old) (S.left source.new) }
     ensures later { S.faults source.old ≤ S.faults source.new }
 {
     match read_request(alloc, source) {
-        Ok(text) => Ok(log_reply(alloc, text.as_slice())?),
+        Ok(text) => Ok(reply_of(alloc, command, text.as_slice())?),
         Err(ReadFault::TooLong) => Ok(Reply::refused(alloc, Link::Request)?),
         Err(ReadFault::Failed) => Err(NoReply::Failed),
         Err(ReadFault::OutOfMemory) => Err(NoReply::OutOfMemory),
     }
 }
 
-/// Writes the text, and answers the status, or that of a fault where a write failed.
+/// Returns the command's reply to a request's text. Fails if out of memory alone.
+fn reply_of(alloc: Global, command: Command, request: &[u8]) -> Result<Reply, OutOfMemory>
+    ensures { IfOk result (IsReply command request.now) }
+{
+    match command {
+        Command::Log => log_reply(alloc, request),
+    }
+}
+
+/// Writes the text, and returns the status, or that of a fault where a write failed. It takes no memory.
 fn finish<K: Sink>(sink: &mut K, status: u8, text: &[u8]) -> u8
     requires { status < NO_MEMORY }
     ensures written { result < NO_MEMORY → (result ≡ status) × Appends (K.taken sink.old) (K.taken sink.new) text.now }
     ensures fault { NO_MEMORY ≤ result → (result ≡ FAULT) × Rose (K.faults sink.old) (K.faults sink.new)
         × AppendsFront (K.taken sink.old) (K.taken sink.new) text.now }
+    ensures pieces { HandsRests (K.handed sink.old) (K.handed sink.new) text.now }
     ensures later { K.faults sink.old ≤ K.faults sink.new }
 {
     match write_reply(sink, text) {

@@ -1,9 +1,11 @@
 //! Standard input and output as a source and a sink. They tell no bytes: what the system gives and takes is outside every proof.
-ghost use Rattle.std.specs.Prelude.{◌≡◌};
+ghost use Rattle.std.specs.Prelude.{◌≡◌, None};
+ghost use Rattle.std.specs.Io.{ReadsAtMost, WritesAtMost};
+ghost use Rattle.std.specs.Io.KnownBytes.{ReadConsumes, WriteAppends};
 ghost use Rattle.sig_base.specs.Stream.{Rose};
 
 use sig_base::{Failed, Sink, Source};
-use std::io::{Read, Write};
+use std::io::{self, ErrorKind, Read, Write};
 
 /// A reader as a source. Its count of faults rises at each error, and stays at the greatest `u64`, where `Failed` may come without a rise.
 #[derive(Drop)]
@@ -27,7 +29,7 @@ impl<R: Read + Drop> Source for StdSource<R> {
     ghost faults = { λ s. s.faults };
 
     fn read(&mut self, buf: &mut [u8]) -> Result<usize, Failed> {
-        match self.inner.read(buf) {
+        match read_once(&mut self.inner, buf) {
             Ok(count) => Ok(count),
             Err(_) => {
                 self.faults = self.faults.saturating_add(1);
@@ -57,10 +59,12 @@ impl<W: Write + Drop> StdSink<W> {
 impl<W: Write + Drop> Sink for StdSink<W> {
     ghost taken = { λ s. W.contents s.inner };
 
+    ghost handed = { λ _. None };
+
     ghost faults = { λ s. s.faults };
 
     fn write(&mut self, buf: &[u8]) -> Result<usize, Failed> {
-        match self.inner.write(buf) {
+        match write_once(&mut self.inner, buf) {
             Ok(count) if count > 0 || buf.is_empty() => Ok(count),
             _ => {
                 self.faults = self.faults.saturating_add(1);
@@ -68,4 +72,34 @@ impl<W: Write + Drop> Sink for StdSink<W> {
             }
         }
     }
+}
+
+/// Reads once; again where a signal interrupted the call, which then took nothing.
+fn read_once<R: Read>(reader: &mut R, buf: &mut [u8]) -> io::Result<usize>
+    ensures bound { ReadsAtMost result buf.new }
+    ensures bytes { ReadConsumes (R.remaining reader.old) (R.remaining reader.new) result buf.new }
+{
+    'calls: for _ in 0..u64::MAX {
+        match reader.read(buf) {
+            Ok(count) => return Ok(count),
+            Err(error) if error.kind() == ErrorKind::Interrupted => {}
+            Err(error) => return Err(error),
+        }
+    }
+    Err(io::Error::from(ErrorKind::Interrupted))
+}
+
+/// Writes once; again where a signal interrupted the call, which then wrote nothing.
+fn write_once<W: Write>(writer: &mut W, buf: &[u8]) -> io::Result<usize>
+    ensures bound { WritesAtMost result buf.now }
+    ensures bytes { WriteAppends (W.contents writer.old) (W.contents writer.new) result buf.now }
+{
+    'calls: for _ in 0..u64::MAX {
+        match writer.write(buf) {
+            Ok(count) => return Ok(count),
+            Err(error) if error.kind() == ErrorKind::Interrupted => {}
+            Err(error) => return Err(error),
+        }
+    }
+    Err(io::Error::from(ErrorKind::Interrupted))
 }

@@ -1,5 +1,4 @@
-//! Requests and what is replied to them, by the program's own way in and out.
-use crate::log::log_reply;
+//! Runs over memory, whose streams give and take pieces, and fail. Requests with their replies are in `examples/log.requests`.
 use crate::read::{MOST_BYTES, READ_LIMIT};
 use crate::run::run;
 use sig_base::{Bytes, MemorySink, MemorySource, Numbers, OutOfMemory, Source, Text};
@@ -9,112 +8,6 @@ use std::test::Fail;
 /// A log of the one entry `L123456`, whose checkpoint is accepted.
 const FIRST: &str =
     r#"{"entry":"TDEyMzQ1Ng==","logIndex":0,"treeSize":1,"rootHash":"395aa064aa4c29f7010acfe3f25db9485bbd4b91897b6ad7ad547639252b4d56","hashes":[],"checkpoint":"log.example\n1\nOVqgZKpMKfcBCs/j8l25SFu9S5GJe2rXrVR2OSUrTVY=\n\n\u2014 log.example AAAAAXNpZw==\n","scheme":"ECDSA_P256_SHA256_ASN1","key":"a2V5","accepted":[{"operation":"message","scheme":"ECDSA_P256_SHA256_ASN1","key":"a2V5","message":"bG9nLmV4YW1wbGUKMQpPVnFnWktwTUtmY0JDcy9qOGwyNVNGdTlTNUdKZTJyWHJWUjJPU1VyVFZZPQo=","signature":"c2ln"}]}"#;
-
-/// Changes of that request, and the reply that it then has: `OLD ~ NEW ; OLD ~ NEW => REPLY`. The first two are a log of one empty entry, and
-/// an empty tree whose checkpoint is accepted.
-const LINKS: &str = r#"scheme ~ scheme => logged 0 1
-"entry":"TDEyMzQ1Ng==" ~ "entry":"" ; 395aa064aa4c29f7010acfe3f25db9485bbd4b91897b6ad7ad547639252b4d56 ~ 6e340b9cffb37a989ca544e6bb780a2c78901d3fb33738768511a30617afa01d ; OVqgZKpMKfcBCs/j8l25SFu9S5GJe2rXrVR2OSUrTVY= ~ bjQLnP+zepicpUTmu3gKLHiQHT+zNzh2hRGjBhevoB0= ; bG9nLmV4YW1wbGUKMQpPVnFnWktwTUtmY0JDcy9qOGwyNVNGdTlTNUdKZTJyWHJWUjJPU1VyVFZZPQo= ~ bG9nLmV4YW1wbGUKMQpialFMblAremVwaWNwVVRtdTNnS0xIaVFIVCt6TnpoMmhSR2pCaGV2b0IwPQo= => logged 0 1
-AAAAAXNpZw==\n ~ AAAAAXNpZw==\n\n\n\n => logged 0 1
-AAAAAXNpZw==\n ~ AAAAAXNpZw==\n\u2014 log.example AAAAAXNpZw==\n => refused checkpoint
-log.example\n1\n ~  ; "logIndex":0 ~ "logIndex":1 => refused checkpoint
-\n\n\u2014 ~ \u2014 => refused checkpoint
-"signature":"c2ln" ~ "signature":"c2lo" => refused note-key
-"operation":"message" ~ "operation":"prehash" => refused note-key
-"key":"a2V5","accepted" ~ "key":"a2V6","accepted" => refused note-key
-"scheme":"ECDSA_P256_SHA256_ASN1","key":"a2V5","accepted" ~ "scheme":"ED25519","key":"a2V5","accepted" => refused note-key
-"signature":"c2ln" ~ "signature":"" ; "logIndex":0 ~ "logIndex":1 => refused note-key
-"treeSize":1 ~ "treeSize":2 => refused note-match
-"rootHash":"395a ~ "rootHash":"395b => refused note-match
-log.example\n1\nOVqgZKpMKfcBCs/j8l25SFu9S5GJe2rXrVR2OSUrTVY= ~ log.example\n0\n47DEQpj8HBSa+/TImW+5JCeuQeRkm5NMpJWZG3hSuFU= ; bG9nLmV4YW1wbGUKMQpPVnFnWktwTUtmY0JDcy9qOGwyNVNGdTlTNUdKZTJyWHJWUjJPU1VyVFZZPQo= ~ bG9nLmV4YW1wbGUKMAo0N0RFUXBqOEhCU2ErL1RJbVcrNUpDZXVRZVJrbTVOTXBKV1pHM2hTdUZVPQo= => refused note-match
-"treeSize":1 ~ "treeSize":2 ; "logIndex":0 ~ "logIndex":7 => refused note-match
-"logIndex":0 ~ "logIndex":1 => refused inclusion
-"logIndex":0 ~ "logIndex":-1 => refused inclusion
-"logIndex":0 ~ "logIndex":-9223372036854775808 => refused inclusion
-"entry":"TDEyMzQ1Ng==" ~ "entry":"" => refused inclusion
-"hashes":[] ~ "hashes":["395aa064aa4c29f7010acfe3f25db9485bbd4b91897b6ad7ad547639252b4d56"] => refused inclusion"#;
-
-/// The same for members: of another kind, out of range, absent, doubled, null.
-const MEMBERS: &str = r#""logIndex":0 ~ "logIndex":"-0" => logged 0 1
-"treeSize":1 ~ "treeSize":"01" => logged 0 1
-"hashes":[] ~ "hashes":null => logged 0 1
-"hashes":[], ~  => logged 0 1
-"scheme" ~ "entries":null,"scheme" => logged 0 1
-"395aa ~ "395AA => logged 0 1
-"logIndex":0 ~ "logIndex":9,"logIndex":0 => logged 0 1
-"logIndex":0 ~ "other":{},"logIndex":0 => logged 0 1
-"operation":"message" ~ "operation":"message","other":1 => logged 0 1
-"accepted":[ ~ "accepted":[{"operation":"point","key":"","message":"","signature":""}, => logged 0 1
-"accepted":[ ~ "accepted":[{"operation":"certificate","scheme":"AA==","key":"","message":"","signature":""}, => logged 0 1
-"accepted":[ ~ "accepted":[{"operation":"prehash","scheme":"ED25519","key":"","message":"","signature":""}, => logged 0 1
-"accepted":[ ~ "accepted":[{"operation":"point","scheme":"ED25519","key":"","message":"","signature":""}, => refused request
-"accepted":[ ~ "accepted":[{"operation":"message","scheme":"ED448","key":"","message":"","signature":""}, => refused request
-"accepted":[ ~ "accepted":[{"operation":"prehash","scheme":"ED25519","message":"","signature":""}, => refused request
-"accepted":[ ~ "accepted":[null, => refused request
-"scheme" ~ "entries":[],"scheme" => refused request
-"scheme" ~ "other":0.5,"scheme" => refused request
-"hashes":[] ~ "hashes":["00"] => refused request
-"hashes":[] ~ "hashes":[null] => refused request
-"hashes":[] ~ "hashes":{} => refused request
-"entry":"TDEyMzQ1Ng==", ~  => refused request
-"entry":"TDEyMzQ1Ng==" ~ "entry":"TDEyMzQ1Ng" => refused request
-"entry":"TDEyMzQ1Ng==" ~ "entry":null => refused request
-"entry":"TDEyMzQ1Ng==" ~ "entry":1 => refused request
-"logIndex":0 ~ "logIndex":9223372036854775808 => refused request
-"logIndex":0 ~ "logIndex":-0 => refused request
-"logIndex":0 ~ "logIndex":true => refused request
-"treeSize":1 ~ "treeSize":-1 => refused request
-"treeSize":1 ~ "treeSize":18446744073709551616 => refused request
-"395aa ~ "0395aa => refused request
-"key":"a2V5","accepted" ~ "key":null,"accepted" => refused request
-"scheme":"ECDSA_P256_SHA256_ASN1","key":"a2V5","accepted" ~ "scheme":"","key":"a2V5","accepted" => refused request
-}]} ~ }] => refused request"#;
-
-/// Whether the first request, so changed, has this reply, with the status that goes with it.
-fn is_replied(alloc: Global, line: &str) -> Option<bool> {
-    let (changes, reply) = line.split_once(" => ")?;
-    let mut request = String::from_str(alloc, FIRST).ok()?;
-    for change in changes.split(" ; ") {
-        let (old, new) = change.split_once(" ~ ")?;
-        request = request.as_str().replace(alloc, old, new).ok()?;
-    }
-    Some(replies(alloc, request.as_str(), reply))
-}
-
-/// Whether a text has this reply, with the status that goes with it.
-fn replies(alloc: Global, text: &str, reply: &str) -> bool {
-    let status = match reply {
-        "logged 0 1" => 0,
-        "refused request" => 2,
-        _ => 1,
-    };
-    match log_reply(alloc, text.as_bytes()) {
-        Ok(found) => found.status == status && found.text.as_str().trim_end() == reply,
-        Err(_) => false,
-    }
-}
-
-#[test]
-fn links_fail_in_their_order(rt: HostRuntime) {
-    for line in LINKS.lines() {
-        assert!(rt; is_replied(rt.alloc(), line) == Some(true), "{line}");
-    }
-}
-
-#[test]
-fn members_are_read_by_their_rows(rt: HostRuntime) {
-    for line in MEMBERS.lines() {
-        assert!(rt; is_replied(rt.alloc(), line) == Some(true), "{line}");
-    }
-}
-
-#[test]
-fn texts_that_are_no_requests(rt: HostRuntime) {
-    let alloc = rt.alloc();
-    for text in "{} [] null 1 1.5 \"log\" {\"entry\":1} \u{feff}{}".split(' ') {
-        assert!(rt; replies(alloc, text, "refused request"));
-    }
-    assert!(rt; replies(alloc, "", "refused request"));
-}
 
 /// What a run over these bytes answers, writes and leaves unread, up to a few bytes.
 #[derive(Drop)]

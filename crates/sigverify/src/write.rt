@@ -2,6 +2,7 @@
 ghost use Rattle.std.specs.Prelude.{OnOk, OnErr};
 ghost use Rattle.std.specs.Io.KnownBytes.{Appends};
 ghost use Rattle.sig_base.specs.Stream.{AppendsFront, HasCause};
+ghost use Rattle.sigverify.specs.Run.{HandsRests};
 
 use sig_base::{Failed, Sink};
 
@@ -11,6 +12,7 @@ use sig_base::{Failed, Sink};
 pub fn write_reply<K: Sink>(sink: &mut K, bytes: &[u8]) -> Result<(), Failed>
     ensures ok { OnOk result (Appends (K.taken sink.old) (K.taken sink.new) bytes.now) }
     ensures err { OnErr result (AppendsFront (K.taken sink.old) (K.taken sink.new) bytes.now) }
+    ensures pieces { HandsRests (K.handed sink.old) (K.handed sink.new) bytes.now }
     ensures cause { HasCause (K.faults sink.old) (K.faults sink.new) result }
 {
     let mut done = 0;

@@ -1,0 +1,28 @@
+//! The commands of the program.
+ghost use Rattle.std.specs.Prelude.{MatchOption};
+ghost use Rattle.sigverify.specs.Command.{IsCommand, Names};
+
+use sig_base::Text;
+
+/// A command: what a request is asked for.
+#[derive(Clone, Copy, PartialEq, Eq)]
+pub enum Command {
+    /// `log`: is this entry in the log, and does the log vouch for it?
+    Log,
+}
+
+impl Command {
+    /// Returns the command that the words name, by one word; `None` if and only if they name none. It takes no memory.
+    #[tactic(auto, using(crate::proofs::Runs::runs))]
+    pub fn named(words: &[Text]) -> Option<Command>
+        ensures { MatchOption result (¬ IsCommand words.now) (Names words.now) }
+    {
+        match words {
+            [word] => match word.as_str() {
+                "log" => Some(Command::Log),
+                _ => None,
+            },
+            _ => None,
+        }
+    }
+}
