@@ -66,6 +66,7 @@ checkpoint-fails text fault e = by_cut (cut_at empty_line (trimmed quotation_mar
   by_cut (Some cut) is = inr (cut.0, written, has, read (each signature_of written) refl) where
     written : List (List ℕ)
     written = filter is_written (parts empty_line cut.1)
+
     has : HasPieces text cut.0 written
     has = record {
       body = trimmed quotation_mark text;
@@ -76,6 +77,7 @@ checkpoint-fails text fault e = by_cut (cut_at empty_line (trimmed quotation_mar
       between = parts-found empty_line cut.1 (omega arith);
       kept = refl;
     }
+
     read : (r : Result (List CheckpointSignature) CheckpointFault) → each signature_of written ≡ r → IsPieceFault written fault ⊎ (AllByRecursion StandsForSignature written × IsNoteFault cut.0 fault)
     read (Err other) these =
         let f = rw (is, these) at e in

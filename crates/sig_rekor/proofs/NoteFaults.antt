@@ -58,11 +58,14 @@ hash_fails text origin size hash others fault are e = read (base64_bytes hash) r
         λ keeps. (let found = of_lines text origin size hash others (λ _ _ h. OfBytes h (λ _. ⊤)) are keeps in let f = found.1 in cc),
         let f = rw is at e in cc,
       )
-  read (Some bytes) is = inr ((origin, size, hash, others, are, (bytes, is, tt)), inl (
-    λ keeps. (let found = of_lines text origin size hash others (λ _ _ h. OfBytes h (λ b. length b ≡ 32)) are keeps in
-        let good = hash-only hash found.0 (found.1, found.2) in let f : ◌≡◌ {A = Result (List ℕ) CheckpointFault} (Ok found.0) (Err fault) = sym good ∙ e in cc),
-    length_fault (rw is at e),
-  )) where
+  read (Some bytes) is = inr (
+    (origin, size, hash, others, are, (bytes, is, tt)),
+    inl (
+      λ keeps. (let found = of_lines text origin size hash others (λ _ _ h. OfBytes h (λ b. length b ≡ 32)) are keeps in
+          let good = hash-only hash found.0 (found.1, found.2) in let f : ◌≡◌ {A = Result (List ℕ) CheckpointFault} (Ok found.0) (Err fault) = sym good ∙ e in cc),
+      length_fault (rw is at e),
+    ),
+  ) where
     length_fault : hash_by bytes ≡ Err fault → fault ≡ HashLength
     length_fault f = elim (chosen (length bytes == 32) (Ok bytes) (Err HashLength) (Err fault) f) [
       | inl sized ↦ (let g = sized.1 in cc)
@@ -81,6 +84,7 @@ lines_fail text (origin ∷ size ∷ hash ∷ others) fault are e = inr ((origin
       let f = rw (origin-only origin written, sized, is) at e in
       let same : other ≡ fault = cc in
       hash_fails text origin size hash others fault are (is ∙ ap Err same)
+
   by_size : is_blank origin ≡ false → (r : Result ℕ CheckpointFault) → size_of size ≡ r → FailsFirst (NoteKeeps text) (Size ∷ HashBase64 ∷ HashLength ∷ []) fault
   by_size written (Ok n) is = inr ((origin, size, hash, others, are, (n, size-found size n is)), by_hash n written is (hash_of hash) refl)
   by_size written (Err other) is =
@@ -91,8 +95,10 @@ lines_fail text (origin ∷ size ∷ hash ∷ others) fault are e = inr ((origin
             let good = size-only size found.0 found.1 in let g : ◌≡◌ {A = Result ℕ CheckpointFault} (Ok found.0) (Err other) = sym good ∙ is in cc),
         size-fault size fault (is ∙ ap Err same),
       )
+
   blank_fault : is_blank origin ≡ true → fault ≡ EmptyOrigin
   blank_fault is = let f = rw (origin-blank origin is) at e in cc
+
   by_origin : (b : Bool) → is_blank origin ≡ b → FailsFirst (NoteKeeps text) (EmptyOrigin ∷ Size ∷ HashBase64 ∷ HashLength ∷ []) fault
   by_origin true is = inl (
     λ keeps. (let written = of_lines text origin size hash others (λ o _ _. is_blank o ≡ false) are keeps in cc),
@@ -108,8 +114,7 @@ note-fails text fault e = lines_fail text (parts newline text) fault (parts-foun
 note-keeps : (text : List ℕ) (note : Checkpoint) → IsNote text note → AllByRecursion (NoteKeeps text) note_rules
 note-keeps text note is =
     let lines : (P : List ℕ → List ℕ → List ℕ → Type 0) → P note.origin is.size_line is.hash_line → OfLines text P =
-    λ P holds. (note.origin, is.size_line, is.hash_line, is.others, is.lines, holds) in
-    (
+    λ P holds. (note.origin, is.size_line, is.hash_line, is.others, is.lines, holds) in (
       lines (λ _ _ _. ⊤) tt,
       (
         lines (λ o _ _. is_blank o ≡ false) is.origin,

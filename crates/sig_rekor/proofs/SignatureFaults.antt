@@ -58,11 +58,14 @@ bytes_fail text line first name coded fault trims are None is long none =
     )
 bytes_fail text line first name coded fault trims are (Some bytes) is long none =
     let short = length-fault name bytes fault (long bytes refl) in
-    inr ((line, first, name, coded, trims, are, (bytes, is, tt)), inl (
-      λ keeps. (let found = of_third text line first name coded (λ c. OfBytes (trim_end c) (λ b. 4 ≤ length b)) trims are keeps in
-          let same : found.0 ≡ bytes = (let f = found.1 in cc) in short.1 (subst (λ b. 4 ≤ length b) same found.2)),
-      short.0,
-    ))
+    inr (
+      (line, first, name, coded, trims, are, (bytes, is, tt)),
+      inl (
+        λ keeps. (let found = of_third text line first name coded (λ c. OfBytes (trim_end c) (λ b. 4 ≤ length b)) trims are keeps in
+            let same : found.0 ≡ bytes = (let f = found.1 in cc) in short.1 (subst (λ b. 4 ≤ length b) same found.2)),
+        short.0,
+      ),
+    )
 
 -- the parts of the line
 parts_fail : (text line : List ℕ) (ps : List (List ℕ)) (fault : CheckpointFault) → IsTrimmed 10 text line → line_of text ≡ Ok line → parts space line ≡ ps → IsParts space line ps → signature_of text ≡ Err fault
@@ -72,8 +75,11 @@ parts_fail text line [] fault trims dash same are e = absurd are
 parts_fail text line (a ∷ []) fault trims dash same are e = inl (unlike_three text line (a ∷ []) trims same (λ x y z f. cc), (let f = rw (dash, same) at e in cc))
 parts_fail text line (a ∷ b ∷ []) fault trims dash same are e = inl (unlike_three text line (a ∷ b ∷ []) trims same (λ x y z f. cc), (let f = rw (dash, same) at e in cc))
 parts_fail text line (first ∷ name ∷ coded ∷ []) fault trims dash same are e =
-    inr ((line, first, name, coded, trims, are, tt), bytes_fail text line first name coded fault trims are (base64_bytes (trim_end coded)) refl
-        (λ bytes is. (rw (dash, same, is) at e)) (λ is. (let f = rw (dash, same, is) at e in cc)))
+    inr (
+      (line, first, name, coded, trims, are, tt),
+      bytes_fail text line first name coded fault trims are (base64_bytes (trim_end coded)) refl
+          (λ bytes is. (rw (dash, same, is) at e)) (λ is. (let f = rw (dash, same, is) at e in cc)),
+    )
 parts_fail text line (a ∷ b ∷ c ∷ d ∷ ps) fault trims dash same are e = inl (unlike_three text line (a ∷ b ∷ c ∷ d ∷ ps) trims same (λ x y z f. cc), (let f = rw (dash, same) at e in cc))
 
 pub signature-fails : (text : List ℕ) (fault : CheckpointFault) → signature_of text ≡ Err fault → IsSignatureFault text fault
@@ -95,8 +101,7 @@ signature-fails text fault e = by_line (line_of text) refl where
 signature-keeps : (text : List ℕ) (s : CheckpointSignature) → IsSignature text s → AllByRecursion (SignatureKeeps text) signature_rules
 signature-keeps text s is =
     let third : (P : List ℕ → Type 0) → P is.coded → OfThird text P = λ P holds. (is.line, is.first, s.name, is.coded, is.newlines, is.parts, holds) in
-    let four : 4 ≤ length (signed_bytes s) = omega (arith, length-append s.key_fingerprint s.raw, is.fingerprint) in
-    (
+    let four : 4 ≤ length (signed_bytes s) = omega (arith, length-append s.key_fingerprint s.raw, is.fingerprint) in (
       (is.line, is.behind_dash, is.newlines, is.dash),
       (
         third (λ _. ⊤) tt,

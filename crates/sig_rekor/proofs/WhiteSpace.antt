@@ -46,7 +46,7 @@ quad_to_hair c e =
     let low = ltb-true 8191 c both.0 in
     let high = ltb-true c 8203 both.1 in
     one_or 8192 c refl (λ a. one_or 8193 c refl (λ b. one_or 8194 c refl (λ d. one_or 8195 c refl (λ f. one_or 8196 c refl (λ g. one_or 8197 c refl
-        (λ h. one_or 8198 c refl (λ i. one_or 8199 c refl (λ j. one_or 8200 c refl (λ k. one_or 8201 c refl (λ l. one_or 8202 c refl (λ m. absurd (omega arith))))))))))))
+    (λ h. one_or 8198 c refl (λ i. one_or 8199 c refl (λ j. one_or 8200 c refl (λ k. one_or 8201 c refl (λ l. one_or 8202 c refl (λ m. absurd (omega arith))))))))))))
 
 named : (n c : ℕ) → is_white_space n ≡ true → (c == n) ≡ true → is_white_space c ≡ true
 named n c known e = subst (λ x. is_white_space x ≡ true) (sym (eqb-true c n e)) known
