@@ -53,12 +53,16 @@ impl InclusionProof {
         }
     }
 
-    /// Checks that the log vouches for the entry: the checkpoint is there, a signature of it is the log's, it speaks of this proof's tree,
-    /// and the path leads from the entry's leaf to the root.
+    /// Checks that the log vouches for the entry: a checkpoint is present, one of its signatures is the log's, it is of this
+    /// proof's tree, and the audit path leads from the entry's leaf to the root.
     ///
-    /// Refuses with the first that fails, in this order: `UnexpectedError` of `CheckpointMissing`, `CheckpointSignatureVerificationError`,
-    /// `ConsistencyProofError` as [`SignedCheckpoint::is_valid_for_proof`], `InclusionProofError` of `IndexGtTreeSize` for an index that is
-    /// negative or not below the size, of `WrongProofSize` for another number of hashes, of `MismatchedRoot` for another root.
+    /// Errors, the first that applies:
+    /// - `UnexpectedError` of `CheckpointMissing`;
+    /// - `CheckpointSignatureVerificationError`;
+    /// - `ConsistencyProofError`, as of [`SignedCheckpoint::is_valid_for_proof`];
+    /// - `InclusionProofError` of `IndexGtTreeSize`: the index is negative or not below the size;
+    /// - `InclusionProofError` of `WrongProofSize`: another number of hashes;
+    /// - `InclusionProofError` of `MismatchedRoot`: another root.
     pub fn verify<C: SignatureChecker>(
         &self,
         alloc: Global,
@@ -66,9 +70,11 @@ impl InclusionProof {
         rekor_key: &CosignVerificationKey,
         checker: &C,
     ) -> Result<()>
-        ensures answer { Answers Memory (λ x. x) result (proof_answer (key_accepts (C.spki_accepts checker.now) rekor_key.now) entry.now self.now) }
+        ensures answer { Answers Memory (λ x. x) result
+            (proof_answer (key_accepts (C.spki_accepts checker.now) rekor_key.now) entry.now self.now) }
         ensures ok { OnOk result (IsVouched (key_accepts (C.spki_accepts checker.now) rekor_key.now) entry.now self.now) }
-        ensures only { IsVouched (key_accepts (C.spki_accepts checker.now) rekor_key.now) entry.now self.now → IsOkUnless result Memory }
+        ensures only { IsVouched (key_accepts (C.spki_accepts checker.now) rekor_key.now) entry.now self.now
+            → IsOkUnless result Memory }
     {
         self.check(alloc, entry, rekor_key, checker)
     }
@@ -81,7 +87,8 @@ impl InclusionProof {
         rekor_key: &CosignVerificationKey,
         checker: &C,
     ) -> Result<()>
-        ensures { Answers Memory (λ x. x) result (proof_answer (key_accepts (C.spki_accepts checker.now) rekor_key.now) entry.now self.now) }
+        ensures { Answers Memory (λ x. x) result
+            (proof_answer (key_accepts (C.spki_accepts checker.now) rekor_key.now) entry.now self.now) }
     {
         let Some(checkpoint) = &self.checkpoint else {
             return Err(SigstoreError::UnexpectedError(UnexpectedKind::CheckpointMissing));

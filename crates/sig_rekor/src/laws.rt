@@ -14,16 +14,19 @@ use crate::checkpoint::{Checkpoint, CheckpointSignature, OtherContent, SignedChe
 use crate::fault::ParseCheckpointError;
 use crate::inclusion_proof::InclusionProof;
 
-/// The characters that the format names are those of Unicode's code points, and its fixed lengths those of the standards. It has no code.
+/// The characters that the format names are those of Unicode's code points, and its fixed lengths those of the
+/// standards. It has no code.
 pub fn constants()
     ensures marks { MarksAreUnicode }
     ensures lengths { LengthsAreStandard }
 {}
 
-/// White space, which is dropped at the end of a signature's base64 and is no origin alone, is Unicode's. It has no code.
+/// White space, which is dropped at the end of a signature's base64 and is no origin alone, is Unicode's. It has no
+/// code.
 pub fn white_space()
     ensures points { (c : ℕ) → IsTrue (is_whitespace c) ↔ IsTrue (is_white_space c) }
-    ensures blank { (text : List ℕ) → IsUtf8 text → IsTrue (is_blank text) ↔ IsTrue (list_all is_white_space (chars text)) }
+    ensures blank { (text : List ℕ) → IsUtf8 text →
+        IsTrue (is_blank text) ↔ IsTrue (list_all is_white_space (chars text)) }
 {}
 
 /// Whether two signed checkpoints are equal: if and only if their notes and their lists of signatures are.
@@ -68,18 +71,23 @@ pub fn equal_refusals(one: &ParseCheckpointError, other: &ParseCheckpointError) 
     one == other
 }
 
-/// A text is refused as a note with a fault if and only if it is the first of the note's rules that the text breaks. It has no code.
+/// A text is refused as a note with a fault if and only if it is the first of the note's rules that the text breaks. It
+/// has no code.
 pub fn note_faults()
     ensures { (text : List ℕ) (fault : CheckpointFault) → (note_of text ≡ Err fault) ↔ IsNoteFault text fault }
 {}
 
-/// A text is refused as a signature with a fault if and only if it is the first of the signature's rules that the text breaks. It has no code.
+/// A text is refused as a signature with a fault if and only if it is the first of the signature's rules that the text
+/// breaks. It has no code.
 pub fn signature_faults()
-    ensures { (text : List ℕ) (fault : CheckpointFault) → (signature_of text ≡ Err fault) ↔ IsSignatureFault text fault }
+    ensures { (text : List ℕ) (fault : CheckpointFault) →
+        (signature_of text ≡ Err fault) ↔ IsSignatureFault text fault }
 {}
 
-/// A text is refused as a checkpoint with a fault if and only if the fault is `Format` and no empty line is there, or it is the fault of the first
-/// piece, from the left, that is no signature, or all are and it is the note's. It has no code.
+/// A text is refused as a checkpoint with a fault if and only if the fault is `Format` and no empty line is there, or it
+/// is the fault of the first piece, from the left, that is no signature, or all are and it is the note's. It has no
+/// code.
 pub fn checkpoint_faults()
-    ensures { (text : List ℕ) (fault : CheckpointFault) → (checkpoint_of text ≡ Err fault) ↔ IsCheckpointFault text fault }
+    ensures { (text : List ℕ) (fault : CheckpointFault) →
+        (checkpoint_of text ≡ Err fault) ↔ IsCheckpointFault text fault }
 {}

@@ -1,8 +1,19 @@
 //! Models of the transparency log Rekor: signed checkpoints, and inclusion proofs that carry one.
 //!
-//! The layer above uses two facts. [`SignedCheckpoint::decode`] answers exactly the checkpoint that its text stands for, or the first rule that
-//! the text breaks. [`InclusionProof::verify`] refuses exactly where its first broken condition says, in this order: no checkpoint, no accepted
-//! signature, a note of another tree, no inclusion.
+//! The layer above uses two facts. [`SignedCheckpoint::decode`] returns the checkpoint that its text means, or the first
+//! rule that the text breaks. [`InclusionProof::verify`] fails with the first condition that does not hold, in this
+//! order: a checkpoint, an accepted signature, a note of the same tree, inclusion.
+//!
+//! The format is transparency-dev's checkpoint (C2SP tlog-checkpoint) in a signed note (C2SP signed-note):
+//!
+//! ```text
+//! log.example                                       origin
+//! 1                                                 size, in decimal
+//! OVqgZKpMKfcBCs/j8l25SFu9S5GJe2rXrVR2OSUrTVY=      root hash, base64 of 32 bytes
+//! Timestamp: 1689748607                             other content, any number of lines
+//!                                                   an empty line ends the note
+//! — log.example AAAAAXNpZw==                        em dash, name, base64 of fingerprint (4 bytes) and signature
+//! ```
 #![tactic(auto)]
 
 mod checkpoint;
@@ -14,8 +25,6 @@ pub mod laws;
 mod note;
 mod signature;
 mod signed;
-#[cfg(test)]
-mod tests;
 mod verify;
 
 pub use checkpoint::{

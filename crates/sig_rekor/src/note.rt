@@ -1,4 +1,11 @@
 //! The note of a checkpoint as text: origin, size, root hash and further contents, a line each.
+//!
+//! ```text
+//! log.example
+//! 1
+//! OVqgZKpMKfcBCs/j8l25SFu9S5GJe2rXrVR2OSUrTVY=
+//! Timestamp: 1689748607
+//! ```
 ghost use Rattle.std.specs.Prelude.{◌≡◌, ◌++◌, [], ◌∷◌, List, ℕ, IfOk, OnOk, Ok, Err, MatchOption, string_bytes};
 ghost use Rattle.sig_base.specs.declared.fault.CheckpointFault.TheVariants.{NoteFormat};
 ghost use Rattle.sig_rekor.specs.declared.checkpoint.Checkpoint.{Checkpoint as Note};
@@ -16,11 +23,15 @@ use sig_base::{CheckpointFault, OutOfMemory, Text};
 use std::alloc::Global;
 
 impl Checkpoint {
-    /// Reads a note: lines for the origin, the size and the root hash, and each further line that is not empty as a content.
+    /// Reads a note: lines for the origin, the size and the root hash, and each further line that is not empty as a
+    /// content.
     ///
-    /// Refuses in this order: `NoteFormat` for fewer than three lines, `EmptyOrigin` where the origin is only white space, `Size` where the
-    /// second line is not digits of a number below 2^64 after an optional plus sign, `HashBase64` where the third is no base64, `HashLength`
-    /// where it is not 32 bytes.
+    /// Errors, the first whose rule is broken:
+    /// - `NoteFormat`: fewer than three lines;
+    /// - `EmptyOrigin`: the origin is only white space;
+    /// - `Size`: the second line is not digits of a number below 2^64 after an optional plus sign;
+    /// - `HashBase64`: the third line is not base64;
+    /// - `HashLength`: it is not 32 bytes.
     pub fn unmarshal(alloc: Global, s: &str) -> Result<Checkpoint, ParseCheckpointError>
         ensures found { IfOk result (λ note. IsNote s.now note) }
         ensures only { (note : Note) → IsNote s.now note → Reads (λ n. n) result (Ok note) }
@@ -30,7 +41,7 @@ impl Checkpoint {
     }
 
     /// Writes the note: origin, size in decimal, base64 of the hash and the contents, each ended by a newline.
-    /// Refuses for want of memory alone.
+    /// Fails if out of memory alone.
     pub fn marshal(&self, alloc: Global) -> Result<Text, OutOfMemory>
         ensures { IfOk result (λ text. text ≡ note_text self.now) }
     {

@@ -1,4 +1,9 @@
-//! A signature of a checkpoint as text: an em dash, the key's name, and in base64 the key's fingerprint and the signature.
+//! A signature line of a signed note: an em dash, the key's name, and in base64 the key's fingerprint and the
+//! signature.
+//!
+//! ```text
+//! — log.example AAAAAXNpZw==
+//! ```
 ghost use Rattle.std.specs.Prelude.{◌≡◌, Ok, IfOk, OnOk, option_map};
 ghost use Rattle.std.specs.Option.{ok_or};
 ghost use Rattle.sig_base.specs.declared.fault.CheckpointFault.TheVariants.{SignatureFormat};
@@ -19,8 +24,11 @@ use std::alloc::Global;
 impl CheckpointSignature {
     /// Reads a signature. Newlines at both ends are dropped, and white space at the end of the base64.
     ///
-    /// Refuses in this order: `NoDash` where the text does not start with an em dash (U+2014), `SignatureFormat` where it does not have three
-    /// parts between single spaces, `SignatureBase64` where the third is no base64, `SignatureLength` where it has fewer than four bytes.
+    /// Errors, the first whose rule is broken:
+    /// - `NoDash`: the text does not start with an em dash (U+2014);
+    /// - `SignatureFormat`: it does not have three parts between single spaces;
+    /// - `SignatureBase64`: the third is not base64;
+    /// - `SignatureLength`: it has fewer than four bytes.
     pub fn decode(alloc: Global, s: &str) -> Result<CheckpointSignature, ParseCheckpointError>
         ensures found { IfOk result (λ signature. IsSignature s.now signature) }
         ensures only { (signature : Signature) → IsSignature s.now signature → Reads (λ x. x) result (Ok signature) }
@@ -29,8 +37,8 @@ impl CheckpointSignature {
         read_signature(alloc, s)
     }
 
-    /// Writes the signature: em dash, space, name, space, base64 of fingerprint and signature, newline. It is read back where the name has
-    /// neither a space nor a newline. Refuses for want of memory alone.
+    /// Writes the signature: em dash, space, name, space, base64 of fingerprint and signature, newline. It is read back
+    /// if the name has neither a space nor a newline. Fails if out of memory alone.
     pub fn encode(&self, alloc: Global) -> Result<Text, OutOfMemory>
         ensures text { IfOk result (λ text. text ≡ signature_text self.now) }
         ensures reads_back { IsName self.now.name → IfOk result (λ text. signature_of text ≡ Ok self.now) }

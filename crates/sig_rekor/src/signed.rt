@@ -17,10 +17,12 @@ use sig_base::{CheckpointFault, OutOfMemory, Text};
 use std::alloc::Global;
 
 impl SignedCheckpoint {
-    /// Reads a signed checkpoint. Quotation marks at both ends are dropped, and what stands between two empty lines and is only white space.
+    /// Reads a signed checkpoint. Quotation marks at both ends are dropped, and so is what is between two empty lines and
+    /// only white space.
     ///
-    /// Refuses with the first rule that is broken: `Format` where no empty line ends a note, then the refusals of
-    /// [`CheckpointSignature::decode`] for the signatures from the left, then those of [`Checkpoint::unmarshal`] for the note.
+    /// Errors, the first whose rule is broken: `Format` where no empty line ends a note, then those of
+    /// [`CheckpointSignature::decode`] for the signatures from the left, then those of [`Checkpoint::unmarshal`] for the
+    /// note.
     pub fn decode(alloc: Global, s: &str) -> Result<SignedCheckpoint, ParseCheckpointError>
         ensures found { IfOk result (λ checkpoint. IsCheckpoint s.now checkpoint) }
         ensures only { (checkpoint : Signed) → IsCheckpoint s.now checkpoint → Reads (λ x. x) result (Ok checkpoint) }
@@ -29,8 +31,8 @@ impl SignedCheckpoint {
         read_checkpoint(alloc, s)
     }
 
-    /// Writes the checkpoint: the note, two newlines, and the signatures with a newline between each two. It is read back where `ReadsBack`
-    /// holds. Refuses for want of memory alone.
+    /// Writes the checkpoint: the note, two newlines, and the signatures with a newline between each two. It is read back
+    /// if `ReadsBack` holds. Fails if out of memory alone.
     pub fn encode(&self, alloc: Global) -> Result<Text, OutOfMemory>
         ensures text { IfOk result (λ text. text ≡ checkpoint_text self.now) }
         ensures reads_back { ReadsBack self.now → IfOk result (λ text. checkpoint_of text ≡ Ok self.now) }

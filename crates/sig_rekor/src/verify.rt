@@ -13,15 +13,21 @@ use sig_key::CosignVerificationKey;
 use std::alloc::Global;
 
 impl SignedCheckpoint {
-    /// Checks that one of the signatures is the log's over the marshalled note.
-    /// Refuses with `CheckpointSignatureVerificationError` exactly where the checker accepts none of them.
+    /// Checks that one of the signatures is the log's over the marshalled note. Fails with
+    /// `CheckpointSignatureVerificationError` if and only if the checker accepts none of them.
+    ///
+    /// The note is marshalled once, and the checker is asked once for each signature, until it accepts one. A checker that
+    /// hashes the message at each call hashes the whole note once for each signature of an untrusted text: its caller
+    /// should limit the number of signatures or the size of a checkpoint, or hash a note once and keep the digest. The
+    /// program's table hashes nothing, and compares the message last.
     pub fn verify_signature<C: SignatureChecker>(
         &self,
         alloc: Global,
         rekor_key: &CosignVerificationKey,
         checker: &C,
     ) -> Result<()>
-        ensures answer { Answers Memory (λ x. x) result (signed_answer (key_accepts (C.spki_accepts checker.now) rekor_key.now) self.now) }
+        ensures answer { Answers Memory (λ x. x) result
+            (signed_answer (key_accepts (C.spki_accepts checker.now) rekor_key.now) self.now) }
         ensures ok { OnOk result (IsTrue (is_signed (key_accepts (C.spki_accepts checker.now) rekor_key.now) self.now)) }
     {
         if self.is_signed_by(alloc, rekor_key, checker)? {
@@ -46,11 +52,14 @@ impl SignedCheckpoint {
         Ok(accepts_one(self.signatures.as_slice(), message, key, checker))
     }
 
-    /// Checks that the note speaks of the tree of a proof, whose root and number of leaves these are. It takes no memory.
+    /// Checks that the note is of a proof's tree, whose root and number of leaves these are. It takes no memory.
     ///
-    /// Refuses with `ConsistencyProofError` of `NewTreeSmaller` where the note's tree is larger, of `UnexpectedEmptyProof` where it is
-    /// smaller, and of `MismatchedRoot` where the sizes are equal and the roots differ; `old` and `expected` are the note's, `new` and
-    /// `got` the proof's. Between two trees of one size the only consistency proof is the empty one (RFC 6962 section 2.1.2).
+    /// Errors, each a `ConsistencyProofError`; `old` and `expected` are the note's, `new` and `got` the proof's:
+    /// - `NewTreeSmaller`: the note's tree is larger;
+    /// - `UnexpectedEmptyProof`: it is smaller;
+    /// - `MismatchedRoot`: the sizes are equal and the roots differ.
+    ///
+    /// Between two trees of one size the only consistency proof is the empty one (RFC 6962 section 2.1.2).
     pub fn is_valid_for_proof(&self, proof_root_hash: &[u8; 32], proof_tree_size: u64) -> Result<()>
         ensures answer { result ≡ tree_answer self.now proof_root_hash.now proof_tree_size }
         ensures ok { IsOk result ↔ IsOfTree self.now proof_root_hash.now proof_tree_size }

@@ -41,7 +41,8 @@ status:
 
 const VERSION: &str = "sigverify 0.1.0\n";
 
-/// The text for the one word `--help`, and for the one word `--version`; none exactly for all other words, which [`run`] answers.
+/// Returns the text for the one word `--help`, and for the one word `--version`; `None` for all other words, which are
+/// [`run`]'s.
 ///
 /// [`run`]: crate::run::run
 pub fn answer_of(words: &[Text]) -> Option<&'static str>

@@ -14,8 +14,8 @@ use sig_merkle::uncounted::verify_inclusion;
 use sig_rekor::{ParseCheckpointError, SignedCheckpoint};
 use std::alloc::Global;
 
-/// The reply to a request's text: `logged I N` with status 0 exactly where every link holds, else `refused NAME` for the first that fails, with
-/// status 2 for the link `request` and 1 for every other. Refuses for want of memory alone.
+/// Returns the reply to a request's text: `logged I N` with status 0 if every link holds, else `refused NAME` for the
+/// first that fails, with status 2 for the link `request` and 1 for every other. Fails if out of memory alone.
 pub fn log_reply(alloc: Global, request: &[u8]) -> Result<Reply, OutOfMemory>
     ensures { IfOk result (IsReply Log request.now) }
 {

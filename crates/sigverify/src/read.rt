@@ -52,9 +52,11 @@ impl From<AllocError> for ReadFault {
     }
 }
 
-/// Reads all that the source has left, if that is at most 2^24 bytes. Each turn takes a byte, so that it ends for every source.
+/// Reads all that the source has left, if that is at most 2^24 bytes. Each turn takes a byte, so that it ends for every
+/// source.
 ///
-/// Refuses `TooLong` exactly after 2^24 + 1 bytes were taken, `Failed` only where the source's count of faults rose, and for want of memory.
+/// Errors: `TooLong` if and only if 2^24 + 1 bytes were taken; `Failed` only if the source's count of faults rose; out of
+/// memory.
 #[tactic(auto, using(crate::proofs::Reading::turns))]
 pub fn read_request<S: Source>(alloc: Global, source: &mut S) -> Result<Bytes, ReadFault>
     ensures ok { IfOk result (λ bytes. HandsOver (S.left source.old) (S.left source.new) bytes) }

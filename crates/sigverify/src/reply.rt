@@ -19,7 +19,8 @@ pub struct Reply {
 impl Reply {
     ghost use Rattle.sigverify.specs.Reply.{refusal, success};
 
-    /// `refused NAME`, for the first link that fails: status 2 for the link `request`, else 1. Refuses for want of memory alone.
+    /// Returns `refused NAME`, for the first link that fails, with status 2 for the link `request`, else 1. Fails if out
+    /// of memory alone.
     pub fn refused(alloc: Global, link: Link) -> Result<Reply, OutOfMemory>
         ensures { IfOk result (λ reply. reply ≡ refusal link) }
     {
@@ -32,7 +33,7 @@ impl Reply {
         Ok(Reply { status, text })
     }
 
-    /// `logged I N`, the index and the size of the inclusion proof, with status 0. Refuses for want of memory alone.
+    /// Returns `logged I N`, the index and the size of the inclusion proof, with status 0. Fails if out of memory alone.
     pub fn logged(alloc: Global, request: &LogRequest) -> Result<Reply, OutOfMemory>
         ensures { IfOk result (λ reply. reply ≡ success request.now) }
     {

@@ -73,8 +73,8 @@ impl ElementReader for LogRequestReader {
 impl LogRequest {
     ghost use Rattle.sigverify.specs.Request.{IsReadFrom};
 
-    /// The request that a text is; none exactly where the text has more than 2^24 bytes, is no JSON document without floats, or has not the members
-    /// of a request. Refuses for want of memory alone.
+    /// Reads a request; `None` if and only if the text has more than 2^24 bytes, is no JSON document without floats, or
+    /// does not have the members of a request. Fails if out of memory alone.
     #[tactic(auto, using(crate::proofs::Requests::unread))]
     pub fn read(alloc: Global, text: &[u8]) -> Result<Option<LogRequest>, OutOfMemory>
         ensures { IfOk result (IsReadFrom text.now) }

@@ -1,4 +1,5 @@
-//! Readers of the values that only requests of this program have: schemes, operations, rows of `accepted`, and members that have to be absent.
+//! Readers of the values that only requests of this program have: schemes, operations, accepted signatures, and members
+//! that have to be absent.
 ghost use Rattle.std.specs.Prelude.{Option};
 ghost use Rattle.sig_json.specs.Data.{Data};
 ghost use Rattle.sig_json.specs.Reads.{Reads};
@@ -62,7 +63,8 @@ impl ElementReader for AbsentReader {
     }
 }
 
-/// Reads rows of `accepted`: `operation`, `scheme`, `key`, `message` and `signature`, of which the last three are base64 and required.
+/// Reads accepted signatures: `operation`, `scheme`, `key`, `message` and `signature`, of which the last three are base64
+/// and required.
 pub enum RowReader {}
 
 impl ElementReader for RowReader {
@@ -83,7 +85,8 @@ impl ElementReader for RowReader {
     }
 }
 
-/// The scheme of a row: a scheme's name for a message and for a digest, absent for a point, and base64 of the algorithm element for a certificate.
+/// Reads the scheme of an accepted signature: a scheme's name for a message and for a digest, absent for a point, and
+/// base64 of the AlgorithmIdentifier for a certificate.
 fn read_scheme(alloc: Global, json: Json<'_>, operation: Operation) -> Result<Bytes, MemberError>
     ensures { Reads (λ x. x) result (scheme_for operation (tree json.entry)) }
 {

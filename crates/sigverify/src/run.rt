@@ -45,19 +45,22 @@ impl From<OutOfMemory> for NoReply {
 
 /// Runs the command that the words name, and returns the program's status.
 ///
-/// A command reads a request, at most 2^24 + 1 bytes of what the source has left, and writes one line: for `log` it is `logged I N` with status
-/// 0 if every link of the request holds, else `refused NAME` for the first that fails, with status 1, or 2 for the link `request`. The reply is
-/// whole before its first byte is written, and each write is handed all that is left of it.
+/// A command reads a request, at most 2^24 + 1 bytes of what the source has left, and writes one line: for `log` it is
+/// `logged I N` with status 0 if every link of the request holds, else `refused NAME` for the first that fails, with
+/// status 1, or 2 for the link `request`. The reply is whole before its first byte is written, and each write is handed
+/// all that is left of it. Other statuses:
 ///
-/// - 64 for words that name no command: nothing is read, no memory is taken, and `usage` is written.
-/// - 74 only where the count of faults of the source or of the sink rose: nothing is written after a fault of the source, and after one of the
-///   sink a prefix of the reply was.
-/// - 71 out of memory, and nothing is written.
+/// - 64: the words name no command. Nothing is read, no memory is taken (no call on the way has the allocator), and
+///   `usage` is written.
+/// - 71: out of memory; nothing is written.
+/// - 74, only if the count of faults of the source or of the sink rose: nothing is written after a fault of the source,
+///   and after one of the sink a prefix of the reply was.
 #[tactic(auto, using(crate::proofs::Runs::runs))]
 pub fn run<S: Source, K: Sink>(alloc: Global, words: &[Text], source: &mut S, sink: &mut K) -> u8
     ensures status { (result < 3) ⊎ (result ≡ USAGE) ⊎ (result ≡ NO_MEMORY) ⊎ (result ≡ FAULT) }
 
-    // The headline: what `Answered` says of the reply is that every link holds where the status is 0, and that it shows the first that fails else.
+    // The headline: what `Answered` says of the reply is that every link holds if the status is 0, and that else it shows
+    // the first that fails.
     ensures answered { result < 3 →
         Answered words.now (S.left source.old) (S.left source.new) (K.taken sink.old) (K.taken sink.new) result }
     ensures usage { result ≡ USAGE → ¬ IsCommand words.now

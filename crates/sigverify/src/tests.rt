@@ -1,4 +1,5 @@
-//! Runs over memory, whose streams give and take pieces, and fail. Requests with their replies are in `examples/log.requests`.
+//! Runs over memory, whose streams give and take pieces, and fail. Requests with their replies are in
+//! `examples/log.requests`.
 use crate::read::{MOST_BYTES, READ_LIMIT};
 use crate::run::run;
 use sig_base::{Bytes, MemorySink, MemorySource, Numbers, OutOfMemory, Source, Text};
