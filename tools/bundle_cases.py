@@ -336,6 +336,7 @@ def errors():
                         ("CheckpointMissing", ""), ("Bundle01Profile", "(InclusionPromiseMissing)"),
                         ("Bundle02Profile", "(CheckpointMissing)"), ("Unknown", '("text/plain")')]:
         case("shown " + name, name + shown)
+    case("shown OutOfMemory", "ok OutOfMemory")
 
 
 def table():
@@ -379,6 +380,9 @@ def main():
             for row in rows:
                 {"equal": changed_case, "checked": faulty_case}[kind](row)
     named_case("a bundle with every member is written as it was read", "read_bundle " + WHOLE, "ok " + WHOLE)
+    group("a copy of a log entry with every member, and of one without")
+    case("copied_entry " + WHOLE, "ok true")
+    case('copied_entry {"verificationMaterial":{"tlogEntries":[{}]}}', "ok true")
     members(found["member"], found["value"])
     message_signatures()
     fixture_bundle()

@@ -1,5 +1,5 @@
 #!/usr/bin/env python3
-"""Writes the tables of crates/request_cases, `stdin` and `stdout`, and the fixture's request into its `data`.
+"""Writes the tables of crates/request_cases: `stdin`, the calls, and `stdout`, what they return.
 
     tools/request_cases.py
 

@@ -547,6 +547,37 @@ def rows():
 
 # What stands for itself.
 
+USAGES = ["digitalSignature", "nonRepudiation", "keyEncipherment", "dataEncipherment", "keyAgreement", "keyCertSign", "cRLSign",
+          "encipherOnly", "decipherOnly"]
+PURPOSES = {1: "serverAuth", 2: "clientAuth", 3: "codeSigning", 4: "emailProtection", 8: "timeStamping", 9: "OCSPSigning"}
+
+
+def bits():
+    """Each bit of key usage alone (RFC 5280 section 4.2.1.3), and each purpose alone (section 4.2.1.12)."""
+    group("each bit of key usage alone")
+    for number, name in enumerate(USAGES):
+        octets = number // 8 + 1
+        value = der(3, bytes([octets * 8 - number - 1]) + (1 << octets * 8 - number - 1).to_bytes(octets, "big"))
+        usage = "usage=" + value.hex()
+        judged_case("is_leaf")(name, "", usage, "ok" if number == 0 else "Extension(BitUnset(KeyUsageDigitalSignature))")
+        judged_case("verify_key_usages")(name, "", usage, "ok" if number == 0 else "CertificateWithoutDigitalSignatureKeyUsage")
+        judged_case("is_ca")(name, "", usage + " constraints=30030101ff",
+                             "ok" if number == 5 else "NotCA(Invalid { ca: true, key_cert_sign: false })")
+    group("each purpose of extended key usage alone")
+    for number, name in PURPOSES.items():
+        change = "purposes=" + der(0x30, der(6, fixture.oid("1.3.6.1.5.5.7.3.%d" % number))).hex()
+        judged_case("is_leaf")(name, "", change, "ok" if number == 3 else "Extension(BitUnset(ExtendedKeyUsageDigitalSignature))")
+        judged_case("verify_key_usages")(name, "", change, "ok" if number == 3 else "CertificateWithoutCodeSigningKeyUsage")
+    group("each extension of Fulcio alone, by the number behind 1.3.6.1.4.1.57264.1, with every policy")
+    names = ["OIDCIssuer", "GitHubWorkflowTrigger", "GitHubWorkflowSHA", "GitHubWorkflowName", "GitHubWorkflowRepository", "GitHubWorkflowRef"]
+    for number in range(1, 10):
+        held_alone = {name: b"" for name in leaf_extensions()}
+        held_alone["others"] = extension(fixture.oid("1.3.6.1.4.1.57264.1.%d" % number), b"a")
+        content = spelled(fixture.certificate(fixture.leaf(held_alone)))
+        for place, name in enumerate(names, start=1):
+            case("%d: %s" % (number, name), "policy %s a %s" % (name, content), "ok" if place == number else "ExtensionNotFound")
+
+
 def pools():
     parts = leaf_with()
     other_name = fixture.certificate(fixture.anchor(subject=fixture.name("another root")))
@@ -615,15 +646,17 @@ def requests():
 def errors():
     group("errors inside errors show the names of their variants")
     for name in ["IsCA", "NotCA", "NotRootCA", "Invalid { ca: true, key_cert_sign: false }", "Missing(KeyUsage)", "NotCritical(BasicConstraints)",
-                 "BitUnset(KeyUsageDigitalSignature)", "LeafSCTMissing", "LeafSCTMalformed", "IssuerMissing", "KeyNotFound", "VerificationFailed"]:
+                 "BitUnset(KeyUsageDigitalSignature)", "LeafSCTMissing", "LeafSCTMalformed", "IssuerMissing", "KeyNotFound", "VerificationFailed", "TooLong"]:
         short = re.match(r"\w+", name).group()
         case(short, "shown " + short, name)
+    case("out of memory, of five types", "shown OutOfMemory", answer(*["OutOfMemory"] * 5))
 
 
 def main():
     real_certificates()
     real_sct()
     rows()
+    bits()
     pools()
     keyrings()
     policies()

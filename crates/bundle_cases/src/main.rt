@@ -23,6 +23,7 @@ impl Cases for BundleCases {
     ) -> Result<Answer, CaseError> {
         match call {
             "read_bundle" => read::written(alloc, arguments.rest()?),
+            "copied_entry" => read::copied(alloc, arguments.rest()?),
             "equal" => equal::answer(alloc, arguments),
             "try_from_bundle" => checked::digests(alloc, arguments.rest()?),
             "checked" => checked::lent(alloc, arguments.rest()?),

@@ -26,3 +26,10 @@ pub(crate) fn written(alloc: Global, text: &str) -> Result<Answer, CaseError> {
 pub(crate) fn entry(bundle: &Bundle) -> Option<&TransparencyLogEntry> {
     bundle.verification_material.as_ref()?.tlog_entries.get(0)
 }
+
+/// `copied_entry TEXT`: whether a copy of the first log entry is equal to it.
+pub(crate) fn copied(alloc: Global, text: &str) -> Result<Answer, CaseError> {
+    let bundle = bundle(alloc, text)?;
+    let entry = entry(&bundle).ok_or(CaseError::BadLine)?;
+    Answer::ok(alloc)?.value(&(*entry == entry.copy(alloc)?))
+}

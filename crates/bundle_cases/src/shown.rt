@@ -7,7 +7,7 @@ use sig_bundle::{
 use sig_cases::{Answer, CaseError};
 use std::alloc::Global;
 
-/// `shown NAME`: the error of this name.
+/// `shown NAME`: the error of this name; out of memory stands behind `ok`, since by itself it would end the program.
 pub(crate) fn answer(alloc: Global, name: &str) -> Result<Answer, CaseError> {
     match name {
         "CertificatesMissing" => Answer::error(alloc, &BundleErrorKind::CertificatesMissing),
@@ -18,6 +18,7 @@ pub(crate) fn answer(alloc: Global, name: &str) -> Result<Answer, CaseError> {
         "InclusionProofMissing" => {
             Answer::error(alloc, &Bundle02ProfileErrorKind::InclusionProofMissing)
         }
+        "OutOfMemory" => Answer::ok(alloc)?.value(&BundleErrorKind::OutOfMemory),
         "CheckpointMissing" => Answer::error(alloc, &Bundle02ProfileErrorKind::CheckpointMissing),
         _ => profile(alloc, name),
     }

@@ -1,9 +1,10 @@
 //! Errors inside errors: each shows the name of its variant.
 
 use sig_cases::{Answer, Arguments, CaseError};
+use sig_der::DerWriteError;
 use sig_x509::{
     CertificateErrorKind, ExtensionErrorKind, KeyringError, NotCAErrorKind, NotLeafErrorKind,
-    PartName,
+    PartName, PolicyError, SCTError, X509ReadError,
 };
 use std::alloc::Global;
 
@@ -50,6 +51,18 @@ fn shown_of_sct(alloc: Global, name: &str) -> Result<Answer, CaseError> {
         "IssuerMissing" => Answer::error(alloc, &CertificateErrorKind::IssuerMissing),
         "KeyNotFound" => Answer::error(alloc, &KeyringError::KeyNotFound),
         "VerificationFailed" => Answer::error(alloc, &KeyringError::VerificationFailed),
+        "TooLong" => Answer::error(alloc, &DerWriteError::TooLong),
+        "OutOfMemory" => shown_out_of_memory(alloc),
         _ => Err(CaseError::BadLine),
     }
+}
+
+/// What each type's error for memory shows, behind `ok`, since by itself it would end the program.
+fn shown_out_of_memory(alloc: Global) -> Result<Answer, CaseError> {
+    Answer::ok(alloc)?
+        .value(&X509ReadError::OutOfMemory)?
+        .value(&DerWriteError::OutOfMemory)?
+        .value(&KeyringError::OutOfMemory)?
+        .value(&SCTError::OutOfMemory)?
+        .value(&PolicyError::OutOfMemory)
 }
