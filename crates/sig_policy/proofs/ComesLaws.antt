@@ -31,11 +31,13 @@ comes_err holds refusal r (Ok x) e P says only is to from =
 comes_err holds refusal r (Err d) e P says only is to from = by_cause is
   where
     by_cause : (d ≡ OutOfMemory) ⊎ ((holds ≡ false) × IsRefusal refusal d) → ComesWhere OutOfMemory (failed d) (failed e) P
-    by_cause (inl out) =
-        ((λ same. let is_e : d ≡ e = cc in
-        absurd (never_memory r (subst (λ (x : PolicyError). IsRefusal r x) (sym is_e ∙ out) says))),
-        (λ p. inr (ap failed out)))
-    by_cause (inr fails) =
-        ((λ same. let is_e : d ≡ e = cc in
-        to fails.0 (one_refusal refusal r e (subst (λ (x : PolicyError). IsRefusal refusal x) is_e fails.1) says)),
-        (λ p. inl (ap failed (only d (subst (λ (s : Refusal). IsRefusal s d) (from p).1 fails.1)))))
+    by_cause (inl out) = (
+      (λ same. let is_e : d ≡ e = cc in
+          absurd (never_memory r (subst (λ (x : PolicyError). IsRefusal r x) (sym is_e ∙ out) says))),
+      (λ p. inr (ap failed out)),
+    )
+    by_cause (inr fails) = (
+      (λ same. let is_e : d ≡ e = cc in
+          to fails.0 (one_refusal refusal r e (subst (λ (x : PolicyError). IsRefusal refusal x) is_e fails.1) says)),
+      (λ p. inl (ap failed (only d (subst (λ (s : Refusal). IsRefusal s d) (from p).1 fails.1)))),
+    )

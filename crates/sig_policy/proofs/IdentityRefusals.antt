@@ -56,11 +56,12 @@ module _ (p : Claim) (c : Cert) where
   issuer_from e = text_takes (fulcio 1) c p.issuer (holds_from (codes "OIDCIssuer") p.issuer Issuer e)
 
   pub identity_held : (identity_holds p c ≡ true) ↔ (HasText (fulcio 1) c p.issuer × IsNamed c p.identity)
-  identity_held =
-      ((λ e. let parts = and_parts (is_issued_by p.issuer c) (is_among p.identity (identities c)) e in
-      (issuer_from parts.0, among_takes (identities c) refl parts.1)),
-      (λ h. and_from _ _ (issuer_is h.0)
-      (ap (λ (o : Option (List (List ℕ))). is_among p.identity o) (identities_again c h.1.texts h.1.are) ∙ h.1.named)))
+  identity_held = (
+    (λ e. let parts = and_parts (is_issued_by p.issuer c) (is_among p.identity (identities c)) e in
+        (issuer_from parts.0, among_takes (identities c) refl parts.1)),
+    (λ h. and_from _ _ (issuer_is h.0)
+        (ap (λ (o : Option (List (List ℕ))). is_among p.identity o) (identities_again c h.1.texts h.1.are) ∙ h.1.named)),
+  )
 
   -- ---- the refusals
 
@@ -74,9 +75,10 @@ module _ (p : Claim) (c : Cert) where
 
   by_names : (r : Refusal) → HasText (fulcio 1) c p.issuer → is_among p.identity (identities c) ≡ false
       → name_refusal p.identity (identities c) ≡ r → Refused r
-  by_names r issuer out says =
-      (ap (λ (b : Bool). b && is_among p.identity (identities c)) (issuer_is issuer) ∙ out,
-      cond-true (is_issued_by p.issuer c) _ _ (issuer_is issuer) ∙ says)
+  by_names r issuer out says = (
+    ap (λ (b : Bool). b && is_among p.identity (identities c)) (issuer_is issuer) ∙ out,
+    cond-true (is_issued_by p.issuer c) _ _ (issuer_is issuer) ∙ says,
+  )
 
   not_issued : (actual : List ℕ) → HasText (fulcio 1) c actual → actual ≢ p.issuer → is_issued_by p.issuer c ≡ false
   not_issued actual h other = by_test (is_issued_by p.issuer c) refl

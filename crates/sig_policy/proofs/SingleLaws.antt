@@ -64,22 +64,24 @@ module _ (name asked : List ℕ) where
       → (x ≡ Some actual) × (actual ≢ asked)
   differs_from None actual fails e = absurd cc
   differs_from (Some found) actual fails e =
-      let same : found ≡ actual = cc in
-      (ap (λ (w : List ℕ). Some w) same,
-      (λ is. let yes = (bytes_eq-Decides found asked).1 (same ∙ is) in let wrong = sym yes ∙ fails in cc))
+      let same : found ≡ actual = cc in (
+        ap (λ (w : List ℕ). Some w) same,
+        (λ is. let yes = (bytes_eq-Decides found asked).1 (same ∙ is) in let wrong = sym yes ∙ fails in cc),
+      )
 
   differs_is : (x : Option (List ℕ)) (actual : List ℕ) → x ≡ Some actual → actual ≢ asked
       → (is_text asked x ≡ false) × (single_refusal name asked x ≡ check_failed name asked actual)
-  differs_is x actual e other =
-      (ap (λ (y : Option (List ℕ)). is_text asked y) e ∙ unequal (bytes_eq actual asked) refl,
-      ap (λ (y : Option (List ℕ)). single_refusal name asked y) e)
+  differs_is x actual e other = (
+    ap (λ (y : Option (List ℕ)). is_text asked y) e ∙ unequal (bytes_eq actual asked) refl,
+    ap (λ (y : Option (List ℕ)). single_refusal name asked y) e,
+  )
     where
       unequal : (b : Bool) → bytes_eq actual asked ≡ b → bytes_eq actual asked ≡ false
       unequal true is = absurd (other ((bytes_eq-Decides actual asked).0 is))
       unequal false is = is
 
 module _ (name asked oid : List ℕ) (c : Cert) (r : Answer)
-  (is : IsVerdict (is_text asked (extension_text oid c)) (single_refusal name asked (extension_text oid c)) r) where
+    (is : IsVerdict (is_text asked (extension_text oid c)) (single_refusal name asked (extension_text oid c)) r) where
   abbrev Text : Option (List ℕ)
   Text = extension_text oid c
 

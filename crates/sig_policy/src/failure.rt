@@ -9,7 +9,7 @@ use sig_base::{OutOfMemory, Text};
 use std::alloc::{AllocError, AllocFailed, Global};
 use thiserror::Error;
 
-/// Why a policy does not hold of a certificate, or that memory ran out before the answer.
+/// Why a policy does not hold of a certificate, or that memory ran out.
 #[cycle(policy_error)]
 #[derive(Debug, Drop, Error)]
 pub enum PolicyError {
@@ -40,7 +40,7 @@ pub enum PolicyError {
         /// The number of policies in the list.
         total: usize,
     },
-    /// No memory could be had.
+    /// Out of memory.
     #[error("OutOfMemory")]
     OutOfMemory,
 }
@@ -61,7 +61,7 @@ impl PolicyErrors {
         }
     }
 
-    /// Adds a refusal at the end. Refuses for want of memory alone; the list is then as before.
+    /// Adds a refusal at the end. Fails only if out of memory; the list is then as before.
     pub(crate) fn push(&mut self, error: PolicyError) -> Result<(), OutOfMemory>
         ensures ok { OnOk result (failures self.new ≡ failures self.old ++ error ∷ []) }
         ensures err { OnErr result (failures self.new ≡ failures self.old) }
@@ -70,14 +70,14 @@ impl PolicyErrors {
         Ok(())
     }
 
-    /// The number of refusals.
+    /// Returns the number of refusals.
     pub fn len(&self) -> usize
         ensures { result ≡ length (failures self.now) }
     {
         self.items.len()
     }
 
-    /// The refusal at a place, counted from 0; none where the place is not below the length.
+    /// Returns the refusal at an index. `None` if the index is not below the length.
     pub fn get(&self, place: usize) -> Option<&PolicyError>
         ensures { option_copied result ≡ slice_get (failures self.now) place }
     {
@@ -85,7 +85,7 @@ impl PolicyErrors {
     }
 }
 
-/// The refusal of a list of policies of which each has to hold.
+/// Returns the refusal of a list of policies of which each has to hold.
 pub(crate) fn all_of(total: usize, errors: PolicyErrors) -> PolicyError
     ensures { IsAllOf total (failures errors) result }
 {

@@ -1,76 +1,62 @@
 //! The identities that a subject alternative name gives: its emails, its URIs, and its other names of Fulcio's kind.
+//!
+//! ```text
+//! SubjectAltName ::= SEQUENCE OF GeneralName      -- RFC 5280 section 4.2.1.6
+//!      rfc822Name                [1]  an email
+//!      uniformResourceIdentifier [6]  a URI
+//!      otherName                 [0]  of the type-id 1.3.6.1.4.1.57264.1.7, whose value is a text
+//! ```
 
-ghost use Rattle.std.specs.Prelude.{◌≡◌, ◌≤◌, length, slice_range, option_map, map, IfOk};
+ghost use Rattle.std.specs.Prelude.{◌≡◌, option_map, map, IfOk};
 ghost use Rattle.std.specs.List.{filter_map};
-ghost use Rattle.sig_der.specs.Taking.{many_at};
-ghost use Rattle.sig_certificate.specs.NamePlaces.{name_in, IsNameWithin};
-ghost use Rattle.sig_certificate.specs.Names.{name_at};
+ghost use Rattle.sig_certificate.specs.BorrowedNames.{borrowed_name, names_left};
 ghost use Rattle.sig_policy.specs.Identities.{identity_of, identities_of};
 
 use crate::utf8::utf8_text;
 use sig_base::OutOfMemory;
-use sig_certificate::{NamePlaces, content_at, name_at, part};
+use sig_certificate::{AlternativeNames, GeneralName, alternative_names};
 use sig_der::oid;
-use sig_der::tag::SEQUENCE;
 use std::alloc::Global;
 
-/// The identity that the name gives, if it gives one.
-fn identity_of(bytes: &[u8], name: NamePlaces) -> Option<&str>
-    requires { IsNameWithin (length bytes.now) name }
-    ensures { option_map (λ t. t.now) result ≡ identity_of (name_in bytes.now name) }
+/// Returns the identity that the name gives, if it gives one.
+fn identity_of(name: GeneralName<'_>) -> Option<&str>
+    ensures { option_map (λ t. t.now) result ≡ identity_of (borrowed_name name.entry) }
 {
     match name {
-        NamePlaces::Email(text) => utf8_text(part(bytes, text)),
-        NamePlaces::Uri(text) => utf8_text(part(bytes, text)),
-        NamePlaces::Other(kind, value) => {
-            if part(bytes, kind) == oid::FULCIO_OTHER_NAME {
-                utf8_text(part(bytes, value))
+        GeneralName::Email(text) => utf8_text(text),
+        GeneralName::Uri(text) => utf8_text(text),
+        GeneralName::Other(kind, value) => {
+            if kind == oid::FULCIO_OTHER_NAME {
+                utf8_text(value)
             } else {
                 None
             }
         }
-        NamePlaces::Unread => None,
+        GeneralName::Unread => None,
     }
 }
 
-/// The identities that the names from `at` to `end` itself give, in order. None where something else stands there. Refuses for
-/// want of memory alone.
-fn identities_at(
-    alloc: Global,
-    bytes: &[u8],
-    at: usize,
-    end: usize,
-) -> Result<Option<Vec<&str>>, OutOfMemory>
-    requires from { at ≤ end }
-    requires to { end ≤ length bytes.now }
-    ensures { IfOk result (λ o. option_map (λ v. map (λ t. t.now) v.items) o
-        ≡ option_map (λ ns. filter_map identity_of ns) (many_at name_at (slice_range bytes.now at end))) }
+/// Returns the identities that the names give, in order. Fails only if out of memory.
+fn given(alloc: Global, names: AlternativeNames<'_>) -> Result<Vec<&str>, OutOfMemory>
+    ensures { IfOk result (λ v. map (λ t. t.now) v.items ≡ filter_map identity_of (names_left names.entry)) }
 {
     let mut found = Vec::new(alloc);
-    let mut next = at;
-    while next < end {
-        match name_at(bytes, next, end) {
-            None => return Ok(None),
-            Some((name, after)) => {
-                next = after;
-                match identity_of(bytes, name) {
-                    Some(text) => found.push(text)?,
-                    None => {}
-                }
-            }
+    for name in names {
+        match identity_of(name) {
+            Some(text) => found.push(text)?,
+            None => {}
         }
     }
-    Ok(Some(found))
+    Ok(found)
 }
 
-/// The identities that a subject alternative name of this value gives, in order. None where it is malformed. Refuses for want of
-/// memory alone.
-#[tactic(auto, unfolding(sig_certificate::specs::Names::names_of))]
+/// Returns the identities that a subject alternative name of this value gives, in order. `None` if it is malformed. Fails only if
+/// out of memory.
 pub(crate) fn identities_of(alloc: Global, value: &[u8]) -> Result<Option<Vec<&str>>, OutOfMemory>
     ensures { IfOk result (λ o. option_map (λ v. map (λ t. t.now) v.items) o ≡ identities_of value.now) }
 {
-    match content_at(value, SEQUENCE) {
+    match alternative_names(value) {
         None => Ok(None),
-        Some(list) => identities_at(alloc, value, list.content, list.end),
+        Some(names) => Ok(Some(given(alloc, names)?)),
     }
 }

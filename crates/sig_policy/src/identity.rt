@@ -33,7 +33,7 @@ impl Model for Identity {
 }
 
 impl Identity {
-    /// The policy that asks for this identity and this issuer. Refuses for want of memory alone.
+    /// Returns the policy that asks for this identity and this issuer. Fails only if out of memory.
     pub fn new(alloc: Global, identity: &str, issuer: &str) -> Result<Identity, OutOfMemory>
         ensures { IfOk result (λ p. p ≡ record { identity = identity.now; issuer = issuer.now }) }
     {
@@ -48,9 +48,13 @@ impl VerificationPolicy for Identity {
 
     ghost refusal = { identity_refusal };
 
-    /// Nothing exactly where the issuer's policy holds, the certificate has exactly one subject alternative name, it is well formed,
-    /// and one of its emails, URIs or names of Fulcio's kind is the identity. In this order: the issuer's refusal;
-    /// `ExtensionNotFound` for none, several or a malformed one; `ExtensionCheckFailed` with the names, joined.
+    /// Returns `Ok` if and only if the issuer's policy holds, the certificate has exactly one subject alternative name, it is well
+    /// formed, and one of its emails, URIs or names of Fulcio's kind is the identity. The first of these errors that applies, or
+    /// `OutOfMemory`:
+    ///
+    /// - the issuer's refusal;
+    /// - `ExtensionNotFound` if there is no subject alternative name, if there are several, and if it is malformed;
+    /// - `ExtensionCheckFailed` with the identities that it gives, joined by a comma and a blank.
     fn verify(&self, alloc: Global, cert: &Certificate) -> PolicyResult {
         self.issuer.verify(alloc, cert)?;
         verify_name(alloc, self.identity.as_str(), cert)
@@ -89,7 +93,7 @@ fn contains(texts: &[&str], text: &str) -> bool
     texts.contains(&text)
 }
 
-/// The texts with a comma and a blank between each two. Refuses for want of memory alone.
+/// Returns the texts with a comma and a blank between each two. Fails only if out of memory.
 #[tactic(auto, using(crate::proofs::IdentityLaws::join_by_seen))]
 fn joined(alloc: Global, texts: &[&str]) -> Result<Text, OutOfMemory>
     ensures { IfOk result (λ s. s ≡ join_by (λ t. t) (codes ", ") (map (λ t. t.now) texts.now)) }
@@ -98,8 +102,8 @@ fn joined(alloc: Global, texts: &[&str]) -> Result<Text, OutOfMemory>
     Ok(Text::from(joined))
 }
 
-/// The identities that the certificate names. None where it has not exactly one well-formed subject alternative name. Refuses for
-/// want of memory alone.
+/// Returns the identities that the certificate names. `None` if it has not exactly one well-formed subject alternative name. Fails
+/// only if out of memory.
 fn identities(alloc: Global, cert: &Certificate) -> Result<Option<Vec<&str>>, OutOfMemory>
     ensures { IfOk result (λ o. option_map (λ v. map (λ t. t.now) v.items) o ≡ identities cert.now) }
 {

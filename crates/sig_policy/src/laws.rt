@@ -27,5 +27,4 @@ pub fn identity_laws()
         → (identity_holds p c ≡ false) × (identity_refusal p c ≡ refusal_for p c w) }
     ensures cause { (p : Claim) (c : Cert) → identity_holds p c ≡ false
         → (w : WhyNot p c) × (identity_refusal p c ≡ refusal_for p c w) }
-{
-}
+{}

@@ -24,25 +24,25 @@ pub trait SingleX509ExtPolicy {
 
     ghost asked: { Self → List ℕ };
 
-    /// The policy that asks for this text. Refuses for want of memory alone.
+    /// Returns the policy that asks for this text. Fails only if out of memory.
     fn new(alloc: Global, val: &str) -> Result<Self, OutOfMemory>
         ensures { IfOk result (λ p. asked p ≡ val.now) };
 
-    /// The policy's name.
+    /// Returns the policy's name.
     fn name() -> &'static str
         ensures { result.now ≡ title };
 
-    /// The text that the policy asks for.
+    /// Returns the text that the policy asks for.
     fn value(&self) -> &str
         ensures { result.now ≡ asked self.now };
 
-    /// The contents octets of the extension's object identifier.
+    /// Returns the contents octets of the extension's object identifier.
     fn oid() -> &'static [u8]
         ensures { result.now ≡ identifier };
 }
 
-/// The text of the only extension with this object identifier. None where there is none, where there are several, and where
-/// its value is not UTF-8.
+/// Returns the text of the only extension with this object identifier. `None` if there is none, if there are several, and if its
+/// value is not UTF-8.
 pub(crate) fn extension_text<'a>(cert: &'a Certificate, oid: &[u8]) -> Option<&'a str>
     ensures { option_map (λ t. t.now) result ≡ extension_text oid.now cert.now }
 {
@@ -97,7 +97,7 @@ fn check<T: SingleX509ExtPolicy>(alloc: Global, policy: &T, cert: &Certificate) 
     Err(check_failed(alloc, T::name(), policy.value(), actual)?)
 }
 
-/// That an extension says another text than the one asked for. Refuses for want of memory alone.
+/// Returns the error of an extension that has another text than the one asked for. Fails only if out of memory.
 pub(crate) fn check_failed(
     alloc: Global,
     extension: &str,

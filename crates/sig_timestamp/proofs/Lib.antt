@@ -1,4 +1,5 @@
 pub mod KeyLaws
+pub mod KeyFaults
 pub mod KeyringLaws
 pub mod ComesLaws
 pub mod VouchedLaws

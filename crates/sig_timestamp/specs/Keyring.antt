@@ -1,5 +1,5 @@
 -- *Keyring key*: which key infos are keys of a certificate log, and the key that a list of key infos has for an id.
-use Rattle.std.specs.Prelude.{◌≡◌, ◌≤◌, ℕ, Bool, not, ◌&&◌, ◌==◌, if◌then◌else◌, List, [], ◌∷◌, Option, Some, None, Result, Ok, Err, bytes_eq}
+use Rattle.std.specs.Prelude.{◌≡◌, ◌⊎◌, ◌≤◌, ℕ, Bool, true, not, ◌&&◌, ◌==◌, if◌then◌else◌, List, [], ◌∷◌, Option, Some, None, Result, Ok, Err, bytes_eq}
 use Rattle.std.specs.Borrow.{Bor}
 use Rattle.std.specs.Option.{option_or}
 use Rattle.std.specs.Result.{result_ok}
@@ -81,3 +81,22 @@ key_of (spki ∷ keys) id = option_or (key_of keys id) (point_if id spki)
 abbrev pub vouch : (List ℕ → List ℕ → List ℕ → Bool) → Option (List ℕ) → List ℕ → List ℕ → Result (Unit {0}) KeyringError
 vouch accepts None message signature = Err KeyNotFound
 vouch accepts (Some point) message signature = if accepts point message signature then Ok tt else Err VerificationFailed
+
+-- ---- why a text is no key of a ring
+
+-- the parameters are absent, an object identifier, or the NULL of an RSA key (RFC 3279 section 2.3.1)
+abbrev pub AreKnown : List ℕ → Option Piece → Type 0
+AreKnown oid None = Unit {0}
+AreKnown oid (Some p) = (is_identifier p ≡ true) ⊎ ((is_null p ≡ true) × (oid ≡ rsa))
+
+-- The text is no SPKI, or one with other parameters.
+abbrev pub IsMalformedKey : List ℕ → Type 0
+IsMalformedKey spki = (k : KeyInfo) → IsKeyInfo k → k.whole ≡ spki → ¬ AreKnown k.algorithm.oid k.algorithm.parameters
+
+-- The text is an SPKI with such parameters, and no point of P-256.
+pub record IsOtherKey (spki : List ℕ) : Type 0 where
+  pub info : KeyInfo
+  pub is : IsKeyInfo info
+  pub text : info.whole ≡ spki
+  pub known : AreKnown info.algorithm.oid info.algorithm.parameters
+  pub other : (point : List ℕ) → ¬ IsRingKey spki point

@@ -1,4 +1,4 @@
-//! `CertificateEmbeddedSCT`: the timestamp that a certificate carries (RFC 6962 section 3.3).
+//! `CertificateEmbeddedSCT`: the SCT that a certificate carries (RFC 6962 section 3.3).
 
 ghost use Rattle.std.specs.Prelude.{◌≡◌, ◌↔◌, IfOk, IsSome, IsErrOf, Ok, Err, None};
 ghost use Rattle.sig_base.specs.Answers.{Answers};
@@ -21,8 +21,8 @@ use sig_der::oid::SCT_LIST;
 use std::alloc::Global;
 use std::marker::Model;
 
-/// The one timestamp that a certificate carries, with the signed part of its precertificate and the SHA-256 of its issuer's key
-/// info. Contracts see what it signs.
+/// The one SCT that a certificate carries, with the TBSCertificate of its precertificate and the SHA-256 of its issuer's SPKI.
+/// Contracts see what it signs.
 #[derive(Drop)]
 pub struct CertificateEmbeddedSCT {
     signed: DigitallySigned,
@@ -37,43 +37,45 @@ impl Model for CertificateEmbeddedSCT {
 }
 
 impl CertificateEmbeddedSCT {
-    /// The timestamp of a certificate whose issuer the chain begins with: the first certificate, or the second where the first has
-    /// the purpose of precertificate signing.
+    /// Returns the SCT of a certificate whose issuer the chain begins with: its first certificate, or its second if the first has
+    /// the purpose of precertificate signing (RFC 6962 section 3.1).
     ///
-    /// `Parsing` of `IssuerMissing` exactly where that certificate is not there or is no authority; else the answers of
-    /// [`CertificateEmbeddedSCT::new_with_verified_path`] for its key info.
+    /// Fails with `Parsing(IssuerMissing)` if and only if that certificate is not there or `is_ca` rejects it; else with what
+    /// [`CertificateEmbeddedSCT::new_with_verified_path`] fails with for its SPKI.
     pub fn new(
         alloc: Global,
         leaf: &Certificate,
         chain: &[Certificate],
     ) -> Result<CertificateEmbeddedSCT, SCTError>
-        // The one timestamp is answered, ready to be checked under the issuer's key.
+        // The one SCT is returned, ready to be checked under the issuer's key.
         ensures embedded { IsEmbeddedUnder leaf.now (issuer_of chain.now) result }
         // The chain begins with no issuer.
         ensures issuer { IsErrOf result (SCTError.Parsing CertificateErrorKind.IssuerMissing) ↔ (issuer_of chain.now ≡ None) }
-        // It begins with one, and not one extension lists timestamps, or it does not list exactly one.
+        // It begins with one, and not one extension lists SCTs, or it does not list exactly one.
         ensures missing { ComesWhere SCTError.OutOfMemory result (Err (SCTError.Parsing CertificateErrorKind.LeafSCTMissing)) (IsSome (issuer_of chain.now) × LacksSct leaf.now) }
-        // It begins with one, and the one list of timestamps is malformed, or the only one in it.
+        // It begins with one, and the one list of SCTs is malformed, or the only SCT in it.
         ensures malformed { ComesWhere SCTError.OutOfMemory result (Err (SCTError.Parsing CertificateErrorKind.LeafSCTMalformed)) (IsSome (issuer_of chain.now) × HasBadSct leaf.now) }
     {
         embed_under(alloc, leaf, chain)
     }
 
-    /// The timestamp of a certificate whose issuer has this key info (DER).
+    /// Returns the SCT of a certificate whose issuer has this SubjectPublicKeyInfo (DER). Fails with `Parsing` of the first of
+    /// these that applies, or with `OutOfMemory`:
     ///
-    /// `Parsing` of the first that applies: `LeafSCTMissing` where not exactly one extension lists timestamps, `LeafSCTMalformed`
-    /// where the list is malformed, `LeafSCTMissing` where it does not list exactly one, `LeafSCTMalformed` where that one is
-    /// malformed. `OutOfMemory` where no memory could be had.
+    /// - `LeafSCTMissing` if not exactly one extension lists SCTs;
+    /// - `LeafSCTMalformed` if the list is malformed;
+    /// - `LeafSCTMissing` if it does not list exactly one;
+    /// - `LeafSCTMalformed` if that one is malformed.
     pub fn new_with_verified_path(
         alloc: Global,
         leaf: &Certificate,
         issuer_spki: &[u8],
     ) -> Result<CertificateEmbeddedSCT, SCTError>
-        // The one timestamp is answered, ready to be checked under the issuer's key.
+        // The one SCT is returned, ready to be checked under the issuer's key.
         ensures embedded { IsEmbedded leaf.now issuer_spki.now result }
-        // Not one extension lists timestamps, or it does not list exactly one.
+        // Not one extension lists SCTs, or it does not list exactly one.
         ensures missing { ComesWhere SCTError.OutOfMemory result (Err (SCTError.Parsing CertificateErrorKind.LeafSCTMissing)) (LacksSct leaf.now) }
-        // The one list of timestamps is malformed, or the only one in it.
+        // The one list of SCTs is malformed, or the only SCT in it.
         ensures malformed { ComesWhere SCTError.OutOfMemory result (Err (SCTError.Parsing CertificateErrorKind.LeafSCTMalformed)) (HasBadSct leaf.now) }
     {
         embed(alloc, leaf, issuer_spki)
@@ -81,7 +83,7 @@ impl CertificateEmbeddedSCT {
 }
 
 impl DigitallySigned {
-    /// What the timestamp signs, in memory of its own. Refuses for want of memory alone.
+    /// Returns what the SCT signs, in memory of its own. Fails only if out of memory.
     pub fn from_embedded(
         alloc: Global,
         value: &CertificateEmbeddedSCT,
@@ -100,7 +102,7 @@ impl DigitallySigned {
     }
 }
 
-/// The timestamp of a certificate under the issuer that the chain begins with.
+/// Returns the SCT of a certificate under the issuer that the chain begins with.
 fn embed_under(
     alloc: Global,
     leaf: &Certificate,
@@ -114,7 +116,7 @@ fn embed_under(
     }
 }
 
-/// The timestamp of a certificate.
+/// Returns the SCT of a certificate.
 fn embed(
     alloc: Global,
     leaf: &Certificate,
@@ -132,7 +134,7 @@ fn embed(
     }
 }
 
-/// What the timestamp of the certificate signs.
+/// Returns what the SCT of the certificate signs.
 fn sign(
     alloc: Global,
     leaf: &Certificate,
@@ -151,7 +153,7 @@ fn sign(
     })
 }
 
-/// The one timestamp of the certificate.
+/// Returns the one SCT of the certificate.
 fn sct_of(leaf: &Certificate) -> Result<LentSct<'_>, CertificateErrorKind>
     ensures read { sct_answer result ≡ sct_of leaf.now }
     ensures said { IsSaidOf leaf.now (sct_answer result) }
@@ -163,7 +165,7 @@ fn sct_of(leaf: &Certificate) -> Result<LentSct<'_>, CertificateErrorKind>
     }
 }
 
-/// The one timestamp that an extension of this value lists.
+/// Returns the one SCT that an extension of this value lists.
 fn sct_of_value(value: &[u8]) -> Result<LentSct<'_>, CertificateErrorKind>
     ensures read { sct_answer result ≡ sct_of_value value.now }
     ensures said { IsSaidOfValue value.now (sct_answer result) }
@@ -181,7 +183,7 @@ fn read_value(value: &[u8]) -> Result<LentSct<'_>, CertificateErrorKind>
     }
 }
 
-/// The one timestamp of a list.
+/// Returns the one SCT of a list.
 fn read_only(list: &[u8]) -> Result<LentSct<'_>, CertificateErrorKind>
     ensures { sct_answer result ≡ sct_in (only_one (many_at vector_at list.now)) }
 {

@@ -6,7 +6,7 @@ ghost use Rattle.sig_timestamp.specs.Embedded.{signs_precertificates, candidate_
 use sig_certificate::{Certificate, Lookup, is_ca, read_purpose};
 use sig_der::oid::{EXTENDED_KEY_USAGE, PRECERTIFICATE_SIGNING};
 
-/// The issuer that the chain begins with. None where it is not there, or is no authority.
+/// Returns the issuer that the chain begins with. `None` if it is not there, or `is_ca` rejects it.
 pub(crate) fn find_issuer(chain: &[Certificate]) -> Option<&Certificate>
     ensures { option_map (λ c. c.now) result ≡ issuer_of chain.now }
 {
@@ -17,7 +17,7 @@ pub(crate) fn find_issuer(chain: &[Certificate]) -> Option<&Certificate>
     }
 }
 
-/// The first of the chain, or the second where the first only signs precertificates.
+/// Returns the first of the chain, or the second if the first only signs precertificates.
 fn candidate(chain: &[Certificate]) -> Option<&Certificate>
     ensures { option_map (λ c. c.now) result ≡ candidate_of chain.now }
 {

@@ -1,11 +1,13 @@
-//! `Key`: the key of a certificate log.
+//! `Key`: the key of a Certificate Transparency log.
 
 ghost use Rattle.std.specs.Prelude.{◌≡◌, ◌≢◌, length, Result, Err, IfOk};
 ghost use Rattle.sig_base.specs.Answers.{Answers};
+ghost use Rattle.sig_certificate.specs.Answers.{ComesWhere};
 ghost use Rattle.sig_base.specs.Sha256.{sha256};
 ghost use Rattle.sig_der.specs.KeyInfo.{KeyInfo, IsKeyInfo};
 ghost use Rattle.sig_der.specs.KeyInfoPlaces.{placed_option};
-ghost use Rattle.sig_timestamp.specs.Keyring.{IsRingKey, IsParametersWithin, point_in, point_of, point_under, lent_point};
+ghost use Rattle.sig_timestamp.specs.Keyring.{IsRingKey, IsMalformedKey, IsOtherKey, IsParametersWithin};
+ghost use Rattle.sig_timestamp.specs.Keyring.{point_in, point_of, point_under, lent_point};
 
 use crate::keyring_error::KeyringError;
 use sig_base::{Bytes, SignatureChecker, sha256};
@@ -15,7 +17,7 @@ use sig_der::{Place, whole_key_info};
 use std::alloc::Global;
 use std::marker::Model;
 
-/// The key of a certificate log: a point of P-256, and its id, the SHA-256 of its key info (RFC 6962 section 3.2).
+/// The key of a Certificate Transparency log: a point of P-256, and its id, the SHA-256 of its SPKI (RFC 6962 section 3.2).
 #[derive(Drop)]
 pub struct Key {
     pub(crate) id: [u8; 32],
@@ -31,20 +33,27 @@ impl Model for Key {
 }
 
 impl Key {
-    /// The key of this key info (DER, RFC 5280 section 4.1.2.7). `KeyMalformed` exactly where the bytes are no key info, or the
-    /// parameters of its algorithm are neither an object identifier nor the NULL of an RSA key; `AlgoUnsupported` exactly for every
-    /// other key info that is no key on the curve P-256, one without parameters included.
+    /// Returns the key of this SubjectPublicKeyInfo (DER, RFC 5280 section 4.1.2.7). Errors:
+    ///
+    /// - `KeyMalformed` if and only if the bytes are no SPKI, or the parameters of its algorithm are there and are neither an object
+    ///   identifier nor the NULL of an RSA key;
+    /// - `AlgoUnsupported` if and only if it is any other SPKI that is no point of P-256, one without parameters included;
+    /// - `OutOfMemory`.
     pub fn new(alloc: Global, spki_bytes: &[u8]) -> Result<Key, KeyringError>
         ensures found { IfOk result (λ k. IsRingKey spki_bytes.now k.point) }
         ensures id { IfOk result (λ k. k.id ≡ sha256 spki_bytes.now) }
         ensures info { (k : KeyInfo) → IsKeyInfo k → k.whole ≡ spki_bytes.now → Answers KeyringError.OutOfMemory (λ r. r.point) result (point_in k) }
         ensures none { ((k : KeyInfo) → IsKeyInfo k → k.whole ≢ spki_bytes.now) → Answers KeyringError.OutOfMemory (λ r. r.point) result (Err KeyringError.KeyMalformed) }
+        ensures key_malformed { ComesWhere KeyringError.OutOfMemory result
+            (Err KeyringError.KeyMalformed) (IsMalformedKey spki_bytes.now) }
+        ensures algo_unsupported { ComesWhere KeyringError.OutOfMemory result
+            (Err KeyringError.AlgoUnsupported) (IsOtherKey spki_bytes.now) }
         ensures exact { Answers KeyringError.OutOfMemory (λ r. r.point) result (point_of spki_bytes.now) }
     {
         read_key(alloc, spki_bytes)
     }
 
-    /// Whether the signature over the message is genuine under this key.
+    /// Whether the checker accepts the signature over the message under this key.
     pub(crate) fn verify<C: SignatureChecker>(
         &self,
         message: &[u8],
@@ -69,7 +78,7 @@ fn read_key(alloc: Global, spki: &[u8]) -> Result<Key, KeyringError>
     })
 }
 
-/// The point of a key info.
+/// Returns the point of an SPKI.
 #[tactic(auto, unfolding(crate::specs::Keyring::point_of))]
 fn point_of(spki: &[u8]) -> Result<&[u8], KeyringError>
     ensures { lent_point result ≡ point_of spki.now }
@@ -88,7 +97,7 @@ fn point_of(spki: &[u8]) -> Result<&[u8], KeyringError>
     }
 }
 
-/// The bits as a point of P-256, where the algorithm and its parameters, which stand in the text, say that they are one.
+/// Returns the bits, if the algorithm and its parameters, an element of the text, say that they are a point of P-256.
 fn point_under<'a>(
     text: &[u8],
     bits: &'a [u8],

@@ -1,4 +1,4 @@
-//! `Keyring`: the keys of certificate logs by their ids.
+//! `Keyring`: the keys of Certificate Transparency logs by their ids.
 
 ghost use Rattle.std.specs.Prelude.{◌≡◌, ◌↔◌, ℕ, true, false, option_map, List, None, Ok, IfOk, IfErr, IsErrOf, OnOk};
 ghost use Rattle.std.specs.Option.{option_or};
@@ -13,8 +13,8 @@ use std::alloc::Global;
 use std::collections::BTreeMap;
 use std::marker::Model;
 
-/// The keys of certificate logs, each found by its id without another look at the others (RFC 6962 section 3.2). Contracts see the
-/// list of its entries; `point_at` is the point that it has for an id.
+/// The keys of Certificate Transparency logs, each found by its id without a look at the others (RFC 6962 section 3.2). Contracts
+/// see the list of its entries; `point_at` is the point that it has for an id.
 #[derive(Drop)]
 pub struct Keyring {
     keys: BTreeMap<[u8; 32], Key>,
@@ -30,8 +30,8 @@ impl Model for Keyring {
 }
 
 impl Keyring {
-    /// The keys of these key infos (DER). One that is no point of P-256 is left out; of two with one id the last stands. Refuses
-    /// for want of memory alone.
+    /// Returns the keys of these SPKIs (DER). One that is no point of P-256 is left out; of two with one id the last is kept.
+    /// Fails only if out of memory.
     pub fn new(alloc: Global, keys: &Entries) -> Result<Keyring, KeyringError>
         ensures keys { IfOk result (λ r. (id : List ℕ) → point_at r id ≡ key_of keys.now id) }
         ensures refusal { IfErr result (λ e. e ≡ KeyringError.OutOfMemory) }
@@ -48,7 +48,7 @@ impl Keyring {
         Ok(ring)
     }
 
-    /// Adds the key of a key info in place of one of the same id, or leaves it out.
+    /// Adds the key of an SPKI in place of one of the same id, or leaves it out.
     fn add(&mut self, alloc: Global, spki: &[u8]) -> Result<(), KeyringError>
         ensures ok { OnOk result ((id : List ℕ) → point_at self.new id ≡ option_or (point_if id spki.now) (point_at self.old id)) }
         ensures refusal { IfErr result (λ e. e ≡ KeyringError.OutOfMemory) }
@@ -63,7 +63,7 @@ impl Keyring {
         }
     }
 
-    /// The key of an id.
+    /// Returns the key of an id.
     fn key(&self, id: &[u8; 32]) -> Option<&Key>
         ensures { option_map (λ k. k.now.point) result ≡ point_at self.now id.now }
     {

@@ -1,4 +1,4 @@
-//! Why a certificate log's key, or a signature under such keys, is refused.
+//! Why a key of a Certificate Transparency log, or a signature under such keys, is rejected.
 
 ghost use Rattle.std.specs.Prelude.{◌≡◌};
 ghost use Rattle.sig_timestamp.specs.declared.keyring_error.KeyringError.TheVariants.{OutOfMemory as Memory};
@@ -10,7 +10,7 @@ use thiserror::Error;
 /// Why a key did not get into a keyring, or why a keyring does not vouch for a signature.
 #[derive(Clone, Copy, Debug, PartialEq, Eq, Error)]
 pub enum KeyringError {
-    /// The bytes are no key info, or its parameters are neither an object identifier nor the NULL of an RSA key.
+    /// The bytes are no SPKI, or the parameters of its algorithm are neither an object identifier nor the NULL of an RSA key.
     #[error("KeyMalformed")]
     KeyMalformed,
     /// The key is of another kind than a point of P-256.
@@ -19,10 +19,10 @@ pub enum KeyringError {
     /// The keyring has no key of this id.
     #[error("KeyNotFound")]
     KeyNotFound,
-    /// The signature is not genuine under the key of this id.
+    /// The checker does not accept the signature under the key of this id.
     #[error("VerificationFailed")]
     VerificationFailed,
-    /// No memory could be had.
+    /// Out of memory.
     #[error("OutOfMemory")]
     OutOfMemory,
 }

@@ -1,9 +1,9 @@
-//! The timestamps of certificate logs (RFC 6962): the keys of the logs, the one timestamp that a certificate carries, and the signed part
-//! of the precertificate that it was made over.
+//! Signed certificate timestamps (SCTs) of Certificate Transparency logs (RFC 6962): the keys of the logs, the one SCT that a
+//! certificate carries, and the TBSCertificate of the precertificate that it was made over.
 //!
-//! The layers above use three facts. A keyring has a key exactly where a key info of its id was added, and of equal ids the last. The
-//! timestamp of a certificate is the only one in its only list, or a refusal says why there is none. A timestamp is vouched for exactly
-//! where the checker accepts its signature over the signed bytes, which hold each element of the certificate byte for byte.
+//! The layers above use three facts. A keyring has the last key of an id among those that it was made of. The SCT of a certificate
+//! is the only one in its only list, or an error says why there is none. `verify_sct` returns `Ok` if and only if the key of the
+//! log's id accepts the signature over the bytes that an SCT signs, which have each other element of the certificate byte for byte.
 #![tactic(auto)]
 
 mod embedded;

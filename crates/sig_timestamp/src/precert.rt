@@ -1,4 +1,10 @@
-//! The precertificate's signed part: RFC 6962 section 3.2.
+//! The precertificate's TBSCertificate: RFC 6962 section 3.2.
+//!
+//! ```text
+//! TBSCertificate ::= SEQUENCE {
+//!      version, serialNumber, .., subjectUniqueID        each as it is in the certificate
+//!      extensions  [3] EXPLICIT SEQUENCE OF Extension     without those of 1.3.6.1.4.1.11129.2.4.2 }
+//! ```
 
 ghost use Rattle.std.specs.Prelude.{◌≡◌, [], ◌∷◌, ◌++◌, IfOk, OnOk};
 ghost use Rattle.sig_certificate.specs.Certificate.{IsSignedPart};
@@ -12,9 +18,9 @@ use sig_der::tag::{EXTENSIONS, SEQUENCE};
 use sig_der::write_short;
 use std::alloc::{AllocError, Global};
 
-/// The signed part that a log saw before it issued the certificate's timestamp: the elements of the certificate's signed part, each
-/// byte for byte, without the extensions that list timestamps. Only the lengths of the extensions' element, of its SEQUENCE and of
-/// the whole are written anew; where no extension is left, the element is `a3 02 30 00`. Refuses for want of memory alone.
+/// Returns the TBSCertificate that a log saw before it issued the certificate's SCT: the elements of the certificate's own, each
+/// byte for byte, without the extensions that list SCTs. Only the lengths of the extensions' element, of its SEQUENCE and of the
+/// whole are written anew; if no extension is left, the element is `a3 02 30 00`. Fails only if out of memory.
 pub fn precert_tbs_der(alloc: Global, leaf: &Certificate) -> Result<Bytes, OutOfMemory>
     ensures is { IfOk result (λ t. t ≡ precertificate leaf.now) }
     ensures keeps { IfOk result (IsWithoutScts leaf.now) }
@@ -35,7 +41,7 @@ fn precertificate(alloc: Global, leaf: &Certificate) -> Result<Bytes, OutOfMemor
     }
 }
 
-/// The signed part with the element of the extensions made anew.
+/// Returns the TBSCertificate with the element of the extensions made anew.
 fn made_anew(alloc: Global, leaf: &Certificate) -> Result<Bytes, OutOfMemory>
     requires { HaveSpelling leaf.now }
     ensures { IfOk result (λ t. t ≡ tbs_with leaf.now (kept_extensions leaf.now)) }
@@ -48,7 +54,7 @@ fn made_anew(alloc: Global, leaf: &Certificate) -> Result<Bytes, OutOfMemory>
     write_short(alloc, SEQUENCE, &elements)
 }
 
-/// The whole texts of the extensions that list no timestamps, one after another.
+/// Returns the extensions that list no SCTs, one after another.
 fn kept_extensions(alloc: Global, leaf: &Certificate) -> Result<Vec<u8>, OutOfMemory>
     ensures { IfOk result (λ v. v.items ≡ texts_of (kept_extensions leaf.now)) }
 {
@@ -62,7 +68,7 @@ fn kept_extensions(alloc: Global, leaf: &Certificate) -> Result<Vec<u8>, OutOfMe
     Ok(kept)
 }
 
-/// Appends the extension, if it lists no timestamps.
+/// Appends the extension, if it lists no SCTs.
 fn push_kept(kept: &mut Vec<u8>, extension: ExtensionRef<'_>) -> Result<(), AllocError>
     ensures { OnOk result (kept.new.items ≡ kept.old.items ++ kept_of (lent extension.entry)) }
 {

@@ -1,4 +1,4 @@
-//! Why a timestamp of a certificate log is refused.
+//! Why an SCT is rejected.
 
 ghost use Rattle.std.specs.Prelude.{◌≡◌};
 ghost use Rattle.sig_timestamp.specs.SctErrors.{of_keyring};
@@ -9,34 +9,35 @@ use sig_base::OutOfMemory;
 use std::alloc::{AllocError, AllocFailed};
 use thiserror::Error;
 
-/// Why a certificate's timestamp was not read.
+/// Why a certificate's SCT was not read.
 #[derive(Clone, Copy, Debug, PartialEq, Eq, Error)]
 pub enum CertificateErrorKind {
-    /// The certificate has not exactly one extension that lists timestamps, or that does not list exactly one.
+    /// The certificate has not exactly one extension that lists SCTs, or that does not list exactly one.
     #[error("LeafSCTMissing")]
     LeafSCTMissing,
-    /// The chain does not begin with a certificate authority that issued the certificate.
+    /// The chain does not begin with an issuer: it has no certificate there (the first, or the second if the first only signs
+    /// precertificates), or [`is_ca`](sig_certificate::is_ca) rejects that one. Whether it issued the certificate is not asked.
     #[error("IssuerMissing")]
     IssuerMissing,
-    /// The list of timestamps, or the only timestamp in it, is malformed.
+    /// The list of SCTs, or the only SCT in it, is malformed.
     #[error("LeafSCTMalformed")]
     LeafSCTMalformed,
 }
 
-/// Why a certificate's timestamp was not accepted.
+/// Why a certificate's SCT was not accepted.
 #[derive(Clone, Copy, Debug, PartialEq, Eq, Error)]
 pub enum SCTError {
     /// It was not read.
     #[error("Parsing")]
     Parsing(CertificateErrorKind),
-    /// The bytes that it signs have no spelling: the certificate's body has more than 2^24 - 1 bytes, or the extensions of the
-    /// timestamp have more than 2^16 - 1.
+    /// What it signs cannot be written: the TBSCertificate is longer than 2^24 - 1 bytes, or the extensions of the SCT are longer
+    /// than 2^16 - 1.
     #[error("Serialization")]
     Serialization,
     /// The keyring does not vouch for it.
     #[error("Verification")]
     Verification(KeyringError),
-    /// No memory could be had.
+    /// Out of memory.
     #[error("OutOfMemory")]
     OutOfMemory,
 }

@@ -1,4 +1,17 @@
 //! Lists of signed certificate timestamps in certificates: RFC 6962 sections 3.3 and 3.2.
+//!
+//! ```text
+//! SignedCertificateTimestampList ::= OCTET STRING
+//! opaque SerializedSCT<1..2^16-1>;
+//! struct { SerializedSCT sct_list <1..2^16-1>; } SignedCertificateTimestampList;
+//! struct {
+//!     Version sct_version;                       // v1(0)
+//!     LogID id;                                  // opaque key_id[32]
+//!     uint64 timestamp;                          // milliseconds since 1970
+//!     CtExtensions extensions;                   // opaque <0..2^16-1>
+//!     digitally-signed struct { .. };            // two bytes of its algorithm, and opaque signature<0..2^16-1>
+//! } SignedCertificateTimestamp;
+//! ```
 
 ghost use Rattle.std.specs.Prelude.{◌≡◌, option_map, is_some, length};
 ghost use Rattle.sig_der.specs.Taking.{many_at};
@@ -15,7 +28,7 @@ use sig_der::whole_at;
 /// The version of SCTs (RFC 6962 section 3.2).
 pub(crate) const SCT_V1: u8 = 0;
 
-/// A signed certificate timestamp, lent from its text.
+/// A signed certificate timestamp, borrowed from its bytes.
 #[derive(Clone, Copy)]
 pub(crate) struct LentSct<'a> {
     /// The SHA-256 of the log's key info.
@@ -26,7 +39,7 @@ pub(crate) struct LentSct<'a> {
     pub(crate) signature: &'a [u8],
 }
 
-/// The timestamp that is all of the text.
+/// Returns the SCT that the bytes are. `None` if they are none.
 #[tactic(auto, unfolding(crate::specs::SctList::sct_at, crate::specs::Vectors::bytes_at))]
 pub(crate) fn sct_at(text: &[u8]) -> Option<LentSct<'_>>
     ensures { sct_at text.now ≡ option_map sct_now result }
@@ -54,7 +67,7 @@ fn after_version(text: &[u8]) -> Option<&[u8]>
     }
 }
 
-/// The extensions and the signature, which are all of the text.
+/// Returns the extensions and the signature, if they are all of the bytes.
 #[tactic(auto, unfolding(crate::specs::SctList::signed_at))]
 fn signed_at(bytes: &[u8]) -> Option<(&[u8], &[u8])>
     ensures { signed_at bytes.now ≡ option_map both_now result }
@@ -65,7 +78,7 @@ fn signed_at(bytes: &[u8]) -> Option<(&[u8], &[u8])>
     Some((extensions, signature))
 }
 
-/// The bytes of the list that is the value of an extension, without its lengths.
+/// Returns the bytes of the list that is the value of an extension, without its lengths.
 #[tactic(auto, using(sig_certificate::proofs::Spans::all_part), unfolding(crate::specs::SctList::list_in))]
 pub(crate) fn list_in(value: &[u8]) -> Option<&[u8]>
     ensures { list_in value.now ≡ option_map (λ l. l.now) result }
@@ -74,8 +87,8 @@ pub(crate) fn list_in(value: &[u8]) -> Option<&[u8]>
     whole_vector(&value[string.content..string.end])
 }
 
-/// The only vector of a list of vectors. `LeafSCTMalformed` where the bytes are no such list, `LeafSCTMissing` where it has another
-/// length.
+/// Returns the only vector of a list of vectors. Fails with `LeafSCTMalformed` if the bytes are no such list, with `LeafSCTMissing`
+/// if it has none or several.
 pub(crate) fn only_one(list: &[u8]) -> Result<&[u8], CertificateErrorKind>
     ensures { part_now result ≡ only_one (many_at vector_at list.now) }
 {

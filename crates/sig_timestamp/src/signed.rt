@@ -1,4 +1,16 @@
-//! `DigitallySigned`: what a timestamp signs, and whether a keyring vouches for it (RFC 6962 section 3.2).
+//! `DigitallySigned`: what an SCT signs, and whether a keyring vouches for it (RFC 6962 section 3.2).
+//!
+//! ```text
+//! digitally-signed struct {
+//!     Version sct_version;                                        // v1(0)
+//!     SignatureType signature_type = certificate_timestamp;       // 0
+//!     uint64 timestamp;
+//!     LogEntryType entry_type;                                    // precert_entry(1), in two bytes
+//!     opaque issuer_key_hash[32];
+//!     opaque TBSCertificate<1..2^24-1>;
+//!     opaque CtExtensions<0..2^16-1>;
+//! };
+//! ```
 
 ghost use Rattle.std.specs.Prelude.{◌≡◌, ◌∷◌, ◌++◌, true, false, Ok, Err, IfOk, OnOk};
 ghost use Rattle.sig_base.specs.Answers.{Answers};
@@ -25,18 +37,18 @@ const TBS_CERTIFICATE_MAX: usize = 0xff_ffff;
 /// The length of the longest `CtExtensions<0..2^16-1>`.
 const CT_EXTENSIONS_MAX: usize = 0xffff;
 
-/// What the timestamp of a certificate signs, and its signature.
+/// What the SCT of a certificate signs, and its signature.
 #[derive(Drop)]
 pub struct DigitallySigned {
     /// Milliseconds since 1970.
     pub timestamp: u64,
-    /// The SHA-256 of the issuer's key info.
+    /// The SHA-256 of the issuer's SubjectPublicKeyInfo.
     pub issuer_key_hash: [u8; 32],
-    /// The signed part of the certificate without its lists of timestamps.
+    /// The TBSCertificate without the extensions that list SCTs.
     pub tbs_certificate: Bytes,
-    /// The extensions of the timestamp.
+    /// The extensions of the SCT.
     pub extensions: Bytes,
-    /// The SHA-256 of the log's key info.
+    /// The SHA-256 of the log's SubjectPublicKeyInfo.
     pub log_id: [u8; 32],
     /// The signature.
     pub signature: Bytes,

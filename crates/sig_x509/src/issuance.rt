@@ -21,7 +21,7 @@ fn may_be_critical(oid: &[u8]) -> bool
         || oid == EXTENDED_KEY_USAGE
 }
 
-/// Whether who does not know the extension may accept its certificate.
+/// Whether a certificate with the extension may be accepted: whether it is not critical, or is one that may be critical.
 fn is_understood(extension: &ExtensionRef<'_>) -> bool
     ensures { result ≡ is_understood (lent extension.now) }
 {
@@ -103,7 +103,7 @@ pub(crate) fn signs_code_at(certificate: &Certificate, time: i64) -> bool
         && may_sign_code(certificate)
 }
 
-/// Whether the anchor signed the certificate. The checker is asked only where the anchor's name is that of the issuer.
+/// Whether the anchor signed the certificate. The checker is asked only if the anchor's name is that of the issuer.
 pub(crate) fn is_signed<C: SignatureChecker>(
     certificate: &Certificate,
     anchor: &Certificate,

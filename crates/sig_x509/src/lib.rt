@@ -1,8 +1,8 @@
-//! Pools of anchors: which of them issued a certificate (RFC 5280 sections 4.2 and 6.1, in the profile of Sigstore). The crate hands on
-//! what the three below it have for the same callers: certificates, their timestamps, and policies.
+//! Pools of trust anchors: which of them issued a certificate (RFC 5280 sections 4.2 and 6.1, in the profile of Sigstore). The
+//! crate re-exports what the three below it have for the same callers: certificates, their SCTs, and policies.
 //!
-//! The layer above uses one fact. A pool answers the first anchor that issued the certificate, that the certificate has not the profile
-//! of what an anchor may issue, or that no anchor issued it.
+//! The layer above uses one fact. A pool returns the index of the first trust anchor that issued the certificate, or that the
+//! certificate has not the profile of what a trust anchor may issue, or that none issued it.
 #![tactic(auto)]
 
 mod issuance;
@@ -16,10 +16,10 @@ pub use sig_certificate::{
     verify_validity,
 };
 pub use sig_policy::{
-    GitHubWorkflowName, GitHubWorkflowRef, GitHubWorkflowRepository, GitHubWorkflowSHA,
-    GitHubWorkflowTrigger, Identity, LeafPolicies, LeafPolicy, OIDCIssuer, PolicyError,
-    PolicyErrors, PolicyResult, RequestPolicy, SingleX509ExtPolicy, VerificationPolicy,
-    verify_single,
+    AllOf, AnyOf, GitHubWorkflowName, GitHubWorkflowRef, GitHubWorkflowRepository,
+    GitHubWorkflowSHA, GitHubWorkflowTrigger, Identity, LeafPolicies, LeafPolicy, OIDCIssuer,
+    PolicyError, PolicyErrors, PolicyResult, RequestPolicy, SingleX509ExtPolicy,
+    VerificationPolicy, verify_single,
 };
 pub use sig_timestamp::{
     CertificateEmbeddedSCT, CertificateErrorKind, DigitallySigned, Key, Keyring, KeyringError,

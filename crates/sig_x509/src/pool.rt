@@ -1,4 +1,4 @@
-//! `CertificatePool`: the anchors that may have issued a certificate.
+//! `CertificatePool`: the trust anchors that may have issued a certificate.
 
 ghost use Rattle.std.specs.Prelude.{◌≡◌, ◌↔◌, ℕ, Ok, Err, option_map, slice_get, position, IfOk, IfErr, IsErrOf};
 ghost use Rattle.sig_base.specs.Answers.{Answers};
@@ -14,8 +14,8 @@ use sig_certificate::{Certificate, X509ReadError};
 use std::alloc::Global;
 use std::marker::Model;
 
-/// Anchors, in order: certificates that are trusted by themselves, and have no name constraints. Contracts see the list of their
-/// records.
+/// Trust anchors, in order: certificates that are trusted by themselves, and have no name constraints. Contracts see the list of
+/// their records.
 #[derive(Drop)]
 pub struct CertificatePool {
     anchors: Register<Certificate>,
@@ -30,8 +30,8 @@ impl Model for CertificatePool {
     ghost view = { λ p. p.anchors };
 }
 
-/// The anchor that the bytes are, the text at this place. `Anchor` with the place exactly where they are none; `OutOfMemory` for want
-/// of memory.
+/// Returns the trust anchor that the bytes at this index are. Fails with `Anchor` and the index if and only if they are none, unless
+/// out of memory.
 fn read_anchor(alloc: Global, place: usize, der: &[u8]) -> Result<Certificate, PoolError>
     ensures found { IfOk result (IsAnchor der.now) }
     ensures refused { IfErr result (IsRefusedAt der.now place) }
@@ -81,7 +81,7 @@ impl CertificatePool {
         Ok(CertificatePool { anchors })
     }
 
-    /// The place of the first anchor that issued the leaf, which signs code at the time.
+    /// Returns the index of the first trust anchor that issued the leaf, which signs code at the time.
     fn first_issuer<C: SignatureChecker>(
         &self,
         leaf: &Certificate,
@@ -96,7 +96,7 @@ impl CertificatePool {
             .position(|anchor| is_issued(leaf, time, anchor, checker))
     }
 
-    /// The place of the first anchor that issued the leaf, or why there is none.
+    /// Returns the index of the first trust anchor that issued the leaf, or why there is none.
     fn check<C: SignatureChecker>(
         &self,
         leaf: &Certificate,
@@ -114,24 +114,25 @@ impl CertificatePool {
         }
     }
 
-    /// The place of the first anchor that issued the leaf, which signs code at the time, in seconds since 1970 (RFC 5280 section
-    /// 6.1). It takes no memory, and asks the checker only of anchors whose name is that of the leaf's issuer.
+    /// Returns the index of the first trust anchor that issued the leaf, which signs code at the time, in seconds since 1970 (RFC
+    /// 5280 section 6.1). It takes no memory. The checker's word matters only on trust anchors whose name is that of the leaf's
+    /// issuer. Errors:
     ///
-    /// `Malformed` exactly where the leaf has not the profile: version 3, two equal algorithms, no object identifier of
-    /// extensions twice, no critical extensions but key usage, alternative names, basic constraints and extended key usage, no name
-    /// constraints, and basic constraints that are absent, or well formed and not cA. Then `VerificationFailed` exactly where no
-    /// anchor issued it.
+    /// - `Malformed` if and only if the leaf has not the profile: version 3, two equal algorithms, no duplicate extension, no
+    ///   critical extensions but key usage, alternative names, basic constraints and extended key usage, no name constraints, and
+    ///   basic constraints that are absent, or well formed and not cA;
+    /// - `VerificationFailed` if and only if it has the profile, and no trust anchor issued it.
     pub fn verify_cert_with_time<C: SignatureChecker>(
         &self,
         leaf: &Certificate,
         verification_time: i64,
         checker: &C,
     ) -> Result<usize, PoolError>
-        // A place is answered exactly where the leaf has the profile, the anchor there issued it, and none before it did.
+        // An index is returned if and only if the leaf has the profile, the anchor there issued it, and none before it did.
         ensures issued { (place : ℕ) → (result ≡ Ok place) ↔ (HasProfile leaf.now × IsFirstIssuer (C.cert_accepts checker.now) leaf.now verification_time self.now place) }
-        // `Malformed` is answered exactly where it has not the profile.
+        // `Malformed` is returned if and only if it has not the profile.
         ensures malformed { IsErrOf result PoolError.Malformed ↔ (HasProfile leaf.now → ⊥) }
-        // `VerificationFailed` is answered exactly where it has the profile, and no anchor issued it.
+        // `VerificationFailed` is returned if and only if it has the profile, and no anchor issued it.
         ensures none { IsErrOf result PoolError.VerificationFailed ↔ (HasProfile leaf.now × IsIssuedByNone (C.cert_accepts checker.now) leaf.now verification_time self.now) }
         // Of the anchors that the checker is not asked about, its word does not matter: another checker that says the same of the
         // others has the same result.
@@ -143,7 +144,7 @@ impl CertificatePool {
         self.check(leaf, verification_time, checker)
     }
 
-    /// The answer for the certificate that the bytes are.
+    /// Returns the result for the certificate that the bytes are.
     fn check_der<C: SignatureChecker>(
         &self,
         alloc: Global,
@@ -160,9 +161,10 @@ impl CertificatePool {
         }
     }
 
-    /// The place of the first anchor that issued the certificate that the bytes are: the answers of `verify_cert_with_time`, and
-    /// `Malformed` also exactly where the bytes are no certificate. `OutOfMemory` where the certificate could not be read for want
-    /// of memory.
+    /// Returns what `verify_cert_with_time` returns for the certificate that the bytes are. Errors besides:
+    ///
+    /// - `Malformed` also if the bytes are no certificate;
+    /// - `OutOfMemory`.
     pub fn verify_der_cert<C: SignatureChecker>(
         &self,
         alloc: Global,
@@ -170,12 +172,12 @@ impl CertificatePool {
         verification_time: i64,
         checker: &C,
     ) -> Result<usize, PoolError>
-        // A place is answered exactly where the bytes are a certificate with the profile, the anchor there issued it, and none
+        // An index is returned if and only if the bytes are a certificate with the profile, the anchor there issued it, and none
         // before it did, unless memory ran out.
         ensures issued { (place : ℕ) → ComesWhere PoolError.OutOfMemory result (Ok place) (IsIssuedText (C.cert_accepts checker.now) der.now verification_time self.now place) }
-        // `Malformed` is answered exactly where the bytes are no certificate with the profile, unless memory ran out.
+        // `Malformed` is returned if and only if the bytes are no certificate with the profile, unless memory ran out.
         ensures malformed { ComesWhere PoolError.OutOfMemory result (Err PoolError.Malformed) (HasNoProfile der.now) }
-        // `VerificationFailed` is answered exactly where they are one, and no anchor issued it, unless memory ran out.
+        // `VerificationFailed` is returned if and only if they are one, and no anchor issued it, unless memory ran out.
         ensures failed { ComesWhere PoolError.OutOfMemory result (Err PoolError.VerificationFailed) (IsUnissuedText (C.cert_accepts checker.now) der.now verification_time self.now) }
         // Of a certificate, the answer is that of its record.
         ensures certificate { (c : Cert) → IsCertificate der.now c → Answers PoolError.OutOfMemory (λ place. place) result (issuer_of (C.cert_accepts checker.now) self.now c verification_time) }
@@ -189,8 +191,8 @@ impl CertificatePool {
         self.check_der(alloc, der, verification_time, checker)
     }
 
-    /// The key info (DER) of the anchor at this place, counted from 0. None exactly where the place is not below the number of
-    /// anchors.
+    /// Returns the SubjectPublicKeyInfo (DER) of the trust anchor at this index. `None` if and only if the index is not below the
+    /// number of trust anchors.
     pub fn anchor_spki(&self, place: usize) -> Option<&[u8]>
         ensures { option_map (λ s. s.now) result ≡ option_map (λ c. c.spki) (slice_get self.now place) }
     {
