@@ -1,4 +1,13 @@
-//! What kind of key a text is.
+//! What kind of key a SubjectPublicKeyInfo (SPKI) has.
+//!
+//! ```text
+//! SubjectPublicKeyInfo ::= SEQUENCE {          -- RFC 5280 section 4.1.2.7
+//!     algorithm         AlgorithmIdentifier,   -- id-ecPublicKey with a curve (RFC 5480 section 2.1.1), rsaEncryption
+//!     subjectPublicKey  BIT STRING }           -- (RFC 8017 appendix A.1) or id-Ed25519 (RFC 8410 section 3)
+//! AlgorithmIdentifier ::= SEQUENCE {           -- RFC 5280 section 4.1.1.2
+//!     algorithm         OBJECT IDENTIFIER,
+//!     parameters        ANY DEFINED BY algorithm OPTIONAL }
+//! ```
 ghost use Rattle.std.specs.Prelude.{◌≡◌, length, option_map};
 ghost use Rattle.sig_der.specs.Lent.{piece_of};
 ghost use Rattle.sig_der.specs.KeyInfoPlaces.{algorithm_of, IsKeyInfoWithin};
@@ -9,18 +18,18 @@ use sig_base::VerifyScheme;
 use sig_der::tag::OBJECT_IDENTIFIER;
 use sig_der::{Element, KeyInfoPlaces, oid, whole_key_info};
 
-/// What kind of key a text is.
+/// What kind of key some bytes are.
 #[derive(Clone, Copy, PartialEq, Eq)]
 pub enum KeyKind {
-    /// The text is no key info.
+    /// The bytes are no SPKI.
     NoKeyInfo,
-    /// A key info of no scheme that is known.
+    /// An SPKI of another algorithm or curve.
     Unsupported,
     /// A key that signatures are checked with under this scheme.
     Scheme(VerifyScheme),
 }
 
-/// The scheme of a curve by its object identifier.
+/// Returns the scheme of a curve by its object identifier.
 fn curve_of(curve: &[u8]) -> Option<VerifyScheme>
     ensures { result ≡ curve_scheme curve.now }
 {
@@ -35,7 +44,7 @@ fn curve_of(curve: &[u8]) -> Option<VerifyScheme>
     }
 }
 
-/// The scheme of the curve that the parameters name.
+/// Returns the scheme of the curve that the parameters name.
 fn curve_of_parameters(parameters: Option<Element<'_>>) -> Option<VerifyScheme>
     ensures { result ≡ parameters_scheme (option_map piece_of parameters.entry) }
 {
@@ -51,7 +60,7 @@ fn curve_of_parameters(parameters: Option<Element<'_>>) -> Option<VerifyScheme>
     }
 }
 
-/// The scheme of an algorithm by its object identifier and parameters.
+/// Returns the scheme of an algorithm by its object identifier and parameters.
 fn scheme_of(algorithm: &[u8], parameters: Option<Element<'_>>) -> Option<VerifyScheme>
     ensures { result ≡ scheme_by algorithm.now (option_map piece_of parameters.entry) }
 {
@@ -66,7 +75,7 @@ fn scheme_of(algorithm: &[u8], parameters: Option<Element<'_>>) -> Option<Verify
     }
 }
 
-/// The scheme of the key info at the places.
+/// Returns the scheme of the SPKI at these indices.
 fn scheme_at(spki: &[u8], info: KeyInfoPlaces) -> Option<VerifyScheme>
     requires { IsKeyInfoWithin 0 (length spki.now) info }
     ensures { result ≡ algorithm_scheme (algorithm_of spki.now info.algorithm) }
@@ -99,13 +108,13 @@ fn kind_of(spki: &[u8]) -> KeyKind
     }
 }
 
-/// The kind of key that the text is: a SubjectPublicKeyInfo with an elliptic curve key on P-256, P-384 or P-521, with an RSA key or
+/// Returns the kind of key that the bytes are: a SubjectPublicKeyInfo with an elliptic curve key on P-256, P-384 or P-521, with an RSA key or
 /// with an Ed25519 key, the last two with any parameters or none; another SubjectPublicKeyInfo; or none at all. Takes no memory.
 pub fn key_kind(spki: &[u8]) -> KeyKind
     // The kind that the definition gives, and no other.
     ensures is { IsKind spki.now result }
     ensures only { (kind : Kind) → IsKind spki.now kind → kind ≡ result }
-    // What the plain reader answers.
+    // What the plain reader returns.
     ensures exact { result ≡ key_kind spki.now }
 {
     kind_of(spki)

@@ -9,7 +9,7 @@ ghost use Rattle.sig_key.specs.Signature.{text_bytes, without_line_ends};
 use sig_base::{Bytes, OutOfMemory, Result, SigstoreError};
 use std::alloc::Global;
 
-/// A signature, as it is handed in.
+/// A signature, as bytes or as text.
 #[derive(Clone, Copy)]
 pub enum Signature<'a> {
     /// The signature's bytes.
@@ -21,8 +21,10 @@ pub enum Signature<'a> {
 impl<'a> Signature<'a> {
     ghost use Rattle.sig_key.specs.Signature.{signature_bytes};
 
-    /// The signature's bytes: raw ones unchanged; those of a text in strict base64 (padded and canonical); else those of the text without
-    /// line feeds and carriage returns. Refuses with `Base64DecodeError` exactly where neither is strict base64.
+    /// Returns the signature's bytes: raw ones unchanged; those of a text in strict base64 (padded and canonical); else those of the text
+    /// without line feeds and carriage returns. Errors:
+    /// - `Base64DecodeError`: neither is strict base64;
+    /// - `OutOfMemory`.
     pub fn decode_bytes(&self, alloc: Global) -> Result<Bytes>
         ensures { Answers Memory (λ b. b) result (ok_or (signature_bytes self.now) Base64DecodeError) }
     {
@@ -33,7 +35,7 @@ impl<'a> Signature<'a> {
     }
 }
 
-/// The bytes of a base64 text, maybe in lines.
+/// Returns the bytes of a base64 text, maybe in lines.
 #[tactic(auto, unfolding(crate::specs::Signature::text_bytes))]
 pub(crate) fn decode_text(alloc: Global, text: &[u8]) -> Result<Bytes>
     ensures { Answers Memory (λ b. b) result (ok_or (text_bytes text.now) Base64DecodeError) }
@@ -48,7 +50,7 @@ pub(crate) fn decode_text(alloc: Global, text: &[u8]) -> Result<Bytes>
     }
 }
 
-/// The text without line feeds and carriage returns.
+/// Returns the text without line feeds and carriage returns.
 fn join_lines(alloc: Global, text: &[u8]) -> std::result::Result<Vec<u8>, OutOfMemory>
     ensures { IfOk result (λ v. v.items ≡ without_line_ends text.now) }
 {

@@ -13,7 +13,7 @@ use crate::signature::{Signature, decode_text};
 use sig_base::{Bytes, Result, SignatureChecker, SigningScheme, SigstoreError, VerifyScheme};
 use std::alloc::Global;
 
-/// A key that checks signatures: the scheme, over the DER of its key info (SubjectPublicKeyInfo, RFC 5280 section 4.1).
+/// A key that checks signatures: the scheme, over the DER of its SubjectPublicKeyInfo (SPKI, RFC 5280 section 4.1.2.7).
 #[allow(non_camel_case_types)]
 #[derive(Drop)]
 pub enum CosignVerificationKey {
@@ -32,7 +32,7 @@ pub enum CosignVerificationKey {
 }
 
 impl CosignVerificationKey {
-    /// The key of this scheme with a copy of this DER, whatever it holds. Refuses for want of memory alone.
+    /// Returns the key of this scheme with a copy of this DER, whatever it holds. Fails if out of memory alone.
     pub fn from_der(
         alloc: Global,
         der: &[u8],
@@ -46,10 +46,10 @@ impl CosignVerificationKey {
         Ok(CosignVerificationKey::with_scheme(spki, signing_scheme.scheme()))
     }
 
-    /// The key of the key info that the DER is, by its kind ([`key_kind`]).
-    ///
-    /// Refuses with `KeyParsingError` exactly where the DER is no key info, and with `PublicKeyUnsupportedAlgorithmError` exactly where it is
-    /// one of no scheme that is known.
+    /// Returns the key of an SPKI, by its kind ([`key_kind`]). Errors:
+    /// - `KeyParsingError`: the bytes are no SPKI;
+    /// - `PublicKeyUnsupportedAlgorithmError`: they are one of another algorithm or curve;
+    /// - `OutOfMemory`.
     pub fn try_from_der(alloc: Global, der: &[u8]) -> Result<CosignVerificationKey>
         ensures answer { Answers Memory key_parts result (kind_answer der.now (key_kind der.now)) }
         ensures kind { IsKind der.now (key_kind der.now) }
@@ -65,7 +65,7 @@ impl CosignVerificationKey {
         }
     }
 
-    /// The same as [`CosignVerificationKey::try_from_der`], as the crate names it for the key info of a certificate.
+    /// The same as [`CosignVerificationKey::try_from_der`], as the crate names it for the SPKI of a certificate.
     pub fn try_from_spki(alloc: Global, spki: &[u8]) -> Result<CosignVerificationKey>
         ensures answer { Answers Memory key_parts result (kind_answer spki.now (key_kind spki.now)) }
         ensures kind { IsKind spki.now (key_kind spki.now) }
@@ -74,7 +74,7 @@ impl CosignVerificationKey {
         CosignVerificationKey::try_from_der(alloc, spki)
     }
 
-    /// The key of this scheme over the DER.
+    /// Returns the key of this scheme over the DER.
     fn with_scheme(spki: Bytes, scheme: VerifyScheme) -> CosignVerificationKey
         ensures scheme { key_scheme result ≡ scheme }
         ensures info { key_info result ≡ spki }
@@ -95,7 +95,7 @@ impl CosignVerificationKey {
         }
     }
 
-    /// The scheme that signatures are checked under.
+    /// Returns the scheme that signatures are checked under.
     pub fn scheme(&self) -> VerifyScheme
         ensures { result ≡ key_scheme self.now }
     {
@@ -112,7 +112,7 @@ impl CosignVerificationKey {
         }
     }
 
-    /// The DER of the key info.
+    /// Returns the DER of the SPKI.
     pub fn spki(&self) -> &[u8]
         ensures { result.now ≡ key_info self.now }
     {
@@ -126,17 +126,19 @@ impl CosignVerificationKey {
         }
     }
 
-    /// Whether the checker takes `signature` over `msg` for this key's. It takes no memory.
+    /// Whether the checker accepts `signature` over `msg` as this key's. It takes no memory. The checker is asked once: one that hashes the
+    /// message hashes it in each call.
     pub fn accepts<C: SignatureChecker>(&self, signature: &[u8], msg: &[u8], checker: &C) -> bool
         ensures { result ≡ key_accepts (C.spki_accepts checker.now) self.now msg.now signature.now }
     {
         checker.verify_spki(self.scheme(), self.spki(), msg, signature)
     }
 
-    /// Checks that `signature` over `msg` is this key's. A raw signature is checked where it lies, and then no memory is taken.
-    ///
-    /// Refuses with `Base64DecodeError` where the signature's text has no bytes, as [`Signature::decode_bytes`] does; else with
-    /// `PublicKeyVerificationError` exactly where the checker refuses them.
+    /// Checks that `signature` over `msg` is this key's. A raw signature is checked in place, without memory. A checker that hashes the message
+    /// hashes it in each call: for many signatures over one long message, [`CosignVerificationKey::verify_prehash`] takes its digest. Errors:
+    /// - `Base64DecodeError`: the signature's text has no bytes, as [`Signature::decode_bytes`] says;
+    /// - `PublicKeyVerificationError`: the checker does not accept them;
+    /// - `OutOfMemory`, of a text alone.
     pub fn verify_signature<C: SignatureChecker>(
         &self,
         alloc: Global,
@@ -158,11 +160,10 @@ impl CosignVerificationKey {
         }
     }
 
-    /// Checks that `signature` over the message of the digest `msg` is this key's. A raw signature is checked where it lies, and then no
-    /// memory is taken.
-    ///
-    /// Refuses with `Base64DecodeError` where the signature's text has no bytes, as [`Signature::decode_bytes`] does; else with
-    /// `PublicKeyVerificationError` exactly where the checker refuses them.
+    /// Checks that `signature` over the message of the digest `msg` is this key's. A raw signature is checked in place, without memory. Errors:
+    /// - `Base64DecodeError`: the signature's text has no bytes, as [`Signature::decode_bytes`] says;
+    /// - `PublicKeyVerificationError`: the checker does not accept them;
+    /// - `OutOfMemory`, of a text alone.
     pub fn verify_prehash<C: SignatureChecker>(
         &self,
         alloc: Global,

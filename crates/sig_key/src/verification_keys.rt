@@ -25,7 +25,7 @@ impl Model for VerificationKeys {
 }
 
 impl VerificationKeys {
-    /// A map without entries. It takes no memory.
+    /// Returns a map without entries. It takes no memory.
     pub fn new(alloc: Global) -> VerificationKeys
         ensures { result ≡ [] }
     {
@@ -34,7 +34,7 @@ impl VerificationKeys {
         }
     }
 
-    /// The key of a text; none where the text is not there.
+    /// Returns the key of a text, or `None` if the text has none.
     pub fn get(&self, key: &str) -> Option<&CosignVerificationKey>
         ensures value { option_copied result ≡ text_lookup key.now self.now }
         ensures ordered { KeysAscend self.now }
@@ -42,7 +42,8 @@ impl VerificationKeys {
         self.keys.get(key)
     }
 
-    /// Gives a text this key, in place of the one that it may have. Refuses for want of memory alone; the map is then as before.
+    /// Gives a text this key, in place of the one that it may have. Fails if out of memory alone; the map is then
+    /// unchanged.
     pub fn insert(&mut self, key: &str, value: CosignVerificationKey) -> Result<()>
         ensures ok { OnOk result (self.new ≡ text_put key.now value self.old) }
         ensures err { OnErr result (self.new ≡ self.old) }

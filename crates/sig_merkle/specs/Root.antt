@@ -6,11 +6,11 @@
 use Rattle.std.specs.Prelude.{ℕ, zero, suc, ◌^◌, List, [], ◌∷◌, ◌++◌, length, take, drop, nat_lt, if◌then◌else◌}
 use Rattle.sig_base.specs.Sha256.{sha256}
 
--- the hash of a leaf: SHA-256 of 00 and the entry
+-- the hash of a leaf: SHA-256 of 0x00 and the entry
 abbrev pub leaf_of : List ℕ → List ℕ
 leaf_of entry = sha256 (0 ∷ entry)
 
--- the hash of a node: SHA-256 of 01 and its children's hashes, the left one first
+-- the hash of a node: SHA-256 of 0x01 and its children's hashes, the left one first
 abbrev pub node_of : List ℕ → List ℕ → List ℕ
 node_of left right = sha256 (1 ∷ left ++ right)
 

@@ -7,20 +7,20 @@ use sha2::{Digest, Sha256};
 use sig_base::Steps;
 use std::sync::ledger::Ledger;
 
-/// What the text of a leaf begins with (RFC 6962 section 2.1).
-const LEAF_HASH_PREFIX: u8 = 0;
+/// The byte before a leaf's entry in the hash of the leaf (RFC 6962 section 2.1).
+const LEAF_HASH_PREFIX: u8 = 0x00;
 
-/// What the text of a node begins with, so that no node has the text of a leaf.
-const NODE_HASH_PREFIX: u8 = 1;
+/// The byte before the children's hashes in the hash of a node, so that no node is hashed as a leaf (RFC 6962 section 2.1).
+const NODE_HASH_PREFIX: u8 = 0x01;
 
-/// The root of a tree without entries: SHA-256 of nothing.
+/// Returns the root of a tree without entries: SHA-256 of nothing (RFC 6962 section 2.1).
 pub fn empty_root() -> [u8; 32]
     ensures { result ≡ sha256 [] }
 {
     Sha256::new().finalize()
 }
 
-/// The hash of a leaf: SHA-256 of 00 and the entry's bytes.
+/// Returns the hash of a leaf: SHA-256 of 0x00 and the entry's bytes (RFC 6962 section 2.1).
 pub fn hash_leaf(leaf: &[u8]) -> [u8; 32]
     ensures { result ≡ leaf_of leaf.now }
 {
@@ -30,7 +30,7 @@ pub fn hash_leaf(leaf: &[u8]) -> [u8; 32]
     hasher.finalize()
 }
 
-/// The hash of a node: SHA-256 of 01, the left child's hash and the right child's.
+/// Returns the hash of a node: SHA-256 of 0x01, the left child's hash and the right child's (RFC 6962 section 2.1).
 pub fn hash_children(left: &[u8], right: &[u8]) -> [u8; 32]
     ensures { result ≡ node_of left.now right.now }
 {
@@ -41,7 +41,7 @@ pub fn hash_children(left: &[u8], right: &[u8]) -> [u8; 32]
     hasher.finalize()
 }
 
-/// The hash of a node of a path, which is one step.
+/// Returns the hash of a node of a path, which is one step.
 pub(crate) fn hash_step<L: Ledger>(
     left: &[u8; 32],
     right: &[u8; 32],

@@ -8,11 +8,12 @@ use crate::split::split_point;
 use sig_base::{MerkleProofError, RootHex, Steps};
 use std::sync::ledger::Ledger;
 
-/// The root that an audit path leads to from the hash of the leaf at the index, in a tree of
-/// this size (RFC 6962 section 2.1.1). A step is one hash of two children.
+/// Returns the root that an audit path leads to from the hash of the leaf at the index, in a tree
+/// of this size (RFC 6962 section 2.1.1). A step is one hash of two children; an error takes none.
 ///
-/// `IndexGtTreeSize` where the index is not below the size; then `WrongProofSize` where the
-/// number of hashes is not that of such a path, with both numbers. A refusal takes no step.
+/// Errors, in this order:
+/// - `IndexGtTreeSize`: the index is not below the size;
+/// - `WrongProofSize`: the number of hashes, `got`, is not that of such a path, `want`.
 #[tactic(auto, using(crate::proofs::InclusionLaws::finds_root))]
 pub fn root_from_inclusion_proof<L: Ledger>(
     index: u64,
@@ -37,12 +38,13 @@ pub fn root_from_inclusion_proof<L: Ledger>(
     Ok(fold_path(index, leaf_hash, tree_size, proof_hashes, steps))
 }
 
-/// Checks that the leaf of this hash stands at the index of the tree of this size and root
+/// Checks that the leaf of this hash is at the index of the tree of this size and root
 /// (RFC 6962 section 2.1.1). A step is one hash of two children.
 ///
-/// `IndexGtTreeSize` where the index is not below the size; then `WrongProofSize` where the
-/// number of hashes is not that of such a path, with both numbers; then `MismatchedRoot` where
-/// the root that the path leads to, `expected`, is not the handed one, `got`.
+/// Errors, in this order:
+/// - `IndexGtTreeSize`: the index is not below the size;
+/// - `WrongProofSize`: the number of hashes, `got`, is not that of such a path, `want`;
+/// - `MismatchedRoot`: the root that the path leads to, `expected`, is not this one, `got`.
 #[tactic(auto, using(crate::proofs::InclusionLaws::passes_refusal))]
 pub fn verify_inclusion<L: Ledger>(
     index: u64,
@@ -70,7 +72,7 @@ pub fn verify_inclusion<L: Ledger>(
     Ok(())
 }
 
-/// The number of hashes of the path of the leaf at the index, at most 64.
+/// Returns the number of hashes of the audit path of the leaf at the index, at most 64.
 #[tactic(auto, using(crate::proofs::PathSteps::counts_path))]
 fn proof_len(index: u64, size: u64) -> u64
     requires { index < size }
@@ -88,7 +90,7 @@ fn proof_len(index: u64, size: u64) -> u64
     }
 }
 
-/// The root of a path of the right number of hashes, from the root's children downward.
+/// Returns the root of an audit path of the right number of hashes, from the root's children downward.
 fn fold_path<L: Ledger>(
     index: u64,
     leaf_hash: &[u8; 32],

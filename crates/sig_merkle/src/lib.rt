@@ -2,8 +2,8 @@
 //! is in it.
 //!
 //! - `hashing`: the hash of nothing, of a leaf and of a node.
-//! - `inclusion`: the root that an audit path leads to, and the check against a root. The answer
-//!   is the definition `inclusion_answer`; it is Ok exactly where `IsIncluded` holds.
+//! - `inclusion`: the root that an audit path leads to, and the check against a root. The result
+//!   is the definition `inclusion_answer`; it is Ok if and only if `IsIncluded` holds.
 //! - `uncounted`: the same check for a caller that counts no steps. The crates above call this.
 //! - `laws`: what the definitions mean, in the standard's own words. It has no code.
 #![tactic(auto)]

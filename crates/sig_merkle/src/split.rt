@@ -2,7 +2,7 @@
 ghost use Rattle.std.specs.Prelude.{◌<◌};
 ghost use Rattle.sig_merkle.specs.Split.{IsSplit};
 
-/// The largest power of two below the size (RFC 6962 section 2.1).
+/// Returns the largest power of two below the size (RFC 6962 section 2.1).
 pub(crate) fn split_point(size: u64) -> u64
     requires { 1 < size }
     ensures { IsSplit size result }

@@ -6,8 +6,8 @@ use sig_base::{MerkleProofError, Steps};
 use std::marker::Brand;
 use std::sync::ledger::{Blank, Ledger};
 
-/// Checks that the leaf of this hash stands at the index of the tree of this size and root, as
-/// `verify_inclusion` of this crate does, with the same refusals.
+/// Checks that the leaf of this hash is at the index of the tree of this size and root, as
+/// `verify_inclusion` of this crate does, with the same errors.
 pub fn verify_inclusion(
     index: u64,
     leaf_hash: &[u8; 32],
