@@ -318,7 +318,7 @@ def real_certificates():
         case("its parts are where OpenSSL says", "certificate " + spelled(content), line)
         case("as PEM", "der_to_pem " + spelled(content), answer('"%s"' % fixture.pem(content).replace("\n", "\\n")))
         case("no shorter and no longer text is a certificate", "cut " + spelled(content), answer(len(content)))
-        for mask in [1, 2, 4, 8, 16, 32, 64, 128, 255]:
+        for mask in [0x01, 0x02, 0x20, 0x80, 0xFF]:
             case("flipped in each byte: %02x" % mask, "flipped %02x %s" % (mask, spelled(content)), flipped(content, mask))
     group("its extensions by their object identifiers")
     for cause, oid, expected in [
