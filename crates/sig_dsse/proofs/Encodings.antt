@@ -22,7 +22,8 @@ decimal-spaceless : (n : ℕ) → n < 2 ^ 64 → HasNoSpace (decimal n)
 decimal-spaceless n small = digits-spaceless (decimal n) (decimal_is_IsNumeral n small).0.1
 
 -- what stands before the first space, and behind it
-at_space : (a b rest other : List ℕ) → HasNoSpace a → HasNoSpace b → a ++ 32 ∷ rest ≡ b ++ 32 ∷ other → (a ≡ b) × (rest ≡ other)
+at_space : (a b rest other : List ℕ) → HasNoSpace a → HasNoSpace b → a ++ 32 ∷ rest ≡ b ++ 32 ∷ other
+    → (a ≡ b) × (rest ≡ other)
 at_space [] [] rest other free free_too same = (refl, cc)
 at_space [] (y ∷ b) rest other free free_too same = absurd (free_too.0 (let f : y ≡ 32 = cc in f))
 at_space (x ∷ a) [] rest other free free_too same = absurd (free.0 (let f : x ≡ 32 = cc in f))
@@ -51,8 +52,11 @@ pub pae-injective : PaeIsInjective
 unfolding pae
 pae-injective type_1 payload_1 type_2 payload_2 t1 p1 t2 p2 same =
     let numbered = behind (codes "DSSEv1 ") _ _ same in
-    let typed = at_space (decimal (length type_1)) (decimal (length type_2)) _ _ (decimal-spaceless (length type_1) t1) (decimal-spaceless (length type_2) t2) numbered in
-    let types = at_length type_1 type_2 _ _ (decimal_injective (length type_1) (length type_2) t1 t2 typed.0) typed.1 in
+    let typed = at_space (decimal (length type_1)) (decimal (length type_2)) _ _ (decimal-spaceless (length type_1) t1)
+    (decimal-spaceless (length type_2) t2) numbered in
+    let types = at_length type_1 type_2 _ _ (decimal_injective (length type_1) (length type_2) t1 t2 typed.0)
+    typed.1 in
     let paid = behind (codes " ") _ _ types.1 in
-    let payloads = at_space (decimal (length payload_1)) (decimal (length payload_2)) _ _ (decimal-spaceless (length payload_1) p1) (decimal-spaceless (length payload_2) p2) paid in
+    let payloads = at_space (decimal (length payload_1)) (decimal (length payload_2)) _ _
+    (decimal-spaceless (length payload_1) p1) (decimal-spaceless (length payload_2) p2) paid in
     (types.0, payloads.1)

@@ -30,20 +30,28 @@ answers {P} r p is decides = subst (λ b. Decides b P) (sym is) decides
 
 -- ---- envelopes
 
-signature-of_parts : (s t k l : List ℕ) → (s ≡ t) × (k ≡ l) → ◌≡◌ {A = DsseSignature} (record { sig = s; keyid = k }) (record { sig = t; keyid = l })
+signature-of_parts : (s t k l : List ℕ) → (s ≡ t) × (k ≡ l)
+    → ◌≡◌ {A = DsseSignature} (record { sig = s; keyid = k }) (record { sig = t; keyid = l })
 signature-of_parts s t k l e = rw (e.0, e.1) refl
 
 pub signature_eq-tells : (a b : DsseSignature) → Decides ((signature_eq.ghosts).eq a b) (a ≡ b)
 signature_eq-tells a b =
-    told _ (signature-of_parts a.sig b.sig a.keyid b.keyid) (λ e. (ap (λ (s : DsseSignature). s.sig) e, ap (λ (s : DsseSignature). s.keyid) e))
+    told _ (signature-of_parts a.sig b.sig a.keyid b.keyid)
+    (λ e. (ap (λ (s : DsseSignature). s.sig) e, ap (λ (s : DsseSignature). s.keyid) e))
     (both _ _ (bytes_eq-tells a.sig b.sig) (bytes_eq-tells a.keyid b.keyid))
 
 envelope-of_parts : (p q t u : List ℕ) → (ss zs : List DsseSignature) → (p ≡ q) × ((t ≡ u) × (ss ≡ zs))
-    → ◌≡◌ {A = DsseEnvelope} (record { payload = p; payload_type = t; signatures = ss }) (record { payload = q; payload_type = u; signatures = zs })
+    → ◌≡◌ {A = DsseEnvelope} (record { payload = p; payload_type = t; signatures = ss })
+    (record { payload = q; payload_type = u; signatures = zs })
 envelope-of_parts p q t u ss zs e = rw (e.0, e.1.0, e.1.1) refl
 
 pub envelope_eq-tells : (a b : DsseEnvelope) → Decides ((envelope_eq.ghosts).eq a b) (a ≡ b)
 envelope_eq-tells a b =
     told _ (envelope-of_parts a.payload b.payload a.payload_type b.payload_type a.signatures b.signatures)
-    (λ e. (ap (λ (x : DsseEnvelope). x.payload) e, (ap (λ (x : DsseEnvelope). x.payload_type) e, ap (λ (x : DsseEnvelope). x.signatures) e)))
-    (both _ _ (bytes_eq-tells a.payload b.payload) (both _ _ (bytes_eq-tells a.payload_type b.payload_type) (slice_eq-Decides signature_eq-tells a.signatures b.signatures _ refl)))
+    (λ e. (
+      ap (λ (x : DsseEnvelope). x.payload) e,
+      (ap (λ (x : DsseEnvelope). x.payload_type) e, ap (λ (x : DsseEnvelope). x.signatures) e),
+    ))
+    (both _ _ (bytes_eq-tells a.payload b.payload)
+    (both _ _ (bytes_eq-tells a.payload_type b.payload_type)
+    (slice_eq-Decides signature_eq-tells a.signatures b.signatures _ refl)))

@@ -1,5 +1,6 @@
 -- Each fault of a statement comes if and only if it has its cause.
-use Rattle.std.proofs.Common.{◌≡◌, ◌≢◌, ◌≤◌, ◌<◌, ◌⊎◌, inl, inr, ℕ, Bool, true, false, cond, nat_lt, List, [], ◌∷◌, ◌++◌, length, Option, Some, None, Result, Ok, Err, refl, sym, ap, subst, ◌∙◌, arith}
+use Rattle.std.proofs.Common.{◌≡◌, ◌≢◌, ◌≤◌, ◌<◌, ◌⊎◌, inl, inr, ℕ, Bool, true, false, cond, nat_lt, List, [], ◌∷◌}
+use Rattle.std.proofs.Common.{◌++◌, length, Option, Some, None, Result, Ok, Err, refl, sym, ap, subst, ◌∙◌, arith}
 use Rattle.std.proofs.lemmas.Bool.{cases_Bool, ltb-false, ltb-true, le-ltb, lt-ltb}
 use Rattle.std.proofs.lemmas.Slice.Eq.{bytes_eq-Decides}
 use Rattle.std.specs.Bool.{Decides}
@@ -16,10 +17,13 @@ use Rattle.sig_dsse.specs.declared.artifact_digest.ArtifactDigest.TheVariants.{S
 use Rattle.sig_dsse.specs.declared.recognized.DigestName.{DigestName}
 use Rattle.sig_dsse.specs.declared.recognized.DigestName.TheVariants.{Sha256 as NamedSha256, Sha512 as NamedSha512}
 use Rattle.sig_dsse.specs.declared.recognized.SubjectFault.{SubjectFault}
-use Rattle.sig_dsse.specs.declared.recognized.SubjectFault.TheVariants.{TooManySubjects, TooManyDigests, Malformed, NoneRecognized, OutOfMemory}
-use Rattle.sig_dsse.specs.Faults.{IsFirst, spelling, IsDigestText, IsMalformed, IsWellFormed, IsSound, HasTooMany, HasMalformed, IsCauseOf, DigitsAreOfTheHash, FaultsHaveTheirCause}
+use Rattle.sig_dsse.specs.declared.recognized.SubjectFault.TheVariants.{TooManySubjects, TooManyDigests, Malformed}
+use Rattle.sig_dsse.specs.declared.recognized.SubjectFault.TheVariants.{NoneRecognized, OutOfMemory}
+use Rattle.sig_dsse.specs.Faults.{IsFirst, spelling, IsDigestText, IsMalformed, IsWellFormed, IsSound, HasTooMany}
+use Rattle.sig_dsse.specs.Faults.{HasMalformed, IsCauseOf, DigitsAreOfTheHash, FaultsHaveTheirCause}
 use Rattle.sig_dsse.specs.Named.{named, IsWithinLimits}
-use Rattle.sig_dsse.specs.Recognized.{digest_or_malformed, digests_of_each, entry_digest, map_digests, not_none, digests_of_maps, digests_or_fault, most_digests}
+use Rattle.sig_dsse.specs.Recognized.{digest_or_malformed, digests_of_each, entry_digest, map_digests, not_none}
+use Rattle.sig_dsse.specs.Recognized.{digests_of_maps, digests_or_fault, most_digests}
 use Rattle.sig_dsse.specs.Statement.{DigestTexts, Statement, digest_maps}
 use Rattle.sig_dsse.proofs.NamedDigests.{finds_none}
 
@@ -41,11 +45,20 @@ record Tells {A : Type 0} (f : A → Collected) (Good : A → Type 0) (Cause : S
   caused : (x : A) (fault : SubjectFault) → f x ≡ Err fault → Cause fault x
   told : (x : A) (fault : SubjectFault) → Cause fault x → f x ≡ Err fault
 
-behind : {A : Type 0} (Good Bad : A → Type 0) (x : A) (xs : List A) → Good x → IsFirst Good Bad xs → IsFirst Good Bad (x ∷ xs)
+behind : {A : Type 0} (Good Bad : A → Type 0) (x : A) (xs : List A) → Good x → IsFirst Good Bad xs
+    → IsFirst Good Bad (x ∷ xs)
 behind Good Bad x xs good i =
-    record { before = x ∷ i.before; first = i.first; after = i.after; whole = ap (λ l. x ∷ l) i.whole; good = (good, i.good); bad = i.bad }
+    record {
+      before = x ∷ i.before;
+      first = i.first;
+      after = i.after;
+      whole = ap (λ l. x ∷ l) i.whole;
+      good = (good, i.good);
+      bad = i.bad;
+    }
 
-each-good : {A : Type 0} (f : A → Collected) (Good : A → Type 0) (Cause : SubjectFault → A → Type 0) → Tells f Good Cause
+each-good : {A : Type 0} (f : A → Collected) (Good : A → Type 0) (Cause : SubjectFault → A → Type 0)
+    → Tells f Good Cause
     → (xs : List A) (ds : List ArtifactDigest) → digests_of_each f xs ≡ Ok ds → AllByRecursion Good xs
 each-good f Good Cause t [] ds e = tt
 each-good f Good Cause t (x ∷ xs) ds e =
@@ -53,7 +66,8 @@ each-good f Good Cause t (x ∷ xs) ds e =
     let others = bind_ok (digests_of_each f xs) _ ds first.2 in
     (t.good x first.0 first.1, each-good f Good Cause t xs others.0 others.1)
 
-each-taken : {A : Type 0} (f : A → Collected) (Good : A → Type 0) (Cause : SubjectFault → A → Type 0) → Tells f Good Cause
+each-taken : {A : Type 0} (f : A → Collected) (Good : A → Type 0) (Cause : SubjectFault → A → Type 0)
+    → Tells f Good Cause
     → (xs : List A) → AllByRecursion Good xs → (ds : List ArtifactDigest) × (digests_of_each f xs ≡ Ok ds)
 each-taken f Good Cause t [] all = ([], refl)
 each-taken f Good Cause t (x ∷ xs) all =
@@ -61,7 +75,8 @@ each-taken f Good Cause t (x ∷ xs) all =
     let others = each-taken f Good Cause t xs all.1 in
     (first.0 ++ others.0, rw (first.1, others.1) refl)
 
-step-caused : {A : Type 0} (f : A → Collected) (Good : A → Type 0) (Cause : SubjectFault → A → Type 0) → Tells f Good Cause
+step-caused : {A : Type 0} (f : A → Collected) (Good : A → Type 0) (Cause : SubjectFault → A → Type 0)
+    → Tells f Good Cause
     → (x : A) (xs : List A) (fault : SubjectFault) (found rest : Collected) → f x ≡ found → digests_of_each f xs ≡ rest
     → (digests_of_each f xs ≡ Err fault → IsFirst Good (Cause fault) xs)
     → (found >>= λ first. rest >>= λ others. Ok (first ++ others)) ≡ Err fault → IsFirst Good (Cause fault) (x ∷ xs)
@@ -71,11 +86,13 @@ step-caused f Good Cause t x xs fault (Ok ds) (Err other) is is_rest later e =
     behind Good (Cause fault) x xs (t.good x ds is) (later (is_rest ∙ e))
 step-caused f Good Cause t x xs fault (Ok ds) (Ok more) is is_rest later e = absurd cc
 
-each-caused : {A : Type 0} (f : A → Collected) (Good : A → Type 0) (Cause : SubjectFault → A → Type 0) → Tells f Good Cause
+each-caused : {A : Type 0} (f : A → Collected) (Good : A → Type 0) (Cause : SubjectFault → A → Type 0)
+    → Tells f Good Cause
     → (xs : List A) (fault : SubjectFault) → digests_of_each f xs ≡ Err fault → IsFirst Good (Cause fault) xs
 each-caused f Good Cause t [] fault e = absurd cc
 each-caused f Good Cause t (x ∷ xs) fault e =
-    step-caused f Good Cause t x xs fault (f x) (digests_of_each f xs) refl refl (each-caused f Good Cause t xs fault) e
+    step-caused f Good Cause t x xs fault (f x) (digests_of_each f xs) refl refl
+    (each-caused f Good Cause t xs fault) e
 
 told-at : {A : Type 0} (f : A → Collected) (Good : A → Type 0) (Cause : SubjectFault → A → Type 0) → Tells f Good Cause
     → (before : List A) (x : A) (after : List A) (fault : SubjectFault) → AllByRecursion Good before → Cause fault x
@@ -85,10 +102,12 @@ told-at f Good Cause t (y ∷ before) x after fault good bad =
     let first = t.taken y good.0 in
     rw (first.1, told-at f Good Cause t before x after fault good.1 bad) refl
 
-each-told : {A : Type 0} (f : A → Collected) (Good : A → Type 0) (Cause : SubjectFault → A → Type 0) → Tells f Good Cause
+each-told : {A : Type 0} (f : A → Collected) (Good : A → Type 0) (Cause : SubjectFault → A → Type 0)
+    → Tells f Good Cause
     → (xs : List A) (fault : SubjectFault) → IsFirst Good (Cause fault) xs → digests_of_each f xs ≡ Err fault
 each-told f Good Cause t xs fault i =
-    subst (λ l. digests_of_each f l ≡ Err fault) (sym i.whole) (told-at f Good Cause t i.before i.first i.after fault i.good i.bad)
+    subst (λ l. digests_of_each f l ≡ Err fault) (sym i.whole)
+    (told-at f Good Cause t i.before i.first i.after fault i.good i.bad)
 
 -- ---- an entry
 
@@ -111,7 +130,8 @@ read_under NamedSha512 text = digest_or_malformed NamedSha512 Sha512 (decode_siz
 abbrev Judged : DigestName → Type 0 → Collected → Type 0
 Judged name D found = (D × ((ds : List ArtifactDigest) × (found ≡ Ok ds))) ⊎ ((¬ D) × (found ≡ Err (Malformed name)))
 
-judged : {E D : Type 0} (name : DigestName) (digest : List ℕ → ArtifactDigest) (decoded : Result (List ℕ) E) → IsOk decoded ↔ D
+judged : {E D : Type 0} (name : DigestName) (digest : List ℕ → ArtifactDigest) (decoded : Result (List ℕ) E)
+    → IsOk decoded ↔ D
     → Judged name D (digest_or_malformed name digest decoded)
 judged name digest (Ok bytes) tells = inl (tells.0 refl, (digest bytes ∷ [], refl))
 judged name digest (Err e) tells = inr ((λ d. let no = tells.1 d in cc), refl)
@@ -140,15 +160,23 @@ by_tests e false false told_short told_long is = inr (other, is) where
 by_name : (e : Entry) → ((name : DigestName) × Named_as name e) ⊎ Unnamed e
 unfolding entry_digest
 by_name e =
-    by_tests e (bytes_eq e.0 (codes "sha256")) (bytes_eq e.0 (codes "sha512")) (bytes_eq-Decides e.0 (codes "sha256")) (bytes_eq-Decides e.0 (codes "sha512")) refl
+    by_tests e (bytes_eq e.0 (codes "sha256")) (bytes_eq e.0 (codes "sha512")) (bytes_eq-Decides e.0 (codes "sha256"))
+    (bytes_eq-Decides e.0 (codes "sha512")) refl
 
 -- it is well formed and read, or malformed under one name
 abbrev EntryJudged : Entry → Type 0
-EntryJudged e = (IsWellFormed e × ((ds : List ArtifactDigest) × (entry_digest e ≡ Ok ds))) ⊎ ((name : DigestName) × IsMalformed name e × (entry_digest e ≡ Err (Malformed name)))
+EntryJudged e =
+    (IsWellFormed e × ((ds : List ArtifactDigest) × (entry_digest e ≡ Ok ds))) ⊎
+    ((name : DigestName) × IsMalformed name e × (entry_digest e ≡ Err (Malformed name)))
 
-named-judged : (name : DigestName) (e : Entry) → Named_as name e → Judged name (IsDigestText name e.1) (read_under name e.1) → EntryJudged e
+named-judged : (name : DigestName) (e : Entry) → Named_as name e
+    → Judged name (IsDigestText name e.1) (read_under name e.1) → EntryJudged e
 named-judged name e named (inl read) =
-    inl ((λ other malformed. malformed.1 (subst (λ n. IsDigestText n e.1) (names-apart name other (sym named.0 ∙ malformed.0)) read.0)), (read.1.0, named.1 ∙ read.1.1))
+    inl (
+      (λ other malformed. malformed.1 (subst (λ n. IsDigestText n e.1)
+          (names-apart name other (sym named.0 ∙ malformed.0)) read.0)),
+      (read.1.0, named.1 ∙ read.1.1),
+    )
 named-judged name e named (inr refused) = inr (name, (named.0, refused.0), named.1 ∙ refused.1)
 
 entry-judged : (e : Entry) → EntryJudged e
@@ -175,7 +203,8 @@ entry-caused e (inr wrong) fault is =
 
 entry-told : (e : Entry) → EntryJudged e → (fault : SubjectFault) → EntryCause fault e → entry_digest e ≡ Err fault
 entry-told e (inl fine) (Malformed name) cause = absurd (fine.0 name cause)
-entry-told e (inr wrong) (Malformed name) cause = wrong.2 ∙ ap (λ n. Err (Malformed n)) (names-apart wrong.0 name (sym wrong.1.0 ∙ cause.0))
+entry-told e (inr wrong) (Malformed name) cause =
+    wrong.2 ∙ ap (λ n. Err (Malformed n)) (names-apart wrong.0 name (sym wrong.1.0 ∙ cause.0))
 entry-told e judged _ cause = absurd cause
 
 entries-tell : Tells entry_digest IsWellFormed EntryCause
@@ -205,7 +234,8 @@ subject-taken m sound =
     let found = each-taken entry_digest IsWellFormed EntryCause entries-tell m sound.1 in
     (found.0, rw (le-ltb 32 (length m) sound.0) found.1)
 
-by_entry : (fault : SubjectFault) (m : DigestTexts) → length m ≤ 32 → IsFirst IsWellFormed (EntryCause fault) m → SubjectCause fault m
+by_entry : (fault : SubjectFault) (m : DigestTexts) → length m ≤ 32 → IsFirst IsWellFormed (EntryCause fault) m
+    → SubjectCause fault m
 by_entry (Malformed name) m few i = (few, i)
 by_entry (TooManySubjects count) m few i = absurd i.bad
 by_entry (TooManyDigests count) m few i = absurd i.bad
@@ -217,7 +247,9 @@ many-caused : (many : Bool) (m : DigestTexts) (fault : SubjectFault) → nat_lt 
 many-caused true m fault test is =
     let same : TooManyDigests (length m) ≡ fault = cc in
     subst (λ k. SubjectCause k m) same (refl, ltb-true 32 (length m) test)
-many-caused false m fault test is = by_entry fault m (ltb-false 32 (length m) test) (each-caused entry_digest IsWellFormed EntryCause entries-tell m fault is)
+many-caused false m fault test is =
+    by_entry fault m (ltb-false 32 (length m) test)
+    (each-caused entry_digest IsWellFormed EntryCause entries-tell m fault is)
 
 subject-caused : (m : DigestTexts) (fault : SubjectFault) → map_digests m ≡ Err fault → SubjectCause fault m
 unfolding map_digests
@@ -227,13 +259,16 @@ many-told : (m : DigestTexts) (count : ℕ) → length m ≡ count → 32 < coun
 unfolding map_digests
 many-told m count is many = rw (is, lt-ltb 32 count many) refl
 
-malformed-told : (m : DigestTexts) (name : DigestName) → length m ≤ 32 → digests_of_each entry_digest m ≡ Err (Malformed name) → map_digests m ≡ Err (Malformed name)
+malformed-told : (m : DigestTexts) (name : DigestName) → length m ≤ 32
+    → digests_of_each entry_digest m ≡ Err (Malformed name) → map_digests m ≡ Err (Malformed name)
 unfolding map_digests
 malformed-told m name few is = rw (le-ltb 32 (length m) few) is
 
 subject-told : (m : DigestTexts) (fault : SubjectFault) → SubjectCause fault m → map_digests m ≡ Err fault
 subject-told m (TooManyDigests count) cause = many-told m count cause.0 cause.1
-subject-told m (Malformed name) cause = malformed-told m name cause.0 (each-told entry_digest IsWellFormed EntryCause entries-tell m (Malformed name) cause.1)
+subject-told m (Malformed name) cause =
+    malformed-told m name cause.0 (each-told entry_digest IsWellFormed EntryCause entries-tell m
+    (Malformed name) cause.1)
 subject-told m _ cause = absurd cause
 
 subjects-tell : Tells map_digests IsSound SubjectCause
@@ -241,25 +276,30 @@ subjects-tell = record { good = subject-good; taken = subject-taken; caused = su
 
 -- ---- a statement
 
-by_subject : (fault : SubjectFault) (statement : Statement) → length (digest_maps statement) ≤ 1024 → IsFirst IsSound (SubjectCause fault) (digest_maps statement) → IsCauseOf fault statement
+by_subject : (fault : SubjectFault) (statement : Statement) → length (digest_maps statement) ≤ 1024
+    → IsFirst IsSound (SubjectCause fault) (digest_maps statement) → IsCauseOf fault statement
 by_subject (TooManyDigests count) statement few i = (few, i)
 by_subject (Malformed name) statement few i = (few, i)
 by_subject (TooManySubjects count) statement few i = absurd i.bad
 by_subject NoneRecognized statement few i = absurd i.bad
 by_subject OutOfMemory statement few i = absurd i.bad
 
-short-each : (maps : List DigestTexts) → AllByRecursion IsSound maps → AllByRecursion (λ digests. length digests ≤ most_digests) maps
+short-each : (maps : List DigestTexts) → AllByRecursion IsSound maps
+    → AllByRecursion (λ digests. length digests ≤ most_digests) maps
 short-each [] all = tt
 short-each (m ∷ maps) all = (all.0.0, short-each maps all.1)
 
-few-found : (statement : Statement) → length (digest_maps statement) ≤ 1024 → digests_or_fault statement ≡ (digests_of_each map_digests (digest_maps statement) >>= not_none)
+few-found : (statement : Statement) → length (digest_maps statement) ≤ 1024
+    → digests_or_fault statement ≡ (digests_of_each map_digests (digest_maps statement) >>= not_none)
 unfolding digests_of_maps
 few-found statement few = rw (le-ltb 1024 (length (digest_maps statement)) few) refl
 
-found-caused : (statement : Statement) (fault : SubjectFault) (found : Collected) → digests_of_each map_digests (digest_maps statement) ≡ found
+found-caused : (statement : Statement) (fault : SubjectFault) (found : Collected)
+    → digests_of_each map_digests (digest_maps statement) ≡ found
     → length (digest_maps statement) ≤ 1024 → (found >>= not_none) ≡ Err fault → IsCauseOf fault statement
 found-caused statement fault (Err other) found few is =
-    by_subject fault statement few (each-caused map_digests IsSound SubjectCause subjects-tell (digest_maps statement) fault (found ∙ is))
+    by_subject fault statement few (each-caused map_digests IsSound SubjectCause subjects-tell (digest_maps statement)
+    fault (found ∙ is))
 found-caused statement fault (Ok []) found few is =
     let same : NoneRecognized ≡ fault = cc in
     subst (λ k. IsCauseOf k statement) same (
@@ -269,33 +309,45 @@ found-caused statement fault (Ok []) found few is =
     )
 found-caused statement fault (Ok (d ∷ ds)) found few is = absurd cc
 
-many-subjects : (many : Bool) (statement : Statement) (fault : SubjectFault) → nat_lt 1024 (length (digest_maps statement)) ≡ many
-    → cond many (Err (TooManySubjects (length (digest_maps statement)))) (digests_of_each map_digests (digest_maps statement) >>= not_none) ≡ Err fault
+many-subjects : (many : Bool) (statement : Statement) (fault : SubjectFault)
+    → nat_lt 1024 (length (digest_maps statement)) ≡ many
+    → cond many (Err (TooManySubjects (length (digest_maps statement))))
+    (digests_of_each map_digests (digest_maps statement) >>= not_none) ≡ Err fault
     → IsCauseOf fault statement
 many-subjects true statement fault test is =
     let same : TooManySubjects (length (digest_maps statement)) ≡ fault = cc in
     subst (λ k. IsCauseOf k statement) same (refl, ltb-true 1024 (length (digest_maps statement)) test)
 many-subjects false statement fault test is =
-    found-caused statement fault (digests_of_each map_digests (digest_maps statement)) refl (ltb-false 1024 (length (digest_maps statement)) test) is
+    found-caused statement fault (digests_of_each map_digests (digest_maps statement)) refl
+    (ltb-false 1024 (length (digest_maps statement)) test) is
 
-statement-caused : (statement : Statement) (fault : SubjectFault) → digests_or_fault statement ≡ Err fault → IsCauseOf fault statement
+statement-caused : (statement : Statement) (fault : SubjectFault) → digests_or_fault statement ≡ Err fault
+    → IsCauseOf fault statement
 unfolding digests_of_maps
-statement-caused statement fault is = many-subjects (nat_lt 1024 (length (digest_maps statement))) statement fault refl is
+statement-caused statement fault is =
+    many-subjects (nat_lt 1024 (length (digest_maps statement))) statement fault refl is
 
-subjects-told : (statement : Statement) (count : ℕ) → length (digest_maps statement) ≡ count → 1024 < count → digests_or_fault statement ≡ Err (TooManySubjects count)
+subjects-told : (statement : Statement) (count : ℕ) → length (digest_maps statement) ≡ count → 1024 < count
+    → digests_or_fault statement ≡ Err (TooManySubjects count)
 unfolding digests_of_maps
 subjects-told statement count is many = rw (is, lt-ltb 1024 count many) refl
 
-first-told : (statement : Statement) (fault : SubjectFault) → length (digest_maps statement) ≤ 1024 → IsFirst IsSound (SubjectCause fault) (digest_maps statement) → digests_or_fault statement ≡ Err fault
+first-told : (statement : Statement) (fault : SubjectFault) → length (digest_maps statement) ≤ 1024
+    → IsFirst IsSound (SubjectCause fault) (digest_maps statement) → digests_or_fault statement ≡ Err fault
 first-told statement fault few i =
-    few-found statement few ∙ rw (each-told map_digests IsSound SubjectCause subjects-tell (digest_maps statement) fault i) refl
+    few-found statement few ∙ rw (each-told map_digests IsSound SubjectCause subjects-tell (digest_maps statement)
+    fault i) refl
 
-statement-told : (statement : Statement) (fault : SubjectFault) → IsCauseOf fault statement → digests_or_fault statement ≡ Err fault
+statement-told : (statement : Statement) (fault : SubjectFault) → IsCauseOf fault statement
+    → digests_or_fault statement ≡ Err fault
 statement-told statement (TooManySubjects count) cause = subjects-told statement count cause.0 cause.1
 statement-told statement (TooManyDigests count) cause = first-told statement (TooManyDigests count) cause.0 cause.1
 statement-told statement (Malformed name) cause = first-told statement (Malformed name) cause.0 cause.1
 statement-told statement NoneRecognized cause =
-    (finds_none statement).1 (record { subjects = cause.0; digests = short-each (digest_maps statement) cause.1 }, cause.2)
+    (finds_none statement).1 (
+      record { subjects = cause.0; digests = short-each (digest_maps statement) cause.1 },
+      cause.2,
+    )
 statement-told statement OutOfMemory cause = absurd cause
 
 pub faults_have_their_cause : FaultsHaveTheirCause

@@ -5,7 +5,8 @@ use Rattle.sig_dsse.specs.declared.recognized.SubjectFault.{SubjectFault}
 use Rattle.sig_dsse.specs.declared.recognized.SubjectFault.TheVariants.{OutOfMemory}
 
 -- the digests that are meant are put behind, or the fault that is meant is told, unless memory ran out
-abbrev pub Adds : {A : Type 0} → List ArtifactDigest → List ArtifactDigest → Result A SubjectFault → Result (List ArtifactDigest) SubjectFault → Type 0
+abbrev pub Adds : {A : Type 0} → List ArtifactDigest → List ArtifactDigest → Result A SubjectFault
+    → Result (List ArtifactDigest) SubjectFault → Type 0
 Adds before after (Ok x) meant = (more : List ArtifactDigest) × (meant ≡ Ok more) × (after ≡ before ++ more)
 Adds before after (Err e) meant = (e ≡ OutOfMemory) ⊎ (meant ≡ Err e)
 

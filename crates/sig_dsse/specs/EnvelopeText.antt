@@ -1,4 +1,5 @@
--- *Envelope text*: an envelope as JSON (the DSSE envelope format), members in the order of the format, empty ones omitted, no white space.
+-- *Envelope text*: an envelope as JSON (the DSSE envelope format), members in the order of the format, empty ones
+-- omitted, no white space.
 use Rattle.std.specs.Prelude.{ℕ, List, [], ◌∷◌, ◌++◌, map, codes}
 use Rattle.sig_base.specs.Base64.{base64_text}
 use Rattle.sig_json.specs.Canonical.{canon_string, in_braces, in_brackets}
@@ -9,7 +10,8 @@ use Rattle.sig_dsse.specs.declared.envelope.DsseSignature.{DsseSignature}
 abbrev pub member_text : List ℕ → List ℕ → List ℕ
 member_text name value = canon_string name ++ (codes ":" ++ value)
 
--- the member of a text, none where the text is empty; quoted and escaped as in canonical JSON (RFC 8785 section 3.2.2.2)
+-- the member of a text, none where the text is empty; quoted and escaped as in canonical JSON (RFC 8785 section
+-- 3.2.2.2)
 abbrev pub text_member : List ℕ → List ℕ → List (List ℕ)
 text_member name [] = []
 text_member name (c ∷ cs) = member_text name (canon_string (c ∷ cs)) ∷ []
@@ -24,8 +26,11 @@ list_member name [] = []
 list_member name (text ∷ texts) = member_text name (in_brackets (text ∷ texts)) ∷ []
 
 unfoldable pub signature_text : DsseSignature → List ℕ
-signature_text signature = in_braces (bytes_member (codes "sig") signature.sig ++ text_member (codes "keyid") signature.keyid)
+signature_text signature =
+    in_braces (bytes_member (codes "sig") signature.sig ++ text_member (codes "keyid") signature.keyid)
 
 unfoldable pub envelope_text : DsseEnvelope → List ℕ
 envelope_text envelope =
-    in_braces (bytes_member (codes "payload") envelope.payload ++ (text_member (codes "payloadType") envelope.payload_type ++ list_member (codes "signatures") (map signature_text envelope.signatures)))
+    in_braces (bytes_member (codes "payload") envelope.payload ++
+    (text_member (codes "payloadType") envelope.payload_type ++ list_member (codes "signatures")
+    (map signature_text envelope.signatures)))

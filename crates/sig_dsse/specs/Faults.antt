@@ -1,17 +1,21 @@
--- *Causes of the faults*: each fault of a statement in the words of its subjects: the rules before it hold, and this one does not.
-use Rattle.std.specs.Prelude.{⊤, ◌≡◌, ◌≢◌, ◌≤◌, ◌<◌, ◌↔◌, ℕ, ◌*◌, List, [], ◌∷◌, ◌++◌, length, codes, Option, Some, None, Err}
+-- *Causes of the faults*: each fault of a statement in the words of its subjects: the rules before it hold, and this
+-- one does not.
+use Rattle.std.specs.Prelude.{⊤, ◌≡◌, ◌≢◌, ◌≤◌, ◌<◌, ◌↔◌, ℕ, ◌*◌, List, [], ◌∷◌, ◌++◌, length, codes, Option, Some}
+use Rattle.std.specs.Prelude.{None, Err}
 use Rattle.std.specs.List.{AllByRecursion, AllPass}
 use Rattle.hex.specs.Hex.{is_hex_digit}
 use Rattle.sha2.specs.Sha256.{sha256}
 use Rattle.sha2.specs.Sha512.{sha512}
 use Rattle.sig_base.specs.ByText.{text_lookup}
 use Rattle.sig_base.specs.declared.unexpected.UnexpectedKind.{UnexpectedKind}
-use Rattle.sig_base.specs.declared.unexpected.UnexpectedKind.TheVariants.{StatementType, PredicateType, NoSubjects, FirstSubjectWithoutSha256}
+use Rattle.sig_base.specs.declared.unexpected.UnexpectedKind.TheVariants.{StatementType, PredicateType, NoSubjects}
+use Rattle.sig_base.specs.declared.unexpected.UnexpectedKind.TheVariants.{FirstSubjectWithoutSha256}
 use Rattle.sig_dsse.specs.declared.payload.PayloadFault.TheVariants.{NoStatement, Subjects}
 use Rattle.sig_dsse.specs.declared.recognized.DigestName.{DigestName}
 use Rattle.sig_dsse.specs.declared.recognized.DigestName.TheVariants.{Sha256, Sha512}
 use Rattle.sig_dsse.specs.declared.recognized.SubjectFault.{SubjectFault}
-use Rattle.sig_dsse.specs.declared.recognized.SubjectFault.TheVariants.{TooManySubjects, TooManyDigests, Malformed, NoneRecognized, OutOfMemory}
+use Rattle.sig_dsse.specs.declared.recognized.SubjectFault.TheVariants.{TooManySubjects, TooManyDigests, Malformed}
+use Rattle.sig_dsse.specs.declared.recognized.SubjectFault.TheVariants.{NoneRecognized, OutOfMemory}
 use Rattle.sig_dsse.specs.CosignStatement.{cosign_fault}
 use Rattle.sig_dsse.specs.Named.{named}
 use Rattle.sig_dsse.specs.Payload.{digests_of_payload}
@@ -41,7 +45,9 @@ digit_count Sha512 = 128
 
 -- they are as many as the hash has (FIPS 180-4 sections 6.2 and 6.4)
 abbrev pub DigitsAreOfTheHash : Type 0
-DigitsAreOfTheHash = (message : List ℕ) → (digit_count Sha256 ≡ 2 * length (sha256 message)) × (digit_count Sha512 ≡ 2 * length (sha512 message))
+DigitsAreOfTheHash =
+    (message : List ℕ) → (digit_count Sha256 ≡ 2 * length (sha256 message)) ×
+    (digit_count Sha512 ≡ 2 * length (sha512 message))
 
 -- so many hexadecimal digits, of either case, and nothing else (RFC 4648 section 8)
 abbrev pub IsDigestText : DigestName → List ℕ → Type 0
@@ -66,25 +72,34 @@ HasTooMany count digests = (length digests ≡ count) × (32 < count)
 abbrev pub HasMalformed : DigestName → DigestTexts → Type 0
 HasMalformed name digests = (length digests ≤ 32) × IsFirst IsWellFormed (IsMalformed name) digests
 
--- the cause of each fault: too many subjects; then the first subject that is not sound, by what it breaks first; then that nothing is named
+-- the cause of each fault: too many subjects; then the first subject that is not sound, by what it breaks first; then
+-- that nothing is named
 abbrev pub IsCauseOf : SubjectFault → Statement → Type 0
 IsCauseOf (TooManySubjects count) statement = (length (digest_maps statement) ≡ count) × (1024 < count)
-IsCauseOf (TooManyDigests count) statement = (length (digest_maps statement) ≤ 1024) × IsFirst IsSound (HasTooMany count) (digest_maps statement)
-IsCauseOf (Malformed name) statement = (length (digest_maps statement) ≤ 1024) × IsFirst IsSound (HasMalformed name) (digest_maps statement)
-IsCauseOf NoneRecognized statement = (length (digest_maps statement) ≤ 1024) × AllByRecursion IsSound (digest_maps statement) × (named statement ≡ [])
+IsCauseOf (TooManyDigests count) statement =
+    (length (digest_maps statement) ≤ 1024) × IsFirst IsSound (HasTooMany count) (digest_maps statement)
+IsCauseOf (Malformed name) statement =
+    (length (digest_maps statement) ≤ 1024) × IsFirst IsSound (HasMalformed name) (digest_maps statement)
+IsCauseOf NoneRecognized statement =
+    (length (digest_maps statement) ≤ 1024) × AllByRecursion IsSound (digest_maps statement) × (named statement ≡ [])
 IsCauseOf OutOfMemory statement = ⊥
 
 -- each fault comes if and only if it has its cause
 abbrev pub FaultsHaveTheirCause : Type 0
-FaultsHaveTheirCause = (statement : Statement) (fault : SubjectFault) → (digests_or_fault statement ≡ Err fault) ↔ IsCauseOf fault statement
+FaultsHaveTheirCause =
+    (statement : Statement) (fault : SubjectFault) → (digests_or_fault statement ≡ Err fault) ↔ IsCauseOf fault
+    statement
 
 -- ---- the digests of a payload
 
 -- a payload without digests is no statement, or a statement with the cause of the fault
 pub record PayloadFaultsHaveTheirCause : Type 0 where
-  pub none : (payload : List ℕ) → (digests_of_payload payload ≡ Err NoStatement) ↔ ((statement : Statement) → statement_of payload ≢ Some statement)
+  pub none : (payload : List ℕ)
+      → (digests_of_payload payload ≡ Err NoStatement) ↔
+      ((statement : Statement) → statement_of payload ≢ Some statement)
   pub subjects : (payload : List ℕ) (fault : SubjectFault)
-      → (digests_of_payload payload ≡ Err (Subjects fault)) ↔ ((statement : Statement) × (statement_of payload ≡ Some statement) × IsCauseOf fault statement)
+      → (digests_of_payload payload ≡ Err (Subjects fault)) ↔
+      ((statement : Statement) × (statement_of payload ≡ Some statement) × IsCauseOf fault statement)
 
 -- ---- what `cosign` asks
 
@@ -98,15 +113,20 @@ IsCosignSign statement = statement.predicate_type ≡ codes "https://sigstore.de
 
 -- there is a first subject, and it has no digest named `sha256`
 abbrev pub FirstLacksSha256 : List Subject → Type 0
-FirstLacksSha256 subjects = (first : Subject) × (others : List Subject) × (subjects ≡ first ∷ others) × (text_lookup (codes "sha256") first.digest ≡ None)
+FirstLacksSha256 subjects =
+    (first : Subject) × (others : List Subject) × (subjects ≡ first ∷ others) ×
+    (text_lookup (codes "sha256") first.digest ≡ None)
 
 abbrev pub IsCosignCauseOf : UnexpectedKind → Statement → Type 0
 IsCosignCauseOf StatementType statement = ¬ IsStatementV1 statement
 IsCosignCauseOf PredicateType statement = IsStatementV1 statement × ¬ IsCosignSign statement
 IsCosignCauseOf NoSubjects statement = IsStatementV1 statement × IsCosignSign statement × (statement.subject ≡ [])
-IsCosignCauseOf FirstSubjectWithoutSha256 statement = IsStatementV1 statement × IsCosignSign statement × FirstLacksSha256 statement.subject
+IsCosignCauseOf FirstSubjectWithoutSha256 statement =
+    IsStatementV1 statement × IsCosignSign statement × FirstLacksSha256 statement.subject
 IsCosignCauseOf _ statement = ⊥
 
 -- each fault comes if and only if it has its cause
 abbrev pub CosignFaultsHaveTheirCause : Type 0
-CosignFaultsHaveTheirCause = (statement : Statement) (kind : UnexpectedKind) → (cosign_fault statement ≡ Some kind) ↔ IsCosignCauseOf kind statement
+CosignFaultsHaveTheirCause =
+    (statement : Statement) (kind : UnexpectedKind) → (cosign_fault statement ≡ Some kind) ↔ IsCosignCauseOf kind
+    statement

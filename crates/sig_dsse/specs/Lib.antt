@@ -1,5 +1,6 @@
 pub mod Pae
 pub mod EnvelopeText
+pub mod Texts
 pub mod Digest
 pub mod Statement
 pub mod Seen

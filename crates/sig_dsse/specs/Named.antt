@@ -1,5 +1,6 @@
 -- *Named digests*: what the digests that are taken of a statement are, in the words of its subjects.
-use Rattle.std.specs.Prelude.{◌≡◌, ◌≢◌, ◌≤◌, ◌↔◌, ⊤, ℕ, Bool, ◌||◌, bytes_eq, List, [], ◌∷◌, filter, flat_map, length, codes, Ok, Err}
+use Rattle.std.specs.Prelude.{◌≡◌, ◌≢◌, ◌≤◌, ◌↔◌, ⊤, ℕ, Bool, ◌||◌, bytes_eq, List, [], ◌∷◌, filter, flat_map, length}
+use Rattle.std.specs.Prelude.{codes, Ok, Err}
 use Rattle.std.specs.List.{AllByRecursion}
 use Rattle.hex.specs.Hex.{decode_sized}
 use Rattle.sig_dsse.specs.declared.artifact_digest.ArtifactDigest.{ArtifactDigest}
@@ -29,7 +30,8 @@ size_of (Sha512 bytes) = 64
 
 -- the entry has the algorithm's name, and the digest's bytes in hexadecimal digits of either case
 abbrev pub IsEntryOf : ArtifactDigest → List ℕ × List ℕ → Type 0
-IsEntryOf digest entry = (entry.0 ≡ algorithm_of digest) × (decode_sized entry.1 (size_of digest) ≡ Ok (bytes_of digest))
+IsEntryOf digest entry =
+    (entry.0 ≡ algorithm_of digest) × (decode_sized entry.1 (size_of digest) ≡ Ok (bytes_of digest))
 
 -- digest by digest, in order
 abbrev pub AreEntriesOf : List ArtifactDigest → List (List ℕ × List ℕ) → Type 0
@@ -44,10 +46,14 @@ pub record AreTaken (statement : Statement) (digests : List ArtifactDigest) : Ty
   pub entries : AreEntriesOf digests (named statement)
   pub some : digests ≢ []
 
--- digests are taken exactly where they are those of the named entries
+-- digests are taken if and only if they are those of the named entries
 abbrev pub TakesTheNamed : Type 0
-TakesTheNamed = (statement : Statement) (digests : List ArtifactDigest) → (digests_or_fault statement ≡ Ok digests) ↔ AreTaken statement digests
+TakesTheNamed =
+    (statement : Statement) (digests : List ArtifactDigest) → (digests_or_fault statement ≡ Ok digests) ↔ AreTaken
+    statement digests
 
--- none is found exactly where no entry is named
+-- none is found if and only if no entry is named
 abbrev pub FindsNone : Type 0
-FindsNone = (statement : Statement) → (digests_or_fault statement ≡ Err NoneRecognized) ↔ (IsWithinLimits statement × (named statement ≡ []))
+FindsNone =
+    (statement : Statement) → (digests_or_fault statement ≡ Err NoneRecognized) ↔
+    (IsWithinLimits statement × (named statement ≡ []))

@@ -1,4 +1,5 @@
--- *Statement*: an in-toto statement (in-toto attestation framework, "Statement layer specification v1"), and the text of which it is read.
+-- *Statement*: an in-toto statement (in-toto attestation framework, "Statement layer specification v1"), and the text
+-- of which it is read.
 use Rattle.std.specs.Prelude.{ℕ, List, map, codes, Option, Some}
 use Rattle.std.specs.Result.{result_ok}
 use Rattle.sig_base.specs.OptionSteps.{◌>>=◌}
@@ -43,7 +44,12 @@ statement_in d = do
   subject ← required_list subject_of (codes "subject") d
   predicate_type ← required_text (codes "predicateType") d
   predicate ← optional Some (codes "predicate") d
-  Some (record { statement_type = statement_type; subject = subject; predicate_type = predicate_type; predicate = predicate })
+  Some (record {
+    statement_type = statement_type;
+    subject = subject;
+    predicate_type = predicate_type;
+    predicate = predicate;
+  })
 
 -- the statement that a payload is, none where it is no document without floats or a member is not as it has to be
 unfoldable pub statement_of : List ℕ → Option Statement

@@ -7,7 +7,7 @@ use sha2::{Digest, Sha256, Sha512};
 use sig_base::{OutOfMemory, Register, Text};
 use std::alloc::Global;
 
-/// The digest of an artifact. Two are equal exactly where algorithm and bytes are.
+/// The digest of an artifact. Two are equal if and only if algorithm and bytes are.
 #[derive(Clone, Copy, Debug, PartialEq, Eq)]
 pub enum ArtifactDigest {
     /// SHA-256 (FIPS 180-4 section 6.2).
@@ -24,7 +24,8 @@ impl ArtifactDigest {
     ghost use Rattle.sha2.specs.Hashers.{Holds256, Holds512};
     ghost use Rattle.sha2.specs.Sha256.{sha256};
     ghost use Rattle.sha2.specs.Sha512.{sha512};
-    ghost use Rattle.sig_dsse.specs.declared.artifact_digest.ArtifactDigest.TheVariants.{Sha256 as IsSha256, Sha512 as IsSha512};
+    ghost use Rattle.sig_dsse.specs.declared.artifact_digest.ArtifactDigest.TheVariants.{Sha256 as IsSha256};
+    ghost use Rattle.sig_dsse.specs.declared.artifact_digest.ArtifactDigest.TheVariants.{Sha512 as IsSha512};
 
     /// The algorithm's name, `sha256` or `sha512`.
     pub fn algorithm(&self) -> &'static str
@@ -46,7 +47,7 @@ impl ArtifactDigest {
         }
     }
 
-    /// The bytes as hexadecimal digits in lower case. Refuses for want of memory alone.
+    /// The bytes as hexadecimal digits in lower case. Fails only if memory runs out.
     pub fn to_hex(&self, alloc: Global) -> Result<Text, OutOfMemory>
         ensures { IfOk result (λ text. text ≡ encode_lower (bytes_of self.now)) }
     {

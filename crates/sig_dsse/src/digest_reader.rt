@@ -1,4 +1,5 @@
-//! The digests of a statement's subjects, read from its tree. What else a statement has is tested as its reader tests it, and not copied.
+//! The digests of a statement's subjects, read from its tree. What else a statement has is tested as its reader tests
+//! it, and not copied.
 ghost use Rattle.sig_dsse.specs.DigestsAlone.{is_text, digest_map_in, digest_maps_in};
 
 use sig_base::{Register, TextMap};

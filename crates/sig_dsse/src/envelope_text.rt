@@ -2,17 +2,18 @@
 ghost use Rattle.std.specs.Prelude.{◌≡◌, ◌++◌, [], ◌∷◌, map, codes, IfOk, OnOk, string_bytes};
 ghost use Rattle.sig_base.specs.Base64.{base64_text};
 ghost use Rattle.sig_json.specs.Canonical.{canon_string, in_braces, in_brackets};
-ghost use Rattle.sig_json.specs.Spells.{texts_of};
-ghost use Rattle.sig_dsse.specs.EnvelopeText.{member_text, text_member, bytes_member, list_member, signature_text, envelope_text};
+ghost use Rattle.sig_dsse.specs.Texts.{texts_of};
+ghost use Rattle.sig_dsse.specs.EnvelopeText.{member_text, text_member, bytes_member, list_member, signature_text};
+ghost use Rattle.sig_dsse.specs.EnvelopeText.{envelope_text};
 
 use crate::envelope::{DsseEnvelope, DsseSignature, DsseSignatures};
 use sig_base::{OutOfMemory, Text};
 use sig_json::quoted;
 use std::alloc::Global;
 
-/// The JSON of an envelope: `payload`, `payloadType` and `signatures` in this order, in a signature `sig` and `keyid`. Empty members are omitted,
-/// bytes are in padded standard base64 (RFC 4648 section 4), texts escaped as in canonical JSON (RFC 8785 section 3.2.2.2), and there is no
-/// white space. Refuses for want of memory alone.
+/// The JSON of an envelope: `payload`, `payloadType` and `signatures` in this order, in a signature `sig` and `keyid`.
+/// Empty members are omitted, bytes are in padded standard base64 (RFC 4648 section 4), texts escaped as in canonical
+/// JSON (RFC 8785 section 3.2.2.2), and there is no white space. Fails only if memory runs out.
 pub fn envelope_json(alloc: Global, envelope: &DsseEnvelope) -> Result<Text, OutOfMemory>
     ensures { IfOk result (λ text. text ≡ envelope_text envelope.now) }
 {
@@ -62,7 +63,8 @@ fn push_bytes(
     name: &str,
     bytes: &[u8],
 ) -> Result<(), OutOfMemory>
-    ensures { OnOk result (texts_of members.new.items ≡ texts_of members.old.items ++ bytes_member name.now bytes.now) }
+    ensures { OnOk result (texts_of members.new.items
+        ≡ texts_of members.old.items ++ bytes_member name.now bytes.now) }
 {
     let text = Text::in_base64(alloc, bytes)?;
     push_text(alloc, members, name, text.as_str())

@@ -1,8 +1,10 @@
-//! What an envelope signs: DSSE envelopes (DSSE protocol), and the in-toto statements in them (in-toto attestation framework).
+//! What an envelope signs: DSSE envelopes (DSSE protocol), and the in-toto statements in them (in-toto attestation
+//! framework).
 //!
-//! The layer above uses three facts. The pre-authentication encoding is that of the DSSE protocol, and no two pairs of type and payload have the
-//! same. A payload is read as a statement exactly where its members are one's. The digests that are taken of a statement are those that its
-//! subjects have under `sha256` and `sha512`, in order, or it is told which rule is broken first.
+//! The layer above uses three facts. The pre-authentication encoding is that of the DSSE protocol, and no two pairs of
+//! type and payload have the same. A payload is read as a statement if and only if its members are one's. The digests
+//! that are taken of a statement are those that its subjects have under `sha256` and `sha512`, in order, or it is told
+//! which rule is broken first.
 #![tactic(auto)]
 
 mod artifact_digest;
@@ -16,8 +18,6 @@ mod recognized;
 mod statement;
 mod statement_reader;
 mod subject_digests;
-#[cfg(test)]
-mod tests;
 
 pub use artifact_digest::{ArtifactDigest, Digests};
 pub use envelope::{DsseEnvelope, DsseSignature, DsseSignatures};

@@ -18,10 +18,10 @@ pub enum PayloadFault {
     /// The payload is no statement.
     #[error("NoStatement")]
     NoStatement,
-    /// Its subjects have this fault, which is never want of memory.
+    /// Its subjects have this fault, which is never out of memory.
     #[error("Subjects")]
     Subjects(SubjectFault),
-    /// No memory could be had.
+    /// Out of memory.
     #[error("OutOfMemory")]
     OutOfMemory,
 }
@@ -40,11 +40,11 @@ impl From<SubjectFault> for PayloadFault {
     }
 }
 
-/// The digests of the statement that a payload is, as [`recognized_digests`](crate::recognized_digests) takes them. Of the statement nothing but
-/// its subjects' digests is copied.
+/// The digests of the statement that a payload is, as [`recognized_digests`](crate::recognized_digests) takes them. Of
+/// the statement nothing but its subjects' digests is copied.
 ///
-/// Refuses with `NoStatement` exactly where [`InTotoStatementV1::from_json`](crate::InTotoStatementV1::from_json) refuses the payload, then with
-/// `Subjects` and the fault that `recognized_digests` has.
+/// Fails with `NoStatement` if and only if [`InTotoStatementV1::from_json`](crate::InTotoStatementV1::from_json)
+/// refuses the payload, then with `Subjects` and the fault that `recognized_digests` has.
 #[tactic(auto, using(crate::proofs::DigestsAlone::of_payload))]
 pub fn payload_digests(alloc: Global, payload: &[u8]) -> Result<Digests, PayloadFault>
     ensures { Answers PayloadFault.OutOfMemory (λ digests. digests) result (digests_of_payload payload.now) }
@@ -53,13 +53,10 @@ pub fn payload_digests(alloc: Global, payload: &[u8]) -> Result<Digests, Payload
     let subjects = SubjectDigests {
         left: Left::Maps(maps.as_slice()),
     };
-    match digests_of_maps(alloc, subjects) {
-        Ok(digests) => Ok(digests),
-        Err(fault) => Err(PayloadFault::from(fault)),
-    }
+    Ok(digests_of_maps(alloc, subjects)?)
 }
 
-/// The digests of each subject of the statement that a payload is. Refuses with `NoStatement` where it is none.
+/// The digests of each subject of the statement that a payload is. Fails with `NoStatement` where it is none.
 #[tactic(auto, using(crate::proofs::DigestsAlone::of_record))]
 fn read_maps(alloc: Global, payload: &[u8]) -> Result<Register<TextMap>, PayloadFault>
     ensures { Answers PayloadFault.OutOfMemory (λ maps. maps) result (digest_maps_of payload.now) }

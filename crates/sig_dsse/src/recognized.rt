@@ -2,7 +2,8 @@
 ghost use Rattle.std.specs.Prelude.{◌≡◌, ◌++◌, [], ◌∷◌, Ok};
 ghost use Rattle.sig_base.specs.Answers.{Answers};
 ghost use Rattle.sig_dsse.specs.Collecting.{Adds, listing};
-ghost use Rattle.sig_dsse.specs.Recognized.{digests_or_fault, digests_of_maps, digests_of_each, map_digests, entry_digest};
+ghost use Rattle.sig_dsse.specs.Recognized.{digests_or_fault, digests_of_maps, digests_of_each, map_digests};
+ghost use Rattle.sig_dsse.specs.Recognized.{entry_digest};
 ghost use Rattle.sig_dsse.specs.Seen.{seen};
 
 use crate::artifact_digest::{ArtifactDigest, Digests};
@@ -43,7 +44,7 @@ pub enum SubjectFault {
     /// No subject has a digest named `sha256` or `sha512`.
     #[error("NoneRecognized")]
     NoneRecognized,
-    /// No memory could be had.
+    /// Out of memory.
     #[error("OutOfMemory")]
     OutOfMemory,
 }
@@ -59,11 +60,13 @@ impl From<OutOfMemory> for SubjectFault {
     }
 }
 
-/// The digests of a statement that are named exactly `sha256` or `sha512`, over all subjects in order and names in byte order.
+/// The digests of a statement that are named exactly `sha256` or `sha512`, over all subjects in order and names in
+/// byte order.
 ///
-/// Refuses with `TooManySubjects` where there are more than 1024 subjects. Then, subject by subject, with `TooManyDigests` where it has more than
-/// 32 digests, and, name by name, with `Malformed` where a `sha256` is not hexadecimal digits, in either case, of 32 bytes or a `sha512` of 64.
-/// Then with `NoneRecognized` where there is no such digest.
+/// Fails with `TooManySubjects` where there are more than 1024 subjects. Then, subject by subject, with
+/// `TooManyDigests` where it has more than 32 digests, and, name by name, with `Malformed` where a `sha256` is not
+/// hexadecimal digits, in either case, of 32 bytes or a `sha512` of 64. Then with `NoneRecognized` where there is no
+/// such digest.
 #[tactic(auto, using(crate::proofs::Collected::statement_seen))]
 pub fn recognized_digests(
     alloc: Global,
@@ -95,14 +98,12 @@ pub(crate) fn digests_of_maps(
 /// The digests of each map one after another.
 #[tactic(auto, using(crate::proofs::Collected::collected))]
 fn digests_of_subjects(alloc: Global, subjects: SubjectDigests<'_>) -> Result<Digests, SubjectFault>
-    ensures { Answers SubjectFault.OutOfMemory (λ digests. digests) result (digests_of_each map_digests subjects.entry) }
+    ensures { Answers SubjectFault.OutOfMemory (λ digests. digests) result
+        (digests_of_each map_digests subjects.entry) }
 {
     let mut digests = Digests::new(alloc);
     'subjects: for digest in subjects {
-        match push_digests(digest, &mut digests) {
-            Ok(()) => {}
-            Err(fault) => return Err(fault),
-        }
+        push_digests(digest, &mut digests)?;
     }
     Ok(digests)
 }
@@ -124,10 +125,7 @@ fn push_entries(digest: &TextMap, digests: &mut Digests) -> Result<(), SubjectFa
     ensures { Adds digests.old digests.new result (digests_of_each entry_digest digest.now) }
 {
     'entries: for (name, text) in digest.iter() {
-        match push_entry(name, text, digests) {
-            Ok(()) => {}
-            Err(fault) => return Err(fault),
-        }
+        push_entry(name, text, digests)?;
     }
     Ok(())
 }
@@ -135,11 +133,10 @@ fn push_entries(digest: &TextMap, digests: &mut Digests) -> Result<(), SubjectFa
 fn push_entry(name: &str, text: &str, digests: &mut Digests) -> Result<(), SubjectFault>
     ensures { Adds digests.old digests.new result (entry_digest (name.now, text.now)) }
 {
-    match read_digest(name, text) {
-        Ok(Some(digest)) => Ok(digests.push(digest)?),
-        Ok(None) => Ok(()),
-        Err(fault) => Err(fault),
+    if let Some(digest) = read_digest(name, text)? {
+        digests.push(digest)?;
     }
+    Ok(())
 }
 
 /// The digest of an entry; none under a name that is not known.

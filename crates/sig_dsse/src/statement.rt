@@ -1,4 +1,12 @@
-//! `InTotoStatementV1`: what a payload says of its subjects (in-toto attestation framework, "Statement layer specification v1").
+//! `InTotoStatementV1`: what a payload says of its subjects (in-toto attestation framework, "Statement layer
+//! specification v1").
+//!
+//! ```text
+//! {"_type":"https://in-toto.io/Statement/v1",
+//!  "subject":[{"name":"image",
+//!    "digest":{"sha256":"ba7816bf8f01cfea414140de5dae2223b00361a396177a9cb410ff61f20015ad"}}],
+//!  "predicateType":"https://sigstore.dev/cosign/sign/v1","predicate":{}}
+//! ```
 ghost use Rattle.std.specs.Prelude.{◌≡◌};
 ghost use Rattle.sig_base.specs.declared.error.SigstoreError.TheVariants.{UnexpectedError};
 
@@ -53,9 +61,10 @@ impl InTotoStatementV1 {
     ghost use Rattle.sig_dsse.specs.CosignStatement.{cosign_fault, sha256_or_fault, unless_fault};
     ghost use Rattle.sig_dsse.specs.Seen.{seen};
 
-    /// Whether it is a statement as `cosign` signs it. Refuses with `UnexpectedError`, the first of these: `StatementType` where `_type` is not
-    /// `https://in-toto.io/Statement/v1`, `PredicateType` where the predicate's type is not `https://sigstore.dev/cosign/sign/v1`, `NoSubjects`
-    /// where there is no subject, `FirstSubjectWithoutSha256` where the first subject has no digest named `sha256`. It takes no memory.
+    /// Whether it is a statement as `cosign` signs it. Fails with `UnexpectedError`, the first of these:
+    /// `StatementType` where `_type` is not `https://in-toto.io/Statement/v1`, `PredicateType` where the predicate's
+    /// type is not `https://sigstore.dev/cosign/sign/v1`, `NoSubjects` where there is no subject,
+    /// `FirstSubjectWithoutSha256` where the first subject has no digest named `sha256`. It takes no memory.
     #[tactic(auto, unfolding(crate::specs::CosignStatement::cosign_fault))]
     pub fn validate_cosign_v1(&self) -> Result<()>
         ensures { result ≡ unless_fault (cosign_fault (seen self.now)) }
@@ -84,8 +93,8 @@ impl InTotoStatementV1 {
         }
     }
 
-    /// The text of the first subject's digest named `sha256`. Refuses with `UnexpectedError` of `FirstSubjectWithoutSha256` where the first
-    /// subject has no such digest, or there is no subject.
+    /// The text of the first subject's digest named `sha256`. Fails with `UnexpectedError` of
+    /// `FirstSubjectWithoutSha256` where the first subject has no such digest, or there is no subject.
     #[tactic(auto, unfolding(crate::specs::CosignStatement::sha256_or_fault))]
     pub fn subject_sha256_digest(&self, alloc: Global) -> Result<Text>
         ensures { Answers SigstoreError.OutOfMemory (λ text. text) result (sha256_or_fault (seen self.now)) }

@@ -1,6 +1,13 @@
 use Rattle.std.proofs.Common.{[], ◌∷◌, refl}
-use Rattle.sig_json.proofs.CanonicalTexts.{join_by-texts_of}
+use Rattle.sig_dsse.proofs.EnvelopeTexts.{join_by-texts_of}
 use Rattle.sig_dsse.proofs.envelope_text.braced.Goals as goal
 
 pub returns : goal.returns
-returns c = rw (c.in_ok-format.ensures.ok, c.in_ok-joined.ensures.ok, c.deref.ensures.value, join_by-texts_of (44 ∷ []) c.args.members.now.items) refl
+returns c =
+    rw (
+      c.in_ok-format.ensures.ok,
+      c.in_ok-joined.ensures.ok,
+      c.deref.ensures.value,
+      join_by-texts_of
+          (44 ∷ []) c.args.members.now.items,
+    ) refl

@@ -9,5 +9,6 @@ pub returns : goal.returns
 unfolding signature_text
 returns c =
     subst (λ members. IfOk c.braced.result (λ text. string_bytes text ≡ in_braces members))
-    (signature_members _ _ _ _ _ _ _ c.new-members.ensures.items c.as_slice.ensures c.as_str.ensures c.in_ok-push_bytes.ensures c.in_ok-push_text.ensures)
+    (signature_members _ _ _ _ _ _ _ c.new-members.ensures.items c.as_slice.ensures c.as_str.ensures
+    c.in_ok-push_bytes.ensures c.in_ok-push_text.ensures)
     c.braced.ensures
