@@ -3,7 +3,9 @@ use Rattle.std.proofs.Common.{ℕ, pos, List, [], refl}
 use Rattle.std.specs.Prelude.{codes}
 use Rattle.sig_json.specs.Data.{string}
 use Rattle.sig_bundle.specs.BundleRecord.{checkpoint_of, entry_of, kind_version_of, log_id_of, promise_of, proof_of}
-use Rattle.sig_bundle.specs.BundleTree.{checkpoint_rows, checkpoint_tree, entry_rows, entry_tree, kind_version_rows, kind_version_tree, log_id_rows, log_id_tree, promise_rows, promise_tree, proof_rows, proof_tree}
+use Rattle.sig_bundle.specs.BundleTree.{checkpoint_rows, checkpoint_tree, entry_rows, entry_tree, kind_version_rows}
+use Rattle.sig_bundle.specs.BundleTree.{kind_version_tree, log_id_rows, log_id_tree, promise_rows, promise_tree}
+use Rattle.sig_bundle.specs.BundleTree.{proof_rows, proof_tree}
 use Rattle.sig_bundle.specs.Written.{integer_tree, bytes_tree, list_tree, IsReadAs, OptionIsRead}
 use Rattle.sig_bundle.specs.declared.material.KindVersion.{KindVersion}
 use Rattle.sig_bundle.specs.declared.material.ProofFields.{ProofFields}
@@ -20,13 +22,19 @@ pub log_id_back : (id : List ℕ) → IsReadAs bytes_of (bytes_tree id) id → I
 unfolding log_id_tree
 log_id_back id back = (found [] bytes_of (codes "keyId") (log_id_rows id) (bytes_tree id) id refl back, refl)
 
-pub promise_back : (signature : List ℕ) → IsReadAs bytes_of (bytes_tree signature) signature → IsReadAs promise_of (promise_tree signature) signature
+pub promise_back : (signature : List ℕ) → IsReadAs bytes_of (bytes_tree signature) signature
+    → IsReadAs promise_of (promise_tree signature) signature
 unfolding promise_tree
-promise_back signature back = (found [] bytes_of (codes "signedEntryTimestamp") (promise_rows signature) (bytes_tree signature) signature refl back, refl)
+promise_back signature back = (
+  found [] bytes_of (codes "signedEntryTimestamp") (promise_rows signature) (bytes_tree signature) signature refl
+      back,
+  refl,
+)
 
 pub checkpoint_back : (text : List ℕ) → IsReadAs checkpoint_of (checkpoint_tree text) text
 unfolding checkpoint_tree
-checkpoint_back text = (found [] text_of (codes "envelope") (checkpoint_rows text) (string text) text refl (text_back text), refl)
+checkpoint_back text =
+    (found [] text_of (codes "envelope") (checkpoint_rows text) (string text) text refl (text_back text), refl)
 
 pub kind_version_back : (k : KindVersion) → IsReadAs kind_version_of (kind_version_tree k) k
 unfolding kind_version_tree kind_version_of
@@ -38,8 +46,10 @@ kind_version_back k = (
   refl,
 )
 
-pub proof_back : (p : ProofFields) → IsReadAs i64_of (integer_tree p.log_index) p.log_index → IsReadAs bytes_of (bytes_tree p.root_hash) p.root_hash
-    → IsReadAs i64_of (integer_tree p.tree_size) p.tree_size → IsReadAs (list_each bytes_of) (list_tree bytes_tree p.hashes) p.hashes
+pub proof_back : (p : ProofFields) → IsReadAs i64_of (integer_tree p.log_index) p.log_index
+    → IsReadAs bytes_of (bytes_tree p.root_hash) p.root_hash
+    → IsReadAs i64_of (integer_tree p.tree_size) p.tree_size
+    → IsReadAs (list_each bytes_of) (list_tree bytes_tree p.hashes) p.hashes
     → OptionIsRead checkpoint_of checkpoint_tree p.checkpoint → IsReadAs proof_of (proof_tree p) p
 unfolding proof_tree proof_of
 proof_back p index root size hashes checkpoint = (
@@ -53,8 +63,10 @@ proof_back p index root size hashes checkpoint = (
   refl,
 )
 
-pub entry_back : (e : TransparencyLogEntry) → IsReadAs i64_of (integer_tree e.log_index) e.log_index → OptionIsRead log_id_of log_id_tree e.log_id
-    → OptionIsRead kind_version_of kind_version_tree e.kind_version → IsReadAs i64_of (integer_tree e.integrated_time) e.integrated_time
+pub entry_back : (e : TransparencyLogEntry) → IsReadAs i64_of (integer_tree e.log_index) e.log_index
+    → OptionIsRead log_id_of log_id_tree e.log_id
+    → OptionIsRead kind_version_of kind_version_tree e.kind_version
+    → IsReadAs i64_of (integer_tree e.integrated_time) e.integrated_time
     → OptionIsRead promise_of promise_tree e.inclusion_promise → OptionIsRead proof_of proof_tree e.inclusion_proof
     → IsReadAs bytes_of (bytes_tree e.canonicalized_body) e.canonicalized_body → IsReadAs entry_of (entry_tree e) e
 unfolding entry_tree entry_of
@@ -71,4 +83,4 @@ entry_back e index id kind time promise proof body = (
   refl,
 )
 
-pub ruleset entries_back = (log_id_back, promise_back, checkpoint_back, kind_version_back, proof_back, entry_back)
+pub ruleset back = (log_id_back, promise_back, checkpoint_back, kind_version_back, proof_back, entry_back)

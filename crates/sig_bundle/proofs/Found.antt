@@ -33,37 +33,50 @@ over-some : (found : Option Data) (value : Data) → Some value ≡ over found (
 over-some None value = refl
 over-some (Some d) value = refl
 
-get_member-put_same : (name k : List ℕ) (value : Option Data) (ms : Members) → name ≡ k → get_member name (put_some k value ms) ≡ over (get_member name ms) value
+get_member-put_same : (name k : List ℕ) (value : Option Data) (ms : Members) → name ≡ k
+    → get_member name (put_some k value ms) ≡ over (get_member name ms) value
 get_member-put_same name k None ms same = over-none (get_member name ms)
 get_member-put_same name k (Some d) ms same = rw same (get_member-put k d ms ∙ over-some (get_member k ms) d)
 
-get_member-put_none : (name k : List ℕ) (value : Option Data) (ms : Members) → (name ≡ k → ⊥) → get_member name (put_some k value ms) ≡ get_member name ms
+get_member-put_none : (name k : List ℕ) (value : Option Data) (ms : Members) → (name ≡ k → ⊥)
+    → get_member name (put_some k value ms) ≡ get_member name ms
 get_member-put_none name k None ms other = refl
 get_member-put_none name k (Some d) ms other = get_member-put_other name k d ms other
 
-get_member-put_some : (name k : List ℕ) (value : Option Data) (ms : Members) → get_member name (put_some k value ms) ≡ (if bytes_eq name k then over (get_member name ms) value else get_member name ms)
+get_member-put_some : (name k : List ℕ) (value : Option Data) (ms : Members)
+    → get_member name (put_some k value ms) ≡ (if bytes_eq name k then over (get_member name ms) value
+    else get_member name ms)
 get_member-put_some name k value ms =
     elim (cases_Bool (bytes_eq name k)) [
       | inl same ↦ rw same (get_member-put_same name k value ms ((bytes_eq-Decides name k).0 same))
-      | inr other ↦ rw other (get_member-put_none name k value ms (λ e. let same : bytes_eq name k ≡ true = (bytes_eq-Decides name k).1 e in cc))
+      | inr other ↦ rw other (get_member-put_none name k value ms
+          (λ e. let same : bytes_eq name k ≡ true = (bytes_eq-Decides name k).1 e in cc))
     ]
 
-get_member-rows : (name : List ℕ) (ms : Members) (rows : List Row) → get_member name (rows_into ms rows) ≡ find_from name (get_member name ms) rows
+get_member-rows : (name : List ℕ) (ms : Members) (rows : List Row)
+    → get_member name (rows_into ms rows) ≡ find_from name (get_member name ms) rows
 get_member-rows name ms [] = refl
 get_member-rows name ms (row ∷ rows) =
-    get_member-rows name (put_some row.0 row.1 ms) rows ∙ ap (λ found. find_from name found rows) (get_member-put_some name row.0 row.1 ms)
+    get_member-rows name (put_some row.0 row.1 ms) rows ∙ ap (λ found. find_from name found rows)
+    (get_member-put_some name row.0 row.1 ms)
 
-member_of-object_of : (name : List ℕ) (rows : List Row) → member_of name (object_of rows) ≡ Some (find name rows >>= not_null)
+member_of-object_of : (name : List ℕ) (rows : List Row)
+    → member_of name (object_of rows) ≡ Some (find name rows >>= not_null)
 unfolding member_of
 member_of-object_of name rows = ap (λ found. Some (found >>= not_null)) (get_member-rows name no_members rows)
 
 -- a member that is there
-pub found : {A : Type 0} → (absent : A) (kind : Data → Option A) (name : List ℕ) (rows : List Row) (d : Data) (x : A) → find name rows ≡ Some d → IsReadAs kind d x → optional_or absent kind name (object_of rows) ≡ Some x
+pub found : {A : Type 0} → (absent : A) (kind : Data → Option A) (name : List ℕ) (rows : List Row) (d : Data) (x : A)
+    → find name rows ≡ Some d → IsReadAs kind d x → optional_or absent kind name (object_of rows) ≡ Some x
 unfolding optional_or
 found absent kind name rows d x there back = rw (member_of-object_of name rows, there, back.1, back.0) refl
 
 -- a member that may be absent
-pub found_option : {A : Type 0} → (kind : Data → Option A) (written : A → Data) (name : List ℕ) (rows : List Row) (o : Option A) → find name rows ≡ option_map written o → OptionIsRead kind written o → optional kind name (object_of rows) ≡ Some o
+pub found_option : {A : Type 0}
+    → (kind : Data → Option A) (written : A → Data) (name : List ℕ) (rows : List Row) (o : Option A)
+    → find name rows ≡ option_map written o → OptionIsRead kind written o
+    → optional kind name (object_of rows) ≡ Some o
 unfolding optional_or
 found_option kind written name rows None there back = rw (member_of-object_of name rows, there) refl
-found_option kind written name rows (Some x) there back = rw (member_of-object_of name rows, there, back.1, back.0) refl
+found_option kind written name rows (Some x) there back =
+    rw (member_of-object_of name rows, there, back.1, back.0) refl

@@ -1,7 +1,8 @@
 mod CheckedLaws
 mod Equality
 mod PassedLaws
-mod SignerLaws
+mod RefusalCauses
+mod SigningCertificateLaws
 mod VersionLaws
 pub mod EntriesBack
 pub mod EntryTrees

@@ -14,7 +14,8 @@ object-members_in (string s) h = absurd cc
 object-members_in (array ds) h = absurd cc
 object-members_in (object ms) h = refl
 
-pub members_in-with_member : (name : List ℕ) (value d : Data) → IsSome (as_object d) → members_in (with_member name value d) ≡ put name value (members_in d)
+pub members_in-with_member : (name : List ℕ) (value d : Data) → IsSome (as_object d)
+    → members_in (with_member name value d) ≡ put name value (members_in d)
 members_in-with_member name value null h = absurd cc
 members_in-with_member name value (boolean b) h = absurd cc
 members_in-with_member name value (number n) h = absurd cc
@@ -22,7 +23,8 @@ members_in-with_member name value (string s) h = absurd cc
 members_in-with_member name value (array ds) h = absurd cc
 members_in-with_member name value (object ms) h = refl
 
-pub is_object-with_member : (name : List ℕ) (value d : Data) → IsSome (as_object d) → IsSome (as_object (with_member name value d))
+pub is_object-with_member : (name : List ℕ) (value d : Data) → IsSome (as_object d)
+    → IsSome (as_object (with_member name value d))
 is_object-with_member name value null h = h
 is_object-with_member name value (boolean b) h = h
 is_object-with_member name value (number n) h = h

@@ -9,17 +9,22 @@ use Rattle.sig_bundle.specs.Content.{digests_in, subject_refusal}
 use Rattle.sig_bundle.specs.declared.bundle_error.BundleErrorKind.{BundleErrorKind}
 use Rattle.sig_bundle.specs.declared.bundle_error.BundleErrorKind.TheVariants.{DssePayloadDecode, OutOfMemory}
 
-pub digests-told : (payload : List ℕ) (digests : List ArtifactDigest) → digests_of_payload payload ≡ Ok digests → digests_in payload ≡ Ok digests
+pub digests-told : (payload : List ℕ) (digests : List ArtifactDigest) → digests_of_payload payload ≡ Ok digests
+    → digests_in payload ≡ Ok digests
 digests-told payload digests told = let has = payload_told-digests payload digests told in rw (has.1, has.2) refl
 
-pub fault-told : (payload : List ℕ) (fault : SubjectFault) (refusal : BundleErrorKind) → refusal ≡ subject_refusal fault
-    → (payload_fault.Subjects fault ≡ payload_fault.OutOfMemory) ⊎ (digests_of_payload payload ≡ Err (payload_fault.Subjects fault))
+pub fault-told : (payload : List ℕ) (fault : SubjectFault) (refusal : BundleErrorKind)
+    → refusal ≡ subject_refusal fault
+    → (payload_fault.Subjects fault ≡ payload_fault.OutOfMemory) ⊎
+    (digests_of_payload payload ≡ Err (payload_fault.Subjects fault))
     → (refusal ≡ OutOfMemory) ⊎ (digests_in payload ≡ Err refusal)
 fault-told payload fault refusal named (inl memory) = cc
 fault-told payload fault refusal named (inr told) =
     let has = payload_told-fault payload fault told in inr (rw (has.1, has.2, named) refl)
 
-pub none-told : (payload : List ℕ) → (payload_fault.NoStatement ≡ payload_fault.OutOfMemory) ⊎ (digests_of_payload payload ≡ Err payload_fault.NoStatement)
+pub none-told : (payload : List ℕ)
+    → (payload_fault.NoStatement ≡ payload_fault.OutOfMemory) ⊎
+    (digests_of_payload payload ≡ Err payload_fault.NoStatement)
     → (DssePayloadDecode ≡ OutOfMemory) ⊎ (digests_in payload ≡ Err DssePayloadDecode)
 none-told payload (inl memory) = cc
 none-told payload (inr told) = inr (rw (payload_told-none payload told) refl)

@@ -1,4 +1,5 @@
--- *Records*: a bundle (Sigstore bundle format), object by object: each member with its name, its kind, and what it means where it is absent.
+-- *Records*: a bundle (Sigstore bundle format), object by object: each member with its name, its kind, and what it
+-- means where it is absent.
 use Rattle.std.specs.Prelude.{ℕ, List, [], ◌∷◌, codes, Option, Some, option_map, Result, ⊤}
 use Rattle.sig_base.specs.OptionSteps.{◌>>=◌}
 use Rattle.sig_json.specs.Data.{Data}
@@ -21,7 +22,7 @@ use Rattle.sig_json.specs.Member.{optional, optional_bytes, optional_i64, option
 use Rattle.sig_json.specs.Record.{record_in}
 use Rattle.sig_json.specs.declared.error.JsonError.{JsonError}
 
--- ---- the signer
+-- ---- the certificates
 
 abbrev pub certificate_of : Data → Option (List ℕ)
 certificate_of = optional_bytes (codes "rawBytes")
@@ -33,12 +34,13 @@ chain_of = optional_list certificate_of (codes "certificates")
 abbrev pub key_hint_of : Data → Option ⊤
 key_hint_of d = option_map (λ _. tt) (as_object d)
 
-unfoldable pub signer_of : Data → Option (Option MaterialContent)
-signer_of d = do
+unfoldable pub material_content_of : Data → Option (Option MaterialContent)
+material_content_of d = do
   certificate ← optional certificate_of (codes "certificate") d
   chain ← optional chain_of (codes "x509CertificateChain") d
   hint ← optional key_hint_of (codes "publicKey") d
-  at_most_one (option_map material.Certificate certificate ∷ option_map material.X509CertificateChain chain ∷ option_map (λ _. material.PublicKey) hint ∷ [])
+  at_most_one (option_map material.Certificate certificate ∷ option_map material.X509CertificateChain chain ∷
+      option_map (λ _. material.PublicKey) hint ∷ [])
 
 -- ---- an entry of a log
 
@@ -64,17 +66,23 @@ proof_of d = do
   tree_size ← optional_i64 (codes "treeSize") d
   hashes ← optional_list bytes_of (codes "hashes") d
   checkpoint ← optional checkpoint_of (codes "checkpoint") d
-  Some (record { log_index = log_index; root_hash = root_hash; tree_size = tree_size; hashes = hashes; checkpoint = checkpoint })
+  Some (record {
+    log_index = log_index;
+    root_hash = root_hash;
+    tree_size = tree_size;
+    hashes = hashes;
+    checkpoint = checkpoint;
+  })
 
 unfoldable pub entry_of : Data → Option TransparencyLogEntry
 entry_of d = do
   log_index ← optional_i64 (codes "logIndex") d
-  integrated_time ← optional_i64 (codes "integratedTime") d
-  canonicalized_body ← optional_bytes (codes "canonicalizedBody") d
   log_id ← optional log_id_of (codes "logId") d
   kind_version ← optional kind_version_of (codes "kindVersion") d
+  integrated_time ← optional_i64 (codes "integratedTime") d
   inclusion_promise ← optional promise_of (codes "inclusionPromise") d
   inclusion_proof ← optional proof_of (codes "inclusionProof") d
+  canonicalized_body ← optional_bytes (codes "canonicalizedBody") d
   Some (record {
     log_index = log_index;
     log_id = log_id;
@@ -87,11 +95,11 @@ entry_of d = do
 
 unfoldable pub material_of : Data → Option VerificationMaterial
 material_of d = do
-  signer ← signer_of d
+  content ← material_content_of d
   tlog_entries ← optional_list entry_of (codes "tlogEntries") d
-  Some (record { content = signer; tlog_entries = tlog_entries })
+  Some (record { content = content; tlog_entries = tlog_entries })
 
--- ---- what is signed
+-- ---- the content
 
 abbrev pub digest_of : Data → Option (List ℕ)
 digest_of = optional_bytes (codes "digest")
@@ -117,7 +125,8 @@ envelope_of d = do
 
 -- the one of both that is there
 unfoldable pub one_content : Option MessageSignature → Option DsseEnvelope → Option (Option Content)
-one_content signature envelope = at_most_one (option_map content.MessageSignature signature ∷ option_map content.DsseEnvelope envelope ∷ [])
+one_content signature envelope =
+    at_most_one (option_map content.MessageSignature signature ∷ option_map content.DsseEnvelope envelope ∷ [])
 
 unfoldable pub content_of : Data → Option (Option Content)
 content_of d = do
@@ -131,8 +140,8 @@ unfoldable pub bundle_of : Data → Option Bundle
 bundle_of d = do
   media_type ← optional_text (codes "mediaType") d
   verification_material ← optional material_of (codes "verificationMaterial") d
-  signed ← content_of d
-  Some (record { media_type = media_type; verification_material = verification_material; content = signed })
+  content ← content_of d
+  Some (record { media_type = media_type; verification_material = verification_material; content = content })
 
 -- the bundle of a text, or why it is none
 abbrev pub bundle_in : List ℕ → Result Bundle JsonError

@@ -1,4 +1,5 @@
--- The tree of a bundle, object by object, by its rows: every text, integer and bytes value is written, also where it is empty; only what is none is left out.
+-- The tree of a bundle, object by object, by its rows: every text, integer and bytes value is written, also where it
+-- is empty; only what is none is left out.
 use Rattle.std.specs.Prelude.{ℕ, List, [], ◌∷◌, codes, Option, Some, None, option_map}
 use Rattle.sig_json.specs.Data.{Data, string}
 use Rattle.sig_bundle.specs.Written.{Row, object_of, integer_tree, bytes_tree, list_tree}
@@ -90,25 +91,26 @@ entry_rows e =
 unfoldable pub entry_tree : TransparencyLogEntry → Data
 entry_tree e = object_of (entry_rows e)
 
--- ---- the signer
+-- ---- the certificates
 
--- the member of the signer's kind
-abbrev pub signer_row : Option MaterialContent → Row
-signer_row None = (codes "publicKey", None)
-signer_row (Some (material.Certificate der)) = (codes "certificate", Some (certificate_tree der))
-signer_row (Some (material.X509CertificateChain chain)) = (codes "x509CertificateChain", Some (chain_tree chain))
-signer_row (Some material.PublicKey) = (codes "publicKey", Some (object_of []))
+-- the member of the content's kind
+abbrev pub material_content_row : Option MaterialContent → Row
+material_content_row None = (codes "publicKey", None)
+material_content_row (Some (material.Certificate der)) = (codes "certificate", Some (certificate_tree der))
+material_content_row (Some (material.X509CertificateChain chain)) =
+    (codes "x509CertificateChain", Some (chain_tree chain))
+material_content_row (Some material.PublicKey) = (codes "publicKey", Some (object_of []))
 
 abbrev pub material_rows : Row → Data → List Row
-material_rows signer entries =
-    signer
+material_rows content entries =
+    content
     ∷ (codes "tlogEntries", Some entries)
     ∷ []
 
 unfoldable pub material_tree : VerificationMaterial → Data
-material_tree m = object_of (material_rows (signer_row m.content) (list_tree entry_tree m.tlog_entries))
+material_tree m = object_of (material_rows (material_content_row m.content) (list_tree entry_tree m.tlog_entries))
 
--- ---- what is signed
+-- ---- the content
 
 abbrev pub message_signature_rows : MessageSignature → List Row
 message_signature_rows m =
@@ -154,4 +156,5 @@ bundle_rows media_type material content =
     ∷ []
 
 unfoldable pub bundle_tree : Bundle → Data
-bundle_tree b = object_of (bundle_rows b.media_type (option_map material_tree b.verification_material) (content_row b.content))
+bundle_tree b =
+    object_of (bundle_rows b.media_type (option_map material_tree b.verification_material) (content_row b.content))

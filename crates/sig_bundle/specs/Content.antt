@@ -1,4 +1,5 @@
--- What a bundle signs, as far as the bundle alone can tell (Sigstore bundle format; DSSE protocol; in-toto attestation framework).
+-- The content of a bundle, as far as the bundle alone can tell (Sigstore bundle format; DSSE protocol; in-toto
+-- attestation framework).
 use Rattle.std.specs.Prelude.{ℕ, List, [], ◌∷◌, length, Option, Some, None, Result, Ok, Err}
 use Rattle.sig_base.specs.ResultSteps.{◌>>=◌}
 use Rattle.sig_dsse.specs.EnvelopeText.{envelope_text}
@@ -13,7 +14,13 @@ use Rattle.sig_dsse.specs.declared.recognized.SubjectFault.TheVariants as fault
 use Rattle.sig_bundle.specs.declared.bundle.Content.{Content}
 use Rattle.sig_bundle.specs.declared.bundle.Content.TheVariants.{MessageSignature, DsseEnvelope as Envelope}
 use Rattle.sig_bundle.specs.declared.bundle_error.BundleErrorKind.{BundleErrorKind}
-use Rattle.sig_bundle.specs.declared.bundle_error.BundleErrorKind.TheVariants.{SignatureMissing, DsseInvalidSignatureCount, DssePayloadDecode, DsseTooManySubjects, DsseTooManySubjectDigests, DsseSubjectDigestMalformed, DsseNoRecognizedSubjectDigest, OutOfMemory}
+use Rattle.sig_bundle.specs.declared.bundle_error.BundleErrorKind.TheVariants.{SignatureMissing}
+use Rattle.sig_bundle.specs.declared.bundle_error.BundleErrorKind.TheVariants.{DsseInvalidSignatureCount}
+use Rattle.sig_bundle.specs.declared.bundle_error.BundleErrorKind.TheVariants.{DssePayloadDecode, DsseTooManySubjects}
+use Rattle.sig_bundle.specs.declared.bundle_error.BundleErrorKind.TheVariants.{DsseTooManySubjectDigests}
+use Rattle.sig_bundle.specs.declared.bundle_error.BundleErrorKind.TheVariants.{DsseSubjectDigestMalformed}
+use Rattle.sig_bundle.specs.declared.bundle_error.BundleErrorKind.TheVariants.{DsseNoRecognizedSubjectDigest}
+use Rattle.sig_bundle.specs.declared.bundle_error.BundleErrorKind.TheVariants.{OutOfMemory}
 use Rattle.sig_bundle.specs.declared.content_check.CheckedContent.{CheckedContent}
 use Rattle.sig_bundle.specs.declared.content_check.CheckedContent.TheVariants.{Dsse}
 
@@ -35,7 +42,8 @@ subject_refusal (fault.Malformed name) = DsseSubjectDigestMalformed name
 subject_refusal fault.NoneRecognized = DsseNoRecognizedSubjectDigest
 subject_refusal fault.OutOfMemory = OutOfMemory
 
-abbrev pub under_bundle_names : Result (List ArtifactDigest) SubjectFault → Result (List ArtifactDigest) BundleErrorKind
+abbrev pub under_bundle_names : Result (List ArtifactDigest) SubjectFault
+    → Result (List ArtifactDigest) BundleErrorKind
 under_bundle_names (Ok digests) = Ok digests
 under_bundle_names (Err fault) = Err (subject_refusal fault)
 
@@ -45,14 +53,15 @@ digests_in payload = do
   statement ← statement_or_refusal (statement_of payload)
   under_bundle_names (digests_or_fault statement)
 
--- a signature, and what it is over
-pub record SignedContent : Type 0 where
+-- a signature, and what it has to be over: nobody has checked that it is
+pub record ContentWithSignature : Type 0 where
   pub signature : List ℕ
   pub content : CheckedContent
 
--- what an envelope signs: its one signature, over the encoding of its type and payload, which is a statement about artifacts
-abbrev pub enveloped : DsseEnvelope → Result SignedContent BundleErrorKind
-enveloped envelope = do
+-- the content of an envelope: its one signature, which has to be over the encoding of its type and payload, which is a
+-- statement about artifacts
+abbrev pub envelope_content : DsseEnvelope → Result ContentWithSignature BundleErrorKind
+envelope_content envelope = do
   signature ← signature_among envelope.signatures
   digests ← digests_in envelope.payload
   Ok (record {
@@ -60,8 +69,8 @@ enveloped envelope = do
     content = Dsse (pae envelope.payload_type envelope.payload) digests (envelope_text envelope) envelope.payload;
   })
 
--- what is signed. A signature over an artifact alone is not read yet.
-abbrev pub signed : Option Content → Result SignedContent BundleErrorKind
-signed None = Err SignatureMissing
-signed (Some (MessageSignature _)) = Err SignatureMissing
-signed (Some (Envelope envelope)) = enveloped envelope
+-- the content with its signature. A signature over an artifact alone is not read yet.
+abbrev pub content_with_signature : Option Content → Result ContentWithSignature BundleErrorKind
+content_with_signature None = Err SignatureMissing
+content_with_signature (Some (MessageSignature _)) = Err SignatureMissing
+content_with_signature (Some (Envelope envelope)) = envelope_content envelope

@@ -1,8 +1,8 @@
 -- For private clauses: what is seen of values of the code.
 use Rattle.std.specs.Prelude.{ℕ, List, [], ◌∷◌, Result, Ok, Err}
 use Rattle.std.specs.Borrow.{Bor}
-use Rattle.sig_bundle.specs.Content.{SignedContent}
-use Rattle.sig_bundle.specs.declared.content_check.Signed.{Signed}
+use Rattle.sig_bundle.specs.Content.{ContentWithSignature}
+use Rattle.sig_bundle.specs.declared.content_check.ContentWithSignature.{ContentWithSignature as Held}
 
 -- what is lent, or why it is not
 abbrev pub lent_now : {A E : Type 0} → Result (Bor A) E → Result A E
@@ -15,5 +15,5 @@ texts_now (Ok text) = Ok (text.now ∷ [])
 texts_now (Err e) = Err e
 
 -- the signature and what it is over
-abbrev pub seen_signed : Signed → SignedContent
-seen_signed s = record { signature = s.signature; content = s.content }
+abbrev pub seen_content : Held → ContentWithSignature
+seen_content s = record { signature = s.signature; content = s.content }

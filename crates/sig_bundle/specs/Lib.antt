@@ -3,11 +3,12 @@ pub mod Checked
 pub mod Content
 pub mod Lent
 pub mod Passed
+pub mod Promise
+pub mod Refusals
 pub mod Profile
-pub mod Signer
+pub mod SigningCertificate
 pub mod Meant
 pub mod Version
 pub mod BundleTree
 pub mod ReadBack
-pub mod EntryRest
 pub mod Written

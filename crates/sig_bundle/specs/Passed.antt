@@ -1,4 +1,5 @@
--- *Passed bundle*: what a bundle that passes its own checks holds (Sigstore bundle format; DSSE protocol; in-toto attestation framework; RFC 5280).
+-- *Passed bundle*: what a bundle that passes its own checks holds (Sigstore bundle format; DSSE protocol; in-toto
+-- attestation framework; RFC 5280).
 use Rattle.std.specs.Prelude.{◌≡◌, ℕ, List, [], ◌∷◌, Option, Some, None}
 use Rattle.sig_dsse.specs.EnvelopeText.{envelope_text}
 use Rattle.sig_dsse.specs.Named.{AreTaken}
@@ -24,19 +25,20 @@ use Rattle.sig_bundle.specs.declared.material.VerificationMaterial.{Verification
 use Rattle.sig_bundle.specs.declared.version.Version.TheVariants.{Bundle0_3}
 
 -- the material holds one certificate, which is this one and may sign
-pub record IsSignedBy (content : Option MaterialContent) (certificate : Cert) : Type 0 where
+pub record HoldsLeaf (content : Option MaterialContent) (certificate : Cert) : Type 0 where
   pub der : List ℕ
   pub held : content ≡ Some (Certificate der)
   pub read : IsCertificate der certificate
   pub may_sign : leaf_refusal certificate ≡ None
 
--- an envelope has this signature and no other, its payload is a statement of which digests are taken, and all that the signature is over is kept
+-- an envelope has this signature and no other, its payload is a statement of which digests are taken, and all that the
+-- signature has to be over is kept
 pub record IsEnvelopeOf (content : Option Content) (bytes : List ℕ) (kept : CheckedContent) : Type 0 where
   pub envelope : DsseEnvelope
   pub held : content ≡ Some (Envelope envelope)
   pub signature : DsseSignature
   pub only : envelope.signatures ≡ signature ∷ []
-  pub signed : signature.sig ≡ bytes
+  pub same : signature.sig ≡ bytes
   pub statement : Statement
   pub stated : statement_of envelope.payload ≡ Some statement
   pub digests : List ArtifactDigest
@@ -50,11 +52,11 @@ pub record HasProof (entry : TransparencyLogEntry) : Type 0 where
   pub text : List ℕ
   pub checkpoint : proof.checkpoint ≡ Some text
 
--- the bundle is one of version 0.3, and has all that this version demands of a signed statement
+-- the bundle is one of version 0.3, and has all that this version demands of a statement with a signature
 pub record IsPassed (bundle : Bundle) (c : Checked) : Type 0 where
   pub material : VerificationMaterial
   pub brought : bundle.verification_material ≡ Some material
-  pub signer : IsSignedBy material.content c.certificate
+  pub certificate : HoldsLeaf material.content c.certificate
   pub envelope : IsEnvelopeOf bundle.content c.signature c.content
   pub logged : material.tlog_entries ≡ c.entry ∷ []
   pub version : IsMediaType bundle.media_type Bundle0_3

@@ -1,10 +1,12 @@
--- What a bundle's media type demands of its log entries (sigstore_bundle.proto, the comments on media_type and tlog_entries).
+-- What a bundle's media type demands of its log entries (sigstore_bundle.proto, the comments on media_type and
+-- tlog_entries).
 use Rattle.std.specs.Prelude.{ℕ, List, [], ◌∷◌, length, Option, Some, None, Result, Ok, Err}
 use Rattle.sig_bundle.specs.declared.bundle_error.BundleErrorKind.{BundleErrorKind}
 use Rattle.sig_bundle.specs.declared.bundle_error.BundleErrorKind.TheVariants.{TlogEntry, BundleProfile}
 use Rattle.sig_bundle.specs.declared.bundle_error.BundleProfileErrorKind.{BundleProfileErrorKind}
 use Rattle.sig_bundle.specs.declared.bundle_error.BundleProfileErrorKind.TheVariants.{Bundle02Profile, Unknown}
-use Rattle.sig_bundle.specs.declared.bundle_error.Bundle02ProfileErrorKind.TheVariants.{InclusionProofMissing, CheckpointMissing}
+use Rattle.sig_bundle.specs.declared.bundle_error.Bundle02ProfileErrorKind.TheVariants.{InclusionProofMissing}
+use Rattle.sig_bundle.specs.declared.bundle_error.Bundle02ProfileErrorKind.TheVariants.{CheckpointMissing}
 use Rattle.sig_bundle.specs.declared.material.ProofFields.{ProofFields}
 use Rattle.sig_bundle.specs.declared.material.TransparencyLogEntry.{TransparencyLogEntry}
 use Rattle.sig_bundle.specs.declared.version.Version.{Version}
@@ -26,8 +28,8 @@ abbrev pub lacks_proof : Option ProofFields → Option BundleProfileErrorKind
 lacks_proof None = Some (Bundle02Profile InclusionProofMissing)
 lacks_proof (Some proof) = lacks_checkpoint proof.checkpoint
 
--- The first that the entry lacks of what the version demands. The versions 0.1 and 0.2 are not read yet: they are as unknown as
--- a media type that names no version.
+-- The first that the entry lacks of what the version demands. The versions 0.1 and 0.2 are not read yet: they are as
+-- unknown as a media type that names no version.
 abbrev pub lacks : List ℕ → Option Version → TransparencyLogEntry → Option BundleProfileErrorKind
 lacks text None entry = Some (Unknown text)
 lacks text (Some Bundle0_1) entry = Some (Unknown text)

@@ -8,14 +8,14 @@ use Rattle.sig_bundle.specs.declared.bundle.Content.TheVariants as content
 use Rattle.sig_bundle.specs.declared.material.MaterialContent.{MaterialContent}
 use Rattle.sig_bundle.specs.declared.material.MaterialContent.TheVariants as material
 
--- the signer is read back
-abbrev pub SignerIsRead : Option MaterialContent → Type 0
-SignerIsRead None = ⊤
-SignerIsRead (Some (material.Certificate der)) = IsReadAs certificate_of (certificate_tree der) der
-SignerIsRead (Some (material.X509CertificateChain chain)) = IsReadAs chain_of (chain_tree chain) chain
-SignerIsRead (Some material.PublicKey) = ⊤
+-- the material's content is read back
+abbrev pub MaterialContentIsRead : Option MaterialContent → Type 0
+MaterialContentIsRead None = ⊤
+MaterialContentIsRead (Some (material.Certificate der)) = IsReadAs certificate_of (certificate_tree der) der
+MaterialContentIsRead (Some (material.X509CertificateChain chain)) = IsReadAs chain_of (chain_tree chain) chain
+MaterialContentIsRead (Some material.PublicKey) = ⊤
 
--- what is signed is read back
+-- the content is read back
 abbrev pub ContentIsRead : Option Content → Type 0
 ContentIsRead None = ⊤
 ContentIsRead (Some (content.MessageSignature m)) = IsReadAs message_signature_of (message_signature_tree m) m

@@ -11,16 +11,16 @@ pub struct Bundle {
     pub media_type: Text,
     /// Certificates and log entries.
     pub verification_material: Option<VerificationMaterial>,
-    /// What is signed, with the signature.
+    /// What the signature is said to be over, with the signature.
     pub content: Option<Content>,
 }
 
-/// What is signed, with the signature.
+/// What a signature is said to be over, with the signature.
 #[derive(Drop, PartialEq, Eq)]
 pub enum Content {
     /// A signature over an artifact.
     MessageSignature(MessageSignature),
-    /// A signed statement about artifacts.
+    /// An envelope, whose payload is to be a statement about artifacts.
     DsseEnvelope(DsseEnvelope),
 }
 
@@ -29,6 +29,6 @@ pub enum Content {
 pub struct MessageSignature {
     /// The signature itself.
     pub signature: Bytes,
-    /// The digest that the signer says the artifact has.
+    /// The digest that the bundle says the artifact has.
     pub message_digest: Option<Bytes>,
 }

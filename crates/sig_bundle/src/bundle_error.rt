@@ -1,8 +1,10 @@
 //! `BundleErrorKind`: why a bundle does not pass its own checks.
 
 ghost use Rattle.std.specs.Prelude.{◌≡◌};
-ghost use Rattle.sig_bundle.specs.declared.bundle_error.BundleErrorKind.TheVariants.{OutOfMemory as Memory, BundleProfile};
-ghost use Rattle.sig_bundle.specs.declared.bundle_error.BundleProfileErrorKind.TheVariants.{Bundle01Profile, Bundle02Profile};
+ghost use Rattle.sig_bundle.specs.declared.bundle_error.BundleErrorKind.TheVariants.{OutOfMemory as Memory};
+ghost use Rattle.sig_bundle.specs.declared.bundle_error.BundleErrorKind.TheVariants.{BundleProfile};
+ghost use Rattle.sig_bundle.specs.declared.bundle_error.BundleProfileErrorKind.TheVariants.{Bundle01Profile};
+ghost use Rattle.sig_bundle.specs.declared.bundle_error.BundleProfileErrorKind.TheVariants.{Bundle02Profile};
 ghost use Rattle.sig_bundle.specs.Content.{subject_refusal};
 
 use sig_base::{OutOfMemory, Text};
@@ -10,7 +12,8 @@ use sig_certificate::CertificateValidationError;
 use sig_dsse::{DigestName, SubjectFault};
 use thiserror::Error;
 
-/// Why a bundle does not pass its own checks, or that memory ran out before the answer. The variants stand in the order of the checks.
+/// Why a bundle does not pass its own checks, or that memory ran out before the answer. The variants stand in the
+/// order of the checks.
 #[derive(Debug, Drop, PartialEq, Eq, Error)]
 pub enum BundleErrorKind {
     /// There is no verification material.
@@ -31,7 +34,7 @@ pub enum BundleErrorKind {
     /// A later certificate is a root.
     #[error("RootInChain")]
     RootInChain,
-    /// Nothing is signed.
+    /// There is no content, or one that is not read: for now a signature over an artifact alone.
     #[error("SignatureMissing")]
     SignatureMissing,
     /// An envelope has this number of signatures, and not one.
@@ -58,7 +61,7 @@ pub enum BundleErrorKind {
     /// The log entry has not what the media type demands.
     #[error("BundleProfile")]
     BundleProfile(BundleProfileErrorKind),
-    /// No memory could be had.
+    /// Out of memory.
     #[error("OutOfMemory")]
     OutOfMemory,
 }

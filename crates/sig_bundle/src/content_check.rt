@@ -1,9 +1,9 @@
-//! What a bundle signs, as far as the bundle alone can tell.
+//! A bundle's content, as far as the bundle alone can tell. No signature is checked here.
 
 ghost use Rattle.std.specs.Prelude.{◌≡◌};
 ghost use Rattle.sig_base.specs.Answers.{Answers};
-ghost use Rattle.sig_bundle.specs.Content.{signature_among, digests_in, enveloped, signed};
-ghost use Rattle.sig_bundle.specs.Lent.{lent_now, seen_signed};
+ghost use Rattle.sig_bundle.specs.Content.{signature_among, digests_in, envelope_content, content_with_signature};
+ghost use Rattle.sig_bundle.specs.Lent.{lent_now, seen_content};
 
 use crate::bundle::Content;
 use crate::bundle_error::BundleErrorKind;
@@ -14,14 +14,14 @@ use sig_dsse::{
 };
 use std::alloc::Global;
 
-/// What the signature of a bundle is over.
+/// What the signature of a bundle has to be over.
 #[derive(Drop)]
 pub enum CheckedContent {
     /// An artifact itself, by its digest.
     MessageSignature,
     /// A statement about artifacts, in an envelope.
     Dsse {
-        /// What the signature is over: the pre-authentication encoding (DSSE protocol).
+        /// What the signature has to be over: the pre-authentication encoding (DSSE protocol).
         pae: Bytes,
         /// The digests of the statement's subjects that an artifact can be compared with, in order.
         subject_digests: Digests,
@@ -32,16 +32,16 @@ pub enum CheckedContent {
     },
 }
 
-/// A signature, and what it is over.
+/// A signature, and what it has to be over.
 #[derive(Drop)]
-pub(crate) struct Signed {
+pub(crate) struct ContentWithSignature {
     /// The signature itself.
     pub(crate) signature: Bytes,
-    /// What it is over.
+    /// What it has to be over.
     pub(crate) content: CheckedContent,
 }
 
-/// The one signature. `DsseInvalidSignatureCount` with their number exactly where there is not one.
+/// The one signature. `DsseInvalidSignatureCount` with their number if and only if there is not one.
 fn only_signature(signatures: &DsseSignatures) -> Result<&DsseSignature, BundleErrorKind>
     ensures { lent_now result ≡ signature_among signatures.now }
 {
@@ -51,8 +51,8 @@ fn only_signature(signatures: &DsseSignatures) -> Result<&DsseSignature, BundleE
     }
 }
 
-/// The digests of the statement's subjects. `DssePayloadDecode` where the payload is no statement, then the refusals of
-/// [`recognized_digests`](sig_dsse::recognized_digests) under the names of a bundle.
+/// The digests of the statement's subjects. `DssePayloadDecode` where the payload is no statement, then the refusals
+/// of [`recognized_digests`](sig_dsse::recognized_digests) under the names of a bundle.
 #[tactic(auto, using(crate::proofs::PayloadDigests::payload_digests))]
 fn subject_digests(alloc: Global, payload: &[u8]) -> Result<Digests, BundleErrorKind>
     ensures { Answers BundleErrorKind.OutOfMemory (λ digests. digests) result (digests_in payload.now) }
@@ -65,9 +65,13 @@ fn subject_digests(alloc: Global, payload: &[u8]) -> Result<Digests, BundleError
     }
 }
 
-/// What an envelope signs. `DsseInvalidSignatureCount` where it has not one signature, then the refusals of its payload.
-fn checked_envelope(alloc: Global, envelope: &DsseEnvelope) -> Result<Signed, BundleErrorKind>
-    ensures { Answers BundleErrorKind.OutOfMemory seen_signed result (enveloped envelope.now) }
+/// The content of an envelope. `DsseInvalidSignatureCount` where it has not one signature, then the refusals of its
+/// payload.
+fn checked_envelope(
+    alloc: Global,
+    envelope: &DsseEnvelope,
+) -> Result<ContentWithSignature, BundleErrorKind>
+    ensures { Answers BundleErrorKind.OutOfMemory seen_content result (envelope_content envelope.now) }
 {
     let signature = only_signature(&envelope.signatures)?;
     let subject_digests = subject_digests(alloc, envelope.payload.as_slice())?;
@@ -76,7 +80,7 @@ fn checked_envelope(alloc: Global, envelope: &DsseEnvelope) -> Result<Signed, Bu
         envelope.payload_type.as_str(),
         envelope.payload.as_slice(),
     )?;
-    Ok(Signed {
+    Ok(ContentWithSignature {
         signature: signature.sig.copy(alloc)?,
         content: CheckedContent::Dsse {
             pae,
@@ -87,13 +91,13 @@ fn checked_envelope(alloc: Global, envelope: &DsseEnvelope) -> Result<Signed, Bu
     })
 }
 
-/// What the bundle signs. `SignatureMissing` exactly where there is no content, or a signature over an artifact alone, which is not read yet; then
-/// the refusals of the envelope.
+/// The content. `SignatureMissing` if and only if there is no content, or a signature over an artifact alone, which is
+/// not read yet; then the refusals of the envelope.
 pub(crate) fn checked_content(
     alloc: Global,
     content: &Option<Content>,
-) -> Result<Signed, BundleErrorKind>
-    ensures { Answers BundleErrorKind.OutOfMemory seen_signed result (signed content.now) }
+) -> Result<ContentWithSignature, BundleErrorKind>
+    ensures { Answers BundleErrorKind.OutOfMemory seen_content result (content_with_signature content.now) }
 {
     match content {
         Some(Content::DsseEnvelope(envelope)) => checked_envelope(alloc, envelope),

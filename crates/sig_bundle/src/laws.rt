@@ -2,6 +2,7 @@
 ghost use Rattle.std.specs.Prelude.{◌≡◌, ◌↔◌, IsTrue, Ok};
 ghost use Rattle.sig_bundle.specs.Checked.{Checked, IsChecked};
 ghost use Rattle.sig_bundle.specs.Passed.{IsPassed};
+ghost use Rattle.sig_bundle.specs.Refusals.{RefusalsHaveTheirCause};
 ghost use Rattle.sig_bundle.specs.declared.bundle.Bundle.{Bundle};
 
 use crate::bundle::{Bundle, Content, MessageSignature};
@@ -9,62 +10,68 @@ use crate::material::{
     KindVersion, MaterialContent, ProofFields, TransparencyLogEntry, VerificationMaterial,
 };
 
-/// A bundle passes its own checks exactly where it has all that the format demands of a statement signed by one certificate and logged once, under
-/// version 0.3. It has no code.
+/// A bundle passes its own checks if and only if it has all that the format demands of a statement with one
+/// certificate, one signature and one log entry, under version 0.3. It has no code.
 pub fn passed_bundles()
     ensures { (bundle : Bundle) (c : Checked) → IsChecked bundle (Ok c) ↔ IsPassed bundle c }
 {}
 
-/// Two bundles are equal exactly where all their parts are.
+/// Each refusal of a bundle's own checks comes if and only if it has its cause in the words of the bundle: the rules
+/// before it hold, and this one does not. It has no code.
+pub fn causes_of_refusals()
+    ensures { RefusalsHaveTheirCause }
+{}
+
+/// Two bundles are equal if and only if all their parts are.
 pub fn equal_bundles(one: &Bundle, other: &Bundle) -> bool
     ensures { IsTrue result ↔ (one.now ≡ other.now) }
 {
     one == other
 }
 
-/// Two contents are equal exactly where they are of one kind, and all their parts are equal.
+/// Two contents are equal if and only if they are of one kind, and all their parts are equal.
 pub fn equal_contents(one: &Content, other: &Content) -> bool
     ensures { IsTrue result ↔ (one.now ≡ other.now) }
 {
     one == other
 }
 
-/// Two signatures over artifacts are equal exactly where both their parts are.
+/// Two signatures over artifacts are equal if and only if both their parts are.
 pub fn equal_message_signatures(one: &MessageSignature, other: &MessageSignature) -> bool
     ensures { IsTrue result ↔ (one.now ≡ other.now) }
 {
     one == other
 }
 
-/// Verification material is equal exactly where both its parts are.
+/// Verification material is equal if and only if both its parts are.
 pub fn equal_materials(one: &VerificationMaterial, other: &VerificationMaterial) -> bool
     ensures { IsTrue result ↔ (one.now ≡ other.now) }
 {
     one == other
 }
 
-/// Two signers are equal exactly where they are of one kind, and hold the same certificates.
+/// Two signers are equal if and only if they are of one kind, and hold the same certificates.
 pub fn equal_signers(one: &MaterialContent, other: &MaterialContent) -> bool
     ensures { IsTrue result ↔ (one.now ≡ other.now) }
 {
     one == other
 }
 
-/// Two log entries are equal exactly where all their parts are.
+/// Two log entries are equal if and only if all their parts are.
 pub fn equal_entries(one: &TransparencyLogEntry, other: &TransparencyLogEntry) -> bool
     ensures { IsTrue result ↔ (one.now ≡ other.now) }
 {
     one == other
 }
 
-/// Two kinds of log entries are equal exactly where both their parts are.
+/// Two kinds of log entries are equal if and only if both their parts are.
 pub fn equal_kinds(one: &KindVersion, other: &KindVersion) -> bool
     ensures { IsTrue result ↔ (one.now ≡ other.now) }
 {
     one == other
 }
 
-/// Two inclusion proofs are equal exactly where all their parts are.
+/// Two inclusion proofs are equal if and only if all their parts are.
 pub fn equal_proofs(one: &ProofFields, other: &ProofFields) -> bool
     ensures { IsTrue result ↔ (one.now ≡ other.now) }
 {

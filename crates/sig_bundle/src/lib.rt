@@ -1,9 +1,10 @@
 //! Sigstore bundles: read, written, and checked as far as a bundle alone can be checked.
 //!
-//! The layer above uses three facts. A text is read as the bundle that its members are, exactly where they fit the table of the format. The text
-//! of a bundle is read back as that bundle. A bundle passes its own checks exactly where no refusal has its cause, and else gets the first:
-//! chains, signatures over an artifact alone and the profiles 0.1 and 0.2 are refused until they are read. What a bundle holds that passes, and
-//! what equality of bundles and of their parts is, say `laws`.
+//! The layer above uses three facts. A text is read as the bundle that its members are, if and only if they fit the
+//! table of the format. The text of a bundle is read back as that bundle. A bundle passes its own checks if and only
+//! if no refusal has its cause, and else gets the first: chains, signatures over an artifact alone and the profiles
+//! 0.1 and 0.2 are refused until they are read. What a bundle holds that passes, and what equality of bundles and of
+//! their parts is, say `laws`.
 #![tactic(auto)]
 
 mod bundle;
@@ -15,11 +16,12 @@ pub mod laws;
 mod material;
 mod object;
 mod profile_check;
+mod promise;
 mod read;
 mod read_content;
 mod read_entry;
 mod read_material;
-mod signer;
+mod signing_certificate;
 mod version;
 mod write;
 mod write_content;
@@ -37,6 +39,7 @@ pub use material::{
     KindVersion, LogEntries, MaterialContent, ProofFields, TransparencyLogEntry,
     VerificationMaterial,
 };
+pub use promise::promise_text;
 pub use read::read_bundle;
 pub use sig_dsse::{
     ArtifactDigest, DigestName, Digests, DsseEnvelope, DsseSignature, DsseSignatures,

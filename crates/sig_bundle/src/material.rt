@@ -1,22 +1,23 @@
-//! `VerificationMaterial`: what a bundle brings to check its signature with: certificates, and entries of transparency logs.
+//! `VerificationMaterial`: what a bundle brings to check its signature with: certificates, and entries of transparency
+//! logs.
 
 use sig_base::{Bytes, Entries, Register, Text};
 
 /// Certificates or a hint at a key, and the entries of logs.
 #[derive(Drop, PartialEq, Eq)]
 pub struct VerificationMaterial {
-    /// Whose signature it is.
+    /// Whose signature it is said to be.
     pub content: Option<MaterialContent>,
     /// What transparency logs say of the signature.
     pub tlog_entries: LogEntries,
 }
 
-/// Whose signature a bundle has.
+/// Whose signature a bundle is said to have.
 #[derive(Drop, PartialEq, Eq)]
 pub enum MaterialContent {
-    /// The signer's certificate (DER).
+    /// The signing certificate (DER).
     Certificate(Bytes),
-    /// The signer's certificate and then those above it (DER).
+    /// The signing certificate and then those above it (DER).
     X509CertificateChain(Entries),
     /// A hint at a key that the bundle does not hold. It is not read.
     PublicKey,

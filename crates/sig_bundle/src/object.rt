@@ -29,7 +29,7 @@ impl Object {
         }
     }
 
-    /// The object with this member. Refuses for want of memory alone.
+    /// The object with this member. Fails only if memory runs out.
     pub(crate) fn with(
         self,
         alloc: Global,
@@ -44,7 +44,7 @@ impl Object {
         Ok(Object { document })
     }
 
-    /// The object with this member, if it is there. Refuses for want of memory alone.
+    /// The object with this member, if it is there. Fails only if memory runs out.
     pub(crate) fn with_some(
         self,
         alloc: Global,

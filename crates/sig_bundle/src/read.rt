@@ -30,13 +30,14 @@ impl ElementReader for BundleReader {
     }
 }
 
-/// The bundle that a text is (Sigstore bundle format, in the JSON form of its protocol buffers). Absent and null members mean zero, empty or none.
-/// Members that are not read here, of whatever kind, are ignored and not kept: those that the format does not have, and
-/// `timestampVerificationData`, a message digest's `algorithm` and a public key's `hint`.
+/// The bundle that a text is (Sigstore bundle format, in the JSON form of its protocol buffers). Absent and null
+/// members mean zero, empty or none. Members that are not read here, of whatever kind, are ignored and not kept: those
+/// that the format does not have, and `timestampVerificationData`, a message digest's `algorithm` and a public key's
+/// `hint`.
 ///
-/// Refuses with `NotJson` where the text has no reading, then with `Float` where its tree holds a number with a point or an exponent, `-0`, or
-/// an integer outside -2^63 to 2^64 - 1, and then with `Member` where a member is not of its kind, where two members are there of which only one
-/// may be, or where the text is no object.
+/// Fails with `NotJson` where the text has no reading, then with `Float` where its tree holds a number with a point or
+/// an exponent, `-0`, or an integer outside -2^63 to 2^64 - 1, and then with `Member` where a member is not of its
+/// kind, where two members are there of which only one may be, or where the text is no object.
 pub fn read_bundle(alloc: Global, text: &[u8]) -> Result<Bundle, JsonError>
     ensures { Answers JsonError.OutOfMemory (λ b. b) result (bundle_in text.now) }
 {

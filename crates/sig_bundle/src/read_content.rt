@@ -1,7 +1,8 @@
-//! Readers of what is signed: a signature over an artifact, or an envelope.
+//! Readers of a bundle's content: a signature over an artifact, or an envelope.
 ghost use Rattle.std.specs.Prelude.{Option};
 ghost use Rattle.sig_json.specs.Data.{Data};
-ghost use Rattle.sig_bundle.specs.BundleRecord.{content_of, digest_of, envelope_of, message_signature_of, one_content, signature_of};
+ghost use Rattle.sig_bundle.specs.BundleRecord.{content_of, digest_of, envelope_of, message_signature_of, one_content};
+ghost use Rattle.sig_bundle.specs.BundleRecord.{signature_of};
 ghost use Rattle.sig_json.specs.Reads.{Reads};
 ghost use Rattle.sig_json.specs.Tree.{tree};
 
@@ -76,7 +77,7 @@ impl ElementReader for EnvelopeReader {
     }
 }
 
-/// The one of both that is there. Refuses with `Member` where both are.
+/// The one of both that is there. Fails with `Member` where both are.
 #[tactic(auto, unfolding(crate::specs::BundleRecord::one_content))]
 fn one_of(
     signature: Option<MessageSignature>,
@@ -92,7 +93,7 @@ fn one_of(
     }
 }
 
-/// What is signed. Refuses with `Member` where both kinds are there, or a member is not of its kind.
+/// The content. Fails with `Member` where both kinds are there, or a member is not of its kind.
 #[tactic(auto, unfolding(crate::specs::BundleRecord::content_of))]
 pub(crate) fn read_content(alloc: Global, json: Json<'_>) -> Result<Option<Content>, MemberError>
     ensures { Reads (λ x. x) result (content_of (tree json.entry)) }

@@ -1,8 +1,8 @@
 //! Readers of the entries of transparency logs.
 ghost use Rattle.std.specs.Prelude.{Option};
 ghost use Rattle.sig_json.specs.Data.{Data};
-ghost use Rattle.sig_bundle.specs.BundleRecord.{checkpoint_of, entry_of, kind_version_of, log_id_of, promise_of, proof_of};
-ghost use Rattle.sig_bundle.specs.EntryRest.{entry_with};
+ghost use Rattle.sig_bundle.specs.BundleRecord.{checkpoint_of, entry_of, kind_version_of, log_id_of, promise_of};
+ghost use Rattle.sig_bundle.specs.BundleRecord.{proof_of};
 ghost use Rattle.sig_json.specs.Reads.{Reads};
 ghost use Rattle.sig_json.specs.Tree.{tree};
 
@@ -98,31 +98,16 @@ impl ElementReader for EntryReader {
 
     ghost meaning = { entry_of };
 
-    #[tactic(auto, unfolding(crate::specs::BundleRecord::entry_of, crate::specs::EntryRest::entry_with))]
+    #[tactic(auto, unfolding(crate::specs::BundleRecord::entry_of))]
     fn read(alloc: Global, json: Json<'_>) -> Result<TransparencyLogEntry, MemberError> {
-        let log_index = read_i64(json, "logIndex")?;
-        let integrated_time = read_i64(json, "integratedTime")?;
-        read_entry(alloc, json, log_index, integrated_time)
+        Ok(TransparencyLogEntry {
+            log_index: read_i64(json, "logIndex")?,
+            log_id: optional::<LogIdReader>(alloc, json, "logId")?,
+            kind_version: optional::<KindVersionReader>(alloc, json, "kindVersion")?,
+            integrated_time: read_i64(json, "integratedTime")?,
+            inclusion_promise: optional::<PromiseReader>(alloc, json, "inclusionPromise")?,
+            inclusion_proof: optional::<ProofReader>(alloc, json, "inclusionProof")?,
+            canonicalized_body: read_bytes(alloc, json, "canonicalizedBody")?,
+        })
     }
-}
-
-/// An entry of these two numbers. Refuses with `Member` where another member is not of its kind.
-#[tactic(auto, unfolding(crate::specs::EntryRest::entry_with))]
-fn read_entry(
-    alloc: Global,
-    json: Json<'_>,
-    log_index: i64,
-    integrated_time: i64,
-) -> Result<TransparencyLogEntry, MemberError>
-    ensures { Reads (λ x. x) result (entry_with log_index integrated_time (tree json.entry)) }
-{
-    Ok(TransparencyLogEntry {
-        log_index,
-        canonicalized_body: read_bytes(alloc, json, "canonicalizedBody")?,
-        log_id: optional::<LogIdReader>(alloc, json, "logId")?,
-        kind_version: optional::<KindVersionReader>(alloc, json, "kindVersion")?,
-        integrated_time,
-        inclusion_promise: optional::<PromiseReader>(alloc, json, "inclusionPromise")?,
-        inclusion_proof: optional::<ProofReader>(alloc, json, "inclusionProof")?,
-    })
 }

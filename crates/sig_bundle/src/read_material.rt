@@ -1,7 +1,8 @@
 //! Readers of what a bundle brings to check its signature with.
 ghost use Rattle.std.specs.Prelude.{Option};
 ghost use Rattle.sig_json.specs.Data.{Data};
-ghost use Rattle.sig_bundle.specs.BundleRecord.{certificate_of, chain_of, key_hint_of, material_of, signer_of};
+ghost use Rattle.sig_bundle.specs.BundleRecord.{certificate_of, chain_of, key_hint_of, material_of};
+ghost use Rattle.sig_bundle.specs.BundleRecord.{material_content_of};
 ghost use Rattle.sig_json.specs.Reads.{Reads};
 ghost use Rattle.sig_json.specs.Tree.{tree};
 
@@ -54,10 +55,13 @@ impl ElementReader for KeyHintReader {
     }
 }
 
-/// Whose signature it is. Refuses with `Member` where two of the three kinds are there, or a member is not of its kind.
-#[tactic(auto, unfolding(crate::specs::BundleRecord::signer_of))]
-fn read_signer(alloc: Global, json: Json<'_>) -> Result<Option<MaterialContent>, MemberError>
-    ensures { Reads (λ x. x) result (signer_of (tree json.entry)) }
+/// Whose signature it is. Fails with `Member` where two of the three kinds are there, or a member is not of its kind.
+#[tactic(auto, unfolding(crate::specs::BundleRecord::material_content_of))]
+fn read_material_content(
+    alloc: Global,
+    json: Json<'_>,
+) -> Result<Option<MaterialContent>, MemberError>
+    ensures { Reads (λ x. x) result (material_content_of (tree json.entry)) }
 {
     let certificate = optional::<CertificateReader>(alloc, json, "certificate")?;
     let chain = optional::<ChainReader>(alloc, json, "x509CertificateChain")?;
@@ -82,7 +86,7 @@ impl ElementReader for MaterialReader {
     #[tactic(auto, unfolding(crate::specs::BundleRecord::material_of))]
     fn read(alloc: Global, json: Json<'_>) -> Result<VerificationMaterial, MemberError> {
         Ok(VerificationMaterial {
-            content: read_signer(alloc, json)?,
+            content: read_material_content(alloc, json)?,
             tlog_entries: optional_list::<EntryReader>(alloc, json, "tlogEntries")?,
         })
     }

@@ -15,7 +15,7 @@ use sig_json::{Document, compact};
 use std::alloc::Global;
 
 /// The tree of a bundle.
-#[tactic(auto, using(crate::proofs::MaterialBack::materials_back), unfolding(crate::specs::BundleTree::bundle_tree))]
+#[tactic(auto, using(crate::proofs::MaterialBack::back), unfolding(crate::specs::BundleTree::bundle_tree))]
 fn write_bundle(alloc: Global, bundle: &Bundle) -> Result<Document, OutOfMemory>
     ensures tree { IfOk result (λ document. document_tree document ≡ bundle_tree bundle.now) }
     ensures back { IfOk result (λ _. bundle_of (bundle_tree bundle.now) ≡ Some bundle.now) }
@@ -29,9 +29,9 @@ fn write_bundle(alloc: Global, bundle: &Bundle) -> Result<Document, OutOfMemory>
     Ok(object.into_document())
 }
 
-/// The text of a bundle, without white space, the members of each object in the byte order of their names. Every text, integer and bytes value is
-/// written, also where it is empty; integers are written as texts; only what is none is left out. The text is read back as the same bundle.
-/// Refuses for want of memory alone.
+/// The text of a bundle, without white space, the members of each object in the byte order of their names. Every text,
+/// integer and bytes value is written, also where it is empty; integers are written as texts; only what is none is
+/// left out. The text is read back as the same bundle. Fails only if memory runs out.
 #[tactic(auto, using(crate::proofs::Nesting::nesting))]
 pub fn bundle_text(alloc: Global, bundle: &Bundle) -> Result<Text, OutOfMemory>
     ensures text { IfOk result (λ text. text ≡ compact_text (bundle_tree bundle.now)) }

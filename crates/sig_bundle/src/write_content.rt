@@ -1,8 +1,9 @@
-//! Writers of what is signed: a signature over an artifact, or an envelope.
+//! Writers of a bundle's content: a signature over an artifact, or an envelope.
 ghost use Rattle.std.specs.Prelude.{◌≡◌, IfOk, Option, Some};
 ghost use Rattle.sig_json.specs.Data.{Data};
 ghost use Rattle.sig_bundle.specs.BundleRecord.{digest_of, envelope_of, message_signature_of, signature_of};
-ghost use Rattle.sig_bundle.specs.BundleTree.{content_row, digest_tree, envelope_tree, message_signature_tree, signature_tree};
+ghost use Rattle.sig_bundle.specs.BundleTree.{content_row, digest_tree, envelope_tree, message_signature_tree};
+ghost use Rattle.sig_bundle.specs.BundleTree.{signature_tree};
 ghost use Rattle.sig_bundle.specs.ReadBack.{ContentIsRead};
 ghost use Rattle.sig_bundle.specs.Written.{IsReadAs, members, put_some};
 ghost use Rattle.sig_json.specs.Tree.{document_tree};
@@ -25,7 +26,7 @@ impl ElementWriter for DigestWriter {
 
     ghost meaning = { digest_of };
 
-    #[tactic(auto, using(crate::proofs::MaterialBack::materials_back), unfolding(crate::specs::BundleTree::digest_tree))]
+    #[tactic(auto, using(crate::proofs::MaterialBack::back), unfolding(crate::specs::BundleTree::digest_tree))]
     fn write(alloc: Global, item: &Bytes) -> Result<Document, OutOfMemory> {
         let digest = write_bytes(alloc, item.as_slice())?;
         let object = Object::new(alloc).with(alloc, "digest", digest)?;
@@ -43,7 +44,7 @@ impl ElementWriter for MessageSignatureWriter {
 
     ghost meaning = { message_signature_of };
 
-    #[tactic(auto, using(crate::proofs::MaterialBack::materials_back), unfolding(crate::specs::BundleTree::message_signature_tree))]
+    #[tactic(auto, using(crate::proofs::MaterialBack::back), unfolding(crate::specs::BundleTree::message_signature_tree))]
     fn write(alloc: Global, item: &MessageSignature) -> Result<Document, OutOfMemory> {
         let signature = write_bytes(alloc, item.signature.as_slice())?;
         let digest = write_option::<DigestWriter>(alloc, &item.message_digest)?;
@@ -64,7 +65,7 @@ impl ElementWriter for SignatureWriter {
 
     ghost meaning = { signature_of };
 
-    #[tactic(auto, using(crate::proofs::MaterialBack::materials_back), unfolding(crate::specs::BundleTree::signature_tree))]
+    #[tactic(auto, using(crate::proofs::MaterialBack::back), unfolding(crate::specs::BundleTree::signature_tree))]
     fn write(alloc: Global, item: &DsseSignature) -> Result<Document, OutOfMemory> {
         let sig = write_bytes(alloc, item.sig.as_slice())?;
         let keyid = Document::of_text(alloc, item.keyid.as_str())?;
@@ -85,7 +86,7 @@ impl ElementWriter for EnvelopeWriter {
 
     ghost meaning = { envelope_of };
 
-    #[tactic(auto, using(crate::proofs::MaterialBack::materials_back), unfolding(crate::specs::BundleTree::envelope_tree))]
+    #[tactic(auto, using(crate::proofs::MaterialBack::back), unfolding(crate::specs::BundleTree::envelope_tree))]
     fn write(alloc: Global, item: &DsseEnvelope) -> Result<Document, OutOfMemory> {
         let payload = write_bytes(alloc, item.payload.as_slice())?;
         let payload_type = Document::of_text(alloc, item.payload_type.as_str())?;
@@ -98,7 +99,7 @@ impl ElementWriter for EnvelopeWriter {
     }
 }
 
-/// The object with the member of the content's kind. Refuses for want of memory alone.
+/// The object with the member of the content's kind. Fails only if memory runs out.
 pub(crate) fn with_content(
     object: Object,
     alloc: Global,

@@ -1,8 +1,10 @@
 //! Writers of the entries of transparency logs.
 ghost use Rattle.std.specs.Prelude.{◌≡◌, IfOk, Option};
 ghost use Rattle.sig_json.specs.Data.{Data};
-ghost use Rattle.sig_bundle.specs.BundleRecord.{checkpoint_of, entry_of, kind_version_of, log_id_of, promise_of, proof_of};
-ghost use Rattle.sig_bundle.specs.BundleTree.{checkpoint_tree, entry_tree, kind_version_tree, log_id_tree, promise_tree, proof_tree};
+ghost use Rattle.sig_bundle.specs.BundleRecord.{checkpoint_of, entry_of, kind_version_of, log_id_of, promise_of};
+ghost use Rattle.sig_bundle.specs.BundleRecord.{proof_of};
+ghost use Rattle.sig_bundle.specs.BundleTree.{checkpoint_tree, entry_tree, kind_version_tree, log_id_tree};
+ghost use Rattle.sig_bundle.specs.BundleTree.{promise_tree, proof_tree};
 ghost use Rattle.sig_bundle.specs.Written.{IsReadAs};
 ghost use Rattle.sig_json.specs.Tree.{document_tree};
 
@@ -25,7 +27,7 @@ impl ElementWriter for LogIdWriter {
 
     ghost meaning = { log_id_of };
 
-    #[tactic(auto, using(crate::proofs::EntriesBack::entries_back), unfolding(crate::specs::BundleTree::log_id_tree))]
+    #[tactic(auto, using(crate::proofs::EntriesBack::back), unfolding(crate::specs::BundleTree::log_id_tree))]
     fn write(alloc: Global, item: &Bytes) -> Result<Document, OutOfMemory> {
         let id = write_bytes(alloc, item.as_slice())?;
         Ok(Object::new(alloc).with(alloc, "keyId", id)?.into_document())
@@ -42,7 +44,7 @@ impl ElementWriter for PromiseWriter {
 
     ghost meaning = { promise_of };
 
-    #[tactic(auto, using(crate::proofs::EntriesBack::entries_back), unfolding(crate::specs::BundleTree::promise_tree))]
+    #[tactic(auto, using(crate::proofs::EntriesBack::back), unfolding(crate::specs::BundleTree::promise_tree))]
     fn write(alloc: Global, item: &Bytes) -> Result<Document, OutOfMemory> {
         let promise = write_bytes(alloc, item.as_slice())?;
         let object = Object::new(alloc).with(alloc, "signedEntryTimestamp", promise)?;
@@ -60,7 +62,7 @@ impl ElementWriter for CheckpointWriter {
 
     ghost meaning = { checkpoint_of };
 
-    #[tactic(auto, using(crate::proofs::EntriesBack::entries_back), unfolding(crate::specs::BundleTree::checkpoint_tree))]
+    #[tactic(auto, using(crate::proofs::EntriesBack::back), unfolding(crate::specs::BundleTree::checkpoint_tree))]
     fn write(alloc: Global, item: &Text) -> Result<Document, OutOfMemory> {
         let text = Document::of_text(alloc, item.as_str())?;
         Ok(
@@ -81,7 +83,7 @@ impl ElementWriter for KindVersionWriter {
 
     ghost meaning = { kind_version_of };
 
-    #[tactic(auto, using(crate::proofs::EntriesBack::entries_back), unfolding(crate::specs::BundleTree::kind_version_tree))]
+    #[tactic(auto, using(crate::proofs::EntriesBack::back), unfolding(crate::specs::BundleTree::kind_version_tree))]
     fn write(alloc: Global, item: &KindVersion) -> Result<Document, OutOfMemory> {
         let kind = Document::of_text(alloc, item.kind.as_str())?;
         let version = Document::of_text(alloc, item.version.as_str())?;
@@ -102,7 +104,7 @@ impl ElementWriter for ProofWriter {
 
     ghost meaning = { proof_of };
 
-    #[tactic(auto, using(crate::proofs::EntriesBack::entries_back), unfolding(crate::specs::BundleTree::proof_tree))]
+    #[tactic(auto, using(crate::proofs::EntriesBack::back), unfolding(crate::specs::BundleTree::proof_tree))]
     fn write(alloc: Global, item: &ProofFields) -> Result<Document, OutOfMemory> {
         let log_index = write_integer(alloc, &item.log_index)?;
         let root_hash = write_bytes(alloc, item.root_hash.as_slice())?;
@@ -129,7 +131,7 @@ impl ElementWriter for EntryWriter {
 
     ghost meaning = { entry_of };
 
-    #[tactic(auto, using(crate::proofs::EntriesBack::entries_back), unfolding(crate::specs::BundleTree::entry_tree))]
+    #[tactic(auto, using(crate::proofs::EntriesBack::back), unfolding(crate::specs::BundleTree::entry_tree))]
     fn write(alloc: Global, item: &TransparencyLogEntry) -> Result<Document, OutOfMemory> {
         let log_index = write_integer(alloc, &item.log_index)?;
         let log_id = write_option::<LogIdWriter>(alloc, &item.log_id)?;

@@ -2,8 +2,8 @@
 ghost use Rattle.std.specs.Prelude.{◌≡◌, IfOk, Option};
 ghost use Rattle.sig_json.specs.Data.{Data};
 ghost use Rattle.sig_bundle.specs.BundleRecord.{certificate_of, chain_of, material_of};
-ghost use Rattle.sig_bundle.specs.BundleTree.{certificate_tree, chain_tree, material_tree, signer_row};
-ghost use Rattle.sig_bundle.specs.ReadBack.{SignerIsRead};
+ghost use Rattle.sig_bundle.specs.BundleTree.{certificate_tree, chain_tree, material_tree, material_content_row};
+ghost use Rattle.sig_bundle.specs.ReadBack.{MaterialContentIsRead};
 ghost use Rattle.sig_bundle.specs.Written.{IsReadAs, members, put_some};
 ghost use Rattle.sig_json.specs.Tree.{document_tree};
 
@@ -25,7 +25,7 @@ impl ElementWriter for CertificateWriter {
 
     ghost meaning = { certificate_of };
 
-    #[tactic(auto, using(crate::proofs::MaterialBack::materials_back), unfolding(crate::specs::BundleTree::certificate_tree))]
+    #[tactic(auto, using(crate::proofs::MaterialBack::back), unfolding(crate::specs::BundleTree::certificate_tree))]
     fn write(alloc: Global, item: &Bytes) -> Result<Document, OutOfMemory> {
         let der = write_bytes(alloc, item.as_slice())?;
         let object = Object::new(alloc).with(alloc, "rawBytes", der)?;
@@ -43,7 +43,7 @@ impl ElementWriter for ChainWriter {
 
     ghost meaning = { chain_of };
 
-    #[tactic(auto, using(crate::proofs::MaterialBack::materials_back), unfolding(crate::specs::BundleTree::chain_tree))]
+    #[tactic(auto, using(crate::proofs::MaterialBack::back), unfolding(crate::specs::BundleTree::chain_tree))]
     fn write(alloc: Global, item: &Entries) -> Result<Document, OutOfMemory> {
         let certificates = write_list::<CertificateWriter>(alloc, item.as_slice())?;
         let object = Object::new(alloc).with(alloc, "certificates", certificates)?;
@@ -51,17 +51,17 @@ impl ElementWriter for ChainWriter {
     }
 }
 
-/// The object with the member of the signer's kind. Refuses for want of memory alone.
-fn with_signer(
+/// The object with the member of the content's kind. Fails only if memory runs out.
+fn with_material_content(
     object: Object,
     alloc: Global,
-    signer: &Option<MaterialContent>,
+    content: &Option<MaterialContent>,
 ) -> Result<Object, OutOfMemory>
     ensures tree { IfOk result (λ made. members made
-        ≡ put_some (signer_row signer.now).0 (signer_row signer.now).1 (members object)) }
-    ensures back { IfOk result (λ _. SignerIsRead signer.now) }
+        ≡ put_some (material_content_row content.now).0 (material_content_row content.now).1 (members object)) }
+    ensures back { IfOk result (λ _. MaterialContentIsRead content.now) }
 {
-    match signer {
+    match content {
         Some(MaterialContent::Certificate(der)) => {
             let certificate = CertificateWriter::write(alloc, der)?;
             object.with(alloc, "certificate", certificate)
@@ -87,9 +87,9 @@ impl ElementWriter for MaterialWriter {
 
     ghost meaning = { material_of };
 
-    #[tactic(auto, using(crate::proofs::MaterialBack::materials_back), unfolding(crate::specs::BundleTree::material_tree))]
+    #[tactic(auto, using(crate::proofs::MaterialBack::back), unfolding(crate::specs::BundleTree::material_tree))]
     fn write(alloc: Global, item: &VerificationMaterial) -> Result<Document, OutOfMemory> {
-        let object = with_signer(Object::new(alloc), alloc, &item.content)?;
+        let object = with_material_content(Object::new(alloc), alloc, &item.content)?;
         let entries = write_list::<EntryWriter>(alloc, item.tlog_entries.as_slice())?;
         let object = object.with(alloc, "tlogEntries", entries)?;
         Ok(object.into_document())

@@ -19,13 +19,13 @@ pub(crate) trait ElementWriter {
 
     ghost meaning: { Data → Option Self.Item };
 
-    /// Writes a value, which its reader reads back. Refuses for want of memory alone.
+    /// Writes a value, which its reader reads back. Fails only if memory runs out.
     fn write(alloc: Global, item: &Self::Item) -> Result<Document, OutOfMemory>
         ensures tree { IfOk result (λ document. document_tree document ≡ written item.now) }
         ensures back { IfOk result (λ _. IsReadAs meaning (written item.now) item.now) };
 }
 
-/// Writes a value that may be absent. Refuses for want of memory alone.
+/// Writes a value that may be absent. Fails only if memory runs out.
 pub(crate) fn write_option<T: ElementWriter>(
     alloc: Global,
     item: &Option<T::Item>,
@@ -35,15 +35,12 @@ pub(crate) fn write_option<T: ElementWriter>(
     ensures back { IfOk result (λ _. OptionIsRead T.meaning T.written item.now) }
 {
     match item {
-        Some(item) => match T::write(alloc, item) {
-            Ok(document) => Ok(Some(document)),
-            Err(error) => Err(error),
-        },
+        Some(item) => Ok(Some(T::write(alloc, item)?)),
         None => Ok(None),
     }
 }
 
-/// Writes a list. Refuses for want of memory alone.
+/// Writes a list. Fails only if memory runs out.
 #[tactic(auto, using(crate::proofs::Lists::lists))]
 pub(crate) fn write_list<T: ElementWriter>(
     alloc: Global,
@@ -56,16 +53,13 @@ pub(crate) fn write_list<T: ElementWriter>(
 {
     let mut list = Document::list(alloc);
     for item in items {
-        let document = match T::write(alloc, item) {
-            Ok(document) => document,
-            Err(error) => return Err(error),
-        };
-        list.push(document)?;
+        list.push(T::write(alloc, item)?)?;
     }
     Ok(list)
 }
 
-/// Writes an integer, as a text. The integer is passed by reference, so that the clauses name it as the field that it stands in.
+/// Writes an integer, as a text. The integer is passed by reference, so that the clauses name it as the field that it
+/// stands in.
 #[tactic(auto, using(crate::proofs::Values::values), unfolding(crate::specs::Written::integer_tree))]
 pub(crate) fn write_integer(alloc: Global, integer: &i64) -> Result<Document, OutOfMemory>
     ensures tree { IfOk result (λ document. document_tree document ≡ integer_tree integer.now) }

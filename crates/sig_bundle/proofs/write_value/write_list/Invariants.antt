@@ -8,4 +8,5 @@ use Rattle.sig_bundle.proofs.write_value.write_list.Given as goal
 abbrev pub invariant-loop-item : goal.invariant-loop-item
 invariant-loop-item g l =
     (document_tree l.list ≡ list_tree g.T.ElementWriter.written (take l.item-index l.items))
-    × IsReadAs (list_each g.T.ElementWriter.meaning) (list_tree g.T.ElementWriter.written (take l.item-index l.items)) (take l.item-index l.items)
+    × IsReadAs (list_each g.T.ElementWriter.meaning) (list_tree g.T.ElementWriter.written (take l.item-index l.items))
+    (take l.item-index l.items)

@@ -1,16 +1,22 @@
--- Whose signature a bundle has: its certificates, of which the first signs (sigstore_bundle.proto, the comments on verification_material).
-use Rattle.std.specs.Prelude.{⊤, ◌≡◌, ℕ, ◌+◌, List, [], ◌∷◌, Bool, Option, Some, None, is_none, Result, Ok, Err, if◌then◌else◌}
+-- The signing certificate of a bundle: the first of its certificates (sigstore_bundle.proto, the comments on
+-- verification_material).
+use Rattle.std.specs.Prelude.{⊤, ◌≡◌, ℕ, ◌+◌, List, [], ◌∷◌, Bool, Option, Some, None, is_none, Result, Ok, Err}
+use Rattle.std.specs.Prelude.{if◌then◌else◌}
 use Rattle.std.specs.List.{list_any}
 use Rattle.sig_base.specs.ResultSteps.{◌>>=◌}
 use Rattle.sig_certificate.specs.Certificate.{Cert, IsCertificate}
 use Rattle.sig_certificate.specs.Profile.{leaf_refusal, root_refusal}
 use Rattle.sig_certificate.specs.declared.profile_error.CertificateValidationError.{CertificateValidationError}
 use Rattle.sig_bundle.specs.declared.bundle_error.BundleErrorKind.{BundleErrorKind}
-use Rattle.sig_bundle.specs.declared.bundle_error.BundleErrorKind.TheVariants.{VerificationMaterialContentUnsupported, CertificateMalformed, CertificatesMissing, NoLeaf, RootInChain}
+use Rattle.sig_bundle.specs.declared.bundle_error.BundleErrorKind.TheVariants.{VerificationMaterialContentUnsupported}
+use Rattle.sig_bundle.specs.declared.bundle_error.BundleErrorKind.TheVariants.{CertificateMalformed}
+use Rattle.sig_bundle.specs.declared.bundle_error.BundleErrorKind.TheVariants.{CertificatesMissing, NoLeaf}
+use Rattle.sig_bundle.specs.declared.bundle_error.BundleErrorKind.TheVariants.{RootInChain}
 use Rattle.sig_bundle.specs.declared.material.MaterialContent.{MaterialContent}
-use Rattle.sig_bundle.specs.declared.material.MaterialContent.TheVariants.{Certificate, X509CertificateChain, PublicKey}
+use Rattle.sig_bundle.specs.declared.material.MaterialContent.TheVariants.{Certificate, X509CertificateChain}
+use Rattle.sig_bundle.specs.declared.material.MaterialContent.TheVariants.{PublicKey}
 
--- The texts of the certificates, the signer's first. A hint at a key has none. A chain is not read yet.
+-- The texts of the certificates, the signing one first. A hint at a key has none. A chain is not read yet.
 abbrev pub certificate_texts : Option MaterialContent → Result (List (List ℕ)) BundleErrorKind
 certificate_texts None = Err VerificationMaterialContentUnsupported
 certificate_texts (Some PublicKey) = Err VerificationMaterialContentUnsupported
@@ -55,13 +61,14 @@ abbrev pub leaf_among : List Cert → Result Cert BundleErrorKind
 leaf_among [] = Err CertificatesMissing
 leaf_among (c ∷ later) = leaf_or_refusal c later (leaf_refusal c)
 
-abbrev pub signer_among : List (Option Cert) → Result Cert BundleErrorKind
-signer_among readings = certificates_from 0 readings >>= leaf_among
+abbrev pub signing_certificate_among : List (Option Cert) → Result Cert BundleErrorKind
+signing_certificate_among readings = certificates_from 0 readings >>= leaf_among
 
-abbrev pub IsSignerAmong : Result (List (List ℕ)) BundleErrorKind → Result Cert BundleErrorKind → Type 0
-IsSignerAmong (Err e) answer = answer ≡ Err e
-IsSignerAmong (Ok texts) answer = (readings : List (Option Cert)) × AreReadings texts readings × (answer ≡ signer_among readings)
+abbrev pub IsSigningCertificateAmong : Result (List (List ℕ)) BundleErrorKind → Result Cert BundleErrorKind → Type 0
+IsSigningCertificateAmong (Err e) answer = answer ≡ Err e
+IsSigningCertificateAmong (Ok texts) answer =
+    (readings : List (Option Cert)) × AreReadings texts readings × (answer ≡ signing_certificate_among readings)
 
--- the signer's certificate, or the first cause against the certificates
-abbrev pub IsSigner : Option MaterialContent → Result Cert BundleErrorKind → Type 0
-IsSigner content answer = IsSignerAmong (certificate_texts content) answer
+-- the signing certificate, or the first cause against the certificates
+abbrev pub IsSigningCertificate : Option MaterialContent → Result Cert BundleErrorKind → Type 0
+IsSigningCertificate content answer = IsSigningCertificateAmong (certificate_texts content) answer

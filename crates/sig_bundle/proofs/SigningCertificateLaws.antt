@@ -1,4 +1,4 @@
--- The signer among the certificates of one text.
+-- The signing certificate among the certificates of one text.
 use Rattle.std.proofs.Common.{◌≡◌, inr, ℕ, List, [], ◌∷◌, Option, Some, None, Result, Ok, Err, refl, sym, subst}
 use Rattle.sig_certificate.specs.declared.error.X509ReadError.{X509ReadError}
 use Rattle.sig_certificate.specs.declared.error.X509ReadError.TheVariants.{Der}
@@ -7,17 +7,22 @@ use Rattle.sig_certificate.specs.Answers.{IsRefusedOnlyWithout}
 use Rattle.sig_certificate.specs.Certificate.{Cert, IsCertificate}
 use Rattle.sig_certificate.specs.Profile.{leaf_refusal}
 use Rattle.sig_bundle.specs.Meant.{IsMeant, IsOnlyMeant}
-use Rattle.sig_bundle.specs.Signer.{AreReadings, IsSignerAmong, signer_among, leaf_or_refusal}
+use Rattle.sig_bundle.specs.SigningCertificate.{AreReadings, IsSigningCertificateAmong, signing_certificate_among}
+use Rattle.sig_bundle.specs.SigningCertificate.{leaf_or_refusal}
 use Rattle.sig_bundle.specs.declared.bundle_error.BundleErrorKind.{BundleErrorKind}
-use Rattle.sig_bundle.specs.declared.bundle_error.BundleErrorKind.TheVariants.{OutOfMemory, CertificateMalformed, NoLeaf}
+use Rattle.sig_bundle.specs.declared.bundle_error.BundleErrorKind.TheVariants.{OutOfMemory, CertificateMalformed}
+use Rattle.sig_bundle.specs.declared.bundle_error.BundleErrorKind.TheVariants.{NoLeaf}
 
 -- the certificate is a leaf
-pub leads : (c : Cert) → None ≡ leaf_refusal c → Ok c ≡ signer_among (Some c ∷ [])
+pub leads : (c : Cert) → None ≡ leaf_refusal c → Ok c ≡ signing_certificate_among (Some c ∷ [])
 leads c e = let P : Option CertificateValidationError → Type 0 = λ o. Ok c ≡ leaf_or_refusal c [] o in subst P e refl
 
 -- it is none
-pub refuses : (c : Cert) → (e : CertificateValidationError) → Some e ≡ leaf_refusal c → Err (NoLeaf e) ≡ signer_among (Some c ∷ [])
-refuses c e is = let P : Option CertificateValidationError → Type 0 = λ o. Err (NoLeaf e) ≡ leaf_or_refusal c [] o in subst P is refl
+pub refuses : (c : Cert) → (e : CertificateValidationError) → Some e ≡ leaf_refusal c
+    → Err (NoLeaf e) ≡ signing_certificate_among (Some c ∷ [])
+refuses c e is =
+    let P : Option CertificateValidationError → Type 0 = λ o. Err (NoLeaf e) ≡ leaf_or_refusal c [] o in subst
+    P is refl
 
 -- no other certificate is the text's
 abbrev pub IsOnly : List ℕ → Cert → Type 0
@@ -28,7 +33,8 @@ same : (text : List ℕ) → (c : Cert) → IsCertificate text c → IsOnly text
     → (readings : List (Option Cert)) → AreReadings (text ∷ []) readings → readings ≡ Some c ∷ []
 same text c is only [] r = absurd r
 same text c is only (None ∷ rest) r = absurd (r.0 c is)
-same text c is only (Some d ∷ []) r = let P : Option Cert → Type 0 = λ o. o ∷ [] ≡ Some c ∷ [] in subst P (sym (only d r.0)) refl
+same text c is only (Some d ∷ []) r =
+    let P : Option Cert → Type 0 = λ o. o ∷ [] ≡ Some c ∷ [] in subst P (sym (only d r.0)) refl
 same text c is only (Some d ∷ e ∷ rest) r = absurd r.1
 
 nothing : (text : List ℕ) → ((c : Cert) → ¬ IsCertificate text c)
@@ -38,40 +44,46 @@ nothing text none (Some c ∷ rest) r = absurd (none c r.0)
 nothing text none (None ∷ []) r = refl
 nothing text none (None ∷ e ∷ rest) r = absurd r.1
 
-pub meant : (text : List ℕ) → (c : Cert) → (answer : Result Cert BundleErrorKind) → IsCertificate text c → answer ≡ signer_among (Some c ∷ [])
-    → IsMeant OutOfMemory (IsSignerAmong (Ok (text ∷ []))) answer
+pub meant : (text : List ℕ) → (c : Cert) → (answer : Result Cert BundleErrorKind) → IsCertificate text c
+    → answer ≡ signing_certificate_among (Some c ∷ [])
+    → IsMeant OutOfMemory (IsSigningCertificateAmong (Ok (text ∷ []))) answer
 meant text c answer is e = inr (Some c ∷ [], (is, tt), e)
 
 -- what an answer equals under the one reading, it equals under every reading
 under : (one readings : List (Option Cert)) → (answer other : Result Cert BundleErrorKind) → readings ≡ one
-    → answer ≡ signer_among one → other ≡ signer_among readings → answer ≡ other
+    → answer ≡ signing_certificate_among one → other ≡ signing_certificate_among readings → answer ≡ other
 under one readings answer other same_readings e of =
-    let P : List (Option Cert) → Type 0 = λ r. other ≡ signer_among r in
+    let P : List (Option Cert) → Type 0 = λ r. other ≡ signing_certificate_among r in
     let Q : Result Cert BundleErrorKind → Type 0 = λ r. answer ≡ r in
     subst Q (sym (subst P same_readings of)) e
 
 pub only : (text : List ℕ) → (c : Cert) → (answer : Result Cert BundleErrorKind) → IsCertificate text c → IsOnly text c
-    → answer ≡ signer_among (Some c ∷ []) → IsOnlyMeant OutOfMemory (IsSignerAmong (Ok (text ∷ []))) answer
+    → answer ≡ signing_certificate_among (Some c ∷ [])
+    → IsOnlyMeant OutOfMemory (IsSigningCertificateAmong (Ok (text ∷ []))) answer
 only text c answer is unique e other of =
     inr (under (Some c ∷ []) of.0 answer other (same text c is unique of.0 of.1) e of.2)
 
 pub meant_none : (text : List ℕ) → ((c : Cert) → ¬ IsCertificate text c)
-    → IsMeant OutOfMemory (IsSignerAmong (Ok (text ∷ []))) (Err (CertificateMalformed 0))
+    → IsMeant OutOfMemory (IsSigningCertificateAmong (Ok (text ∷ []))) (Err (CertificateMalformed 0))
 meant_none text none = inr (None ∷ [], (none, tt), refl)
 
 pub only_none : (text : List ℕ) → ((c : Cert) → ¬ IsCertificate text c)
-    → IsOnlyMeant OutOfMemory (IsSignerAmong (Ok (text ∷ []))) (Err (CertificateMalformed 0))
+    → IsOnlyMeant OutOfMemory (IsSigningCertificateAmong (Ok (text ∷ []))) (Err (CertificateMalformed 0))
 only_none text none other of = inr (under (None ∷ []) of.0 _ other (nothing text none of.0 of.1) refl of.2)
 
 -- `Der` says that the text is no certificate
-pub none_of : (text : List ℕ) → (e : X509ReadError) → e ≡ Der → IsRefusedOnlyWithout text e → (c : Cert) → ¬ IsCertificate text c
+pub none_of : (text : List ℕ) → (e : X509ReadError) → e ≡ Der → IsRefusedOnlyWithout text e → (c : Cert)
+    → ¬ IsCertificate text c
 none_of text e is without = let P : X509ReadError → Type 0 = IsRefusedOnlyWithout text in subst P is without
 
 -- the texts are those of the material's content
-pub only_of : (texts : Result (List (List ℕ)) BundleErrorKind) → (certificate text : List ℕ) → (answer : Result Cert BundleErrorKind)
+pub only_of : (texts : Result (List (List ℕ)) BundleErrorKind) → (certificate text : List ℕ)
+    → (answer : Result Cert BundleErrorKind)
     → Ok (certificate ∷ []) ≡ texts → text ≡ certificate
-    → IsOnlyMeant OutOfMemory (IsSignerAmong (Ok (text ∷ []))) answer → IsOnlyMeant OutOfMemory (IsSignerAmong texts) answer
+    → IsOnlyMeant OutOfMemory (IsSigningCertificateAmong (Ok (text ∷ []))) answer
+    → IsOnlyMeant OutOfMemory (IsSigningCertificateAmong texts) answer
 only_of texts certificate text answer is is_text only =
-    let P : List ℕ → Type 0 = λ t. IsOnlyMeant OutOfMemory (IsSignerAmong (Ok (t ∷ []))) answer in
-    let Q : Result (List (List ℕ)) BundleErrorKind → Type 0 = λ t. IsOnlyMeant OutOfMemory (IsSignerAmong t) answer in
+    let P : List ℕ → Type 0 = λ t. IsOnlyMeant OutOfMemory (IsSigningCertificateAmong (Ok (t ∷ []))) answer in
+    let Q : Result (List (List ℕ)) BundleErrorKind → Type 0 = λ t. IsOnlyMeant OutOfMemory
+    (IsSigningCertificateAmong t) answer in
     subst Q is (subst P is_text only)

@@ -1,0 +1,65 @@
+//! The text of a log's promise to include an entry, which the signed entry timestamp of Rekor is over.
+//!
+//! ```text
+//! {"body":"eyJhcGlWZXJzaW9uIjoiMC4wLjEifQ==","integratedTime":1702446656,"logID":"dd3d306a","logIndex":56111}
+//! ```
+ghost use Rattle.std.specs.Prelude.{◌≡◌, [], IsSome, IfOk, unwrap_or};
+ghost use Rattle.hex.specs.Hex.{encode_lower};
+ghost use Rattle.sig_base.specs.Answers.{Answers};
+ghost use Rattle.sig_bundle.specs.Promise.{promise_tree_of};
+ghost use Rattle.sig_json.specs.Canonical.{canonical_of};
+ghost use Rattle.sig_json.specs.Data.{string};
+ghost use Rattle.sig_json.specs.Tree.{document_tree};
+
+use crate::material::TransparencyLogEntry;
+use crate::object::Object;
+use crate::write_value::write_bytes;
+use sig_base::{Bytes, OutOfMemory, Text};
+use sig_json::{CanonicalError, Document, canonical};
+use std::alloc::Global;
+
+/// Returns the text that a log signs to promise that it includes the entry: the canonical text (RFC 8785) of an object
+/// with the members `body`, in base64, `integratedTime`, `logID`, in lower-case hexadecimal, and `logIndex`.
+///
+/// Fails with `IntegerTooLarge` if and only if the integrated time or the log index is beyond plus or minus 2^53 - 1.
+pub fn promise_text(alloc: Global, entry: &TransparencyLogEntry) -> Result<Text, CanonicalError>
+    requires { IsSome entry.now.log_id }
+    ensures { Answers CanonicalError.OutOfMemory (λ text. text) result
+        (canonical_of (promise_tree_of entry.now)) }
+{
+    let object = promise_object(alloc, entry)?;
+    canonical(alloc, object.view())
+}
+
+/// The object of a promise. Fails only if memory runs out.
+#[tactic(auto, unfolding(crate::specs::Promise::promise_tree_of, crate::specs::Written::bytes_tree))]
+fn promise_object(alloc: Global, entry: &TransparencyLogEntry) -> Result<Document, OutOfMemory>
+    ensures { IfOk result (λ document. document_tree document ≡ promise_tree_of entry.now) }
+{
+    let body = write_bytes(alloc, entry.canonicalized_body.as_slice())?;
+    let id = log_id(alloc, &entry.log_id)?;
+    let object = Object::new(alloc)
+        .with(alloc, "body", body)?
+        .with(
+            alloc,
+            "integratedTime",
+            Document::of_integer(entry.integrated_time),
+        )?
+        .with(alloc, "logID", id)?
+        .with(alloc, "logIndex", Document::of_integer(entry.log_index))?;
+    Ok(object.into_document())
+}
+
+/// The id of a log in lower-case hexadecimal, empty where there is none. Fails only if memory runs out.
+#[tactic(auto, unfolding(hex::specs::Hex::encode_with))]
+fn log_id(alloc: Global, id: &Option<Bytes>) -> Result<Document, OutOfMemory>
+    ensures { IfOk result (λ document. document_tree document ≡ string (encode_lower (unwrap_or id.now []))) }
+{
+    match id {
+        Some(id) => {
+            let digits = hex::encode(alloc, id.as_slice())?;
+            Document::of_text(alloc, digits.as_str())
+        }
+        None => Document::of_text(alloc, ""),
+    }
+}
