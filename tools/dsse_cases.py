@@ -35,7 +35,7 @@ def case(call, answer):
 
 
 def percent(text):
-    return "".join(chr(b) if chr(b).isalnum() or chr(b) in "./:" else "%%%02X" % b for b in text.encode()) or "-"
+    return "".join(chr(b) if b < 128 and (chr(b).isalnum() or chr(b) in "./:") else "%%%02X" % b for b in text.encode()) or "-"
 
 
 def digits(data):
