@@ -21,8 +21,8 @@ use crate::span::part;
 use std::alloc::Global;
 use std::marker::Model;
 
-/// A certificate. It owns its DER and the ranges of its parts in it, and its getters borrow the parts. Contracts see the record of
-/// *Certificate*.
+/// A certificate. It owns its DER and the ranges of its parts in it, and its getters borrow the parts. Contracts see
+/// the record of *Certificate*.
 #[derive(Drop)]
 pub struct Certificate {
     der: Vec<u8>,
@@ -46,8 +46,9 @@ impl Model for Certificate {
 }
 
 impl Certificate {
-    /// Reads the certificate that the bytes are: one SEQUENCE of the TBSCertificate, an algorithm and the bits of the signature, and
-    /// nothing after it (RFC 5280 section 4.1). Two extensions may have one object identifier: `are_single` tells.
+    /// Reads the certificate that the bytes are: one SEQUENCE of the TBSCertificate, an algorithm and the bits of the
+    /// signature, and nothing after it (RFC 5280 section 4.1). Two extensions may have one object identifier:
+    /// `are_single` tells.
     ///
     /// Fails with
     /// - `Der` if and only if the bytes are no certificate;
@@ -91,8 +92,8 @@ impl Certificate {
         &self.der[place.start..place.end]
     }
 
-    /// Returns the elements of the TBSCertificate before its extensions. For sig_timestamp, which writes the TBSCertificate of a
-    /// precertificate from them.
+    /// Returns the elements of the TBSCertificate before its extensions. For sig_timestamp, which writes the
+    /// TBSCertificate of a precertificate from them.
     pub fn front(&self) -> &[u8]
         ensures { result.now ≡ self.now.front }
     {
@@ -183,8 +184,8 @@ impl Certificate {
         self.extensions.places.len()
     }
 
-    /// Whether no two extensions have one object identifier (RFC 5280 section 4.2). `try_from_der` reads a certificate with duplicate
-    /// extensions; the pools of sig_x509 find no issuer of a certificate that has them, by this call,
+    /// Whether no two extensions have one object identifier (RFC 5280 section 4.2). `try_from_der` reads a certificate
+    /// with duplicate extensions; the pools of sig_x509 find no issuer of a certificate that has them, by this call,
     /// and a look-up of a duplicate is `Several`.
     pub fn are_single(&self) -> bool
         ensures { result ≡ are_single self.now.extensions }
@@ -202,7 +203,8 @@ impl Certificate {
         }
     }
 
-    /// Looks up the extensions with this object identifier, which is given by its contents octets and compared byte for byte.
+    /// Looks up the extensions with this object identifier, which is given by its contents octets and compared byte
+    /// for byte.
     pub fn extension(&self, oid: &[u8]) -> Lookup<'_>
         ensures { Finds (with_oid oid.now self.now.extensions) result }
     {

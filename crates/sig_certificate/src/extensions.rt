@@ -35,8 +35,8 @@ fn boolean(content: &[u8]) -> Option<bool>
     }
 }
 
-/// Reads a BOOLEAN DEFAULT FALSE at `at`, and returns it with the offset of what follows. `None` if a BOOLEAN there has another value
-/// than 00 or FF.
+/// Reads a BOOLEAN DEFAULT FALSE at `at`, and returns it with the offset of what follows. `None` if a BOOLEAN there
+/// has another value than 00 or FF.
 #[tactic(auto, unfolding(crate::specs::Cutting::flag_at))]
 pub(crate) fn flag_at(bytes: &[u8], at: usize, end: usize) -> Option<(bool, usize)>
     requires from { at ≤ end }

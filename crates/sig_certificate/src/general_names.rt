@@ -59,8 +59,8 @@ fn are_names(bytes: &[u8]) -> bool
     true
 }
 
-/// Returns the names of the subject alternative name of this value. `None` if the value is not a SEQUENCE of names and nothing
-/// else.
+/// Returns the names of the subject alternative name of this value. `None` if the value is not a SEQUENCE of names and
+/// nothing else.
 #[tactic(auto, unfolding(crate::specs::Names::names_of), using(crate::proofs::FrontNames::all_names, crate::proofs::FrontNames::no_names))]
 pub fn alternative_names(value: &[u8]) -> Option<AlternativeNames<'_>>
     ensures { names_of value.now ≡ option_map names_left result }

@@ -1,5 +1,5 @@
-//! What the definitions of this crate mean, in the words of RFC 5280. No function here does anything: each states laws, and its
-//! proof is that they hold.
+//! What the definitions of this crate mean, in the words of RFC 5280. No function here does anything: each states
+//! laws, and its proof is that they hold.
 
 ghost use Rattle.std.specs.Prelude.{◌≡◌, ◌↔◌, ℕ, ℤ, List, Some, None};
 ghost use Rattle.sig_base.specs.declared.error.SigstoreError.{SigstoreError};
@@ -29,7 +29,8 @@ pub fn key_usages(value: &[u8])
     let _value = value;
 }
 
-/// A value has these purposes if and only if it is the SEQUENCE of their object identifiers (RFC 5280 section 4.2.1.12).
+/// A value has these purposes if and only if it is the SEQUENCE of their object identifiers (RFC 5280 section
+/// 4.2.1.12).
 pub fn extended_key_usages(value: &[u8])
     ensures takes { (purposes : List (List ℕ)) → purposes_of value.now ≡ Some purposes → ArePurposes value.now purposes }
     ensures again { (purposes : List (List ℕ)) → ArePurposes value.now purposes → purposes_of value.now ≡ Some purposes }
@@ -53,7 +54,8 @@ pub fn subject_alternative_names(value: &[u8])
     let _value = value;
 }
 
-/// The lines of a certificate in PEM are the base64 of all its bytes, of 64 characters each but for the last (RFC 7468 section 2).
+/// The lines of a certificate in PEM are the base64 of all its bytes, of 64 characters each but for the last (RFC 7468
+/// section 2).
 pub fn pem_lines()
     ensures { (der : List ℕ) → IsWrappedBase64 der (lines_of der) }
 {}

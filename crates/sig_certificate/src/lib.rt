@@ -1,12 +1,14 @@
-//! Certificates of RFC 5280 in the profile of Sigstore: read exactly, with every field borrowed from one buffer; the values of the
-//! extensions that decide what a certificate may be used for; the profiles of leaf, authority and root, and the checks of trust.
+//! Certificates of RFC 5280 in the profile of Sigstore: read exactly, with every field borrowed from one buffer; the
+//! values of the extensions that decide what a certificate may be used for; the profiles of leaf, authority and root,
+//! and the checks of trust.
 //!
-//! The layers above use four facts. Bytes are read if and only if they are a certificate, and each borrowed field is that part of it. A
-//! look-up returns the one extension of an object identifier, that there is none, or that there are several. A value of an extension says
-//! what its definition reads in it. A profile returns `Ok`, or the first of its faults that has its cause.
+//! The layers above use four facts. Bytes are read if and only if they are a certificate, and each borrowed field is
+//! that part of it. A look-up returns the one extension of an object identifier, that there is none, or that there are
+//! several. A value of an extension says what its definition reads in it. A profile returns `Ok`, or the first of its
+//! faults that has its cause.
 //!
-//! What other crates use besides: sig_timestamp takes `front`, `is_listed`, `extension_at`, `is_certificate` and `read_purpose`, sig_policy
-//! the names of a value, and sig_x509 `are_single`, `basic_constraints` and `code_signing`.
+//! What other crates use besides: sig_timestamp takes `front`, `is_listed`, `extension_at`, `is_certificate` and
+//! `read_purpose`, sig_policy the names of a value, and sig_x509 `are_single`, `basic_constraints` and `code_signing`.
 #![tactic(auto)]
 
 mod certificate;

@@ -18,8 +18,8 @@ use crate::span::clipped;
 use std::alloc::Global;
 use std::cmp::Ordering;
 
-/// Where the extensions of a certificate are. Whether there are duplicate extensions is found once, since the test of a
-/// leaf takes no memory.
+/// Where the extensions of a certificate are. Whether there are duplicate extensions is found once, since the test of
+/// a leaf takes no memory.
 #[derive(Drop)]
 pub(crate) struct Listed {
     pub(crate) places: Vec<ExtensionPlaces>,
@@ -33,9 +33,9 @@ fn compared(bytes: &[u8], first: &ExtensionPlaces, second: &ExtensionPlaces) -> 
     clipped(bytes, first.oid).cmp(clipped(bytes, second.oid))
 }
 
-/// Whether no two have one object identifier. The list is sorted by them, so that equal ones are neighbours, and then back into the
-/// order of the text, both in place: this takes no memory, and the time of a sort, since whoever makes a certificate chooses how
-/// many extensions it has.
+/// Whether no two have one object identifier. The list is sorted by them, so that equal ones are neighbours, and then
+/// back into the order of the text, both in place: this takes no memory, and the time of a sort, since whoever makes a
+/// certificate chooses how many extensions it has.
 fn are_single(bytes: &[u8], extensions: &mut [ExtensionPlaces]) -> bool
     requires { Ascend extensions.old }
     ensures single { result ≡ are_single (map (extension_of bytes.now) extensions.old) }

@@ -101,7 +101,8 @@ fn name_of(bytes: &[u8], place: Place) -> Option<NamePlaces>
     }
 }
 
-/// The name at `at`, and where what follows it begins. None where no name stands there. For sig_policy, as `NamePlaces`.
+/// The name at `at`, and where what follows it begins. None where no name stands there. For sig_policy, as
+/// `NamePlaces`.
 #[tactic(auto, unfolding(crate::specs::Names::name_at))]
 pub fn name_at(bytes: &[u8], at: usize, end: usize) -> Option<(NamePlaces, usize)>
     requires from { at ≤ end }

@@ -173,8 +173,8 @@ fn after_ids(bytes: &[u8], at: usize, end: usize) -> Option<usize>
     Some(next)
 }
 
-/// Reads the extensions from `at` to `end` itself: whether they are there, and the content of their SEQUENCE. `None` if anything
-/// else is there.
+/// Reads the extensions from `at` to `end` itself: whether they are there, and the content of their SEQUENCE. `None`
+/// if anything else is there.
 #[tactic(auto, unfolding(crate::specs::Cutting::list_at))]
 fn list_at(bytes: &[u8], at: usize, end: usize) -> Option<(bool, Span)>
     requires from { at ≤ end }
@@ -217,7 +217,8 @@ fn outer_at(bytes: &[u8], at: usize, end: usize) -> Option<Outer>
     })
 }
 
-/// Reads the parts of the certificate from `at` to `end` itself, but for what its extensions are. `None` if there is none.
+/// Reads the parts of the certificate from `at` to `end` itself, but for what its extensions are. `None` if there is
+/// none.
 #[tactic(auto, unfolding(crate::specs::Cutting::parts_at), using(crate::proofs::Fronts::front_is))]
 fn parts_at(bytes: &[u8], at: usize, end: usize) -> Option<Places>
     requires from { at ≤ end }

@@ -12,9 +12,9 @@ use std::alloc::{AllocError, Global};
 /// The number of bytes that a line of 64 characters holds.
 const LINE: usize = 48;
 
-/// Returns the text of the certificate of these bytes: a line `-----BEGIN CERTIFICATE-----`, the standard base64 of the bytes in lines of
-/// 64 characters, and a line `-----END CERTIFICATE-----`, each ended by a newline. Fails only if memory runs out. Whether the
-/// bytes are a certificate is not asked.
+/// Returns the text of the certificate of these bytes: a line `-----BEGIN CERTIFICATE-----`, the standard base64 of
+/// the bytes in lines of 64 characters, and a line `-----END CERTIFICATE-----`, each ended by a newline. Fails only if
+/// memory runs out. Whether the bytes are a certificate is not asked.
 pub fn der_to_pem(alloc: Global, der: &[u8]) -> Result<Text, OutOfMemory>
     ensures { IfOk result (λ t. t ≡ pem_of der.now) }
 {

@@ -12,8 +12,8 @@ use crate::values::{BasicConstraints, KeyUsage, read_basic_constraints, read_key
 use crate::walks::read_purpose;
 use sig_der::oid::{BASIC_CONSTRAINTS, CODE_SIGNING, EXTENDED_KEY_USAGE, KEY_USAGE};
 
-/// Returns what the key usage of the certificate says, `None` if there is none. Fails with `Malformed` if it is malformed or a
-/// duplicate extension.
+/// Returns what the key usage of the certificate says, `None` if there is none. Fails with `Malformed` if it is
+/// malformed or a duplicate extension.
 #[tactic(auto, using(crate::proofs::HeldLaws::held_absent, crate::proofs::HeldLaws::held_one, crate::proofs::HeldLaws::held_several))]
 pub(crate) fn key_usage(
     certificate: &Certificate,
@@ -30,8 +30,8 @@ pub(crate) fn key_usage(
     }
 }
 
-/// Returns whether the basic constraints of the certificate are critical, and what they say, `None` if there are none. Fails with
-/// `Malformed` if they are malformed or a duplicate extension. For the pools of sig_x509.
+/// Returns whether the basic constraints of the certificate are critical, and what they say, `None` if there are none.
+/// Fails with `Malformed` if they are malformed or a duplicate extension. For the pools of sig_x509.
 #[tactic(auto, using(crate::proofs::HeldLaws::held_absent, crate::proofs::HeldLaws::held_one, crate::proofs::HeldLaws::held_several))]
 pub fn basic_constraints(
     certificate: &Certificate,
@@ -48,8 +48,8 @@ pub fn basic_constraints(
     }
 }
 
-/// Returns whether code signing is among the purposes of the certificate's extended key usage, `None` if there is none. Fails with
-/// `Malformed` if it is malformed or a duplicate extension. For the pools of sig_x509.
+/// Returns whether code signing is among the purposes of the certificate's extended key usage, `None` if there is
+/// none. Fails with `Malformed` if it is malformed or a duplicate extension. For the pools of sig_x509.
 #[tactic(auto, using(crate::proofs::HeldLaws::held_absent, crate::proofs::HeldLaws::held_one, crate::proofs::HeldLaws::held_several))]
 pub fn code_signing(certificate: &Certificate) -> Result<Option<bool>, CertificateValidationError>
     ensures { result ≡ code_signing certificate.now }
@@ -97,7 +97,8 @@ fn judge_authority(
     }
 }
 
-/// Whether the certificate is an authority (RFC 5280 sections 4.2.1.9 and 4.2.1.3). Fails with the first of these that has its cause:
+/// Whether the certificate is an authority (RFC 5280 sections 4.2.1.9 and 4.2.1.3). Fails with the first of these that
+/// has its cause:
 /// - `VersionUnsupported`: the version is not 3;
 /// - `Malformed`, `Missing`, `NotCritical`: basic constraints are malformed or duplicate, absent, or not critical;
 /// - `Malformed`, `Missing`: key usage is malformed or duplicate, or absent;
@@ -157,7 +158,8 @@ fn judge_signer(
 /// - `VersionUnsupported`: the version is not 3;
 /// - `IsCA`: `is_ca` is `Ok`;
 /// - `Malformed`, `Missing`, `BitUnset`: key usage is malformed or duplicate, absent, or without digitalSignature;
-/// - `Malformed`, `Missing`, `BitUnset`: extended key usage is malformed or duplicate, absent, or without code signing.
+/// - `Malformed`, `Missing`, `BitUnset`: extended key usage is malformed or duplicate, absent, or without code
+///   signing.
 ///
 /// `laws::profile_faults` says when each comes.
 pub fn is_leaf(certificate: &Certificate) -> Result<(), CertificateValidationError>

@@ -14,7 +14,8 @@ use crate::parts::{Places, parts_of};
 use crate::seconds::second_at;
 use std::alloc::Global;
 
-/// A certificate whose extensions are not read yet: the ranges of its parts, and the times of its validity in seconds since 1970.
+/// A certificate whose extensions are not read yet: the ranges of its parts, and the times of its validity in seconds
+/// since 1970.
 #[derive(Clone, Copy, Debug)]
 pub(crate) struct Dated {
     pub(crate) places: Places,

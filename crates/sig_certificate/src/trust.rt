@@ -38,8 +38,10 @@ fn may_sign_code(
 /// Whether the key may sign code (RFC 5280 sections 4.2.1.3 and 4.2.1.12).
 ///
 /// Fails with the first of
-/// - `CertificateWithoutDigitalSignatureKeyUsage` if key usage is absent, malformed, duplicate or without digitalSignature;
-/// - `CertificateWithoutCodeSigningKeyUsage` if extended key usage is absent, malformed, duplicate or without code signing.
+/// - `CertificateWithoutDigitalSignatureKeyUsage` if key usage is absent, malformed, duplicate or without
+///   digitalSignature;
+/// - `CertificateWithoutCodeSigningKeyUsage` if extended key usage is absent, malformed, duplicate or without code
+///   signing.
 pub fn verify_key_usages(certificate: &Certificate) -> Result<()>
     ensures { refusal result ≡ usages_refusal certificate.now }
 {
@@ -64,8 +66,8 @@ fn is_named(certificate: &Certificate) -> bool
     }
 }
 
-/// Whether the subject has alternative names (RFC 5280 section 4.2.1.6). Fails with `CertificateWithoutSubjectAlternativeName` unless
-/// there is exactly one such extension and it is well formed.
+/// Whether the subject has alternative names (RFC 5280 section 4.2.1.6). Fails with
+/// `CertificateWithoutSubjectAlternativeName` unless there is exactly one such extension and it is well formed.
 pub fn verify_has_san(certificate: &Certificate) -> Result<()>
     ensures { refusal result ≡ names_refusal certificate.now }
 {
@@ -76,8 +78,8 @@ pub fn verify_has_san(certificate: &Certificate) -> Result<()>
     }
 }
 
-/// Whether the validity has begun by now, in seconds since 1970. Fails with `CertificateValidityError` and its first second if it has
-/// not.
+/// Whether the validity has begun by now, in seconds since 1970. Fails with `CertificateValidityError` and its first
+/// second if it has not.
 pub fn verify_validity(certificate: &Certificate, now: i64) -> Result<()>
     ensures { refusal result ≡ validity_refusal certificate.now now }
 {
@@ -120,8 +122,8 @@ pub fn verify_expiration(certificate: &Certificate, integrated_time: i64) -> Res
     Ok(())
 }
 
-/// The four checks in order: key usages, alternative names, validity by now, and validity at the time of the entry. Fails with the
-/// first fault. Both times are seconds since 1970. `laws::trust_faults` says when each fault comes.
+/// The four checks in order: key usages, alternative names, validity by now, and validity at the time of the entry.
+/// Fails with the first fault. Both times are seconds since 1970. `laws::trust_faults` says when each fault comes.
 pub fn is_trusted(certificate: &Certificate, integrated_time: i64, now: i64) -> Result<()>
     ensures { refusal result ≡ trust_refusal certificate.now integrated_time now }
 {

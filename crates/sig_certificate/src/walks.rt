@@ -36,8 +36,8 @@ fn purpose_among(bytes: &[u8], at: usize, end: usize, purpose: &[u8]) -> Option<
     Some(found)
 }
 
-/// Returns whether this purpose is in an extended key usage of this value. `None` if it is malformed. For sig_timestamp, whose issuers
-/// may only sign precertificates.
+/// Returns whether this purpose is in an extended key usage of this value. `None` if it is malformed. For
+/// sig_timestamp, whose issuers may only sign precertificates.
 #[tactic(auto, unfolding(crate::specs::Values::purposes_of))]
 pub fn read_purpose(value: &[u8], purpose: &[u8]) -> Option<bool>
     ensures { option_map (has_purpose purpose.now) (purposes_of value.now) ≡ result }
