@@ -1,6 +1,6 @@
 -- When a result of a policy comes, by its verdict.
 use Rattle.std.proofs.Common.{◌≡◌, ◌⊎◌, Bool, true, false, Result, Ok, Err, refl, sym, ap, subst, ◌∙◌, inl, inr}
-use Rattle.sig_certificate.specs.Answers.{ComesWhere}
+use Rattle.sig_base.specs.Answers.{ComesWhere}
 use Rattle.sig_policy.specs.Refusals.{Refusal, IsRefusal}
 use Rattle.sig_policy.specs.Verdict.{IsVerdict}
 use Rattle.sig_policy.specs.declared.failure.PolicyError.{PolicyError}
@@ -15,11 +15,11 @@ failed e = Err e
 
 pub comes_ok : (holds : Bool) (refusal : Refusal) (r : Answer) (P : Type 0) → IsVerdict holds refusal r → (holds ≡ true → P) → (P → holds ≡ true)
     → ComesWhere OutOfMemory r (Ok tt) P
-comes_ok holds refusal (Ok x) P is to from = ((λ e. to is), (λ p. inl refl))
+comes_ok holds refusal (Ok x) P is to from = ((λ e. to is), (λ p. inr refl))
 comes_ok holds refusal (Err e) P is to from = ((λ same. absurd cc), (λ p. by_cause p is))
   where
-    by_cause : P → (e ≡ OutOfMemory) ⊎ ((holds ≡ false) × IsRefusal refusal e) → (failed e ≡ Ok tt) ⊎ (failed e ≡ Err OutOfMemory)
-    by_cause p (inl out) = inr (ap failed out)
+    by_cause : P → (e ≡ OutOfMemory) ⊎ ((holds ≡ false) × IsRefusal refusal e) → (failed e ≡ Err OutOfMemory) ⊎ (failed e ≡ Ok tt)
+    by_cause p (inl out) = inl (ap failed out)
     by_cause p (inr fails) = let wrong = sym (from p) ∙ fails.0 in absurd cc
 
 -- an error that says a refusal, and no other refusal is said by it
@@ -34,10 +34,10 @@ comes_err holds refusal r (Err d) e P says only is to from = by_cause is
     by_cause (inl out) = (
       (λ same. let is_e : d ≡ e = cc in
           absurd (never_memory r (subst (λ (x : PolicyError). IsRefusal r x) (sym is_e ∙ out) says))),
-      (λ p. inr (ap failed out)),
+      (λ p. inl (ap failed out)),
     )
     by_cause (inr fails) = (
       (λ same. let is_e : d ≡ e = cc in
           to fails.0 (one_refusal refusal r e (subst (λ (x : PolicyError). IsRefusal refusal x) is_e fails.1) says)),
-      (λ p. inl (ap failed (only d (subst (λ (s : Refusal). IsRefusal s d) (from p).1 fails.1)))),
+      (λ p. inr (ap failed (only d (subst (λ (s : Refusal). IsRefusal s d) (from p).1 fails.1)))),
     )

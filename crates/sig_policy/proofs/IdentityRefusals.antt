@@ -1,5 +1,6 @@
 -- When an identity's policy holds, and when each of its refusals comes, in words.
-use Rattle.std.proofs.Common.{◌≡◌, ◌≢◌, ◌⊎◌, ℕ, Bool, true, false, ◌&&◌, cond, List, [], ◌∷◌, Option, Some, None, refl, sym, ap, subst, ◌∙◌, inl, inr}
+use Rattle.std.proofs.Common.{◌≡◌, ◌≢◌, ◌⊎◌, ℕ, Bool, true, false, ◌&&◌, cond, List, [], ◌∷◌, Option, Some, None, refl}
+use Rattle.std.proofs.Common.{sym, ap, subst, ◌∙◌, inl, inr}
 use Rattle.std.specs.Prelude.{◌↔◌, codes, option_map}
 use Rattle.std.specs.List.{list_any, filter_map, join_by}
 use Rattle.std.specs.Str.{bytes_eq}
@@ -10,8 +11,10 @@ use Rattle.sig_certificate.specs.Lookups.{with_oid}
 use Rattle.sig_certificate.specs.Names.{Name, names_of}
 use Rattle.sig_der.specs.ObjectIdentifiers.{fulcio, subject_alternative_name}
 use Rattle.sig_policy.specs.Claim.{Claim}
-use Rattle.sig_policy.specs.Held.{HasText, HasIdentities, IsNamed, WhyNot, no_issuer, other_issuer, no_names, other_names, refusal_for}
-use Rattle.sig_policy.specs.Identities.{identity_of, identities_of, only_identities, identities, is_among, name_refusal, is_issued_by, identity_holds, identity_refusal}
+use Rattle.sig_policy.specs.Held.{HasText, HasIdentities, IsNamed, WhyNot, no_issuer, other_issuer, no_names}
+use Rattle.sig_policy.specs.Held.{other_names, refusal_for}
+use Rattle.sig_policy.specs.Identities.{identity_of, identities_of, only_identities, identities, is_among}
+use Rattle.sig_policy.specs.Identities.{name_refusal, is_issued_by, identity_holds, identity_refusal}
 use Rattle.sig_policy.specs.Refusals.{Refusal, not_found, check_failed}
 use Rattle.sig_policy.specs.Single.{extension_text, is_text, single_refusal}
 use Rattle.sig_policy.proofs.SingleLaws.{text_takes, text_again, holds_from, holds_is}

@@ -1,11 +1,13 @@
 -- An error says at most one refusal, and out of memory says none.
 use Rattle.std.proofs.Common.{◌≡◌, ℕ, List, [], ◌∷◌, refl, sym, ap, subst, ◌∙◌}
 use Rattle.sig_policy.specs.Failures.{IsAllOf, opens_as_all_of}
-use Rattle.sig_policy.specs.Refusals.{Refusal, Refusals, not_found, check_failed, all_of, any_of, no_refusals, more_refusals}
+use Rattle.sig_policy.specs.Refusals.{Refusal, Refusals, not_found, check_failed, all_of, any_of, no_refusals}
+use Rattle.sig_policy.specs.Refusals.{more_refusals}
 use Rattle.sig_policy.specs.Refusals.{IsRefusal, AreRefusals}
 use Rattle.sig_policy.specs.declared.failure.PolicyError.{PolicyError, out-PolicyError}
 use Rattle.sig_policy.specs.declared.failure.PolicyErrors.{PolicyErrors}
-use Rattle.sig_policy.specs.declared.failure.PolicyError.TheVariants.{ExtensionNotFound, ExtensionCheckFailed, AnyOf, OutOfMemory}
+use Rattle.sig_policy.specs.declared.failure.PolicyError.TheVariants.{ExtensionNotFound, ExtensionCheckFailed, AnyOf}
+use Rattle.sig_policy.specs.declared.failure.PolicyError.TheVariants.{OutOfMemory}
 use Rattle.sig_policy.specs.declared.failure.PolicyError.TheOpen as opened
 use Rattle.sig_policy.specs.declared.failure.PolicyError.TheOpen.{PolicyError-F}
 

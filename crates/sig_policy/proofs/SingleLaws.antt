@@ -1,11 +1,12 @@
 -- The text of an extension in words, and when each result of a policy on it comes.
-use Rattle.std.proofs.Common.{◌≡◌, ◌≢◌, ℕ, Bool, true, false, List, [], ◌∷◌, Option, Some, None, Result, Ok, Err, refl, sym, ap, subst, ◌∙◌, inl, inr}
+use Rattle.std.proofs.Common.{◌≡◌, ◌≢◌, ℕ, Bool, true, false, List, [], ◌∷◌, Option, Some, None, Result, Ok, Err, refl}
+use Rattle.std.proofs.Common.{sym, ap, subst, ◌∙◌, inl, inr}
 use Rattle.std.specs.Str.{IsUtf8, is_utf8, bytes_eq}
 use Rattle.std.proofs.lemmas.Bool.{cases_Bool, cond-true, cond-false}
 use Rattle.std.proofs.lemmas.Str.{IsUtf8-from_is_utf8, is_utf8-from_IsUtf8}
 use Rattle.std.proofs.lemmas.Slice.Eq.{bytes_eq-Decides}
 use Rattle.sig_base.proofs.OptionSteps.{some_is}
-use Rattle.sig_certificate.specs.Answers.{ComesWhere}
+use Rattle.sig_base.specs.Answers.{ComesWhere}
 use Rattle.sig_certificate.specs.Certificate.{Extension, Cert}
 use Rattle.sig_certificate.specs.Lookups.{with_oid}
 use Rattle.sig_policy.specs.Held.{HasText}
@@ -14,7 +15,8 @@ use Rattle.sig_policy.specs.Single.{only_text, extension_text, is_text, single_r
 use Rattle.sig_policy.specs.Texts.{utf8_text}
 use Rattle.sig_policy.specs.Verdict.{IsVerdict}
 use Rattle.sig_policy.specs.declared.failure.PolicyError.{PolicyError}
-use Rattle.sig_policy.specs.declared.failure.PolicyError.TheVariants.{ExtensionNotFound, ExtensionCheckFailed, OutOfMemory}
+use Rattle.sig_policy.specs.declared.failure.PolicyError.TheVariants.{ExtensionNotFound, ExtensionCheckFailed}
+use Rattle.sig_policy.specs.declared.failure.PolicyError.TheVariants.{OutOfMemory}
 use Rattle.sig_policy.proofs.ComesLaws.{Answer, comes_ok, comes_err}
 use Rattle.sig_policy.proofs.Utf8Laws.{utf8_some}
 

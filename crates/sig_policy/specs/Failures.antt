@@ -13,6 +13,7 @@ abbrev pub opens_as_all_of : ℕ → List PolicyError → PolicyError-F PolicyEr
 opens_as_all_of total errors (opened.AllOf n es) = (n ≡ total) × (es.items.items ≡ errors)
 opens_as_all_of total errors e = ⊥
 
--- the refusal of a list of policies of which each has to hold: their number, and the refusals of those that do not hold
+-- the refusal of a list of policies of which each has to hold: their number, and the refusals of those that do not
+-- hold
 abbrev pub IsAllOf : ℕ → List PolicyError → PolicyError → Type 0
 IsAllOf total errors e = opens_as_all_of total errors (out-PolicyError e)

@@ -17,7 +17,8 @@ pub record HasText (oid : List ℕ) (c : Cert) (text : List ℕ) : Type 0 where
   pub value : extension.value ≡ text
   pub utf8 : IsUtf8 text
 
--- The certificate has exactly one subject alternative name, it is well formed, and its names give these identities, in order.
+-- The certificate has exactly one subject alternative name, it is well formed, and its names give these identities, in
+-- order.
 pub record HasIdentities (c : Cert) (texts : List (List ℕ)) : Type 0 where
   pub extension : Extension
   pub one : with_oid subject_alternative_name c.extensions ≡ extension ∷ []

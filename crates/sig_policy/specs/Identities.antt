@@ -1,5 +1,6 @@
 -- The policy of one identity: who the certificate was issued for, and by whose word.
-use Rattle.std.specs.Prelude.{ℕ, List, [], ◌∷◌, Bool, false, ◌&&◌, Option, Some, None, option_map, codes, if◌then◌else◌}
+use Rattle.std.specs.Prelude.{ℕ, List, [], ◌∷◌, Bool, false, ◌&&◌, Option, Some, None, option_map, codes}
+use Rattle.std.specs.Prelude.{if◌then◌else◌}
 use Rattle.std.specs.List.{list_any, filter_map, join_by}
 use Rattle.std.specs.Str.{bytes_eq}
 use Rattle.sig_certificate.specs.Certificate.{Extension, Cert}
@@ -11,7 +12,8 @@ use Rattle.sig_der.specs.ObjectIdentifiers.{subject_alternative_name, fulcio}
 use Rattle.sig_policy.specs.Single.{extension_text, is_text, single_refusal}
 use Rattle.sig_policy.specs.Refusals.{Refusal, not_found, check_failed}
 
--- the identity that a name gives: the text of an email, of a URI, or of an other name of Fulcio's kind, 1.3.6.1.4.1.57264.1.7
+-- the identity that a name gives: the text of an email, of a URI, or of an other name of Fulcio's kind,
+-- 1.3.6.1.4.1.57264.1.7
 abbrev pub identity_of : Name → Option (List ℕ)
 identity_of (Email text) = utf8_text text
 identity_of (Uri text) = utf8_text text
@@ -39,7 +41,8 @@ is_among identity (Some texts) = list_any (λ t. bytes_eq t identity) texts
 -- why the identity is not among them
 abbrev pub name_refusal : List ℕ → Option (List (List ℕ)) → Refusal
 name_refusal identity None = not_found
-name_refusal identity (Some texts) = check_failed (codes "SubjectAltName") identity (join_by (λ t. t) (codes ", ") texts)
+name_refusal identity (Some texts) = check_failed (codes "SubjectAltName") identity (join_by (λ t. t)
+    (codes ", ") texts)
 
 abbrev pub is_issued_by : List ℕ → Cert → Bool
 is_issued_by issuer c = is_text issuer (extension_text (fulcio 1) c)

@@ -28,7 +28,8 @@ abbrev mutual
 
   pub AreRefusals : Refusals → List PolicyError → Type 0
   AreRefusals no_refusals es = es ≡ []
-  AreRefusals (more_refusals r rs) es = (e : PolicyError) × ((rest : List PolicyError) × ((es ≡ e ∷ rest) × (IsRefusal r e × AreRefusals rs rest)))
+  AreRefusals (more_refusals r rs) es = (e : PolicyError) × ((rest : List PolicyError) × ((es ≡ e ∷ rest)
+      × (IsRefusal r e × AreRefusals rs rest)))
 
 abbrev pub refusals_of : List Refusal → Refusals
 refusals_of [] = no_refusals

@@ -7,7 +7,10 @@ use Rattle.sig_policy.specs.Single.{extension_text, is_text, single_refusal}
 use Rattle.sig_policy.specs.Identities.{identity_holds, identity_refusal}
 use Rattle.sig_policy.specs.Refusals.{Refusal, all_of, any_of, refusals_of}
 use Rattle.sig_policy.specs.declared.request.LeafPolicy.{LeafPolicy}
-use Rattle.sig_policy.specs.declared.request.LeafPolicy.TheVariants.{OIDCIssuer, GitHubWorkflowTrigger, GitHubWorkflowSHA, GitHubWorkflowName, GitHubWorkflowRepository, GitHubWorkflowRef, Identity}
+use Rattle.sig_policy.specs.declared.request.LeafPolicy.TheVariants.{OIDCIssuer, GitHubWorkflowTrigger}
+use Rattle.sig_policy.specs.declared.request.LeafPolicy.TheVariants.{GitHubWorkflowSHA, GitHubWorkflowName}
+use Rattle.sig_policy.specs.declared.request.LeafPolicy.TheVariants.{GitHubWorkflowRepository, GitHubWorkflowRef}
+use Rattle.sig_policy.specs.declared.request.LeafPolicy.TheVariants.{Identity}
 use Rattle.sig_policy.specs.declared.request.RequestPolicy.{RequestPolicy}
 use Rattle.sig_policy.specs.declared.request.RequestPolicy.TheVariants.{All, Any}
 

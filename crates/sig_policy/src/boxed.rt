@@ -52,8 +52,8 @@ impl VerificationPolicy for AllOf {
         (λ b. (VerificationPolicy-box b).refusal b.value c)
         p.children.items };
 
-    /// Returns `Ok` if and only if each child holds; else `AllOf` with the number of children and the refusals of those that do not
-    /// hold, in order.
+    /// Returns `Ok` if and only if each child holds; else `AllOf` with the number of children and the refusals of
+    /// those that do not hold, in order.
     fn verify(&self, alloc: Global, cert: &Certificate) -> PolicyResult {
         verify_all(alloc, self.children.as_slice(), cert)
     }
@@ -62,8 +62,10 @@ impl VerificationPolicy for AllOf {
 impl AnyOf {
     /// Returns the policy of these children.
     pub fn new(children: Vec<Box<dyn VerificationPolicy>>) -> AnyOf
-        ensures holds { (c : Cert) → ⟦<AnyOf as VerificationPolicy>⟧.holds result c ≡ list_any (λ b. holds b c) children.items }
-        ensures refusal { (c : Cert) → ⟦<AnyOf as VerificationPolicy>⟧.refusal result c ≡ any_of (length children.items) }
+        ensures holds { (c : Cert) → ⟦<AnyOf as VerificationPolicy>⟧.holds result c ≡ list_any
+            (λ b. holds b c) children.items }
+        ensures refusal { (c : Cert) → ⟦<AnyOf as VerificationPolicy>⟧.refusal result c ≡ any_of
+            (length children.items) }
     {
         AnyOf { children }
     }
@@ -73,7 +75,8 @@ impl AllOf {
     /// Returns the policy of these children. `None` if and only if there is none.
     pub fn new(children: Vec<Box<dyn VerificationPolicy>>) -> Option<AllOf>
         ensures empty { (result ≡ None) ↔ (children.items ≡ []) }
-        ensures holds { IfSome result (λ p. (c : Cert) → ⟦<AllOf as VerificationPolicy>⟧.holds p c ≡ list_all (λ b. holds b c) children.items) }
+        ensures holds { IfSome result (λ p. (c : Cert) → ⟦<AllOf as VerificationPolicy>⟧.holds p c ≡ list_all
+            (λ b. holds b c) children.items) }
         ensures refusal { IfSome result (λ p. (c : Cert) → ⟦<AllOf as VerificationPolicy>⟧.refusal p c
             ≡ all_refusal (λ b. holds b c) (λ b. refusal b c) children.items) }
     {

@@ -13,7 +13,8 @@ use thiserror::Error;
 #[cycle(policy_error)]
 #[derive(Debug, Drop, Error)]
 pub enum PolicyError {
-    /// The certificate has not exactly one extension that the policy asks for, or its value has not the form that it must have.
+    /// The certificate has not exactly one extension that the policy asks for, or its value has not the form that it
+    /// must have.
     #[error("ExtensionNotFound")]
     ExtensionNotFound,
     /// The extension says something else than the policy asks for.

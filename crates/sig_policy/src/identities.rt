@@ -50,8 +50,8 @@ fn given(alloc: Global, names: AlternativeNames<'_>) -> Result<Vec<&str>, OutOfM
     Ok(found)
 }
 
-/// Returns the identities that a subject alternative name of this value gives, in order. `None` if it is malformed. Fails only if
-/// out of memory.
+/// Returns the identities that a subject alternative name of this value gives, in order. `None` if it is malformed.
+/// Fails only if out of memory.
 pub(crate) fn identities_of(alloc: Global, value: &[u8]) -> Result<Option<Vec<&str>>, OutOfMemory>
     ensures { IfOk result (λ o. option_map (λ v. map (λ t. t.now) v.items) o ≡ identities_of value.now) }
 {

@@ -48,9 +48,9 @@ impl VerificationPolicy for Identity {
 
     ghost refusal = { identity_refusal };
 
-    /// Returns `Ok` if and only if the issuer's policy holds, the certificate has exactly one subject alternative name, it is well
-    /// formed, and one of its emails, URIs or names of Fulcio's kind is the identity. The first of these errors that applies, or
-    /// `OutOfMemory`:
+    /// Returns `Ok` if and only if the issuer's policy holds, the certificate has exactly one subject alternative
+    /// name, it is well formed, and one of its emails, URIs or names of Fulcio's kind is the identity. The first of
+    /// these errors that applies, or `OutOfMemory`:
     ///
     /// - the issuer's refusal;
     /// - `ExtensionNotFound` if there is no subject alternative name, if there are several, and if it is malformed;
@@ -102,8 +102,8 @@ fn joined(alloc: Global, texts: &[&str]) -> Result<Text, OutOfMemory>
     Ok(Text::from(joined))
 }
 
-/// Returns the identities that the certificate names. `None` if it has not exactly one well-formed subject alternative name. Fails
-/// only if out of memory.
+/// Returns the identities that the certificate names. `None` if it has not exactly one well-formed subject alternative
+/// name. Fails only if out of memory.
 fn identities(alloc: Global, cert: &Certificate) -> Result<Option<Vec<&str>>, OutOfMemory>
     ensures { IfOk result (λ o. option_map (λ v. map (λ t. t.now) v.items) o ≡ identities cert.now) }
 {

@@ -1,9 +1,10 @@
 //! Policies: what has to hold of a certificate besides its issuance. They ask for the values of Fulcio's extensions
-//! (https://github.com/sigstore/fulcio/blob/main/docs/oid-info.md), for one of the subject's alternative names (RFC 5280 section
-//! 4.2.1.6), or for all or any of several policies.
+//! (https://github.com/sigstore/fulcio/blob/main/docs/oid-info.md), for one of the subject's alternative names (RFC
+//! 5280 section 4.2.1.6), or for all or any of several policies.
 //!
-//! The layers above use one fact. A policy is a predicate of certificates, with one refusal for each certificate of which it does
-//! not hold: `verify` returns `Ok` if and only if it holds, else the error of that refusal, unless memory ran out.
+//! The layers above use one fact. A policy is a predicate of certificates, with one refusal for each certificate of
+//! which it does not hold: `verify` returns `Ok` if and only if it holds, else the error of that refusal, unless
+//! memory ran out.
 #![tactic(auto)]
 
 mod boxed;

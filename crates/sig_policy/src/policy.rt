@@ -20,8 +20,9 @@ pub trait VerificationPolicy: Drop {
     // The one refusal of a certificate of which it does not hold. Out of memory is none.
     ghost refusal: { Self → Cert → Refusal };
 
-    /// Returns `Ok` if and only if the policy holds of the certificate, unless memory ran out; else the error that says its
-    /// refusal. `OutOfMemory` says nothing of the certificate, also if a policy that this one asks ran out of memory.
+    /// Returns `Ok` if and only if the policy holds of the certificate, unless memory ran out; else the error that
+    /// says its refusal. `OutOfMemory` says nothing of the certificate, also if a policy that this one asks ran out of
+    /// memory.
     fn verify(&self, alloc: Global, cert: &Certificate) -> PolicyResult
         ensures { IsVerdict (holds self.now cert.now) (refusal self.now cert.now) result };
 }

@@ -2,7 +2,8 @@
 
 ghost use Rattle.std.specs.Prelude.{◌≡◌, length, IfOk};
 ghost use Rattle.std.specs.List.{list_all, list_any};
-ghost use Rattle.sig_policy.specs.Requests.{leaf_holds, leaf_refusal, refused, refusals, all_refusal, request_holds, request_refusal};
+ghost use Rattle.sig_policy.specs.Requests.{leaf_holds, leaf_refusal, refused, refusals, all_refusal, request_holds};
+ghost use Rattle.sig_policy.specs.Requests.{request_refusal};
 ghost use Rattle.sig_policy.specs.Failures.{failures};
 ghost use Rattle.sig_policy.specs.Refusals.{any_of, refusals_of, AreRefusals, IsRefusalOf};
 ghost use Rattle.sig_policy.specs.Verdict.{IsVerdict};
@@ -73,8 +74,9 @@ impl VerificationPolicy for RequestPolicy {
 
     ghost refusal = { request_refusal };
 
-    /// `All`: returns `Ok` if and only if each policy holds, else `AllOf` with the number of policies and the refusals of those
-    /// that do not hold, in order. `Any`: returns `Ok` if and only if at least one holds, else `AnyOf` with the number of policies.
+    /// `All`: returns `Ok` if and only if each policy holds, else `AllOf` with the number of policies and the refusals
+    /// of those that do not hold, in order. `Any`: returns `Ok` if and only if at least one holds, else `AnyOf` with
+    /// the number of policies.
     fn verify(&self, alloc: Global, cert: &Certificate) -> PolicyResult {
         match self {
             RequestPolicy::All(policies) => verify_all(alloc, policies.as_slice(), cert),

@@ -1,7 +1,7 @@
 //! Policies that compare a text with the value of one extension.
 
 ghost use Rattle.std.specs.Prelude.{◌≡◌, ◌≢◌, ℕ, List, Ok, Err, IfOk, option_map};
-ghost use Rattle.sig_certificate.specs.Answers.{ComesWhere};
+ghost use Rattle.sig_base.specs.Answers.{ComesWhere};
 ghost use Rattle.sig_certificate.specs.Certificate.{Cert};
 ghost use Rattle.sig_policy.specs.Single.{extension_text, is_text, single_refusal};
 ghost use Rattle.sig_policy.specs.Held.{HasText};
@@ -41,8 +41,8 @@ pub trait SingleX509ExtPolicy {
         ensures { result.now ≡ identifier };
 }
 
-/// Returns the text of the only extension with this object identifier. `None` if there is none, if there are several, and if its
-/// value is not UTF-8.
+/// Returns the text of the only extension with this object identifier. `None` if there is none, if there are several,
+/// and if its value is not UTF-8.
 pub(crate) fn extension_text<'a>(cert: &'a Certificate, oid: &[u8]) -> Option<&'a str>
     ensures { option_map (λ t. t.now) result ≡ extension_text oid.now cert.now }
 {
@@ -52,12 +52,12 @@ pub(crate) fn extension_text<'a>(cert: &'a Certificate, oid: &[u8]) -> Option<&'
     }
 }
 
-/// Whether the certificate has exactly one extension of the policy's object identifier, and its value is UTF-8 and the text that
-/// the policy asks for. Errors:
+/// Whether the certificate has exactly one extension of the policy's object identifier, and its value is UTF-8 and the
+/// text that the policy asks for. Errors:
 ///
 /// - `ExtensionNotFound` if and only if it has none or several, or the value is not UTF-8;
-/// - `ExtensionCheckFailed`, with the policy's name, the text that it asks for and the text of the extension, if and only if the
-///   certificate has one, and its value is another text;
+/// - `ExtensionCheckFailed`, with the policy's name, the text that it asks for and the text of the extension, if and
+///   only if the certificate has one, and its value is another text;
 /// - `OutOfMemory`.
 pub fn verify_single<T: SingleX509ExtPolicy>(
     alloc: Global,
@@ -65,7 +65,8 @@ pub fn verify_single<T: SingleX509ExtPolicy>(
     cert: &Certificate,
 ) -> PolicyResult
     // The extension has the text that is asked for.
-    ensures accepted { ComesWhere PolicyError.OutOfMemory result (Ok tt) (HasText T.identifier cert.now (T.asked policy.now)) }
+    ensures accepted { ComesWhere PolicyError.OutOfMemory result (Ok tt) (HasText T.identifier cert.now
+        (T.asked policy.now)) }
     // It has no text.
     ensures extension_not_found { ComesWhere PolicyError.OutOfMemory result (Err PolicyError.ExtensionNotFound)
         ((text : List ℕ) → ¬ HasText T.identifier cert.now text) }

@@ -1,22 +1,25 @@
 -- The timestamp of a certificate: each answer has its cause, and each cause its answer.
-use Rattle.std.proofs.Common.{◌≡◌, ◌≢◌, ◌⊎◌, ℕ, ◌≤◌, false, List, [], ◌∷◌, length, Option, Some, None, Result, Ok, Err, refl, sym, ap, subst, ◌∙◌, inl, inr, arith}
+use Rattle.std.proofs.Common.{◌≡◌, ◌≢◌, ◌⊎◌, ℕ, ◌≤◌, false, List, [], ◌∷◌, length, Option, Some, None, Result, Ok, Err}
+use Rattle.std.proofs.Common.{refl, sym, ap, subst, ◌∙◌, inl, inr, arith}
 use Rattle.std.proofs.lemmas.List.{append-nil}
 use Rattle.std.specs.Prelude.{◌↔◌, IsSome}
-use Rattle.sig_base.specs.Answers.{Answers}
+use Rattle.sig_base.specs.Answers.{Answers, ComesWhere}
 use Rattle.sig_base.proofs.OptionSteps.{some_is}
 use Rattle.sig_der.proofs.Bytes.{IsBytes, IsBytes-right}
 use Rattle.sig_der.proofs.KeyInfos.{content_fits}
 use Rattle.sig_timestamp.specs.declared.signed.DigitallySigned.{DigitallySigned}
 use Rattle.sig_timestamp.specs.declared.sct_error.CertificateErrorKind.{CertificateErrorKind}
-use Rattle.sig_timestamp.specs.declared.sct_error.CertificateErrorKind.TheVariants.{LeafSCTMissing, IssuerMissing, LeafSCTMalformed}
+use Rattle.sig_timestamp.specs.declared.sct_error.CertificateErrorKind.TheVariants.{LeafSCTMissing, IssuerMissing}
+use Rattle.sig_timestamp.specs.declared.sct_error.CertificateErrorKind.TheVariants.{LeafSCTMalformed}
 use Rattle.sig_timestamp.specs.declared.sct_error.SCTError.{SCTError}
 use Rattle.sig_timestamp.specs.declared.sct_error.SCTError.TheVariants.{Parsing, OutOfMemory}
-use Rattle.sig_certificate.specs.Answers.{ComesWhere}
 use Rattle.sig_certificate.specs.Certificate.{Extension, Cert}
 use Rattle.sig_timestamp.specs.Vectors.{vector, two_bytes}
 use Rattle.sig_timestamp.specs.SctList.{Sct, IsSct, IsSctList, sct_at, sct_list_at}
-use Rattle.sig_timestamp.specs.Timestamps.{HasSct, LacksSct, HasBadSct, IsNoList, ListsNoSct, sct_extensions, only_one, sct_or_not, sct_in, sct_of_value, sct_of_list, sct_of}
-use Rattle.sig_timestamp.specs.Embedded.{signs_by, ready, HasCause, IsEmbedded, IsEmbeddedUnder, IsSaidOf, IsSaidOfValue}
+use Rattle.sig_timestamp.specs.Timestamps.{HasSct, LacksSct, HasBadSct, IsNoList, ListsNoSct, sct_extensions, only_one}
+use Rattle.sig_timestamp.specs.Timestamps.{sct_or_not, sct_in, sct_of_value, sct_of_list, sct_of}
+use Rattle.sig_timestamp.specs.Embedded.{signs_by, ready, HasCause, IsEmbedded, IsEmbeddedUnder, IsSaidOf}
+use Rattle.sig_timestamp.specs.Embedded.{IsSaidOfValue}
 use Rattle.sig_timestamp.proofs.SctLaws.{sct_list_at_takes, sct_list_at_again, sct_at_takes, sct_at_again}
 
 abbrev pub Texts : Type 0
@@ -147,10 +150,10 @@ embedded c spki a e said =
 
 -- ---- each refusal, exactly
 
-comes : (a m : Answer) → Answers OutOfMemory (λ (d : DigitallySigned). d) a m → (a ≡ m) ⊎ (a ≡ Err OutOfMemory)
-comes (Ok d) m e = inl (sym e)
-comes (Err f) m (inl e) = inr (ap (λ (x : SCTError). Err x) e)
-comes (Err f) m (inr e) = inl (sym e)
+comes : (a m : Answer) → Answers OutOfMemory (λ (d : DigitallySigned). d) a m → (a ≡ Err OutOfMemory) ⊎ (a ≡ m)
+comes (Ok d) m e = inr (sym e)
+comes (Err f) m (inl e) = inl (ap (λ (x : SCTError). Err x) e)
+comes (Err f) m (inr e) = inr (sym e)
 
 pub missing : (c : Cert) (spki : List ℕ) (a : Answer) → IsEmbedded c spki a → ComesWhere OutOfMemory a (Err (Parsing LeafSCTMissing)) (LacksSct c)
 missing c spki a is = ((λ e. subst (λ (w : Answer). HasCause c spki w) e is.cause), (λ h. comes a (Err (Parsing LeafSCTMissing)) (is.lacks h)))

@@ -1,11 +1,11 @@
 -- Why a text is no key of a ring: each fault, and when it comes.
-use Rattle.std.proofs.Common.{◌≡◌, ◌≢◌, ◌⊎◌, ℕ, Bool, true, false, not, eqb, cond, ◌&&◌, List, Option, Some, None, Result, Ok, Err, refl, sym, ap, ◌∙◌, inl, inr}
+use Rattle.std.proofs.Common.{◌≡◌, ◌≢◌, ◌⊎◌, ℕ, Bool, true, false, not, eqb, cond, ◌&&◌, List, Option, Some, None}
+use Rattle.std.proofs.Common.{Result, Ok, Err, refl, sym, ap, ◌∙◌, inl, inr}
 use Rattle.std.specs.Prelude.{bytes_eq}
 use Rattle.std.proofs.lemmas.Bool.{cases_Bool, cond-true, cond-false, and_parts, and_from}
 use Rattle.std.proofs.lemmas.Slice.Eq.{bytes_eq-Decides}
-use Rattle.sig_base.specs.Answers.{Answers}
+use Rattle.sig_base.specs.Answers.{Answers, ComesWhere}
 use Rattle.sig_base.proofs.OptionSteps.{some_is}
-use Rattle.sig_certificate.specs.Answers.{ComesWhere}
 use Rattle.sig_der.specs.Reading.{Piece}
 use Rattle.sig_der.specs.KeyInfo.{KeyInfo, IsKeyInfo, is_empty, whole_key_info}
 use Rattle.sig_der.specs.Tag.{OBJECT_IDENTIFIER}
@@ -13,9 +13,11 @@ use Rattle.sig_der.specs.ObjectIdentifiers.{ec_public_key, p256, rsa}
 use Rattle.sig_der.proofs.Bytes.{IsBytes}
 use Rattle.sig_der.proofs.KeyInfos.{whole_key_info_takes, whole_key_info_again}
 use Rattle.sig_timestamp.specs.declared.keyring_error.KeyringError.{KeyringError}
-use Rattle.sig_timestamp.specs.declared.keyring_error.KeyringError.TheVariants.{KeyMalformed, AlgoUnsupported, OutOfMemory}
+use Rattle.sig_timestamp.specs.declared.keyring_error.KeyringError.TheVariants.{KeyMalformed, AlgoUnsupported}
+use Rattle.sig_timestamp.specs.declared.keyring_error.KeyringError.TheVariants.{OutOfMemory}
 use Rattle.sig_timestamp.specs.RingKey.{RingKey}
-use Rattle.sig_timestamp.specs.Keyring.{IsRingKey, AreKnown, IsMalformedKey, IsOtherKey, is_identifier, is_null, point_under, point_in, point_of_info, point_of}
+use Rattle.sig_timestamp.specs.Keyring.{IsRingKey, AreKnown, IsMalformedKey, IsOtherKey, is_identifier, is_null}
+use Rattle.sig_timestamp.specs.Keyring.{point_under, point_in, point_of_info, point_of}
 use Rattle.sig_timestamp.proofs.KeyLaws.{point_of_takes, point_of_known, point_of_none}
 use Rattle.sig_timestamp.proofs.ComesLaws.{error_where}
 

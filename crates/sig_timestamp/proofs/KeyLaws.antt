@@ -1,5 +1,6 @@
 -- Keys of a ring: what is read is a key of a ring, and what is one is read.
-use Rattle.std.proofs.Common.{◌≡◌, ◌≢◌, ℕ, Bool, true, false, cond, ◌&&◌, List, Option, Some, None, Result, Ok, Err, refl, sym, ap, ◌∙◌, inl, inr}
+use Rattle.std.proofs.Common.{◌≡◌, ◌≢◌, ℕ, Bool, true, false, cond, ◌&&◌, List, Option, Some, None, Result, Ok, Err}
+use Rattle.std.proofs.Common.{refl, sym, ap, ◌∙◌, inl, inr}
 use Rattle.std.specs.Prelude.{bytes_eq, IfOk}
 use Rattle.sig_base.specs.Answers.{Answers}
 use Rattle.std.proofs.lemmas.Bool.{cases_Bool, eqb-true, cond-true, cond-false}
@@ -10,9 +11,11 @@ use Rattle.sig_der.specs.ObjectIdentifiers.{ec_public_key, p256, rsa}
 use Rattle.sig_der.proofs.Bytes.{IsBytes}
 use Rattle.sig_der.proofs.KeyInfos.{whole_key_info_takes, whole_key_info_again}
 use Rattle.sig_timestamp.specs.declared.keyring_error.KeyringError.{KeyringError}
-use Rattle.sig_timestamp.specs.declared.keyring_error.KeyringError.TheVariants.{KeyMalformed, AlgoUnsupported, OutOfMemory}
+use Rattle.sig_timestamp.specs.declared.keyring_error.KeyringError.TheVariants.{KeyMalformed, AlgoUnsupported}
+use Rattle.sig_timestamp.specs.declared.keyring_error.KeyringError.TheVariants.{OutOfMemory}
 use Rattle.sig_timestamp.specs.RingKey.{RingKey}
-use Rattle.sig_timestamp.specs.Keyring.{IsRingKey, is_identifier, is_null, point_under, point_in, point_of_info, point_of}
+use Rattle.sig_timestamp.specs.Keyring.{IsRingKey, is_identifier, is_null, point_under, point_in, point_of_info}
+use Rattle.sig_timestamp.specs.Keyring.{point_of}
 
 -- ---- the point
 

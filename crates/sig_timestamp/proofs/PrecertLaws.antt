@@ -1,5 +1,6 @@
 -- The precertificate's signed part: it is one of the same parts, no longer than the certificate's.
-use Rattle.std.proofs.Common.{◌≡◌, ℕ, ◌+◌, ◌/◌, ◌%◌, ◌<◌, ◌≤◌, Bool, true, false, not, cond, ltb, List, [], ◌∷◌, ◌++◌, length, take, Some, None, refl, sym, ap, subst, ◌∙◌, append_assoc, arith, inl, inr}
+use Rattle.std.proofs.Common.{◌≡◌, ℕ, ◌+◌, ◌/◌, ◌%◌, ◌<◌, ◌≤◌, Bool, true, false, not, cond, ltb, List, [], ◌∷◌, ◌++◌}
+use Rattle.std.proofs.Common.{length, take, Some, None, refl, sym, ap, subst, ◌∙◌, append_assoc, arith, inl, inr}
 use Rattle.std.specs.Prelude.{slice_get, Result, Ok, Err, IfOk}
 use Rattle.sig_base.specs.declared.memory.OutOfMemory.{OutOfMemory}
 use Rattle.std.specs.Str.{bytes_eq}
@@ -11,7 +12,8 @@ use Rattle.std.proofs.lemmas.Option.{slice_get_within, slice_get-get_or, get_or_
 use Rattle.sig_der.specs.Element.{IsElement, element, spelled_length}
 use Rattle.sig_der.specs.ObjectIdentifiers.{sct_list}
 use Rattle.sig_certificate.specs.Certificate.{Extension, Cert, IsExtension, IsList, AreExtensions, IsSignedPart}
-use Rattle.sig_timestamp.specs.Precert.{without_oid, kept_extensions, kept_of, texts_of, extensions_element, precertificate, HaveSpelling, IsWithoutScts}
+use Rattle.sig_timestamp.specs.Precert.{without_oid, kept_extensions, kept_of, texts_of, extensions_element}
+use Rattle.sig_timestamp.specs.Precert.{precertificate, HaveSpelling, IsWithoutScts}
 
 -- ---- what is kept
 

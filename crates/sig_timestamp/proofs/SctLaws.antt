@@ -1,5 +1,6 @@
 -- SCT lists and SCTs: what is read is what the relations build, and what they build is read.
-use Rattle.std.proofs.Common.{◌≡◌, ℕ, ◌^◌, ◌<◌, eqb, List, [], ◌∷◌, ◌++◌, length, Option, Some, refl, sym, ap, subst, ◌∙◌, arith}
+use Rattle.std.proofs.Common.{◌≡◌, ℕ, ◌^◌, ◌<◌, eqb, List, [], ◌∷◌, ◌++◌, length, Option, Some, refl, sym, ap, subst}
+use Rattle.std.proofs.Common.{◌∙◌, arith}
 use Rattle.std.specs.Int.{w64, from_be_bytes}
 use Rattle.std.proofs.lemmas.Bool.{eqb-true}
 use Rattle.std.proofs.lemmas.Nat.{be_bytes_8, from_be_bytes-to_be_bytes_8}
@@ -12,8 +13,10 @@ use Rattle.sig_der.proofs.Takings.{take_whole_takes, take_whole_again}
 use Rattle.sig_der.proofs.KeyInfos.{content_fits}
 use Rattle.sig_der.proofs.Many.{many_at_takes, many_at_again}
 use Rattle.sig_timestamp.specs.Vectors.{vector, two_bytes, IsShort, bytes_at, vector_at, whole_vector}
-use Rattle.sig_timestamp.specs.SctList.{Sct, IsSct, IsSctList, eight_bytes, signed_at, after_version, sct_at, list_in, sct_list_at}
-use Rattle.sig_timestamp.proofs.VectorLaws.{bytes_at_takes, bytes_at_again, vector_at_takes, vector_at_again, vectors, whole_vector_takes, whole_vector_again}
+use Rattle.sig_timestamp.specs.SctList.{Sct, IsSct, IsSctList, eight_bytes, signed_at, after_version, sct_at, list_in}
+use Rattle.sig_timestamp.specs.SctList.{sct_list_at}
+use Rattle.sig_timestamp.proofs.VectorLaws.{bytes_at_takes, bytes_at_again, vector_at_takes, vector_at_again, vectors}
+use Rattle.sig_timestamp.proofs.VectorLaws.{whole_vector_takes, whole_vector_again}
 
 -- ---- the list
 

@@ -1,11 +1,11 @@
 -- Each result of a keyring and of a timestamp, and when it comes.
-use Rattle.std.proofs.Common.{◌≡◌, ◌≢◌, ◌⊎◌, ℕ, ◌+◌, ◌-◌, ◌^◌, ◌<◌, Bool, true, false, cond, ltb, List, length, Option, Some, None, Result, Ok, Err}
+use Rattle.std.proofs.Common.{◌≡◌, ◌≢◌, ◌⊎◌, ℕ, ◌+◌, ◌-◌, ◌^◌, ◌<◌, Bool, true, false, cond, ltb, List, length, Option}
+use Rattle.std.proofs.Common.{Some, None, Result, Ok, Err}
 use Rattle.std.proofs.Common.{refl, sym, ap, subst, ◌∙◌, arith, inl, inr}
 use Rattle.std.specs.Prelude.{◌↔◌}
 use Rattle.std.proofs.lemmas.Bool.{cases_Bool, cond-true, cond-false, le-ltb, ltb-false}
-use Rattle.sig_base.specs.Answers.{Answers}
+use Rattle.sig_base.specs.Answers.{Answers, ComesWhere}
 use Rattle.sig_base.proofs.OptionSteps.{some_is}
-use Rattle.sig_certificate.specs.Answers.{ComesWhere}
 use Rattle.sig_timestamp.specs.declared.keyring_error.KeyringError.{KeyringError}
 use Rattle.sig_timestamp.specs.declared.keyring_error.KeyringError.TheVariants.{KeyNotFound, VerificationFailed}
 use Rattle.sig_timestamp.specs.declared.sct_error.SCTError.{SCTError}

@@ -1,12 +1,15 @@
 -- The timestamp that a certificate carries, made ready to be checked: RFC 6962 sections 3.2 and 3.3.
-use Rattle.std.specs.Prelude.{◌≡◌, ◌≢◌, ◌⊎◌, ℕ, length, Bool, false, List, [], ◌∷◌, Option, Some, None, option_map, slice_get, unwrap_or, Result, Ok, Err, is_some, if◌then◌else◌}
+use Rattle.std.specs.Prelude.{◌≡◌, ◌≢◌, ◌⊎◌, ℕ, length, Bool, false, List, [], ◌∷◌, Option, Some, None, option_map}
+use Rattle.std.specs.Prelude.{slice_get, unwrap_or, Result, Ok, Err, is_some, if◌then◌else◌}
 use Rattle.sig_base.specs.Answers.{Answers}
 use Rattle.sig_der.specs.ObjectIdentifiers.{extended_key_usage, precertificate_signing}
 use Rattle.sig_timestamp.specs.declared.signed.DigitallySigned.{DigitallySigned}
 use Rattle.sig_timestamp.specs.declared.sct_error.CertificateErrorKind.{CertificateErrorKind}
-use Rattle.sig_timestamp.specs.declared.sct_error.CertificateErrorKind.TheVariants.{LeafSCTMissing, IssuerMissing, LeafSCTMalformed}
+use Rattle.sig_timestamp.specs.declared.sct_error.CertificateErrorKind.TheVariants.{LeafSCTMissing, IssuerMissing}
+use Rattle.sig_timestamp.specs.declared.sct_error.CertificateErrorKind.TheVariants.{LeafSCTMalformed}
 use Rattle.sig_timestamp.specs.declared.sct_error.SCTError.{SCTError}
-use Rattle.sig_timestamp.specs.declared.sct_error.SCTError.TheVariants.{Parsing, Serialization, Verification, OutOfMemory}
+use Rattle.sig_timestamp.specs.declared.sct_error.SCTError.TheVariants.{Parsing, Serialization, Verification}
+use Rattle.sig_timestamp.specs.declared.sct_error.SCTError.TheVariants.{OutOfMemory}
 use Rattle.sig_certificate.specs.Certificate.{Extension, Cert}
 use Rattle.sig_certificate.specs.Lookups.{with_oid}
 use Rattle.sig_certificate.specs.Values.{purposes_of, has_purpose}

@@ -1,5 +1,6 @@
 -- *Keyring key*: which key infos are keys of a certificate log, and the key that a list of key infos has for an id.
-use Rattle.std.specs.Prelude.{◌≡◌, ◌⊎◌, ◌≤◌, ℕ, Bool, true, not, ◌&&◌, ◌==◌, if◌then◌else◌, List, [], ◌∷◌, Option, Some, None, Result, Ok, Err, bytes_eq}
+use Rattle.std.specs.Prelude.{◌≡◌, ◌⊎◌, ◌≤◌, ℕ, Bool, true, not, ◌&&◌, ◌==◌, if◌then◌else◌, List, [], ◌∷◌, Option}
+use Rattle.std.specs.Prelude.{Some, None, Result, Ok, Err, bytes_eq}
 use Rattle.std.specs.Borrow.{Bor}
 use Rattle.std.specs.Option.{option_or}
 use Rattle.std.specs.Result.{result_ok}
@@ -10,7 +11,8 @@ use Rattle.sig_der.specs.Tag.{OBJECT_IDENTIFIER, NULL}
 use Rattle.sig_der.specs.declared.place.Place.{Place}
 use Rattle.sig_der.specs.ObjectIdentifiers.{ec_public_key, p256, rsa}
 use Rattle.sig_timestamp.specs.declared.keyring_error.KeyringError.{KeyringError}
-use Rattle.sig_timestamp.specs.declared.keyring_error.KeyringError.TheVariants.{KeyMalformed, AlgoUnsupported, KeyNotFound, VerificationFailed}
+use Rattle.sig_timestamp.specs.declared.keyring_error.KeyringError.TheVariants.{KeyMalformed, AlgoUnsupported}
+use Rattle.sig_timestamp.specs.declared.keyring_error.KeyringError.TheVariants.{KeyNotFound, VerificationFailed}
 
 -- ---- one key
 
@@ -22,8 +24,8 @@ is_identifier p = (p.tag == OBJECT_IDENTIFIER) && not (is_empty p.content)
 abbrev pub is_null : Piece → Bool
 is_null p = (p.tag == NULL) && is_empty p.content
 
--- What the algorithm and its parameters say of the bits: a point of P-256 is a key on an elliptic curve whose parameters are the
--- curve's identifier (RFC 5480 section 2.1.1).
+-- What the algorithm and its parameters say of the bits: a point of P-256 is a key on an elliptic curve whose
+-- parameters are the curve's identifier (RFC 5480 section 2.1.1).
 abbrev pub point_under : List ℕ → List ℕ → Option Piece → Result (List ℕ) KeyringError
 point_under bits oid None = Err AlgoUnsupported
 point_under bits oid (Some p) =
@@ -78,9 +80,11 @@ key_of [] id = None
 key_of (spki ∷ keys) id = option_or (key_of keys id) (point_if id spki)
 
 -- whether a signature is genuine under the point
-abbrev pub vouch : (List ℕ → List ℕ → List ℕ → Bool) → Option (List ℕ) → List ℕ → List ℕ → Result (Unit {0}) KeyringError
+abbrev pub vouch : (List ℕ → List ℕ → List ℕ → Bool) → Option (List ℕ) → List ℕ → List ℕ
+    → Result (Unit {0}) KeyringError
 vouch accepts None message signature = Err KeyNotFound
-vouch accepts (Some point) message signature = if accepts point message signature then Ok tt else Err VerificationFailed
+vouch accepts (Some point) message signature = if accepts point message signature then Ok tt
+    else Err VerificationFailed
 
 -- ---- why a text is no key of a ring
 

@@ -10,7 +10,13 @@ abbrev pub both_now : Bor (List ℕ) × Bor (List ℕ) → List ℕ × List ℕ
 both_now x = (x.0.now, x.1.now)
 
 abbrev pub sct_now : LentSct → Sct
-sct_now s = record { log_id = s.log_id.now; timestamp = s.timestamp; extensions = s.extensions.now; signature = s.signature.now }
+sct_now s =
+    record {
+      log_id = s.log_id.now;
+      timestamp = s.timestamp;
+      extensions = s.extensions.now;
+      signature = s.signature.now;
+    }
 
 -- a part, or why it is not there
 abbrev pub part_now : Result (Bor (List ℕ)) CertificateErrorKind → Result (List ℕ) CertificateErrorKind

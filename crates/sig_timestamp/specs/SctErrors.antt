@@ -1,6 +1,8 @@
 -- The errors of timestamps, by those of keyrings.
 use Rattle.sig_timestamp.specs.declared.keyring_error.KeyringError.{KeyringError}
-use Rattle.sig_timestamp.specs.declared.keyring_error.KeyringError.TheVariants.{KeyMalformed, AlgoUnsupported, KeyNotFound, VerificationFailed, OutOfMemory as NoMemory}
+use Rattle.sig_timestamp.specs.declared.keyring_error.KeyringError.TheVariants.{KeyMalformed, AlgoUnsupported}
+use Rattle.sig_timestamp.specs.declared.keyring_error.KeyringError.TheVariants.{KeyNotFound, VerificationFailed}
+use Rattle.sig_timestamp.specs.declared.keyring_error.KeyringError.TheVariants.{OutOfMemory as NoMemory}
 use Rattle.sig_timestamp.specs.declared.sct_error.SCTError.{SCTError}
 use Rattle.sig_timestamp.specs.declared.sct_error.SCTError.TheVariants.{Verification, OutOfMemory}
 

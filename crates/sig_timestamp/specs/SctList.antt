@@ -1,5 +1,5 @@
--- *SCT list* and *SCT*: RFC 6962 sections 3.3 and 3.2. The relations build the bytes from what they hold; the plain readers cut
--- them. That they read exactly these bytes is in proofs/SctLaws.
+-- *SCT list* and *SCT*: RFC 6962 sections 3.3 and 3.2. The relations build the bytes from what they hold; the plain
+-- readers cut them. That they read exactly these bytes is in proofs/SctLaws.
 use Rattle.std.specs.Prelude.{◌≡◌, ℕ, ◌^◌, ◌<◌, ◌==◌, List, [], ◌∷◌, ◌++◌, length, Option, Some, None, if◌then◌else◌}
 use Rattle.std.specs.Int.{w64, to_be_bytes, from_be_bytes}
 use Rattle.sig_base.specs.OptionSteps.{◌>>=◌}
@@ -12,7 +12,8 @@ use Rattle.sig_timestamp.specs.Vectors.{vector, IsShort, bytes_at, vector_at, wh
 
 -- ---- what they are
 
--- A signed certificate timestamp: the SHA-256 of the log's key, milliseconds since 1970, extensions, and the bytes of the signature.
+-- A signed certificate timestamp: the SHA-256 of the log's key, milliseconds since 1970, extensions, and the bytes of
+-- the signature.
 pub record Sct : Type 0 where
   pub log_id : List ℕ
   pub timestamp : ℕ
@@ -23,8 +24,8 @@ pub record Sct : Type 0 where
 abbrev pub eight_bytes : ℕ → List ℕ
 eight_bytes n = to_be_bytes w64 n
 
--- *SCT*: version v1, the log's id, the time, extensions, the two bytes of the signature's algorithm (RFC 5246 section 4.7), which
--- are not compared, and the signature
+-- *SCT*: version v1, the log's id, the time, extensions, the two bytes of the signature's algorithm (RFC 5246 section
+-- 4.7), which are not compared, and the signature
 pub record IsSct (text : List ℕ) (s : Sct) : Type 0 where
   pub algorithm : List ℕ
   pub named : length s.log_id ≡ hash_length
@@ -32,7 +33,8 @@ pub record IsSct (text : List ℕ) (s : Sct) : Type 0 where
   pub extended : IsShort s.extensions
   pub two : length algorithm ≡ 2
   pub signed : IsShort s.signature
-  pub spelled : text ≡ v1 ∷ (s.log_id ++ (eight_bytes s.timestamp ++ (vector s.extensions ++ (algorithm ++ vector s.signature))))
+  pub spelled : text ≡ v1 ∷ (s.log_id ++ (eight_bytes s.timestamp ++ (vector s.extensions
+      ++ (algorithm ++ vector s.signature))))
 
 -- *SCT list*: an OCTET STRING of a vector of vectors
 pub record IsSctList (value : List ℕ) (scts : List (List ℕ)) : Type 0 where

@@ -14,7 +14,8 @@ Ring = List (List ℕ × RingKey)
 -- ---- a message under the key of an id
 
 -- The ring has a key of the id, and its point accepts, or refuses, the signature over the message.
-pub record IsSignedUnder (accepts : Accepts) (ring : Ring) (id message signature : List ℕ) (accepted : Bool) : Type 0 where
+pub record IsSignedUnder (accepts : Accepts) (ring : Ring) (id message signature : List ℕ)
+    (accepted : Bool) : Type 0 where
   pub point : List ℕ
   pub has : point_at ring id ≡ Some point
   pub said : accepts point message signature ≡ accepted

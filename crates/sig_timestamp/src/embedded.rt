@@ -1,9 +1,8 @@
 //! `CertificateEmbeddedSCT`: the SCT that a certificate carries (RFC 6962 section 3.3).
 
 ghost use Rattle.std.specs.Prelude.{◌≡◌, ◌↔◌, IfOk, IsSome, IsErrOf, Ok, Err, None};
-ghost use Rattle.sig_base.specs.Answers.{Answers};
+ghost use Rattle.sig_base.specs.Answers.{Answers, ComesWhere};
 ghost use Rattle.sig_timestamp.specs.SctBytes.{signed_of};
-ghost use Rattle.sig_certificate.specs.Answers.{ComesWhere};
 ghost use Rattle.sig_timestamp.specs.Timestamps.{LacksSct, HasBadSct, only_one, sct_in, sct_of, sct_of_value};
 ghost use Rattle.sig_der.specs.Taking.{many_at};
 ghost use Rattle.sig_timestamp.specs.Vectors.{vector_at};
@@ -21,8 +20,8 @@ use sig_der::oid::SCT_LIST;
 use std::alloc::Global;
 use std::marker::Model;
 
-/// The one SCT that a certificate carries, with the TBSCertificate of its precertificate and the SHA-256 of its issuer's SPKI.
-/// Contracts see what it signs.
+/// The one SCT that a certificate carries, with the TBSCertificate of its precertificate and the SHA-256 of its
+/// issuer's SPKI. Contracts see what it signs.
 #[derive(Drop)]
 pub struct CertificateEmbeddedSCT {
     signed: DigitallySigned,
@@ -37,11 +36,11 @@ impl Model for CertificateEmbeddedSCT {
 }
 
 impl CertificateEmbeddedSCT {
-    /// Returns the SCT of a certificate whose issuer the chain begins with: its first certificate, or its second if the first has
-    /// the purpose of precertificate signing (RFC 6962 section 3.1).
+    /// Returns the SCT of a certificate whose issuer the chain begins with: its first certificate, or its second if
+    /// the first has the purpose of precertificate signing (RFC 6962 section 3.1).
     ///
-    /// Fails with `Parsing(IssuerMissing)` if and only if that certificate is not there or `is_ca` rejects it; else with what
-    /// [`CertificateEmbeddedSCT::new_with_verified_path`] fails with for its SPKI.
+    /// Fails with `Parsing(IssuerMissing)` if and only if that certificate is not there or `is_ca` rejects it; else
+    /// with what [`CertificateEmbeddedSCT::new_with_verified_path`] fails with for its SPKI.
     pub fn new(
         alloc: Global,
         leaf: &Certificate,
@@ -50,17 +49,22 @@ impl CertificateEmbeddedSCT {
         // The one SCT is returned, ready to be checked under the issuer's key.
         ensures embedded { IsEmbeddedUnder leaf.now (issuer_of chain.now) result }
         // The chain begins with no issuer.
-        ensures issuer { IsErrOf result (SCTError.Parsing CertificateErrorKind.IssuerMissing) ↔ (issuer_of chain.now ≡ None) }
+        ensures issuer { IsErrOf result (SCTError.Parsing CertificateErrorKind.IssuerMissing)
+            ↔ (issuer_of chain.now ≡ None) }
         // It begins with one, and not one extension lists SCTs, or it does not list exactly one.
-        ensures missing { ComesWhere SCTError.OutOfMemory result (Err (SCTError.Parsing CertificateErrorKind.LeafSCTMissing)) (IsSome (issuer_of chain.now) × LacksSct leaf.now) }
+        ensures missing { ComesWhere SCTError.OutOfMemory result (Err
+            (SCTError.Parsing CertificateErrorKind.LeafSCTMissing)) (IsSome
+            (issuer_of chain.now) × LacksSct leaf.now) }
         // It begins with one, and the one list of SCTs is malformed, or the only SCT in it.
-        ensures malformed { ComesWhere SCTError.OutOfMemory result (Err (SCTError.Parsing CertificateErrorKind.LeafSCTMalformed)) (IsSome (issuer_of chain.now) × HasBadSct leaf.now) }
+        ensures malformed { ComesWhere SCTError.OutOfMemory result (Err
+            (SCTError.Parsing CertificateErrorKind.LeafSCTMalformed)) (IsSome
+            (issuer_of chain.now) × HasBadSct leaf.now) }
     {
         embed_under(alloc, leaf, chain)
     }
 
-    /// Returns the SCT of a certificate whose issuer has this SubjectPublicKeyInfo (DER). Fails with `Parsing` of the first of
-    /// these that applies, or with `OutOfMemory`:
+    /// Returns the SCT of a certificate whose issuer has this SubjectPublicKeyInfo (DER). Fails with `Parsing` of the
+    /// first of these that applies, or with `OutOfMemory`:
     ///
     /// - `LeafSCTMissing` if not exactly one extension lists SCTs;
     /// - `LeafSCTMalformed` if the list is malformed;
@@ -74,9 +78,11 @@ impl CertificateEmbeddedSCT {
         // The one SCT is returned, ready to be checked under the issuer's key.
         ensures embedded { IsEmbedded leaf.now issuer_spki.now result }
         // Not one extension lists SCTs, or it does not list exactly one.
-        ensures missing { ComesWhere SCTError.OutOfMemory result (Err (SCTError.Parsing CertificateErrorKind.LeafSCTMissing)) (LacksSct leaf.now) }
+        ensures missing { ComesWhere SCTError.OutOfMemory result (Err
+            (SCTError.Parsing CertificateErrorKind.LeafSCTMissing)) (LacksSct leaf.now) }
         // The one list of SCTs is malformed, or the only SCT in it.
-        ensures malformed { ComesWhere SCTError.OutOfMemory result (Err (SCTError.Parsing CertificateErrorKind.LeafSCTMalformed)) (HasBadSct leaf.now) }
+        ensures malformed { ComesWhere SCTError.OutOfMemory result (Err
+            (SCTError.Parsing CertificateErrorKind.LeafSCTMalformed)) (HasBadSct leaf.now) }
     {
         embed(alloc, leaf, issuer_spki)
     }

@@ -1,8 +1,7 @@
 //! `Key`: the key of a Certificate Transparency log.
 
 ghost use Rattle.std.specs.Prelude.{◌≡◌, ◌≢◌, length, Result, Err, IfOk};
-ghost use Rattle.sig_base.specs.Answers.{Answers};
-ghost use Rattle.sig_certificate.specs.Answers.{ComesWhere};
+ghost use Rattle.sig_base.specs.Answers.{Answers, ComesWhere};
 ghost use Rattle.sig_base.specs.Sha256.{sha256};
 ghost use Rattle.sig_der.specs.KeyInfo.{KeyInfo, IsKeyInfo};
 ghost use Rattle.sig_der.specs.KeyInfoPlaces.{placed_option};
@@ -17,7 +16,8 @@ use sig_der::{Place, whole_key_info};
 use std::alloc::Global;
 use std::marker::Model;
 
-/// The key of a Certificate Transparency log: a point of P-256, and its id, the SHA-256 of its SPKI (RFC 6962 section 3.2).
+/// The key of a Certificate Transparency log: a point of P-256, and its id, the SHA-256 of its SPKI (RFC 6962 section
+/// 3.2).
 #[derive(Drop)]
 pub struct Key {
     pub(crate) id: [u8; 32],
@@ -35,15 +35,18 @@ impl Model for Key {
 impl Key {
     /// Returns the key of this SubjectPublicKeyInfo (DER, RFC 5280 section 4.1.2.7). Errors:
     ///
-    /// - `KeyMalformed` if and only if the bytes are no SPKI, or the parameters of its algorithm are there and are neither an object
-    ///   identifier nor the NULL of an RSA key;
-    /// - `AlgoUnsupported` if and only if it is any other SPKI that is no point of P-256, one without parameters included;
+    /// - `KeyMalformed` if and only if the bytes are no SPKI, or the parameters of its algorithm are there and are
+    ///   neither an object identifier nor the NULL of an RSA key;
+    /// - `AlgoUnsupported` if and only if it is any other SPKI that is no point of P-256, one without parameters
+    ///   included;
     /// - `OutOfMemory`.
     pub fn new(alloc: Global, spki_bytes: &[u8]) -> Result<Key, KeyringError>
         ensures found { IfOk result (λ k. IsRingKey spki_bytes.now k.point) }
         ensures id { IfOk result (λ k. k.id ≡ sha256 spki_bytes.now) }
-        ensures info { (k : KeyInfo) → IsKeyInfo k → k.whole ≡ spki_bytes.now → Answers KeyringError.OutOfMemory (λ r. r.point) result (point_in k) }
-        ensures none { ((k : KeyInfo) → IsKeyInfo k → k.whole ≢ spki_bytes.now) → Answers KeyringError.OutOfMemory (λ r. r.point) result (Err KeyringError.KeyMalformed) }
+        ensures info { (k : KeyInfo) → IsKeyInfo k → k.whole ≡ spki_bytes.now
+            → Answers KeyringError.OutOfMemory (λ r. r.point) result (point_in k) }
+        ensures none { ((k : KeyInfo) → IsKeyInfo k → k.whole ≢ spki_bytes.now)
+            → Answers KeyringError.OutOfMemory (λ r. r.point) result (Err KeyringError.KeyMalformed) }
         ensures key_malformed { ComesWhere KeyringError.OutOfMemory result
             (Err KeyringError.KeyMalformed) (IsMalformedKey spki_bytes.now) }
         ensures algo_unsupported { ComesWhere KeyringError.OutOfMemory result

@@ -13,8 +13,8 @@ use std::alloc::Global;
 use std::collections::BTreeMap;
 use std::marker::Model;
 
-/// The keys of Certificate Transparency logs, each found by its id without a look at the others (RFC 6962 section 3.2). Contracts
-/// see the list of its entries; `point_at` is the point that it has for an id.
+/// The keys of Certificate Transparency logs, each found by its id without a look at the others (RFC 6962 section
+/// 3.2). Contracts see the list of its entries; `point_at` is the point that it has for an id.
 #[derive(Drop)]
 pub struct Keyring {
     keys: BTreeMap<[u8; 32], Key>,
@@ -30,8 +30,8 @@ impl Model for Keyring {
 }
 
 impl Keyring {
-    /// Returns the keys of these SPKIs (DER). One that is no point of P-256 is left out; of two with one id the last is kept.
-    /// Fails only if out of memory.
+    /// Returns the keys of these SPKIs (DER). One that is no point of P-256 is left out; of two with one id the last
+    /// is kept. Fails only if out of memory.
     pub fn new(alloc: Global, keys: &Entries) -> Result<Keyring, KeyringError>
         ensures keys { IfOk result (λ r. (id : List ℕ) → point_at r id ≡ key_of keys.now id) }
         ensures refusal { IfErr result (λ e. e ≡ KeyringError.OutOfMemory) }
@@ -50,7 +50,8 @@ impl Keyring {
 
     /// Adds the key of an SPKI in place of one of the same id, or leaves it out.
     fn add(&mut self, alloc: Global, spki: &[u8]) -> Result<(), KeyringError>
-        ensures ok { OnOk result ((id : List ℕ) → point_at self.new id ≡ option_or (point_if id spki.now) (point_at self.old id)) }
+        ensures ok { OnOk result ((id : List ℕ) → point_at self.new id ≡ option_or (point_if id spki.now)
+            (point_at self.old id)) }
         ensures refusal { IfErr result (λ e. e ≡ KeyringError.OutOfMemory) }
     {
         match Key::new(alloc, spki) {
@@ -73,7 +74,8 @@ impl Keyring {
     /// Whether the key of this id accepts the signature over the message. Takes no memory. Errors:
     ///
     /// - `KeyNotFound` if and only if the keyring has no such key;
-    /// - `VerificationFailed` if and only if it has one, and the checker does not accept the signature under its point.
+    /// - `VerificationFailed` if and only if it has one, and the checker does not accept the signature under its
+    ///   point.
     pub fn verify<C: SignatureChecker>(
         &self,
         key_id: &[u8; 32],
@@ -87,7 +89,8 @@ impl Keyring {
         ensures verification_failed { IsErrOf result KeyringError.VerificationFailed
             ↔ IsSignedUnder (C.point_accepts checker.now) self.now key_id.now message.now signature.now false }
         // The same in one equation.
-        ensures exact { result ≡ vouch (C.point_accepts checker.now) (point_at self.now key_id.now) message.now signature.now }
+        ensures exact { result ≡ vouch (C.point_accepts checker.now)
+            (point_at self.now key_id.now) message.now signature.now }
     {
         self.check(key_id, signature, message, checker)
     }
@@ -99,7 +102,8 @@ impl Keyring {
         message: &[u8],
         checker: &C,
     ) -> Result<(), KeyringError>
-        ensures { result ≡ vouch (C.point_accepts checker.now) (point_at self.now key_id.now) message.now signature.now }
+        ensures { result ≡ vouch (C.point_accepts checker.now)
+            (point_at self.now key_id.now) message.now signature.now }
     {
         match self.key(key_id) {
             None => Err(KeyringError::KeyNotFound),

@@ -1,5 +1,5 @@
-//! Byte vectors of the presentation language of TLS: RFC 5246 section 4.3. `opaque value<0..2^16-1>` is the length of the value in
-//! two bytes, the high one first, and the value.
+//! Byte vectors of the presentation language of TLS: RFC 5246 section 4.3. `opaque value<0..2^16-1>` is the length of
+//! the value in two bytes, the high one first, and the value.
 
 ghost use Rattle.std.specs.Prelude.{◌≡◌, option_map};
 ghost use Rattle.sig_timestamp.specs.Vectors.{bytes_at, vector_at, whole_vector};

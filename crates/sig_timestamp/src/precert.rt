@@ -9,7 +9,8 @@
 ghost use Rattle.std.specs.Prelude.{◌≡◌, [], ◌∷◌, ◌++◌, IfOk, OnOk};
 ghost use Rattle.sig_certificate.specs.Certificate.{IsSignedPart};
 ghost use Rattle.sig_certificate.specs.Lookups.{lent};
-ghost use Rattle.sig_timestamp.specs.Precert.{precertificate, kept_extensions, kept_of, texts_of, tbs_with, HaveSpelling, IsWithoutScts};
+ghost use Rattle.sig_timestamp.specs.Precert.{precertificate, kept_extensions, kept_of, texts_of, tbs_with};
+ghost use Rattle.sig_timestamp.specs.Precert.{HaveSpelling, IsWithoutScts};
 
 use sig_base::{Bytes, OutOfMemory};
 use sig_certificate::{Certificate, ExtensionRef};
@@ -18,9 +19,10 @@ use sig_der::tag::{EXTENSIONS, SEQUENCE};
 use sig_der::write_short;
 use std::alloc::{AllocError, Global};
 
-/// Returns the TBSCertificate that a log saw before it issued the certificate's SCT: the elements of the certificate's own, each
-/// byte for byte, without the extensions that list SCTs. Only the lengths of the extensions' element, of its SEQUENCE and of the
-/// whole are written anew; if no extension is left, the element is `a3 02 30 00`. Fails only if out of memory.
+/// Returns the TBSCertificate that a log saw before it issued the certificate's SCT: the elements of the certificate's
+/// own, each byte for byte, without the extensions that list SCTs. Only the lengths of the extensions' element, of its
+/// SEQUENCE and of the whole are written anew; if no extension is left, the element is `a3 02 30 00`. Fails only if
+/// out of memory.
 pub fn precert_tbs_der(alloc: Global, leaf: &Certificate) -> Result<Bytes, OutOfMemory>
     ensures is { IfOk result (λ t. t ≡ precertificate leaf.now) }
     ensures keeps { IfOk result (IsWithoutScts leaf.now) }

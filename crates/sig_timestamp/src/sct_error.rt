@@ -15,8 +15,9 @@ pub enum CertificateErrorKind {
     /// The certificate has not exactly one extension that lists SCTs, or that does not list exactly one.
     #[error("LeafSCTMissing")]
     LeafSCTMissing,
-    /// The chain does not begin with an issuer: it has no certificate there (the first, or the second if the first only signs
-    /// precertificates), or [`is_ca`](sig_certificate::is_ca) rejects that one. Whether it issued the certificate is not asked.
+    /// The chain does not begin with an issuer: it has no certificate there (the first, or the second if the first
+    /// only signs precertificates), or [`is_ca`](sig_certificate::is_ca) rejects that one. Whether it issued the
+    /// certificate is not asked.
     #[error("IssuerMissing")]
     IssuerMissing,
     /// The list of SCTs, or the only SCT in it, is malformed.
@@ -30,8 +31,8 @@ pub enum SCTError {
     /// It was not read.
     #[error("Parsing")]
     Parsing(CertificateErrorKind),
-    /// What it signs cannot be written: the TBSCertificate is longer than 2^24 - 1 bytes, or the extensions of the SCT are longer
-    /// than 2^16 - 1.
+    /// What it signs cannot be written: the TBSCertificate is longer than 2^24 - 1 bytes, or the extensions of the SCT
+    /// are longer than 2^16 - 1.
     #[error("Serialization")]
     Serialization,
     /// The keyring does not vouch for it.

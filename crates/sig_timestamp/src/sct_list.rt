@@ -87,8 +87,8 @@ pub(crate) fn list_in(value: &[u8]) -> Option<&[u8]>
     whole_vector(&value[string.content..string.end])
 }
 
-/// Returns the only vector of a list of vectors. Fails with `LeafSCTMalformed` if the bytes are no such list, with `LeafSCTMissing`
-/// if it has none or several.
+/// Returns the only vector of a list of vectors. Fails with `LeafSCTMalformed` if the bytes are no such list, with
+/// `LeafSCTMissing` if it has none or several.
 pub(crate) fn only_one(list: &[u8]) -> Result<&[u8], CertificateErrorKind>
     ensures { part_now result ≡ only_one (many_at vector_at list.now) }
 {

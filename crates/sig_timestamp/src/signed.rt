@@ -13,8 +13,7 @@
 //! ```
 
 ghost use Rattle.std.specs.Prelude.{◌≡◌, ◌∷◌, ◌++◌, true, false, Ok, Err, IfOk, OnOk};
-ghost use Rattle.sig_base.specs.Answers.{Answers};
-ghost use Rattle.sig_certificate.specs.Answers.{ComesWhere};
+ghost use Rattle.sig_base.specs.Answers.{Answers, ComesWhere};
 ghost use Rattle.sig_timestamp.specs.Numbers.{v1, certificate_timestamp, precert_entry};
 ghost use Rattle.sig_timestamp.specs.Vectors.{two_bytes, vector, long_vector, IsShort, IsLong};
 ghost use Rattle.sig_timestamp.specs.SctList.{eight_bytes};
@@ -54,10 +53,11 @@ pub struct DigitallySigned {
     pub signature: Bytes,
 }
 
-/// Whether the keyring vouches for the SCT: whether the key of its log's id accepts its signature over what it signs (RFC 6962
-/// section 3.2). The first of these errors that applies, or `OutOfMemory`:
+/// Whether the keyring vouches for the SCT: whether the key of its log's id accepts its signature over what it signs
+/// (RFC 6962 section 3.2). The first of these errors that applies, or `OutOfMemory`:
 ///
-/// - `Serialization` if and only if the TBSCertificate is longer than 2^24 - 1 bytes or the extensions are longer than 2^16 - 1;
+/// - `Serialization` if and only if the TBSCertificate is longer than 2^24 - 1 bytes or the extensions are longer than
+///   2^16 - 1;
 /// - `Verification(KeyNotFound)` if and only if the keyring has no key of the log's id;
 /// - `Verification(VerificationFailed)` if and only if the checker does not accept the signature under that key.
 pub fn verify_sct<C: SignatureChecker>(
@@ -75,7 +75,8 @@ pub fn verify_sct<C: SignatureChecker>(
     ensures key_not_found { ComesWhere SCTError.OutOfMemory result
         (Err (SCTError.Verification KeyringError.KeyNotFound)) (IsOfUnknownLog sct.now keyring.now) }
     // It has bytes, there is such a key, and it does not accept the signature.
-    ensures verification_failed { ComesWhere SCTError.OutOfMemory result (Err (SCTError.Verification KeyringError.VerificationFailed))
+    ensures verification_failed { ComesWhere SCTError.OutOfMemory result (Err
+        (SCTError.Verification KeyringError.VerificationFailed))
         (IsSignedByLog (C.point_accepts checker.now) sct.now keyring.now false) }
     // The same in one equation.
     ensures exact { Answers SCTError.OutOfMemory (λ done. done) result
@@ -90,7 +91,8 @@ fn check<C: SignatureChecker>(
     keyring: &Keyring,
     checker: &C,
 ) -> Result<(), SCTError>
-    ensures { Answers SCTError.OutOfMemory (λ done. done) result (judged (C.point_accepts checker.now) sct.now keyring.now) }
+    ensures { Answers SCTError.OutOfMemory (λ done. done) result (judged
+        (C.point_accepts checker.now) sct.now keyring.now) }
 {
     if sct.tbs_certificate.as_slice().len() > TBS_CERTIFICATE_MAX {
         return Err(SCTError::Serialization);
