@@ -8,7 +8,6 @@ pub mod Values
 pub mod ExtensionValues
 pub mod Names
 pub mod BorrowedNames
-pub mod NamePlaces
 pub mod Profile
 pub mod Trust
 pub mod Faults

@@ -19,7 +19,6 @@ mod general_names;
 pub mod laws;
 mod listed;
 mod lookup;
-mod names;
 mod parts;
 mod pem;
 mod profile;
@@ -36,15 +35,13 @@ pub use error::X509ReadError;
 pub use general_name::GeneralName;
 pub use general_names::{AlternativeNames, alternative_names};
 pub use lookup::{ExtensionRef, Lookup};
-pub use names::{NamePlaces, name_at};
 pub use pem::der_to_pem;
 pub use profile::{basic_constraints, code_signing, is_ca, is_leaf, is_root_ca};
 pub use profile_error::{
     CertificateValidationError, ExtensionErrorKind, NotCAErrorKind, NotLeafErrorKind, PartName,
 };
-pub use span::{Span, part};
 pub use trust::{
     is_trusted, verify_expiration, verify_has_san, verify_key_usages, verify_validity,
 };
-pub use values::{BasicConstraints, KeyUsage, content_at};
+pub use values::{BasicConstraints, KeyUsage};
 pub use walks::read_purpose;

@@ -5,13 +5,13 @@ ghost use Rattle.sig_certificate.specs.Places.{part};
 
 use sig_der::Place;
 
-/// A range of a buffer, in bytes. For sig_policy, which reads names by their ranges.
+/// A range of a buffer, in bytes.
 #[derive(Clone, Copy, Debug)]
-pub struct Span {
+pub(crate) struct Span {
     /// The offset of its first byte.
-    pub start: usize,
+    pub(crate) start: usize,
     /// The offset after its last byte.
-    pub end: usize,
+    pub(crate) end: usize,
 }
 
 /// The whole element at the place.
@@ -34,8 +34,8 @@ pub(crate) fn content_of(place: Place) -> Span
     }
 }
 
-/// The part of the text. For sig_policy, as `Span`.
-pub fn part(bytes: &[u8], span: Span) -> &[u8]
+/// Returns the part of the buffer.
+pub(crate) fn part(bytes: &[u8], span: Span) -> &[u8]
     requires ordered { span.start ≤ span.end }
     requires below { span.end ≤ length bytes.now }
     ensures { result.now ≡ part bytes.now span }

@@ -36,9 +36,9 @@ pub struct BasicConstraints {
     pub path_len: Option<u32>,
 }
 
-/// The element of this tag that the whole value is. For sig_policy, which reads the names in a value.
+/// Returns the element of this tag that the whole value is.
 #[tactic(auto, using(crate::proofs::Fronts::part_whole))]
-pub fn content_at(value: &[u8], tag: u8) -> Option<Place>
+pub(crate) fn content_at(value: &[u8], tag: u8) -> Option<Place>
     ensures cut { take_whole tag value.now ≡ option_map (piece_at value.now) result }
     ensures within { IfSome result (IsContent (length value.now)) }
 {

@@ -2,10 +2,10 @@
 
 ghost use Rattle.std.specs.Prelude.{◌≡◌, ◌≤◌, ◌||◌, length, slice_range, option_map, is_some};
 ghost use Rattle.sig_der.specs.Taking.{many_at, take_whole};
-ghost use Rattle.sig_certificate.specs.Names.{name_at, names_of};
+ghost use Rattle.sig_certificate.specs.Names.{names_of};
 ghost use Rattle.sig_certificate.specs.Values.{oid_at, has_purpose, purposes_of};
 
-use crate::names::name_at;
+use crate::general_names::alternative_names;
 use crate::span::part;
 use crate::values::{content_at, oid_at};
 use sig_der::tag;
@@ -46,29 +46,12 @@ pub fn read_purpose(value: &[u8], purpose: &[u8]) -> Option<bool>
     purpose_among(value, sequence.content, sequence.end, purpose)
 }
 
-/// Whether names stand from `at` to `end` itself and nothing else.
-fn are_names(bytes: &[u8], at: usize, end: usize) -> bool
-    requires from { at ≤ end }
-    requires to { end ≤ length bytes.now }
-    ensures { is_some (many_at name_at (slice_range bytes.now at end)) ≡ result }
-{
-    let mut next = at;
-    while next < end {
-        match name_at(bytes, next, end) {
-            None => return false,
-            Some((_, after)) => next = after,
-        }
-    }
-    true
-}
-
 /// Whether alternative names of this value are well formed.
-#[tactic(auto, unfolding(crate::specs::Names::names_of))]
 pub(crate) fn holds_names(value: &[u8]) -> bool
     ensures { is_some (names_of value.now) ≡ result }
 {
-    match content_at(value, tag::SEQUENCE) {
+    match alternative_names(value) {
         None => false,
-        Some(sequence) => are_names(value, sequence.content, sequence.end),
+        Some(_) => true,
     }
 }
