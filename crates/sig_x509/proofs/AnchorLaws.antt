@@ -5,7 +5,7 @@ use Rattle.std.specs.Prelude.{slice_get, IfOk, IfErr}
 use Rattle.std.proofs.lemmas.Bool.{cases_order}
 use Rattle.sig_base.specs.declared.fault.PoolError.{PoolError}
 use Rattle.sig_base.specs.declared.fault.PoolError.TheVariants.{Anchor, Malformed, VerificationFailed, OutOfMemory}
-use Rattle.sig_certificate.specs.Answers.{ComesWhere}
+use Rattle.sig_base.specs.Answers.{ComesWhere}
 use Rattle.sig_certificate.specs.Certificate.{Cert}
 use Rattle.sig_x509.specs.Issuance.{IsAnchor, IsNoAnchor, AreAnchors, IsFirstNoAnchor, IsPoolRefusal}
 
@@ -42,9 +42,10 @@ pub first_refused : (texts : List (List ℕ)) (r : Result (List Cert) PoolError)
     → (place : ℕ) → ComesWhere OutOfMemory r (Err (Anchor place)) (IsFirstNoAnchor texts place)
 first_refused texts (Ok cs) are refused place =
     ((λ e. absurd cc), (λ is. absurd (among texts cs place is.text are is.there is.no)))
-first_refused texts (Err (Anchor found)) are refused place =
-    ((λ e. let same : found ≡ place = cc in subst (λ (n : ℕ). IsFirstNoAnchor texts n) same refused),
-    (λ is. inl (ap (λ (n : ℕ). Err (Anchor n)) (only_first texts found place refused is))))
-first_refused texts (Err OutOfMemory) are refused place = ((λ e. absurd cc), (λ is. inr refl))
+first_refused texts (Err (Anchor found)) are refused place = (
+  (λ e. let same : found ≡ place = cc in subst (λ (n : ℕ). IsFirstNoAnchor texts n) same refused),
+  (λ is. inr (ap (λ (n : ℕ). Err (Anchor n)) (only_first texts found place refused is))),
+)
+first_refused texts (Err OutOfMemory) are refused place = ((λ e. absurd cc), (λ is. inl refl))
 first_refused texts (Err Malformed) are refused place = absurd refused
 first_refused texts (Err VerificationFailed) are refused place = absurd refused

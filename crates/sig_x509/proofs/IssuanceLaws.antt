@@ -1,5 +1,6 @@
 -- How often an object identifier stands, by what a look-up finds; lists of extensions, and of anchors, that grow.
-use Rattle.std.proofs.Common.{◌≡◌, ℕ, ◌+◌, ◌<◌, ◌≤◌, Bool, true, false, cond, List, [], ◌∷◌, ◌++◌, length, take, get_or, ℤ, Option, Some, None, Err, refl, sym, ap, ◌∙◌, arith}
+use Rattle.std.proofs.Common.{◌≡◌, ℕ, ◌+◌, ◌<◌, ◌≤◌, Bool, true, false, cond, List, [], ◌∷◌, ◌++◌, length, take}
+use Rattle.std.proofs.Common.{get_or, ℤ, Option, Some, None, Err, refl, sym, ap, ◌∙◌, arith}
 use Rattle.std.specs.Prelude.{nat_eq, slice_get, position}
 use Rattle.std.specs.List.{list_all}
 use Rattle.std.proofs.lemmas.Bool.{ne_eqb}
@@ -11,7 +12,8 @@ use Rattle.sig_certificate.specs.declared.error.X509ReadError.TheVariants.{Der, 
 use Rattle.sig_certificate.specs.Answers.{IsRefusedOnlyWithout}
 use Rattle.sig_certificate.specs.Certificate.{Extension, Cert, IsCertificate}
 use Rattle.sig_base.specs.declared.fault.PoolError.TheVariants.{Malformed}
-use Rattle.sig_x509.specs.Issuance.{Accepts, placed, is_issued, is_profiled, issuer_of, is_unconstrained, IsAnchor, AreAnchors}
+use Rattle.sig_x509.specs.Issuance.{Accepts, placed, is_issued, is_profiled, issuer_of, is_unconstrained, IsAnchor}
+use Rattle.sig_x509.specs.Issuance.{AreAnchors}
 
 pub none_absent : (es : List Extension) → es ≡ [] → nat_eq (length es) 0 ≡ true
 none_absent es is = rw is refl

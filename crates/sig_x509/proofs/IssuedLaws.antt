@@ -1,24 +1,29 @@
 -- What is computed of a certificate that may be issued, and of its issuer, is what the relations say.
-use Rattle.std.proofs.Common.{◌≡◌, ◌⊎◌, ltb, ℕ, ◌<◌, ◌≤◌, Bool, true, false, ◌||◌, not, cond, List, [], ◌∷◌, length, get_or, ℤ, ◌≤ℤ◌, Option, Some, None, Result, Ok, Err, inl, inr, refl, sym, ap, subst, ◌∙◌, arith}
+use Rattle.std.proofs.Common.{◌≡◌, ◌⊎◌, ltb, ℕ, ◌<◌, ◌≤◌, Bool, true, false, ◌||◌, not, cond, List, [], ◌∷◌, length}
+use Rattle.std.proofs.Common.{get_or, ℤ, ◌≤ℤ◌, Option, Some, None, Result, Ok, Err, inl, inr, refl, sym, ap, subst}
+use Rattle.std.proofs.Common.{◌∙◌, arith}
 use Rattle.std.specs.Prelude.{◌↔◌, T, bytes_eq, position, int_le, ◌==◌}
 use Rattle.std.specs.List.{AllByRecursion, position_or_len}
-use Rattle.std.proofs.lemmas.Bool.{and_parts, and_from, or_cases, or_right, eqb-true, eq-eqb, ltb-false, cases_order, both_ways, not-true}
+use Rattle.std.proofs.lemmas.Bool.{and_parts, and_from, or_cases, or_right, eqb-true, eq-eqb, ltb-false, cases_order}
+use Rattle.std.proofs.lemmas.Bool.{both_ways, not-true}
 use Rattle.std.proofs.lemmas.List.Quantifiers.{position-Some}
 use Rattle.std.proofs.lemmas.List.Sums.{prefix_len_passes}
 use Rattle.std.proofs.lemmas.Option.{slice_get_within, slice_get-get_or, get_or_from_slice_get}
 use Rattle.std.proofs.lemmas.Slice.Eq.{bytes_eq-Decides}
-use Rattle.sig_base.specs.Answers.{Answers}
+use Rattle.sig_base.specs.Answers.{Answers, ComesWhere}
 use Rattle.sig_base.specs.declared.fault.PoolError.{PoolError}
 use Rattle.sig_base.specs.declared.fault.PoolError.TheVariants.{Malformed, VerificationFailed, OutOfMemory}
-use Rattle.sig_der.specs.ObjectIdentifiers.{key_usage, extended_key_usage, basic_constraints, subject_alternative_name, name_constraints}
+use Rattle.sig_der.specs.ObjectIdentifiers.{key_usage, extended_key_usage, basic_constraints, subject_alternative_name}
+use Rattle.sig_der.specs.ObjectIdentifiers.{name_constraints}
 use Rattle.sig_certificate.specs.declared.values.BasicConstraints.{BasicConstraints as Constraints}
-use Rattle.sig_certificate.specs.Answers.{ComesWhere}
 use Rattle.sig_certificate.specs.Certificate.{Extension, Cert, IsCertificate}
 use Rattle.sig_certificate.specs.Lookups.{with_oid, oids}
 use Rattle.sig_certificate.specs.Profile.{Held, constraints, code_signing}
 use Rattle.sig_certificate.specs.Trust.{may_sign_code}
-use Rattle.sig_x509.specs.Issuance.{Accepts, may_be_critical, is_understood, are_understood, is_fit, is_no_authority, is_profiled, is_issued, placed, issuer_of}
-use Rattle.sig_x509.specs.Issued.{MayBeCritical, IsFit, HasProfile, IsIssuedBy, IsIssuedByNone, IsFirstIssuer, HasNoProfile, IsIssuedText, IsUnissuedText, IsJudgedText}
+use Rattle.sig_x509.specs.Issuance.{Accepts, may_be_critical, is_understood, are_understood, is_fit, is_no_authority}
+use Rattle.sig_x509.specs.Issuance.{is_profiled, is_issued, placed, issuer_of}
+use Rattle.sig_x509.specs.Issued.{MayBeCritical, IsFit, HasProfile, IsIssuedBy, IsIssuedByNone, IsFirstIssuer}
+use Rattle.sig_x509.specs.Issued.{HasNoProfile, IsIssuedText, IsUnissuedText, IsJudgedText}
 use Rattle.sig_certificate.proofs.DistinctLaws.{distinct_from, distinct_is}
 
 bytes_same : (xs ys : List ℕ) → bytes_eq xs ys ≡ true → xs ≡ ys
@@ -288,13 +293,13 @@ module _ (accepts : Accepts) (text : List ℕ) (t : ℤ) (anchors : List Cert) (
       to (inr (inl x)) f = let wrong = sym x.1 ∙ f in absurd cc
       to (inr (inr x)) f = let wrong = sym x ∙ f in absurd cc
 
-      from : IsJudgedText accepts text t anchors r → IsIssuedText accepts text t anchors place → (r ≡ Ok place) ⊎ (r ≡ Err OutOfMemory)
+      from : IsJudgedText accepts text t anchors r → IsIssuedText accepts text t anchors place → (r ≡ Err OutOfMemory) ⊎ (r ≡ Ok place)
       from (inl x) is =
           let same = x.1.only is.certificate is.is in
           let here = subst (λ (w : Cert). HasProfile w × IsFirstIssuer accepts w t anchors place) same (is.profile, is.issuer) in
-          inl ((answers_issued accepts anchors x.0 t r x.2 place).1 here)
+          inr ((answers_issued accepts anchors x.0 t r x.2 place).1 here)
       from (inr (inl x)) is = absurd (x.0 is.certificate is.is)
-      from (inr (inr x)) is = inr x
+      from (inr (inr x)) is = inl x
 
   pub text_malformed : ComesWhere OutOfMemory r (Err Malformed) (HasNoProfile text)
   text_malformed = (to j, from j)
@@ -304,10 +309,10 @@ module _ (accepts : Accepts) (text : List ℕ) (t : ℤ) (anchors : List Cert) (
       to (inr (inl x)) f = λ d is has. x.0 d is
       to (inr (inr x)) f = let wrong = sym x ∙ f in absurd cc
 
-      from : IsJudgedText accepts text t anchors r → HasNoProfile text → (r ≡ Err Malformed) ⊎ (r ≡ Err OutOfMemory)
-      from (inl x) not_so = inl ((answers_malformed accepts anchors x.0 t r x.2).1 (not_so x.0 x.1.is))
-      from (inr (inl x)) not_so = inl x.1
-      from (inr (inr x)) not_so = inr x
+      from : IsJudgedText accepts text t anchors r → HasNoProfile text → (r ≡ Err OutOfMemory) ⊎ (r ≡ Err Malformed)
+      from (inl x) not_so = inr ((answers_malformed accepts anchors x.0 t r x.2).1 (not_so x.0 x.1.is))
+      from (inr (inl x)) not_so = inr x.1
+      from (inr (inr x)) not_so = inl x
 
   pub text_unissued : ComesWhere OutOfMemory r (Err VerificationFailed) (IsUnissuedText accepts text t anchors)
   text_unissued = (to j, from j)
@@ -319,13 +324,13 @@ module _ (accepts : Accepts) (text : List ℕ) (t : ℤ) (anchors : List Cert) (
       to (inr (inl x)) f = let wrong = sym x.1 ∙ f in absurd cc
       to (inr (inr x)) f = let wrong = sym x ∙ f in absurd cc
 
-      from : IsJudgedText accepts text t anchors r → IsUnissuedText accepts text t anchors → (r ≡ Err VerificationFailed) ⊎ (r ≡ Err OutOfMemory)
+      from : IsJudgedText accepts text t anchors r → IsUnissuedText accepts text t anchors → (r ≡ Err OutOfMemory) ⊎ (r ≡ Err VerificationFailed)
       from (inl x) is =
           let same = x.1.only is.certificate is.is in
           let here = subst (λ (w : Cert). HasProfile w × IsIssuedByNone accepts w t anchors) same (is.profile, is.none) in
-          inl ((answers_none accepts anchors x.0 t r x.2).1 here)
+          inr ((answers_none accepts anchors x.0 t r x.2).1 here)
       from (inr (inl x)) is = absurd (x.0 is.certificate is.is)
-      from (inr (inr x)) is = inr x
+      from (inr (inr x)) is = inl x
 
   -- of a certificate, the answer is that of its record; of another text it is `Malformed`
   pub text_certificate : (c : Cert) → IsCertificate text c → Answers OutOfMemory (λ (place : ℕ). place) r (issuer_of accepts anchors c t)

@@ -1,10 +1,13 @@
--- *Issuance*: which certificates may be issued, and by which anchor. RFC 5280 sections 4.2 and 6.1, in the profile of Sigstore.
-use Rattle.std.specs.Prelude.{⊤, ◌≡◌, ℕ, ℤ, List, [], ◌∷◌, length, take, slice_get, Bool, true, false, not, ◌&&◌, ◌||◌, Option, Some, None, Result, Ok, Err, position, int_le, ◌==◌, if◌then◌else◌}
+-- *Issuance*: which certificates may be issued, and by which anchor. RFC 5280 sections 4.2 and 6.1, in the profile of
+-- Sigstore.
+use Rattle.std.specs.Prelude.{⊤, ◌≡◌, ℕ, ℤ, List, [], ◌∷◌, length, take, slice_get, Bool, true, false, not, ◌&&◌, ◌||◌}
+use Rattle.std.specs.Prelude.{Option, Some, None, Result, Ok, Err, position, int_le, ◌==◌, if◌then◌else◌}
 use Rattle.std.specs.Str.{bytes_eq}
 use Rattle.std.specs.List.{list_all}
 use Rattle.sig_base.specs.declared.fault.PoolError.{PoolError}
 use Rattle.sig_base.specs.declared.fault.PoolError.TheVariants.{Anchor, Malformed, VerificationFailed, OutOfMemory}
-use Rattle.sig_der.specs.ObjectIdentifiers.{key_usage, extended_key_usage, basic_constraints, subject_alternative_name, name_constraints}
+use Rattle.sig_der.specs.ObjectIdentifiers.{key_usage, extended_key_usage, basic_constraints, subject_alternative_name}
+use Rattle.sig_der.specs.ObjectIdentifiers.{name_constraints}
 use Rattle.sig_certificate.specs.declared.values.BasicConstraints.{BasicConstraints as Constraints}
 use Rattle.sig_certificate.specs.Certificate.{Extension, Cert, IsCertificate}
 use Rattle.sig_certificate.specs.Lookups.{with_oid, are_single}
@@ -16,7 +19,8 @@ use Rattle.sig_certificate.specs.Trust.{may_sign_code}
 -- the extensions that may be critical
 abbrev pub may_be_critical : List ℕ → Bool
 may_be_critical oid =
-    bytes_eq oid key_usage || (bytes_eq oid subject_alternative_name || (bytes_eq oid basic_constraints || bytes_eq oid extended_key_usage))
+    bytes_eq oid key_usage || (bytes_eq oid subject_alternative_name
+    || (bytes_eq oid basic_constraints || bytes_eq oid extended_key_usage))
 
 -- a critical extension that is not known refuses the certificate
 abbrev pub is_understood : Extension → Bool
@@ -53,7 +57,8 @@ is_profiled c = is_fit c && is_no_authority (constraints c)
 abbrev pub Accepts : Type 0
 Accepts = List ℕ → List ℕ → List ℕ → List ℕ → Bool
 
--- *Signed*: the issuer is the subject of x byte for byte, and the signature is genuine under the key of x (section 6.1.3)
+-- *Signed*: the issuer is the subject of x byte for byte, and the signature is genuine under the key of x (section
+-- 6.1.3)
 abbrev pub is_signed : Accepts → Cert → Cert → Bool
 is_signed accepts c x = bytes_eq c.issuer x.subject && accepts x.spki c.algorithm c.tbs c.signature
 
@@ -75,7 +80,8 @@ placed (Some place) = Ok place
 
 -- the place of the first anchor that issued c, which signs code at the time t
 abbrev pub issuer_of : Accepts → List Cert → Cert → ℤ → Result ℕ PoolError
-issuer_of accepts anchors c t = if is_profiled c then placed (position (is_issued accepts c t) anchors) else Err Malformed
+issuer_of accepts anchors c t = if is_profiled c then placed (position (is_issued accepts c t) anchors)
+    else Err Malformed
 
 -- ---- anchors
 

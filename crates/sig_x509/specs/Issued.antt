@@ -1,11 +1,13 @@
--- *Issuance* as relations: what holds of a certificate that may be issued, of who signed it, and of the anchor that issued it.
--- RFC 5280 sections 4.1, 4.2 and 6.1, in the profile of Sigstore. `Issuance` says how they are found.
-use Rattle.std.specs.Prelude.{◌≡◌, ◌⊎◌, ℕ, ◌<◌, ℤ, ◌≤ℤ◌, List, [], Bool, true, false, Some, None, Result, Ok, Err, slice_get}
+-- *Issuance* as relations: what holds of a certificate that may be issued, of who signed it, and of the anchor that
+-- issued it. RFC 5280 sections 4.1, 4.2 and 6.1, in the profile of Sigstore. `Issuance` says how they are found.
+use Rattle.std.specs.Prelude.{◌≡◌, ◌⊎◌, ℕ, ◌<◌, ℤ, ◌≤ℤ◌, List, [], Bool, true, false, Some, None, Result, Ok, Err}
+use Rattle.std.specs.Prelude.{slice_get}
 use Rattle.std.specs.Str.{bytes_eq}
 use Rattle.std.specs.List.{AllByRecursion, IsDistinct}
 use Rattle.sig_base.specs.declared.fault.PoolError.{PoolError}
 use Rattle.sig_base.specs.declared.fault.PoolError.TheVariants.{Malformed, OutOfMemory}
-use Rattle.sig_der.specs.ObjectIdentifiers.{key_usage, extended_key_usage, basic_constraints, subject_alternative_name, name_constraints}
+use Rattle.sig_der.specs.ObjectIdentifiers.{key_usage, extended_key_usage, basic_constraints, subject_alternative_name}
+use Rattle.sig_der.specs.ObjectIdentifiers.{name_constraints}
 use Rattle.sig_certificate.specs.declared.values.BasicConstraints.{BasicConstraints as Constraints}
 use Rattle.sig_certificate.specs.Certificate.{Cert, IsCertificate}
 use Rattle.sig_certificate.specs.Lookups.{with_oid, oids}
@@ -33,7 +35,8 @@ pub record IsFit (c : Cert) : Type 0 where
 
 -- basic constraints, section 4.2.1.9, are absent, or well formed and not cA
 abbrev pub IsNoAuthority : Cert → Type 0
-IsNoAuthority c = (constraints c ≡ Ok None) ⊎ ((b : Bool × Constraints) × (constraints c ≡ Ok (Some b)) × (b.1.ca ≡ false))
+IsNoAuthority c = (constraints c ≡ Ok None) ⊎ ((b : Bool × Constraints) × (constraints c ≡ Ok (Some b))
+    × (b.1.ca ≡ false))
 
 -- *Profile*
 pub record HasProfile (c : Cert) : Type 0 where
@@ -42,7 +45,8 @@ pub record HasProfile (c : Cert) : Type 0 where
 
 -- ---- who issued it
 
--- *Signed*: the issuer is the subject of x byte for byte, and the signature is genuine under the key of x (section 6.1.3)
+-- *Signed*: the issuer is the subject of x byte for byte, and the signature is genuine under the key of x (section
+-- 6.1.3)
 pub record IsSignedBy (accepts : Accepts) (c x : Cert) : Type 0 where
   pub issuer : c.issuer ≡ x.subject
   pub genuine : accepts x.spki c.algorithm c.tbs c.signature ≡ true
@@ -56,19 +60,21 @@ pub record IsIssuedBy (accepts : Accepts) (c : Cert) (t : ℤ) (x : Cert) : Type
 
 -- none of the anchors issued it
 abbrev pub IsIssuedByNone : Accepts → Cert → ℤ → List Cert → Type 0
-IsIssuedByNone accepts c t anchors = (place : ℕ) (x : Cert) → slice_get anchors place ≡ Some x → ¬ IsIssuedBy accepts c t x
+IsIssuedByNone accepts c t anchors = (place : ℕ) (x : Cert) → slice_get anchors place ≡ Some x
+    → ¬ IsIssuedBy accepts c t x
 
 -- the anchor at the place issued it, and none before it did
 pub record IsFirstIssuer (accepts : Accepts) (c : Cert) (t : ℤ) (anchors : List Cert) (place : ℕ) : Type 0 where
   pub anchor : Cert
   pub there : slice_get anchors place ≡ Some anchor
   pub issued : IsIssuedBy accepts c t anchor
-  pub first : (earlier : ℕ) (x : Cert) → earlier < place → slice_get anchors earlier ≡ Some x → ¬ IsIssuedBy accepts c t x
+  pub first : (earlier : ℕ) (x : Cert) → earlier < place → slice_get anchors earlier ≡ Some x
+      → ¬ IsIssuedBy accepts c t x
 
 -- ---- what the checker is asked
 
--- Only then does the checker's word on the key of x matter: c has the profile, signs code and is valid at the time t, and x has the
--- name of its issuer.
+-- Only then does the checker's word on the key of x matter: c has the profile, signs code and is valid at the time t,
+-- and x has the name of its issuer.
 pub record IsAsked (c : Cert) (t : ℤ) (x : Cert) : Type 0 where
   pub profile : HasProfile c
   pub begun : c.not_before ≤ℤ t

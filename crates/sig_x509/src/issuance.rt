@@ -4,7 +4,8 @@ ghost use Rattle.std.specs.Prelude.{◌≡◌};
 ghost use Rattle.sig_certificate.specs.Lookups.{lent, with_oid};
 ghost use Rattle.sig_certificate.specs.Profile.{constraints, code_signing};
 ghost use Rattle.sig_certificate.specs.Trust.{may_sign_code};
-ghost use Rattle.sig_x509.specs.Issuance.{may_be_critical, is_understood, are_understood, is_unconstrained, is_fit, is_no_authority, is_profiled, is_signed, signs_code_at, is_issued};
+ghost use Rattle.sig_x509.specs.Issuance.{may_be_critical, is_understood, are_understood, is_unconstrained, is_fit};
+ghost use Rattle.sig_x509.specs.Issuance.{is_no_authority, is_profiled, is_signed, signs_code_at, is_issued};
 
 use sig_base::SignatureChecker;
 use sig_certificate::{Certificate, ExtensionRef, Lookup, basic_constraints, code_signing};
@@ -21,7 +22,8 @@ fn may_be_critical(oid: &[u8]) -> bool
         || oid == EXTENDED_KEY_USAGE
 }
 
-/// Whether a certificate with the extension may be accepted: whether it is not critical, or is one that may be critical.
+/// Whether a certificate with the extension may be accepted: whether it is not critical, or is one that may be
+/// critical.
 fn is_understood(extension: &ExtensionRef<'_>) -> bool
     ensures { result ≡ is_understood (lent extension.now) }
 {
@@ -120,7 +122,8 @@ pub(crate) fn is_signed<C: SignatureChecker>(
         )
 }
 
-/// Whether the anchor issued the certificate, which signs code at the time, in seconds since 1970. The checker is asked last.
+/// Whether the anchor issued the certificate, which signs code at the time, in seconds since 1970. The checker is
+/// asked last.
 pub(crate) fn is_issued<C: SignatureChecker>(
     certificate: &Certificate,
     time: i64,

@@ -1,8 +1,9 @@
-//! Pools of trust anchors: which of them issued a certificate (RFC 5280 sections 4.2 and 6.1, in the profile of Sigstore). The
-//! crate re-exports what the three below it have for the same callers: certificates, their SCTs, and policies.
+//! Pools of trust anchors: which of them issued a certificate (RFC 5280 sections 4.2 and 6.1, in the profile of
+//! Sigstore). The crate re-exports what the three below it have for the same callers: certificates, their SCTs, and
+//! policies.
 //!
-//! The layer above uses one fact. A pool returns the index of the first trust anchor that issued the certificate, or that the
-//! certificate has not the profile of what a trust anchor may issue, or that none issued it.
+//! The layer above uses one fact. A pool returns the index of the first trust anchor that issued the certificate, or
+//! that the certificate has not the profile of what a trust anchor may issue, or that none issued it.
 #![tactic(auto)]
 
 mod issuance;

@@ -1,11 +1,12 @@
 //! `CertificatePool`: the trust anchors that may have issued a certificate.
 
 ghost use Rattle.std.specs.Prelude.{◌≡◌, ◌↔◌, ℕ, Ok, Err, option_map, slice_get, position, IfOk, IfErr, IsErrOf};
-ghost use Rattle.sig_base.specs.Answers.{Answers};
-ghost use Rattle.sig_certificate.specs.Answers.{ComesWhere};
+ghost use Rattle.sig_base.specs.Answers.{Answers, ComesWhere};
 ghost use Rattle.sig_certificate.specs.Certificate.{Cert, IsCertificate};
-ghost use Rattle.sig_x509.specs.Issuance.{Accepts, is_issued, issuer_of, IsAnchor, AreAnchors, IsFirstNoAnchor, IsRefusedAt, IsPoolRefusal};
-ghost use Rattle.sig_x509.specs.Issued.{HasProfile, IsFirstIssuer, IsIssuedByNone, HasNoProfile, IsIssuedText, IsUnissuedText, IsJudgedText};
+ghost use Rattle.sig_x509.specs.Issuance.{Accepts, is_issued, issuer_of, IsAnchor, AreAnchors, IsFirstNoAnchor};
+ghost use Rattle.sig_x509.specs.Issuance.{IsRefusedAt, IsPoolRefusal};
+ghost use Rattle.sig_x509.specs.Issued.{HasProfile, IsFirstIssuer, IsIssuedByNone, HasNoProfile, IsIssuedText};
+ghost use Rattle.sig_x509.specs.Issued.{IsUnissuedText, IsJudgedText};
 ghost use Rattle.sig_x509.specs.Issued.{AgreeWhereAsked};
 
 use crate::issuance::{is_issued, is_profiled, is_unconstrained};
@@ -14,8 +15,8 @@ use sig_certificate::{Certificate, X509ReadError};
 use std::alloc::Global;
 use std::marker::Model;
 
-/// Trust anchors, in order: certificates that are trusted by themselves, and have no name constraints. Contracts see the list of
-/// their records.
+/// Trust anchors, in order: certificates that are trusted by themselves, and have no name constraints. Contracts see
+/// the list of their records.
 #[derive(Drop)]
 pub struct CertificatePool {
     anchors: Register<Certificate>,
@@ -30,8 +31,8 @@ impl Model for CertificatePool {
     ghost view = { λ p. p.anchors };
 }
 
-/// Returns the trust anchor that the bytes at this index are. Fails with `Anchor` and the index if and only if they are none, unless
-/// out of memory.
+/// Returns the trust anchor that the bytes at this index are. Fails with `Anchor` and the index if and only if they
+/// are none, unless out of memory.
 fn read_anchor(alloc: Global, place: usize, der: &[u8]) -> Result<Certificate, PoolError>
     ensures found { IfOk result (IsAnchor der.now) }
     ensures refused { IfErr result (IsRefusedAt der.now place) }
@@ -114,13 +115,13 @@ impl CertificatePool {
         }
     }
 
-    /// Returns the index of the first trust anchor that issued the leaf, which signs code at the time, in seconds since 1970 (RFC
-    /// 5280 section 6.1). It takes no memory. The checker's word matters only on trust anchors whose name is that of the leaf's
-    /// issuer. Errors:
+    /// Returns the index of the first trust anchor that issued the leaf, which signs code at the time, in seconds
+    /// since 1970 (RFC 5280 section 6.1). It takes no memory. The checker's word matters only on trust anchors whose
+    /// name is that of the leaf's issuer. Errors:
     ///
-    /// - `Malformed` if and only if the leaf has not the profile: version 3, two equal algorithms, no duplicate extension, no
-    ///   critical extensions but key usage, alternative names, basic constraints and extended key usage, no name constraints, and
-    ///   basic constraints that are absent, or well formed and not cA;
+    /// - `Malformed` if and only if the leaf has not the profile: version 3, two equal algorithms, no duplicate
+    ///   extension, no critical extensions but key usage, alternative names, basic constraints and extended key usage,
+    ///   no name constraints, and basic constraints that are absent, or well formed and not cA;
     /// - `VerificationFailed` if and only if it has the profile, and no trust anchor issued it.
     pub fn verify_cert_with_time<C: SignatureChecker>(
         &self,
@@ -128,15 +129,19 @@ impl CertificatePool {
         verification_time: i64,
         checker: &C,
     ) -> Result<usize, PoolError>
-        // An index is returned if and only if the leaf has the profile, the anchor there issued it, and none before it did.
-        ensures issued { (place : ℕ) → (result ≡ Ok place) ↔ (HasProfile leaf.now × IsFirstIssuer (C.cert_accepts checker.now) leaf.now verification_time self.now place) }
+        // An index is returned if and only if the leaf has the profile, the anchor there issued it, and none before it
+        // did.
+        ensures issued { (place : ℕ) → (result ≡ Ok place) ↔ (HasProfile leaf.now × IsFirstIssuer
+            (C.cert_accepts checker.now) leaf.now verification_time self.now place) }
         // `Malformed` is returned if and only if it has not the profile.
         ensures malformed { IsErrOf result PoolError.Malformed ↔ (HasProfile leaf.now → ⊥) }
         // `VerificationFailed` is returned if and only if it has the profile, and no anchor issued it.
-        ensures none { IsErrOf result PoolError.VerificationFailed ↔ (HasProfile leaf.now × IsIssuedByNone (C.cert_accepts checker.now) leaf.now verification_time self.now) }
-        // Of the anchors that the checker is not asked about, its word does not matter: another checker that says the same of the
-        // others has the same result.
-        ensures asked { (other : Accepts) → AgreeWhereAsked (C.cert_accepts checker.now) other leaf.now verification_time self.now
+        ensures none { IsErrOf result PoolError.VerificationFailed
+            ↔ (HasProfile leaf.now × IsIssuedByNone (C.cert_accepts checker.now) leaf.now verification_time self.now) }
+        // Of the anchors that the checker is not asked about, its word does not matter: another checker that says the
+        // same of the others has the same result.
+        ensures asked { (other : Accepts) → AgreeWhereAsked
+            (C.cert_accepts checker.now) other leaf.now verification_time self.now
             → result ≡ issuer_of other self.now leaf.now verification_time }
         // The same in one equation.
         ensures exact { result ≡ issuer_of (C.cert_accepts checker.now) self.now leaf.now verification_time }
@@ -172,27 +177,33 @@ impl CertificatePool {
         verification_time: i64,
         checker: &C,
     ) -> Result<usize, PoolError>
-        // An index is returned if and only if the bytes are a certificate with the profile, the anchor there issued it, and none
-        // before it did, unless memory ran out.
-        ensures issued { (place : ℕ) → ComesWhere PoolError.OutOfMemory result (Ok place) (IsIssuedText (C.cert_accepts checker.now) der.now verification_time self.now place) }
+        // An index is returned if and only if the bytes are a certificate with the profile, the anchor there issued
+        // it, and none before it did, unless memory ran out.
+        ensures issued { (place : ℕ) → ComesWhere PoolError.OutOfMemory result (Ok place) (IsIssuedText
+            (C.cert_accepts checker.now) der.now verification_time self.now place) }
         // `Malformed` is returned if and only if the bytes are no certificate with the profile, unless memory ran out.
         ensures malformed { ComesWhere PoolError.OutOfMemory result (Err PoolError.Malformed) (HasNoProfile der.now) }
-        // `VerificationFailed` is returned if and only if they are one, and no anchor issued it, unless memory ran out.
-        ensures failed { ComesWhere PoolError.OutOfMemory result (Err PoolError.VerificationFailed) (IsUnissuedText (C.cert_accepts checker.now) der.now verification_time self.now) }
+        // `VerificationFailed` is returned if and only if they are one, and no anchor issued it, unless memory ran
+        // out.
+        ensures failed { ComesWhere PoolError.OutOfMemory result (Err PoolError.VerificationFailed) (IsUnissuedText
+            (C.cert_accepts checker.now) der.now verification_time self.now) }
         // Of a certificate, the answer is that of its record.
-        ensures certificate { (c : Cert) → IsCertificate der.now c → Answers PoolError.OutOfMemory (λ place. place) result (issuer_of (C.cert_accepts checker.now) self.now c verification_time) }
+        ensures certificate { (c : Cert) → IsCertificate der.now c
+            → Answers PoolError.OutOfMemory (λ place. place) result (issuer_of
+            (C.cert_accepts checker.now) self.now c verification_time) }
         // Of the anchors that the checker is not asked about, its word does not matter.
         ensures asked { (other : Accepts) (c : Cert) → IsCertificate der.now c
             → AgreeWhereAsked (C.cert_accepts checker.now) other c verification_time self.now
             → Answers PoolError.OutOfMemory (λ place. place) result (issuer_of other self.now c verification_time) }
         // Bytes that are no certificate are malformed.
-        ensures none { ((c : Cert) → IsCertificate der.now c → ⊥) → Answers PoolError.OutOfMemory (λ (place : ℕ). place) result (Err PoolError.Malformed) }
+        ensures none { ((c : Cert) → IsCertificate der.now c → ⊥)
+            → Answers PoolError.OutOfMemory (λ (place : ℕ). place) result (Err PoolError.Malformed) }
     {
         self.check_der(alloc, der, verification_time, checker)
     }
 
-    /// Returns the SubjectPublicKeyInfo (DER) of the trust anchor at this index. `None` if and only if the index is not below the
-    /// number of trust anchors.
+    /// Returns the SubjectPublicKeyInfo (DER) of the trust anchor at this index. `None` if and only if the index is
+    /// not below the number of trust anchors.
     pub fn anchor_spki(&self, place: usize) -> Option<&[u8]>
         ensures { option_map (λ s. s.now) result ≡ option_map (λ c. c.spki) (slice_get self.now place) }
     {
