@@ -10,7 +10,11 @@ pub(crate) fn sha256(alloc: Global, arguments: &mut Arguments<'_>) -> Result<Ans
     let bytes = arguments.hex(alloc)?;
     let mut hasher = Sha256::new();
     hasher.update(bytes.as_slice());
-    with_digest(alloc, Answer::ok(alloc)?, &ArtifactDigest::from_sha256(hasher))
+    with_digest(
+        alloc,
+        Answer::ok(alloc)?,
+        &ArtifactDigest::from_sha256(hasher),
+    )
 }
 
 /// `sha512 BYTES`: the same.
@@ -18,7 +22,11 @@ pub(crate) fn sha512(alloc: Global, arguments: &mut Arguments<'_>) -> Result<Ans
     let bytes = arguments.hex(alloc)?;
     let mut hasher = Sha512::new();
     hasher.update(bytes.as_slice());
-    with_digest(alloc, Answer::ok(alloc)?, &ArtifactDigest::from_sha512(hasher))
+    with_digest(
+        alloc,
+        Answer::ok(alloc)?,
+        &ArtifactDigest::from_sha512(hasher),
+    )
 }
 
 /// `equal_digests BYTES BYTES`: whether two digests of so many bytes are equal.

@@ -102,9 +102,7 @@ pub(crate) fn cosign(alloc: Global, payload: &str) -> Result<Answer, CaseError> 
 pub(crate) fn first_sha256(alloc: Global, payload: &str) -> Result<Answer, CaseError> {
     match InTotoStatementV1::from_json(alloc, payload.as_bytes()) {
         Ok(statement) => match statement.subject_sha256_digest(alloc) {
-            Ok(digest) => {
-                with_counts(Answer::ok(alloc)?.value(&digest.as_str())?, &statement)
-            }
+            Ok(digest) => { with_counts(Answer::ok(alloc)?.value(&digest.as_str())?, &statement) }
             Err(error) => Answer::error(alloc, &error),
         },
         Err(error) => Answer::error(alloc, &error),
