@@ -4,6 +4,5 @@ pub mod Replies
 pub mod Requests
 pub mod Runs
 pub mod Signed
-pub mod Tables
 pub mod Verdicts
 pub mod Writing

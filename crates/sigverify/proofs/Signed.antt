@@ -8,7 +8,7 @@ use Rattle.sig_base.specs.declared.error.SigstoreError.{SigstoreError}
 use Rattle.sig_base.specs.declared.error.SigstoreError.TheVariants.{CheckpointSignatureVerificationError, OutOfMemory}
 use Rattle.sig_base.specs.Checker.{accepted}
 use Rattle.sig_base.specs.Scheme.{name_of, scheme_of}
-use Rattle.sigverify.proofs.Tables.{accepted-rows}
+use Rattle.sig_base.proofs.AcceptedRows.{accepted-rows}
 use Rattle.sig_key.specs.declared.verification_key.CosignVerificationKey.{CosignVerificationKey}
 use Rattle.sig_key.specs.Key.{key_scheme, key_info, key_accepts}
 use Rattle.sig_rekor.specs.declared.checkpoint.SignedCheckpoint.{SignedCheckpoint}

@@ -5,3 +5,4 @@ pub mod Reply
 pub mod Request
 pub mod Row
 pub mod Run
+pub mod Status

@@ -1,7 +1,7 @@
 //! Reading a request.
-ghost use Rattle.std.specs.Prelude.{◌≡◌, ◌<◌, ◌≤◌, length, IfOk, IsErrOf};
+ghost use Rattle.std.specs.Prelude.{◌≡◌, ◌+◌, ◌<◌, ◌≤◌, length, IfOk, IsErrOf};
 ghost use Rattle.sig_base.specs.Stream.{HandsOver, TookCount, Rose};
-ghost use Rattle.sigverify.specs.Limit.{TookAtMost};
+ghost use Rattle.sigverify.specs.Limit.{TookAtMost, most_bytes};
 
 use sig_base::{Bytes, Failed, Source};
 use std::alloc::{AllocError, Global};
@@ -60,10 +60,10 @@ impl From<AllocError> for ReadFault {
 #[tactic(auto, using(crate::proofs::Reading::turns))]
 pub fn read_request<S: Source>(alloc: Global, source: &mut S) -> Result<Bytes, ReadFault>
     ensures ok { IfOk result (λ bytes. HandsOver (S.left source.old) (S.left source.new) bytes) }
-    ensures short { IfOk result (λ bytes. length bytes < READ_LIMIT) }
-    ensures long { IsErrOf result ReadFault.TooLong → TookCount (S.left source.old) (S.left source.new) READ_LIMIT }
+    ensures short { IfOk result (λ bytes. length bytes < most_bytes + 1) }
+    ensures long { IsErrOf result ReadFault.TooLong → TookCount (S.left source.old) (S.left source.new) (most_bytes + 1) }
     ensures failed { IsErrOf result ReadFault.Failed → Rose (S.faults source.old) (S.faults source.new) }
-    ensures most { TookAtMost READ_LIMIT (S.left source.old) (S.left source.new) }
+    ensures most { TookAtMost (most_bytes + 1) (S.left source.old) (S.left source.new) }
     ensures later { S.faults source.old ≤ S.faults source.new }
 {
     let mut bytes = Vec::new(alloc);

@@ -1,16 +1,17 @@
 //! The program but for its words and streams: it reads a request, answers it, and writes the reply.
-ghost use Rattle.std.specs.Prelude.{◌≡◌, ◌⊎◌, ◌<◌, ◌≤◌, IfOk, IsErrOf};
+ghost use Rattle.std.specs.Prelude.{◌≡◌, ◌⊎◌, ◌+◌, ◌<◌, ◌≤◌, IfOk, IsErrOf};
 ghost use Rattle.std.specs.Io.KnownBytes.{Appends};
 ghost use Rattle.sig_base.specs.Stream.{Rose, AppendsFront};
 ghost use Rattle.sigverify.specs.Command.{IsCommand};
-ghost use Rattle.sigverify.specs.Limit.{TookAtMost};
+ghost use Rattle.sigverify.specs.Limit.{TookAtMost, most_bytes};
 ghost use Rattle.sigverify.specs.Reply.{IsReply};
 ghost use Rattle.sigverify.specs.Run.{RepliesTo, Answered, ReadFaulted, WriteFaulted, HandsRests, WritesRests, usage_line};
+ghost use Rattle.sigverify.specs.Status.{usage_status, memory_status, fault_status};
 
 use crate::command::Command;
 use crate::link::Link;
 use crate::log::log_reply;
-use crate::read::{READ_LIMIT, ReadFault, read_request};
+use crate::read::{ReadFault, read_request};
 use crate::reply::{Reply, USAGE_LINE};
 use crate::write::write_reply;
 use sig_base::{OutOfMemory, Sink, Source, Text};
@@ -19,7 +20,7 @@ use std::alloc::Global;
 /// The status for words that are no command (EX_USAGE of sysexits.h).
 pub const USAGE: u8 = 64;
 
-/// The status for want of memory (EX_OSERR).
+/// The status for out of memory (EX_OSERR).
 pub const NO_MEMORY: u8 = 71;
 
 /// The status for a fault of the source or of the sink (EX_IOERR).
@@ -57,18 +58,18 @@ impl From<OutOfMemory> for NoReply {
 ///   and after one of the sink a prefix of the reply was.
 #[tactic(auto, using(crate::proofs::Runs::runs))]
 pub fn run<S: Source, K: Sink>(alloc: Global, words: &[Text], source: &mut S, sink: &mut K) -> u8
-    ensures status { (result < 3) ⊎ (result ≡ USAGE) ⊎ (result ≡ NO_MEMORY) ⊎ (result ≡ FAULT) }
+    ensures status { (result < 3) ⊎ (result ≡ usage_status) ⊎ (result ≡ memory_status) ⊎ (result ≡ fault_status) }
 
     // The headline: what `Answered` says of the reply is that every link holds if the status is 0, and that else it shows
     // the first that fails.
     ensures answered { result < 3 →
         Answered words.now (S.left source.old) (S.left source.new) (K.taken sink.old) (K.taken sink.new) result }
-    ensures usage { result ≡ USAGE → ¬ IsCommand words.now
+    ensures usage { result ≡ usage_status → ¬ IsCommand words.now
         × Appends (K.taken sink.old) (K.taken sink.new) usage_line }
     ensures unread { ¬ IsCommand words.now → source.new ≡ source.old }
-    ensures most { TookAtMost READ_LIMIT (S.left source.old) (S.left source.new) }
-    ensures memory { result ≡ NO_MEMORY → IsCommand words.now × (sink.new ≡ sink.old) }
-    ensures fault { result ≡ FAULT →
+    ensures most { TookAtMost (most_bytes + 1) (S.left source.old) (S.left source.new) }
+    ensures memory { result ≡ memory_status → IsCommand words.now × (sink.new ≡ sink.old) }
+    ensures fault { result ≡ fault_status →
         ReadFaulted words.now (S.faults source.old) (S.faults source.new) sink.old sink.new
         ⊎ WriteFaulted words.now (S.left source.old) (S.left source.new)
         (K.faults sink.old) (K.faults sink.new) (K.taken sink.old) (K.taken sink.new) }
@@ -90,7 +91,7 @@ pub fn run<S: Source, K: Sink>(alloc: Global, words: &[Text], source: &mut S, si
 fn reply_to<S: Source>(alloc: Global, command: Command, source: &mut S) -> Result<Reply, NoReply>
     ensures ok { IfOk result (RepliesTo command (S.left source.old) (S.left source.new)) }
     ensures failed { IsErrOf result NoReply.Failed → Rose (S.faults source.old) (S.faults source.new) }
-    ensures most { TookAtMost READ_LIMIT (S.left source.old) (S.left source.new) }
+    ensures most { TookAtMost (most_bytes + 1) (S.left source.old) (S.left source.new) }
     ensures later { S.faults source.old ≤ S.faults source.new }
 {
     match read_request(alloc, source) {
@@ -112,9 +113,9 @@ fn reply_of(alloc: Global, command: Command, request: &[u8]) -> Result<Reply, Ou
 
 /// Writes the text, and returns the status, or that of a fault where a write failed. It takes no memory.
 fn finish<K: Sink>(sink: &mut K, status: u8, text: &[u8]) -> u8
-    requires { status < NO_MEMORY }
-    ensures written { result < NO_MEMORY → (result ≡ status) × Appends (K.taken sink.old) (K.taken sink.new) text.now }
-    ensures fault { NO_MEMORY ≤ result → (result ≡ FAULT) × Rose (K.faults sink.old) (K.faults sink.new)
+    requires { status < memory_status }
+    ensures written { result < memory_status → (result ≡ status) × Appends (K.taken sink.old) (K.taken sink.new) text.now }
+    ensures fault { memory_status ≤ result → (result ≡ fault_status) × Rose (K.faults sink.old) (K.faults sink.new)
         × AppendsFront (K.taken sink.old) (K.taken sink.new) text.now }
     ensures pieces { HandsRests (K.handed sink.old) (K.handed sink.new) text.now }
     ensures later { K.faults sink.old ≤ K.faults sink.new }
