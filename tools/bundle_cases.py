@@ -364,6 +364,20 @@ def written_rows(rows):
         case("read_bundle " + content, "ok " + expected.strip())
 
 
+def promises():
+    """RFC 8785 sorts these names as they stand here; their letters are ASCII."""
+    group("the text of the promise to include a log entry, up to the largest integers that canonical JSON has")
+    largest = 2 ** 53 - 1
+    for log_id, body in [(b"\x44" * 32, b'{"kind":"dsse"}'), (b"\xdd=0j", b""), (b"", b"\x00\xff")]:
+        for time, index in [(1702446700, 900), (0, 0), (-1, -2), (largest, -largest), (-largest, largest), (largest + 1, 0), (0, largest + 1),
+                            (-largest - 1, 0), (0, -largest - 1), (2 ** 63 - 1, -2 ** 63)]:
+            entry = {"canonicalizedBody": base64_of(body), "integratedTime": str(time), "logId": {"keyId": base64_of(log_id)}, "logIndex": str(index)}
+            promise = {"body": base64_of(body), "integratedTime": time, "logID": log_id.hex(), "logIndex": index}
+            fits = abs(time) <= largest and abs(index) <= largest
+            case("promise_text " + compact({"verificationMaterial": {"tlogEntries": [entry]}}),
+                 "ok " + compact(promise) if fits else "IntegerTooLarge")
+
+
 def main():
     found = {}
     for head, rows in table():
@@ -383,6 +397,7 @@ def main():
     group("a copy of a log entry with every member, and of one without")
     case("copied_entry " + WHOLE, "ok true")
     case('copied_entry {"verificationMaterial":{"tlogEntries":[{}]}}', "ok true")
+    promises()
     members(found["member"], found["value"])
     message_signatures()
     fixture_bundle()

@@ -24,6 +24,7 @@ impl Cases for BundleCases {
         match call {
             "read_bundle" => read::written(alloc, arguments.rest()?),
             "copied_entry" => read::copied(alloc, arguments.rest()?),
+            "promise_text" => read::promise(alloc, arguments.rest()?),
             "equal" => equal::answer(alloc, arguments),
             "try_from_bundle" => checked::digests(alloc, arguments.rest()?),
             "checked" => checked::lent(alloc, arguments.rest()?),

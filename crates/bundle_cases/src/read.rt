@@ -1,6 +1,6 @@
 //! Bundles as texts.
 
-use sig_bundle::{Bundle, TransparencyLogEntry, bundle_text, read_bundle};
+use sig_bundle::{Bundle, TransparencyLogEntry, bundle_text, promise_text, read_bundle};
 use sig_cases::{Answer, CaseError};
 use sig_json::JsonError;
 use std::alloc::Global;
@@ -32,4 +32,17 @@ pub(crate) fn copied(alloc: Global, text: &str) -> Result<Answer, CaseError> {
     let bundle = bundle(alloc, text)?;
     let entry = entry(&bundle).ok_or(CaseError::BadLine)?;
     Answer::ok(alloc)?.value(&(*entry == entry.copy(alloc)?))
+}
+
+/// `promise_text TEXT`: the text that the log signed to promise that it includes the first log entry. `BadLine` where the entry has no log id.
+pub(crate) fn promise(alloc: Global, text: &str) -> Result<Answer, CaseError> {
+    let bundle = bundle(alloc, text)?;
+    let entry = entry(&bundle).ok_or(CaseError::BadLine)?;
+    if entry.log_id.is_none() {
+        return Err(CaseError::BadLine);
+    }
+    match promise_text(alloc, entry) {
+        Ok(text) => Answer::ok(alloc)?.value(&text.as_str()),
+        Err(refusal) => Answer::error(alloc, &refusal),
+    }
 }
