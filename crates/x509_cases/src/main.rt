@@ -5,6 +5,7 @@
 //! certificates of Sigstore that the tables begin with.
 #![tactic(auto)]
 
+mod boxed;
 mod certificate;
 mod flipped;
 mod policy;

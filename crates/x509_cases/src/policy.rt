@@ -1,7 +1,7 @@
 //! Policies: what a certificate has to say of who signed.
 
 use crate::certificate::certificate;
-use crate::shown;
+use crate::{boxed, shown};
 use sig_base::Text;
 use sig_cases::{Answer, Arguments, CaseError};
 use sig_x509::{
@@ -53,7 +53,7 @@ fn single(alloc: Global, arguments: &mut Arguments<'_>) -> Result<Answer, CaseEr
 }
 
 /// The policy of this name as one of a request's.
-fn policy(alloc: Global, name: &str, text: &str) -> Result<LeafPolicy, CaseError> {
+pub(crate) fn policy(alloc: Global, name: &str, text: &str) -> Result<LeafPolicy, CaseError> {
     let text = Text::copy_of(alloc, text)?;
     Ok(match name {
         "OIDCIssuer" => LeafPolicy::OIDCIssuer(OIDCIssuer(text)),
@@ -107,19 +107,24 @@ fn identity(alloc: Global, arguments: &mut Arguments<'_>) -> Result<Answer, Case
     same(said(alloc, alone)?, &said(alloc, held)?)
 }
 
-/// `all NAME=TEXT,.. DER` and `any NAME=TEXT,.. DER`: what the policy of all or any of these says.
+/// `all NAME=TEXT,.. DER` and `any NAME=TEXT,.. DER`: what the policy of all or any of these says, in a request and over boxes.
 fn several(
     alloc: Global,
     arguments: &mut Arguments<'_>,
     is_all: bool,
 ) -> Result<Answer, CaseError> {
-    let policies = policies(alloc, arguments.word()?)?;
+    let list = arguments.word()?;
+    let policies = policies(alloc, list)?;
     let leaf = certificate(alloc, arguments)?;
     let request = match is_all {
         true => RequestPolicy::All(policies),
         false => RequestPolicy::Any(policies),
     };
-    said(alloc, request.verify(alloc, &leaf))
+    let held = said(alloc, request.verify(alloc, &leaf))?;
+    match boxed::verify(alloc, list, is_all, &leaf)? {
+        Some(found) => same(said(alloc, found)?, &held),
+        None => Ok(held),
+    }
 }
 
 /// The policies of a list, of which `-` is the empty one.
