@@ -4,13 +4,14 @@
 Trees and paths are computed by the recursion of RFC 6962 sections 2.1 and 2.1.1, digests by Python's hashlib, texts by its base64. The reference
 tree and its roots are those that Certificate Transparency's implementations publish. The keys are OpenSSL's, in `tools/base_cases.txt`.
 
-    python3 tools/base_cases.py crates/base_cases
+    tools/base_cases.py
 """
 import base64
 import hashlib
 import os
-import sys
 
+HERE = os.path.dirname(os.path.abspath(__file__))
+CRATE = os.path.join(HERE, "..", "crates", "base_cases")
 CALLS, RETURNS = [], []
 
 
@@ -423,9 +424,9 @@ def checks():
 def main():
     base()
     merkle()
-    keys(os.path.join(os.path.dirname(__file__), "base_cases.txt"))
+    keys(os.path.join(HERE, "base_cases.txt"))
     for name, lines in [("stdin", CALLS), ("stdout", RETURNS)]:
-        with open(os.path.join(sys.argv[1], name), "w") as out:
+        with open(os.path.join(CRATE, name), "w") as out:
             out.write("\n".join(lines) + "\n")
 
 
