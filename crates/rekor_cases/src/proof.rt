@@ -44,7 +44,7 @@ fn read_table(alloc: Global, arguments: &mut Arguments<'_>) -> Result<TableCheck
             signature: Bytes::from(signature),
         })?;
     }
-    Ok(TableChecker::from(rows))
+    Ok(TableChecker::from_rows(alloc, rows)?)
 }
 
 /// The key `key`, whose scheme is ECDSA over P-256.
