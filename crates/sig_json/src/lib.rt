@@ -34,8 +34,6 @@ mod number;
 mod order;
 mod read;
 mod record;
-#[cfg(test)]
-mod tests;
 mod tree;
 mod view;
 
