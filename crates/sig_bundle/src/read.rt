@@ -3,7 +3,6 @@ ghost use Rattle.std.specs.Prelude.{Option};
 ghost use Rattle.sig_json.specs.Data.{Data};
 ghost use Rattle.sig_base.specs.Answers.{Answers};
 ghost use Rattle.sig_bundle.specs.BundleRecord.{bundle_in, bundle_of};
-ghost use Rattle.sig_json.specs.Reads.{Reads};
 ghost use Rattle.sig_json.specs.Tree.{tree};
 
 use crate::bundle::Bundle;

@@ -3,7 +3,8 @@ ghost use Rattle.std.specs.Prelude.{Option};
 ghost use Rattle.sig_json.specs.Data.{Data};
 ghost use Rattle.sig_bundle.specs.BundleRecord.{content_of, digest_of, envelope_of, message_signature_of, one_content};
 ghost use Rattle.sig_bundle.specs.BundleRecord.{signature_of};
-ghost use Rattle.sig_json.specs.Reads.{Reads};
+ghost use Rattle.sig_base.specs.Answers.{Answers};
+ghost use Rattle.sig_json.specs.OrMember.{or_member};
 ghost use Rattle.sig_json.specs.Tree.{tree};
 
 use crate::bundle::{Content, MessageSignature};
@@ -83,7 +84,7 @@ fn one_of(
     signature: Option<MessageSignature>,
     envelope: Option<DsseEnvelope>,
 ) -> Result<Option<Content>, MemberError>
-    ensures { Reads (λ x. x) result (one_content signature envelope) }
+    ensures { Answers MemberError.OutOfMemory (λ x. x) result (or_member (one_content signature envelope)) }
 {
     match (signature, envelope) {
         (Some(signature), None) => Ok(Some(Content::MessageSignature(signature))),
@@ -96,7 +97,7 @@ fn one_of(
 /// The content. Fails with `Member` where both kinds are there, or a member is not of its kind.
 #[tactic(auto, unfolding(crate::specs::BundleRecord::content_of))]
 pub(crate) fn read_content(alloc: Global, json: Json<'_>) -> Result<Option<Content>, MemberError>
-    ensures { Reads (λ x. x) result (content_of (tree json.entry)) }
+    ensures { Answers MemberError.OutOfMemory (λ x. x) result (or_member (content_of (tree json.entry))) }
 {
     let signature = optional::<MessageSignatureReader>(alloc, json, "messageSignature")?;
     let envelope = optional::<EnvelopeReader>(alloc, json, "dsseEnvelope")?;

@@ -3,7 +3,6 @@ ghost use Rattle.std.specs.Prelude.{Option};
 ghost use Rattle.sig_json.specs.Data.{Data};
 ghost use Rattle.sig_bundle.specs.BundleRecord.{checkpoint_of, entry_of, kind_version_of, log_id_of, promise_of};
 ghost use Rattle.sig_bundle.specs.BundleRecord.{proof_of};
-ghost use Rattle.sig_json.specs.Reads.{Reads};
 ghost use Rattle.sig_json.specs.Tree.{tree};
 
 use crate::material::{KindVersion, ProofFields, TransparencyLogEntry};

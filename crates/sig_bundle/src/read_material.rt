@@ -3,7 +3,8 @@ ghost use Rattle.std.specs.Prelude.{Option};
 ghost use Rattle.sig_json.specs.Data.{Data};
 ghost use Rattle.sig_bundle.specs.BundleRecord.{certificate_of, chain_of, key_hint_of, material_of};
 ghost use Rattle.sig_bundle.specs.BundleRecord.{material_content_of};
-ghost use Rattle.sig_json.specs.Reads.{Reads};
+ghost use Rattle.sig_base.specs.Answers.{Answers};
+ghost use Rattle.sig_json.specs.OrMember.{or_member};
 ghost use Rattle.sig_json.specs.Tree.{tree};
 
 use crate::material::{MaterialContent, VerificationMaterial};
@@ -61,7 +62,7 @@ fn read_material_content(
     alloc: Global,
     json: Json<'_>,
 ) -> Result<Option<MaterialContent>, MemberError>
-    ensures { Reads (λ x. x) result (material_content_of (tree json.entry)) }
+    ensures { Answers MemberError.OutOfMemory (λ x. x) result (or_member (material_content_of (tree json.entry))) }
 {
     let certificate = optional::<CertificateReader>(alloc, json, "certificate")?;
     let chain = optional::<ChainReader>(alloc, json, "x509CertificateChain")?;

@@ -1,4 +1,5 @@
 pub mod Trees
+pub mod OrMember
 pub mod Ordered
 pub mod CompactTexts
 pub mod Copies

@@ -1,14 +1,16 @@
 -- What is read where a part alone of each value is kept.
 use Rattle.std.proofs.Common.{◌≡◌, ℕ, List, [], ◌∷◌, map, Option, Some, None, option_map, Result, Ok, Err, refl}
+use Rattle.std.specs.Option.{ok_or}
 use Rattle.std.specs.Result.{result_ok}
 use Rattle.sig_base.specs.OptionSteps.{◌>>=◌}
 use Rattle.sig_json.specs.Data.{Data, null, boolean, number, string, array, object}
 use Rattle.sig_json.specs.Find.{get}
 use Rattle.sig_json.specs.declared.error.DocumentError.{DocumentError}
+use Rattle.sig_json.specs.declared.error.JsonError.TheVariants.{Member}
 use Rattle.sig_json.specs.Document.{document_of}
 use Rattle.sig_json.specs.List.{items_list}
 use Rattle.sig_json.specs.Member.{not_null, member_of, there_or, required, optional, optional_or, each, list_each}
-use Rattle.sig_json.specs.Record.{or_member, record_of, record_in}
+use Rattle.sig_json.specs.Record.{record_of, record_in}
 
 module _ {A B : Type 0} (f : A → B) (kind : Data → Option A) (part : Data → Option B) (is_part : (d : Data) → part d ≡ option_map f (kind d)) where
   required_there : (found : Option (Option Data)) → (found >>= there_or None part) ≡ option_map f (found >>= there_or None kind)
@@ -51,7 +53,7 @@ module _ {A B : Type 0} (f : A → B) (kind : Data → Option A) (part : Data �
   list_each-part (array ds) = each-part (items_list ds)
   list_each-part (object ms) = refl
 
-  or_part : (found : Option A) → result_ok (or_member (option_map f found)) ≡ option_map f (result_ok (or_member found))
+  or_part : (found : Option A) → result_ok (ok_or (option_map f found) Member) ≡ option_map f (result_ok (ok_or found Member))
   or_part None = refl
   or_part (Some x) = refl
 

@@ -1,17 +1,19 @@
 -- The record of a text is that of the text's tree.
 use Rattle.std.proofs.Common.{◌≡◌, ℕ, List, Option, Some, None, Result, Ok, Err, refl}
+use Rattle.std.specs.Option.{ok_or}
 use Rattle.sig_json.specs.Data.{Data}
 use Rattle.sig_json.specs.declared.error.DocumentError.{DocumentError}
+use Rattle.sig_json.specs.declared.error.JsonError.TheVariants.{Member}
 use Rattle.sig_json.specs.Document.{document_of}
-use Rattle.sig_json.specs.Record.{or_member, record_of, record_in}
+use Rattle.sig_json.specs.Record.{record_of, record_in}
 
-or_member-some : {A : Type 0} → (found : Option A) (x : A) → or_member found ≡ Ok x → found ≡ Some x
-or_member-some None x read = cc
-or_member-some (Some y) x read = let same : y ≡ x = cc in rw same refl
+ok_or-some : {A : Type 0} → (found : Option A) (x : A) → ok_or found Member ≡ Ok x → found ≡ Some x
+ok_or-some None x read = cc
+ok_or-some (Some y) x read = let same : y ≡ x = cc in rw same refl
 
 record_of-tree : {A : Type 0} → (kind : Data → Option A) (document : Result Data DocumentError) (x : A) → record_of kind document ≡ Ok x → (tree : Data) × (document ≡ Ok tree) × (kind tree ≡ Some x)
 record_of-tree kind (Err e) x read = cc
-record_of-tree kind (Ok tree) x read = (tree, refl, or_member-some (kind tree) x read)
+record_of-tree kind (Ok tree) x read = (tree, refl, ok_or-some (kind tree) x read)
 
 -- a text with a record has a tree, which is read as the record
 pub record_in-tree : {A : Type 0} → (kind : Data → Option A) (text : List ℕ) (x : A) → record_in kind text ≡ Ok x → (tree : Data) × (document_of text ≡ Ok tree) × (kind tree ≡ Some x)

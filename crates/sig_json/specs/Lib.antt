@@ -15,7 +15,7 @@ pub mod Numerals
 pub mod Order
 pub mod Props
 pub mod Range
-pub mod Reads
+pub mod OrMember
 pub mod Record
 pub mod SameLaws
 pub mod SameTree

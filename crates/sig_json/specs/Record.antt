@@ -1,5 +1,6 @@
 -- A text as a record of a member table.
-use Rattle.std.specs.Prelude.{ℕ, List, Option, Some, None, Result, Ok, Err}
+use Rattle.std.specs.Prelude.{ℕ, List, Option, Result, Ok, Err}
+use Rattle.std.specs.Option.{ok_or}
 use Rattle.serde_json.specs.Data.{Data}
 use Rattle.sig_json.specs.Causes.{cause_of_document}
 use Rattle.sig_json.specs.Document.{document_of}
@@ -7,13 +8,9 @@ use Rattle.sig_json.specs.declared.error.DocumentError.{DocumentError}
 use Rattle.sig_json.specs.declared.error.JsonError.{JsonError}
 use Rattle.sig_json.specs.declared.error.JsonError.TheVariants.{Member}
 
-abbrev pub or_member : {A : Type 0} → Option A → Result A JsonError
-or_member None = Err Member
-or_member (Some x) = Ok x
-
 abbrev pub record_of : {A : Type 0} → (Data → Option A) → Result Data DocumentError → Result A JsonError
 record_of kind (Err e) = Err (cause_of_document e)
-record_of kind (Ok d) = or_member (kind d)
+record_of kind (Ok d) = ok_or (kind d) Member
 
 -- the record of a text's tree, or why there is none: no tree, a float in it, or a member that breaks the table
 unfoldable pub record_in : {A : Type 0} → (Data → Option A) → List ℕ → Result A JsonError

@@ -2,7 +2,8 @@
 ghost use Rattle.std.specs.Prelude.{Option};
 ghost use Rattle.serde_json.specs.Data.{Data};
 ghost use Rattle.sig_json.specs.Member.{list_each, required, optional, optional_list, required_list};
-ghost use Rattle.sig_json.specs.Reads.{Reads};
+ghost use Rattle.sig_base.specs.Answers.{Answers};
+ghost use Rattle.sig_json.specs.OrMember.{or_member};
 ghost use Rattle.sig_json.specs.SeenAs.{SeenAs, itself};
 ghost use Rattle.sig_json.specs.Tree.{tree};
 
@@ -25,7 +26,7 @@ pub trait ElementReader {
 
     /// Reads a value. Refuses with `Member` exactly where it is not of the kind.
     fn read(alloc: Global, json: Json<'_>) -> Result<Self::Item, MemberError>
-        ensures { Reads seen_as.item result (meaning (tree json.entry)) };
+        ensures { Answers MemberError.OutOfMemory seen_as.item result (or_member (meaning (tree json.entry))) };
 }
 
 /// Reads every element of a list. Refuses with `Member` where the value is no list or an element is not of the kind.
@@ -34,7 +35,8 @@ fn read_list<T: ElementReader>(
     alloc: Global,
     list: Json<'_>,
 ) -> Result<Register<T::Item>, MemberError>
-    ensures { Reads T.seen_as.list result (list_each T.meaning (tree list.entry)) }
+    ensures { Answers MemberError.OutOfMemory T.seen_as.list result
+        (or_member (list_each T.meaning (tree list.entry))) }
 {
     let Some(len) = list.list_len() else {
         return Err(MemberError::Member);
@@ -44,11 +46,7 @@ fn read_list<T: ElementReader>(
         let Some(element) = list.item(place) else {
             return Err(MemberError::Member);
         };
-        let item = match T::read(alloc, element) {
-            Ok(item) => item,
-            Err(error) => return Err(error),
-        };
-        found.push(item)?;
+        found.push(T::read(alloc, element)?)?;
     }
     Ok(found)
 }
@@ -60,7 +58,8 @@ pub fn required<T: ElementReader>(
     json: Json<'_>,
     name: &str,
 ) -> Result<T::Item, MemberError>
-    ensures { Reads T.seen_as.item result (required T.meaning name.now (tree json.entry)) }
+    ensures { Answers MemberError.OutOfMemory T.seen_as.item result
+        (or_member (required T.meaning name.now (tree json.entry))) }
 {
     match find_member(json, name)? {
         Some(value) => T::read(alloc, value),
@@ -76,13 +75,11 @@ pub fn optional<T: ElementReader>(
     json: Json<'_>,
     name: &str,
 ) -> Result<Option<T::Item>, MemberError>
-    ensures { Reads T.seen_as.option result (optional T.meaning name.now (tree json.entry)) }
+    ensures { Answers MemberError.OutOfMemory T.seen_as.option result
+        (or_member (optional T.meaning name.now (tree json.entry))) }
 {
     match find_member(json, name)? {
-        Some(value) => match T::read(alloc, value) {
-            Ok(item) => Ok(Some(item)),
-            Err(error) => Err(error),
-        },
+        Some(value) => Ok(Some(T::read(alloc, value)?)),
         None => Ok(None),
     }
 }
@@ -95,7 +92,8 @@ pub fn required_list<T: ElementReader>(
     json: Json<'_>,
     name: &str,
 ) -> Result<Register<T::Item>, MemberError>
-    ensures { Reads T.seen_as.list result (required_list T.meaning name.now (tree json.entry)) }
+    ensures { Answers MemberError.OutOfMemory T.seen_as.list result
+        (or_member (required_list T.meaning name.now (tree json.entry))) }
 {
     match find_member(json, name)? {
         Some(value) => read_list::<T>(alloc, value),
@@ -111,7 +109,8 @@ pub fn optional_list<T: ElementReader>(
     json: Json<'_>,
     name: &str,
 ) -> Result<Register<T::Item>, MemberError>
-    ensures { Reads T.seen_as.list result (optional_list T.meaning name.now (tree json.entry)) }
+    ensures { Answers MemberError.OutOfMemory T.seen_as.list result
+        (or_member (optional_list T.meaning name.now (tree json.entry))) }
 {
     match find_member(json, name)? {
         Some(value) => read_list::<T>(alloc, value),

@@ -4,7 +4,8 @@ ghost use Rattle.sig_json.specs.View.{members_view};
 ghost use Rattle.sig_json.specs.Gathered.{InOrder};
 ghost use Rattle.sig_json.specs.Kinds.{hash_of, texts_by_name};
 ghost use Rattle.sig_json.specs.Members.{members_list};
-ghost use Rattle.sig_json.specs.Reads.{Reads};
+ghost use Rattle.sig_base.specs.Answers.{Answers};
+ghost use Rattle.sig_json.specs.OrMember.{or_member};
 ghost use Rattle.sig_json.specs.Tree.{tree};
 
 use crate::element::ElementReader;
@@ -95,7 +96,8 @@ impl ElementReader for TextMapReader {
 #[tactic(auto, using(crate::proofs::TextMaps::text_maps))]
 fn texts_of_members(alloc: Global, members: &Vec<(String, Tree)>) -> Result<TextMap, MemberError>
     requires { InOrder members.now.items }
-    ensures { Reads (λ x. x) result (texts_by_name (members_list (members_view members.now.items))) }
+    ensures { Answers MemberError.OutOfMemory (λ x. x) result
+        (or_member (texts_by_name (members_list (members_view members.now.items)))) }
 {
     let mut texts = TextMap::new(alloc);
     'members: for member in members {

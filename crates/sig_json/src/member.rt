@@ -1,7 +1,8 @@
 //! Members by the rows of a table: a name, a kind, and whether the member is required. Null stands for absent.
 ghost use Rattle.std.specs.Prelude.{◌≡◌, IfErr, option_map};
 ghost use Rattle.sig_json.specs.Member.{member_of, optional_i64, optional_u64, optional_text, optional_bytes, required_i64, required_u64, required_text, required_bytes, required_hash};
-ghost use Rattle.sig_json.specs.Reads.{Reads};
+ghost use Rattle.sig_base.specs.Answers.{Answers};
+ghost use Rattle.sig_json.specs.OrMember.{or_member};
 ghost use Rattle.sig_json.specs.Tree.{tree};
 
 use crate::element::{ElementReader, required};
@@ -15,7 +16,8 @@ use std::alloc::Global;
 /// The member of an object, none where it is absent or null. Refuses with `Member` where the value is no object.
 #[tactic(auto, unfolding(crate::specs::Member::member_of))]
 pub(crate) fn find_member<'a>(json: Json<'a>, name: &str) -> Result<Option<Json<'a>>, MemberError>
-    ensures value { Reads (λ m. option_map tree m) result (member_of name.now (tree json.entry)) }
+    ensures value { Answers MemberError.OutOfMemory (λ m. option_map tree m) result
+        (or_member (member_of name.now (tree json.entry))) }
     ensures no_memory { IfErr result (λ e. e ≡ MemberError.Member) }
 {
     if json.value.as_object().is_none() {
@@ -31,7 +33,8 @@ pub(crate) fn find_member<'a>(json: Json<'a>, name: &str) -> Result<Option<Json<
 /// with `Member` where the value is no object or the member is no such integer. It takes no memory.
 #[tactic(auto, unfolding(crate::specs::Member::optional_or))]
 pub fn read_i64(json: Json<'_>, name: &str) -> Result<i64, MemberError>
-    ensures value { Reads (λ x. x) result (optional_i64 name.now (tree json.entry)) }
+    ensures value { Answers MemberError.OutOfMemory (λ x. x) result
+        (or_member (optional_i64 name.now (tree json.entry))) }
     ensures no_memory { IfErr result (λ e. e ≡ MemberError.Member) }
 {
     match find_member(json, name)? {
@@ -44,7 +47,8 @@ pub fn read_i64(json: Json<'_>, name: &str) -> Result<i64, MemberError>
 /// with `Member` where the value is no object or the member is no such integer. It takes no memory.
 #[tactic(auto, unfolding(crate::specs::Member::optional_or))]
 pub fn read_u64(json: Json<'_>, name: &str) -> Result<u64, MemberError>
-    ensures value { Reads (λ x. x) result (optional_u64 name.now (tree json.entry)) }
+    ensures value { Answers MemberError.OutOfMemory (λ x. x) result
+        (or_member (optional_u64 name.now (tree json.entry))) }
     ensures no_memory { IfErr result (λ e. e ≡ MemberError.Member) }
 {
     match find_member(json, name)? {
@@ -56,7 +60,7 @@ pub fn read_u64(json: Json<'_>, name: &str) -> Result<u64, MemberError>
 /// A text, empty where the member is absent or null. Refuses with `Member` where the value is no object or the member is no text.
 #[tactic(auto, unfolding(crate::specs::Member::optional_or))]
 pub fn read_text(alloc: Global, json: Json<'_>, name: &str) -> Result<Text, MemberError>
-    ensures { Reads (λ x. x) result (optional_text name.now (tree json.entry)) }
+    ensures { Answers MemberError.OutOfMemory (λ x. x) result (or_member (optional_text name.now (tree json.entry))) }
 {
     match find_member(json, name)? {
         Some(value) => TextReader::read(alloc, value),
@@ -68,7 +72,7 @@ pub fn read_text(alloc: Global, json: Json<'_>, name: &str) -> Result<Text, Memb
 /// is no such text.
 #[tactic(auto, unfolding(crate::specs::Member::optional_or))]
 pub fn read_bytes(alloc: Global, json: Json<'_>, name: &str) -> Result<Bytes, MemberError>
-    ensures { Reads (λ x. x) result (optional_bytes name.now (tree json.entry)) }
+    ensures { Answers MemberError.OutOfMemory (λ x. x) result (or_member (optional_bytes name.now (tree json.entry))) }
 {
     match find_member(json, name)? {
         Some(value) => BytesReader::read(alloc, value),
@@ -80,7 +84,8 @@ pub fn read_bytes(alloc: Global, json: Json<'_>, name: &str) -> Result<Bytes, Me
 /// integer. It takes no memory.
 #[tactic(auto, unfolding(crate::specs::Member::required))]
 pub fn required_i64(json: Json<'_>, name: &str) -> Result<i64, MemberError>
-    ensures value { Reads (λ x. x) result (required_i64 name.now (tree json.entry)) }
+    ensures value { Answers MemberError.OutOfMemory (λ x. x) result
+        (or_member (required_i64 name.now (tree json.entry))) }
     ensures no_memory { IfErr result (λ e. e ≡ MemberError.Member) }
 {
     match find_member(json, name)? {
@@ -93,7 +98,8 @@ pub fn required_i64(json: Json<'_>, name: &str) -> Result<i64, MemberError>
 /// integer. It takes no memory.
 #[tactic(auto, unfolding(crate::specs::Member::required))]
 pub fn required_u64(json: Json<'_>, name: &str) -> Result<u64, MemberError>
-    ensures value { Reads (λ x. x) result (required_u64 name.now (tree json.entry)) }
+    ensures value { Answers MemberError.OutOfMemory (λ x. x) result
+        (or_member (required_u64 name.now (tree json.entry))) }
     ensures no_memory { IfErr result (λ e. e ≡ MemberError.Member) }
 {
     match find_member(json, name)? {
@@ -106,7 +112,8 @@ pub fn required_u64(json: Json<'_>, name: &str) -> Result<u64, MemberError>
 /// no such text. It takes no memory.
 #[tactic(auto, unfolding(crate::specs::Member::required))]
 pub fn required_hash(json: Json<'_>, name: &str) -> Result<[u8; 32], MemberError>
-    ensures value { Reads (λ x. x) result (required_hash name.now (tree json.entry)) }
+    ensures value { Answers MemberError.OutOfMemory (λ x. x) result
+        (or_member (required_hash name.now (tree json.entry))) }
     ensures no_memory { IfErr result (λ e. e ≡ MemberError.Member) }
 {
     match find_member(json, name)? {
@@ -117,14 +124,14 @@ pub fn required_hash(json: Json<'_>, name: &str) -> Result<[u8; 32], MemberError
 
 /// A required text. Refuses with `Member` where the value is no object, or the member is absent, null or no text.
 pub fn required_text(alloc: Global, json: Json<'_>, name: &str) -> Result<Text, MemberError>
-    ensures { Reads (λ x. x) result (required_text name.now (tree json.entry)) }
+    ensures { Answers MemberError.OutOfMemory (λ x. x) result (or_member (required_text name.now (tree json.entry))) }
 {
     required::<TextReader>(alloc, json, name)
 }
 
 /// Required bytes in padded standard base64. Refuses with `Member` where the value is no object, or the member is absent, null or no such text.
 pub fn required_bytes(alloc: Global, json: Json<'_>, name: &str) -> Result<Bytes, MemberError>
-    ensures { Reads (λ x. x) result (required_bytes name.now (tree json.entry)) }
+    ensures { Answers MemberError.OutOfMemory (λ x. x) result (or_member (required_bytes name.now (tree json.entry))) }
 {
     required::<BytesReader>(alloc, json, name)
 }

@@ -2,7 +2,8 @@
 //! that have to be absent.
 ghost use Rattle.std.specs.Prelude.{Option};
 ghost use Rattle.sig_json.specs.Data.{Data};
-ghost use Rattle.sig_json.specs.Reads.{Reads};
+ghost use Rattle.sig_base.specs.Answers.{Answers};
+ghost use Rattle.sig_json.specs.OrMember.{or_member};
 ghost use Rattle.sig_json.specs.Tree.{tree};
 ghost use Rattle.sigverify.specs.Row.{no_kind, operation_kind, row_of, scheme_for, scheme_kind};
 
@@ -88,7 +89,7 @@ impl ElementReader for RowReader {
 /// Reads the scheme of an accepted signature: a scheme's name for a message and for a digest, absent for a point, and
 /// base64 of the AlgorithmIdentifier for a certificate.
 fn read_scheme(alloc: Global, json: Json<'_>, operation: Operation) -> Result<Bytes, MemberError>
-    ensures { Reads (λ x. x) result (scheme_for operation (tree json.entry)) }
+    ensures { Answers MemberError.OutOfMemory (λ x. x) result (or_member (scheme_for operation (tree json.entry))) }
 {
     match operation {
         Operation::Message | Operation::Prehash => {

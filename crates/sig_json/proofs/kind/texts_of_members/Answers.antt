@@ -1,7 +1,8 @@
-use Rattle.std.proofs.Common.{ap, ◌∙◌, arith, rules}
+use Rattle.std.proofs.Common.{inr, ap, ◌∙◌, arith, rules}
 use Rattle.sig_base.specs.ByText.{text_put}
 use Rattle.sig_json.proofs.Lists.{next_entry}
 use Rattle.sig_json.proofs.TextMaps.{start_of, step_of, refused_of}
+use Rattle.sig_json.specs.OrMember.{or_member}
 use Rattle.sig_json.proofs.kind.texts_of_members.Goals as goal
 
 pub members-init : goal.members-init
@@ -11,7 +12,7 @@ pub returns-in_default : goal.returns-in_default
 returns-in_default c =
     let l = c.members in
     let next = next_entry c.deref-member-items.result.now l.member-index c.member-item.result (omega arith) c.member-item.is in
-    λ refused. refused_of _ _ _ _ _ _ l.invariant next (search rules)
+    inr (ap or_member (refused_of _ _ _ _ _ _ l.invariant next (search rules)))
 
 pub members-preserved : goal.members-preserved
 members-preserved c =

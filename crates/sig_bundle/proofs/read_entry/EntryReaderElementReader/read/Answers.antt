@@ -1,21 +1,23 @@
-use Rattle.std.proofs.Common.{arith, refl, rules, FitsSigned, w64}
+use Rattle.std.proofs.Common.{◌≡◌, Err, arith, refl, rules, FitsSigned, w64}
 use Rattle.std.proofs.lemmas.Int.{ints}
 use Rattle.std.proofs.Math.Facts.{to_z-of_z}
-use Rattle.sig_json.specs.Member.{member_of, optional_or}
+use Rattle.sig_json.proofs.OrMember.{is_read, first_refused}
 use Rattle.sig_bundle.specs.BundleRecord.{entry_of}
 use Rattle.sig_bundle.proofs.read_entry.EntryReaderElementReader.read.Goals as goal
 
 pub returns-in_err-read_bytes : goal.returns-in_err-read_bytes
-unfolding entry_of optional_or member_of
+unfolding entry_of
 returns-in_err-read_bytes c =
+    let refused : c.from_residual-in_err-read_bytes.result ≡ Err c.in_err-read_bytes.field-0.0 = search rules in
     rw (
-      c.in_ok-read_i64.ensures.value,
-      c.in_ok-optional.ensures,
-      c.in_ok-optional-2.ensures,
-      c.in_ok-read_i64-2.ensures.value,
-      c.in_ok-optional-3.ensures,
-      c.in_ok-optional-4.ensures,
-    ) (search rules)
+      refused,
+      is_read c.in_ok-read_i64.ensures.value,
+      is_read c.in_ok-optional.ensures,
+      is_read c.in_ok-optional-2.ensures,
+      is_read c.in_ok-read_i64-2.ensures.value,
+      is_read c.in_ok-optional-3.ensures,
+      is_read c.in_ok-optional-4.ensures,
+    ) (first_refused _ _ _ c.in_err-read_bytes.ensures)
 
 pub returns : goal.returns
 unfolding entry_of
@@ -27,11 +29,11 @@ returns c =
     rw (
       to_z-of_z index,
       to_z-of_z time,
-      c.in_ok-read_i64.ensures.value,
-      c.in_ok-optional.ensures,
-      c.in_ok-optional-2.ensures,
-      c.in_ok-read_i64-2.ensures.value,
-      c.in_ok-optional-3.ensures,
-      c.in_ok-optional-4.ensures,
-      c.in_ok-read_bytes.ensures,
+      is_read c.in_ok-read_i64.ensures.value,
+      is_read c.in_ok-optional.ensures,
+      is_read c.in_ok-optional-2.ensures,
+      is_read c.in_ok-read_i64-2.ensures.value,
+      is_read c.in_ok-optional-3.ensures,
+      is_read c.in_ok-optional-4.ensures,
+      is_read c.in_ok-read_bytes.ensures,
     ) refl
