@@ -91,8 +91,8 @@ pub(crate) fn document(alloc: Global, text: &[u8]) -> Result<Document, CaseError
     Document::read(alloc, text).map_err(|_| CaseError::BadLine)
 }
 
-/// `values DOCUMENT`: whether the value is null, its truth value, its integer, its text, how many elements it has, each
-/// `none` if it is no such value, and whether it has members.
+/// `values DOCUMENT`: whether the value is null, its truth value, its integer, its text, how many elements it has,
+/// each `none` if it is no such value, and whether it has members.
 pub(crate) fn values(alloc: Global, arguments: &mut Arguments<'_>) -> Result<Answer, CaseError> {
     let document = document(alloc, &bytes(alloc, arguments)?)?;
     let json = document.view();

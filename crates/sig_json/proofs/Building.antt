@@ -1,9 +1,11 @@
 -- What the builders make of a tree.
-use Rattle.std.proofs.Common.{String, Vec, BTreeMap, Global, ◌≡◌, ℕ, List, [], ◌∷◌, ◌++◌, Some, None, false, ◌||◌, refl, sym, ap, ◌∙◌}
+use Rattle.std.proofs.Common.{String, Vec, BTreeMap, Global, ◌≡◌, ℕ, List, [], ◌∷◌, ◌++◌, Some, None, false, ◌||◌}
+use Rattle.std.proofs.Common.{refl, sym, ap, ◌∙◌}
 use Rattle.std.proofs.lemmas.Bool.{or_parts, or_from}
 use Rattle.std.specs.Cmp.Lexicographic.{slice_cmp}
 use Rattle.std.specs.Ordering.{nat_cmp}
-use Rattle.serde_json.specs.Data.{Data, null, boolean, number, string, array, object, Items, no_items, item, Members, no_members, member, put}
+use Rattle.serde_json.specs.Data.{Data, null, boolean, number, string, array, object, Items, no_items, item, Members}
+use Rattle.serde_json.specs.Data.{no_members, member, put}
 use Rattle.serde_json.specs.Find.{as_array, as_object}
 use Rattle.sig_json.proofs.Trees.{view-Array, view-Object}
 use Rattle.sig_json.specs.View.{view, items_view, members_view}
@@ -13,16 +15,19 @@ use Rattle.sig_json.proofs.ByKind.{as_array_is, as_object_is}
 use Rattle.sig_json.proofs.ByOrdering.{holds_of_choice}
 use Rattle.sig_json.specs.Builders.{with_member, with_last, items_with_last}
 
-put_floatless : (name : List ℕ) (value : Data) (ms : Members) → has_float value ≡ false → members_have_float ms ≡ false → members_have_float (put name value ms) ≡ false
+put_floatless : (name : List ℕ) (value : Data) (ms : Members) → has_float value ≡ false → members_have_float ms ≡ false
+    → members_have_float (put name value ms) ≡ false
 put_floatless name value no_members one rest = or_from (has_float value) false one refl
 put_floatless name value (member k d ms) one rest =
     let parts = or_parts (has_float d) (members_have_float ms) rest in
-    holds_of_choice (λ ms. members_have_float ms ≡ false) (slice_cmp nat_cmp name k) (member name value (member k d ms)) (member k value ms) (member k d (put name value ms))
+    holds_of_choice (λ ms. members_have_float ms ≡ false) (slice_cmp nat_cmp name k)
+    (member name value (member k d ms)) (member k value ms) (member k d (put name value ms))
     (or_from (has_float value) (has_float d || members_have_float ms) one rest)
     (or_from (has_float value) (members_have_float ms) one parts.1)
     (or_from (has_float d) (members_have_float (put name value ms)) parts.0 (put_floatless name value ms one parts.1))
 
-pub with_member_floatless : (name : List ℕ) (value tree : Data) → has_float value ≡ false → has_float tree ≡ false → has_float (with_member name value tree) ≡ false
+pub with_member_floatless : (name : List ℕ) (value tree : Data) → has_float value ≡ false → has_float tree ≡ false
+    → has_float (with_member name value tree) ≡ false
 with_member_floatless name value null one whole = refl
 with_member_floatless name value (boolean b) one whole = refl
 with_member_floatless name value (number n) one whole = whole
@@ -30,10 +35,12 @@ with_member_floatless name value (string s) one whole = refl
 with_member_floatless name value (array ds) one whole = whole
 with_member_floatless name value (object ms) one whole = put_floatless name value ms one whole
 
-pub with_member-object : (name : List ℕ) (value tree : Data) (ms : Members) → Some ms ≡ as_object tree → with_member name value tree ≡ object (put name value ms)
+pub with_member-object : (name : List ℕ) (value tree : Data) (ms : Members) → Some ms ≡ as_object tree
+    → with_member name value tree ≡ object (put name value ms)
 with_member-object name value tree ms e = ap (with_member name value) (as_object_is tree ms e)
 
-pub with_member-other : (name : List ℕ) (value tree : Data) → None ≡ as_object tree → with_member name value tree ≡ tree
+pub with_member-other : (name : List ℕ) (value tree : Data) → None ≡ as_object tree
+    → with_member name value tree ≡ tree
 with_member-other name value null e = refl
 with_member-other name value (boolean b) e = refl
 with_member-other name value (number n) e = refl
@@ -41,13 +48,15 @@ with_member-other name value (string s) e = refl
 with_member-other name value (array ds) e = refl
 with_member-other name value (object ns) e = cc
 
-last_floatless : (ds : Items) (value : Data) → has_float value ≡ false → items_have_float ds ≡ false → items_have_float (items_with_last ds value) ≡ false
+last_floatless : (ds : Items) (value : Data) → has_float value ≡ false → items_have_float ds ≡ false
+    → items_have_float (items_with_last ds value) ≡ false
 last_floatless no_items value one rest = or_from (has_float value) false one refl
 last_floatless (item d ds) value one rest =
     let parts = or_parts (has_float d) (items_have_float ds) rest in
     or_from (has_float d) (items_have_float (items_with_last ds value)) parts.0 (last_floatless ds value one parts.1)
 
-pub with_last_floatless : (value tree : Data) → has_float value ≡ false → has_float tree ≡ false → has_float (with_last value tree) ≡ false
+pub with_last_floatless : (value tree : Data) → has_float value ≡ false → has_float tree ≡ false
+    → has_float (with_last value tree) ≡ false
 with_last_floatless value null one whole = refl
 with_last_floatless value (boolean b) one whole = refl
 with_last_floatless value (number n) one whole = whole
@@ -55,13 +64,16 @@ with_last_floatless value (string s) one whole = refl
 with_last_floatless value (array ds) one whole = last_floatless ds value one whole
 with_last_floatless value (object ms) one whole = whole
 
-items_view-append : (values : List Tree) (last : Tree) → items_view (values ++ last ∷ []) ≡ items_with_last (items_view values) (view last)
+items_view-append : (values : List Tree) (last : Tree)
+    → items_view (values ++ last ∷ []) ≡ items_with_last (items_view values) (view last)
 items_view-append [] last = refl
 items_view-append (v ∷ vs) last = ap (λ rest. item (view v) rest) (items_view-append vs last)
 
-with_last-array : (tree : Data) (values : List Tree) (last : Tree) → Some (items_view values) ≡ as_array tree → with_last (view last) tree ≡ array (items_view (values ++ last ∷ []))
+with_last-array : (tree : Data) (values : List Tree) (last : Tree) → Some (items_view values) ≡ as_array tree
+    → with_last (view last) tree ≡ array (items_view (values ++ last ∷ []))
 with_last-array tree values last e =
-    ap (with_last (view last)) (as_array_is tree (items_view values) e) ∙ ap array (sym (items_view-append values last))
+    ap (with_last (view last)) (as_array_is tree (items_view values) e)
+    ∙ ap array (sym (items_view-append values last))
 
 pub with_last-other : (value tree : Data) → None ≡ as_array tree → with_last value tree ≡ tree
 with_last-other value null e = refl
@@ -72,28 +84,53 @@ with_last-other value (array ds) e = cc
 with_last-other value (object ms) e = refl
 
 -- what the code makes of a list or an object
-pub pushed_in : (before after : Vec Tree Global) (last : Tree) → after.items ≡ before.items ++ last ∷ [] → view (Array after) ≡ with_last (view last) (view (Array before))
-pushed_in before after last pushes = rw (view-Array after, view-Array before, pushes) (ap array (items_view-append before.items last))
+pub pushed_in : (before after : Vec Tree Global) (last : Tree) → after.items ≡ before.items ++ last ∷ []
+    → view (Array after) ≡ with_last (view last) (view (Array before))
+pushed_in before after last pushes =
+    rw (view-Array after, view-Array before, pushes) (ap array (items_view-append before.items last))
 
-pub put_in : (name : List ℕ) (value : Data) (before after : Vec (String Global × Tree) Global) → members_view after.items ≡ put name value (members_view before.items) → view (Object after) ≡ with_member name value (view (Object before))
+pub put_in : (name : List ℕ) (value : Data) (before after : Vec (String Global × Tree) Global)
+    → members_view after.items ≡ put name value (members_view before.items)
+    → view (Object after) ≡ with_member name value (view (Object before))
 put_in name value before after puts = rw (view-Object after, view-Object before, puts) refl
 
-pub kept : (before after : Vec (String Global × Tree) Global) → after.items ≡ before.items → view (Object after) ≡ view (Object before)
-kept before after same = rw (view-Object after, view-Object before, same) refl
+pub object_unchanged : (before after : Vec (String Global × Tree) Global) → after.items ≡ before.items
+    → view (Object after) ≡ view (Object before)
+object_unchanged before after same = rw (view-Object after, view-Object before, same) refl
 
-pub pushed_kept : (before after : Vec Tree Global) → after.items ≡ before.items → view (Array after) ≡ view (Array before)
-pushed_kept before after same = rw (view-Array after, view-Array before, same) refl
+pub list_unchanged : (before after : Vec Tree Global) → after.items ≡ before.items
+    → view (Array after) ≡ view (Array before)
+list_unchanged before after same = rw (view-Array after, view-Array before, same) refl
 
-pub put_in_floatless : (name : List ℕ) (value : Data) (before after : Vec (String Global × Tree) Global) → members_view after.items ≡ put name value (members_view before.items) → has_float (view (Object before)) ≡ false → has_float value ≡ false → has_float (view (Object after)) ≡ false
-put_in_floatless name value before after puts whole one = rw (put_in name value before after puts) (with_member_floatless name value (view (Object before)) one whole)
+pub put_in_floatless : (name : List ℕ) (value : Data) (before after : Vec (String Global × Tree) Global)
+    → members_view after.items ≡ put name value (members_view before.items) → has_float (view (Object before)) ≡ false
+    → has_float value ≡ false → has_float (view (Object after)) ≡ false
+put_in_floatless name value before after puts whole one =
+    rw (put_in name value before after puts) (with_member_floatless name value (view (Object before)) one whole)
 
-pub kept_floatless : (before after : Vec (String Global × Tree) Global) → after.items ≡ before.items → has_float (view (Object before)) ≡ false → has_float (view (Object after)) ≡ false
-kept_floatless before after same whole = rw (kept before after same) whole
+pub object_unchanged_floatless : (before after : Vec (String Global × Tree) Global) → after.items ≡ before.items
+    → has_float (view (Object before)) ≡ false → has_float (view (Object after)) ≡ false
+object_unchanged_floatless before after same whole = rw (object_unchanged before after same) whole
 
-pub pushed_floatless : (before after : Vec Tree Global) (last : Tree) → after.items ≡ before.items ++ last ∷ [] → has_float (view (Array before)) ≡ false → has_float (view last) ≡ false → has_float (view (Array after)) ≡ false
-pushed_floatless before after last pushes whole one = rw (pushed_in before after last pushes) (with_last_floatless (view last) (view (Array before)) one whole)
+pub pushed_floatless : (before after : Vec Tree Global) (last : Tree) → after.items ≡ before.items ++ last ∷ []
+    → has_float (view (Array before)) ≡ false → has_float (view last) ≡ false → has_float (view (Array after)) ≡ false
+pushed_floatless before after last pushes whole one =
+    rw (pushed_in before after last pushes) (with_last_floatless (view last) (view (Array before)) one whole)
 
-pub pushed_kept_floatless : (before after : Vec Tree Global) → after.items ≡ before.items → has_float (view (Array before)) ≡ false → has_float (view (Array after)) ≡ false
-pushed_kept_floatless before after same whole = rw (pushed_kept before after same) whole
+pub list_unchanged_floatless : (before after : Vec Tree Global) → after.items ≡ before.items
+    → has_float (view (Array before)) ≡ false → has_float (view (Array after)) ≡ false
+list_unchanged_floatless before after same whole = rw (list_unchanged before after same) whole
 
-pub ruleset building = (with_member-object, with_member-other, with_last-other, pushed_in, put_in, kept, pushed_kept, put_in_floatless, kept_floatless, pushed_floatless, pushed_kept_floatless)
+pub ruleset building = (
+  with_member-object,
+  with_member-other,
+  with_last-other,
+  pushed_in,
+  put_in,
+  object_unchanged,
+  list_unchanged,
+  put_in_floatless,
+  object_unchanged_floatless,
+  pushed_floatless,
+  list_unchanged_floatless,
+)

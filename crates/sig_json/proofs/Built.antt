@@ -7,7 +7,8 @@ use Rattle.serde_json.specs.Find.{as_object, get}
 use Rattle.sig_json.specs.Builders.{items_with_last, with_last, with_member}
 use Rattle.sig_json.specs.List.{items_list, list_of}
 
-pub found_where_set : (name : List ℕ) (value tree : Data) → IsSome (as_object tree) → get name (with_member name value tree) ≡ Some value
+pub found_where_set : (name : List ℕ) (value tree : Data) → IsSome (as_object tree)
+    → get name (with_member name value tree) ≡ Some value
 found_where_set name value null is = absurd cc
 found_where_set name value (boolean b) is = absurd cc
 found_where_set name value (number n) is = absurd cc
@@ -15,7 +16,8 @@ found_where_set name value (string s) is = absurd cc
 found_where_set name value (array ds) is = absurd cc
 found_where_set name value (object ms) is = get_member-put name value ms
 
-pub others_stay : (name other : List ℕ) (value tree : Data) → other ≢ name → get other (with_member name value tree) ≡ get other tree
+pub others_stay : (name other : List ℕ) (value tree : Data) → other ≢ name
+    → get other (with_member name value tree) ≡ get other tree
 others_stay name other value null apart = refl
 others_stay name other value (boolean b) apart = refl
 others_stay name other value (number n) apart = refl
@@ -27,7 +29,8 @@ items_list-last : (ds : Items) (value : Data) → items_list (items_with_last ds
 items_list-last no_items value = refl
 items_list-last (item d ds) value = ap (λ rest. d ∷ rest) (items_list-last ds value)
 
-pub added_last : (value tree : Data) (elements : List Data) → list_of tree ≡ Some elements → list_of (with_last value tree) ≡ Some (elements ++ value ∷ [])
+pub added_last : (value tree : Data) (elements : List Data) → list_of tree ≡ Some elements
+    → list_of (with_last value tree) ≡ Some (elements ++ value ∷ [])
 added_last value null elements is = absurd cc
 added_last value (boolean b) elements is = absurd cc
 added_last value (number n) elements is = absurd cc

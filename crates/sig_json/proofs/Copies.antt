@@ -1,5 +1,6 @@
 -- Lists and objects copied part by part.
-use Rattle.std.proofs.Common.{◌≡◌, ◌+◌, ◌<◌, ℕ, List, [], ◌∷◌, ◌++◌, length, map, take, get_or, String, Global, string_bytes, refl, sym, ap, ap₂, ◌∙◌, arith}
+use Rattle.std.proofs.Common.{◌≡◌, ◌+◌, ◌<◌, ℕ, List, [], ◌∷◌, ◌++◌, length, map, take, get_or, String, Global}
+use Rattle.std.proofs.Common.{string_bytes, refl, sym, ap, ap₂, ◌∙◌, arith}
 use Rattle.std.proofs.Math.Seq.{take-length}
 use Rattle.std.proofs.lemmas.List.{map-append, take_more}
 use Rattle.serde_json.specs.Data.{Data, Members, member}
@@ -21,20 +22,41 @@ members_from_seen (e ∷ es) (f ∷ fs) same =
     let first : seen e ≡ seen f = cc in
     ap₂ (λ m ms. member m.0 m.1 ms) first (members_from_seen es fs cc)
 
-one_more : {A B : Type 0} → (f : A → B) (done all : List A) (i : ℕ) (copied next : A) → i < length all → next ≡ get_or all i next → f copied ≡ f next → map f done ≡ map f (take i all) → map f (done ++ copied ∷ []) ≡ map f (take (i + 1) all)
+one_more : {A B : Type 0} → (f : A → B) (done all : List A) (i : ℕ) (copied next : A) → i < length all
+    → next ≡ get_or all i next → f copied ≡ f next → map f done ≡ map f (take i all)
+    → map f (done ++ copied ∷ []) ≡ map f (take (i + 1) all)
 one_more f done all i copied next within is same so_far =
-    map-append f done (copied ∷ []) ∙ rw (so_far, same) (sym (ap (map f) (take_more all i next within ∙ ap (λ x. take i all ++ x ∷ []) (sym is)) ∙ map-append f (take i all) (next ∷ [])))
+    map-append f done (copied ∷ [])
+    ∙ rw (so_far, same) (sym (ap (map f) (take_more all i next within ∙ ap (λ x. take i all ++ x ∷ []) (sym is))
+    ∙ map-append f (take i all) (next ∷ [])))
 
-pub items_more : (done all : List Tree) (i : ℕ) (copied next : Tree) → i < length all → next ≡ get_or all i next → view copied ≡ view next → map view done ≡ map view (take i all) → map view (done ++ copied ∷ []) ≡ map view (take (i + 1) all)
+pub items_more : (done all : List Tree) (i : ℕ) (copied next : Tree) → i < length all → next ≡ get_or all i next
+    → view copied ≡ view next → map view done ≡ map view (take i all)
+    → map view (done ++ copied ∷ []) ≡ map view (take (i + 1) all)
 items_more = one_more view
 
-pub items_all : (done all : List Tree) (i : ℕ) → i ≡ length all → map view done ≡ map view (take i all) → items_view done ≡ items_view all
+pub items_all : (done all : List Tree) (i : ℕ) → i ≡ length all → map view done ≡ map view (take i all)
+    → items_view done ≡ items_view all
 items_all done all i end so_far = ap items_of (so_far ∙ rw (end, take-length all) refl)
 
-pub members_more : (done all : List Entry) (i : ℕ) (copied next : Entry) → i < length all → next ≡ get_or all i next → seen copied ≡ seen next → map seen done ≡ map seen (take i all) → map seen (done ++ copied ∷ []) ≡ map seen (take (i + 1) all)
+pub members_more : (done all : List Entry) (i : ℕ) (copied next : Entry) → i < length all → next ≡ get_or all i next
+    → seen copied ≡ seen next → map seen done ≡ map seen (take i all)
+    → map seen (done ++ copied ∷ []) ≡ map seen (take (i + 1) all)
 members_more = one_more seen
 
-pub members_all : (done all : List Entry) (i : ℕ) → i ≡ length all → map seen done ≡ map seen (take i all) → members_view done ≡ members_view all
+pub members_all : (done all : List Entry) (i : ℕ) → i ≡ length all → map seen done ≡ map seen (take i all)
+    → members_view done ≡ members_view all
 members_all done all i end so_far = members_from_seen done all (so_far ∙ rw (end, take-length all) refl)
 
-pub ruleset copies = (view-Null, view-Bool, view-Number, view-Text, view-Array, view-Object, items_more, items_all, members_more, members_all)
+pub ruleset copies = (
+  view-Null,
+  view-Bool,
+  view-Number,
+  view-Text,
+  view-Array,
+  view-Object,
+  items_more,
+  items_all,
+  members_more,
+  members_all,
+)

@@ -1,5 +1,7 @@
--- The names of the objects of a tree ascend in byte order, at every depth: as a walk finds it, as a look inside keeps it, as the builders keep it.
-use Rattle.std.proofs.Common.{◌≡◌, ◌≢◌, ℕ, zero, suc, ◌+◌, ◌<◌, List, [], ◌∷◌, ◌++◌, length, drop, get_or, Option, Some, option_map, String, Vec, BTreeMap, Global, sym, subst, refl, ap, ◌∙◌}
+-- The names of the objects of a tree ascend in byte order, at every depth: as a walk finds it, as a look inside keeps
+-- it, as the builders keep it.
+use Rattle.std.proofs.Common.{◌≡◌, ◌≢◌, ℕ, zero, suc, ◌+◌, ◌<◌, List, [], ◌∷◌, ◌++◌, length, drop, get_or, Option}
+use Rattle.std.proofs.Common.{Some, option_map, String, Vec, BTreeMap, Global, sym, subst, refl, ap, ◌∙◌}
 use Rattle.std.proofs.lemmas.Cmp.{nat_list_cmp_total, tied_itself}
 use Rattle.std.proofs.lemmas.Iterator.Adapters.{option_map_id}
 use Rattle.std.proofs.lemmas.Str.{IsUtf8-string_bytes}
@@ -17,11 +19,12 @@ use Rattle.sig_base.proofs.OptionSteps.{bind_is, some_is}
 use Rattle.sig_base.proofs.Texts.{ascend-entries}
 use Rattle.sig_base.specs.ByText.{KeysAscend, text_entries}
 use Rattle.sig_json.proofs.Trees.{view-Array, view-Object}
-use Rattle.serde_json.specs.Data.{Num, Data, null, boolean, number, string, array, object, Items, no_items, item, Members, no_members, member, put}
+use Rattle.serde_json.specs.Data.{Num, Data, null, boolean, number, string, array, object, Items, no_items, item}
+use Rattle.serde_json.specs.Data.{Members, no_members, member, put}
 use Rattle.serde_json.specs.Find.{get, at, get_member, get_item, as_object, as_array}
 use Rattle.sig_json.specs.View.{view, items_view, members_view}
 use Rattle.sig_json.specs.declared.tree.Tree.{Tree, Array, Object}
-use Rattle.sig_json.proofs.Building.{put_in, kept, pushed_in, pushed_kept}
+use Rattle.sig_json.proofs.Building.{put_in, object_unchanged, pushed_in, list_unchanged}
 use Rattle.sig_json.proofs.ByKind.{as_object_is}
 use Rattle.sig_json.proofs.ByOrdering.{choice_of_each, holds_of_choice}
 use Rattle.sig_json.proofs.Lists.{items_from}
@@ -34,10 +37,12 @@ use Rattle.sig_json.specs.Order.{HasNames, KeepsOrder, InTurn, ValuesKeepOrder, 
 
 -- ---- what ascends differs
 
-unlike : (name : List ℕ) (names : List (List ℕ)) → AllByRecursion (λ other. slice_cmp nat_cmp name other ≡ Less) names → AllByRecursion (λ other. name ≢ other) names
+unlike : (name : List ℕ) (names : List (List ℕ)) → AllByRecursion (λ other. slice_cmp nat_cmp name other ≡ Less) names
+    → AllByRecursion (λ other. name ≢ other) names
 unlike name [] below = tt
 unlike name (n ∷ ns) below = (
-  (λ same. let tied : slice_cmp nat_cmp name n ≡ Equal = ap (λ l. slice_cmp nat_cmp name l) (sym same) ∙ tied_itself nat_list_cmp_total name in
+  (λ same. let tied : slice_cmp nat_cmp name n
+      ≡ Equal = ap (λ l. slice_cmp nat_cmp name l) (sym same) ∙ tied_itself nat_list_cmp_total name in
       let less : slice_cmp nat_cmp name n ≡ Less = below.0 in cc),
   unlike name ns below.1,
 )
@@ -45,7 +50,8 @@ unlike name (n ∷ ns) below = (
 pub names_differ : (ms : Members) → NamesAscend ms → HasNames ms
 unfolding IsStrictlySortedBy
 names_differ no_members up = tt
-names_differ (member name d ms) up = (up.0.0, unlike name (keys_of (members_list ms)) up.1.0, names_differ ms (up.0.1, up.1.1))
+names_differ (member name d ms) up =
+    (up.0.0, unlike name (keys_of (members_list ms)) up.1.0, names_differ ms (up.0.1, up.1.1))
 
 mutual
   pub keeps_order : (d : Data) (text : List ℕ) → IsNamed d → canon d ≡ Some text → KeepsOrder d text
@@ -66,9 +72,11 @@ mutual
   in_turn (item d ds) texts named are =
       let first = bind_is (canon d) _ texts are in
       let rest = bind_is (canon_items ds) _ texts first.2 in
-      subst (InTurn (item d ds)) (some_is (first.0 ∷ rest.0) texts rest.2) (first.1, keeps_order d first.0 named.0 first.1, in_turn ds rest.0 named.1 rest.1)
+      subst (InTurn (item d ds)) (some_is (first.0 ∷ rest.0) texts rest.2)
+      (first.1, keeps_order d first.0 named.0 first.1, in_turn ds rest.0 named.1 rest.1)
 
-  values_keep_order : (ms : Members) (texts : Sorted) → HasNamedValues ms → member_texts ms ≡ Some texts → ValuesKeepOrder ms
+  values_keep_order : (ms : Members) (texts : Sorted) → HasNamedValues ms → member_texts ms ≡ Some texts
+      → ValuesKeepOrder ms
   values_keep_order no_members texts named are = tt
   values_keep_order (member name d ms) texts named are =
       let first = bind_is (canon d) _ texts are in
@@ -76,7 +84,8 @@ mutual
       ((first.0, first.1, keeps_order d first.0 named.0 first.1), values_keep_order ms rest.0 named.1 rest.1)
 
 -- what is written on an empty text
-pub written_in_order : (d : Data) (before after text : List ℕ) → IsNamed d → before ≡ [] → option_map (λ text. before ++ text) (canon d) ≡ Some after → text ≡ after → KeepsOrder d text
+pub written_in_order : (d : Data) (before after text : List ℕ) → IsNamed d → before ≡ []
+    → option_map (λ text. before ++ text) (canon d) ≡ Some after → text ≡ after → KeepsOrder d text
 written_in_order d before after text named none written is =
     let same : canon d ≡ Some after = sym (option_map_id (canon d)) ∙ rw none at written in
     keeps_order d text named (same ∙ ap Some (sym is))
@@ -93,7 +102,8 @@ get_member_named : (name : List ℕ) (ms : Members) → HasNamedValues ms → Fo
 get_member_named name no_members named = λ d e. absurd cc
 get_member_named name (member k v ms) named =
     let rest = get_member_named name ms named.1 in
-    holds_of_choice FoundNamed (slice_cmp nat_cmp name k) (get_member name ms) (Some v) (get_member name ms) rest (this_named v named.0) rest
+    holds_of_choice FoundNamed (slice_cmp nat_cmp name k) (get_member name ms) (Some v) (get_member name ms) rest
+    (this_named v named.0) rest
 
 get_item_named : (place : ℕ) (ds : Items) → AreNamed ds → FoundNamed (get_item place ds)
 get_item_named place no_items named = λ d e. absurd cc
@@ -123,33 +133,42 @@ pub as_object_ascends : (d : Data) (ms : Members) → IsNamed d → Some ms ≡ 
 as_object_ascends d ms named e = (subst IsNamed (as_object_is d ms e) named).0.1
 
 -- a walk's next member, and what is left of it
-pub next_named : (d : Data) (ms : Members) (name : List ℕ) → HasNamedValues (member name d ms) → IsNamed d × HasNamedValues ms
+pub next_named : (d : Data) (ms : Members) (name : List ℕ) → HasNamedValues (member name d ms)
+    → IsNamed d × HasNamedValues ms
 next_named d ms name named = named
 
 pub ruleset named = (get_named, at_named, as_object_named, as_object_ascends, next_named)
 
 -- ---- what is built
 
-members_list-put : (k : List ℕ) (d : Data) (ms : Members) → members_list (put k d ms) ≡ insert_entry (slice_cmp nat_cmp) (members_list ms) k d
+members_list-put : (k : List ℕ) (d : Data) (ms : Members)
+    → members_list (put k d ms) ≡ insert_entry (slice_cmp nat_cmp) (members_list ms) k d
 members_list-put k d no_members = refl
-members_list-put k d (member l e ms) = choice_of_each members_list (slice_cmp nat_cmp k l) _ _ _ ∙ rw (members_list-put k d ms) refl
+members_list-put k d (member l e ms) =
+    choice_of_each members_list (slice_cmp nat_cmp k l) _ _ _ ∙ rw (members_list-put k d ms) refl
 
 pub ascend-put : (k : List ℕ) (d : Data) (ms : Members) → IsUtf8 k → NamesAscend ms → NamesAscend (put k d ms)
 ascend-put k d ms utf8 up =
-    rw (members_list-put k d ms) (all_keys (slice_cmp nat_cmp) IsUtf8 (members_list ms) k d up.0 utf8, ascend-insert_entry (slice_cmp nat_cmp) nat_list_cmp_total (members_list ms) k d up.1)
+    rw (members_list-put k d ms) (
+      all_keys (slice_cmp nat_cmp) IsUtf8 (members_list ms) k d up.0 utf8,
+      ascend-insert_entry (slice_cmp nat_cmp) nat_list_cmp_total (members_list ms) k d up.1,
+    )
 
 pub values-put : (k : List ℕ) (d : Data) (ms : Members) → IsNamed d → HasNamedValues ms → HasNamedValues (put k d ms)
 values-put k d no_members one rest = (one, tt)
 values-put k d (member l e ms) one rest =
-    holds_of_choice HasNamedValues (slice_cmp nat_cmp k l) (member k d (member l e ms)) (member l d ms) (member l e (put k d ms)) (one, rest) (one, rest.1) (rest.0, values-put k d ms one rest.1)
+    holds_of_choice HasNamedValues (slice_cmp nat_cmp k l) (member k d (member l e ms)) (member l d ms)
+    (member l e (put k d ms)) (one, rest) (one, rest.1) (rest.0, values-put k d ms one rest.1)
 
-with_member_named : (name : List ℕ) (value tree : Data) → IsUtf8 name → IsNamed tree → IsNamed value → IsNamed (with_member name value tree)
+with_member_named : (name : List ℕ) (value tree : Data) → IsUtf8 name → IsNamed tree → IsNamed value
+    → IsNamed (with_member name value tree)
 with_member_named name value null utf8 whole one = tt
 with_member_named name value (boolean b) utf8 whole one = tt
 with_member_named name value (number n) utf8 whole one = tt
 with_member_named name value (string s) utf8 whole one = tt
 with_member_named name value (array ds) utf8 whole one = whole
-with_member_named name value (object ms) utf8 whole one = (ascend-put name value ms utf8 whole.0, values-put name value ms one whole.1)
+with_member_named name value (object ms) utf8 whole one =
+    (ascend-put name value ms utf8 whole.0, values-put name value ms one whole.1)
 
 last_named : (ds : Items) (value : Data) → AreNamed ds → IsNamed value → AreNamed (items_with_last ds value)
 last_named no_items value rest one = (one, tt)
@@ -163,24 +182,32 @@ with_last_named value (string s) whole one = tt
 with_last_named value (array ds) whole one = last_named ds value whole one
 with_last_named value (object ms) whole one = whole
 
-pub put_named : (name : List ℕ) (value : Data) (before after : Vec (String Global × Tree) Global) → IsUtf8 name → members_view after.items ≡ put name value (members_view before.items) → IsNamed (view (Object before)) → IsNamed value → IsNamed (view (Object after))
+pub put_named : (name : List ℕ) (value : Data) (before after : Vec (String Global × Tree) Global) → IsUtf8 name
+    → members_view after.items ≡ put name value (members_view before.items) → IsNamed (view (Object before))
+    → IsNamed value → IsNamed (view (Object after))
 put_named name value before after utf8 puts whole one =
-    subst IsNamed (sym (put_in name value before after puts)) (with_member_named name value (view (Object before)) utf8 whole one)
+    subst IsNamed (sym (put_in name value before after puts))
+    (with_member_named name value (view (Object before)) utf8 whole one)
 
-pub kept_named : (before after : Vec (String Global × Tree) Global) → after.items ≡ before.items → IsNamed (view (Object before)) → IsNamed (view (Object after))
-kept_named before after same whole = subst IsNamed (sym (kept before after same)) whole
+pub object_unchanged_named : (before after : Vec (String Global × Tree) Global) → after.items ≡ before.items
+    → IsNamed (view (Object before)) → IsNamed (view (Object after))
+object_unchanged_named before after same whole = subst IsNamed (sym (object_unchanged before after same)) whole
 
-pub pushed_named : (before after : Vec Tree Global) (last : Tree) → after.items ≡ before.items ++ last ∷ [] → IsNamed (view (Array before)) → IsNamed (view last) → IsNamed (view (Array after))
+pub pushed_named : (before after : Vec Tree Global) (last : Tree) → after.items ≡ before.items ++ last ∷ []
+    → IsNamed (view (Array before)) → IsNamed (view last) → IsNamed (view (Array after))
 pushed_named before after last pushes whole one =
-    subst IsNamed (sym (pushed_in before after last pushes)) (with_last_named (view last) (view (Array before)) whole one)
+    subst IsNamed (sym (pushed_in before after last pushes))
+    (with_last_named (view last) (view (Array before)) whole one)
 
-pub pushed_kept_named : (before after : Vec Tree Global) → after.items ≡ before.items → IsNamed (view (Array before)) → IsNamed (view (Array after))
-pushed_kept_named before after same whole = subst IsNamed (sym (pushed_kept before after same)) whole
+pub list_unchanged_named : (before after : Vec Tree Global) → after.items ≡ before.items
+    → IsNamed (view (Array before))
+    → IsNamed (view (Array after))
+list_unchanged_named before after same whole = subst IsNamed (sym (list_unchanged before after same)) whole
 
 pub same_named : (d e : Data) → d ≡ e → IsNamed e → IsNamed d
 same_named d e same named = subst IsNamed (sym same) named
 
-pub ruleset named_changes = (put_named, kept_named, pushed_named, pushed_kept_named)
+pub ruleset named_changes = (put_named, object_unchanged_named, pushed_named, list_unchanged_named)
 
 pub empty_object_named : (m : Vec (String Global × Tree) Global) → m.items ≡ [] → IsNamed (view (Object m))
 unfolding IsStrictlySortedBy

@@ -11,16 +11,19 @@ ok_or-some : {A : Type 0} → (found : Option A) (x : A) → ok_or found Member 
 ok_or-some None x read = cc
 ok_or-some (Some y) x read = let same : y ≡ x = cc in rw same refl
 
-record_of-tree : {A : Type 0} → (kind : Data → Option A) (document : Result Data DocumentError) (x : A) → record_of kind document ≡ Ok x → (tree : Data) × (document ≡ Ok tree) × (kind tree ≡ Some x)
+record_of-tree : {A : Type 0} → (kind : Data → Option A) (document : Result Data DocumentError) (x : A)
+    → record_of kind document ≡ Ok x → (tree : Data) × (document ≡ Ok tree) × (kind tree ≡ Some x)
 record_of-tree kind (Err e) x read = cc
 record_of-tree kind (Ok tree) x read = (tree, refl, ok_or-some (kind tree) x read)
 
 -- a text with a record has a tree, which is read as the record
-pub record_in-tree : {A : Type 0} → (kind : Data → Option A) (text : List ℕ) (x : A) → record_in kind text ≡ Ok x → (tree : Data) × (document_of text ≡ Ok tree) × (kind tree ≡ Some x)
+pub record_in-tree : {A : Type 0} → (kind : Data → Option A) (text : List ℕ) (x : A) → record_in kind text ≡ Ok x
+    → (tree : Data) × (document_of text ≡ Ok tree) × (kind tree ≡ Some x)
 unfolding record_in
 record_in-tree kind text x read = record_of-tree kind (document_of text) x read
 
 -- a tree that is read as a record is that of a text with the record
-pub record_in-read : {A : Type 0} → (kind : Data → Option A) (text : List ℕ) (tree : Data) (x : A) → document_of text ≡ Ok tree → kind tree ≡ Some x → record_in kind text ≡ Ok x
+pub record_in-read : {A : Type 0} → (kind : Data → Option A) (text : List ℕ) (tree : Data) (x : A)
+    → document_of text ≡ Ok tree → kind tree ≡ Some x → record_in kind text ≡ Ok x
 unfolding record_in
 record_in-read kind text tree x document read = rw (document, read) refl

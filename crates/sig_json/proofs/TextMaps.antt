@@ -1,5 +1,6 @@
 -- An object's texts go into a map in the order of their names, so each goes behind those before it.
-use Rattle.std.proofs.Common.{◌≡◌, ℕ, List, [], ◌∷◌, ◌++◌, map, Option, Some, None, String, Global, string_bytes, refl, sym, ap, subst, ◌∙◌, append_assoc, append-nil}
+use Rattle.std.proofs.Common.{◌≡◌, ℕ, List, [], ◌∷◌, ◌++◌, map, Option, Some, None, String, Global, string_bytes, refl}
+use Rattle.std.proofs.Common.{sym, ap, subst, ◌∙◌, append_assoc, append-nil}
 use Rattle.std.specs.Ordering.{nat_cmp}
 use Rattle.std.specs.Cmp.Lexicographic.{slice_cmp}
 use Rattle.std.specs.List.Sorted.{IsStrictlySortedBy}
@@ -35,11 +36,14 @@ with_texts-none left = nothing_before (texts_by_name left) where
 pub with_texts-all : (texts : Texts) → with_texts texts [] ≡ Some texts
 with_texts-all texts = ap Some (append-nil texts)
 
-one_more : (texts : Texts) (e : List ℕ × List ℕ) (found : Option Texts) → option_and_then (λ rest. Some (texts ++ rest)) (option_and_then (λ others. Some (e ∷ others)) found) ≡ option_and_then (λ rest. Some ((texts ++ e ∷ []) ++ rest)) found
+one_more : (texts : Texts) (e : List ℕ × List ℕ) (found : Option Texts)
+    → option_and_then (λ rest. Some (texts ++ rest)) (option_and_then (λ others. Some (e ∷ others)) found)
+    ≡ option_and_then (λ rest. Some ((texts ++ e ∷ []) ++ rest)) found
 one_more texts e None = refl
 one_more texts e (Some rest) = ap Some (sym (append_assoc texts (e ∷ []) rest))
 
-same_keys : (texts : Texts) (name one other : List ℕ) (rest : Texts) → keys_of (texts ++ (name, one) ∷ rest) ≡ keys_of (texts ++ (name, other) ∷ rest)
+same_keys : (texts : Texts) (name one other : List ℕ) (rest : Texts)
+    → keys_of (texts ++ (name, one) ∷ rest) ≡ keys_of (texts ++ (name, other) ∷ rest)
 same_keys [] name one other rest = refl
 same_keys (t ∷ texts) name one other rest = ap (λ ks. t.0 ∷ ks) (same_keys texts name one other rest)
 
@@ -55,25 +59,43 @@ pub record SoFar (all left : List (String Global × Tree)) (texts : Texts) : Typ
   pub meant : texts_by_name (members_list (members_view all)) ≡ with_texts texts (members_list (members_view left))
   pub order : KeysAscend (texts ++ named left)
 
-pub start_of : (all left : List (String Global × Tree)) (texts : Texts) → InOrder all → left ≡ all → texts ≡ [] → SoFar all left texts
-start_of all left texts up whole none = rw (whole, none) (record { meant = with_texts-none (members_list (members_view all)); order = ascend-named all up })
+pub start_of : (all left : List (String Global × Tree)) (texts : Texts) → InOrder all → left ≡ all → texts ≡ []
+    → SoFar all left texts
+start_of all left texts up whole none =
+    rw (whole, none) (record {
+      meant = with_texts-none (members_list (members_view all));
+      order = ascend-named all up;
+    })
 
-pub step_of : (all left after : List (String Global × Tree)) (name : String Global) (value : Tree) (texts more : Texts) (text : List ℕ) → SoFar all left texts → left ≡ (name, value) ∷ after → Some text ≡ as_str (view value) → more ≡ text_put (string_bytes name) text texts → SoFar all after more
+pub step_of :
+    (all left after : List (String Global × Tree)) (name : String Global) (value : Tree) (texts more : Texts)
+    (text : List ℕ)
+    → SoFar all left texts → left ≡ (name, value) ∷ after → Some text ≡ as_str (view value)
+    → more ≡ text_put (string_bytes name) text texts → SoFar all after more
 unfolding text_of
 step_of all left after name value texts more text so_far next is put =
-    let up : KeysAscend (texts ++ (string_bytes name, []) ∷ named after) = subst (λ l. KeysAscend (texts ++ named l)) next so_far.order in
-    let here : KeysAscend (texts ++ (string_bytes name, text) ∷ named after) = subst (IsStrictlySortedBy (slice_cmp nat_cmp)) (same_keys texts (string_bytes name) [] text (named after)) up in
-    let pushed : more ≡ texts ++ (string_bytes name, text) ∷ [] = put ∙ text_put-next texts (string_bytes name, text) (named after) here in
+    let up : KeysAscend (texts ++ (string_bytes name, []) ∷ named after) =
+    subst (λ l. KeysAscend (texts ++ named l)) next so_far.order in
+    let here : KeysAscend (texts ++ (string_bytes name, text) ∷ named after) =
+    subst (IsStrictlySortedBy (slice_cmp nat_cmp)) (same_keys texts (string_bytes name) [] text (named after))
+    up in
+    let pushed : more ≡ texts ++ (string_bytes name, text) ∷ [] =
+    put ∙ text_put-next texts (string_bytes name, text) (named after) here in
     record {
-      meant = so_far.meant ∙ rw (next, sym is, pushed) (one_more texts (string_bytes name, text) (texts_by_name (members_list (members_view after))));
+      meant =
+          so_far.meant ∙ rw (next, sym is, pushed)
+          (one_more texts (string_bytes name, text) (texts_by_name (members_list (members_view after))));
       order = rw (pushed, append_assoc texts ((string_bytes name, text) ∷ []) (named after)) here;
     }
 
-pub refused_of : (all left after : List (String Global × Tree)) (name : String Global) (value : Tree) (texts : Texts) → SoFar all left texts → left ≡ (name, value) ∷ after → None ≡ as_str (view value) → texts_by_name (members_list (members_view all)) ≡ None
+pub refused_of : (all left after : List (String Global × Tree)) (name : String Global) (value : Tree) (texts : Texts)
+    → SoFar all left texts → left ≡ (name, value) ∷ after → None ≡ as_str (view value)
+    → texts_by_name (members_list (members_view all)) ≡ None
 unfolding text_of
 refused_of all left after name value texts so_far next is = so_far.meant ∙ rw (next, sym is) refl
 
-pub end_of : (all left : List (String Global × Tree)) (texts : Texts) → SoFar all left texts → left ≡ [] → texts_by_name (members_list (members_view all)) ≡ Some texts
+pub end_of : (all left : List (String Global × Tree)) (texts : Texts) → SoFar all left texts → left ≡ []
+    → texts_by_name (members_list (members_view all)) ≡ Some texts
 end_of all left texts so_far none = so_far.meant ∙ rw none (with_texts-all texts)
 
 pub ruleset text_maps = (start_of, step_of, refused_of, end_of)

@@ -1,18 +1,24 @@
--- The grammar of JSON over tokens, a step at a time, as the reader takes it: what a value, a list so far and an object so far mean.
-use Rattle.std.proofs.Common.{◌≡◌, ℕ, ◌-◌, ◌<◌, ◌≤◌, Bool, List, [], ◌∷◌, ◌++◌, length, map, Option, Some, None, option_map, String, Vec, Global, string_bytes, refl, sym, ap, ap₂, ◌∙◌, subst, arith}
+-- The grammar of JSON over tokens, a step at a time, as the reader takes it: what a value, a list so far and an object
+-- so far mean.
+use Rattle.std.proofs.Common.{◌≡◌, ℕ, ◌-◌, ◌<◌, ◌≤◌, Bool, List, [], ◌∷◌, ◌++◌, length, map, Option, Some, None}
+use Rattle.std.proofs.Common.{option_map, String, Vec, Global, string_bytes, refl, sym, ap, ap₂, ◌∙◌, subst, arith}
 use Rattle.std.proofs.lemmas.Str.{IsUtf8-string_bytes}
 use Rattle.std.specs.List.Sorted.{IsStrictlySortedBy}
 use Rattle.std.specs.Str.{IsUtf8}
-use Rattle.json.proofs.Grammar.{value_is, value-begin_array, value-begin_object, read_key-shorter, after_end_array-shorter}
+use Rattle.json.proofs.Grammar.{value_is, value-begin_array, value-begin_object, read_key-shorter}
+use Rattle.json.proofs.Grammar.{after_end_array-shorter}
 use Rattle.json.specs.Json.{value, items, members, parse_map, after_end_array, read_key}
 use Rattle.json.specs.Lex.{tokens}
 use Rattle.json.specs.Token.{Token}
 use Rattle.serde_json.proofs.Nesting.{depth-read}
-use Rattle.serde_json.specs.Data.{Data, null, boolean, number, string, array, object, Items, no_items, item, Members, no_members, put, depth}
+use Rattle.serde_json.specs.Data.{Data, null, boolean, number, string, array, object, Items, no_items, item, Members}
+use Rattle.serde_json.specs.Data.{no_members, put, depth}
 use Rattle.serde_json.specs.Read.{of_json, of_items, of_members, converted, max_depth, number_of, read}
 use Rattle.serde_json.specs.View.{number_view, items_of}
 use Rattle.serde_json.specs.declared.number.Number.{Number}
-use Rattle.sig_json.proofs.Converted.{as_it_is, converted-array, converted-object, item_read, item_refused, items_over, member_read, member_refused, key_refused, members_over, whole_read, whole_and_more, whole_refused}
+use Rattle.sig_json.proofs.Converted.{as_it_is, converted-array, converted-object, item_read, item_refused, items_over}
+use Rattle.sig_json.proofs.Converted.{member_read, member_refused, key_refused, members_over, whole_read}
+use Rattle.sig_json.proofs.Converted.{whole_and_more, whole_refused}
 use Rattle.sig_json.proofs.Named.{ascend-put, values-put}
 use Rattle.sig_json.proofs.Ordered.{gathered_more}
 use Rattle.sig_json.proofs.Trees.{view-Null, view-Bool, view-Number, view-Text, view-Array, view-Object}
@@ -33,43 +39,60 @@ MeansNothing depth ts = converted of_json (value depth ts) ≡ None
 pub null_means : (depth : ℕ) (ts rest : List Token) → ts ≡ Token.null ∷ rest → Means depth ts rest (view Null)
 null_means depth ts rest is = rw (is, value_is depth (Token.null ∷ rest), view-Null) refl
 
-pub bool_means : (depth : ℕ) (ts rest : List Token) (b : Bool) → ts ≡ Token.boolean b ∷ rest → Means depth ts rest (view (Truth b))
+pub bool_means : (depth : ℕ) (ts rest : List Token) (b : Bool) → ts ≡ Token.boolean b ∷ rest
+    → Means depth ts rest (view (Truth b))
 bool_means depth ts rest b is = rw (is, value_is depth (Token.boolean b ∷ rest), view-Bool b) refl
 
-pub text_means : (depth : ℕ) (ts rest : List Token) (s : List ℕ) (text : String Global) → ts ≡ Token.string s ∷ rest → string_bytes text ≡ s → Means depth ts rest (view (Text text))
+pub text_means : (depth : ℕ) (ts rest : List Token) (s : List ℕ) (text : String Global) → ts ≡ Token.string s ∷ rest
+    → string_bytes text ≡ s → Means depth ts rest (view (Text text))
 text_means depth ts rest s text is same = rw (is, value_is depth (Token.string s ∷ rest), view-Text text, same) refl
 
-pub number_means : (depth : ℕ) (ts rest : List Token) (s : List ℕ) (n : Number) → ts ≡ Token.number s ∷ rest → Some (number_view n) ≡ number_of s → Means depth ts rest (view (Numeral n))
+pub number_means : (depth : ℕ) (ts rest : List Token) (s : List ℕ) (n : Number) → ts ≡ Token.number s ∷ rest
+    → Some (number_view n) ≡ number_of s → Means depth ts rest (view (Numeral n))
 number_means depth ts rest s n is same = rw (is, value_is depth (Token.number s ∷ rest), view-Number n, ← same) refl
 
-pub number_refused : (depth : ℕ) (ts rest : List Token) (s : List ℕ) → ts ≡ Token.number s ∷ rest → None ≡ number_of s → MeansNothing depth ts
+pub number_refused : (depth : ℕ) (ts rest : List Token) (s : List ℕ) → ts ≡ Token.number s ∷ rest → None ≡ number_of s
+    → MeansNothing depth ts
 number_refused depth ts rest s is none = rw (is, value_is depth (Token.number s ∷ rest), ← none) refl
 
-pub array_means : (depth : ℕ) (ts inner rest : List Token) (v : Vec Tree Global) → 0 < depth → ts ≡ Token.begin_array ∷ inner
-    → converted of_items (items (value (depth - 1)) (length inner) inner) ≡ Some (items_view v.items, rest) → Means depth ts rest (view (Array v))
+pub array_means : (depth : ℕ) (ts inner rest : List Token) (v : Vec Tree Global) → 0 < depth
+    → ts ≡ Token.begin_array ∷ inner
+    → converted of_items (items (value (depth - 1)) (length inner) inner) ≡ Some (items_view v.items, rest)
+    → Means depth ts rest (view (Array v))
 array_means depth ts inner rest v some is means =
-    ap (λ us. converted of_json (value depth us)) is ∙ ap (converted of_json) (value-begin_array depth inner some) ∙ converted-array (items (value (depth - 1)) (length inner) inner) ∙ ap (parse_map array) means ∙ ap (λ d. Some (d, rest)) (sym (view-Array v))
+    ap (λ us. converted of_json (value depth us)) is ∙ ap (converted of_json) (value-begin_array depth inner some)
+    ∙ converted-array (items (value (depth - 1)) (length inner) inner) ∙ ap (parse_map array) means
+    ∙ ap (λ d. Some (d, rest)) (sym (view-Array v))
 
 pub array_refused : (depth : ℕ) (ts inner : List Token) → 0 < depth → ts ≡ Token.begin_array ∷ inner
     → converted of_items (items (value (depth - 1)) (length inner) inner) ≡ None → MeansNothing depth ts
 array_refused depth ts inner some is none =
-    ap (λ us. converted of_json (value depth us)) is ∙ ap (converted of_json) (value-begin_array depth inner some) ∙ converted-array (items (value (depth - 1)) (length inner) inner) ∙ ap (parse_map array) none
+    ap (λ us. converted of_json (value depth us)) is ∙ ap (converted of_json) (value-begin_array depth inner some)
+    ∙ converted-array (items (value (depth - 1)) (length inner) inner) ∙ ap (parse_map array) none
 
-pub array_too_deep : (depth : ℕ) (ts inner : List Token) → depth ≡ 0 → ts ≡ Token.begin_array ∷ inner → MeansNothing depth ts
+pub array_too_deep : (depth : ℕ) (ts inner : List Token) → depth ≡ 0 → ts ≡ Token.begin_array ∷ inner
+    → MeansNothing depth ts
 unfolding value
 array_too_deep depth ts inner none is = rw (none, is) refl
 
-pub object_means : (depth : ℕ) (ts inner rest : List Token) (v : Vec Entry Global) → 0 < depth → ts ≡ Token.begin_object ∷ inner
-    → converted (λ ms. of_members ms no_members) (members (value (depth - 1)) (length inner) inner) ≡ Some (members_view v.items, rest) → Means depth ts rest (view (Object v))
+pub object_means : (depth : ℕ) (ts inner rest : List Token) (v : Vec Entry Global) → 0 < depth
+    → ts ≡ Token.begin_object ∷ inner
+    → converted (λ ms. of_members ms no_members) (members (value (depth - 1)) (length inner) inner)
+    ≡ Some (members_view v.items, rest) → Means depth ts rest (view (Object v))
 object_means depth ts inner rest v some is means =
-    ap (λ us. converted of_json (value depth us)) is ∙ ap (converted of_json) (value-begin_object depth inner some) ∙ converted-object (members (value (depth - 1)) (length inner) inner) ∙ ap (parse_map object) means ∙ ap (λ d. Some (d, rest)) (sym (view-Object v))
+    ap (λ us. converted of_json (value depth us)) is ∙ ap (converted of_json) (value-begin_object depth inner some)
+    ∙ converted-object (members (value (depth - 1)) (length inner) inner) ∙ ap (parse_map object) means
+    ∙ ap (λ d. Some (d, rest)) (sym (view-Object v))
 
 pub object_refused : (depth : ℕ) (ts inner : List Token) → 0 < depth → ts ≡ Token.begin_object ∷ inner
-    → converted (λ ms. of_members ms no_members) (members (value (depth - 1)) (length inner) inner) ≡ None → MeansNothing depth ts
+    → converted (λ ms. of_members ms no_members) (members (value (depth - 1)) (length inner) inner) ≡ None
+    → MeansNothing depth ts
 object_refused depth ts inner some is none =
-    ap (λ us. converted of_json (value depth us)) is ∙ ap (converted of_json) (value-begin_object depth inner some) ∙ converted-object (members (value (depth - 1)) (length inner) inner) ∙ ap (parse_map object) none
+    ap (λ us. converted of_json (value depth us)) is ∙ ap (converted of_json) (value-begin_object depth inner some)
+    ∙ converted-object (members (value (depth - 1)) (length inner) inner) ∙ ap (parse_map object) none
 
-pub object_too_deep : (depth : ℕ) (ts inner : List Token) → depth ≡ 0 → ts ≡ Token.begin_object ∷ inner → MeansNothing depth ts
+pub object_too_deep : (depth : ℕ) (ts inner : List Token) → depth ≡ 0 → ts ≡ Token.begin_object ∷ inner
+    → MeansNothing depth ts
 unfolding value
 object_too_deep depth ts inner none is = rw (none, is) refl
 
@@ -81,7 +104,8 @@ nothing_means_nothing depth ts is = rw (is, value_is depth []) refl
 pub list_is_named : (v : Vec Tree Global) → AreNamed (items_view v.items) → IsNamed (view (Array v))
 list_is_named v named = subst IsNamed (sym (view-Array v)) named
 
-pub object_is_named : (v : Vec Entry Global) → NamesAscend (members_view v.items) × HasNamedValues (members_view v.items) → IsNamed (view (Object v))
+pub object_is_named : (v : Vec Entry Global)
+    → NamesAscend (members_view v.items) × HasNamedValues (members_view v.items) → IsNamed (view (Object v))
 object_is_named v named = subst IsNamed (sym (view-Object v)) named
 
 pub leaf_null : IsNamed (view Null)
@@ -96,7 +120,26 @@ leaf_number n = subst IsNamed (sym (view-Number n)) tt
 pub leaf_text : (text : String Global) → IsNamed (view (Text text))
 leaf_text text = subst IsNamed (sym (view-Text text)) tt
 
-pub ruleset values = (null_means, bool_means, text_means, number_means, number_refused, array_means, array_refused, array_too_deep, object_means, object_refused, object_too_deep, nothing_means_nothing, list_is_named, object_is_named, leaf_null, leaf_bool, leaf_number, leaf_text)
+pub ruleset values = (
+  null_means,
+  bool_means,
+  text_means,
+  number_means,
+  number_refused,
+  array_means,
+  array_refused,
+  array_too_deep,
+  object_means,
+  object_refused,
+  object_too_deep,
+  nothing_means_nothing,
+  list_is_named,
+  object_is_named,
+  leaf_null,
+  leaf_bool,
+  leaf_number,
+  leaf_text,
+)
 
 -- ---- a list so far
 
@@ -109,15 +152,19 @@ before-all : (ds : List Data) → before ds no_items ≡ items_of ds
 before-all [] = refl
 before-all (d ∷ ds) = ap (item d) (before-all ds)
 
-before-more : (trees : List Tree) (tree : Tree) (rest : Items) → before (map view trees) (item (view tree) rest) ≡ before (map view (trees ++ tree ∷ [])) rest
+before-more : (trees : List Tree) (tree : Tree) (rest : Items)
+    → before (map view trees) (item (view tree) rest) ≡ before (map view (trees ++ tree ∷ [])) rest
 before-more [] tree rest = refl
 before-more (t ∷ trees) tree rest = ap (item (view t)) (before-more trees tree rest)
 
-before-step : (trees : List Tree) (tree : Tree) (r : Option (Items × List Token)) → parse_map (before (map view trees)) (parse_map (item (view tree)) r) ≡ parse_map (before (map view (trees ++ tree ∷ []))) r
+before-step : (trees : List Tree) (tree : Tree) (r : Option (Items × List Token))
+    → parse_map (before (map view trees)) (parse_map (item (view tree)) r)
+    ≡ parse_map (before (map view (trees ++ tree ∷ []))) r
 before-step trees tree None = refl
 before-step trees tree (Some p) = ap (λ ds. Some (ds, p.1)) (before-more trees tree p.0)
 
-named_more : (trees : List Tree) (tree : Tree) → AreNamed (items_view trees) → IsNamed (view tree) → AreNamed (items_view (trees ++ tree ∷ []))
+named_more : (trees : List Tree) (tree : Tree) → AreNamed (items_view trees) → IsNamed (view tree)
+    → AreNamed (items_view (trees ++ tree ∷ []))
 named_more [] tree named one = (one, tt)
 named_more (t ∷ trees) tree named one = (named.0, named_more trees tree named.1 one)
 
@@ -134,26 +181,41 @@ pub record ListSoFar (depth : ℕ) (start left : List Token) (found : List Tree)
 
 pub list_start : (depth : ℕ) (start : List Token) (found : List Tree) → found ≡ [] → ListSoFar depth start start found
 list_start depth start found none =
-    rw none (record { turns = length start; enough = omega arith; meant = as_it_is (list_meant depth (length start) start); below = omega arith; named = tt })
+    rw none (record {
+      turns = length start;
+      enough = omega arith;
+      meant = as_it_is (list_meant depth (length start) start);
+      below = omega arith;
+      named = tt;
+    })
 
-pub list_step : (depth : ℕ) (start left next : List Token) (found more : List Tree) (tree : Tree) → ListSoFar depth start left found → after_end_array left ≡ None
-    → Means depth left next (view tree) → length next < length left → IsNamed (view tree) → more ≡ found ++ tree ∷ [] → ListSoFar depth start next more
+pub list_step : (depth : ℕ) (start left next : List Token) (found more : List Tree) (tree : Tree)
+    → ListSoFar depth start left found → after_end_array left ≡ None
+    → Means depth left next (view tree) → length next < length left → IsNamed (view tree) → more ≡ found ++ tree ∷ []
+    → ListSoFar depth start next more
 list_step depth start left next found more tree so_far going means less one pushed =
     rw pushed (record {
       turns = so_far.turns - 1;
       enough = omega (arith, so_far.enough);
-      meant = so_far.meant ∙ ap (parse_map (before (map view found))) (item_read (value depth) so_far.turns left next (view tree) (omega (arith, so_far.enough)) going means) ∙ before-step found tree _;
+      meant =
+          so_far.meant ∙ ap (parse_map (before (map view found)))
+          (item_read (value depth) so_far.turns left next (view tree) (omega (arith, so_far.enough)) going means)
+          ∙ before-step found tree _;
       below = omega (arith, so_far.below);
       named = named_more found tree so_far.named one;
     })
 
-pub list_refused : (depth : ℕ) (start left : List Token) (found : List Tree) → ListSoFar depth start left found → after_end_array left ≡ None → MeansNothing depth left → list_meant depth (length start) start ≡ None
+pub list_refused : (depth : ℕ) (start left : List Token) (found : List Tree) → ListSoFar depth start left found
+    → after_end_array left ≡ None → MeansNothing depth left → list_meant depth (length start) start ≡ None
 list_refused depth start left found so_far going none =
     so_far.meant ∙ ap (parse_map (before (map view found))) (item_refused (value depth) so_far.turns left going none)
 
-pub list_end : (depth : ℕ) (start left rest : List Token) (found : List Tree) → ListSoFar depth start left found → after_end_array left ≡ Some rest → list_meant depth (length start) start ≡ Some (items_view found, rest)
+pub list_end : (depth : ℕ) (start left rest : List Token) (found : List Tree) → ListSoFar depth start left found
+    → after_end_array left ≡ Some rest → list_meant depth (length start) start ≡ Some (items_view found, rest)
 list_end depth start left rest found so_far end =
-    so_far.meant ∙ ap (parse_map (before (map view found))) (items_over (value depth) so_far.turns left rest so_far.enough end) ∙ ap (λ ds. Some (ds, rest)) (before-all (map view found))
+    so_far.meant ∙ ap (parse_map (before (map view found)))
+    (items_over (value depth) so_far.turns left rest so_far.enough end)
+    ∙ ap (λ ds. Some (ds, rest)) (before-all (map view found))
 
 pub ruleset lists = (list_start, list_step, list_refused, list_end, after_end_array-shorter)
 
@@ -171,55 +233,90 @@ pub record ObjectSoFar (depth : ℕ) (start left : List Token) (found : List Ent
   pub ascend : NamesAscend (gathered found)
   pub named : HasNamedValues (gathered found)
 
-pub object_start : (depth : ℕ) (start : List Token) (found : List Entry) → found ≡ [] → ObjectSoFar depth start start found
+pub object_start : (depth : ℕ) (start : List Token) (found : List Entry) → found ≡ []
+    → ObjectSoFar depth start start found
 unfolding IsStrictlySortedBy
 object_start depth start found none =
-    rw none (record { turns = length start; enough = omega arith; meant = refl; below = omega arith; ascend = (tt, tt); named = tt })
+    rw none (record {
+      turns = length start;
+      enough = omega arith;
+      meant = refl;
+      below = omega arith;
+      ascend = (tt, tt);
+      named = tt;
+    })
 
-pub object_step : (depth : ℕ) (start left inner next : List Token) (found more : List Entry) (k : List ℕ) (name : String Global) (tree : Tree) → ObjectSoFar depth start left found
-    → read_key left ≡ Some (Some k, inner) → string_bytes name ≡ k → Means depth inner next (view tree) → length next < length inner → IsNamed (view tree) → more ≡ found ++ (name, tree) ∷ []
+pub object_step :
+    (depth : ℕ) (start left inner next : List Token) (found more : List Entry) (k : List ℕ) (name : String Global)
+    (tree : Tree)
+    → ObjectSoFar depth start left found
+    → read_key left ≡ Some (Some k, inner) → string_bytes name ≡ k → Means depth inner next (view tree)
+    → length next < length inner → IsNamed (view tree) → more ≡ found ++ (name, tree) ∷ []
     → ObjectSoFar depth start next more
 object_step depth start left inner next found more k name tree so_far key same means less one pushed =
     let old = gathered found in
     let within = read_key-shorter left (Some k) inner key in
-    let put_in : gathered more ≡ put k (view tree) old = rw (pushed, gathered_more found (name, tree) no_members, same) refl in
+    let put_in : gathered more ≡ put k (view tree) old =
+    rw (pushed, gathered_more found (name, tree) no_members, same) refl in
     let utf8 = subst IsUtf8 same (IsUtf8-string_bytes name) in
     record {
       turns = so_far.turns - 1;
       enough = omega (arith, so_far.enough);
-      meant = so_far.meant ∙ member_read (value depth) old so_far.turns k left inner next (view tree) (omega (arith, so_far.enough)) key means
+      meant =
+          so_far.meant ∙ member_read (value depth) old so_far.turns k left inner next (view tree)
+          (omega (arith, so_far.enough)) key means
           ∙ ap (object_meant depth (so_far.turns - 1) next) (sym put_in);
       below = omega (arith, so_far.below);
       ascend = subst NamesAscend (sym put_in) (ascend-put k (view tree) old utf8 so_far.ascend);
       named = subst HasNamedValues (sym put_in) (values-put k (view tree) old one so_far.named);
     }
 
-pub object_refused_at_key : (depth : ℕ) (start left : List Token) (found : List Entry) → ObjectSoFar depth start left found → read_key left ≡ None → object_meant depth (length start) start no_members ≡ None
-object_refused_at_key depth start left found so_far none = so_far.meant ∙ key_refused (value depth) (gathered found) so_far.turns left none
-
-pub object_refused_at_value : (depth : ℕ) (start left inner : List Token) (found : List Entry) (k : List ℕ) → ObjectSoFar depth start left found → read_key left ≡ Some (Some k, inner) → MeansNothing depth inner
+pub object_refused_at_key : (depth : ℕ) (start left : List Token) (found : List Entry)
+    → ObjectSoFar depth start left found → read_key left ≡ None
     → object_meant depth (length start) start no_members ≡ None
-object_refused_at_value depth start left inner found k so_far key none = so_far.meant ∙ member_refused (value depth) (gathered found) so_far.turns k left inner key none
+object_refused_at_key depth start left found so_far none =
+    so_far.meant ∙ key_refused (value depth) (gathered found) so_far.turns left none
 
-pub object_end : (depth : ℕ) (start left rest : List Token) (found : List Entry) → ObjectSoFar depth start left found → read_key left ≡ Some (None, rest) → object_meant depth (length start) start no_members ≡ Some (gathered found, rest)
-object_end depth start left rest found so_far end = so_far.meant ∙ members_over (value depth) (gathered found) so_far.turns left rest so_far.enough end
+pub object_refused_at_value : (depth : ℕ) (start left inner : List Token) (found : List Entry) (k : List ℕ)
+    → ObjectSoFar depth start left found → read_key left ≡ Some (Some k, inner) → MeansNothing depth inner
+    → object_meant depth (length start) start no_members ≡ None
+object_refused_at_value depth start left inner found k so_far key none =
+    so_far.meant ∙ member_refused (value depth) (gathered found) so_far.turns k left inner key none
 
-pub ordered_end : (depth : ℕ) (start left rest : List Token) (found ordered : List Entry) → ObjectSoFar depth start left found → read_key left ≡ Some (None, rest) → members_view ordered ≡ gathered found
+pub object_end : (depth : ℕ) (start left rest : List Token) (found : List Entry) → ObjectSoFar depth start left found
+    → read_key left ≡ Some (None, rest)
+    → object_meant depth (length start) start no_members ≡ Some (gathered found, rest)
+object_end depth start left rest found so_far end =
+    so_far.meant ∙ members_over (value depth) (gathered found) so_far.turns left rest so_far.enough end
+
+pub ordered_end : (depth : ℕ) (start left rest : List Token) (found ordered : List Entry)
+    → ObjectSoFar depth start left found → read_key left ≡ Some (None, rest) → members_view ordered ≡ gathered found
     → object_meant depth (length start) start no_members ≡ Some (members_view ordered, rest)
 ordered_end depth start left rest found ordered so_far end same =
     object_end depth start left rest found so_far end ∙ ap (λ ms. Some (ms, rest)) (sym same)
 
-pub ordered_named : (depth : ℕ) (start left : List Token) (found ordered : List Entry) → ObjectSoFar depth start left found → members_view ordered ≡ gathered found → NamesAscend (members_view ordered) × HasNamedValues (members_view ordered)
+pub ordered_named : (depth : ℕ) (start left : List Token) (found ordered : List Entry)
+    → ObjectSoFar depth start left found → members_view ordered ≡ gathered found
+    → NamesAscend (members_view ordered) × HasNamedValues (members_view ordered)
 ordered_named depth start left found ordered so_far same = rw same (so_far.ascend, so_far.named)
 
-pub ruleset objects = (object_start, object_step, object_refused_at_key, object_refused_at_value, ordered_end, ordered_named, read_key-shorter)
+pub ruleset objects = (
+  object_start,
+  object_step,
+  object_refused_at_key,
+  object_refused_at_value,
+  ordered_end,
+  ordered_named,
+  read_key-shorter,
+)
 
 -- ---- a whole text
 
 pub text_read : (text : List ℕ) (d : Data) → Means max_depth (tokens text) [] d → read text ≡ Some d
 text_read text d means = whole_read (value max_depth (tokens text)) d means
 
-pub text_and_more : (text : List ℕ) (d : Data) (t : Token) (rest : List Token) → Means max_depth (tokens text) (t ∷ rest) d → read text ≡ None
+pub text_and_more : (text : List ℕ) (d : Data) (t : Token) (rest : List Token)
+    → Means max_depth (tokens text) (t ∷ rest) d → read text ≡ None
 text_and_more text d t rest means = whole_and_more (value max_depth (tokens text)) d t rest means
 
 pub text_refused : (text : List ℕ) → MeansNothing max_depth (tokens text) → read text ≡ None

@@ -4,7 +4,8 @@ use Rattle.serde_json.specs.Data.{null, boolean, number, string, array, object}
 use Rattle.serde_json.specs.View.{number_view}
 use Rattle.serde_json.specs.declared.number.Number.{Number}
 use Rattle.sig_json.specs.View.{view, items_view, members_view}
-use Rattle.sig_json.specs.declared.tree.Tree.{Tree, Null, Bool as Truth, Number as Numeral, Text, Array, Object, the_lemmas}
+use Rattle.sig_json.specs.declared.tree.Tree.{Tree, Null, Bool as Truth, Number as Numeral, Text, Array, Object}
+use Rattle.sig_json.specs.declared.tree.Tree.{the_lemmas}
 
 pub view-Array : (v : Vec Tree Global) → view (Array v) ≡ array (items_view v.items)
 view-Array v = search (rules, the_lemmas)

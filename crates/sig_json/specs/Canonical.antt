@@ -1,5 +1,6 @@
 -- *Canonical text*: the text of a tree without floats by the JSON Canonicalization Scheme (RFC 8785).
-use Rattle.std.specs.Prelude.{ℕ, ℤ, ◌++◌, ◌/◌, ◌%◌, ◌^◌, ◌==◌, ◌||◌, nat_lt, unsigned_abs, List, [], ◌∷◌, Option, Some, None, Result, Ok, Err, codes, chars, flat_map, if◌then◌else◌}
+use Rattle.std.specs.Prelude.{ℕ, ℤ, ◌++◌, ◌/◌, ◌%◌, ◌^◌, ◌==◌, ◌||◌, nat_lt, unsigned_abs, List, [], ◌∷◌, Option, Some}
+use Rattle.std.specs.Prelude.{None, Result, Ok, Err, codes, chars, flat_map, if◌then◌else◌}
 use Rattle.std.specs.BTreeMap.{insert_entry}
 use Rattle.std.specs.Char.Escape.{encode_utf16}
 use Rattle.std.specs.Char.{digit_char}
@@ -9,12 +10,14 @@ use Rattle.std.specs.List.{join_by}
 use Rattle.std.specs.Map.{values_of}
 use Rattle.std.specs.Ordering.{nat_cmp}
 use Rattle.sig_base.specs.OptionSteps.{◌>>=◌}
-use Rattle.serde_json.specs.Data.{Data, null, boolean, number, string, array, object, Items, no_items, item, Members, no_members, member}
+use Rattle.serde_json.specs.Data.{Data, null, boolean, number, string, array, object, Items, no_items, item, Members}
+use Rattle.serde_json.specs.Data.{no_members, member}
 use Rattle.serde_json.specs.Find.{as_integer}
 use Rattle.sig_json.specs.declared.error.CanonicalError.{CanonicalError}
 use Rattle.sig_json.specs.declared.error.CanonicalError.TheVariants.{IntegerTooLarge}
 
--- section 3.2.2.2: the two-letter escapes, `\u00` and two lower-case digits for the other controls, and all else as it is
+-- section 3.2.2.2: the two-letter escapes, `\u00` and two lower-case digits for the other controls, and all else as it
+-- is
 abbrev pub escape_of : ℕ → List ℕ
 escape_of c =
     if (c == 34) || (c == 92) then 92 ∷ c ∷ []
@@ -43,7 +46,8 @@ Sorted = List (List ℕ × List ℕ)
 
 -- the member's text goes in at its place by the units of its name
 unfoldable pub with_text : Sorted → List ℕ → List ℕ → Sorted
-with_text sorted name text = insert_entry (slice_cmp nat_cmp) sorted (utf16_units name) (canon_string name ++ (codes ":" ++ text))
+with_text sorted name text =
+    insert_entry (slice_cmp nat_cmp) sorted (utf16_units name) (canon_string name ++ (codes ":" ++ text))
 
 abbrev pub in_brackets : List (List ℕ) → List ℕ
 in_brackets texts = codes "[" ++ (join_by (λ text. text) (codes ",") texts ++ codes "]")
@@ -74,6 +78,6 @@ abbrev pub or_too_large : Option (List ℕ) → Result (List ℕ) CanonicalError
 or_too_large None = Err IntegerTooLarge
 or_too_large (Some text) = Ok text
 
--- the canonical text, or the refusal
+-- the canonical text, or the error
 abbrev pub canonical_of : Data → Result (List ℕ) CanonicalError
 canonical_of d = or_too_large (canon d)

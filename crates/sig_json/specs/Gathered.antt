@@ -1,5 +1,6 @@
--- For private clauses: the members of an object as they come in its text, and as they stand in its tree.
-use Rattle.std.specs.Prelude.{◌≡◌, ◌<◌, ◌≤◌, ℕ, List, [], ◌∷◌, length, slice_index_or, String, string_bytes, Result, Ok, Err}
+-- For private clauses: the members of an object as they come in its text, and as they are in its tree.
+use Rattle.std.specs.Prelude.{◌≡◌, ◌<◌, ◌≤◌, ℕ, List, [], ◌∷◌, length, slice_index_or, String, string_bytes, Result}
+use Rattle.std.specs.Prelude.{Ok, Err}
 use Rattle.std.specs.Cmp.Lexicographic.{slice_cmp}
 use Rattle.std.specs.List.Sorted.{IsPartitionPoint}
 use Rattle.std.specs.Ordering.{nat_cmp}
@@ -14,7 +15,7 @@ use Rattle.sig_json.specs.declared.tree.Tree.{Tree}
 abbrev pub Entry : Type 0
 Entry = String Global × Tree
 
--- put one after another into those that are there, so that of equal names the last value stands
+-- put one after another into those that are there, so that of equal names the last value counts
 abbrev pub put_each : List Entry → Members → Members
 put_each [] members = members
 put_each (e ∷ es) members = put_each es (put (string_bytes e.0) (view e.1) members)
@@ -28,5 +29,8 @@ InOrder es = KeysAscend (members_list (members_view es))
 
 -- the place of the member of this name, or the place between the lesser names and the greater ones
 abbrev pub IsPlaceOf : List ℕ → List Entry → Result ℕ ℕ → Type 0
-IsPlaceOf name es (Ok place) = (place < length es) × ((e : Entry) → slice_cmp nat_cmp (string_bytes (slice_index_or es place e).0) name ≡ Equal)
-IsPlaceOf name es (Err place) = (place ≤ length es) × IsPartitionPoint (λ e. slice_cmp nat_cmp (string_bytes e.0) name ≡ Less) (λ e. slice_cmp nat_cmp (string_bytes e.0) name ≡ Greater) es place
+IsPlaceOf name es (Ok place) =
+    (place < length es) × ((e : Entry) → slice_cmp nat_cmp (string_bytes (slice_index_or es place e).0) name ≡ Equal)
+IsPlaceOf name es (Err place) =
+    (place ≤ length es) × IsPartitionPoint (λ e. slice_cmp nat_cmp (string_bytes e.0) name ≡ Less)
+    (λ e. slice_cmp nat_cmp (string_bytes e.0) name ≡ Greater) es place

@@ -1,5 +1,6 @@
 -- An integer: a whole JSON number, or a text of an optional `-` and one or more digits.
-use Rattle.std.specs.Prelude.{ℕ, ◌+◌, ◌*◌, ◌-◌, ◌^◌, ◌&&◌, ◌==◌, nat_lt, ℤ, pos, negsuc, neg_ℤ, List, [], ◌∷◌, length, Option, Some, None, option_map, if◌then◌else◌}
+use Rattle.std.specs.Prelude.{ℕ, ◌+◌, ◌*◌, ◌-◌, ◌^◌, ◌&&◌, ◌==◌, nat_lt, ℤ, pos, negsuc, neg_ℤ, List, [], ◌∷◌, length}
+use Rattle.std.specs.Prelude.{Option, Some, None, option_map, if◌then◌else◌}
 use Rattle.std.specs.Char.{is_ascii_digit}
 use Rattle.std.specs.List.{list_all}
 use Rattle.serde_json.specs.Data.{Data, null, boolean, number, string, array, object}
@@ -17,7 +18,9 @@ natural_text text = if list_all is_ascii_digit text && nat_lt 0 (length text) th
 -- `-` (45) turns the sign, and `-0` is 0
 unfoldable pub integer_text : List ℕ → Option ℤ
 integer_text [] = None
-integer_text (first ∷ rest) = if first == 45 then option_map (λ n. neg_ℤ (pos n)) (natural_text rest) else option_map pos (natural_text (first ∷ rest))
+integer_text (first ∷ rest) =
+    if first == 45 then option_map (λ n. neg_ℤ (pos n)) (natural_text rest) else option_map pos
+    (natural_text (first ∷ rest))
 
 abbrev pub integer_of : Data → Option ℤ
 integer_of null = None

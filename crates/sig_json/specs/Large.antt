@@ -1,7 +1,8 @@
--- *Large integers*: an integer beyond plus or minus 2^53 - 1, which a number of 64 bits (IEEE 754) no longer keeps apart from its neighbours
--- (RFC 8785 section 3.2.2.3).
+-- *Large integers*: an integer beyond plus or minus 2^53 - 1, which a number of 64 bits (IEEE 754) no longer keeps
+-- apart from its neighbours (RFC 8785 section 3.2.2.3).
 use Rattle.std.specs.Prelude.{ℤ, pos, ◌-◌, ◌^◌, ◌||◌, Bool, false, nat_lt, unsigned_abs}
-use Rattle.serde_json.specs.Data.{Num, unsigned, negative, float, Data, null, boolean, number, string, array, object, Items, no_items, item, Members, no_members, member}
+use Rattle.serde_json.specs.Data.{Num, unsigned, negative, float, Data, null, boolean, number, string, array, object}
+use Rattle.serde_json.specs.Data.{Items, no_items, item, Members, no_members, member}
 
 unfoldable pub is_beyond : ℤ → Bool
 is_beyond z = nat_lt (2 ^ 53 - 1) (unsigned_abs z)

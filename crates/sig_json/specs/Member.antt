@@ -1,4 +1,4 @@
--- The rows of a member table: a name, a kind, and whether the member is required. Null stands for absent.
+-- The rows of a member table: a name, a kind, and whether the member is required. Null is the same as absent.
 use Rattle.std.specs.Prelude.{ℕ, ℤ, pos, List, [], ◌∷◌, Option, Some, None, option_map, is_some, if◌then◌else◌}
 use Rattle.sig_base.specs.OptionSteps.{◌>>=◌}
 use Rattle.serde_json.specs.Data.{Data}

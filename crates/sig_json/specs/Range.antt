@@ -1,6 +1,7 @@
 -- For private clauses: trees whose integers fit 64 bits, as each number of the code does.
 use Rattle.std.specs.Prelude.{◌<◌, ◌^◌, ⊤, pos, negsuc}
-use Rattle.serde_json.specs.Data.{Num, unsigned, negative, float, Data, null, boolean, number, string, array, object, Items, no_items, item, Members, no_members, member}
+use Rattle.serde_json.specs.Data.{Num, unsigned, negative, float, Data, null, boolean, number, string, array, object}
+use Rattle.serde_json.specs.Data.{Items, no_items, item, Members, no_members, member}
 
 abbrev pub Fits : Num → Type 0
 Fits (unsigned n) = n < 2 ^ 64

@@ -1,11 +1,13 @@
--- *Same tree*: values of one kind that hold the same, lists element by element and objects member by member, as `==` tests it.
+-- *Same tree*: values of one kind that hold the same, lists element by element and objects member by member, as `==`
+-- tests it.
 use Rattle.std.specs.Prelude.{◌==◌, ◌&&◌, Bool, true, false}
 use Rattle.std.specs.Bool.{beq}
 use Rattle.std.specs.Ordering.{int_eq}
 use Rattle.std.specs.Str.{bytes_eq}
-use Rattle.serde_json.specs.Data.{Num, unsigned, negative, Data, null, boolean, number, string, array, object, Items, no_items, item, Members, no_members, member}
+use Rattle.serde_json.specs.Data.{Num, unsigned, negative, Data, null, boolean, number, string, array, object, Items}
+use Rattle.serde_json.specs.Data.{no_items, item, Members, no_members, member}
 
--- of floats, which no document has, it answers false
+-- for floats, which no document has, it is false
 abbrev pub same_number : Num → Num → Bool
 same_number (unsigned m) (unsigned n) = m == n
 same_number (negative x) (negative y) = int_eq x y

@@ -14,8 +14,25 @@ pub record SeenAs (Item : Type 0) : Type 1 where
 
 -- an item is its own value
 abbrev pub itself : {Item : Type 0} → SeenAs Item
-itself {Item} = record { Value = Item; item = λ x. x; option = λ found. found; list = λ items. items; option_is = option_map_id; list_is = map-id }
+itself {Item} =
+    record {
+      Value = Item;
+      item = λ x. x;
+      option = λ found. found;
+      list = λ items. items;
+      option_is = option_map_id;
+      list_is = map-id;
+    }
 
 -- an item's value is this function of it
 abbrev pub value_by : {Item Value : Type 0} → (Item → Value) → SeenAs Item
-value_by {Item} {Value} f = record { Value = Value; item = f; option = option_map f; list = map f; option_is = λ found. refl; list_is = λ items. refl }
+value_by {Item} {Value} f =
+    record {
+      Value = Value;
+      item = f;
+      option = option_map f;
+      list = map f;
+      option_is = λ found. refl;
+      list_is = λ
+          items. refl;
+    }

@@ -1,5 +1,6 @@
 -- For private clauses: the parts of a canonical text, as the code appends them to one text.
-use Rattle.std.specs.Prelude.{◌≡◌, ℕ, ◌++◌, ◌==◌, List, [], ◌∷◌, Option, Some, None, option_map, Result, Ok, Err, codes, if◌then◌else◌}
+use Rattle.std.specs.Prelude.{◌≡◌, ℕ, ◌++◌, ◌==◌, List, [], ◌∷◌, Option, Some, None, option_map, Result, Ok, Err}
+use Rattle.std.specs.Prelude.{codes, if◌then◌else◌}
 use Rattle.std.specs.BTreeMap.{insert_entry}
 use Rattle.std.specs.Cmp.Lexicographic.{slice_cmp}
 use Rattle.std.specs.Ordering.{nat_cmp}
@@ -11,7 +12,7 @@ use Rattle.sig_json.specs.declared.named_member.Member.{Member}
 use Rattle.sig_json.specs.declared.error.CanonicalError.{CanonicalError}
 use Rattle.sig_json.specs.declared.error.CanonicalError.TheVariants.{IntegerTooLarge}
 
--- the part that is meant stands behind the text before, and `IntegerTooLarge` where there is none, unless memory ran out
+-- the part that is meant comes after the text before, and `IntegerTooLarge` where there is none, unless memory ran out
 abbrev pub Writes : {X : Type 0} → List ℕ → Result X CanonicalError → List ℕ → Option (List ℕ) → Type 0
 Writes before (Ok x) after meant = option_map (λ text. before ++ text) meant ≡ Some after
 Writes before (Err e) after meant = e ≡ IntegerTooLarge → meant ≡ None

@@ -34,7 +34,7 @@ impl Document {
         }
     }
 
-    /// A text. Refuses for want of memory alone.
+    /// A text. Fails only if memory runs out.
     pub fn of_text(alloc: Global, text: &str) -> Result<Document, OutOfMemory>
         ensures { IfOk result (λ document. document_tree document ≡ string text.now) }
     {
@@ -51,8 +51,8 @@ impl Document {
         }
     }
 
-    /// Sets the member of this name of an object, new or in place of the old one; all other members stay. Refuses for want of memory alone; the
-    /// object is then as before.
+    /// Sets the member of this name of an object, new or in place of the old one; all other members stay. Fails only
+    /// if memory runs out, and the object is then unchanged.
     pub fn insert(&mut self, alloc: Global, name: &str, value: Document) -> Result<(), OutOfMemory>
         requires { IsSome (as_object (document_tree self.old)) }
         ensures ok { OnOk result (document_tree self.new
@@ -62,7 +62,7 @@ impl Document {
         put_member(alloc, &mut self.value, name, value.value)
     }
 
-    /// Adds a value at the end of a list. Refuses for want of memory alone; the list is then as before.
+    /// Adds a value at the end of a list. Fails only if memory runs out, and the list is then unchanged.
     pub fn push(&mut self, value: Document) -> Result<(), OutOfMemory>
         requires { IsSome (as_array (document_tree self.old)) }
         ensures ok { OnOk result (document_tree self.new
@@ -78,7 +78,7 @@ impl Json<'_> {
     ghost use Rattle.std.specs.Prelude.{◌≡◌, IfOk};
     ghost use Rattle.sig_json.specs.Tree.{document_tree, tree};
 
-    /// The value in memory of its own. Refuses for want of memory alone.
+    /// The value in memory of its own. Fails only if memory runs out.
     pub fn copy(self, alloc: Global) -> Result<Document, OutOfMemory>
         ensures { IfOk result (λ document. document_tree document ≡ tree self.entry) }
     {

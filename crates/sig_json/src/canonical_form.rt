@@ -1,12 +1,14 @@
 //! The canonical text of a tree (RFC 8785).
 ghost use Rattle.std.specs.Fmt.{signed_decimal};
 ghost use Rattle.std.specs.Map.{values_of};
-ghost use Rattle.std.specs.Prelude.{◌≡◌, ◌++◌, Some, IfOk, IfErr, IsTrue, IsFalse, OnOk, [], map, string_bytes, option_and_then};
+ghost use Rattle.std.specs.Prelude.{◌≡◌, ◌++◌, Some, IfOk, IfErr, IsTrue, IsFalse, OnOk, [], map, string_bytes};
+ghost use Rattle.std.specs.Prelude.{option_and_then};
 ghost use Rattle.sig_base.specs.Answers.{Answers};
 ghost use Rattle.serde_json.specs.Find.{as_integer};
 ghost use Rattle.serde_json.specs.View.{number_view};
 ghost use Rattle.sig_json.specs.View.{view, items_view, members_view};
-ghost use Rattle.sig_json.specs.Canonical.{canon, canon_integer, canon_string, canon_items, canon_members, canonical_of, in_braces, in_brackets, utf16_units};
+ghost use Rattle.sig_json.specs.Canonical.{canon, canon_integer, canon_string, canon_items, canon_members};
+ghost use Rattle.sig_json.specs.Canonical.{canonical_of, in_braces, in_brackets, utf16_units};
 ghost use Rattle.sig_json.specs.Large.{has_large};
 ghost use Rattle.sig_json.specs.Named.{IsNamed, AreNamed, NamesAscend, HasNamedValues};
 ghost use Rattle.sig_json.specs.Order.{KeepsOrder};
@@ -25,9 +27,9 @@ use std::collections::BTreeMap;
 /// The greatest integer that a number of 64 bits (IEEE 754) keeps apart from its neighbours: 2^53 - 1.
 const GREATEST_INTEGER: u128 = 9_007_199_254_740_991;
 
-/// The canonical text of a value (RFC 8785): the members of each object in the order of the UTF-16 code units of their names, no white space, the
-/// shortest escapes. Refuses with `IntegerTooLarge` exactly where the value holds an integer beyond plus or minus 2^53 - 1, at any depth
-/// (`laws::large_integers`).
+/// The canonical text of a value (RFC 8785): the members of each object in the order of the UTF-16 code units of their
+/// names, no white space, the shortest escapes. Fails with `IntegerTooLarge` if and only if the value holds an integer
+/// beyond plus or minus 2^53 - 1, at any depth (`laws::large_integers`).
 #[tactic(auto, using(crate::proofs::Large::large_integers))]
 pub fn canonical(alloc: Global, json: Json<'_>) -> Result<Text, CanonicalError>
     ensures answer { Answers CanonicalError.OutOfMemory (λ text. text) result (canonical_of (tree json.entry)) }
@@ -135,7 +137,8 @@ fn write_object(
 ) -> Result<(), CanonicalError>
     requires { NamesAscend (members_view members.now.items) × HasNamedValues (members_view members.now.items) }
     ensures { Writes (string_bytes out.old) result (string_bytes out.new)
-        (option_and_then (λ sorted. Some (in_braces (values_of sorted))) (canon_members (members_view members.now.items) [])) }
+        (option_and_then (λ sorted. Some (in_braces (values_of sorted)))
+        (canon_members (members_view members.now.items) [])) }
 {
     let sorted = sorted_members(alloc, members)?;
     write_members(alloc, &sorted, out)
@@ -202,7 +205,8 @@ fn utf16_units(alloc: Global, text: &str) -> Result<Vec<u16>, OutOfMemory>
     Ok(units)
 }
 
-/// A text in quotation marks, with the escapes of canonical JSON (RFC 8785 section 3.2.2.2). Refuses for want of memory alone.
+/// A text in quotation marks, with the escapes of canonical JSON (RFC 8785 section 3.2.2.2). Fails only if memory runs
+/// out.
 pub fn quoted(alloc: Global, text: &str) -> Result<Text, OutOfMemory>
     ensures { IfOk result (λ quoted. quoted ≡ canon_string text.now) }
 {

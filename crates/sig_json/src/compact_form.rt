@@ -5,7 +5,8 @@ ghost use Rattle.serde_json.specs.Data.{depth, array, object, number as numeral}
 ghost use Rattle.serde_json.specs.Find.{is_float};
 ghost use Rattle.serde_json.specs.Read.{max_depth};
 ghost use Rattle.serde_json.specs.View.{number_view};
-ghost use Rattle.serde_json.specs.Written.{compact_text, has_float, items_have_float, members_have_float, outline, items_outline, members_outline};
+ghost use Rattle.serde_json.specs.Written.{compact_text, has_float, items_have_float, members_have_float, outline};
+ghost use Rattle.serde_json.specs.Written.{items_outline, members_outline};
 ghost use Rattle.sig_json.specs.Document.{document_of};
 ghost use Rattle.sig_json.specs.Range.{InRange, AreInRange, HasValuesInRange};
 ghost use Rattle.sig_json.specs.Tree.{tree};
@@ -18,8 +19,8 @@ use serde_json::Number;
 use sig_base::{OutOfMemory, Text};
 use std::alloc::Global;
 
-/// The text of a value without white space, members in the byte order of their names. Where lists and objects nest to at most 127 it is read as
-/// a document of the same tree. Refuses for want of memory alone.
+/// The text of a value without white space, members in the byte order of their names. Where lists and objects nest to
+/// at most 127 it is read as a document of the same tree. Fails only if memory runs out.
 #[tactic(auto, using(crate::proofs::CompactTexts::compact_texts))]
 pub fn compact(alloc: Global, json: Json<'_>) -> Result<Text, OutOfMemory>
     ensures text { IfOk result (λ text. text ≡ compact_text (tree json.entry)) }
@@ -56,7 +57,8 @@ fn write_value(value: &Tree, out: &mut Writer) -> Result<(), OutOfMemory>
 
 fn write_number(number: &Number, out: &mut Writer) -> Result<(), OutOfMemory>
     requires { is_float (number_view number.now) ≡ false }
-    ensures tokens { OnOk result (out.new.tokens ≡ out.old.tokens ++ json_tokens (outline (numeral (number_view number.now)))) }
+    ensures tokens { OnOk result (out.new.tokens
+        ≡ out.old.tokens ++ json_tokens (outline (numeral (number_view number.now)))) }
     ensures before { OnOk result (out.new.before ≡ out.old.before) }
     ensures range { OnOk result (InRange (numeral (number_view number.now))) }
 {

@@ -6,7 +6,7 @@ use crate::tree::Tree;
 use sig_base::OutOfMemory;
 use std::alloc::Global;
 
-/// Copies a tree, each list and each object into a vector of its own size. Fails with `OutOfMemory` alone.
+/// Copies a tree, each list and each object into a vector of its own size. Fails only if memory runs out.
 #[cycle(copy)]
 #[tactic(auto, using(crate::proofs::Copies::copies))]
 pub(crate) fn copy(alloc: Global, tree: &Tree) -> Result<Tree, OutOfMemory>

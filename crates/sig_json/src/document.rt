@@ -3,7 +3,7 @@ ghost use Rattle.std.specs.Prelude.{◌≡◌, false};
 ghost use Rattle.sig_json.specs.View.{view};
 ghost use Rattle.serde_json.specs.Written.{has_float};
 ghost use Rattle.sig_json.specs.Named.{IsNamed};
-ghost use Rattle.sig_json.specs.Props.{IsNamed-prop};
+ghost use Rattle.sig_json.specs.NamedProofs.{IsNamed-prop};
 
 use crate::error::DocumentError;
 use crate::floats::is_float_in;
@@ -12,8 +12,9 @@ use crate::tree::Tree;
 use crate::view::Json;
 use std::alloc::Global;
 
-/// The tree of a JSON text (RFC 8259): null, a truth value, an integer from -2^63 to 2^64 - 1, a text, a list, or an object, whose members
-/// have each name once. Lists and objects of a document that was read nest to 127 at most; of one that was built they nest as it was asked for.
+/// The tree of a JSON text (RFC 8259): null, a truth value, an integer from -2^63 to 2^64 - 1, a text, a list, or an
+/// object, whose members have each name once. Lists and objects of a document that was read nest to 127 at most; of
+/// one that was built they nest as it was asked for.
 #[derive(Drop)]
 pub struct Document {
     pub(crate) value: Tree,
@@ -29,8 +30,8 @@ impl Document {
     ghost use Rattle.sig_json.specs.Document.{document_of};
     ghost use Rattle.sig_json.specs.Tree.{document_tree, tree};
 
-    /// Reads a text. Refuses with `NotJson` where it has no reading, and then with `Float` where the tree holds a number with a point or an
-    /// exponent, `-0`, or an integer outside -2^63 to 2^64 - 1.
+    /// Reads a text. Refuses with `NotJson` where it has no reading, and then with `Float` where the tree holds a
+    /// number with a point or an exponent, `-0`, or an integer outside -2^63 to 2^64 - 1.
     #[tactic(auto, using(crate::proofs::Reading::reading))]
     pub fn read(alloc: Global, text: &[u8]) -> Result<Document, DocumentError>
         ensures value { Answers DocumentError.OutOfMemory document_tree result (document_of text.now) }

@@ -24,12 +24,12 @@ pub trait ElementReader {
     // What contracts see of the item that a value is read as; none where the value is not of the kind.
     ghost meaning: { Data → Option seen_as.Value };
 
-    /// Reads a value. Refuses with `Member` exactly where it is not of the kind.
+    /// Reads a value. Fails with `Member` if and only if it is not of the kind.
     fn read(alloc: Global, json: Json<'_>) -> Result<Self::Item, MemberError>
         ensures { Answers MemberError.OutOfMemory seen_as.item result (or_member (meaning (tree json.entry))) };
 }
 
-/// Reads every element of a list. Refuses with `Member` where the value is no list or an element is not of the kind.
+/// Reads every element of a list. Fails with `Member` if the value is no list or an element is not of the kind.
 #[tactic(auto, using(crate::proofs::Elements::elements))]
 fn read_list<T: ElementReader>(
     alloc: Global,
@@ -51,7 +51,8 @@ fn read_list<T: ElementReader>(
     Ok(found)
 }
 
-/// A required member of one kind. Refuses with `Member` where the value is no object, or the member is absent, null or not of the kind.
+/// A required member of one kind. Fails with `Member` if the value is no object, or the member is absent, null or not
+/// of the kind.
 #[tactic(auto, unfolding(crate::specs::Member::required))]
 pub fn required<T: ElementReader>(
     alloc: Global,
@@ -67,8 +68,8 @@ pub fn required<T: ElementReader>(
     }
 }
 
-/// An optional member of one kind; none where it is absent or null. Refuses with `Member` where the value is no object or the member is not
-/// of the kind.
+/// An optional member of one kind; `None` if it is absent or null. Fails with `Member` if the value is no object or
+/// the member is not of the kind.
 #[tactic(auto, unfolding(crate::specs::Member::optional_or))]
 pub fn optional<T: ElementReader>(
     alloc: Global,
@@ -84,8 +85,8 @@ pub fn optional<T: ElementReader>(
     }
 }
 
-/// A required list of one kind. Refuses with `Member` where the value is no object, the member is absent, null or no list, or an element is not
-/// of the kind; a null in the list is an element as any other.
+/// A required list of one kind. Fails with `Member` if the value is no object, the member is absent, null or no list,
+/// or an element is not of the kind; a null in the list is an element as any other.
 #[tactic(auto, unfolding(crate::specs::Member::required))]
 pub fn required_list<T: ElementReader>(
     alloc: Global,
@@ -101,8 +102,8 @@ pub fn required_list<T: ElementReader>(
     }
 }
 
-/// An optional list of one kind; empty where it is absent or null. Refuses with `Member` where the value is no object, the member is no list, or
-/// an element is not of the kind; a null in the list is an element as any other.
+/// An optional list of one kind; empty if it is absent or null. Fails with `Member` if the value is no object, the
+/// member is no list, or an element is not of the kind; a null in the list is an element as any other.
 #[tactic(auto, unfolding(crate::specs::Member::optional_or))]
 pub fn optional_list<T: ElementReader>(
     alloc: Global,

@@ -1,4 +1,5 @@
-//! Whether two trees are equal: a recursion over kinds, elements and members. Documents are equal exactly where their trees are.
+//! Whether two trees are equal: a recursion over kinds, elements and members. Documents are equal if and only if their
+//! trees are.
 ghost use Rattle.std.specs.Prelude.{◌≡◌, ◌↔◌, IsTrue, false};
 ghost use Rattle.serde_json.specs.View.{number_view};
 ghost use Rattle.sig_json.specs.View.{view, items_view, members_view};
@@ -23,7 +24,7 @@ impl Json<'_> {
 
 impl PartialEq for Document {
     ghost use Rattle.std.specs.Cmp.{partial_equiv_from_equiv};
-    ghost use Rattle.sig_json.specs.SameLaws.{documents_equiv};
+    ghost use Rattle.sig_json.specs.SameTreeProofs.{documents_equiv};
     ghost use Rattle.sig_json.specs.SameTree.{same_tree};
     ghost use Rattle.sig_json.specs.Tree.{document_tree};
 
@@ -40,7 +41,7 @@ impl PartialEq for Document {
 }
 
 impl Eq for Document {
-    ghost use Rattle.sig_json.specs.SameLaws.{documents_equiv};
+    ghost use Rattle.sig_json.specs.SameTreeProofs.{documents_equiv};
 
     ghost laws = { documents_equiv };
 }

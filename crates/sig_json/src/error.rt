@@ -13,7 +13,7 @@ pub enum DocumentError {
     /// The tree holds a number with a point or an exponent, `-0`, or an integer outside -2^63 to 2^64 - 1.
     #[error("Float")]
     Float,
-    /// No memory could be had.
+    /// Out of memory.
     #[error("OutOfMemory")]
     OutOfMemory,
 }
@@ -31,7 +31,7 @@ pub enum MemberError {
     /// The value is no object, or the member breaks its row of the table.
     #[error("Member")]
     Member,
-    /// No memory could be had.
+    /// Out of memory.
     #[error("OutOfMemory")]
     OutOfMemory,
 }
@@ -48,7 +48,7 @@ pub enum JsonError {
     /// A member breaks its row of the table.
     #[error("Member")]
     Member,
-    /// No memory could be had.
+    /// Out of memory.
     #[error("OutOfMemory")]
     OutOfMemory,
 }
@@ -59,7 +59,7 @@ pub enum CanonicalError {
     /// An integer is beyond plus or minus 2^53 - 1.
     #[error("IntegerTooLarge")]
     IntegerTooLarge,
-    /// No memory could be had.
+    /// Out of memory.
     #[error("OutOfMemory")]
     OutOfMemory,
 }

@@ -1,5 +1,6 @@
 //! What the definitions of trees and of canonical JSON mean, in the subject's words. It has no code.
-ghost use Rattle.std.specs.Prelude.{◌≡◌, ◌≢◌, ◌↔◌, ◌++◌, ℕ, List, [], ◌∷◌, Some, None, IsSome, IsTrue, false, map, chars};
+ghost use Rattle.std.specs.Prelude.{◌≡◌, ◌≢◌, ◌↔◌, ◌++◌, ℕ, List, [], ◌∷◌, Some, None, IsSome, IsTrue, false, map};
+ghost use Rattle.std.specs.Prelude.{chars};
 ghost use Rattle.std.specs.Char.Utf16.{utf16_chars};
 ghost use Rattle.std.specs.Map.{values_of};
 ghost use Rattle.std.specs.Str.{IsUtf8};
@@ -20,11 +21,13 @@ ghost use Rattle.sig_json.specs.declared.view.Json.{Json};
 /// The UTF-16 code units of a text are decoded to its characters, so texts that differ have units that differ.
 pub fn units_of_texts()
     ensures decoded { (text : List ℕ) → IsUtf8 text → utf16_chars (utf16_units text) ≡ map Some (chars text) }
-    ensures distinct { (one other : List ℕ) → IsUtf8 one → IsUtf8 other → utf16_units one ≡ utf16_units other → one ≡ other }
+    ensures distinct { (one other : List ℕ) → IsUtf8 one → IsUtf8 other
+        → utf16_units one ≡ utf16_units other → one ≡ other }
 {}
 
-/// The members of an object stand in the ascending order of the UTF-16 code units of their names, each once and no others (RFC 8785 section
-/// 3.2.3), where the names are texts and none is there twice, as in a map from strings in byte order.
+/// The members of an object come in the ascending order of the UTF-16 code units of their names, each once and no
+/// others (RFC 8785 section 3.2.3), where the names are texts and none is there twice, as in a map from strings in
+/// byte order.
 pub fn members_in_order()
     ensures object { (ms : Members) → HasNames ms → (text : List ℕ)
         → (canon (object ms) ≡ Some text)
@@ -35,14 +38,15 @@ pub fn members_in_order()
         → canon_members ms [] ≡ Some sorted → UnitsAscend sorted }
 {}
 
-/// A tree without floats has no canonical text exactly where it holds an integer beyond plus or minus 2^53 - 1, at any depth.
+/// A tree without floats has no canonical text if and only if it holds an integer beyond plus or minus 2^53 - 1, at
+/// any depth.
 pub fn large_integers()
     ensures exact { (d : Data) → has_float d ≡ false
         → (canon d ≡ None) ↔ IsTrue (has_large d) }
 {}
 
-/// In every document, read or built, and in every view of one, the names of each object are texts that ascend in byte order, at every depth: the
-/// premise of `members_in_order`.
+/// In every document, read or built, and in every view of one, the names of each object are texts that ascend in byte
+/// order, at every depth: the premise of `members_in_order`.
 pub fn trees_are_named()
     ensures document { (document : Document) → IsNamed (document_tree document) }
     ensures view { (json : Json) → IsNamed (tree json) }
@@ -55,8 +59,8 @@ pub fn trees_have_no_floats()
     ensures view { (json : Json) → has_float (tree json) ≡ false }
 {}
 
-/// A member that is set in an object is found under its name, whether it is new or stands in place of an old one; what is found under any other
-/// name stays as it was.
+/// A member that is set in an object is found under its name, whether it is new or takes the place of an old one; what
+/// is found under any other name stays as it was.
 pub fn members_are_set()
     ensures found { (name : List ℕ) (value tree : Data) → IsSome (as_object tree)
         → get name (with_member name value tree) ≡ Some value }
@@ -64,7 +68,7 @@ pub fn members_are_set()
         → get other (with_member name value tree) ≡ get other tree }
 {}
 
-/// An element that is added to a list stands after all that were there.
+/// An element that is added to a list comes after all that were there.
 pub fn elements_are_added()
     ensures last { (value tree : Data) (elements : List Data) → list_of tree ≡ Some elements
         → list_of (with_last value tree) ≡ Some (elements ++ value ∷ []) }

@@ -1,14 +1,31 @@
-//! JSON documents (RFC 8259) without floats: one way in, a view of the tree, and readers of the members that the formats of Sigstore have.
+//! JSON documents (RFC 8259) without floats: one way in, a view of the tree, readers of the members that the formats
+//! of Sigstore have, and canonical JSON (RFC 8785).
+//!
+//! The grammar of RFC 8259, as far as it has a value here, white space left out:
+//!
+//! ```text
+//! value  = "null" / "true" / "false" / number / string / array / object
+//! object = "{" [ member *( "," member ) ] "}"
+//! member = string ":" value
+//! array  = "[" [ value *( "," value ) ] "]"
+//! number = "0" / [ "-" ] digit1-9 *digit            ; no fraction, no exponent, no "-0"
+//! ```
+//!
+//! A number is an integer from -2^63 to 2^64 - 1; a text whose tree holds any other fails with `Float`. Arrays and
+//! objects nest to 127 at most. Of members with the same name the last counts.
 //!
 //! What the layer above uses:
 //!
-//! - A document is the tree that its text is, exactly where it has one without floats. What is built is the tree that was asked for. In both the
-//!   names of each object are different texts. Documents, and views of them, are equal exactly where their trees are.
-//! - A view's calls are the tree's; the members of an object come in the byte order of their names, each name once.
-//! - A reader answers what the member means by its row of a table, and `Member` exactly where it breaks that row.
+//! - `Document::read` returns the tree of a text if and only if the text has one without floats. A document that is
+//!   built is the tree that was asked for. In both, an object has each name once. Documents, and views of them, are
+//!   equal if and only if their trees are.
+//! - `Json`, a view, shows what the tree is; the members of an object come in the byte order of their names.
+//! - A reader returns what the member means by its row of a table, and fails with `Member` if and only if the member
+//!   breaks that row.
 //! - The compact text of a tree that nests to 127 is read back as the same tree.
-//! - The canonical text of a tree is that of RFC 8785, refused exactly where the tree holds an integer beyond plus or minus 2^53 - 1. In each of
-//!   its objects the members stand in the ascending order of the UTF-16 code units of their names, each once and no others.
+//! - The canonical text of a tree is that of RFC 8785: in each object the members come in the ascending order of the
+//!   UTF-16 code units of their names. It fails with `IntegerTooLarge` if and only if the tree holds an integer beyond
+//!   plus or minus 2^53 - 1.
 //!
 //! `laws` says what the definitions mean.
 #![tactic(auto)]

@@ -1,6 +1,7 @@
-//! Members by the rows of a table: a name, a kind, and whether the member is required. Null stands for absent.
+//! Members by the rows of a table: a name, a kind, and whether the member is required. Null is the same as absent.
 ghost use Rattle.std.specs.Prelude.{◌≡◌, IfErr, option_map};
-ghost use Rattle.sig_json.specs.Member.{member_of, optional_i64, optional_u64, optional_text, optional_bytes, required_i64, required_u64, required_text, required_bytes, required_hash};
+ghost use Rattle.sig_json.specs.Member.{member_of, optional_i64, optional_u64, optional_text, optional_bytes};
+ghost use Rattle.sig_json.specs.Member.{required_i64, required_u64, required_text, required_bytes, required_hash};
 ghost use Rattle.sig_base.specs.Answers.{Answers};
 ghost use Rattle.sig_json.specs.OrMember.{or_member};
 ghost use Rattle.sig_json.specs.Tree.{tree};
@@ -13,7 +14,7 @@ use crate::view::Json;
 use sig_base::{Bytes, Text};
 use std::alloc::Global;
 
-/// The member of an object, none where it is absent or null. Refuses with `Member` where the value is no object.
+/// The member of an object, `None` if it is absent or null. Fails with `Member` if the value is no object.
 #[tactic(auto, unfolding(crate::specs::Member::member_of))]
 pub(crate) fn find_member<'a>(json: Json<'a>, name: &str) -> Result<Option<Json<'a>>, MemberError>
     ensures value { Answers MemberError.OutOfMemory (λ m. option_map tree m) result
@@ -29,8 +30,8 @@ pub(crate) fn find_member<'a>(json: Json<'a>, name: &str) -> Result<Option<Json<
     }
 }
 
-/// An integer from -2^63 to 2^63 - 1: a whole JSON number, or a text of an optional `-` and digits; 0 where the member is absent or null. Refuses
-/// with `Member` where the value is no object or the member is no such integer. It takes no memory.
+/// An integer from -2^63 to 2^63 - 1: a whole JSON number, or a text of an optional `-` and digits; 0 if the member is
+/// absent or null. Fails with `Member` if the value is no object or the member is no such integer. It takes no memory.
 #[tactic(auto, unfolding(crate::specs::Member::optional_or))]
 pub fn read_i64(json: Json<'_>, name: &str) -> Result<i64, MemberError>
     ensures value { Answers MemberError.OutOfMemory (λ x. x) result
@@ -43,8 +44,8 @@ pub fn read_i64(json: Json<'_>, name: &str) -> Result<i64, MemberError>
     }
 }
 
-/// An integer from 0 to 2^64 - 1: a whole JSON number, or a text of an optional `-` and digits; 0 where the member is absent or null. Refuses
-/// with `Member` where the value is no object or the member is no such integer. It takes no memory.
+/// An integer from 0 to 2^64 - 1: a whole JSON number, or a text of an optional `-` and digits; 0 if the member is
+/// absent or null. Fails with `Member` if the value is no object or the member is no such integer. It takes no memory.
 #[tactic(auto, unfolding(crate::specs::Member::optional_or))]
 pub fn read_u64(json: Json<'_>, name: &str) -> Result<u64, MemberError>
     ensures value { Answers MemberError.OutOfMemory (λ x. x) result
@@ -57,7 +58,8 @@ pub fn read_u64(json: Json<'_>, name: &str) -> Result<u64, MemberError>
     }
 }
 
-/// A text, empty where the member is absent or null. Refuses with `Member` where the value is no object or the member is no text.
+/// A text, empty if the member is absent or null. Fails with `Member` if the value is no object or the member is no
+/// text.
 #[tactic(auto, unfolding(crate::specs::Member::optional_or))]
 pub fn read_text(alloc: Global, json: Json<'_>, name: &str) -> Result<Text, MemberError>
     ensures { Answers MemberError.OutOfMemory (λ x. x) result (or_member (optional_text name.now (tree json.entry))) }
@@ -68,8 +70,8 @@ pub fn read_text(alloc: Global, json: Json<'_>, name: &str) -> Result<Text, Memb
     }
 }
 
-/// Bytes in padded standard base64, empty where the member is absent or null. Refuses with `Member` where the value is no object or the member
-/// is no such text.
+/// Bytes in padded standard base64, empty if the member is absent or null. Fails with `Member` if the value is no
+/// object or the member is no such text.
 #[tactic(auto, unfolding(crate::specs::Member::optional_or))]
 pub fn read_bytes(alloc: Global, json: Json<'_>, name: &str) -> Result<Bytes, MemberError>
     ensures { Answers MemberError.OutOfMemory (λ x. x) result (or_member (optional_bytes name.now (tree json.entry))) }
@@ -80,8 +82,8 @@ pub fn read_bytes(alloc: Global, json: Json<'_>, name: &str) -> Result<Bytes, Me
     }
 }
 
-/// A required integer from -2^63 to 2^63 - 1. Refuses with `Member` where the value is no object, or the member is absent, null or no such
-/// integer. It takes no memory.
+/// A required integer from -2^63 to 2^63 - 1. Fails with `Member` if the value is no object, or the member is absent,
+/// null or no such integer. It takes no memory.
 #[tactic(auto, unfolding(crate::specs::Member::required))]
 pub fn required_i64(json: Json<'_>, name: &str) -> Result<i64, MemberError>
     ensures value { Answers MemberError.OutOfMemory (λ x. x) result
@@ -94,8 +96,8 @@ pub fn required_i64(json: Json<'_>, name: &str) -> Result<i64, MemberError>
     }
 }
 
-/// A required integer from 0 to 2^64 - 1. Refuses with `Member` where the value is no object, or the member is absent, null or no such
-/// integer. It takes no memory.
+/// A required integer from 0 to 2^64 - 1. Fails with `Member` if the value is no object, or the member is absent, null
+/// or no such integer. It takes no memory.
 #[tactic(auto, unfolding(crate::specs::Member::required))]
 pub fn required_u64(json: Json<'_>, name: &str) -> Result<u64, MemberError>
     ensures value { Answers MemberError.OutOfMemory (λ x. x) result
@@ -108,8 +110,8 @@ pub fn required_u64(json: Json<'_>, name: &str) -> Result<u64, MemberError>
     }
 }
 
-/// A required hash: 64 hexadecimal digits in either case. Refuses with `Member` where the value is no object, or the member is absent, null or
-/// no such text. It takes no memory.
+/// A required hash: 64 hexadecimal digits in either case. Fails with `Member` if the value is no object, or the member
+/// is absent, null or no such text. It takes no memory.
 #[tactic(auto, unfolding(crate::specs::Member::required))]
 pub fn required_hash(json: Json<'_>, name: &str) -> Result<[u8; 32], MemberError>
     ensures value { Answers MemberError.OutOfMemory (λ x. x) result
@@ -122,14 +124,15 @@ pub fn required_hash(json: Json<'_>, name: &str) -> Result<[u8; 32], MemberError
     }
 }
 
-/// A required text. Refuses with `Member` where the value is no object, or the member is absent, null or no text.
+/// A required text. Fails with `Member` if the value is no object, or the member is absent, null or no text.
 pub fn required_text(alloc: Global, json: Json<'_>, name: &str) -> Result<Text, MemberError>
     ensures { Answers MemberError.OutOfMemory (λ x. x) result (or_member (required_text name.now (tree json.entry))) }
 {
     required::<TextReader>(alloc, json, name)
 }
 
-/// Required bytes in padded standard base64. Refuses with `Member` where the value is no object, or the member is absent, null or no such text.
+/// Required bytes in padded standard base64. Fails with `Member` if the value is no object, or the member is absent,
+/// null or no such text.
 pub fn required_bytes(alloc: Global, json: Json<'_>, name: &str) -> Result<Bytes, MemberError>
     ensures { Answers MemberError.OutOfMemory (λ x. x) result (or_member (required_bytes name.now (tree json.entry))) }
 {

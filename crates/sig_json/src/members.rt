@@ -3,7 +3,7 @@ ghost use Rattle.std.specs.Prelude.{◌≡◌, false};
 ghost use Rattle.sig_json.specs.View.{members_view};
 ghost use Rattle.serde_json.specs.Written.{members_have_float};
 ghost use Rattle.sig_json.specs.Named.{HasNamedValues};
-ghost use Rattle.sig_json.specs.Props.{HasNamedValues-prop};
+ghost use Rattle.sig_json.specs.NamedProofs.{HasNamedValues-prop};
 
 use crate::tree::Tree;
 use crate::view::Json;
@@ -42,7 +42,8 @@ impl<'a> Json<'a> {
     ghost use Rattle.sig_json.specs.Tree.{tree};
     ghost use Rattle.sig_json.specs.Walk.{members_left};
 
-    /// The members of an object, in the byte order of their names, each name once; none where the value is no object. It takes no memory.
+    /// The members of an object, in the byte order of their names, each name once; `None` if the value is no object.
+    /// It takes no memory.
     pub fn members(self) -> Option<Members<'a>>
         ensures value { option_map members_left result ≡ members_of (tree self.entry) }
         ensures ordered { IfSome result (λ members. KeysAscend (members_left members)) }

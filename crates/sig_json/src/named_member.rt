@@ -1,6 +1,6 @@
 //! `Member`: a member of an object, borrowed, while an object is sorted.
 ghost use Rattle.sig_json.specs.Named.{IsNamed};
-ghost use Rattle.sig_json.specs.Props.{IsNamed-prop};
+ghost use Rattle.sig_json.specs.NamedProofs.{IsNamed-prop};
 ghost use Rattle.sig_json.specs.View.{view};
 
 use crate::tree::Tree;

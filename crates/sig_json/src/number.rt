@@ -6,7 +6,8 @@ ghost use Rattle.serde_json.specs.View.{number_view};
 use fast_float::Numeral;
 use serde_json::Number;
 
-/// An integer from -2^63 to 2^64 - 1 other than `-0`, or else the nearest float of 64 bits; none where that is not finite.
+/// An integer from -2^63 to 2^64 - 1 other than `-0`, or else the nearest float of 64 bits; none where that is not
+/// finite.
 pub(crate) fn number_in(text: &str) -> Option<Number>
     ensures { option_map number_view result ≡ number_of text.now }
 {

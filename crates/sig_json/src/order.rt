@@ -1,4 +1,5 @@
-//! Members in the byte order of their names: found by a binary search, set at their place, and put in order when they were read.
+//! Members in the byte order of their names: found by a binary search, set at their place, and put in order when they
+//! were read.
 ghost use Rattle.std.specs.Prelude.{◌≡◌, ◌<◌, length, OnOk, OnErr, IfOk, IsTrue, option_map, string_bytes};
 ghost use Rattle.std.specs.Cmp.Lexicographic.{slice_cmp};
 ghost use Rattle.std.specs.Ordering.{nat_cmp, is_lt};
@@ -37,8 +38,8 @@ fn search(members: &Vec<(String, Tree)>, name: &str) -> Result<usize, usize>
     )
 }
 
-/// Sets the member of a name, in place of the old one or at its place among the others. Fails with `OutOfMemory` alone; the members are then as
-/// before.
+/// Sets the member of a name, in place of the old one or at its place among the others. Fails only if memory runs out,
+/// and the members are then unchanged.
 #[tactic(auto, using(crate::proofs::Ordered::placed))]
 pub(crate) fn put(
     alloc: Global,
@@ -64,8 +65,8 @@ pub(crate) fn put(
     }
 }
 
-/// Members as they were read, in the byte order of their names: of equal names the last value stands. Names that ascend already, as they mostly
-/// do, stay where they are.
+/// Members as they were read, in the byte order of their names: of equal names the last value counts. Names that
+/// ascend already, as they mostly do, stay where they are.
 #[tactic(auto, using(crate::proofs::Ordered::ordered))]
 pub(crate) fn in_order(
     alloc: Global,

@@ -7,8 +7,9 @@ use crate::element::ElementReader;
 use crate::error::JsonError;
 use std::alloc::Global;
 
-/// The record of a text. Refuses with `NotJson` where the text has no reading, then with `Float` where its tree holds a number with a point or an
-/// exponent, `-0`, or an integer outside -2^63 to 2^64 - 1, and then with `Member` where a member breaks its row of the table.
+/// The record of a text. Fails with `NotJson` if the text has no reading, then with `Float` where its tree holds a
+/// number with a point or an exponent, `-0`, or an integer outside -2^63 to 2^64 - 1, and then with `Member` where a
+/// member breaks its row of the table.
 #[tactic(auto, unfolding(crate::specs::Record::record_in))]
 pub fn read_record<T: ElementReader>(alloc: Global, text: &[u8]) -> Result<T::Item, JsonError>
     ensures { Answers JsonError.OutOfMemory T.seen_as.item result (record_in T.meaning text.now) }

@@ -1,7 +1,8 @@
-//! `Tree`: a value of a document as the crate holds it. Each list and each object is a vector of its own size, so that a value takes a few words,
-//! whatever it is and however deep it nests.
+//! `Tree`: a value of a document as the crate holds it. Each list and each object is a vector of its own size, so that
+//! a value takes a few words, whatever it is and however deep it nests.
 ghost use Rattle.std.specs.Prelude.{◌≡◌, is_some, option_map};
-ghost use Rattle.serde_json.specs.Find.{as_null, as_bool, as_number, as_str, as_array, as_object, get as member_in, get_item, at};
+ghost use Rattle.serde_json.specs.Find.{as_null, as_bool, as_number, as_str, as_array, as_object, get as member_in};
+ghost use Rattle.serde_json.specs.Find.{get_item, at};
 ghost use Rattle.serde_json.specs.View.{number_view};
 ghost use Rattle.sig_json.specs.Named.{IsNamed};
 ghost use Rattle.sig_json.specs.View.{view, items_view, members_view};
@@ -9,8 +10,8 @@ ghost use Rattle.sig_json.specs.View.{view, items_view, members_view};
 use crate::order::find;
 use serde_json::Number;
 
-/// A value. The members of an object are in the byte order of their names, each name once: `IsNamed`, which each document and each view of one
-/// carries.
+/// A value. The members of an object are in the byte order of their names, each name once: `IsNamed`, which each
+/// document and each view of one carries.
 #[derive(Drop)]
 pub(crate) enum Tree {
     Null,

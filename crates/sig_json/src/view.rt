@@ -3,12 +3,12 @@ ghost use Rattle.std.specs.Prelude.{◌≡◌, false};
 ghost use Rattle.sig_json.specs.View.{view};
 ghost use Rattle.serde_json.specs.Written.{has_float};
 ghost use Rattle.sig_json.specs.Named.{IsNamed};
-ghost use Rattle.sig_json.specs.Props.{IsNamed-prop};
+ghost use Rattle.sig_json.specs.NamedProofs.{IsNamed-prop};
 
 use crate::tree::Tree;
 
-/// A value of a document, lent. Its calls take no memory, and answer `None` exactly where the value is of another kind or what is asked for
-/// is not there.
+/// A value of a document, borrowed. Its calls take no memory, and return `None` if and only if the value is of another
+/// kind or what is asked for is not there.
 #[derive(Clone, Copy)]
 pub struct Json<'a> {
     pub(crate) value: &'a Tree,

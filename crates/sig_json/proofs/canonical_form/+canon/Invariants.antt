@@ -26,9 +26,12 @@ decreases-write_member l = 4 * depth (view l.member.now.value.now) + 1
 -- what is written and the parts that are left make the list
 abbrev pub invariant-write_list-items : goal.invariant-write_list-items
 invariant-write_list-items l =
-    whole (string_bytes l.fn.out) (codes "[") (codes "]") (canon_items (items_view l.fn.items.items)) ≡ with_left (string_bytes l.out) (codes "]") l.place (canon_items (items_view (drop l.place l.fn.items.items)))
+    whole (string_bytes l.fn.out) (codes "[") (codes "]") (canon_items (items_view l.fn.items.items))
+    ≡ with_left (string_bytes l.out) (codes "]") l.place (canon_items (items_view (drop l.place l.fn.items.items)))
 
 -- what is written and the parts that are left make the object
 abbrev pub invariant-write_members-members : goal.invariant-write_members-members
 invariant-write_members-members l =
-    whole (string_bytes l.fn.out) (codes "{") (codes "}") (texts_in_turn (map pair_of l.fn.members.items)) ≡ with_left (string_bytes l.out) (codes "}") l.place (texts_in_turn (map pair_of (drop l.place l.fn.members.items)))
+    whole (string_bytes l.fn.out) (codes "{") (codes "}") (texts_in_turn (map pair_of l.fn.members.items))
+    ≡ with_left (string_bytes l.out) (codes "}") l.place
+    (texts_in_turn (map pair_of (drop l.place l.fn.members.items)))

@@ -14,5 +14,7 @@ members-preserved c =
     let spelled = c.as_str-name.ensures.value in
     let are : c.in_ok-units.units.items ≡ utf16_units c.as_str-name.result.now = search rules in
     l.invariant
-    ∙ ap (λ left. by_units left (entries_of l.sorted.entries)) (members_from all l.member-index c.member-item.result (omega arith) c.member-item.is)
-    ∙ members-inserted _ _ _ _ _ _ (members_view (drop (l.member-index + 1) all)) c.in_ok-insert.ensures.entries (are ∙ ap utf16_units spelled) (ap (λ name. (name, view c.member-item.result.1)) spelled)
+    ∙ ap (λ left. by_units left (entries_of l.sorted.entries))
+    (members_from all l.member-index c.member-item.result (omega arith) c.member-item.is)
+    ∙ members-inserted _ _ _ _ _ _ (members_view (drop (l.member-index + 1) all)) c.in_ok-insert.ensures.entries
+    (are ∙ ap utf16_units spelled) (ap (λ name. (name, view c.member-item.result.1)) spelled)

@@ -7,4 +7,5 @@ use Rattle.sig_json.proofs.canonical_form.sorted_members.Given as goal
 -- the members so far are sorted, and those that are left are to go in
 abbrev pub invariant-members : goal.invariant-members
 invariant-members l =
-    by_units (members_view l.fn.members.items) [] ≡ by_units (members_view (drop l.member-index l.member-items)) (entries_of l.sorted.entries)
+    by_units (members_view l.fn.members.items) []
+    ≡ by_units (members_view (drop l.member-index l.member-items)) (entries_of l.sorted.entries)

@@ -14,12 +14,14 @@ decreases-are_same_items l = 2 * items_depth (items_view l.a.now.items) + 1
 abbrev pub decreases-are_same_members : goal.decreases-are_same_members
 decreases-are_same_members l = 2 * members_depth (members_view l.a.now.items) + 1
 
--- the lists are equal exactly where they are from this place on
+-- the lists are equal if and only if they are from this place on
 abbrev pub invariant-are_same_items-items : goal.invariant-are_same_items-items
 invariant-are_same_items-items l =
-    ((items_view l.fn.a.items ≡ items_view l.fn.b.items) ↔ SameFrom l.fn.a.items l.fn.b.items l.place) × (length l.fn.a.items ≡ length l.fn.b.items)
+    ((items_view l.fn.a.items ≡ items_view l.fn.b.items) ↔ SameFrom l.fn.a.items l.fn.b.items l.place)
+    × (length l.fn.a.items ≡ length l.fn.b.items)
 
--- the objects are equal exactly where they are from this place on
+-- the objects are equal if and only if they are from this place on
 abbrev pub invariant-are_same_members-members : goal.invariant-are_same_members-members
 invariant-are_same_members-members l =
-    ((members_view l.fn.a.items ≡ members_view l.fn.b.items) ↔ SameMembersFrom l.fn.a.items l.fn.b.items l.place) × (length l.fn.a.items ≡ length l.fn.b.items)
+    ((members_view l.fn.a.items ≡ members_view l.fn.b.items) ↔ SameMembersFrom l.fn.a.items l.fn.b.items l.place)
+    × (length l.fn.a.items ≡ length l.fn.b.items)

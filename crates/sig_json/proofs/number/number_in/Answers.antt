@@ -19,4 +19,5 @@ returns-else-has_minus c =
     let text = c.as_bytes-bytes.result.now in
     let none : (get_or text 0 0 == 45) ≡ false = sym c.if-has_minus.ensures.value in
     let meant : number_from false (scan text) ≡ number_of text = rw none in
-    c.unsigned.ensures ∙ ap (number_from false) c.scan-else-has_minus.ensures.parts ∙ meant ∙ ap number_of c.as_bytes-bytes.ensures.value
+    c.unsigned.ensures ∙ ap (number_from false) c.scan-else-has_minus.ensures.parts ∙ meant
+    ∙ ap number_of c.as_bytes-bytes.ensures.value

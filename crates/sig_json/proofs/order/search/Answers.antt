@@ -13,4 +13,5 @@ returns c =
     let facts = c.binary_search_by.ensures in
     let compared : Entry → Ordering = λ e. slice_cmp nat_cmp (string_bytes e.0) c.args.name.now in
     let by_name = facts.position compared (always_returns_same _ _ _ (λ a r g called. (search rules, search rules))) in
-    rw (← c.deref.ensures.value) (searched c.args.name.now _ _ (rw c.deref.ensures.value c.requires) facts.bound by_name)
+    rw (← c.deref.ensures.value) (searched c.args.name.now _ _ (rw c.deref.ensures.value c.requires) facts.bound
+    by_name)

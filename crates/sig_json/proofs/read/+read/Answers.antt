@@ -4,7 +4,9 @@ use Rattle.json.specs.Json.{value, after_end_array, read_key}
 use Rattle.json.specs.Reads.{token_of}
 use Rattle.json.specs.Token.{Token}
 use Rattle.serde_json.specs.Read.{of_json, converted}
-use Rattle.sig_json.proofs.Tokens.{null_means, number_means, number_refused, text_means, array_too_deep, object_too_deep, list_refused, object_step, object_refused_at_key, object_refused_at_value, ordered_end}
+use Rattle.sig_json.proofs.Tokens.{null_means, number_means, number_refused, text_means, array_too_deep}
+use Rattle.sig_json.proofs.Tokens.{object_too_deep, list_refused, object_step, object_refused_at_key}
+use Rattle.sig_json.proofs.Tokens.{object_refused_at_value, ordered_end}
 use Rattle.sig_json.proofs.read.+read.Goals as goal
 
 pub read_items-returns-in_err-item-clause-err : goal.read_items-returns-in_err-item-clause-err
@@ -70,5 +72,6 @@ read_value-returns-in_ok-from_str-in-String-clause-ok t c =
 pub read_value-returns-in-EndObject-clause-err : goal.read_value-returns-in-EndObject-clause-err
 read_value-returns-in-EndObject-clause-err t c refused =
     let first : c.args.reader.now ≡ token_of c.in_ok-token.token ∷ c.next.new.self = grind arith in
-    let none : value c.args.depth c.args.reader.now ≡ None = rw (value_is c.args.depth c.args.reader.now, first) (grind arith) in
+    let none : value c.args.depth c.args.reader.now ≡ None =
+    rw (value_is c.args.depth c.args.reader.now, first) (grind arith) in
     ap (converted of_json) none

@@ -6,7 +6,8 @@ use Rattle.std.proofs.lemmas.Slice.Eq.{bytes_eq-Decides}
 use Rattle.std.specs.Bool.{Decides}
 use Rattle.std.specs.Cmp.{IsEquivalence, booleans_Decides}
 use Rattle.std.specs.Str.{bytes_eq}
-use Rattle.serde_json.specs.Data.{Num, unsigned, negative, float, Data, null, boolean, number, string, array, object, Items, no_items, item, Members, no_members, member}
+use Rattle.serde_json.specs.Data.{Num, unsigned, negative, float, Data, null, boolean, number, string, array, object}
+use Rattle.serde_json.specs.Data.{Items, no_items, item, Members, no_members, member}
 use Rattle.serde_json.specs.Find.{is_float}
 use Rattle.serde_json.specs.Written.{has_float, items_have_float, members_have_float}
 use Rattle.sig_json.specs.SameTree.{same_number, same_tree, same_items, same_members}
@@ -42,7 +43,8 @@ mutual
   same_members_is (member k d ms) (member l e ns) same =
       let parts = and_parts (bytes_eq k l) (same_tree d e && same_members ms ns) same in
       let values = and_parts (same_tree d e) (same_members ms ns) parts.1 in
-      ap (λ name. member name d ms) ((bytes_eq-Decides k l).0 parts.0) ∙ ap₂ (member l) (same_tree_is d e values.0) (same_members_is ms ns values.1)
+      ap (λ name. member name d ms) ((bytes_eq-Decides k l).0 parts.0)
+      ∙ ap₂ (member l) (same_tree_is d e values.0) (same_members_is ms ns values.1)
   same_members_is ms ns same = absurd (true≢false (sym same))
 
 -- ---- a tree without floats is the same as itself
@@ -87,8 +89,10 @@ documents_equiv =
       symm = λ one other. same_from_decides _ _ (tells one other) (turned other one);
       congr = λ one other third same. ap (λ tree. same_tree tree (document_tree third)) ((tells one other).0 same);
     } where
-      tells : (one other : Document) → Decides (same_tree (document_tree one) (document_tree other)) (document_tree one ≡ document_tree other)
+      tells : (one other : Document)
+          → Decides (same_tree (document_tree one) (document_tree other)) (document_tree one ≡ document_tree other)
       tells one other = same_tree_exact (document_tree one) (document_tree other) one.without_float
 
-      turned : (one other : Document) → Decides (same_tree (document_tree one) (document_tree other)) (document_tree other ≡ document_tree one)
+      turned : (one other : Document)
+          → Decides (same_tree (document_tree one) (document_tree other)) (document_tree other ≡ document_tree one)
       turned one other = ((λ same. sym ((tells one other).0 same)), (λ same. (tells one other).1 (sym same)))
