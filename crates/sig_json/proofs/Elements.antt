@@ -1,22 +1,27 @@
--- A list read element by element.
-use Rattle.std.proofs.Common.{◌≡◌, ℕ, zero, suc, ◌<◌, ◌+◌, List, [], ◌∷◌, ◌++◌, length, map, take, Option, Some, None}
-use Rattle.std.proofs.Common.{option_map, refl, sym, ap, ◌∙◌, arith, add-one}
-use Rattle.std.proofs.Math.Seq.{take-length}
+-- A list read element by element: what is read so far, and the elements that are left.
+use Rattle.std.proofs.Common.{◌≡◌, ℕ, zero, suc, ◌<◌, ◌+◌, List, [], ◌∷◌, ◌++◌, length, map, drop, get_or, Option}
+use Rattle.std.proofs.Common.{Some, None}
+use Rattle.std.proofs.Common.{false, refl, sym, ap, subst, ◌∙◌, arith, append_assoc, append-nil}
 use Rattle.std.proofs.lemmas.List.{map-append}
-use Rattle.std.specs.Option.{option_and_then}
-use Rattle.sig_base.proofs.OptionSteps.{bind_is}
 use Rattle.sig_base.specs.OptionSteps.{◌>>=◌}
-use Rattle.serde_json.specs.Data.{Data, null, boolean, number, string, array, object, Items, no_items, item}
-use Rattle.serde_json.specs.Find.{at, get_item}
-use Rattle.sig_json.specs.List.{items_list, list_of}
+use Rattle.serde_json.specs.Data.{Data, null, boolean, number, string, array, object, Items}
+use Rattle.serde_json.specs.Find.{as_array}
+use Rattle.serde_json.specs.Written.{has_float}
+use Rattle.sig_json.proofs.ByKind.{as_array_is}
+use Rattle.sig_json.proofs.Lists.{items_from, none_left}
+use Rattle.sig_json.proofs.SameTrees.{items_floatless_at}
+use Rattle.sig_json.specs.List.{items_list}
 use Rattle.sig_json.specs.Member.{each, list_each}
+use Rattle.sig_json.specs.Named.{IsNamed, AreNamed}
 use Rattle.sig_json.specs.SeenAs.{SeenAs}
+use Rattle.sig_json.specs.View.{view, items_view}
+use Rattle.sig_json.specs.declared.tree.Tree.{Tree}
 
--- the first elements of a list, read
-abbrev pub each_front : {A : Type 0} → (Data → Option A) → ℕ → Data → Option (List A)
-each_front kind n d = list_of d >>= λ ds. each kind (take n ds)
+-- what is read so far, and behind it what is left
+abbrev pub read_with : {A : Type 0} → (Data → Option A) → List A → Items → Option (List A)
+read_with kind done left = each kind (items_list left) >>= λ rest. Some (done ++ rest)
 
-pub list_each-no_list : {A : Type 0} → (kind : Data → Option A) (d : Data) → None ≡ option_map length (list_of d)
+pub list_each-no_list : {A : Type 0} → (kind : Data → Option A) (d : Data) → None ≡ as_array d
     → list_each kind d ≡ None
 unfolding list_each
 list_each-no_list kind null e = refl
@@ -26,103 +31,76 @@ list_each-no_list kind (string s) e = refl
 list_each-no_list kind (array ds) e = cc
 list_each-no_list kind (object ms) e = refl
 
-pub each_front-zero : {A : Type 0} → (kind : Data → Option A) (d : Data) (n : ℕ)
-    → Some n ≡ option_map length (list_of d) → each_front kind 0 d ≡ Some []
-each_front-zero kind null n e = cc
-each_front-zero kind (boolean b) n e = cc
-each_front-zero kind (number m) n e = cc
-each_front-zero kind (string s) n e = cc
-each_front-zero kind (array ds) n e = refl
-each_front-zero kind (object ms) n e = cc
+nothing_before : {A : Type 0} → (found : Option (List A)) → found ≡ (found >>= λ rest. Some ([] ++ rest))
+nothing_before None = refl
+nothing_before (Some rest) = refl
 
-bind_none : {A B : Type 0} → (found : Option A) (f : A → Option B) → ((x : A) → f x ≡ None)
-    → option_and_then f found ≡ None
-bind_none None f e = refl
-bind_none (Some x) f e = e x
+pub list_each-start : {X : Type 0} → (seen_as : SeenAs X) (kind : Data → Option seen_as.Value) (d : Data)
+    (values : List Tree) (found : List X) → found ≡ [] → Some (items_view values) ≡ as_array d
+    → list_each kind d ≡ read_with kind (map seen_as.item found) (items_view values)
+unfolding list_each
+list_each-start seen_as kind d values found none e =
+    rw (as_array_is d (items_view values) e, none) (nothing_before (each kind (items_list (items_view values))))
 
-each-more : {A : Type 0} → (kind : Data → Option A) (ds : Items) (i : ℕ) (d : Data) (x : A) (found : List A)
-    → get_item i ds ≡ Some d → kind d ≡ Some x → each kind (take i (items_list ds)) ≡ Some found
-    → each kind (take (suc i) (items_list ds)) ≡ Some (found ++ x ∷ [])
-each-more kind no_items i d x found here read front = cc
-each-more kind (item v ds) zero d x found here read front =
-    let same : v ≡ d = cc in
-    let none : [] ≡ found = cc in rw (same, read) (ap (λ xs. Some (xs ++ x ∷ [])) none)
-each-more kind (item v ds) (suc i) d x found here read front =
-    let first = bind_is (kind v) _ found front in
-    let rest = bind_is (each kind (take i (items_list ds))) _ found first.2 in
-    let more = each-more kind ds i d x rest.0 here read rest.1 in
-    let whole : first.0 ∷ rest.0 ≡ found = cc in rw (first.1, more) (ap (λ xs. Some (xs ++ x ∷ [])) whole)
-
-each_front-more : {A : Type 0} → (kind : Data → Option A) (d element : Data) (i : ℕ) (x : A) (found : List A)
-    → Some element ≡ at i d → kind element ≡ Some x → each_front kind i d ≡ Some found
-    → each_front kind (i + 1) d ≡ Some (found ++ x ∷ [])
-each_front-more kind null element i x found here read front = cc
-each_front-more kind (boolean b) element i x found here read front = cc
-each_front-more kind (number m) element i x found here read front = cc
-each_front-more kind (string s) element i x found here read front = cc
-each_front-more kind (array ds) element i x found here read front =
-    rw add-one (each-more kind ds i element x found (sym here) read front)
-each_front-more kind (object ms) element i x found here read front = cc
+one_more : {A : Type 0} → (done : List A) (x : A) (found : Option (List A))
+    → (found >>= (λ xs. Some (x ∷ xs)) >>= λ rest. Some (done ++ rest))
+    ≡ (found >>= λ rest. Some ((done ++ x ∷ []) ++ rest))
+one_more done x None = refl
+one_more done x (Some rest) = ap Some (sym (append_assoc done (x ∷ []) rest))
 
 -- one item more is pushed behind those that were read
-pub each_front-pushed : {X : Type 0}
-    → (seen_as : SeenAs X) (kind : Data → Option seen_as.Value) (d element : Data) (i : ℕ) (x : X)
-    (found after : List X)
-    → Some element ≡ at i d → kind element ≡ Some (seen_as.item x) → after ≡ found ++ x ∷ []
-    → each_front kind i d ≡ Some (map seen_as.item found) → each_front kind (i + 1) d ≡ Some (map seen_as.item after)
-each_front-pushed seen_as kind d element i x found after here read pushed front =
-    each_front-more kind d element i (seen_as.item x) (map seen_as.item found) here read front
-    ∙ ap Some (rw (pushed, map-append seen_as.item found (x ∷ [])) refl)
+pub list_each-more : {X : Type 0} → (seen_as : SeenAs X) (kind : Data → Option seen_as.Value) (d : Data)
+    (values : List Tree) (i : ℕ) (value : Tree) (x : X) (found after : List X)
+    → i < length values → value ≡ get_or values i value → kind (view value) ≡ Some (seen_as.item x)
+    → after ≡ found ++ x ∷ []
+    → list_each kind d ≡ read_with kind (map seen_as.item found) (items_view (drop i values))
+    → list_each kind d ≡ read_with kind (map seen_as.item after) (items_view (drop (i + 1) values))
+list_each-more seen_as kind d values i value x found after h is read pushed so_far =
+    so_far
+    ∙ rw (items_from values i value h is, read, pushed, map-append seen_as.item found (x ∷ []))
+    (one_more (map seen_as.item found) (seen_as.item x)
+    (each kind (items_list (items_view (drop (i + 1) values)))))
 
-each_front-whole : {A : Type 0} → (kind : Data → Option A) (d : Data) (n : ℕ) (found : List A)
-    → Some n ≡ option_map length (list_of d) → each_front kind n d ≡ Some found → list_each kind d ≡ Some found
-unfolding list_each
-each_front-whole kind null n found e front = cc
-each_front-whole kind (boolean b) n found e front = cc
-each_front-whole kind (number m) n found e front = cc
-each_front-whole kind (string s) n found e front = cc
-each_front-whole kind (array ds) n found e front =
-    let whole : n ≡ length (items_list ds) = cc in rw (whole, take-length (items_list ds)) at front
-each_front-whole kind (object ms) n found e front = cc
-
--- every item was read
-pub each_front-read : {X : Type 0}
-    → (seen_as : SeenAs X) (kind : Data → Option seen_as.Value) (d : Data) (n : ℕ) (found : List X)
-    → Some n ≡ option_map length (list_of d) → each_front kind n d ≡ Some (map seen_as.item found)
+pub list_each-end : {X : Type 0} → (seen_as : SeenAs X) (kind : Data → Option seen_as.Value) (d : Data)
+    (values : List Tree) (i : ℕ) (found : List X) → i ≡ length values
+    → list_each kind d ≡ read_with kind (map seen_as.item found) (items_view (drop i values))
     → list_each kind d ≡ Some (seen_as.list found)
-each_front-read seen_as kind d n found e front =
-    each_front-whole kind d n (map seen_as.item found) e front ∙ ap Some (seen_as.list_is found)
+list_each-end seen_as kind d values i found end so_far =
+    so_far ∙ rw (none_left values i end) (ap Some (append-nil (map seen_as.item found) ∙ seen_as.list_is found))
 
-each-refused : {A : Type 0} → (kind : Data → Option A) (ds : Items) (i : ℕ) (d : Data) → get_item i ds ≡ Some d
-    → kind d ≡ None → each kind (items_list ds) ≡ None
-each-refused kind no_items i d here refused = cc
-each-refused kind (item v ds) zero d here refused = let same : v ≡ d = cc in rw (same, refused) refl
-each-refused kind (item v ds) (suc i) d here refused =
-    rw (each-refused kind ds i d here refused) (bind_none (kind v) _ (λ x. refl))
+pub list_each-refused : {A : Type 0} → (kind : Data → Option A) (d : Data) (values : List Tree) (i : ℕ) (value : Tree)
+    (done : List A) → i < length values → value ≡ get_or values i value → kind (view value) ≡ None
+    → list_each kind d ≡ read_with kind done (items_view (drop i values)) → list_each kind d ≡ None
+list_each-refused kind d values i value done h is refused so_far =
+    so_far ∙ rw (items_from values i value h is, refused) refl
 
-pub list_each-refused : {A : Type 0} → (kind : Data → Option A) (d element : Data) (i : ℕ) → Some element ≡ at i d
-    → kind element ≡ None → list_each kind d ≡ None
-unfolding list_each
-list_each-refused kind null element i here refused = cc
-list_each-refused kind (boolean b) element i here refused = cc
-list_each-refused kind (number m) element i here refused = cc
-list_each-refused kind (string s) element i here refused = cc
-list_each-refused kind (array ds) element i here refused = each-refused kind ds i element (sym here) refused
-list_each-refused kind (object ms) element i here refused = cc
+-- ---- an element is a view as the list is
 
-item_below : (ds : Items) (i : ℕ) → i < length (items_list ds) → None ≡ get_item i ds → ⊥
-item_below no_items i h e = omega arith
-item_below (item d ds) zero h e = cc
-item_below (item d ds) (suc i) h e = item_below ds i (omega arith) e
+pub element_floatless : (d : Data) (values : List Tree) (i : ℕ) (value : Tree) → has_float d ≡ false
+    → Some (items_view values) ≡ as_array d → i < length values → value ≡ get_or values i value
+    → has_float (view value) ≡ false
+element_floatless d values i value whole e h is =
+    items_floatless_at values i value h is
+    (subst (λ t. has_float t ≡ false) (as_array_is d (items_view values) e) whole)
 
--- a place below the length has an element
-pub at_below : (d : Data) (i n : ℕ) → i < n → Some n ≡ option_map length (list_of d) → None ≡ at i d → ⊥
-at_below null i n h e gone = cc
-at_below (boolean b) i n h e gone = cc
-at_below (number m) i n h e gone = cc
-at_below (string s) i n h e gone = cc
-at_below (array ds) i n h e gone = let whole : n ≡ length (items_list ds) = cc in item_below ds i (rw (← whole) h) gone
-at_below (object ms) i n h e gone = cc
+items_named_at : (values : List Tree) (i : ℕ) (value : Tree) → i < length values → value ≡ get_or values i value
+    → AreNamed (items_view values) → IsNamed (view value)
+items_named_at [] i value h is named = absurd (omega arith)
+items_named_at (first ∷ values) zero value h is named = rw is named.0
+items_named_at (first ∷ values) (suc i) value h is named = items_named_at values i value (omega arith) is named.1
 
-pub ruleset elements =
-    (list_each-no_list, each_front-zero, each_front-pushed, each_front-read, list_each-refused, at_below)
+pub element_named : (d : Data) (values : List Tree) (i : ℕ) (value : Tree) → IsNamed d
+    → Some (items_view values) ≡ as_array d → i < length values → value ≡ get_or values i value
+    → IsNamed (view value)
+element_named d values i value named e h is =
+    items_named_at values i value h is (subst IsNamed (as_array_is d (items_view values) e) named)
+
+pub ruleset elements = (
+  list_each-no_list,
+  list_each-start,
+  list_each-more,
+  list_each-end,
+  list_each-refused,
+  element_floatless,
+  element_named,
+)

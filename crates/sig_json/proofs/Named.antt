@@ -24,7 +24,7 @@ use Rattle.serde_json.specs.Data.{Members, no_members, member, put}
 use Rattle.serde_json.specs.Find.{get, at, get_member, get_item, as_object, as_array}
 use Rattle.sig_json.specs.View.{view, items_view, members_view}
 use Rattle.sig_json.specs.declared.tree.Tree.{Tree, Array, Object}
-use Rattle.sig_json.proofs.Building.{put_in, object_unchanged, pushed_in, list_unchanged}
+use Rattle.sig_json.proofs.Building.{put_in, object_unchanged, pushed_in, list_unchanged, building}
 use Rattle.sig_json.proofs.ByKind.{as_object_is}
 use Rattle.sig_json.proofs.ByOrdering.{choice_of_each, holds_of_choice}
 use Rattle.sig_json.proofs.Lists.{items_from}
@@ -207,7 +207,8 @@ list_unchanged_named before after same whole = subst IsNamed (sym (list_unchange
 pub same_named : (d e : Data) → d ≡ e → IsNamed e → IsNamed d
 same_named d e same named = subst IsNamed (sym same) named
 
-pub ruleset named_changes = (put_named, object_unchanged_named, pushed_named, list_unchanged_named)
+-- what a change to a tree leaves as it has to be
+pub ruleset changes = (building, put_named, object_unchanged_named, pushed_named, list_unchanged_named)
 
 pub empty_object_named : (m : Vec (String Global × Tree) Global) → m.items ≡ [] → IsNamed (view (Object m))
 unfolding IsStrictlySortedBy

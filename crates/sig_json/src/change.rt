@@ -11,7 +11,7 @@ use sig_base::OutOfMemory;
 use std::alloc::Global;
 
 /// Sets a member of an object; any other value stays.
-#[tactic(auto, using(crate::proofs::Building::building, crate::proofs::Named::named_changes, crate::proofs::Ordered::in_trees))]
+#[tactic(auto, using(crate::proofs::Named::changes, crate::proofs::Ordered::in_trees))]
 pub(crate) fn put_member(
     alloc: Global,
     tree: &mut Tree,
@@ -32,7 +32,7 @@ pub(crate) fn put_member(
 }
 
 /// Adds an element to a list; any other value stays.
-#[tactic(auto, using(crate::proofs::Building::building, crate::proofs::Named::named_changes))]
+#[tactic(auto, using(crate::proofs::Named::changes))]
 pub(crate) fn push_last(tree: &mut Tree, element: Tree) -> Result<(), OutOfMemory>
     ensures ok { OnOk result (view tree.new ≡ with_last (view element) (view tree.old)) }
     ensures err { OnErr result (view tree.new ≡ view tree.old) }

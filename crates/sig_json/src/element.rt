@@ -38,15 +38,12 @@ fn read_list<T: ElementReader>(
     ensures { Answers MemberError.OutOfMemory T.seen_as.list result
         (or_member (list_each T.meaning (tree list.entry))) }
 {
-    let Some(len) = list.list_len() else {
+    let Some(elements) = list.value.as_array() else {
         return Err(MemberError::Member);
     };
     let mut found = Register::new(alloc);
-    'elements: for place in 0..len {
-        let Some(element) = list.item(place) else {
-            return Err(MemberError::Member);
-        };
-        found.push(T::read(alloc, element)?)?;
+    'elements: for element in elements {
+        found.push(T::read(alloc, Json { value: element })?)?;
     }
     Ok(found)
 }
