@@ -23,6 +23,10 @@ pub mod TextMaps
 pub mod Units
 pub mod MemberOrder
 pub mod Named
+pub mod Only
+pub mod Skipping
+pub mod Keeping
+pub mod KeptReading
 pub mod MemberTexts
 pub mod Large
 -- what is found in a tree that members were put into

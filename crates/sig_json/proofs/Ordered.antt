@@ -31,7 +31,7 @@ use Rattle.sig_json.specs.declared.tree.Tree.{Tree, Array, Object}
 abbrev compare : List ℕ → List ℕ → Ordering
 compare = slice_cmp nat_cmp
 
-same_from_tie : (name other : List ℕ) → compare name other ≡ Equal → name ≡ other
+pub same_from_tie : (name other : List ℕ) → compare name other ≡ Equal → name ≡ other
 same_from_tie name other tie = (bytes_eq-Decides name other).0 (sym (is_eq-slice_cmp name other) ∙ ap is_eq tie)
 
 turned : (name other : List ℕ) (o : Ordering) → compare other name ≡ o → compare name other ≡ ordering_reverse o

@@ -1,11 +1,12 @@
 -- The record of a text is that of the text's tree.
-use Rattle.std.proofs.Common.{◌≡◌, ℕ, List, Option, Some, None, Result, Ok, Err, refl}
+use Rattle.std.proofs.Common.{◌≡◌, ℕ, List, Option, Some, None, Result, Ok, Err, refl, ap}
 use Rattle.std.specs.Option.{ok_or}
 use Rattle.sig_json.specs.Data.{Data}
 use Rattle.sig_json.specs.declared.error.DocumentError.{DocumentError}
 use Rattle.sig_json.specs.declared.error.JsonError.TheVariants.{Member}
 use Rattle.sig_json.specs.Document.{document_of}
-use Rattle.sig_json.specs.Record.{record_of, record_in}
+use Rattle.sig_json.specs.Only.{only, only_of}
+use Rattle.sig_json.specs.Record.{record_of, record_in, record_with}
 
 ok_or-some : {A : Type 0} → (found : Option A) (x : A) → ok_or found Member ≡ Ok x → found ≡ Some x
 ok_or-some None x read = cc
@@ -27,3 +28,13 @@ pub record_in-read : {A : Type 0} → (kind : Data → Option A) (text : List �
     → document_of text ≡ Ok tree → kind tree ≡ Some x → record_in kind text ≡ Ok x
 unfolding record_in
 record_in-read kind text tree x document read = rw (document, read) refl
+
+-- a reader that looks at members of these names alone reads the same record
+pub record_with-same : {A : Type 0} → (names : List (List ℕ)) (kind : Data → Option A) (text : List ℕ)
+    → ((tree : Data) → kind (only names tree) ≡ kind tree) → record_with names kind text ≡ record_in kind text
+unfolding record_in record_with
+record_with-same names kind text same = by_document (document_of text) where
+  by_document : (document : Result Data DocumentError)
+      → record_of kind (only_of names document) ≡ record_of kind document
+  by_document (Err e) = refl
+  by_document (Ok tree) = ap (λ found. ok_or found Member) (same tree)

@@ -13,6 +13,7 @@ pub mod Members
 pub mod Named
 pub mod NamedProofs
 pub mod Numerals
+pub mod Only
 pub mod OrMember
 pub mod Order
 pub mod Range
@@ -20,6 +21,7 @@ pub mod Record
 pub mod SameTree
 pub mod SameTreeProofs
 pub mod SeenAs
+pub mod Skipped
 pub mod Spells
 pub mod Tree
 pub mod View

@@ -12,6 +12,7 @@ ghost use Rattle.sig_json.specs.Canonical.{Sorted, canon, canon_members, in_brac
 ghost use Rattle.sig_json.specs.Large.{has_large};
 ghost use Rattle.sig_json.specs.List.{list_of};
 ghost use Rattle.sig_json.specs.Named.{IsNamed, NamesAscend};
+ghost use Rattle.sig_json.specs.Only.{is_among, only};
 ghost use Rattle.sig_json.specs.Order.{HasNames, UnitsAscend, IsSorting};
 ghost use Rattle.sig_json.specs.SameTree.{same_tree};
 ghost use Rattle.sig_json.specs.Tree.{document_tree, tree};
@@ -66,6 +67,16 @@ pub fn members_are_set()
         → get name (with_member name value tree) ≡ Some value }
     ensures others { (name other : List ℕ) (value tree : Data) → other ≢ name
         → get other (with_member name value tree) ≡ get other tree }
+{}
+
+/// Of an object that is read for the members of some names, each member of these names is found as in the whole object,
+/// and none of another name. A value that is no object is read whole.
+pub fn members_are_kept()
+    ensures listed { (names : List (List ℕ)) (name : List ℕ) (tree : Data) → IsTrue (is_among names name)
+        → get name (only names tree) ≡ get name tree }
+    ensures others { (names : List (List ℕ)) (name : List ℕ) (tree : Data) → is_among names name ≡ false
+        → get name (only names tree) ≡ None }
+    ensures whole { (names : List (List ℕ)) (tree : Data) → as_object tree ≡ None → only names tree ≡ tree }
 {}
 
 /// An element that is added to a list comes after all that were there.

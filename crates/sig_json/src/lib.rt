@@ -42,6 +42,7 @@ mod equality;
 mod error;
 mod floats;
 mod integer;
+mod kept;
 mod kind;
 pub mod laws;
 mod member;
@@ -51,6 +52,7 @@ mod number;
 mod order;
 mod read;
 mod record;
+mod skip;
 mod tree;
 mod view;
 
@@ -66,5 +68,5 @@ pub use member::{
     required_text, required_u64,
 };
 pub use members::Members;
-pub use record::read_record;
+pub use record::{read_record, read_record_with};
 pub use view::Json;

@@ -16,7 +16,7 @@ use sig_base::OutOfMemory;
 use std::alloc::Global;
 
 /// How deep lists and objects nest at most.
-const MAX_DEPTH: usize = 127;
+pub(crate) const MAX_DEPTH: usize = 127;
 
 /// The tree of a text. Fails with `NotJson` if and only if it has none, unless memory runs out.
 #[tactic(auto, using(crate::proofs::Tokens::whole_texts))]
@@ -38,7 +38,11 @@ pub(crate) fn read_text(alloc: Global, text: &str) -> Result<Tree, ReadError>
 /// The next value, whose lists and objects nest to at most `depth`.
 #[cycle(read)]
 #[tactic(auto, using(crate::proofs::Tokens::values))]
-fn read_value(alloc: Global, reader: &mut Reader<'_>, depth: usize) -> Result<Tree, ReadError>
+pub(crate) fn read_value(
+    alloc: Global,
+    reader: &mut Reader<'_>,
+    depth: usize,
+) -> Result<Tree, ReadError>
     ensures ok { IfOk result (λ t. converted of_json (value depth reader.old) ≡ Some (view t, reader.new)) }
     ensures err { result ≡ Err ReadError.NotJson → converted of_json (value depth reader.old) ≡ None }
     ensures shorter { OnOk result (length reader.new < length reader.old) }
@@ -116,7 +120,7 @@ fn read_members(
 }
 
 /// Adds an element. The first takes room for itself alone: most lists and objects of a large document have no other.
-fn add<T: Drop>(found: &mut Vec<T>, element: T) -> Result<(), OutOfMemory>
+pub(crate) fn add<T: Drop>(found: &mut Vec<T>, element: T) -> Result<(), OutOfMemory>
     ensures { OnOk result (found.new.items ≡ found.old.items ++ element ∷ []) }
 {
     if found.is_empty() {

@@ -1,6 +1,7 @@
 //! A text read as a record of a member table.
 ghost use Rattle.sig_base.specs.Answers.{Answers};
-ghost use Rattle.sig_json.specs.Record.{record_in};
+ghost use Rattle.sig_json.specs.Only.{names_of};
+ghost use Rattle.sig_json.specs.Record.{record_in, record_with};
 
 use crate::document::Document;
 use crate::element::ElementReader;
@@ -17,4 +18,20 @@ pub fn read_record<T: ElementReader>(alloc: Global, text: &[u8]) -> Result<T::It
     let document = Document::read(alloc, text)?;
     let record = T::read(alloc, document.view())?;
     Ok(record)
+}
+
+/// The record of a text whose table has these names: of an object the reader is shown the members of these names alone,
+/// as `Document::read_members` keeps them. Fails as `read_record` does.
+#[tactic(auto, unfolding(crate::specs::Record::record_with))]
+pub fn read_record_with<T: ElementReader>(
+    alloc: Global,
+    text: &[u8],
+    names: &[&str],
+) -> Result<T::Item, JsonError>
+    ensures { Answers JsonError.OutOfMemory T.seen_as.item result
+        (record_with (names_of names.now) T.meaning text.now) }
+{
+    let kept = Document::read_members(alloc, text, names)?;
+    let found = T::read(alloc, kept.view())?;
+    Ok(found)
 }

@@ -1,0 +1,181 @@
+-- An object of whose members some are kept, a member at a time, and the text that it is.
+use Rattle.std.proofs.Common.{◌≡◌, ℕ, ◌-◌, ◌<◌, ◌≤◌, Bool, true, false, not, List, [], ◌∷◌, ◌++◌, length, Some, None}
+use Rattle.std.proofs.Common.{String, Global, string_bytes, refl, sym, ap, subst, ◌∙◌, arith}
+use Rattle.std.proofs.lemmas.Bool.{not_from_false, not_from_true}
+use Rattle.std.proofs.lemmas.Str.{IsUtf8-string_bytes}
+use Rattle.std.specs.List.Sorted.{IsStrictlySortedBy}
+use Rattle.std.specs.Str.{IsUtf8}
+use Rattle.json.proofs.Grammar.{read_key-shorter}
+use Rattle.json.specs.Json.{value, read_key}
+use Rattle.json.specs.Lex.{tokens}
+use Rattle.json.specs.Token.{Token}
+use Rattle.serde_json.specs.Data.{object, Members, no_members, put}
+use Rattle.serde_json.specs.Read.{max_depth, read}
+use Rattle.serde_json.specs.Written.{members_have_float}
+use Rattle.sig_json.proofs.Converted.{member_read, member_refused, key_refused, members_over}
+use Rattle.sig_json.proofs.Named.{ascend-put, keys-put, values-put}
+use Rattle.sig_json.proofs.Only.{where_put_yes, where_put_no, floatless-put}
+use Rattle.sig_json.proofs.Ordered.{gathered_more}
+use Rattle.sig_json.proofs.Skipping.{object_is}
+use Rattle.sig_json.proofs.Tokens.{Means, object_meant, object_refused, text_read, text_and_more, text_refused}
+use Rattle.sig_json.specs.Gathered.{Entry, gathered}
+use Rattle.sig_json.specs.Named.{IsNamed, NamesAscend, HasNamedValues}
+use Rattle.sig_json.specs.Only.{is_among, members_where}
+use Rattle.sig_json.specs.Skipped.{PassesValue, IsKept, KeepsMembers, KeepsOf, value_meant, members_meant}
+use Rattle.sig_json.specs.View.{view, members_view}
+use Rattle.sig_json.specs.declared.tree.Tree.{Tree}
+
+-- ---- members so far
+
+abbrev others : List (List ℕ) → List ℕ → Bool
+others names name = not (is_among names name)
+
+-- the object is what was read, put one after another, and what the tokens that are left put into it
+pub record KeptSoFar (names : List (List ℕ)) (depth : ℕ) (start left : List Token) (found : List Entry) : Type 0 where
+  pub all : Members
+  pub turns : ℕ
+  pub enough : length left ≤ turns
+  pub meant : object_meant depth (length start) start no_members ≡ object_meant depth turns left all
+  pub below : length left ≤ length start
+  pub part : IsKept names all (gathered found)
+  pub ascend : NamesAscend (gathered found)
+  pub named : HasNamedValues (gathered found)
+
+pub kept_start : (names : List (List ℕ)) (depth : ℕ) (start : List Token) (found : List Entry) → found ≡ []
+    → KeptSoFar names depth start start found
+unfolding IsStrictlySortedBy
+kept_start names depth start found none =
+    rw none (record {
+      all = no_members;
+      turns = length start;
+      enough = omega arith;
+      meant = refl;
+      below = omega arith;
+      part = record { ascend = tt; are = refl; whole = refl };
+      ascend = (tt, tt);
+      named = tt;
+    })
+
+-- one more, of a name that is listed
+pub kept_more : (names : List (List ℕ)) (depth : ℕ) (start left inner next : List Token) (found more : List Entry)
+    (k : List ℕ) (name : String Global) (tree : Tree) → KeptSoFar names depth start left found
+    → read_key left ≡ Some (Some k, inner) → is_among names k ≡ true → string_bytes name ≡ k
+    → Means depth inner next (view tree) → length next < length inner → IsNamed (view tree)
+    → more ≡ found ++ (name, tree) ∷ []
+    → KeptSoFar names depth start next more
+kept_more names depth start left inner next found more k name tree so_far key listed same means less one pushed =
+    let d = view tree in
+    let all = so_far.all in
+    let within = read_key-shorter left (Some k) inner key in
+    let put_in : gathered more ≡ put k d (gathered found) = rw
+    (pushed, gathered_more found (name, tree) no_members, same) refl in
+    let utf8 = subst IsUtf8 same (IsUtf8-string_bytes name) in
+    record {
+      all = put k d all;
+      turns = so_far.turns - 1;
+      enough = omega (arith, so_far.enough);
+      meant = so_far.meant
+          ∙ member_read (value depth) all so_far.turns k left inner next d (omega (arith, so_far.enough)) key means;
+      below = omega (arith, so_far.below);
+      part = record {
+        ascend = keys-put k d all so_far.part.ascend;
+        are = where_put_yes (is_among names) k d all listed so_far.part.ascend ∙ ap (put k d) so_far.part.are
+            ∙ sym put_in;
+        whole = ap members_have_float (where_put_no (others names) k d all (not_from_true (is_among names k) listed))
+            ∙ so_far.part.whole;
+      };
+      ascend = subst NamesAscend (sym put_in) (ascend-put k d (gathered found) utf8 so_far.ascend);
+      named = subst HasNamedValues (sym put_in) (values-put k d (gathered found) one so_far.named);
+    }
+
+-- one more, of another name
+pub kept_same : (names : List (List ℕ)) (depth : ℕ) (start left inner next : List Token) (found : List Entry)
+    (k : List ℕ) → KeptSoFar names depth start left found
+    → read_key left ≡ Some (Some k, inner) → is_among names k ≡ false → PassesValue depth inner next
+    → length next < length inner → KeptSoFar names depth start next found
+kept_same names depth start left inner next found k so_far key other passed less =
+    let d = passed.value in
+    let all = so_far.all in
+    let within = read_key-shorter left (Some k) inner key in
+    let goes_in = where_put_yes (others names) k d all (not_from_false (is_among names k) other) so_far.part.ascend in
+    record {
+      all = put k d all;
+      turns = so_far.turns - 1;
+      enough = omega (arith, so_far.enough);
+      meant = so_far.meant
+          ∙ member_read (value depth) all so_far.turns k left inner next d (omega (arith, so_far.enough)) key passed.is;
+      below = omega (arith, so_far.below);
+      part = record {
+        ascend = keys-put k d all so_far.part.ascend;
+        are = where_put_no (is_among names) k d all other ∙ so_far.part.are;
+        whole = ap members_have_float goes_in
+            ∙ floatless-put k d (members_where (others names) all) passed.whole so_far.part.whole;
+      };
+      ascend = so_far.ascend;
+      named = so_far.named;
+    }
+
+pub kept_key_fault : (names : List (List ℕ)) (depth : ℕ) (start left : List Token) (found : List Entry)
+    → KeptSoFar names depth start left found → read_key left ≡ None → members_meant depth start ≡ None
+kept_key_fault names depth start left found so_far none = so_far.meant
+    ∙ key_refused (value depth) so_far.all so_far.turns left none
+
+pub kept_member_fault : (names : List (List ℕ)) (depth : ℕ) (start left inner : List Token) (found : List Entry)
+    (k : List ℕ) → KeptSoFar names depth start left found → read_key left ≡ Some (Some k, inner)
+    → value_meant depth inner ≡ None → members_meant depth start ≡ None
+kept_member_fault names depth start left inner found k so_far key none = so_far.meant
+    ∙ member_refused (value depth) so_far.all so_far.turns k left inner key none
+
+pub kept_end : (names : List (List ℕ)) (depth : ℕ) (start left rest : List Token) (found ordered : List Entry)
+    → KeptSoFar names depth start left found → read_key left ≡ Some (None, rest)
+    → members_view ordered ≡ gathered found
+    → KeepsMembers names depth start rest (members_view ordered)
+kept_end names depth start left rest found ordered so_far end same =
+    record {
+      all = so_far.all;
+      are = so_far.meant ∙ members_over (value depth) so_far.all so_far.turns left rest so_far.enough end;
+      part = record { ascend = so_far.part.ascend; are = so_far.part.are ∙ sym same; whole = so_far.part.whole };
+    }
+
+pub kept_named : (names : List (List ℕ)) (depth : ℕ) (start left : List Token) (found ordered : List Entry)
+    → KeptSoFar names depth start left found → members_view ordered ≡ gathered found
+    → NamesAscend (members_view ordered) × HasNamedValues (members_view ordered)
+kept_named names depth start left found ordered so_far same = rw same (so_far.ascend, so_far.named)
+
+pub ruleset kept = (
+  kept_start,
+  kept_more,
+  kept_same,
+  kept_key_fault,
+  kept_member_fault,
+  kept_end,
+  kept_named,
+  read_key-shorter,
+)
+
+-- ---- the whole text
+
+pub kept_text : (names : List (List ℕ)) (text : List ℕ) (inner : List Token) (kept : Members)
+    → tokens text ≡ Token.begin_object ∷ inner → KeepsMembers names (max_depth - 1) inner [] kept
+    → KeepsOf names text kept
+kept_text names text inner kept begins keeps =
+    record {
+      all = keeps.all;
+      is = text_read text (object keeps.all)
+          (object_is max_depth (tokens text) inner [] keeps.all (omega arith) begins keeps.are);
+      part = keeps.part;
+    }
+
+pub kept_and_more : (names : List (List ℕ)) (text : List ℕ) (inner rest : List Token) (t : Token) (kept : Members)
+    → tokens text ≡ Token.begin_object ∷ inner → KeepsMembers names (max_depth - 1) inner (t ∷ rest) kept
+    → read text ≡ None
+kept_and_more names text inner rest t kept begins keeps =
+    text_and_more text (object keeps.all) t rest
+    (object_is max_depth (tokens text) inner (t ∷ rest) keeps.all (omega arith) begins keeps.are)
+
+pub kept_refused : (text : List ℕ) (inner : List Token) → tokens text ≡ Token.begin_object ∷ inner
+    → members_meant (max_depth - 1) inner ≡ None → read text ≡ None
+kept_refused text inner begins none = text_refused text
+    (object_refused max_depth (tokens text) inner (omega arith) begins none)
+
+pub ruleset texts = (kept_text, kept_and_more, kept_refused)

@@ -1,0 +1,120 @@
+-- *Document* with the members of some names alone: by the outcome of each step of its reading, and by a cut through
+-- the whole tree.
+use Rattle.std.proofs.Common.{◌≡◌, ℕ, Bool, true, false, cond, List, [], ◌∷◌, Some, None, Ok, Err, IsUtf8, String}
+use Rattle.std.proofs.Common.{Vec, Global, string_bytes, refl, sym, ap, subst, ◌∙◌}
+use Rattle.std.proofs.lemmas.Bool.{both_ways}
+use Rattle.std.specs.List.{filter}
+use Rattle.std.specs.Prelude.{if◌then◌else◌}
+use Rattle.serde_json.specs.Data.{Data, object, member}
+use Rattle.serde_json.specs.Find.{as_object}
+use Rattle.serde_json.specs.Read.{read}
+use Rattle.serde_json.specs.Written.{has_float, members_have_float}
+use Rattle.serde_json.specs.declared.number.Number.{Number}
+use Rattle.sig_json.proofs.Only.{floatless-where, floatless-both, floatless-only, named-only, only-same}
+use Rattle.sig_json.proofs.Reading.{document_of-not_utf8, document_of-unread, document_of-float, document_of-read}
+use Rattle.sig_json.proofs.Trees.{view-Null, view-Bool, view-Number, view-Text, view-Array, view-Object}
+use Rattle.sig_json.specs.Document.{document_of}
+use Rattle.sig_json.specs.Gathered.{Entry}
+use Rattle.sig_json.specs.Named.{IsNamed, NamesAscend, HasNamedValues}
+use Rattle.sig_json.specs.Only.{is_among, members_where, only, only_of}
+use Rattle.sig_json.specs.Skipped.{KeepsOf}
+use Rattle.sig_json.specs.View.{view, members_view}
+use Rattle.sig_json.specs.declared.error.DocumentError.TheVariants.{NotJson, Float}
+use Rattle.sig_json.specs.declared.tree.Tree.{Tree, Null, Bool as Truth, Number as Numeral, Text, Array, Object}
+
+module _ (names : List (List ℕ)) (text : List ℕ) where
+  -- ---- the whole text
+
+  pub only_not_utf8 : (IsUtf8 text → ⊥) → only_of names (document_of text) ≡ Err NotJson
+  only_not_utf8 not_utf8 = ap (only_of names) (document_of-not_utf8 text not_utf8)
+
+  pub only_unread : IsUtf8 text → read text ≡ None → only_of names (document_of text) ≡ Err NotJson
+  only_unread utf8 none = ap (only_of names) (document_of-unread text utf8 none)
+
+  pub only_float : (d : Data) → IsUtf8 text → read text ≡ Some d → has_float d ≡ true
+      → only_of names (document_of text) ≡ Err Float
+  only_float d utf8 is float = ap (only_of names) (document_of-float text d utf8 is float)
+
+  pub only_read : (d e : Data) → IsUtf8 text → read text ≡ Some d → has_float d ≡ false → e ≡ only names d
+      → only_of names (document_of text) ≡ Ok e
+  only_read d e utf8 is none cut = ap (only_of names) (document_of-read text d utf8 is none) ∙ ap Ok (sym cut)
+
+  -- ---- what was kept of it
+
+  pub kept_read : (v : Vec Entry Global) → IsUtf8 text → KeepsOf names text (members_view v.items)
+      → has_float (view (Object v)) ≡ false → only_of names (document_of text) ≡ Ok (view (Object v))
+  unfolding only
+  kept_read v utf8 keeps none =
+      let kept : members_have_float (members_where (is_among names) keeps.all)
+      ≡ false = ap members_have_float keeps.part.are ∙ sym (ap has_float (view-Object v)) ∙ none in
+      only_read (object keeps.all) (view (Object v)) utf8 keeps.is
+      (floatless-both (is_among names) keeps.all kept keeps.part.whole)
+      (view-Object v ∙ ap object (sym keeps.part.are))
+
+  pub kept_float : (v : Vec Entry Global) → IsUtf8 text → KeepsOf names text (members_view v.items)
+      → has_float (view (Object v)) ≡ true → only_of names (document_of text) ≡ Err Float
+  kept_float v utf8 keeps float =
+      only_float (object keeps.all) utf8 keeps.is
+      (elim (members_have_float keeps.all) as (λ b. members_have_float keeps.all ≡ b → b ≡ true) [
+        | true ↦ λ is. refl
+        | false ↦ λ is.
+            let none : has_float (view (Object v)) ≡ false = ap has_float (view-Object v)
+            ∙ ap members_have_float (sym keeps.part.are) ∙ floatless-where (is_among names) keeps.all is in
+            absurd (both_ways (has_float (view (Object v))) none float)
+      ] refl)
+
+pub kept_is_named : (v : Vec Entry Global)
+    → NamesAscend (members_view v.items) × HasNamedValues (members_view v.items) → IsNamed (view (Object v))
+kept_is_named v named = subst IsNamed (sym (view-Object v)) named
+
+pub cut_floatless : (names : List (List ℕ)) (d e : Data) → has_float d ≡ false → e ≡ only names d
+    → has_float e ≡ false
+cut_floatless names d e none cut = ap has_float cut ∙ floatless-only names d none
+
+pub cut_named : (names : List (List ℕ)) (d e : Data) → IsNamed d → e ≡ only names d → IsNamed e
+cut_named names d e named cut = subst IsNamed (sym cut) (named-only names d named)
+
+pub ruleset kept_reading = (only_not_utf8, only_unread, kept_read, kept_float, kept_is_named)
+
+pub ruleset whole_reading = (only_unread, only_float, only_read, cut_floatless, cut_named)
+
+-- ---- the cut
+
+module _ (test : List ℕ → Bool) where
+  first_where : (e : Entry) (es others : List Entry) (b : Bool)
+      → members_view others ≡ members_where test (members_view es)
+      → members_view (cond b (e ∷ others) others) ≡
+      (if b then member (string_bytes e.0) (view e.1) (members_where test (members_view es)) else members_where test
+      (members_view es))
+  first_where e es others true rest = ap (member (string_bytes e.0) (view e.1)) rest
+  first_where e es others false rest = rest
+
+  pub filter_where : (es : List Entry)
+      → members_view (filter (λ e. test (string_bytes e.0)) es) ≡ members_where test (members_view es)
+  filter_where [] = refl
+  filter_where (e ∷ es) = first_where e es (filter (λ x. test (string_bytes x.0)) es) (test (string_bytes e.0))
+      (filter_where es)
+
+pub cut_object : (names : List (List ℕ)) (before after : Vec Entry Global)
+    → after.items ≡ filter (λ m. is_among names (string_bytes m.0)) before.items
+    → view (Object after) ≡ only names (view (Object before))
+unfolding only
+cut_object names before after are = view-Object after ∙ ap (λ es. object (members_view es)) are
+    ∙ ap object (filter_where (is_among names) before.items) ∙ sym (ap (only names) (view-Object before))
+
+pub cut_null : (names : List (List ℕ)) → view Null ≡ only names (view Null)
+cut_null names = sym (only-same names (view Null) (ap as_object view-Null))
+
+pub cut_bool : (names : List (List ℕ)) (b : Bool) → view (Truth b) ≡ only names (view (Truth b))
+cut_bool names b = sym (only-same names (view (Truth b)) (ap as_object (view-Bool b)))
+
+pub cut_number : (names : List (List ℕ)) (n : Number) → view (Numeral n) ≡ only names (view (Numeral n))
+cut_number names n = sym (only-same names (view (Numeral n)) (ap as_object (view-Number n)))
+
+pub cut_text : (names : List (List ℕ)) (text : String Global) → view (Text text) ≡ only names (view (Text text))
+cut_text names text = sym (only-same names (view (Text text)) (ap as_object (view-Text text)))
+
+pub cut_array : (names : List (List ℕ)) (v : Vec Tree Global) → view (Array v) ≡ only names (view (Array v))
+cut_array names v = sym (only-same names (view (Array v)) (ap as_object (view-Array v)))
+
+pub ruleset cut = (cut_object, cut_null, cut_bool, cut_number, cut_text, cut_array)
