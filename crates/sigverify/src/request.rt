@@ -1,12 +1,16 @@
 //! `LogRequest`: the request of `log`.
 ghost use Rattle.std.specs.Prelude.{IfOk};
+ghost use Rattle.sig_base.specs.Answers.{Answers};
+ghost use Rattle.sig_json.specs.Record.{record_in};
+ghost use Rattle.sigverify.specs.Request.{log_request};
 
 use crate::read::MOST_BYTES;
 use crate::row::{AbsentReader, RowReader, SchemeReader};
 use sig_base::{Bytes, Hashes, OutOfMemory, SigningScheme, TableChecker, Text};
 use sig_json::{
-    ElementReader, HashReader, Json, JsonError, MemberError, optional, optional_list, read_record,
-    required, required_bytes, required_hash, required_i64, required_text, required_u64,
+    ElementReader, HashReader, Json, JsonError, MemberError, optional, optional_list,
+    read_record_with, required, required_bytes, required_hash, required_i64, required_text,
+    required_u64,
 };
 use std::alloc::Global;
 
@@ -32,6 +36,20 @@ pub struct LogRequest {
     /// The signatures that are taken for genuine.
     pub accepted: TableChecker,
 }
+
+/// The names of the members that a request may have. A member of another name is ignored: no tree is made of it.
+const MEMBERS: [&str; 10] = [
+    "entry",
+    "logIndex",
+    "treeSize",
+    "rootHash",
+    "hashes",
+    "checkpoint",
+    "scheme",
+    "key",
+    "accepted",
+    "entries",
+];
 
 /// Reads requests of `log`.
 enum LogRequestReader {}
@@ -70,6 +88,13 @@ impl ElementReader for LogRequestReader {
     }
 }
 
+/// The record of a request, as if its whole text were read: `MEMBERS` has every name that its table has.
+fn read_listed(alloc: Global, text: &[u8]) -> Result<LogRequest, JsonError>
+    ensures { Answers JsonError.OutOfMemory (λ request. request) result (record_in log_request text.now) }
+{
+    read_record_with::<LogRequestReader>(alloc, text, &MEMBERS)
+}
+
 impl LogRequest {
     ghost use Rattle.sigverify.specs.Request.{IsReadFrom};
 
@@ -82,7 +107,7 @@ impl LogRequest {
         if text.len() > MOST_BYTES {
             return Ok(None);
         }
-        match read_record::<LogRequestReader>(alloc, text) {
+        match read_listed(alloc, text) {
             Ok(request) => Ok(Some(request)),
             Err(JsonError::NotJson | JsonError::Float | JsonError::Member) => Ok(None),
             Err(JsonError::OutOfMemory) => Err(OutOfMemory),
