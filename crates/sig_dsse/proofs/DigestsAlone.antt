@@ -1,6 +1,6 @@
 -- The digests of a statement are read without the rest of it.
-use Rattle.std.proofs.Common.{◌≡◌, ◌⊎◌, inl, inr, ℕ, List, map, Option, Some, None, option_map, Ok, Err, refl, sym, ap}
-use Rattle.std.proofs.Common.{◌∙◌}
+use Rattle.std.proofs.Common.{◌≡◌, ◌⊎◌, inl, inr, ℕ, List, [], ◌∷◌, map, Option, Some, None, option_map, Ok, Err}
+use Rattle.std.proofs.Common.{◌∙◌, refl, sym, ap}
 use Rattle.std.specs.Option.{ok_or}
 use Rattle.std.specs.Prelude.{codes}
 use Rattle.std.specs.Result.{result_ok}
@@ -8,8 +8,11 @@ use Rattle.sig_base.specs.OptionSteps.{◌>>=◌}
 use Rattle.sig_json.specs.Data.{Data}
 use Rattle.sig_json.specs.Kinds.{text_of, text_map_of}
 use Rattle.sig_json.specs.Member.{required, required_text, required_list, optional, list_each}
-use Rattle.sig_json.specs.Record.{record_in}
+use Rattle.sig_json.specs.Only.{only}
+use Rattle.sig_json.specs.Record.{record_in, record_with}
 use Rattle.sig_json.specs.declared.error.JsonError.{JsonError}
+use Rattle.sig_json.proofs.Only.{required-only}
+use Rattle.sig_json.proofs.Records.{record_with-same}
 use Rattle.sig_json.proofs.Parts.{required-part, optional-part, list_each-part, record_in-part, optional-any}
 use Rattle.sig_dsse.specs.declared.artifact_digest.ArtifactDigest.{ArtifactDigest}
 use Rattle.sig_dsse.specs.declared.payload.PayloadFault.{PayloadFault}
@@ -160,6 +163,43 @@ pub statement-no_maps : (d : Data) → required_list digest_map_in (codes "subje
 statement-no_maps d read = rw (statement_parts d) (without_maps _ _ _ _ (sym (needed_maps _ d) ∙ read))
 
 pub ruleset of_statement = (statement-read, statement-no_type, statement-no_kind, statement-no_maps)
+
+-- ---- a statement without its predicate
+
+abbrev pub digest_names : List (List ℕ)
+digest_names = codes "_type" ∷ codes "subject" ∷ codes "predicateType" ∷ []
+
+-- the predicate is there or not, and the digests are the same
+same_maps : (type kind : Option (List ℕ)) (subjects : Option (List Subject)) (predicate other : Option (Option Data))
+    → ((t : List ℕ) → type ≡ Some t
+    → ((a : Option Data) × (predicate ≡ Some a)) × ((b : Option Data) × (other ≡ Some b)))
+    → option_map digest_maps (statement_with type subjects kind predicate)
+    ≡ option_map digest_maps (statement_with type subjects kind other)
+same_maps None kind subjects predicate other any = refl
+same_maps (Some type) None None predicate other any = refl
+same_maps (Some type) None (Some subjects) predicate other any = refl
+same_maps (Some type) (Some kind) None predicate other any = refl
+same_maps (Some type) (Some kind) (Some subjects) predicate other any =
+    let both = any type refl in rw (both.0.1, both.1.1) refl
+
+maps-only : (d : Data) → digest_maps_in (only digest_names d) ≡ digest_maps_in d
+maps-only d =
+    let type : required_text (codes "_type") (only digest_names d) ≡ required_text (codes "_type") d
+    = required-only text_of digest_names (codes "_type") d refl in
+    rw (
+      statement_parts (only digest_names d),
+      type,
+      required-only (list_each subject_of) digest_names (codes "subject") d refl,
+      required-only text_of digest_names (codes "predicateType") d refl,
+      statement_parts d,
+    ) (same_maps _ _ _ _ _ (λ t is. (
+      optional-any text_of (codes "_type") (codes "predicate") (only digest_names d) t (type ∙ is),
+      optional-any text_of (codes "_type") (codes "predicate") d t is,
+    )))
+
+pub record-listed : (payload : List ℕ)
+    → record_with digest_names digest_maps_in payload ≡ record_in digest_maps_in payload
+record-listed payload = record_with-same digest_names digest_maps_in payload maps-only
 
 -- ---- a payload
 

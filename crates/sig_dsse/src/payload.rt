@@ -1,6 +1,7 @@
 //! The digests of the statement that a payload is, read without the rest of it.
 ghost use Rattle.sig_base.specs.Answers.{Answers};
-ghost use Rattle.sig_dsse.specs.DigestsAlone.{digest_maps_of};
+ghost use Rattle.sig_json.specs.Record.{record_in};
+ghost use Rattle.sig_dsse.specs.DigestsAlone.{digest_maps_in, digest_maps_of};
 ghost use Rattle.sig_dsse.specs.Payload.{digests_of_payload};
 
 use crate::artifact_digest::Digests;
@@ -8,9 +9,12 @@ use crate::digest_reader::DigestMapsReader;
 use crate::recognized::{SubjectFault, digests_of_maps};
 use crate::subject_digests::{Left, SubjectDigests};
 use sig_base::{Register, TextMap};
-use sig_json::{JsonError, read_record};
+use sig_json::{JsonError, read_record_with};
 use std::alloc::Global;
 use thiserror::Error;
+
+/// The names of the members that the digests are read of. No tree is made of the predicate.
+const MEMBERS: [&str; 3] = ["_type", "subject", "predicateType"];
 
 /// Why the digests of a payload's statement cannot be taken.
 #[derive(Clone, Copy, Debug, PartialEq, Eq, Error)]
@@ -61,11 +65,19 @@ pub fn payload_digests(alloc: Global, payload: &[u8]) -> Result<Digests, Payload
 fn read_maps(alloc: Global, payload: &[u8]) -> Result<Register<TextMap>, PayloadFault>
     ensures { Answers PayloadFault.OutOfMemory (λ maps. maps) result (digest_maps_of payload.now) }
 {
-    match read_record::<DigestMapsReader>(alloc, payload) {
+    match read_listed(alloc, payload) {
         Ok(maps) => Ok(maps),
         Err(JsonError::NotJson | JsonError::Float | JsonError::Member) => Err(
             PayloadFault::NoStatement,
         ),
         Err(JsonError::OutOfMemory) => Err(PayloadFault::OutOfMemory),
     }
+}
+
+/// The same by the error of a record, as if the whole payload were read: `MEMBERS` has every name but `predicate`, of
+/// which nothing is asked.
+fn read_listed(alloc: Global, payload: &[u8]) -> Result<Register<TextMap>, JsonError>
+    ensures { Answers JsonError.OutOfMemory (λ maps. maps) result (record_in digest_maps_in payload.now) }
+{
+    read_record_with::<DigestMapsReader>(alloc, payload, &MEMBERS)
 }
