@@ -2,7 +2,7 @@
 
 use crate::calls::tag;
 use sig_cases::{Answer, Arguments, CaseError};
-use sig_der::{Place, optional_at, place_at, whole_at, whole_key_info};
+use sig_der::{Place, Reader, whole_key_info};
 use std::alloc::Global;
 
 fn none(alloc: Global) -> Result<Answer, CaseError> {
@@ -25,8 +25,13 @@ pub(crate) fn front(alloc: Global, arguments: &mut Arguments<'_>) -> Result<Answ
     if at > end || end > bytes.len() as u64 {
         return Err(CaseError::BadLine);
     }
-    match place_at(&bytes, at as usize, end as usize) {
-        Some(place) => placed(Answer::ok(alloc)?, place),
+    let reader = Reader {
+        bytes: &bytes,
+        at: at as usize,
+        end: end as usize,
+    };
+    match reader.any() {
+        Some((place, _)) => placed(Answer::ok(alloc)?, place),
         None => none(alloc),
     }
 }
@@ -35,9 +40,9 @@ pub(crate) fn front(alloc: Global, arguments: &mut Arguments<'_>) -> Result<Answ
 pub(crate) fn optional(alloc: Global, arguments: &mut Arguments<'_>) -> Result<Answer, CaseError> {
     let bytes = arguments.hex(alloc)?;
     let tag = tag(alloc, arguments)?;
-    match optional_at(&bytes, 0, bytes.len(), tag) {
-        Some((Some(place), next)) => placed(Answer::ok(alloc)?.value(&next)?, place),
-        Some((None, next)) => Answer::ok(alloc)?.value(&next),
+    match Reader::new(&bytes).optional(tag) {
+        Some((Some(place), rest)) => placed(Answer::ok(alloc)?.value(&rest.at)?, place),
+        Some((None, rest)) => Answer::ok(alloc)?.value(&rest.at),
         None => none(alloc),
     }
 }
@@ -46,7 +51,7 @@ pub(crate) fn optional(alloc: Global, arguments: &mut Arguments<'_>) -> Result<A
 pub(crate) fn whole(alloc: Global, arguments: &mut Arguments<'_>) -> Result<Answer, CaseError> {
     let bytes = arguments.hex(alloc)?;
     let tag = tag(alloc, arguments)?;
-    match whole_at(&bytes, 0, bytes.len(), tag) {
+    match Reader::new(&bytes).whole(tag) {
         Some(place) => placed(Answer::ok(alloc)?, place),
         None => none(alloc),
     }

@@ -1,13 +1,13 @@
 -- Key usage by its bits, and the INTEGER of a path length: what is read is what the standards say, and what they say is read.
-use Rattle.std.proofs.Common.{◌≡◌, ◌≢◌, ℕ, zero, suc, ◌+◌, ◌*◌, ◌/◌, ◌%◌, ◌^◌, ◌<◌, ◌≤◌, Bool, true, false, true≢false, not, ◌&&◌, ltb, eqb, List, [], ◌∷◌, length, Option, Some, None, refl, sym, ap, subst, ◌∙◌, arith, inl, inr}
-use Rattle.std.proofs.lemmas.Bool.{cases_Bool, cases_lt, lt-ltb, le-ltb, ltb-true, ltb-false, eqb-true, eqb-false, ne_eqb, cond-true, cond-false, and_left, and_right, and_from}
+use Rattle.std.proofs.Common.{◌≡◌, ◌≢◌, ℕ, ◌+◌, ◌*◌, ◌/◌, ◌%◌, ◌^◌, ◌<◌, ◌≤◌, Bool, true, false, true≢false, not, ◌&&◌, ltb, eqb, List, [], ◌∷◌, Some, None, refl, sym, ap, subst, ◌∙◌, arith, inl, inr}
+use Rattle.std.proofs.lemmas.Bool.{cases_Bool, cases_lt, lt-ltb, le-ltb, ltb-true, eqb-true, eqb-false, ne_eqb, cond-true, cond-false, and_left, and_right, and_from}
 use Rattle.std.proofs.lemmas.Nat.{pow_pos}
 use Rattle.std.proofs.lemmas.Nat.Bits.{and_pow, bit_at-lt}
 use Rattle.std.specs.Prelude.{bit_and}
 use Rattle.sig_base.proofs.OptionSteps.{when_is, unless_is, some, some_is}
 use Rattle.sig_certificate.specs.declared.values.KeyUsage.{KeyUsage}
 use Rattle.sig_certificate.specs.Values.{has_bit, usage_of, number_of}
-use Rattle.sig_certificate.specs.ExtensionValues.{bit, IsBitString, IsKeyUsage, IsNatural}
+use Rattle.sig_certificate.specs.ExtensionValues.{bit, IsKeyUsage, IsNatural}
 
 -- ---- one bit of an octet
 

@@ -1,7 +1,6 @@
 -- The names at the front of bytes, as an iterator gives them.
-use Rattle.std.proofs.Common.{◌≡◌, ℕ, zero, suc, ◌<◌, ◌≤◌, true, false, List, [], ◌∷◌, length, Option, Some, None, refl, sym, ap, ◌∙◌, arith}
+use Rattle.std.proofs.Common.{◌≡◌, ℕ, zero, suc, ◌≤◌, true, false, List, [], ◌∷◌, length, Option, Some, None, refl, sym, ap, ◌∙◌, arith}
 use Rattle.std.specs.Prelude.{is_some}
-use Rattle.sig_base.specs.OptionSteps.{◌>>=◌}
 use Rattle.sig_base.proofs.OptionSteps.{bind_is, some_is}
 use Rattle.sig_der.specs.Taking.{many_within, many_at}
 use Rattle.sig_certificate.specs.Names.{Name, name_at}

@@ -1,7 +1,7 @@
 -- What stands in a part of a text before a later place.
 use Rattle.std.proofs.Common.{◌≡◌, ℕ, ◌-◌, ◌≤◌, List, length, take, drop, ap, ◌∙◌, arith}
 use Rattle.std.specs.Prelude.{slice_range}
-use Rattle.std.proofs.lemmas.List.{take-take, take_all}
+use Rattle.std.proofs.lemmas.List.{take-take}
 use Rattle.sig_der.proofs.Ranges.{length-part}
 use Rattle.sig_certificate.specs.Cutting.{before}
 
@@ -12,6 +12,3 @@ front_is bytes at next end a b c =
     let short = length-part bytes next end b c in
     let len : length (slice_range bytes at end) - length (slice_range bytes next end) ≡ next - at = omega arith in
     ap (λ (n : ℕ). take n (slice_range bytes at end)) len ∙ take-take (next - at) (end - at) (drop at bytes) (omega arith)
-
-pub part_whole : (bytes : List ℕ) (n : ℕ) → n ≡ length bytes → slice_range bytes 0 n ≡ bytes
-part_whole bytes n is = take_all (n - 0) bytes (omega (arith, is))

@@ -1,5 +1,5 @@
 -- A text is at most one certificate.
-use Rattle.std.proofs.Common.{◌≡◌, ℕ, ℤ, List, Some, refl, sym, ap, subst, ◌∙◌, arith, inl, inr}
+use Rattle.std.proofs.Common.{◌≡◌, ℕ, ℤ, List, sym, ap, subst, ◌∙◌, arith, inl, inr}
 use Rattle.sig_base.proofs.OptionSteps.{some_is}
 use Rattle.sig_der.specs.Moment.{IsSecondOf, second_of}
 use Rattle.sig_der.specs.DerTime.{IsUtcTime, IsGeneralizedTime, IsTimeOf}

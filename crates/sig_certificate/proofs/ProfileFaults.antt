@@ -1,5 +1,5 @@
 -- Each fault of a profile comes if and only if the rules before it hold and its own does not.
-use Rattle.std.proofs.Common.{◌≡◌, ◌≢◌, ℕ, Bool, true, false, true≢false, cond, eqb, List, Option, Some, None, Ok, Err, refl, sym, ap, subst, ◌∙◌, arith, inl, inr}
+use Rattle.std.proofs.Common.{◌≡◌, ◌≢◌, ℕ, Bool, true, false, true≢false, cond, eqb, List, Option, Some, None, Ok, Err, refl, sym, ap, subst, ◌∙◌, inl, inr}
 use Rattle.std.proofs.lemmas.Bool.{cases_Bool, eqb-true, eqb-false, ne_eqb, cond-true, cond-false}
 use Rattle.std.specs.Str.{bytes_eq}
 use Rattle.std.proofs.lemmas.Slice.Eq.{bytes_eq-Decides}
@@ -7,14 +7,13 @@ use Rattle.sig_base.proofs.OptionSteps.{some_is}
 use Rattle.sig_certificate.specs.declared.values.KeyUsage.{KeyUsage as Usage}
 use Rattle.sig_certificate.specs.declared.values.BasicConstraints.{BasicConstraints as Constraints}
 use Rattle.sig_certificate.specs.declared.profile_error.CertificateValidationError.{CertificateValidationError}
-use Rattle.sig_certificate.specs.declared.profile_error.CertificateValidationError.TheVariants.{VersionUnsupported, Malformed, NotLeaf, NotCA, Extension as OfExtension}
-use Rattle.sig_certificate.specs.declared.profile_error.NotLeafErrorKind.TheVariants.{IsCA}
-use Rattle.sig_certificate.specs.declared.profile_error.NotCAErrorKind.TheVariants.{NotCA as Neither, NotRootCA, Invalid}
+use Rattle.sig_certificate.specs.declared.profile_error.CertificateValidationError.TheVariants.{VersionUnsupported, NotCA, Extension as OfExtension}
+use Rattle.sig_certificate.specs.declared.profile_error.NotCAErrorKind.TheVariants.{NotRootCA, Invalid}
 use Rattle.sig_certificate.specs.declared.profile_error.ExtensionErrorKind.TheVariants.{BitUnset}
 use Rattle.sig_certificate.specs.declared.profile_error.PartName.TheVariants.{KeyUsageDigitalSignature}
 use Rattle.sig_certificate.specs.Certificate.{Cert}
-use Rattle.sig_certificate.specs.Profile.{Held, usage, constraints, code_signing, agreement, signs, authority, of_version_3, ca_refusal, signs_code, signer, unless_authority, leaf_refusal, or_else, root_refusal}
-use Rattle.sig_certificate.specs.Faults.{SaysUsage, SaysConstraints, SaysCodeSigning, IsAuthority, IsAuthorityFault, other_version, constraints_malformed, constraints_missing, constraints_not_critical, usage_malformed, usage_missing, neither, one_alone, IsRootFault, no_authority, other_issuer, IsLeafFault, leaf_version, is_authority, leaf_usage_malformed, leaf_usage_missing, no_digital_signature, purposes_malformed, purposes_missing, no_code_signing}
+use Rattle.sig_certificate.specs.Profile.{Held, usage, constraints, code_signing, agreement, authority, of_version_3, ca_refusal, signs_code, signer, unless_authority, leaf_refusal, or_else, root_refusal}
+use Rattle.sig_certificate.specs.Faults.{SaysUsage, SaysConstraints, IsAuthority, IsAuthorityFault, other_version, constraints_malformed, constraints_missing, constraints_not_critical, usage_malformed, usage_missing, neither, one_alone, IsRootFault, no_authority, other_issuer, IsLeafFault, leaf_version, is_authority, leaf_usage_malformed, leaf_usage_missing, no_digital_signature, purposes_malformed, purposes_missing, no_code_signing}
 use Rattle.sig_certificate.proofs.SaidLaws.{said, constraints_absent, constraints_bad, constraints_say, no_constraints, bad_constraints, said_constraints, usage_absent, usage_bad, usage_says, no_usage, bad_usage, said_usage, purposes_absent, purposes_bad, purposes_say, no_purposes, bad_purposes, said_purposes}
 
 -- ---- version 3

@@ -1,5 +1,5 @@
 -- What the extensions of one object identifier say, by how many there are and what the value of the only one is.
-use Rattle.std.proofs.Common.{◌≡◌, ◌≤◌, Bool, true, false, ℕ, List, [], ◌∷◌, length, Option, Some, None, Ok, Err, refl, sym, ap, subst, ◌∙◌, arith, inl, inr}
+use Rattle.std.proofs.Common.{◌≡◌, ◌≤◌, Bool, ℕ, List, [], ◌∷◌, length, Option, Some, None, Ok, Err, refl, sym, ap, subst, ◌∙◌, arith, inl, inr}
 use Rattle.std.specs.Prelude.{option_map}
 use Rattle.sig_der.specs.ObjectIdentifiers as oid
 use Rattle.sig_certificate.specs.declared.values.KeyUsage.{KeyUsage as Usage}

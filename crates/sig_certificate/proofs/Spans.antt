@@ -1,15 +1,9 @@
--- All of a text, as the part from its front to its end, and a part as far as the text goes.
+-- A part as far as the text goes.
 use Rattle.std.proofs.Common.{◌≡◌, ℕ, ◌-◌, ◌<◌, ◌≤◌, List, [], length, take, drop, refl, sym, ap, ◌∙◌, inl, inr, arith}
 use Rattle.std.specs.Prelude.{slice_range}
-use Rattle.std.proofs.Math.Seq.{take-length}
 use Rattle.std.proofs.lemmas.Bool.{cases_lt}
 use Rattle.std.proofs.lemmas.List.{take_all, drop_all, length-drop}
 use Rattle.sig_der.proofs.Ranges.{part-none}
-
-pub all_part : (bytes : List ℕ) → slice_range bytes 0 (length bytes) ≡ bytes
-all_part bytes =
-    let all : length bytes - 0 ≡ length bytes = omega arith in
-    ap (λ (n : ℕ). take n bytes) all ∙ take-length bytes
 
 -- the part from a place behind the end of the text is none
 past_end : (bytes : List ℕ) (start end : ℕ) → length bytes ≤ start → slice_range bytes start end ≡ []

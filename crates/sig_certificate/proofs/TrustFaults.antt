@@ -1,7 +1,6 @@
 -- Each fault of the checks of trust comes if and only if the checks before it pass and its own does not.
-use Rattle.std.proofs.Common.{◌≡◌, ◌≢◌, ◌≤◌, ℤ, ◌<ℤ◌, ◌≤ℤ◌, int_lt, Bool, true, false, true≢false, cond, List, [], ◌∷◌, length, Option, Some, None, Ok, Err, refl, sym, ap, subst, ◌∙◌, arith, inl, inr}
+use Rattle.std.proofs.Common.{◌≡◌, ℤ, ◌<ℤ◌, ◌≤ℤ◌, int_lt, Bool, true, false, true≢false, cond, List, [], ◌∷◌, Option, Some, None, Ok, Err, refl, sym, ap, subst, ◌∙◌, arith}
 use Rattle.std.specs.Prelude.{is_some}
-use Rattle.std.proofs.lemmas.Bool.{cases_Bool, cond-true, cond-false}
 use Rattle.std.proofs.lemmas.Int.{ints}
 use Rattle.sig_base.proofs.OptionSteps.{some_is}
 use Rattle.sig_base.specs.declared.error.SigstoreError.{SigstoreError}
@@ -15,7 +14,7 @@ use Rattle.sig_certificate.specs.Profile.{Held, usage, code_signing, or_else}
 use Rattle.sig_certificate.specs.Trust.{may_sign, may_sign_code, is_named, usages_refusal, names_refusal, validity_refusal, expiration_refusal, trust_refusal}
 use Rattle.sig_certificate.specs.Faults.{Says, SaysUsage, MaySign, MaySignCode, IsNamed, IsUsagesFault, may_not_sign, may_not_sign_code, IsNamesFault, unnamed, IsValidityFault, not_begun, IsExpirationFault, too_early, too_late, IsTrustFault, of_usages, of_names, of_validity, of_expiration}
 use Rattle.sig_certificate.proofs.HeldLaws.{named_one}
-use Rattle.sig_certificate.proofs.SaidLaws.{said, usage_says, said_usage, purposes_say, said_purposes}
+use Rattle.sig_certificate.proofs.SaidLaws.{usage_says, said_usage, purposes_say, said_purposes}
 
 -- ---- key usages
 

@@ -1,5 +1,5 @@
 -- Values of extensions: what the readers take is what the relations build, and what the relations build is taken.
-use Rattle.std.proofs.Common.{◌≡◌, ℕ, ◌<◌, true, false, eqb, List, [], ◌∷◌, ◌++◌, length, Bool, Option, Some, None, refl, sym, ap, subst, ◌∙◌, arith, inl, inr}
+use Rattle.std.proofs.Common.{◌≡◌, ℕ, false, eqb, List, [], ◌++◌, length, Bool, Option, Some, None, refl, sym, ap, subst, ◌∙◌}
 use Rattle.std.specs.Prelude.{option_map}
 use Rattle.std.proofs.lemmas.Bool.{cond-true, cond-false}
 use Rattle.std.proofs.lemmas.List.{append-nil}
@@ -15,8 +15,8 @@ use Rattle.sig_der.proofs.KeyInfos.{content_fits, some_left, left_some, none_lef
 use Rattle.sig_certificate.specs.declared.values.KeyUsage.{KeyUsage}
 use Rattle.sig_certificate.specs.declared.values.BasicConstraints.{BasicConstraints}
 use Rattle.sig_certificate.specs.Cutting.{flag_at}
-use Rattle.sig_certificate.specs.Values.{usage_of, key_usage_of, oid_at, purposes_of, number_of, path_len_of, constraints_in, basic_constraints_of}
-use Rattle.sig_certificate.specs.ExtensionValues.{IsKeyUsageValue, purpose_text, IsPurpose, ArePurposes, IsNatural, IsPathLen, AreBasicConstraints}
+use Rattle.sig_certificate.specs.Values.{key_usage_of, oid_at, purposes_of, number_of, path_len_of, constraints_in, basic_constraints_of}
+use Rattle.sig_certificate.specs.ExtensionValues.{IsKeyUsageValue, purpose_text, IsPurpose, ArePurposes, IsPathLen, AreBasicConstraints}
 use Rattle.sig_certificate.proofs.BitLaws.{usage_takes, usage_again, number_takes, number_again}
 use Rattle.sig_certificate.proofs.ExtensionLaws.{flag_at_takes, flag_at_again}
 use Rattle.sig_certificate.proofs.WalkLaws.{oid_at_shrinks}

@@ -1,12 +1,12 @@
 -- The lines joined are the base64 of the whole.
-use Rattle.std.proofs.Common.{◌≡◌, ◌≢◌, ℕ, zero, suc, ◌+◌, ◌-◌, ◌*◌, ◌/◌, ◌%◌, ◌<◌, ◌≤◌, List, [], ◌∷◌, ◌++◌, length, take, drop, replicate, refl, sym, ap, subst, ◌∙◌, append_assoc, arith, inl, inr}
+use Rattle.std.proofs.Common.{◌≡◌, ℕ, zero, suc, ◌+◌, ◌<◌, ◌≤◌, List, [], ◌∷◌, ◌++◌, length, take, drop, replicate, refl, sym, ap, ◌∙◌, append_assoc, arith, inl, inr}
 use Rattle.std.proofs.lemmas.Bool.{cases_lt}
 use Rattle.std.proofs.lemmas.List.{append-nil, length-drop, length-take-le, length-append, length-replicate, take_all, drop_all}
 use Rattle.base64.specs.Engines.{standard}
 use Rattle.base64.specs.GeneralPurpose.{encode_of}
 use Rattle.base64.specs.Rfc4648.{encode_symbols, padding_len, unpadded_len}
 use Rattle.base64.proofs.RoundTrip.{length-encode_symbols, encode_split}
-use Rattle.sig_certificate.specs.Pem.{lines_within, lines_of, IsWrapped, unwrapped, ended, IsWrappedBase64}
+use Rattle.sig_certificate.specs.Pem.{lines_within, lines_of, IsWrapped, IsWrappedBase64}
 
 symbols : List ℕ → List ℕ
 symbols bytes = encode_symbols standard.encode_table bytes

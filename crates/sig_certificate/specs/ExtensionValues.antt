@@ -1,6 +1,6 @@
 -- *Extension values*: key usage, extended key usage and basic constraints as relations that build the text, in the words of X.690 and
 -- RFC 5280. That the readers of Values read exactly these are laws of the crate.
-use Rattle.std.specs.Prelude.{◌≡◌, ℕ, ◌+◌, ◌-◌, ◌*◌, ◌/◌, ◌%◌, ◌^◌, ◌<◌, ◌≤◌, List, [], ◌∷◌, ◌++◌, length, true, Option, Some, None, get_or}
+use Rattle.std.specs.Prelude.{◌≡◌, ℕ, ◌-◌, ◌/◌, ◌%◌, ◌^◌, ◌<◌, ◌≤◌, List, [], ◌∷◌, ◌++◌, length, true, Option, Some, None, get_or}
 use Rattle.sig_der.specs.Element.{element, IsElement}
 use Rattle.sig_der.specs.Joined.{AreJoined}
 use Rattle.sig_der.specs.Length.{octets_number}

@@ -4,8 +4,6 @@ use Rattle.std.specs.Prelude.{◌≡◌, ◌≢◌, ◌⊎◌, ℕ, ◌≤◌, �
 use Rattle.sig_base.specs.declared.error.SigstoreError.{SigstoreError}
 use Rattle.sig_base.specs.declared.error.SigstoreError.TheVariants.{CertificateValidityError, CertificateExpiredBeforeSignaturesSubmittedToRekor, CertificateIssuedAfterSignaturesSubmittedToRekor, CertificateWithoutDigitalSignatureKeyUsage, CertificateWithoutCodeSigningKeyUsage, CertificateWithoutSubjectAlternativeName}
 use Rattle.sig_der.specs.ObjectIdentifiers as oid
-use Rattle.sig_certificate.specs.declared.values.KeyUsage.{KeyUsage as Usage}
-use Rattle.sig_certificate.specs.declared.values.BasicConstraints.{BasicConstraints as Constraints}
 use Rattle.sig_certificate.specs.declared.profile_error.CertificateValidationError.{CertificateValidationError}
 use Rattle.sig_certificate.specs.declared.profile_error.CertificateValidationError.TheVariants.{VersionUnsupported, Malformed, NotLeaf, NotCA, Extension as OfExtension}
 use Rattle.sig_certificate.specs.declared.profile_error.NotLeafErrorKind.TheVariants.{IsCA}
@@ -15,7 +13,7 @@ use Rattle.sig_certificate.specs.declared.profile_error.PartName.TheVariants.{Ba
 use Rattle.sig_certificate.specs.Certificate.{Extension, Cert}
 use Rattle.sig_certificate.specs.Lookups.{with_oid}
 use Rattle.sig_certificate.specs.Values.{key_usage_of, purposes_of, has_purpose, basic_constraints_of}
-use Rattle.sig_certificate.specs.Names.{Name, names_of}
+use Rattle.sig_certificate.specs.Names.{names_of}
 
 -- ---- what the extensions of one object identifier say
 

@@ -3,7 +3,9 @@ use Rattle.std.specs.Prelude.{ℕ, ◌<◌, ◌≤◌, ℤ, List, Bool, slice_ra
 use Rattle.std.specs.List.{AllPairs}
 use Rattle.sig_der.specs.declared.place.Place.{Place}
 use Rattle.sig_der.specs.Reading.{Piece}
+use Rattle.sig_der.specs.declared.reader.Reader.{Reader}
 use Rattle.sig_der.specs.Places.{piece_at}
+use Rattle.sig_der.specs.Readers.{left, GoesTo}
 use Rattle.sig_certificate.specs.declared.span.Span.{Span}
 use Rattle.sig_certificate.specs.declared.parts.Head.{Head as HeadPlaces}
 use Rattle.sig_certificate.specs.declared.parts.Body.{Body as BodyPlaces}
@@ -33,8 +35,9 @@ abbrev pub extension_of : List ℕ → ExtensionPlaces → Extension
 extension_of bytes e =
     record { oid = part bytes e.oid; critical = e.critical; value = part bytes e.value; whole = part bytes e.whole }
 
-abbrev pub placed_extension : List ℕ → ℕ → ExtensionPlaces → Extension × List ℕ
-placed_extension bytes end e = (extension_of bytes e, slice_range bytes e.whole.end end)
+-- the extension that was read, and the bytes that are left after it
+abbrev pub extension_read : List ℕ → ExtensionPlaces × Reader → Extension × List ℕ
+extension_read bytes x = (extension_of bytes x.0, left x.1)
 
 pub record AreSpans (end : ℕ) (e : ExtensionPlaces) : Type 0 where
   pub oid : IsSpan end e.oid
@@ -45,33 +48,28 @@ pub record AreSpans (end : ℕ) (e : ExtensionPlaces) : Type 0 where
 abbrev pub Ascend : List ExtensionPlaces → Type 0
 Ascend es = AllPairs (λ d e. d.whole.start < e.whole.start) es
 
--- a number read, and what follows from a place on
-abbrev pub placed_value : {A : Type 0} → List ℕ → ℕ → A × ℕ → A × List ℕ
-placed_value bytes end x = (x.0, slice_range bytes x.1 end)
-
--- the second lies between the two numbers
-abbrev pub GoesTo : {A : Type 0} → ℕ → ℕ → A × ℕ → Type 0
-GoesTo at end x = (at ≤ x.1) × (x.1 ≤ end)
+-- a value that was read, and the bytes that are left after it
+abbrev pub value_read : {A : Type 0} → A × Reader → A × List ℕ
+value_read x = (x.0, left x.1)
 
 -- ---- the parts
 
 abbrev pub head_of : List ℕ → HeadPlaces → Head
 head_of bytes h = record { version = h.version; algorithm = part bytes h.algorithm; issuer = part bytes h.issuer }
 
-abbrev pub placed_head : List ℕ → ℕ → HeadPlaces → Head × List ℕ
-placed_head bytes end h = (head_of bytes h, slice_range bytes h.issuer.end end)
+abbrev pub head_read : List ℕ → HeadPlaces × Reader → Head × List ℕ
+head_read bytes x = (head_of bytes x.0, left x.1)
 
-pub record IsHeadWithin (at end : ℕ) (h : HeadPlaces) : Type 0 where
+pub record IsHeadWithin (end : ℕ) (h : HeadPlaces) : Type 0 where
   pub algorithm : IsSpan end h.algorithm
   pub issuer : IsSpan end h.issuer
-  pub after : at ≤ h.issuer.end
 
--- the two elements of a validity, and what follows it
-abbrev pub placed_validity : List ℕ → ℕ → (Place × Place) × ℕ → (Piece × Piece) × List ℕ
-placed_validity bytes end x = ((piece_at bytes x.0.0, piece_at bytes x.0.1), slice_range bytes x.1 end)
+-- the two elements of a validity, and the bytes that are left after it
+abbrev pub validity_read : List ℕ → (Place × Place) × Reader → (Piece × Piece) × List ℕ
+validity_read bytes x = ((piece_at bytes x.0.0, piece_at bytes x.0.1), left x.1)
 
-abbrev pub IsValidityWithin : ℕ → ℕ → (Place × Place) × ℕ → Type 0
-IsValidityWithin at end x = IsPlace end x.0.0 × IsPlace end x.0.1 × (at ≤ x.1) × (x.1 ≤ end)
+abbrev pub IsValidityRead : Reader → (Place × Place) × Reader → Type 0
+IsValidityRead r x = IsPlace r.end x.0.0 × IsPlace r.end x.0.1 × GoesTo r x.1
 
 abbrev pub body_of : List ℕ → BodyPlaces → Body
 body_of bytes b =
@@ -82,15 +80,14 @@ body_of bytes b =
       spki = part bytes b.spki;
     }
 
-abbrev pub placed_body : List ℕ → ℕ → BodyPlaces → Body × List ℕ
-placed_body bytes end b = (body_of bytes b, slice_range bytes b.spki.end end)
+abbrev pub body_read : List ℕ → BodyPlaces × Reader → Body × List ℕ
+body_read bytes x = (body_of bytes x.0, left x.1)
 
-pub record IsBodyWithin (at end : ℕ) (b : BodyPlaces) : Type 0 where
+pub record IsBodyWithin (end : ℕ) (b : BodyPlaces) : Type 0 where
   pub not_before : IsPlace end b.not_before
   pub not_after : IsPlace end b.not_after
   pub subject : IsSpan end b.subject
   pub spki : IsSpan end b.spki
-  pub after : at ≤ b.spki.end
 
 abbrev pub outer_of : List ℕ → OuterPlaces → Outer
 outer_of bytes o =
@@ -127,30 +124,11 @@ parts_of bytes p =
 pub record ArePlaces (end : ℕ) (p : Places) : Type 0 where
   pub outer : IsOuterWithin 0 end p.outer
   pub front : IsSpan end p.front
-  pub head : IsHeadWithin 0 end p.head
-  pub body : IsBodyWithin 0 end p.body
+  pub head : IsHeadWithin end p.head
+  pub body : IsBodyWithin end p.body
   pub list : IsSpan end p.list
 
 -- the certificate at the places of its parts and of its extensions
 abbrev pub placed_certificate : List ℕ → Places → ℤ → ℤ → List ExtensionPlaces → Cert
 placed_certificate bytes p not_before not_after es =
     certificate_of bytes (parts_of bytes p) not_before not_after (map (extension_of bytes) es)
-
--- what stands from a place on up to the end
-abbrev pub rest_from : List ℕ → ℕ → ℕ → List ℕ
-rest_from bytes end next = slice_range bytes next end
-
--- the content of a place lies below the number
-pub record IsContent (end : ℕ) (p : Place) : Type 0 where
-  pub filled : p.content ≤ p.end
-  pub below : p.end ≤ end
-
--- the part at a span, and what follows it up to the end
-abbrev pub placed_front : List ℕ → ℕ → Span → List ℕ × List ℕ
-placed_front bytes end s = (part bytes s, slice_range bytes s.end end)
-
--- the span lies after the first number, ends after it, and lies below the second
-pub record IsFrontWithin (at end : ℕ) (s : Span) : Type 0 where
-  pub ordered : s.start ≤ s.end
-  pub below : s.end ≤ end
-  pub after : at < s.end

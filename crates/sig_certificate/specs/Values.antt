@@ -9,7 +9,7 @@ use Rattle.sig_der.specs.KeyInfo.{is_empty}
 use Rattle.sig_certificate.specs.declared.values.KeyUsage.{KeyUsage}
 use Rattle.sig_certificate.specs.declared.values.BasicConstraints.{BasicConstraints}
 use Rattle.sig_certificate.specs.Cutting.{flag_at}
-use Rattle.sig_der.specs.Tag.{BIT_STRING, BOOLEAN, INTEGER, OBJECT_IDENTIFIER, SEQUENCE}
+use Rattle.sig_der.specs.Tag.{BIT_STRING, INTEGER, OBJECT_IDENTIFIER, SEQUENCE}
 
 -- ---- key usage, RFC 5280 section 4.2.1.3
 

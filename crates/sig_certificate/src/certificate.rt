@@ -13,11 +13,12 @@ ghost use Rattle.sig_certificate.specs.Certificate.{Cert, IsCertificate};
 ghost use Rattle.sig_certificate.specs.Lookups.{lent, with_oid, are_single, Finds};
 
 use crate::error::X509ReadError;
-use crate::listed::{Listed, listed_at};
+use crate::listed::{Listed, read_listed};
 use crate::lookup::{ExtensionRef, Lookup, lend, look_up};
 use crate::parts::Places;
 use crate::reading::dated_parts;
 use crate::span::part;
+use sig_der::Reader;
 use std::alloc::Global;
 use std::marker::Model;
 
@@ -65,7 +66,12 @@ impl Certificate {
             return Err(X509ReadError::Der);
         };
         let list = dated.places.list;
-        match listed_at(alloc, der, list.start, list.end) {
+        let list = Reader {
+            bytes: der,
+            at: list.start,
+            end: list.end,
+        };
+        match read_listed(alloc, list) {
             Err(e) => Err(e),
             Ok(extensions) => Ok(Certificate {
                 der: Vec::from_slice(alloc, der)?,

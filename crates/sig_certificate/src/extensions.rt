@@ -7,12 +7,13 @@
 //!      extnValue   OCTET STRING }
 //! ```
 
-ghost use Rattle.std.specs.Prelude.{◌≡◌, ◌<◌, ◌≤◌, length, slice_range, option_map, IfSome};
+ghost use Rattle.std.specs.Prelude.{◌≡◌, ◌<◌, option_map, IfSome};
 ghost use Rattle.sig_certificate.specs.Cutting.{boolean_of, flag_at, extension_at};
-ghost use Rattle.sig_certificate.specs.Places.{placed_value, placed_extension, GoesTo, AreSpans};
+ghost use Rattle.sig_certificate.specs.Places.{value_read, extension_read, AreSpans};
+ghost use Rattle.sig_der.specs.Readers.{left, GoesOn, GoesTo};
 
 use crate::span::{Span, content_of, whole_of};
-use sig_der::{optional_at, tag, tagged_at, whole_at};
+use sig_der::{Reader, tag};
 
 /// Where an extension and its parts are in a buffer.
 #[derive(Clone, Copy, Debug)]
@@ -35,46 +36,43 @@ fn boolean(content: &[u8]) -> Option<bool>
     }
 }
 
-/// Reads a BOOLEAN DEFAULT FALSE at `at`, and returns it with the offset of what follows. `None` if a BOOLEAN there
-/// has another value than 00 or FF.
+/// Reads a BOOLEAN DEFAULT FALSE. `None` if a BOOLEAN is next that has another value than 00 or FF.
 #[tactic(auto, unfolding(crate::specs::Cutting::flag_at))]
-pub(crate) fn flag_at(bytes: &[u8], at: usize, end: usize) -> Option<(bool, usize)>
-    requires from { at ≤ end }
-    requires to { end ≤ length bytes.now }
-    ensures cut { flag_at (slice_range bytes.now at end) ≡ option_map (placed_value bytes.now end) result }
-    ensures within { IfSome result (GoesTo at end) }
+pub(crate) fn read_flag(reader: Reader<'_>) -> Option<(bool, Reader<'_>)>
+    ensures cut { flag_at (left reader.entry) ≡ option_map value_read result }
+    ensures within { IfSome result (λ x. GoesTo reader.entry x.1) }
 {
-    let (place, next) = optional_at(bytes, at, end, tag::BOOLEAN)?;
+    let (place, rest) = reader.optional(tag::BOOLEAN)?;
     match place {
-        None => Some((false, next)),
+        None => Some((false, rest)),
         Some(place) => {
-            let flag = boolean(&bytes[place.content..place.end])?;
-            Some((flag, next))
+            let flag = boolean(reader.content(place))?;
+            Some((flag, rest))
         }
     }
 }
 
-/// Reads the extension that begins at `at` and ends at `end` or before it. `None` if there is none.
+/// Reads the extension that is next. `None` if what is left begins with none.
 #[tactic(auto, unfolding(crate::specs::Cutting::extension_at))]
-pub(crate) fn extension_at(bytes: &[u8], at: usize, end: usize) -> Option<ExtensionPlaces>
-    requires from { at ≤ end }
-    requires to { end ≤ length bytes.now }
-    ensures cut { extension_at (slice_range bytes.now at end) ≡ option_map (placed_extension bytes.now end) result }
-    ensures within { IfSome result (AreSpans end) }
-    ensures starts { IfSome result (λ e. e.whole.start ≡ at) }
-    ensures after { IfSome result (λ e. at < e.whole.end) }
+pub(crate) fn read_extension(reader: Reader<'_>) -> Option<(ExtensionPlaces, Reader<'_>)>
+    ensures cut { extension_at (left reader.entry) ≡ option_map (extension_read reader.entry.bytes.now) result }
+    ensures within { IfSome result (λ x. AreSpans reader.entry.end x.0) }
+    ensures starts { IfSome result (λ x. x.0.whole.start ≡ reader.entry.at) }
+    ensures after { IfSome result (λ x. reader.entry.at < x.0.whole.end) }
+    ensures next { IfSome result (λ x. GoesOn reader.entry x.0.whole.end x.1) }
 {
-    let whole = tagged_at(bytes, at, end, tag::SEQUENCE)?;
-    let oid = tagged_at(bytes, whole.content, whole.end, tag::OBJECT_IDENTIFIER)?;
-    let (critical, next) = flag_at(bytes, oid.end, whole.end)?;
-    let value = whole_at(bytes, next, whole.end, tag::OCTET_STRING)?;
-    if bytes[oid.content..oid.end].is_empty() {
+    let (whole, rest) = reader.tagged(tag::SEQUENCE)?;
+    let (oid, inner) = reader.inside(whole).tagged(tag::OBJECT_IDENTIFIER)?;
+    let (critical, inner) = read_flag(inner)?;
+    let value = inner.whole(tag::OCTET_STRING)?;
+    if reader.content(oid).is_empty() {
         return None;
     }
-    Some(ExtensionPlaces {
+    let places = ExtensionPlaces {
         oid: content_of(oid),
         critical,
         value: content_of(value),
         whole: whole_of(whole),
-    })
+    };
+    Some((places, rest))
 }

@@ -1,9 +1,10 @@
 //! The list of a certificate's extensions, and whether two of them have one object identifier: RFC 5280 section 4.2.
 
-ghost use Rattle.std.specs.Prelude.{◌≡◌, ◌≤◌, length, slice_range, map, IfOk};
+ghost use Rattle.std.specs.Prelude.{◌≡◌, map, IfOk};
 ghost use Rattle.std.specs.List.{All};
 ghost use Rattle.std.specs.Ordering.{nat_cmp};
 ghost use Rattle.std.specs.Cmp.Lexicographic.{slice_cmp};
+ghost use Rattle.sig_der.specs.Readers.{left};
 ghost use Rattle.sig_der.specs.Taking.{many_at};
 ghost use Rattle.sig_certificate.specs.Answers.{Reads};
 ghost use Rattle.sig_certificate.specs.Cutting.{extension_at};
@@ -13,8 +14,9 @@ ghost use Rattle.sig_certificate.specs.Places.{part, extension_of, AreSpans, Asc
 
 use crate::error::X509ReadError;
 use crate::extensions::ExtensionPlaces;
-use crate::reading::extensions_at;
+use crate::reading::read_extensions;
 use crate::span::clipped;
+use sig_der::Reader;
 use std::alloc::Global;
 use std::cmp::Ordering;
 
@@ -47,23 +49,17 @@ fn are_single(bytes: &[u8], extensions: &mut [ExtensionPlaces]) -> bool
     single
 }
 
-/// Reads the extensions from `at` to `end` itself. Fails with `Der` if anything else is there, and with `OutOfMemory`.
-pub(crate) fn listed_at(
-    alloc: Global,
-    bytes: &[u8],
-    at: usize,
-    end: usize,
-) -> Result<Listed, X509ReadError>
-    requires from { at ≤ end }
-    requires to { end ≤ length bytes.now }
-    ensures exact { Reads (λ l. map (extension_of bytes.now) l.places.items) result (many_at extension_at (slice_range bytes.now at end)) }
-    ensures within { IfOk result (λ l. All (AreSpans end) l.places.items) }
-    ensures recorded { IfOk result (IsRecorded bytes.now) }
+/// Reads the extensions that are all that is left. Fails with `Der` if anything else is left, and with `OutOfMemory`.
+pub(crate) fn read_listed(alloc: Global, reader: Reader<'_>) -> Result<Listed, X509ReadError>
+    ensures exact { Reads (λ l. map (extension_of reader.entry.bytes.now) l.places.items) result
+        (many_at extension_at (left reader.entry)) }
+    ensures within { IfOk result (λ l. All (AreSpans reader.entry.end) l.places.items) }
+    ensures recorded { IfOk result (IsRecorded reader.entry.bytes.now) }
 {
-    match extensions_at(alloc, bytes, at, end) {
+    match read_extensions(alloc, reader) {
         Err(e) => Err(e),
         Ok(mut places) => {
-            let single = are_single(bytes, places.as_mut_slice());
+            let single = are_single(reader.bytes, places.as_mut_slice());
             Ok(Listed { places, single })
         }
     }

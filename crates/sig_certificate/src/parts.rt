@@ -2,26 +2,27 @@
 //!
 //! ```text
 //! TBSCertificate ::= SEQUENCE {
-//!      version         [0]  EXPLICIT Version DEFAULT v1,          -- head_at
+//!      version         [0]  EXPLICIT Version DEFAULT v1,          -- read_head
 //!      serialNumber         CertificateSerialNumber,
 //!      signature            AlgorithmIdentifier,
 //!      issuer               Name,
-//!      validity             Validity,                             -- body_at
+//!      validity             Validity,                             -- read_body
 //!      subject              Name,
 //!      subjectPublicKeyInfo SubjectPublicKeyInfo,
-//!      issuerUniqueID  [1]  IMPLICIT UniqueIdentifier OPTIONAL,   -- after_ids
+//!      issuerUniqueID  [1]  IMPLICIT UniqueIdentifier OPTIONAL,   -- skip_ids
 //!      subjectUniqueID [2]  IMPLICIT UniqueIdentifier OPTIONAL,
-//!      extensions      [3]  EXPLICIT Extensions OPTIONAL }        -- list_at
+//!      extensions      [3]  EXPLICIT Extensions OPTIONAL }        -- read_list
 //! ```
 
-ghost use Rattle.std.specs.Prelude.{◌≡◌, ◌≤◌, length, slice_range, option_map, IfSome};
+ghost use Rattle.std.specs.Prelude.{◌≡◌, length, option_map, IfSome};
 ghost use Rattle.sig_certificate.specs.Cutting.{version_number, explicit_version, version_at, head_at, validity_at, body_at, after_ids, list_at, outer_at, parts_at};
-ghost use Rattle.sig_certificate.specs.Places.{placed_value, GoesTo, placed_head, IsHeadWithin, placed_validity, IsValidityWithin, placed_body, IsBodyWithin, outer_of, IsOuterWithin, listed_of, IsListedWithin, parts_of, ArePlaces, rest_from};
+ghost use Rattle.sig_certificate.specs.Places.{value_read, head_read, IsHeadWithin, validity_read, IsValidityRead};
+ghost use Rattle.sig_certificate.specs.Places.{body_read, IsBodyWithin, outer_of, IsOuterWithin, listed_of};
+ghost use Rattle.sig_certificate.specs.Places.{IsListedWithin, parts_of, ArePlaces};
+ghost use Rattle.sig_der.specs.Readers.{left, GoesTo};
 
 use crate::span::{Span, content_of, whole_of};
-use sig_der::{
-    Place, algorithm_at, bits_at, key_info_at, optional_at, place_at, tag, tagged_at, whole_at,
-};
+use sig_der::{Place, Reader, read_algorithm, read_bits, read_key_info, tag};
 
 /// The fields of the TBSCertificate up to the issuer.
 #[derive(Clone, Copy, Debug)]
@@ -75,138 +76,126 @@ fn version_number(content: &[u8]) -> Option<u8>
 
 /// The version that the content of an explicit version says: one INTEGER.
 #[tactic(auto, unfolding(crate::specs::Cutting::explicit_version))]
-fn explicit_version(bytes: &[u8], at: usize, end: usize) -> Option<u8>
-    requires from { at ≤ end }
-    requires to { end ≤ length bytes.now }
-    ensures { explicit_version (slice_range bytes.now at end) ≡ result }
+fn explicit_version(reader: Reader<'_>) -> Option<u8>
+    ensures { explicit_version (left reader.entry) ≡ result }
 {
-    let number = whole_at(bytes, at, end, tag::INTEGER)?;
-    version_number(&bytes[number.content..number.end])
+    let number = reader.whole(tag::INTEGER)?;
+    version_number(reader.content(number))
 }
 
-/// Reads the version, which is 1 if the field is absent, and returns it with the offset of what follows.
+/// Reads the version, which is 1 if the field is absent.
 #[tactic(auto, unfolding(crate::specs::Cutting::version_at))]
-fn version_at(bytes: &[u8], at: usize, end: usize) -> Option<(u8, usize)>
-    requires from { at ≤ end }
-    requires to { end ≤ length bytes.now }
-    ensures cut { version_at (slice_range bytes.now at end) ≡ option_map (placed_value bytes.now end) result }
-    ensures within { IfSome result (GoesTo at end) }
+fn read_version(reader: Reader<'_>) -> Option<(u8, Reader<'_>)>
+    ensures cut { version_at (left reader.entry) ≡ option_map value_read result }
+    ensures within { IfSome result (λ x. GoesTo reader.entry x.1) }
 {
-    let (place, next) = optional_at(bytes, at, end, tag::VERSION)?;
+    let (place, rest) = reader.optional(tag::VERSION)?;
     match place {
-        None => Some((1, next)),
+        None => Some((1, rest)),
         Some(place) => {
-            let version = explicit_version(bytes, place.content, place.end)?;
-            Some((version, next))
+            let version = explicit_version(reader.inside(place))?;
+            Some((version, rest))
         }
     }
 }
 
 #[tactic(auto, unfolding(crate::specs::Cutting::head_at))]
-fn head_at(bytes: &[u8], at: usize, end: usize) -> Option<Head>
-    requires from { at ≤ end }
-    requires to { end ≤ length bytes.now }
-    ensures cut { head_at (slice_range bytes.now at end) ≡ option_map (placed_head bytes.now end) result }
-    ensures within { IfSome result (IsHeadWithin at end) }
+fn read_head(reader: Reader<'_>) -> Option<(Head, Reader<'_>)>
+    ensures cut { head_at (left reader.entry) ≡ option_map (head_read reader.entry.bytes.now) result }
+    ensures within { IfSome result (λ x. IsHeadWithin reader.entry.end x.0 × GoesTo reader.entry x.1) }
 {
-    let (version, next) = version_at(bytes, at, end)?;
-    let serial = tagged_at(bytes, next, end, tag::INTEGER)?;
-    let algorithm = algorithm_at(bytes, serial.end, end)?;
-    let issuer = tagged_at(bytes, algorithm.whole.end, end, tag::SEQUENCE)?;
-    if bytes[serial.content..serial.end].is_empty() {
+    let (version, rest) = read_version(reader)?;
+    let (serial, rest) = rest.tagged(tag::INTEGER)?;
+    let (algorithm, rest) = read_algorithm(rest)?;
+    let (issuer, rest) = rest.tagged(tag::SEQUENCE)?;
+    if reader.content(serial).is_empty() {
         return None;
     }
-    Some(Head {
+    let head = Head {
         version,
         algorithm: whole_of(algorithm.whole),
         issuer: whole_of(issuer),
-    })
+    };
+    Some((head, rest))
 }
 
-/// Reads the two elements of the validity at `at`, and returns them with the offset of what follows.
+/// Reads the two elements of the validity.
 #[tactic(auto, unfolding(crate::specs::Cutting::validity_at))]
-fn validity_at(bytes: &[u8], at: usize, end: usize) -> Option<((Place, Place), usize)>
-    requires from { at ≤ end }
-    requires to { end ≤ length bytes.now }
-    ensures cut { validity_at (slice_range bytes.now at end) ≡ option_map (placed_validity bytes.now end) result }
-    ensures within { IfSome result (IsValidityWithin at end) }
+fn read_validity(reader: Reader<'_>) -> Option<((Place, Place), Reader<'_>)>
+    ensures cut { validity_at (left reader.entry) ≡ option_map (validity_read reader.entry.bytes.now) result }
+    ensures within { IfSome result (IsValidityRead reader.entry) }
 {
-    let whole = tagged_at(bytes, at, end, tag::SEQUENCE)?;
-    let not_before = place_at(bytes, whole.content, whole.end)?;
-    let not_after = place_at(bytes, not_before.end, whole.end)?;
-    if bytes[not_after.end..whole.end].is_empty() {
-        Some(((not_before, not_after), whole.end))
+    let (whole, rest) = reader.tagged(tag::SEQUENCE)?;
+    let (not_before, inner) = reader.inside(whole).any()?;
+    let (not_after, inner) = inner.any()?;
+    if inner.is_done() {
+        Some(((not_before, not_after), rest))
     } else {
         None
     }
 }
 
 #[tactic(auto, unfolding(crate::specs::Cutting::body_at))]
-fn body_at(bytes: &[u8], at: usize, end: usize) -> Option<Body>
-    requires from { at ≤ end }
-    requires to { end ≤ length bytes.now }
-    ensures cut { body_at (slice_range bytes.now at end) ≡ option_map (placed_body bytes.now end) result }
-    ensures within { IfSome result (IsBodyWithin at end) }
+fn read_body(reader: Reader<'_>) -> Option<(Body, Reader<'_>)>
+    ensures cut { body_at (left reader.entry) ≡ option_map (body_read reader.entry.bytes.now) result }
+    ensures within { IfSome result (λ x. IsBodyWithin reader.entry.end x.0 × GoesTo reader.entry x.1) }
 {
-    let ((not_before, not_after), next) = validity_at(bytes, at, end)?;
-    let subject = tagged_at(bytes, next, end, tag::SEQUENCE)?;
-    let key = key_info_at(bytes, subject.end, end)?;
-    Some(Body {
+    let ((not_before, not_after), rest) = read_validity(reader)?;
+    let (subject, rest) = rest.tagged(tag::SEQUENCE)?;
+    let (spki, rest) = read_key_info(rest)?;
+    let body = Body {
         not_before,
         not_after,
         subject: whole_of(subject),
-        spki: whole_of(key.whole),
-    })
+        spki: whole_of(spki.whole),
+    };
+    Some((body, rest))
 }
 
-/// Where what follows the two unique identifiers begins. Both are optional.
+/// Reads past the two unique identifiers, which are optional.
 #[tactic(auto, unfolding(crate::specs::Cutting::after_ids))]
-fn after_ids(bytes: &[u8], at: usize, end: usize) -> Option<usize>
-    requires from { at ≤ end }
-    requires to { end ≤ length bytes.now }
-    ensures cut { after_ids (slice_range bytes.now at end) ≡ option_map (rest_from bytes.now end) result }
-    ensures after { IfSome result (λ next. at ≤ next) }
-    ensures before { IfSome result (λ next. next ≤ end) }
+fn skip_ids(reader: Reader<'_>) -> Option<Reader<'_>>
+    ensures cut { after_ids (left reader.entry) ≡ option_map left result }
+    ensures within { IfSome result (GoesTo reader.entry) }
 {
-    let (_, next) = optional_at(bytes, at, end, tag::ISSUER_UNIQUE_ID)?;
-    let (_, next) = optional_at(bytes, next, end, tag::SUBJECT_UNIQUE_ID)?;
-    Some(next)
+    let (_, rest) = reader.optional(tag::ISSUER_UNIQUE_ID)?;
+    let (_, rest) = rest.optional(tag::SUBJECT_UNIQUE_ID)?;
+    Some(rest)
 }
 
-/// Reads the extensions from `at` to `end` itself: whether they are there, and the content of their SEQUENCE. `None`
-/// if anything else is there.
+/// Reads the extensions, which are all that is left: whether they are there, and the content of their SEQUENCE. `None`
+/// if anything else is left.
 #[tactic(auto, unfolding(crate::specs::Cutting::list_at))]
-fn list_at(bytes: &[u8], at: usize, end: usize) -> Option<(bool, Span)>
-    requires from { at ≤ end }
-    requires to { end ≤ length bytes.now }
-    ensures cut { list_at (slice_range bytes.now at end) ≡ option_map (listed_of bytes.now) result }
-    ensures within { IfSome result (IsListedWithin end) }
+fn read_list(reader: Reader<'_>) -> Option<(bool, Span)>
+    ensures cut { list_at (left reader.entry) ≡ option_map (listed_of reader.entry.bytes.now) result }
+    ensures within { IfSome result (IsListedWithin reader.entry.end) }
 {
-    let (place, next) = optional_at(bytes, at, end, tag::EXTENSIONS)?;
-    if !bytes[next..end].is_empty() {
+    let (place, rest) = reader.optional(tag::EXTENSIONS)?;
+    if !rest.is_done() {
         return None;
     }
     match place {
-        None => Some((false, Span { start: end, end })),
+        None => {
+            let end = reader.end;
+            Some((false, Span { start: end, end }))
+        }
         Some(place) => {
-            let sequence = whole_at(bytes, place.content, place.end, tag::SEQUENCE)?;
+            let sequence = reader.inside(place).whole(tag::SEQUENCE)?;
             Some((true, content_of(sequence)))
         }
     }
 }
 
-/// The three parts of the certificate from `at` to `end` itself.
+/// The three parts of the certificate that is all that is left.
 #[tactic(auto, unfolding(crate::specs::Cutting::outer_at))]
-fn outer_at(bytes: &[u8], at: usize, end: usize) -> Option<Outer>
-    requires from { at ≤ end }
-    requires to { end ≤ length bytes.now }
-    ensures cut { outer_at (slice_range bytes.now at end) ≡ option_map (outer_of bytes.now) result }
-    ensures within { IfSome result (IsOuterWithin at end) }
+fn read_outer(reader: Reader<'_>) -> Option<Outer>
+    ensures cut { outer_at (left reader.entry) ≡ option_map (outer_of reader.entry.bytes.now) result }
+    ensures within { IfSome result (IsOuterWithin reader.entry.at reader.entry.end) }
 {
-    let whole = whole_at(bytes, at, end, tag::SEQUENCE)?;
-    let tbs = tagged_at(bytes, whole.content, whole.end, tag::SEQUENCE)?;
-    let algorithm = algorithm_at(bytes, tbs.end, whole.end)?;
-    let bits = bits_at(bytes, algorithm.whole.end, whole.end)?;
+    let whole = reader.whole(tag::SEQUENCE)?;
+    let (tbs, rest) = reader.inside(whole).tagged(tag::SEQUENCE)?;
+    let (algorithm, rest) = read_algorithm(rest)?;
+    let bits = read_bits(rest)?;
     Some(Outer {
         tbs,
         algorithm: whole_of(algorithm.whole),
@@ -217,23 +206,21 @@ fn outer_at(bytes: &[u8], at: usize, end: usize) -> Option<Outer>
     })
 }
 
-/// Reads the parts of the certificate from `at` to `end` itself, but for what its extensions are. `None` if there is
-/// none.
+/// Reads the parts of the certificate that is all that is left, but for what its extensions are. `None` if it is none.
 #[tactic(auto, unfolding(crate::specs::Cutting::parts_at), using(crate::proofs::Fronts::front_is))]
-fn parts_at(bytes: &[u8], at: usize, end: usize) -> Option<Places>
-    requires from { at ≤ end }
-    requires to { end ≤ length bytes.now }
-    ensures cut { parts_at (slice_range bytes.now at end) ≡ option_map (parts_of bytes.now) result }
-    ensures within { IfSome result (ArePlaces end) }
+fn read_parts(reader: Reader<'_>) -> Option<Places>
+    ensures cut { parts_at (left reader.entry) ≡ option_map (parts_of reader.entry.bytes.now) result }
+    ensures within { IfSome result (ArePlaces reader.entry.end) }
 {
-    let outer = outer_at(bytes, at, end)?;
-    let head = head_at(bytes, outer.tbs.content, outer.tbs.end)?;
-    let body = body_at(bytes, head.issuer.end, outer.tbs.end)?;
-    let next = after_ids(bytes, body.spki.end, outer.tbs.end)?;
-    let (listed, list) = list_at(bytes, next, outer.tbs.end)?;
+    let outer = read_outer(reader)?;
+    let tbs = reader.inside(outer.tbs);
+    let (head, rest) = read_head(tbs)?;
+    let (body, rest) = read_body(rest)?;
+    let rest = skip_ids(rest)?;
+    let (listed, list) = read_list(rest)?;
     let front = Span {
-        start: outer.tbs.content,
-        end: next,
+        start: tbs.at,
+        end: rest.at,
     };
     Some(Places {
         outer,
@@ -246,10 +233,9 @@ fn parts_at(bytes: &[u8], at: usize, end: usize) -> Option<Places>
 }
 
 /// Reads the parts of the certificate that the bytes are, but for what its extensions are. `None` if they are none.
-#[tactic(auto, using(crate::proofs::Fronts::part_whole))]
 pub(crate) fn parts_of(der: &[u8]) -> Option<Places>
     ensures cut { parts_at der.now ≡ option_map (parts_of der.now) result }
     ensures within { IfSome result (ArePlaces (length der.now)) }
 {
-    parts_at(der, 0, der.len())
+    read_parts(Reader::new(der))
 }

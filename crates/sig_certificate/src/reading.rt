@@ -1,7 +1,8 @@
 //! Reading a certificate into ranges of its DER.
 
-ghost use Rattle.std.specs.Prelude.{◌≡◌, ◌≤◌, ℤ, length, slice_range, map, IfOk, IfSome};
+ghost use Rattle.std.specs.Prelude.{◌≡◌, ℤ, length, map, IfOk, IfSome};
 ghost use Rattle.std.specs.List.{All};
+ghost use Rattle.sig_der.specs.Readers.{left};
 ghost use Rattle.sig_der.specs.Taking.{many_at};
 ghost use Rattle.sig_certificate.specs.Answers.{Reads};
 ghost use Rattle.sig_certificate.specs.Cutting.{Parts, extension_at, IsCut};
@@ -9,9 +10,10 @@ ghost use Rattle.sig_certificate.specs.Places.{extension_of, parts_of, AreSpans,
 ghost use Rattle.sig_certificate.specs.Held.{IsDatedAs};
 
 use crate::error::X509ReadError;
-use crate::extensions::{ExtensionPlaces, extension_at};
+use crate::extensions::{ExtensionPlaces, read_extension};
 use crate::parts::{Places, parts_of};
 use crate::seconds::second_at;
+use sig_der::Reader;
 use std::alloc::Global;
 
 /// A certificate whose extensions are not read yet: the ranges of its parts, and the times of its validity in seconds
@@ -40,26 +42,23 @@ pub(crate) fn dated_parts(der: &[u8]) -> Option<Dated>
     })
 }
 
-/// Reads the extensions from `at` to `end` itself. Fails with `Der` if anything else is there, and with `OutOfMemory`.
-pub(crate) fn extensions_at(
+/// Reads the extensions that are all that is left. Fails with `Der` if anything else is left, and with `OutOfMemory`.
+pub(crate) fn read_extensions(
     alloc: Global,
-    bytes: &[u8],
-    at: usize,
-    end: usize,
+    reader: Reader<'_>,
 ) -> Result<Vec<ExtensionPlaces>, X509ReadError>
-    requires from { at ≤ end }
-    requires to { end ≤ length bytes.now }
-    ensures exact { Reads (λ v. map (extension_of bytes.now) v.items) result (many_at extension_at (slice_range bytes.now at end)) }
-    ensures within { IfOk result (λ v. All (AreSpans end) v.items) }
+    ensures exact { Reads (λ v. map (extension_of reader.entry.bytes.now) v.items) result
+        (many_at extension_at (left reader.entry)) }
+    ensures within { IfOk result (λ v. All (AreSpans reader.entry.end) v.items) }
     ensures ascend { IfOk result (λ v. Ascend v.items) }
 {
     let mut found = Vec::new(alloc);
-    let mut next = at;
-    while next < end {
-        match extension_at(bytes, next, end) {
+    let mut rest = reader;
+    while !rest.is_done() {
+        match read_extension(rest) {
             None => return Err(X509ReadError::Der),
-            Some(extension) => {
-                next = extension.whole.end;
+            Some((extension, after)) => {
+                rest = after;
                 found.push(extension)?;
             }
         }

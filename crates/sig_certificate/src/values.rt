@@ -8,15 +8,12 @@
 //!      pathLenConstraint   INTEGER (0..MAX) OPTIONAL }
 //! ```
 
-ghost use Rattle.std.specs.Prelude.{◌≡◌, ◌≤◌, ◌<◌, length, slice_range, option_map, IfSome};
-ghost use Rattle.sig_der.specs.Taking.{take_whole};
-ghost use Rattle.sig_der.specs.Places.{piece_at};
-ghost use Rattle.sig_certificate.specs.Places.{placed_value, IsContent, IsFrontWithin, placed_front};
+ghost use Rattle.std.specs.Prelude.{◌≡◌, option_map};
+ghost use Rattle.sig_der.specs.Readers.{left};
 ghost use Rattle.sig_certificate.specs.Values.{usage_of, key_usage_of, oid_at, number_of, constraints_in, basic_constraints_of};
 
-use crate::extensions::flag_at;
-use crate::span::Span;
-use sig_der::{Place, optional_at, tag, tagged_at, whole_at};
+use crate::extensions::read_flag;
+use sig_der::{Reader, tag, take_tag, take_whole};
 
 /// The bits of a key usage that decide here: RFC 5280 section 4.2.1.3.
 #[derive(Clone, Copy, Debug)]
@@ -34,15 +31,6 @@ pub struct BasicConstraints {
     pub ca: bool,
     /// How many intermediates may follow, if that is limited.
     pub path_len: Option<u32>,
-}
-
-/// Returns the element of this tag that the whole value is.
-#[tactic(auto, using(crate::proofs::Fronts::part_whole))]
-pub(crate) fn content_at(value: &[u8], tag: u8) -> Option<Place>
-    ensures cut { take_whole tag value.now ≡ option_map (piece_at value.now) result }
-    ensures within { IfSome result (IsContent (length value.now)) }
-{
-    whole_at(value, 0, value.len(), tag)
 }
 
 #[tactic(auto, unfolding(crate::specs::Values::usage_of))]
@@ -67,26 +55,21 @@ fn usage(content: &[u8]) -> Option<KeyUsage>
 pub(crate) fn read_key_usage(value: &[u8]) -> Option<KeyUsage>
     ensures { result ≡ key_usage_of value.now }
 {
-    let string = content_at(value, tag::BIT_STRING)?;
-    usage(&value[string.content..string.end])
+    let string = take_whole(value, tag::BIT_STRING)?;
+    usage(string.content)
 }
 
-/// Reads the object identifier that begins at `at`. `None` if there is none, or an empty one.
+/// Returns the contents octets of the object identifier at the front of the bytes, and what follows it. `None` if there
+/// is none, or an empty one.
 #[tactic(auto, unfolding(crate::specs::Values::oid_at))]
-pub(crate) fn oid_at(bytes: &[u8], at: usize, end: usize) -> Option<Span>
-    requires from { at ≤ end }
-    requires to { end ≤ length bytes.now }
-    ensures cut { oid_at (slice_range bytes.now at end) ≡ option_map (placed_front bytes.now end) result }
-    ensures within { IfSome result (IsFrontWithin at end) }
+pub(crate) fn take_oid(bytes: &[u8]) -> Option<(&[u8], &[u8])>
+    ensures { oid_at bytes.now ≡ option_map (λ x. (x.0.now, x.1.now)) result }
 {
-    let oid = tagged_at(bytes, at, end, tag::OBJECT_IDENTIFIER)?;
-    if bytes[oid.content..oid.end].is_empty() {
+    let (oid, rest) = take_tag(bytes, tag::OBJECT_IDENTIFIER)?;
+    if oid.content.is_empty() {
         return None;
     }
-    Some(Span {
-        start: oid.content,
-        end: oid.end,
-    })
+    Some((oid.content, rest))
 }
 
 /// The INTEGER of this content, which is minimal, not negative and has at most four bytes.
@@ -107,18 +90,16 @@ fn number(content: &[u8]) -> Option<u32>
 }
 
 #[tactic(auto, unfolding(crate::specs::Values::constraints_in))]
-fn constraints_at(bytes: &[u8], at: usize, end: usize) -> Option<BasicConstraints>
-    requires from { at ≤ end }
-    requires to { end ≤ length bytes.now }
-    ensures { constraints_in (slice_range bytes.now at end) ≡ result }
+fn read_constraints(reader: Reader<'_>) -> Option<BasicConstraints>
+    ensures { constraints_in (left reader.entry) ≡ result }
 {
-    let (ca, next) = flag_at(bytes, at, end)?;
-    let (place, next) = optional_at(bytes, next, end, tag::INTEGER)?;
+    let (ca, rest) = read_flag(reader)?;
+    let (place, rest) = rest.optional(tag::INTEGER)?;
     let path_len = match place {
         None => None,
-        Some(place) => Some(number(&bytes[place.content..place.end])?),
+        Some(place) => Some(number(reader.content(place))?),
     };
-    if bytes[next..end].is_empty() {
+    if rest.is_done() {
         Some(BasicConstraints { ca, path_len })
     } else {
         None
@@ -130,6 +111,6 @@ fn constraints_at(bytes: &[u8], at: usize, end: usize) -> Option<BasicConstraint
 pub(crate) fn read_basic_constraints(value: &[u8]) -> Option<BasicConstraints>
     ensures { result ≡ basic_constraints_of value.now }
 {
-    let sequence = content_at(value, tag::SEQUENCE)?;
-    constraints_at(value, sequence.content, sequence.end)
+    let sequence = take_whole(value, tag::SEQUENCE)?;
+    read_constraints(Reader::new(sequence.content))
 }

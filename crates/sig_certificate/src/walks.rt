@@ -1,14 +1,13 @@
 //! Walks over the lists in extension values, which keep no list.
 
-ghost use Rattle.std.specs.Prelude.{◌≡◌, ◌≤◌, ◌||◌, length, slice_range, option_map, is_some};
-ghost use Rattle.sig_der.specs.Taking.{many_at, take_whole};
+ghost use Rattle.std.specs.Prelude.{◌≡◌, ◌||◌, option_map, is_some};
+ghost use Rattle.sig_der.specs.Taking.{many_at};
 ghost use Rattle.sig_certificate.specs.Names.{names_of};
 ghost use Rattle.sig_certificate.specs.Values.{oid_at, has_purpose, purposes_of};
 
 use crate::general_names::alternative_names;
-use crate::span::part;
-use crate::values::{content_at, oid_at};
-use sig_der::tag;
+use crate::values::take_oid;
+use sig_der::{tag, take_whole};
 
 fn either(left: bool, right: bool) -> bool
     ensures { result ≡ (left || right) }
@@ -16,20 +15,18 @@ fn either(left: bool, right: bool) -> bool
     left || right
 }
 
-/// Returns whether this object identifier is among those from `at` to `end` itself. `None` if anything else is there.
-fn purpose_among(bytes: &[u8], at: usize, end: usize, purpose: &[u8]) -> Option<bool>
-    requires from { at ≤ end }
-    requires to { end ≤ length bytes.now }
-    ensures { option_map (has_purpose purpose.now) (many_at oid_at (slice_range bytes.now at end)) ≡ result }
+/// Returns whether this object identifier is among those that the bytes are. `None` if they are anything else.
+fn purpose_among(bytes: &[u8], purpose: &[u8]) -> Option<bool>
+    ensures { option_map (has_purpose purpose.now) (many_at oid_at bytes.now) ≡ result }
 {
     let mut found = false;
-    let mut next = at;
-    while next < end {
-        match oid_at(bytes, next, end) {
+    let mut rest = bytes;
+    while !rest.is_empty() {
+        match take_oid(rest) {
             None => return None,
-            Some(oid) => {
-                found = either(found, part(bytes, oid) == purpose);
-                next = oid.end;
+            Some((oid, after)) => {
+                found = either(found, oid == purpose);
+                rest = after;
             }
         }
     }
@@ -42,8 +39,8 @@ fn purpose_among(bytes: &[u8], at: usize, end: usize, purpose: &[u8]) -> Option<
 pub fn read_purpose(value: &[u8], purpose: &[u8]) -> Option<bool>
     ensures { option_map (has_purpose purpose.now) (purposes_of value.now) ≡ result }
 {
-    let sequence = content_at(value, tag::SEQUENCE)?;
-    purpose_among(value, sequence.content, sequence.end, purpose)
+    let sequence = take_whole(value, tag::SEQUENCE)?;
+    purpose_among(sequence.content, purpose)
 }
 
 /// Whether alternative names of this value are well formed.

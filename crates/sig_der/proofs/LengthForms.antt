@@ -1,10 +1,10 @@
 -- What is spelled of a length is the definite form with the fewest octets, and nothing else is.
-use Rattle.std.proofs.Common.{◌≡◌, ◌≢◌, ℕ, suc, ◌+◌, ◌-◌, ◌*◌, ◌/◌, ◌%◌, ◌^◌, ◌<◌, ◌≤◌, List, [], ◌∷◌, length, refl, sym, ap, subst, ◌∙◌, arith, inl, inr}
+use Rattle.std.proofs.Common.{◌≡◌, ℕ, suc, ◌+◌, ◌-◌, ◌*◌, ◌/◌, ◌%◌, ◌^◌, ◌<◌, ◌≤◌, List, [], ◌∷◌, length, sym, ap, subst, ◌∙◌, arith, inl, inr}
 use Rattle.std.specs.List.{AllByRecursion}
 use Rattle.std.proofs.lemmas.Bool.{cases_lt}
 use Rattle.std.proofs.Math.Nat.{pow-suc, one-le-pow}
 use Rattle.sig_der.specs.Element.{spelled_length}
-use Rattle.sig_der.specs.Length.{octets_number, IsShortForm, IsLongForm, IsLength}
+use Rattle.sig_der.specs.Length.{octets_number, IsLongForm, IsLength}
 use Rattle.sig_der.proofs.Lengths.{spelled_short, spelled_one, spelled_two, spelled_three, spelled_four}
 
 -- ---- what is spelled is such a form

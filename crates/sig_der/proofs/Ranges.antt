@@ -1,11 +1,11 @@
 -- A part of a text that lies between two parts, and the place of an element within a text.
 use Rattle.std.proofs.Common.{◌≡◌, ◌≢◌, ℕ, ◌+◌, ◌-◌, ◌<◌, ◌≤◌, List, [], ◌∷◌, ◌++◌, length, take, drop, refl, sym, ap, ◌∙◌, append_assoc, arith}
 use Rattle.std.specs.Prelude.{slice_range}
-use Rattle.std.proofs.lemmas.List.{take_at, drop_at, take-append-drop, length-append, length-take-le, length-drop}
+use Rattle.std.proofs.lemmas.List.{take_at, take_all, drop_at, take-append-drop, length-append, length-take-le, length-drop}
 use Rattle.std.proofs.lemmas.List.Folds.{drop_split}
 use Rattle.sig_der.specs.Element.{StandsFirst, spelled_length}
 use Rattle.sig_der.specs.Reading.{Piece}
-use Rattle.sig_der.specs.Places.{placed}
+use Rattle.sig_der.specs.Places.{piece_at}
 
 pub slice_of : (a b c text : List ℕ) (i j : ℕ) → text ≡ a ++ (b ++ c) → i ≡ length a → j ≡ length a + length b → slice_range text i j ≡ b
 slice_of a b c text i j is from to =
@@ -19,6 +19,9 @@ around bytes at end le = sym (take-append-drop at bytes) ∙ ap (λ (w : List �
 pub length-part : (bytes : List ℕ) (at end : ℕ) → at ≤ end → end ≤ length bytes → length (slice_range bytes at end) ≡ end - at
 length-part bytes at end from to = length-take-le (end - at) (drop at bytes) (omega (arith, length-drop at bytes))
 
+pub part_whole : (bytes : List ℕ) (n : ℕ) → n ≡ length bytes → slice_range bytes 0 n ≡ bytes
+part_whole bytes n is = take_all (n - 0) bytes (omega (arith, is))
+
 abbrev found_front : ℕ → List ℕ → List ℕ → List ℕ → Piece × List ℕ
 found_front tag whole content rest = (record { tag = tag; whole = whole; content = content }, rest)
 
@@ -30,7 +33,10 @@ same_front tag whole1 whole2 content1 content2 rest1 rest2 a b c = cc
 pub placed_is : (bytes : List ℕ) (at end : ℕ) → at ≤ end → end ≤ length bytes → (tag : ℕ) (whole content rest : List ℕ)
     → StandsFirst whole tag content rest (slice_range bytes at end)
     → found_front tag whole content rest
-    ≡ placed bytes end (record { tag = tag; start = at; content = end - length rest - length content; end = end - length rest })
+    ≡ (
+      piece_at bytes (record { tag = tag; start = at; content = end - length rest - length content; end = end - length rest }),
+      slice_range bytes (end - length rest) end,
+    )
 placed_is bytes at end from to tag whole content rest first =
     let before = take at bytes in
     let after = drop end bytes in

@@ -4,7 +4,9 @@ use Rattle.sig_der.specs.declared.place.Place.{Place}
 use Rattle.sig_der.specs.declared.key_info.AlgorithmPlaces.{AlgorithmPlaces}
 use Rattle.sig_der.specs.declared.key_info.KeyInfoPlaces.{KeyInfoPlaces}
 use Rattle.sig_der.specs.Reading.{Piece}
+use Rattle.sig_der.specs.declared.reader.Reader.{Reader}
 use Rattle.sig_der.specs.Places.{piece_at, IsWithin}
+use Rattle.sig_der.specs.Readers.{left, GoesOn}
 use Rattle.sig_der.specs.KeyInfo.{Algorithm, KeyInfo}
 
 abbrev pub placed_option : List ℕ → Option Place → Option Piece
@@ -19,9 +21,9 @@ algorithm_of bytes a =
       parameters = placed_option bytes a.parameters;
     }
 
--- the algorithm at the places, and what follows it up to the end
-abbrev pub placed_algorithm : List ℕ → ℕ → AlgorithmPlaces → Algorithm × List ℕ
-placed_algorithm bytes end a = (algorithm_of bytes a, slice_range bytes a.whole.end end)
+-- the algorithm that was read, and the bytes that are left after it
+abbrev pub algorithm_read : List ℕ → AlgorithmPlaces × Reader → Algorithm × List ℕ
+algorithm_read bytes x = (algorithm_of bytes x.0, left x.1)
 
 -- what stands from the second number on up to the first
 abbrev pub part_from : List ℕ → ℕ → ℕ → List ℕ
@@ -36,9 +38,9 @@ key_info_of bytes k =
       bits = slice_range bytes k.bits k.whole.end;
     }
 
--- the key info at the places, and what follows it up to the end
-abbrev pub placed_key_info : List ℕ → ℕ → KeyInfoPlaces → KeyInfo × List ℕ
-placed_key_info bytes end k = (key_info_of bytes k, slice_range bytes k.whole.end end)
+-- the SubjectPublicKeyInfo that was read, and the bytes that are left after it
+abbrev pub key_info_read : List ℕ → KeyInfoPlaces × Reader → KeyInfo × List ℕ
+key_info_read bytes x = (key_info_of bytes x.0, left x.1)
 
 -- the place, if there is one, lies between the two numbers
 abbrev pub IsOneWithin : ℕ → ℕ → Option Place → Type 0
@@ -56,3 +58,10 @@ pub record IsKeyInfoWithin (at end : ℕ) (k : KeyInfoPlaces) : Type 0 where
   pub algorithm : IsAlgorithmWithin k.whole.content k.whole.end k.algorithm
   pub after : k.algorithm.whole.end ≤ k.bits
   pub before : k.bits ≤ k.whole.end
+
+-- what was read lies in what was left to the reader, and the second reader goes on after it
+abbrev pub IsAlgorithmRead : Reader → AlgorithmPlaces × Reader → Type 0
+IsAlgorithmRead r x = IsAlgorithmWithin r.at r.end x.0 × GoesOn r x.0.whole.end x.1
+
+abbrev pub IsKeyInfoRead : Reader → KeyInfoPlaces × Reader → Type 0
+IsKeyInfoRead r x = IsKeyInfoWithin r.at r.end x.0 × GoesOn r x.0.whole.end x.1

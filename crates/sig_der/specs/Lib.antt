@@ -9,6 +9,7 @@ pub mod Children
 pub mod Walks
 pub mod Taking
 pub mod Places
+pub mod Readers
 pub mod Joined
 pub mod KeyInfo
 pub mod KeyInfoPlaces

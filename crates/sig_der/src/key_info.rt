@@ -1,4 +1,4 @@
-//! The parts of AlgorithmIdentifier and SubjectPublicKeyInfo by their offsets in one buffer.
+//! AlgorithmIdentifier and SubjectPublicKeyInfo, by the offsets of their parts in one buffer.
 //!
 //! ```text
 //! AlgorithmIdentifier  ::= SEQUENCE {                     -- RFC 5280 section 4.1.1.2
@@ -9,11 +9,14 @@
 //!      subjectPublicKey     BIT STRING }                  -- of whole octets here
 //! ```
 
-ghost use Rattle.std.specs.Prelude.{◌≡◌, ◌≤◌, length, slice_range, option_map, IfSome};
+ghost use Rattle.std.specs.Prelude.{◌≡◌, ◌≤◌, length, option_map, IfSome};
 ghost use Rattle.sig_der.specs.KeyInfo.{at_most_one, algorithm_at, bits_of, key_info_at, whole_key_info};
-ghost use Rattle.sig_der.specs.KeyInfoPlaces.{placed_option, placed_algorithm, placed_key_info, key_info_of, part_from, IsOneWithin, IsAlgorithmWithin, IsKeyInfoWithin};
+ghost use Rattle.sig_der.specs.KeyInfoPlaces.{placed_option, algorithm_read, key_info_read, key_info_of, part_from};
+ghost use Rattle.sig_der.specs.KeyInfoPlaces.{IsOneWithin, IsAlgorithmRead, IsKeyInfoRead, IsKeyInfoWithin};
+ghost use Rattle.sig_der.specs.Readers.{left};
 
-use crate::place::{Place, place_at, tagged_at, whole_at};
+use crate::place::Place;
+use crate::reader::Reader;
 use crate::tag;
 
 /// Where an AlgorithmIdentifier and its parts are in a buffer.
@@ -38,78 +41,73 @@ pub struct KeyInfoPlaces {
     pub bits: usize,
 }
 
-/// Reads the AlgorithmIdentifier that begins at `at` and ends at `end` or before it. `None` if there is none.
+/// Reads the AlgorithmIdentifier that is next. `None` if what is left begins with none.
 #[tactic(auto, unfolding(crate::specs::KeyInfo::algorithm_at))]
-pub fn algorithm_at(bytes: &[u8], at: usize, end: usize) -> Option<AlgorithmPlaces>
-    requires from { at ≤ end }
-    requires to { end ≤ length bytes.now }
-    ensures cut { algorithm_at (slice_range bytes.now at end) ≡ option_map (placed_algorithm bytes.now end) result }
-    ensures within { IfSome result (IsAlgorithmWithin at end) }
+pub fn read_algorithm(reader: Reader<'_>) -> Option<(AlgorithmPlaces, Reader<'_>)>
+    ensures cut { algorithm_at (left reader.entry) ≡ option_map (algorithm_read reader.entry.bytes.now) result }
+    ensures within { IfSome result (IsAlgorithmRead reader.entry) }
 {
-    let whole = tagged_at(bytes, at, end, tag::SEQUENCE)?;
-    let oid = tagged_at(bytes, whole.content, whole.end, tag::OBJECT_IDENTIFIER)?;
-    let parameters = one_at_most(bytes, oid.end, whole.end)?;
-    if bytes[oid.content..oid.end].is_empty() {
+    let (whole, rest) = reader.tagged(tag::SEQUENCE)?;
+    let (oid, inner) = reader.inside(whole).tagged(tag::OBJECT_IDENTIFIER)?;
+    let parameters = at_most_one(inner)?;
+    if reader.content(oid).is_empty() {
         return None;
     }
-    Some(AlgorithmPlaces {
+    let places = AlgorithmPlaces {
         whole,
         oid,
         parameters,
-    })
+    };
+    Some((places, rest))
 }
 
+/// The element that is all that is left, if anything is. `None` if anything else is left.
 #[tactic(auto, unfolding(crate::specs::KeyInfo::at_most_one))]
-fn one_at_most(bytes: &[u8], at: usize, end: usize) -> Option<Option<Place>>
-    requires from { at ≤ end }
-    requires to { end ≤ length bytes.now }
-    ensures cut { at_most_one (slice_range bytes.now at end) ≡ option_map (placed_option bytes.now) result }
-    ensures within { IfSome result (IsOneWithin at end) }
+fn at_most_one(reader: Reader<'_>) -> Option<Option<Place>>
+    ensures cut { at_most_one (left reader.entry) ≡ option_map (placed_option reader.entry.bytes.now) result }
+    ensures within { IfSome result (IsOneWithin reader.entry.at reader.entry.end) }
 {
-    if bytes[at..end].is_empty() {
+    if reader.is_done() {
         return Some(None);
     }
-    let place = place_at(bytes, at, end)?;
-    if bytes[place.end..end].is_empty() {
+    let (place, rest) = reader.any()?;
+    if rest.is_done() {
         Some(Some(place))
     } else {
         None
     }
 }
 
-/// Returns where the bits begin of the BIT STRING without unused bits that begins at `at` and ends at `end` itself. `None` if there
-/// is no such BIT STRING.
+/// Returns where the bits begin of the BIT STRING without unused bits that is all that is left. `None` if it is no such BIT
+/// STRING.
 #[tactic(auto, unfolding(crate::specs::KeyInfo::bits_of, crate::specs::KeyInfo::after_zero))]
-pub fn bits_at(bytes: &[u8], at: usize, end: usize) -> Option<usize>
-    requires from { at ≤ end }
-    requires to { end ≤ length bytes.now }
-    ensures cut { bits_of (slice_range bytes.now at end) ≡ option_map (part_from bytes.now end) result }
-    ensures after { IfSome result (λ n. at ≤ n) }
-    ensures before { IfSome result (λ n. n ≤ end) }
+pub fn read_bits(reader: Reader<'_>) -> Option<usize>
+    ensures cut { bits_of (left reader.entry) ≡ option_map (part_from reader.entry.bytes.now reader.entry.end) result }
+    ensures after { IfSome result (λ n. reader.entry.at ≤ n) }
+    ensures before { IfSome result (λ n. n ≤ reader.entry.end) }
 {
-    let string = whole_at(bytes, at, end, tag::BIT_STRING)?;
-    match &bytes[string.content..string.end] {
+    let string = reader.whole(tag::BIT_STRING)?;
+    match reader.content(string) {
         [0, ..] => Some(string.content + 1),
         _ => None,
     }
 }
 
-/// Reads the SubjectPublicKeyInfo that begins at `at` and ends at `end` or before it. `None` if there is none.
+/// Reads the SubjectPublicKeyInfo that is next. `None` if what is left begins with none.
 #[tactic(auto, unfolding(crate::specs::KeyInfo::key_info_at))]
-pub fn key_info_at(bytes: &[u8], at: usize, end: usize) -> Option<KeyInfoPlaces>
-    requires from { at ≤ end }
-    requires to { end ≤ length bytes.now }
-    ensures cut { key_info_at (slice_range bytes.now at end) ≡ option_map (placed_key_info bytes.now end) result }
-    ensures within { IfSome result (IsKeyInfoWithin at end) }
+pub fn read_key_info(reader: Reader<'_>) -> Option<(KeyInfoPlaces, Reader<'_>)>
+    ensures cut { key_info_at (left reader.entry) ≡ option_map (key_info_read reader.entry.bytes.now) result }
+    ensures within { IfSome result (IsKeyInfoRead reader.entry) }
 {
-    let whole = tagged_at(bytes, at, end, tag::SEQUENCE)?;
-    let algorithm = algorithm_at(bytes, whole.content, whole.end)?;
-    let bits = bits_at(bytes, algorithm.whole.end, whole.end)?;
-    Some(KeyInfoPlaces {
+    let (whole, rest) = reader.tagged(tag::SEQUENCE)?;
+    let (algorithm, inner) = read_algorithm(reader.inside(whole))?;
+    let bits = read_bits(inner)?;
+    let places = KeyInfoPlaces {
         whole,
         algorithm,
         bits,
-    })
+    };
+    Some((places, rest))
 }
 
 /// Reads the SubjectPublicKeyInfo that the bytes are. `None` if they are none.
@@ -118,10 +116,6 @@ pub fn whole_key_info(bytes: &[u8]) -> Option<KeyInfoPlaces>
     ensures cut { whole_key_info bytes.now ≡ option_map (key_info_of bytes.now) result }
     ensures within { IfSome result (IsKeyInfoWithin 0 (length bytes.now)) }
 {
-    let info = key_info_at(bytes, 0, bytes.len())?;
-    if bytes[info.whole.end..].is_empty() {
-        Some(info)
-    } else {
-        None
-    }
+    let (info, rest) = read_key_info(Reader::new(bytes))?;
+    if rest.is_done() { Some(info) } else { None }
 }

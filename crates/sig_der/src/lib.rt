@@ -12,6 +12,7 @@ mod moment;
 pub mod oid;
 mod out;
 mod place;
+mod reader;
 mod stamp;
 pub mod tag;
 mod taking;
@@ -22,10 +23,11 @@ mod write;
 pub use element::{Element, read_all, read_element};
 pub use iter::Children;
 pub use key_info::{
-    AlgorithmPlaces, KeyInfoPlaces, algorithm_at, bits_at, key_info_at, whole_key_info,
+    AlgorithmPlaces, KeyInfoPlaces, read_algorithm, read_bits, read_key_info, whole_key_info,
 };
 pub use out::DerOut;
-pub use place::{Place, optional_at, place_at, tagged_at, whole_at};
+pub use place::Place;
+pub use reader::Reader;
 pub use stamp::rfc3339_second;
 pub use taking::{take_any, take_tag, take_whole};
 pub use time::time_of;

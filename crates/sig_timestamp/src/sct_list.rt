@@ -23,7 +23,7 @@ ghost use Rattle.sig_timestamp.specs.Lent.{both_now, sct_now, part_now};
 use crate::opaque::{bytes_at, vector_at, whole_vector};
 use crate::sct_error::CertificateErrorKind;
 use sig_der::tag::OCTET_STRING;
-use sig_der::whole_at;
+use sig_der::take_whole;
 
 /// The version of SCTs (RFC 6962 section 3.2).
 pub(crate) const SCT_V1: u8 = 0;
@@ -79,12 +79,12 @@ fn signed_at(bytes: &[u8]) -> Option<(&[u8], &[u8])>
 }
 
 /// Returns the bytes of the list that is the value of an extension, without its lengths.
-#[tactic(auto, using(sig_certificate::proofs::Spans::all_part), unfolding(crate::specs::SctList::list_in))]
+#[tactic(auto, unfolding(crate::specs::SctList::list_in))]
 pub(crate) fn list_in(value: &[u8]) -> Option<&[u8]>
     ensures { list_in value.now ≡ option_map (λ l. l.now) result }
 {
-    let string = whole_at(value, 0, value.len(), OCTET_STRING)?;
-    whole_vector(&value[string.content..string.end])
+    let string = take_whole(value, OCTET_STRING)?;
+    whole_vector(string.content)
 }
 
 /// Returns the only vector of a list of vectors. Fails with `LeafSCTMalformed` if the bytes are no such list, with
