@@ -6,7 +6,8 @@ use sig_cases::{Answer, Arguments, CaseError};
 use sig_der::read_element;
 use std::alloc::Global;
 
-/// Appends how the bytes read: 0, the tag and the lengths of content and rest in eight bytes each; or the number of the error.
+/// Appends how the bytes read: 0, the tag and the lengths of content and rest in eight bytes each; or the number of
+/// the error.
 fn note(out: &mut Vec<u8>, bytes: &[u8]) -> Result<(), CaseError> {
     match read_element(bytes) {
         Ok((element, rest)) => {
@@ -50,8 +51,8 @@ fn flipped(alloc: Global, bytes: &[u8], at: usize, mask: u8) -> Result<Vec<u8>, 
     Ok(changed)
 }
 
-/// `flips BYTES MASK`: the digest of the readings of the bytes with each byte in turn changed by the mask, at the changed byte and at the
-/// five offsets before it, since a tag and a length have at most six bytes.
+/// `flips BYTES MASK`: the digest of the readings of the bytes with each byte in turn changed by the mask, at the
+/// changed byte and at the five offsets before it, since a tag and a length have at most six bytes.
 pub(crate) fn flips(alloc: Global, arguments: &mut Arguments<'_>) -> Result<Answer, CaseError> {
     let bytes = arguments.hex(alloc)?;
     let mask = tag(alloc, arguments)?;

@@ -1,6 +1,9 @@
--- Key usage by its bits, and the INTEGER of a path length: what is read is what the standards say, and what they say is read.
-use Rattle.std.proofs.Common.{◌≡◌, ◌≢◌, ℕ, ◌+◌, ◌*◌, ◌/◌, ◌%◌, ◌^◌, ◌<◌, ◌≤◌, Bool, true, false, true≢false, not, ◌&&◌, ltb, eqb, List, [], ◌∷◌, Some, None, refl, sym, ap, subst, ◌∙◌, arith, inl, inr}
-use Rattle.std.proofs.lemmas.Bool.{cases_Bool, cases_lt, lt-ltb, le-ltb, ltb-true, eqb-true, eqb-false, ne_eqb, cond-true, cond-false, and_left, and_right, and_from}
+-- Key usage by its bits, and the INTEGER of a path length: what is read is what the standards say, and what they say
+-- is read.
+use Rattle.std.proofs.Common.{◌≡◌, ◌≢◌, ℕ, ◌+◌, ◌*◌, ◌/◌, ◌%◌, ◌^◌, ◌<◌, ◌≤◌, Bool, true, false, true≢false, not, ◌&&◌}
+use Rattle.std.proofs.Common.{ltb, eqb, List, [], ◌∷◌, Some, None, refl, sym, ap, subst, ◌∙◌, arith, inl, inr}
+use Rattle.std.proofs.lemmas.Bool.{cases_Bool, cases_lt, lt-ltb, le-ltb, ltb-true, eqb-true, eqb-false, ne_eqb}
+use Rattle.std.proofs.lemmas.Bool.{cond-true, cond-false, and_left, and_right, and_from}
 use Rattle.std.proofs.lemmas.Nat.{pow_pos}
 use Rattle.std.proofs.lemmas.Nat.Bits.{and_pow, bit_at-lt}
 use Rattle.std.specs.Prelude.{bit_and}
@@ -17,7 +20,8 @@ not_true false e = refl
 
 has_bit_is : (byte k : ℕ) → has_bit byte (2 ^ k) ≡ true → byte / 2 ^ k % 2 ≡ 1
 has_bit_is byte k e =
-    let some_left : bit_and byte (2 ^ k) ≢ 0 = eqb-false (bit_and byte (2 ^ k)) 0 (not_true (eqb (bit_and byte (2 ^ k)) 0) e) in
+    let some_left : bit_and byte (2 ^ k) ≢ 0 =
+    eqb-false (bit_and byte (2 ^ k)) 0 (not_true (eqb (bit_and byte (2 ^ k)) 0) e) in
     let small = bit_at-lt byte k in
     elim (cases_lt (byte / 2 ^ k % 2) 1) [
       | inl lt ↦
@@ -37,7 +41,8 @@ has_bit_again byte k e =
 -- ---- key usage
 
 abbrev usage_with : Bool → Bool → KeyUsage
-usage_with digital_signature key_cert_sign = record { digital_signature = digital_signature; key_cert_sign = key_cert_sign }
+usage_with digital_signature key_cert_sign =
+    record { digital_signature = digital_signature; key_cert_sign = key_cert_sign }
 
 pub usage_takes : (content : List ℕ) (k : KeyUsage) → usage_of content ≡ Some k → IsKeyUsage content k
 unfolding usage_of
@@ -72,24 +77,31 @@ same_bool false true f g h i = g (h refl)
 
 octets_again : (u : ℕ) (octets : List ℕ) (k : KeyUsage) → IsKeyUsage (u ∷ octets) k → u < 8 → (octets ≡ [] → u ≡ 0)
     → ((k.digital_signature ≡ true → bit octets 0 ≡ 1) × (bit octets 0 ≡ 1 → k.digital_signature ≡ true))
-    → ((k.key_cert_sign ≡ true → bit octets 5 ≡ 1) × (bit octets 5 ≡ 1 → k.key_cert_sign ≡ true)) → usage_of (u ∷ octets) ≡ Some k
+    → ((k.key_cert_sign ≡ true → bit octets 5 ≡ 1) × (bit octets 5 ≡ 1 → k.key_cert_sign ≡ true))
+    → usage_of (u ∷ octets) ≡ Some k
 unfolding usage_of
 octets_again u [] k is few none d s =
     let zero_left : u ≡ 0 = none refl in
-    let no_d : k.digital_signature ≡ false = same_bool k.digital_signature false d.0 d.1 (λ h. absurd (true≢false (sym h))) (λ h. absurd cc) in
-    let no_s : k.key_cert_sign ≡ false = same_bool k.key_cert_sign false s.0 s.1 (λ h. absurd (true≢false (sym h))) (λ h. absurd cc) in
-    cond-true (eqb u 0) (some (usage_with false false)) None (rw zero_left refl) ∙ ap (λ (w : KeyUsage). some w) (same_usage k false false no_d no_s)
+    let no_d : k.digital_signature ≡ false =
+    same_bool k.digital_signature false d.0 d.1 (λ h. absurd (true≢false (sym h))) (λ h. absurd cc) in
+    let no_s : k.key_cert_sign ≡ false =
+    same_bool k.key_cert_sign false s.0 s.1 (λ h. absurd (true≢false (sym h))) (λ h. absurd cc) in
+    cond-true (eqb u 0) (some (usage_with false false)) None (rw zero_left refl)
+    ∙ ap (λ (w : KeyUsage). some w) (same_usage k false false no_d no_s)
 octets_again u (first ∷ rest) k is few none d s =
     let same_d : k.digital_signature ≡ has_bit first 128 =
     same_bool k.digital_signature (has_bit first 128) d.0 d.1 (has_bit_is first 7) (has_bit_again first 7) in
-    let same_s : k.key_cert_sign ≡ has_bit first 4 = same_bool k.key_cert_sign (has_bit first 4) s.0 s.1 (has_bit_is first 2) (has_bit_again first 2) in
+    let same_s : k.key_cert_sign ≡ has_bit first 4 =
+    same_bool k.key_cert_sign (has_bit first 4) s.0 s.1 (has_bit_is first 2) (has_bit_again first 2) in
     cond-true (ltb u 8) (some (usage_with (has_bit first 128) (has_bit first 4))) None (lt-ltb u 8 few)
     ∙ ap (λ (w : KeyUsage). some w) (same_usage k (has_bit first 128) (has_bit first 4) same_d same_s)
 
 pub usage_again : (content : List ℕ) (k : KeyUsage) → IsKeyUsage content k → usage_of content ≡ Some k
 usage_again content k is =
     ap (λ (w : List ℕ). usage_of w) is.is.spelled
-    ∙ octets_again is.is.unused is.octets k (subst (λ (w : List ℕ). IsKeyUsage w k) is.is.spelled is) is.is.few is.is.none is.digital_signature is.key_cert_sign
+    ∙ octets_again is.is.unused is.octets k
+    (subst (λ (w : List ℕ). IsKeyUsage w k) is.is.spelled is) is.is.few is.is.none is.digital_signature
+    is.key_cert_sign
 
 -- ---- a natural number
 
@@ -116,25 +128,49 @@ number_takes (a ∷ []) n e =
     let w = when_is (ltb a 128) (some a) n e in
     let same = some_is a n w.1 in
     let value : a * 1 + 0 ≡ n = omega (arith, same) in
-    record { some = omega arith; most = omega arith; not_negative = ltb-true a 128 w.0; shortest = λ long. absurd (omega (arith, long)); value = value }
+    record {
+      some = omega arith;
+      most = omega arith;
+      not_negative = ltb-true a 128 w.0;
+      shortest = λ long. absurd (omega (arith, long));
+      value = value;
+    }
 number_takes (a ∷ b ∷ []) n e =
     let g = unless_is (eqb a 0 && ltb b 128) _ n e in
     let w = when_is (ltb a 128) (some (a * 256 + b)) n g.1 in
     let same = some_is (a * 256 + b) n w.1 in
     let value : a * 256 + (b * 1 + 0) ≡ n = omega (arith, same) in
-    record { some = omega arith; most = omega arith; not_negative = ltb-true a 128 w.0; shortest = λ long. not_padded a b g.0; value = value }
+    record {
+      some = omega arith;
+      most = omega arith;
+      not_negative = ltb-true a 128 w.0;
+      shortest = λ long. not_padded a b g.0;
+      value = value;
+    }
 number_takes (a ∷ b ∷ c ∷ []) n e =
     let g = unless_is (eqb a 0 && ltb b 128) _ n e in
     let w = when_is (ltb a 128) (some (a * 65536 + b * 256 + c)) n g.1 in
     let same = some_is (a * 65536 + b * 256 + c) n w.1 in
     let value : a * 65536 + (b * 256 + (c * 1 + 0)) ≡ n = omega (arith, same) in
-    record { some = omega arith; most = omega arith; not_negative = ltb-true a 128 w.0; shortest = λ long. not_padded a b g.0; value = value }
+    record {
+      some = omega arith;
+      most = omega arith;
+      not_negative = ltb-true a 128 w.0;
+      shortest = λ long. not_padded a b g.0;
+      value = value;
+    }
 number_takes (a ∷ b ∷ c ∷ d ∷ []) n e =
     let g = unless_is (eqb a 0 && ltb b 128) _ n e in
     let w = when_is (ltb a 128) (some (a * 16777216 + b * 65536 + c * 256 + d)) n g.1 in
     let same = some_is (a * 16777216 + b * 65536 + c * 256 + d) n w.1 in
     let value : a * 16777216 + (b * 65536 + (c * 256 + (d * 1 + 0))) ≡ n = omega (arith, same) in
-    record { some = omega arith; most = omega arith; not_negative = ltb-true a 128 w.0; shortest = λ long. not_padded a b g.0; value = value }
+    record {
+      some = omega arith;
+      most = omega arith;
+      not_negative = ltb-true a 128 w.0;
+      shortest = λ long. not_padded a b g.0;
+      value = value;
+    }
 number_takes (a ∷ b ∷ c ∷ d ∷ x ∷ rest) n e = absurd cc
 
 pub number_again : (content : List ℕ) (n : ℕ) → IsNatural content n → number_of content ≡ Some n
@@ -153,10 +189,12 @@ number_again (a ∷ b ∷ c ∷ []) n is =
     let value : a * 65536 + (b * 256 + (c * 1 + 0)) ≡ n = is.value in
     let same : a * 65536 + b * 256 + c ≡ n = omega (arith, value) in
     cond-false (eqb a 0 && ltb b 128) None _ (padded_not a b (is.shortest (omega arith)))
-    ∙ cond-true (ltb a 128) (some (a * 65536 + b * 256 + c)) None (lt-ltb a 128 is.not_negative) ∙ ap (λ (w : ℕ). some w) same
+    ∙ cond-true (ltb a 128) (some (a * 65536 + b * 256 + c)) None (lt-ltb a 128 is.not_negative)
+    ∙ ap (λ (w : ℕ). some w) same
 number_again (a ∷ b ∷ c ∷ d ∷ []) n is =
     let value : a * 16777216 + (b * 65536 + (c * 256 + (d * 1 + 0))) ≡ n = is.value in
     let same : a * 16777216 + b * 65536 + c * 256 + d ≡ n = omega (arith, value) in
     cond-false (eqb a 0 && ltb b 128) None _ (padded_not a b (is.shortest (omega arith)))
-    ∙ cond-true (ltb a 128) (some (a * 16777216 + b * 65536 + c * 256 + d)) None (lt-ltb a 128 is.not_negative) ∙ ap (λ (w : ℕ). some w) same
+    ∙ cond-true (ltb a 128) (some (a * 16777216 + b * 65536 + c * 256 + d)) None (lt-ltb a 128 is.not_negative)
+    ∙ ap (λ (w : ℕ). some w) same
 number_again (a ∷ b ∷ c ∷ d ∷ x ∷ rest) n is = absurd (let most = is.most in omega (arith, most))

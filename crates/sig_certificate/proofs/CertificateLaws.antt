@@ -1,5 +1,6 @@
 -- *Certificate* and its plain reader: what is cut and read is a certificate, and a certificate is cut and read.
-use Rattle.std.proofs.Common.{◌≡◌, ℕ, ◌-◌, ℤ, Bool, true, false, List, [], ◌∷◌, ◌++◌, length, Option, Some, refl, sym, ap, subst, ◌∙◌, append_assoc, arith}
+use Rattle.std.proofs.Common.{◌≡◌, ℕ, ◌-◌, ℤ, Bool, true, false, List, [], ◌∷◌, ◌++◌, length, Option, Some, refl, sym}
+use Rattle.std.proofs.Common.{ap, subst, ◌∙◌, append_assoc, arith}
 use Rattle.std.proofs.lemmas.List.{take_at, length-append}
 use Rattle.sig_base.proofs.OptionSteps.{bind_is, bind_of_some, some, some_is}
 use Rattle.sig_der.specs.Element.{IsElement}
@@ -8,13 +9,17 @@ use Rattle.sig_der.specs.Taking.{take_tag, take_whole, begins_with, many_at}
 use Rattle.sig_der.specs.KeyInfo.{algorithm_at, bits_of}
 use Rattle.sig_der.proofs.Bytes.{IsBytes}
 use Rattle.sig_der.proofs.Takings.{take_tag_takes, take_tag_again, take_whole_takes, take_whole_again}
-use Rattle.sig_der.proofs.KeyInfos.{content_fits, first_fits, rest_fits, algorithm_at_takes, bits_of_takes, bits_of_again}
+use Rattle.sig_der.proofs.KeyInfos.{content_fits, first_fits, rest_fits, algorithm_at_takes, bits_of_takes}
+use Rattle.sig_der.proofs.KeyInfos.{bits_of_again}
 use Rattle.sig_der.proofs.Many.{many_at_takes, many_at_again, many_at_none}
-use Rattle.sig_certificate.specs.Certificate.{Extension, Cert, IsCertificate, IsExtension, AreExtensions, IsAlgorithmText}
-use Rattle.sig_certificate.specs.Cutting.{Head, Body, Outer, Parts, before, outer_at, head_at, body_at, after_ids, list_at, parts_at, extension_at, certificate_of, IsCut}
+use Rattle.sig_certificate.specs.Certificate.{Extension, Cert, IsCertificate, IsExtension, AreExtensions}
+use Rattle.sig_certificate.specs.Certificate.{IsAlgorithmText}
+use Rattle.sig_certificate.specs.Cutting.{Head, Body, Outer, Parts, before, outer_at, head_at, body_at, after_ids}
+use Rattle.sig_certificate.specs.Cutting.{list_at, parts_at, extension_at, certificate_of, IsCut}
 use Rattle.sig_certificate.proofs.ExtensionLaws.{extension_reader}
 use Rattle.sig_certificate.proofs.HeadLaws.{after_fits, algorithm_text_again, TakesHead, head_at_takes, head_at_again}
-use Rattle.sig_certificate.proofs.BodyLaws.{TakesBody, body_at_takes, body_at_again, TakesIds, after_ids_takes, after_ids_again, IsListed, list_at_takes, list_at_again}
+use Rattle.sig_certificate.proofs.BodyLaws.{TakesBody, body_at_takes, body_at_again, TakesIds, after_ids_takes}
+use Rattle.sig_certificate.proofs.BodyLaws.{after_ids_again, IsListed, list_at_takes, list_at_again}
 use Rattle.sig_der.specs.Tag.{BIT_STRING, EXTENSIONS, ISSUER_UNIQUE_ID, SEQUENCE, SUBJECT_UNIQUE_ID}
 
 -- ---- the three parts
@@ -40,7 +45,8 @@ outer_at_takes text fits o e =
     let tagged = take_tag_takes SEQUENCE x.0.content inner t.0 t.1 in
     let fits_t = rest_fits _ _ _ _ x.0.content tagged.0 inner in
     let ta = algorithm_at_takes t.0.1 fits_t a.0 a.1 in
-    let spelled : x.0.content ≡ t.0.0.whole ++ (a.0.0.whole ++ a.0.1) = tagged.0.parts ∙ ap (λ (w : List ℕ). t.0.0.whole ++ w) ta.1 in
+    let spelled : x.0.content ≡ t.0.0.whole ++ (a.0.0.whole ++ a.0.1) =
+    tagged.0.parts ∙ ap (λ (w : List ℕ). t.0.0.whole ++ w) ta.1 in
     subst (λ (w : Outer). TakesOuter text w) (some_is _ o s.2) (record {
       signature_text = a.0.1;
       whole = subst (λ (w : List ℕ). IsElement text SEQUENCE w) spelled tx.0;
@@ -55,7 +61,8 @@ abbrev some_outer : Piece → List ℕ → List ℕ → Option Outer
 some_outer tbs algorithm signature = Some (record { tbs = tbs; algorithm = algorithm; signature = signature })
 
 outer_at_again : (text tbs content algorithm signature signature_text : List ℕ)
-    → IsElement text SEQUENCE (tbs ++ (algorithm ++ signature_text)) → IsElement tbs SEQUENCE content → IsAlgorithmText algorithm → IsElement signature_text BIT_STRING (0 ∷ signature)
+    → IsElement text SEQUENCE (tbs ++ (algorithm ++ signature_text)) → IsElement tbs SEQUENCE content
+    → IsAlgorithmText algorithm → IsElement signature_text BIT_STRING (0 ∷ signature)
     → outer_at text ≡ some_outer (record { tag = 48; whole = tbs; content = content }) algorithm signature
 unfolding outer_at
 outer_at_again text tbs content algorithm signature signature_text whole is named bits =
@@ -87,22 +94,30 @@ nine_then a b c d e f g h i rest =
     (append_assoc h i rest)))))))
 
 before_is : (front rest text : List ℕ) → text ≡ front ++ rest → before text rest ≡ front
-before_is front rest text is = rw is (take_at front rest (length (front ++ rest) - length rest) (omega (arith, length-append front rest)))
+before_is front rest text is =
+    rw is (take_at front rest (length (front ++ rest) - length rest) (omega (arith, length-append front rest)))
 
-gather : (a b c d e f g h i rest bytes after_d after_g : List ℕ) → bytes ≡ a ++ (b ++ (c ++ (d ++ after_d))) → after_d ≡ e ++ (f ++ (g ++ after_g))
+gather : (a b c d e f g h i rest bytes after_d after_g : List ℕ) → bytes ≡ a ++ (b ++ (c ++ (d ++ after_d)))
+    → after_d ≡ e ++ (f ++ (g ++ after_g))
     → after_g ≡ h ++ (i ++ rest) → bytes ≡ nine a b c d e f g h i ++ rest
 gather a b c d e f g h i rest bytes after_d after_g x y z =
-    x ∙ ap (λ (w : List ℕ). a ++ (b ++ (c ++ (d ++ w)))) (y ∙ ap (λ (w : List ℕ). e ++ (f ++ (g ++ w))) z) ∙ sym (nine_then a b c d e f g h i rest)
+    x ∙ ap (λ (w : List ℕ). a ++ (b ++ (c ++ (d ++ w)))) (y ∙ ap (λ (w : List ℕ). e ++ (f ++ (g ++ w))) z)
+    ∙ sym (nine_then a b c d e f g h i rest)
 
 -- ---- what is cut is a certificate
 
 -- the list of the extensions, and what it reads as
-are_extensions : (text : List ℕ) (listed : Bool) (list : List ℕ) (es : List Extension) → IsBytes text → IsListed text (listed, list)
+are_extensions : (text : List ℕ) (listed : Bool) (list : List ℕ) (es : List Extension) → IsBytes text
+    → IsListed text (listed, list)
     → many_at extension_at list ≡ Some es → AreExtensions text listed es
-are_extensions text false list es fits is read =
-    (is.0, sym (some_is [] es (sym (many_at_none extension_at) ∙ ap (λ (w : List ℕ). many_at extension_at w) (sym is.1) ∙ read)))
+are_extensions text false list es fits is read = (
+  is.0,
+  sym (some_is [] es
+      (sym (many_at_none extension_at) ∙ ap (λ (w : List ℕ). many_at extension_at w) (sym is.1) ∙ read)),
+)
 are_extensions text true list es fits is read =
-    let inner = content_fits is.sequence SEQUENCE list is.inner (content_fits text EXTENSIONS is.sequence is.outer fits) in
+    let inner =
+    content_fits is.sequence SEQUENCE list is.inner (content_fits text EXTENSIONS is.sequence is.outer fits) in
     record {
       sequence = is.sequence;
       inner = list;
@@ -138,7 +153,9 @@ parts_takes text fits p e =
     let l = bind_is (list_at r.0) _ p r.2 in
     let outer = outer_at_takes text fits o.0 o.1 in
     let head = head_at_takes o.0.tbs.content outer.fits h.0 h.1 in
-    let fits_h = after_four head.version_text head.serial_text h.0.0.algorithm h.0.0.issuer h.0.1 o.0.tbs.content head.parts outer.fits in
+    let fits_h =
+    after_four head.version_text head.serial_text h.0.0.algorithm h.0.0.issuer h.0.1 o.0.tbs.content head.parts
+    outer.fits in
     let body = body_at_takes h.0.1 fits_h b.0 b.1 in
     let fits_b = after_four [] body.validity_text b.0.0.subject b.0.0.spki b.0.1 h.0.1 body.parts fits_h in
     let ids = after_ids_takes b.0.1 fits_b r.0 r.1 in
@@ -156,13 +173,17 @@ parts_takes text fits p e =
       fits = fits_r;
     })
 
-pub certificate_takes : (text : List ℕ) (p : Parts) (not_before not_after : ℤ) (es : List Extension) → IsBytes text → IsCut text p not_before not_after
+pub certificate_takes : (text : List ℕ) (p : Parts) (not_before not_after : ℤ) (es : List Extension) → IsBytes text
+    → IsCut text p not_before not_after
     → many_at extension_at p.list ≡ Some es → IsCertificate text (certificate_of text p not_before not_after es)
 certificate_takes text p not_before not_after es fits is read =
     let t = parts_takes text fits p is.cut in
     let content = p.outer.tbs.content in
-    let all = gather t.head.version_text t.head.serial_text p.head.algorithm p.head.issuer t.body.validity_text p.body.subject p.body.spki
-    t.ids.issuer_id_text t.ids.subject_id_text t.rest content t.after_head t.after_body t.head.parts t.body.parts t.ids.parts in
+    let all =
+    gather t.head.version_text t.head.serial_text p.head.algorithm p.head.issuer t.body.validity_text
+    p.body.subject p.body.spki
+    t.ids.issuer_id_text t.ids.subject_id_text t.rest content t.after_head t.after_body t.head.parts t.body.parts
+    t.ids.parts in
     let front = t.front ∙ before_is _ t.rest content all in
     record {
       signature_text = t.outer.signature_text;
@@ -175,7 +196,9 @@ certificate_takes text p not_before not_after es fits is read =
         issuer_id_text = t.ids.issuer_id_text;
         subject_id_text = t.ids.subject_id_text;
         extensions_text = t.rest;
-        tbs = subst (λ (w : List ℕ). IsElement p.outer.tbs.whole SEQUENCE w) (all ∙ ap (λ (w : List ℕ). w ++ t.rest) (sym front)) t.outer.tbs;
+        tbs =
+            subst (λ (w : List ℕ). IsElement p.outer.tbs.whole SEQUENCE w)
+            (all ∙ ap (λ (w : List ℕ). w ++ t.rest) (sym front)) t.outer.tbs;
         front = front;
         version = t.head.version;
         serial = t.head.serial;
@@ -185,8 +208,10 @@ certificate_takes text p not_before not_after es fits is read =
           first = p.body.first.whole;
           second = p.body.second.whole;
           is = t.body.validity;
-          begins = record { tag = p.body.first.tag; content = p.body.first.content; is = t.body.first; time = is.begins };
-          ends = record { tag = p.body.second.tag; content = p.body.second.content; is = t.body.second; time = is.ends };
+          begins =
+              record { tag = p.body.first.tag; content = p.body.first.content; is = t.body.first; time = is.begins };
+          ends =
+              record { tag = p.body.second.tag; content = p.body.second.content; is = t.body.second; time = is.ends };
         };
         subject = t.body.subject;
         key = t.body.key;
@@ -208,7 +233,8 @@ pub record HasList (text : List ℕ) (listed : Bool) (es : List Extension) : Typ
   pub no_issuer_id : begins_with ISSUER_UNIQUE_ID text ≡ false
   pub no_subject_id : begins_with SUBJECT_UNIQUE_ID text ≡ false
 
-has_list : (text : List ℕ) (listed : Bool) (es : List Extension) → AreExtensions text listed es → HasList text listed es
+has_list : (text : List ℕ) (listed : Bool) (es : List Extension) → AreExtensions text listed es
+    → HasList text listed es
 has_list text false es is =
     record {
       list = [];
@@ -221,7 +247,8 @@ has_list text true es is =
     record {
       list = is.inner;
       is = record { sequence = is.sequence; outer = is.outer; inner = is.list };
-      read = many_at_again extension_at IsExtension (λ (e : Extension). e.whole) extension_reader is.inner es is.joined;
+      read =
+          many_at_again extension_at IsExtension (λ (e : Extension). e.whole) extension_reader is.inner es is.joined;
       no_issuer_id = rw is.outer.spelled refl;
       no_subject_id = rw is.outer.spelled refl;
     }
@@ -261,20 +288,29 @@ certificate_again text c is =
     let s = is.tbs in
     let has = has_list s.extensions_text c.listed c.extensions s.extensions in
     let content = c.front ++ s.extensions_text in
-    let first : Piece = record { tag = s.validity.begins.tag; whole = s.validity.first; content = s.validity.begins.content } in
-    let second : Piece = record { tag = s.validity.ends.tag; whole = s.validity.second; content = s.validity.ends.content } in
-    let outer : Outer = record { tbs = record { tag = 48; whole = c.tbs; content = content }; algorithm = c.algorithm; signature = c.signature } in
+    let first : Piece =
+    record { tag = s.validity.begins.tag; whole = s.validity.first; content = s.validity.begins.content } in
+    let second : Piece =
+    record { tag = s.validity.ends.tag; whole = s.validity.second; content = s.validity.ends.content } in
+    let outer : Outer =
+    record {
+      tbs = record { tag = 48; whole = c.tbs; content = content };
+      algorithm = c.algorithm;
+      signature = c.signature;
+    } in
     let head : Head = record { version = c.version; algorithm = c.inner_algorithm; issuer = c.issuer } in
     let body : Body = record { first = first; second = second; subject = c.subject; spki = c.spki } in
     let after_body = s.issuer_id_text ++ (s.subject_id_text ++ s.extensions_text) in
     let after_head = s.validity_text ++ (c.subject ++ (c.spki ++ after_body)) in
     let spelled = ap (λ (w : List ℕ). w ++ s.extensions_text) s.front
-    ∙ nine_then s.version_text s.serial_text c.inner_algorithm c.issuer s.validity_text c.subject c.spki s.issuer_id_text s.subject_id_text s.extensions_text in
+    ∙ nine_then s.version_text s.serial_text c.inner_algorithm c.issuer s.validity_text c.subject c.spki
+    s.issuer_id_text s.subject_id_text s.extensions_text in
     record {
       parts = record { outer = outer; front = c.front; head = head; body = body; listed = c.listed; list = has.list };
       cut = record {
         cut = bind_of_some (outer_at text) _ outer
-            (outer_at_again text c.tbs content c.algorithm c.signature is.signature_text is.whole s.tbs is.algorithm is.signature)
+            (outer_at_again text c.tbs content c.algorithm c.signature is.signature_text is.whole s.tbs is.algorithm
+            is.signature)
             ∙ bind_of_some (head_at content) _ (head, after_head) (head_at_again content (head, after_head) (record {
               version_text = s.version_text;
               serial_text = s.serial_text;
@@ -284,7 +320,8 @@ certificate_again text c is =
               issuer = s.issuer;
               parts = spelled;
             }))
-            ∙ bind_of_some (body_at after_head) _ (body, after_body) (body_at_again after_head (body, after_body) (record {
+            ∙ bind_of_some (body_at after_head) _ (body, after_body)
+            (body_at_again after_head (body, after_body) (record {
               validity_text = s.validity_text;
               validity = s.validity.is;
               first = s.validity.begins.is;
@@ -293,15 +330,18 @@ certificate_again text c is =
               key = s.key;
               parts = refl;
             }))
-            ∙ bind_of_some (after_ids after_body) _ s.extensions_text (after_ids_again after_body s.extensions_text (record {
+            ∙ bind_of_some (after_ids after_body) _ s.extensions_text
+            (after_ids_again after_body s.extensions_text (record {
               issuer_id_text = s.issuer_id_text;
               subject_id_text = s.subject_id_text;
               issuer_id = s.issuer_id;
               subject_id = s.subject_id;
               parts = refl;
             }) has.no_issuer_id has.no_subject_id)
-            ∙ bind_of_some (list_at s.extensions_text) _ (c.listed, has.list) (list_at_again s.extensions_text c.listed has.list has.is)
-            ∙ ap (λ (w : List ℕ). some_parts outer head body c.listed has.list w) (before_is c.front s.extensions_text content refl);
+            ∙ bind_of_some (list_at s.extensions_text) _ (c.listed, has.list)
+            (list_at_again s.extensions_text c.listed has.list has.is)
+            ∙ ap (λ (w : List ℕ). some_parts outer head body c.listed has.list w)
+            (before_is c.front s.extensions_text content refl);
         begins = s.validity.begins.time;
         ends = s.validity.ends.time;
       };

@@ -9,11 +9,14 @@ use Rattle.sig_certificate.specs.Lookups.{are_distinct}
 abbrev pub Texts : Type 0
 Texts = List (List ℕ)
 
-none_equal : (x : List ℕ) (xs : Texts) → list_any (bytes_eq x) xs ≡ false → AllByRecursion (λ y. bytes_eq x y ≡ false) xs
+none_equal : (x : List ℕ) (xs : Texts) → list_any (bytes_eq x) xs ≡ false
+    → AllByRecursion (λ y. bytes_eq x y ≡ false) xs
 none_equal x [] is = tt
-none_equal x (y ∷ xs) is = let parts = or_parts (bytes_eq x y) (list_any (bytes_eq x) xs) is in (parts.0, none_equal x xs parts.1)
+none_equal x (y ∷ xs) is =
+    let parts = or_parts (bytes_eq x y) (list_any (bytes_eq x) xs) is in (parts.0, none_equal x xs parts.1)
 
-equal_none : (x : List ℕ) (xs : Texts) → AllByRecursion (λ y. bytes_eq x y ≡ false) xs → list_any (bytes_eq x) xs ≡ false
+equal_none : (x : List ℕ) (xs : Texts) → AllByRecursion (λ y. bytes_eq x y ≡ false) xs
+    → list_any (bytes_eq x) xs ≡ false
 equal_none x [] is = refl
 equal_none x (y ∷ xs) is = or_from (bytes_eq x y) (list_any (bytes_eq x) xs) is.0 (equal_none x xs is.1)
 
@@ -28,4 +31,5 @@ pub distinct_is : (xs : Texts) → IsDistinct bytes_eq xs → are_distinct xs �
 distinct_is [] is = refl
 distinct_is (x ∷ xs) is =
     and_from (not (list_any (bytes_eq x) xs)) (are_distinct xs)
-    (not_from_false (list_any (bytes_eq x) xs) (equal_none x xs (IsDistinct-head bytes_eq x xs is))) (distinct_is xs (IsDistinct-tail bytes_eq x xs is))
+    (not_from_false (list_any (bytes_eq x) xs) (equal_none x xs (IsDistinct-head bytes_eq x xs is)))
+    (distinct_is xs (IsDistinct-tail bytes_eq x xs is))

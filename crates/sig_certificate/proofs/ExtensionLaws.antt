@@ -1,12 +1,15 @@
 -- Extensions: what the reader takes is what the relation builds, and what the relation builds is taken.
-use Rattle.std.proofs.Common.{◌≡◌, ℕ, ◌<◌, Bool, true, false, cond, eqb, List, [], ◌∷◌, ◌++◌, length, Option, Some, None, refl, sym, ap, subst, ◌∙◌, inl, inr}
+use Rattle.std.proofs.Common.{◌≡◌, ℕ, ◌<◌, Bool, true, false, cond, eqb, List, [], ◌∷◌, ◌++◌, length, Option, Some}
+use Rattle.std.proofs.Common.{None, refl, sym, ap, subst, ◌∙◌, inl, inr}
 use Rattle.std.proofs.lemmas.Bool.{cases_Bool, eqb-true, cond-true, cond-false}
 use Rattle.sig_base.proofs.OptionSteps.{bind_is, bind_of_some, when_is, unless_is, some_is}
 use Rattle.sig_der.specs.Element.{IsElement}
 use Rattle.sig_der.specs.Reading.{Piece}
 use Rattle.sig_der.specs.Taking.{take_tag, take_whole, take_optional, begins_with}
 use Rattle.sig_der.proofs.Bytes.{IsBytes, IsBytes-right}
-use Rattle.sig_der.proofs.Takings.{take_tag_takes, take_tag_again, take_tag_shrinks, take_whole_takes, take_whole_again, take_optional_takes, take_optional_here, take_optional_absent, IsOptional}
+use Rattle.sig_der.proofs.Takings.{take_tag_takes, take_tag_again, take_tag_shrinks, take_whole_takes}
+use Rattle.sig_der.proofs.Takings.{take_whole_again, take_optional_takes, take_optional_here, take_optional_absent}
+use Rattle.sig_der.proofs.Takings.{IsOptional}
 use Rattle.sig_der.proofs.Many.{IsReader}
 use Rattle.sig_der.proofs.KeyInfos.{first_fits, rest_fits, some_left, left_some}
 use Rattle.sig_certificate.specs.Certificate.{Extension, IsFlag, IsExtension}
@@ -44,9 +47,11 @@ pub record TakesFlag (bytes : List ℕ) (y : Bool × List ℕ) : Type 0 where
   pub is : IsFlag text y.0
   pub parts : bytes ≡ text ++ y.1
 
-flag_is : (text : List ℕ) (o : Option Piece) (flag : Bool) → IsOptional 1 text o → flag_of o ≡ Some flag → IsFlag text flag
+flag_is : (text : List ℕ) (o : Option Piece) (flag : Bool) → IsOptional 1 text o → flag_of o ≡ Some flag
+    → IsFlag text flag
 flag_is text None flag is e = inl (is, sym (some_is false flag e))
-flag_is text (Some p) flag is e = inr (subst (λ (w : List ℕ). IsElement text BOOLEAN w) (boolean_takes p.content flag e) is.0)
+flag_is text (Some p) flag is e =
+    inr (subst (λ (w : List ℕ). IsElement text BOOLEAN w) (boolean_takes p.content flag e) is.0)
 
 pub flag_at_takes : (bytes : List ℕ) → IsBytes bytes → (y : Bool × List ℕ) → flag_at bytes ≡ Some y → TakesFlag bytes y
 unfolding flag_at
@@ -60,7 +65,8 @@ flag_at_takes bytes fits y e =
       parts = t.parts;
     })
 
-pub flag_at_again : (text : List ℕ) (flag : Bool) (rest bytes : List ℕ) → IsFlag text flag → begins_with BOOLEAN rest ≡ false → bytes ≡ text ++ rest
+pub flag_at_again : (text : List ℕ) (flag : Bool) (rest bytes : List ℕ) → IsFlag text flag
+    → begins_with BOOLEAN rest ≡ false → bytes ≡ text ++ rest
     → flag_at bytes ≡ Some (flag, rest)
 unfolding flag_at
 flag_at_again text flag rest bytes (inl none) other parts =
@@ -75,7 +81,8 @@ flag_at_again text flag rest bytes (inr is) other parts =
 abbrev pub TakesExtension : List ℕ → Extension × List ℕ → Type 0
 TakesExtension bytes y = IsExtension y.0 × (bytes ≡ y.0.whole ++ y.1)
 
-pub extension_at_takes : (bytes : List ℕ) → IsBytes bytes → (y : Extension × List ℕ) → extension_at bytes ≡ Some y → TakesExtension bytes y
+pub extension_at_takes : (bytes : List ℕ) → IsBytes bytes → (y : Extension × List ℕ) → extension_at bytes ≡ Some y
+    → TakesExtension bytes y
 unfolding extension_at
 extension_at_takes bytes fits y e =
     let x = bind_is (take_tag SEQUENCE bytes) _ y e in
@@ -90,7 +97,8 @@ extension_at_takes bytes fits y e =
     let tf = flag_at_takes o.0.1 after f.0 f.1 in
     let last = IsBytes-right tf.text f.0.1 (subst (λ (w : List ℕ). IsBytes w) tf.parts after) in
     let tv = take_whole_takes OCTET_STRING f.0.1 last v.0 v.1 in
-    let spelled : x.0.0.content ≡ o.0.0.whole ++ (tf.text ++ f.0.1) = to.parts ∙ ap (λ (w : List ℕ). o.0.0.whole ++ w) tf.parts in
+    let spelled : x.0.0.content ≡ o.0.0.whole ++ (tf.text ++ f.0.1) =
+    to.parts ∙ ap (λ (w : List ℕ). o.0.0.whole ++ w) tf.parts in
     subst (λ (w : Extension × List ℕ). TakesExtension bytes w) (some_is _ y g.1) (
       record {
         oid_text = o.0.0.whole;
@@ -105,19 +113,23 @@ extension_at_takes bytes fits y e =
       tx.parts,
     )
 
-pub extension_at_again : (e : Extension) (rest bytes : List ℕ) → IsExtension e → bytes ≡ e.whole ++ rest → extension_at bytes ≡ Some (e, rest)
+pub extension_at_again : (e : Extension) (rest bytes : List ℕ) → IsExtension e → bytes ≡ e.whole ++ rest
+    → extension_at bytes ≡ Some (e, rest)
 unfolding extension_at
 extension_at_again e rest bytes is parts =
     let content = is.oid_text ++ (is.flag_text ++ is.value_text) in
     let other : begins_with BOOLEAN is.value_text ≡ false = rw is.value.spelled refl in
     bind_of_some (take_tag SEQUENCE bytes) _ _ (take_tag_again e.whole SEQUENCE content rest bytes is.whole parts)
-    ∙ bind_of_some (take_tag OBJECT_IDENTIFIER content) _ _ (take_tag_again is.oid_text OBJECT_IDENTIFIER e.oid (is.flag_text ++ is.value_text) content is.oid refl)
+    ∙ bind_of_some (take_tag OBJECT_IDENTIFIER content) _ _
+    (take_tag_again is.oid_text OBJECT_IDENTIFIER e.oid (is.flag_text ++ is.value_text) content is.oid refl)
     ∙ bind_of_some (flag_at (is.flag_text ++ is.value_text)) _ (e.critical, is.value_text)
     (flag_at_again is.flag_text e.critical is.value_text (is.flag_text ++ is.value_text) is.flag other refl)
-    ∙ bind_of_some (take_whole OCTET_STRING is.value_text) _ _ (take_whole_again is.value_text OCTET_STRING e.value is.value)
+    ∙ bind_of_some (take_whole OCTET_STRING is.value_text) _ _
+    (take_whole_again is.value_text OCTET_STRING e.value is.value)
     ∙ cond-false (eqb (length e.oid) 0) _ _ (left_some e.oid is.named)
 
-pub extension_at_shrinks : (bytes : List ℕ) (y : Extension × List ℕ) → extension_at bytes ≡ Some y → length y.1 < length bytes
+pub extension_at_shrinks : (bytes : List ℕ) (y : Extension × List ℕ) → extension_at bytes ≡ Some y
+    → length y.1 < length bytes
 unfolding extension_at
 extension_at_shrinks bytes y e =
     let x = bind_is (take_tag SEQUENCE bytes) _ y e in
@@ -125,7 +137,8 @@ extension_at_shrinks bytes y e =
     let f = bind_is (flag_at o.0.1) _ y o.2 in
     let v = bind_is (take_whole OCTET_STRING f.0.1) _ y f.2 in
     let g = unless_is (eqb (length o.0.0.content) 0) _ y v.2 in
-    subst (λ (w : Extension × List ℕ). length w.1 < length bytes) (some_is _ y g.1) (take_tag_shrinks SEQUENCE bytes x.0 x.1)
+    subst (λ (w : Extension × List ℕ). length w.1 < length bytes) (some_is _ y g.1)
+    (take_tag_shrinks SEQUENCE bytes x.0 x.1)
 
 pub extension_reader : IsReader extension_at IsExtension (λ (e : Extension). e.whole)
 extension_reader =

@@ -11,4 +11,5 @@ front_is bytes at next end a b c =
     let long = length-part bytes at end (omega arith) c in
     let short = length-part bytes next end b c in
     let len : length (slice_range bytes at end) - length (slice_range bytes next end) ≡ next - at = omega arith in
-    ap (λ (n : ℕ). take n (slice_range bytes at end)) len ∙ take-take (next - at) (end - at) (drop at bytes) (omega arith)
+    ap (λ (n : ℕ). take n (slice_range bytes at end)) len
+    ∙ take-take (next - at) (end - at) (drop at bytes) (omega arith)

@@ -1,5 +1,6 @@
 -- The signed part up to the issuer: what the reader takes is what the relations build, and what these build is taken.
-use Rattle.std.proofs.Common.{◌≡◌, ℕ, ◌+◌, ◌<◌, false, eqb, ltb, List, [], ◌∷◌, ◌++◌, length, Option, Some, None, refl, sym, ap, subst, ◌∙◌, inl, inr}
+use Rattle.std.proofs.Common.{◌≡◌, ℕ, ◌+◌, ◌<◌, false, eqb, ltb, List, [], ◌∷◌, ◌++◌, length, Option, Some, None, refl}
+use Rattle.std.proofs.Common.{sym, ap, subst, ◌∙◌, inl, inr}
 use Rattle.std.proofs.lemmas.Bool.{ltb-true, lt-ltb, cond-true, cond-false}
 use Rattle.sig_base.specs.OptionSteps.{◌>>=◌}
 use Rattle.sig_base.proofs.OptionSteps.{bind_is, bind_of_some, when_is, unless_is, some, some_is}
@@ -8,8 +9,10 @@ use Rattle.sig_der.specs.Reading.{Piece}
 use Rattle.sig_der.specs.Taking.{take_tag, take_whole, take_optional, begins_with}
 use Rattle.sig_der.specs.KeyInfo.{Algorithm, algorithm_at}
 use Rattle.sig_der.proofs.Bytes.{IsBytes, IsBytes-left, IsBytes-right}
-use Rattle.sig_der.proofs.Takings.{take_tag_takes, take_tag_again, take_whole_takes, take_whole_again, take_optional_takes, take_optional_here, take_optional_absent, IsOptional}
-use Rattle.sig_der.proofs.KeyInfos.{content_fits, rest_fits, some_left, left_some, algorithm_at_takes, algorithm_at_again}
+use Rattle.sig_der.proofs.Takings.{take_tag_takes, take_tag_again, take_whole_takes, take_whole_again}
+use Rattle.sig_der.proofs.Takings.{take_optional_takes, take_optional_here, take_optional_absent, IsOptional}
+use Rattle.sig_der.proofs.KeyInfos.{content_fits, rest_fits, some_left, left_some, algorithm_at_takes}
+use Rattle.sig_der.proofs.KeyInfos.{algorithm_at_again}
 use Rattle.sig_certificate.specs.Certificate.{IsVersion, IsSerial, IsAlgorithmText, IsSequence}
 use Rattle.sig_certificate.specs.Cutting.{Head, version_number, explicit_version, version_of, version_at, head_at}
 use Rattle.sig_der.specs.Tag.{INTEGER, SEQUENCE, VERSION}
@@ -35,7 +38,8 @@ pub record IsNumber (content : List ℕ) (version : ℕ) : Type 0 where
   pub known : number < 3
   pub is : version ≡ number + 1
 
-version_number_takes : (content : List ℕ) (version : ℕ) → version_number content ≡ Some version → IsNumber content version
+version_number_takes : (content : List ℕ) (version : ℕ) → version_number content ≡ Some version
+    → IsNumber content version
 unfolding version_number
 version_number_takes [] version e = absurd cc
 version_number_takes (n ∷ []) version e =
@@ -47,7 +51,8 @@ version_number_again : (n : ℕ) → n < 3 → version_number (n ∷ []) ≡ Som
 unfolding version_number
 version_number_again n lt = cond-true (ltb n 3) _ _ (lt-ltb n 3 lt)
 
-version_is : (text : List ℕ) (o : Option Piece) (version : ℕ) → IsBytes text → IsOptional 160 text o → version_of o ≡ Some version → IsVersion text version
+version_is : (text : List ℕ) (o : Option Piece) (version : ℕ) → IsBytes text → IsOptional 160 text o
+    → version_of o ≡ Some version → IsVersion text version
 unfolding explicit_version
 version_is text None version fits is e = inl (is, sym (some_is 1 version e))
 version_is text (Some p) version fits is e =
@@ -68,7 +73,8 @@ pub record TakesVersion (bytes : List ℕ) (y : ℕ × List ℕ) : Type 0 where
   pub is : IsVersion text y.0
   pub parts : bytes ≡ text ++ y.1
 
-version_at_takes : (bytes : List ℕ) → IsBytes bytes → (y : ℕ × List ℕ) → version_at bytes ≡ Some y → TakesVersion bytes y
+version_at_takes : (bytes : List ℕ) → IsBytes bytes → (y : ℕ × List ℕ) → version_at bytes ≡ Some y
+    → TakesVersion bytes y
 unfolding version_at
 version_at_takes bytes fits y e =
     let o = bind_is (take_optional VERSION bytes) _ y e in
@@ -80,7 +86,8 @@ version_at_takes bytes fits y e =
       parts = t.parts;
     })
 
-version_at_again : (text : List ℕ) (version : ℕ) (rest bytes : List ℕ) → IsVersion text version → begins_with VERSION rest ≡ false → bytes ≡ text ++ rest
+version_at_again : (text : List ℕ) (version : ℕ) (rest bytes : List ℕ) → IsVersion text version
+    → begins_with VERSION rest ≡ false → bytes ≡ text ++ rest
     → version_at bytes ≡ Some (version, rest)
 unfolding version_at explicit_version
 version_at_again text version rest bytes (inl none) other parts =
@@ -133,7 +140,8 @@ head_at_takes bytes fits y e =
     })
 
 abbrev some_head : ℕ → List ℕ → List ℕ → List ℕ → Option (Head × List ℕ)
-some_head version algorithm issuer rest = Some (record { version = version; algorithm = algorithm; issuer = issuer }, rest)
+some_head version algorithm issuer rest =
+    Some (record { version = version; algorithm = algorithm; issuer = issuer }, rest)
 
 pub head_at_again : (bytes : List ℕ) (y : Head × List ℕ) → TakesHead bytes y → head_at bytes ≡ Some y
 unfolding head_at
@@ -144,9 +152,12 @@ head_at_again bytes y t =
     let after_version = t.serial_text ++ after_algorithm in
     let other : begins_with VERSION after_version ≡ false = rw t.serial.is.spelled refl in
     let a = algorithm_text_again h.algorithm after_issuer after_algorithm t.algorithm refl in
-    bind_of_some (version_at bytes) _ (h.version, after_version) (version_at_again t.version_text h.version after_version bytes t.version other t.parts)
-    ∙ bind_of_some (take_tag INTEGER after_version) _ _ (take_tag_again t.serial_text INTEGER t.serial.content after_algorithm after_version t.serial.is refl)
+    bind_of_some (version_at bytes) _ (h.version, after_version)
+    (version_at_again t.version_text h.version after_version bytes t.version other t.parts)
+    ∙ bind_of_some (take_tag INTEGER after_version) _ _
+    (take_tag_again t.serial_text INTEGER t.serial.content after_algorithm after_version t.serial.is refl)
     ∙ bind_of_some (algorithm_at after_algorithm) _ (a.0, after_issuer) a.1
-    ∙ bind_of_some (take_tag SEQUENCE after_issuer) _ _ (take_tag_again h.issuer SEQUENCE t.issuer.0 y.1 after_issuer t.issuer.1 refl)
+    ∙ bind_of_some (take_tag SEQUENCE after_issuer) _ _
+    (take_tag_again h.issuer SEQUENCE t.issuer.0 y.1 after_issuer t.issuer.1 refl)
     ∙ cond-false (eqb (length t.serial.content) 0) _ _ (left_some t.serial.content t.serial.some)
     ∙ ap (λ (w : List ℕ). some_head h.version w h.issuer y.1) a.2

@@ -1,20 +1,26 @@
 -- Names: what the reader takes is what the relation builds, and what the relation builds is taken.
-use Rattle.std.proofs.Common.{◌≡◌, ℕ, zero, suc, ◌+◌, ◌-◌, ◌<◌, Bool, true, false, ◌&&◌, ◌||◌, ltb, cond, eqb, List, [], ◌∷◌, ◌++◌, length, Some, None, refl, sym, ap, subst, ◌∙◌, arith, inl, inr}
+use Rattle.std.proofs.Common.{◌≡◌, ℕ, zero, suc, ◌+◌, ◌-◌, ◌<◌, Bool, true, false, ◌&&◌, ◌||◌, ltb, cond, eqb, List}
+use Rattle.std.proofs.Common.{[], ◌∷◌, ◌++◌, length, Some, None, refl, sym, ap, subst, ◌∙◌, arith, inl, inr}
 use Rattle.std.specs.Str.{IsAscii}
-use Rattle.std.proofs.lemmas.Bool.{cases_Bool, eqb-true, eqb-false, lt-ltb, le-ltb, ltb-true, cond-true, cond-false, ne_eqb}
+use Rattle.std.proofs.lemmas.Bool.{cases_Bool, eqb-true, eqb-false, lt-ltb, le-ltb, ltb-true, cond-true, cond-false}
+use Rattle.std.proofs.lemmas.Bool.{ne_eqb}
 use Rattle.std.proofs.lemmas.List.{append-nil}
 use Rattle.sig_base.specs.OptionSteps.{◌>>=◌}
 use Rattle.sig_base.proofs.OptionSteps.{bind_is, bind_of_some, when_is, unless_is, some_is}
 use Rattle.sig_der.specs.Element.{IsElement}
 use Rattle.sig_der.specs.Taking.{take_any, take_tag, take_whole, many_within, many_at}
 use Rattle.sig_der.proofs.Bytes.{IsBytes, IsBytes-right}
-use Rattle.sig_der.proofs.Takings.{take_any_takes, take_any_again, take_tag_takes, take_tag_again, take_whole_takes, take_whole_again}
+use Rattle.sig_der.proofs.Takings.{take_any_takes, take_any_again, take_tag_takes, take_tag_again, take_whole_takes}
+use Rattle.sig_der.proofs.Takings.{take_whole_again}
 use Rattle.sig_der.proofs.Many.{many_at_none, many_at_more}
 use Rattle.sig_der.proofs.KeyInfos.{content_fits, first_fits, rest_fits, some_left, left_some, none_left}
-use Rattle.sig_certificate.specs.Names.{Name, Email, Uri, Other, Unread, is_context, is_ascii_text, other_value, other_name, name_of, name_at, names_of}
-use Rattle.sig_certificate.specs.AlternativeNames.{IsOtherName, IsContext, IsName, IsGeneralName, AreJoinedNames, AreNames}
+use Rattle.sig_certificate.specs.Names.{Name, Email, Uri, Other, Unread, is_context, is_ascii_text, other_value}
+use Rattle.sig_certificate.specs.Names.{other_name, name_of, name_at, names_of}
+use Rattle.sig_certificate.specs.AlternativeNames.{IsOtherName, IsContext, IsName, IsGeneralName, AreJoinedNames}
+use Rattle.sig_certificate.specs.AlternativeNames.{AreNames}
 use Rattle.sig_certificate.proofs.WalkLaws.{name_at_shrinks}
-use Rattle.sig_der.specs.Tag.{OBJECT_IDENTIFIER, OTHER_NAME, OTHER_NAME_VALUE, RFC822_NAME, SEQUENCE, UNIFORM_RESOURCE_IDENTIFIER}
+use Rattle.sig_der.specs.Tag.{OBJECT_IDENTIFIER, OTHER_NAME, OTHER_NAME_VALUE, RFC822_NAME, SEQUENCE}
+use Rattle.sig_der.specs.Tag.{UNIFORM_RESOURCE_IDENTIFIER}
 
 -- ---- ASCII
 
@@ -40,7 +46,8 @@ ascii_again (b ∷ bytes) is = rw (lt-ltb b 128 (is 0)) (ascii_again bytes (λ i
 pub record TakesOther (content : List ℕ) (x : List ℕ × List ℕ) : Type 0 where
   pub is : IsOtherName content x.0 x.1
 
-other_takes : (content : List ℕ) → IsBytes content → (x : List ℕ × List ℕ) → other_name content ≡ Some x → TakesOther content x
+other_takes : (content : List ℕ) → IsBytes content → (x : List ℕ × List ℕ) → other_name content ≡ Some x
+    → TakesOther content x
 unfolding other_name other_value
 other_takes content fits x e =
     let o = bind_is (take_tag OBJECT_IDENTIFIER content) _ x e in
@@ -52,9 +59,12 @@ other_takes content fits x e =
     let to = (take_tag_takes OBJECT_IDENTIFIER content fits o.0 o.1).0 in
     let after = rest_fits _ _ _ _ content to fits in
     let tx = (take_whole_takes OTHER_NAME_VALUE o.0.1 after explicit.0 explicit.1).0 in
-    let tv = take_any_takes explicit.0.content (content_fits o.0.1 OTHER_NAME_VALUE explicit.0.content tx after) inside.0 inside.1 in
+    let tv =
+    take_any_takes explicit.0.content
+    (content_fits o.0.1 OTHER_NAME_VALUE explicit.0.content tx after) inside.0 inside.1 in
     let all : inside.0.0.whole ≡ explicit.0.content =
-    sym (tv.parts ∙ ap (λ (w : List ℕ). inside.0.0.whole ++ w) (none_left inside.0.1 h.0) ∙ append-nil inside.0.0.whole) in
+    sym (tv.parts ∙ ap (λ (w : List ℕ). inside.0.0.whole ++ w) (none_left inside.0.1 h.0)
+    ∙ append-nil inside.0.0.whole) in
     let value : IsElement explicit.0.content inside.0.0.tag v.0 =
     subst (λ (w : List ℕ). IsElement explicit.0.content inside.0.0.tag w) (some_is _ v.0 h.1)
     (subst (λ (w : List ℕ). IsElement w inside.0.0.tag inside.0.0.content) all tv.is) in
@@ -72,16 +82,20 @@ other_takes content fits x e =
       };
     })
 
-value_again : (content kind value : List ℕ) (is : IsOtherName content kind value) → other_value is.explicit_text ≡ Some value
+value_again : (content kind value : List ℕ) (is : IsOtherName content kind value)
+    → other_value is.explicit_text ≡ Some value
 unfolding other_value
 value_again content kind value is =
-    bind_of_some (take_whole OTHER_NAME_VALUE is.explicit_text) _ _ (take_whole_again is.explicit_text OTHER_NAME_VALUE is.value_text is.explicit)
-    ∙ bind_of_some (take_any is.value_text) _ _ (take_any_again is.value_text is.tag value [] is.value_text is.says (sym (append-nil is.value_text)))
+    bind_of_some (take_whole OTHER_NAME_VALUE is.explicit_text) _ _
+    (take_whole_again is.explicit_text OTHER_NAME_VALUE is.value_text is.explicit)
+    ∙ bind_of_some (take_any is.value_text) _ _
+    (take_any_again is.value_text is.tag value [] is.value_text is.says (sym (append-nil is.value_text)))
 
 other_again : (content kind value : List ℕ) → IsOtherName content kind value → other_name content ≡ Some (kind, value)
 unfolding other_name
 other_again content kind value is =
-    bind_of_some (take_tag OBJECT_IDENTIFIER content) _ _ (take_tag_again is.kind_text OBJECT_IDENTIFIER kind is.explicit_text content is.identifies is.parts)
+    bind_of_some (take_tag OBJECT_IDENTIFIER content) _ _
+    (take_tag_again is.kind_text OBJECT_IDENTIFIER kind is.explicit_text content is.identifies is.parts)
     ∙ bind_of_some (other_value is.explicit_text) _ value (value_again content kind value is)
     ∙ cond-false (eqb (length kind) 0) _ _ (left_some kind is.named)
 
@@ -92,7 +106,8 @@ primitive_again n low = rw (lt-ltb 127 (128 + n) (omega arith), lt-ltb (128 + n)
 
 constructed_again : (n : ℕ) → n < 9 → is_context (160 + n) ≡ true
 constructed_again n low =
-    rw (le-ltb (160 + n) 137 (omega arith), lt-ltb 159 (160 + n) (omega arith), lt-ltb (160 + n) 169 (omega arith)) (or_true (ltb 127 (160 + n) && false))
+    rw (le-ltb (160 + n) 137 (omega arith), lt-ltb 159 (160 + n) (omega arith), lt-ltb (160 + n) 169 (omega arith))
+    (or_true (ltb 127 (160 + n) && false))
 
 context_again : (tag : ℕ) → IsContext tag → is_context tag ≡ true
 context_again tag is =
@@ -110,56 +125,76 @@ context_takes tag e =
           let high = ltb-true tag 137 w.1 in
           record { number = tag - 128; known = omega (arith, low, high); is = inl (omega (arith, low, high)) }
       | inr not ↦
-          let w = both (ltb 159 tag) (ltb tag 169) (sym (ap (λ (b : Bool). b || (ltb 159 tag && ltb tag 169)) not) ∙ e) in
+          let w =
+          both (ltb 159 tag) (ltb tag 169) (sym (ap (λ (b : Bool). b || (ltb 159 tag && ltb tag 169)) not) ∙ e) in
           let low = ltb-true 159 tag w.0 in
           let high = ltb-true tag 169 w.1 in
           record { number = tag - 160; known = omega (arith, low, high); is = inr (omega (arith, low, high)) }
     ]
 
-email_takes : (tag : ℕ) (content : List ℕ) (n : Name) → tag ≡ RFC822_NAME → cond (is_ascii_text content) (Some (Email content)) None ≡ Some n → IsName tag content n
+email_takes : (tag : ℕ) (content : List ℕ) (n : Name) → tag ≡ RFC822_NAME
+    → cond (is_ascii_text content) (Some (Email content)) None ≡ Some n → IsName tag content n
 email_takes tag content n is e =
     let w = when_is (is_ascii_text content) (Some (Email content)) n e in
     subst (λ (m : Name). IsName tag content m) (some_is _ n w.1) (is, refl, ascii_takes content w.0)
 
-uri_takes : (tag : ℕ) (content : List ℕ) (n : Name) → tag ≡ UNIFORM_RESOURCE_IDENTIFIER → cond (is_ascii_text content) (Some (Uri content)) None ≡ Some n → IsName tag content n
+uri_takes : (tag : ℕ) (content : List ℕ) (n : Name) → tag ≡ UNIFORM_RESOURCE_IDENTIFIER
+    → cond (is_ascii_text content) (Some (Uri content)) None ≡ Some n → IsName tag content n
 uri_takes tag content n is e =
     let w = when_is (is_ascii_text content) (Some (Uri content)) n e in
     subst (λ (m : Name). IsName tag content m) (some_is _ n w.1) (is, refl, ascii_takes content w.0)
 
-kind_takes : (tag : ℕ) (content : List ℕ) → IsBytes content → (n : Name) → tag ≡ OTHER_NAME → (other_name content >>= λ x. Some (Other x.0 x.1)) ≡ Some n → IsName tag content n
+kind_takes : (tag : ℕ) (content : List ℕ) → IsBytes content → (n : Name) → tag ≡ OTHER_NAME
+    → (other_name content >>= λ x. Some (Other x.0 x.1)) ≡ Some n → IsName tag content n
 kind_takes tag content fits n is e =
     let x = bind_is (other_name content) _ n e in
     subst (λ (m : Name). IsName tag content m) (some_is _ n x.2) (is, (other_takes content fits x.0 x.1).is)
 
-unread_takes : (tag : ℕ) (content : List ℕ) (n : Name) → eqb tag RFC822_NAME ≡ false → eqb tag UNIFORM_RESOURCE_IDENTIFIER ≡ false → eqb tag OTHER_NAME ≡ false
+unread_takes : (tag : ℕ) (content : List ℕ) (n : Name) → eqb tag RFC822_NAME ≡ false
+    → eqb tag UNIFORM_RESOURCE_IDENTIFIER ≡ false → eqb tag OTHER_NAME ≡ false
     → cond (is_context tag) (Some Unread) None ≡ Some n → IsName tag content n
 unread_takes tag content n no_email no_uri no_other e =
     let w = when_is (is_context tag) (Some Unread) n e in
-    subst (λ (m : Name). IsName tag content m) (some_is _ n w.1)
-    (eqb-false tag RFC822_NAME no_email, eqb-false tag UNIFORM_RESOURCE_IDENTIFIER no_uri, eqb-false tag OTHER_NAME no_other, context_takes tag w.0)
+    subst (λ (m : Name). IsName tag content m) (some_is _ n w.1) (
+      eqb-false tag RFC822_NAME no_email,
+      eqb-false tag UNIFORM_RESOURCE_IDENTIFIER no_uri,
+      eqb-false tag OTHER_NAME no_other,
+      context_takes tag w.0,
+    )
 
-name_takes : (tag : ℕ) (content : List ℕ) → IsBytes content → (n : Name) → name_of tag content ≡ Some n → IsName tag content n
+name_takes : (tag : ℕ) (content : List ℕ) → IsBytes content → (n : Name) → name_of tag content ≡ Some n
+    → IsName tag content n
 unfolding name_of
 name_takes tag content fits n e =
     elim (cases_Bool (eqb tag RFC822_NAME)) [
-      | inl here ↦ email_takes tag content n (eqb-true tag RFC822_NAME here) (sym (cond-true (eqb tag RFC822_NAME) _ _ here) ∙ e)
+      | inl here ↦
+          email_takes tag content n (eqb-true tag RFC822_NAME here)
+          (sym (cond-true (eqb tag RFC822_NAME) _ _ here) ∙ e)
       | inr no_email ↦
           let e1 = sym (cond-false (eqb tag RFC822_NAME) _ _ no_email) ∙ e in
           elim (cases_Bool (eqb tag UNIFORM_RESOURCE_IDENTIFIER)) [
-            | inl here ↦ uri_takes tag content n (eqb-true tag UNIFORM_RESOURCE_IDENTIFIER here) (sym (cond-true (eqb tag UNIFORM_RESOURCE_IDENTIFIER) _ _ here) ∙ e1)
+            | inl here ↦
+                uri_takes tag content n (eqb-true tag UNIFORM_RESOURCE_IDENTIFIER here)
+                (sym (cond-true (eqb tag UNIFORM_RESOURCE_IDENTIFIER) _ _ here) ∙ e1)
             | inr no_uri ↦
                 let e2 = sym (cond-false (eqb tag UNIFORM_RESOURCE_IDENTIFIER) _ _ no_uri) ∙ e1 in
                 elim (cases_Bool (eqb tag OTHER_NAME)) [
-                  | inl here ↦ kind_takes tag content fits n (eqb-true tag OTHER_NAME here) (sym (cond-true (eqb tag OTHER_NAME) _ _ here) ∙ e2)
-                  | inr no_other ↦ unread_takes tag content n no_email no_uri no_other (sym (cond-false (eqb tag OTHER_NAME) _ _ no_other) ∙ e2)
+                  | inl here ↦
+                      kind_takes tag content fits n (eqb-true tag OTHER_NAME here)
+                      (sym (cond-true (eqb tag OTHER_NAME) _ _ here) ∙ e2)
+                  | inr no_other ↦
+                      unread_takes tag content n no_email no_uri no_other
+                      (sym (cond-false (eqb tag OTHER_NAME) _ _ no_other) ∙ e2)
                 ]
           ]
     ]
 
 name_again : (tag : ℕ) (content : List ℕ) (n : Name) → IsName tag content n → name_of tag content ≡ Some n
 unfolding name_of
-name_again tag content (Email text) is = rw (is.0, is.1) (cond-true (is_ascii_text content) _ _ (ascii_again content is.2))
-name_again tag content (Uri text) is = rw (is.0, is.1) (cond-true (is_ascii_text content) _ _ (ascii_again content is.2))
+name_again tag content (Email text) is =
+    rw (is.0, is.1) (cond-true (is_ascii_text content) _ _ (ascii_again content is.2))
+name_again tag content (Uri text) is =
+    rw (is.0, is.1) (cond-true (is_ascii_text content) _ _ (ascii_again content is.2))
 name_again tag content (Other kind value) is =
     rw is.0 (bind_of_some (other_name content) _ (kind, value) (other_again content kind value is.1))
 name_again tag content Unread is =
@@ -193,7 +228,8 @@ name_at_takes bytes fits y e =
       parts = t.parts;
     })
 
-name_at_again : (whole : List ℕ) (n : Name) (rest bytes : List ℕ) → IsGeneralName whole n → bytes ≡ whole ++ rest → name_at bytes ≡ Some (n, rest)
+name_at_again : (whole : List ℕ) (n : Name) (rest bytes : List ℕ) → IsGeneralName whole n → bytes ≡ whole ++ rest
+    → name_at bytes ≡ Some (n, rest)
 unfolding name_at
 name_at_again whole n rest bytes is parts =
     bind_of_some (take_any bytes) _ _ (take_any_again whole is.tag is.content rest bytes is.is parts)
@@ -201,7 +237,8 @@ name_at_again whole n rest bytes is parts =
 
 -- ---- names one after another
 
-within_takes : (n : ℕ) (bytes : List ℕ) → IsBytes bytes → (ns : List Name) → many_within name_at n bytes ≡ Some ns → AreJoinedNames bytes ns
+within_takes : (n : ℕ) (bytes : List ℕ) → IsBytes bytes → (ns : List Name) → many_within name_at n bytes ≡ Some ns
+    → AreJoinedNames bytes ns
 unfolding many_within
 within_takes n [] fits ns e = subst (λ (w : List Name). AreJoinedNames [] w) (some_is [] ns e) refl
 within_takes zero (b ∷ bytes) fits ns e = absurd cc
@@ -236,4 +273,5 @@ names_takes value fits ns e =
 pub names_again : (value : List ℕ) (ns : List Name) → AreNames value ns → names_of value ≡ Some ns
 unfolding names_of
 names_again value ns are =
-    bind_of_some (take_whole SEQUENCE value) _ _ (take_whole_again value SEQUENCE are.inner are.is) ∙ many_again are.inner ns are.joined
+    bind_of_some (take_whole SEQUENCE value) _ _ (take_whole_again value SEQUENCE are.inner are.is)
+    ∙ many_again are.inner ns are.joined

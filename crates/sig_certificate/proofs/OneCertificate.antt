@@ -11,12 +11,16 @@ use Rattle.sig_certificate.proofs.Readings.{IsCutAs, read_is}
 
 utc_one : (text : List ℕ) (s t : ℤ) → IsSecondOf (IsUtcTime text) s → IsSecondOf (IsUtcTime text) t → s ≡ t
 utc_one text s t a b =
-    let same = some_is a.moment b.moment (sym (utc_at_again text a.moment a.time) ∙ utc_at_again text b.moment b.time) in
+    let same =
+    some_is a.moment b.moment (sym (utc_at_again text a.moment a.time) ∙ utc_at_again text b.moment b.time) in
     a.value ∙ ap (λ m. second_of m) same ∙ sym b.value
 
-generalized_one : (text : List ℕ) (s t : ℤ) → IsSecondOf (IsGeneralizedTime text) s → IsSecondOf (IsGeneralizedTime text) t → s ≡ t
+generalized_one : (text : List ℕ) (s t : ℤ) → IsSecondOf (IsGeneralizedTime text) s
+    → IsSecondOf (IsGeneralizedTime text) t → s ≡ t
 generalized_one text s t a b =
-    let same = some_is a.moment b.moment (sym (generalized_at_again text a.moment a.time) ∙ generalized_at_again text b.moment b.time) in
+    let same =
+    some_is a.moment b.moment
+    (sym (generalized_at_again text a.moment a.time) ∙ generalized_at_again text b.moment b.time) in
     a.value ∙ ap (λ m. second_of m) same ∙ sym b.value
 
 time_one : (tag : ℕ) (content : List ℕ) (s t : ℤ) → IsTimeOf tag content s → IsTimeOf tag content t → s ≡ t
@@ -29,8 +33,11 @@ cut_one : (text : List ℕ) (p : Parts) (a b : ℤ) → IsCut text p a b → IsC
 cut_one text p a b is q x y other =
     let same = some_is p q (sym is.cut ∙ other.cut) in
     let begins = subst (λ (w : Parts). IsTimeOf w.body.first.tag w.body.first.content x) (sym same) other.begins in
-    let ends = subst (λ (w : Parts). IsTimeOf w.body.second.tag w.body.second.content y) (sym same) other.ends in
-    (same, time_one p.body.first.tag p.body.first.content a x is.begins begins, time_one p.body.second.tag p.body.second.content b y is.ends ends)
+    let ends = subst (λ (w : Parts). IsTimeOf w.body.second.tag w.body.second.content y) (sym same) other.ends in (
+      same,
+      time_one p.body.first.tag p.body.first.content a x is.begins begins,
+      time_one p.body.second.tag p.body.second.content b y is.ends ends,
+    )
 
 pub certificate_one : (text : List ℕ) (c d : Cert) → IsCertificate text c → IsCertificate text d → c ≡ d
 certificate_one text c d is other =

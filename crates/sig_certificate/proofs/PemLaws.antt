@@ -1,5 +1,6 @@
 -- One line more.
-use Rattle.std.proofs.Common.{◌≡◌, ◌≢◌, ℕ, zero, suc, ◌≤◌, min, List, [], ◌∷◌, ◌++◌, length, take, drop, refl, sym, ap, ◌∙◌, append_assoc, arith, inl, inr}
+use Rattle.std.proofs.Common.{◌≡◌, ◌≢◌, ℕ, zero, suc, ◌≤◌, min, List, [], ◌∷◌, ◌++◌, length, take, drop, refl, sym, ap}
+use Rattle.std.proofs.Common.{◌∙◌, append_assoc, arith, inl, inr}
 use Rattle.std.proofs.lemmas.Bool.{cases_lt}
 use Rattle.std.proofs.lemmas.List.{append-nil, length-drop, take_all, drop_all}
 use Rattle.base64.specs.Engines.{standard}
@@ -13,9 +14,11 @@ enough zero n (x ∷ bytes) a b = absurd (omega arith)
 enough (suc m) zero (x ∷ bytes) a b = absurd (omega arith)
 enough (suc m) (suc n) (x ∷ bytes) a b =
     let len = length-drop 48 (x ∷ bytes) in
-    ap (λ (w : List ℕ). encode_of standard (take 48 (x ∷ bytes)) ++ 10 ∷ [] ++ w) (enough m n (drop 48 (x ∷ bytes)) (omega arith) (omega arith))
+    ap (λ (w : List ℕ). encode_of standard (take 48 (x ∷ bytes)) ++ 10 ∷ [] ++ w)
+    (enough m n (drop 48 (x ∷ bytes)) (omega arith) (omega arith))
 
-pub lines_more : (bytes : List ℕ) → bytes ≢ [] → lines_of bytes ≡ encode_of standard (take 48 bytes) ++ 10 ∷ [] ++ lines_of (drop 48 bytes)
+pub lines_more : (bytes : List ℕ) → bytes ≢ []
+    → lines_of bytes ≡ encode_of standard (take 48 bytes) ++ 10 ∷ [] ++ lines_of (drop 48 bytes)
 unfolding lines_of lines_within
 lines_more [] some = absurd (some refl)
 lines_more (b ∷ bytes) some =
@@ -28,18 +31,21 @@ unfolding lines_of lines_within
 lines_none = refl
 
 -- One turn of the loop: what was written is line, what was there is before, front was encoded and back is left.
-pub turn : (before line front back rest all : List ℕ) → rest ≢ [] → line ≡ before ++ encode_of standard front ++ 10 ∷ [] → front ≡ take 48 rest → back ≡ drop 48 rest
+pub turn : (before line front back rest all : List ℕ) → rest ≢ []
+    → line ≡ before ++ encode_of standard front ++ 10 ∷ [] → front ≡ take 48 rest → back ≡ drop 48 rest
     → before ++ lines_of rest ≡ all → line ++ lines_of back ≡ all
 turn before line front back rest all some e f g so_far =
     rw (e, f, g)
     (append_assoc (before ++ encode_of standard (take 48 rest)) (10 ∷ []) (lines_of (drop 48 rest))
     ∙ append_assoc before (encode_of standard (take 48 rest)) (10 ∷ [] ++ lines_of (drop 48 rest))
-    ∙ ap (λ (w : List ℕ). before ++ w) (sym (append_assoc (encode_of standard (take 48 rest)) (10 ∷ []) (lines_of (drop 48 rest))))
+    ∙ ap (λ (w : List ℕ). before ++ w)
+    (sym (append_assoc (encode_of standard (take 48 rest)) (10 ∷ []) (lines_of (drop 48 rest))))
     ∙ ap (λ (w : List ℕ). before ++ w) (sym (lines_more rest some)) ∙ so_far)
 
 pub ends : (before rest all : List ℕ) → rest ≡ [] → before ++ lines_of rest ≡ all → before ≡ all
 ends before rest all none so_far =
-    sym (append-nil before) ∙ ap (λ (w : List ℕ). before ++ w) (sym lines_none) ∙ ap (λ (w : List ℕ). before ++ lines_of w) (sym none) ∙ so_far
+    sym (append-nil before) ∙ ap (λ (w : List ℕ). before ++ w) (sym lines_none)
+    ∙ ap (λ (w : List ℕ). before ++ lines_of w) (sym none) ∙ so_far
 
 pub take_min : (n : ℕ) (xs : List ℕ) (m : ℕ) → m ≡ min (length xs) n → take m xs ≡ take n xs
 take_min n xs m is =

@@ -18,11 +18,13 @@ no_parts text none c is = let r = certificate_again text c is in none r.parts c.
 abbrev pub IsCutAs : List ℕ → Parts → ℤ → ℤ → Type 0
 IsCutAs text p a b = (q : Parts) (x y : ℤ) → IsCut text q x y → (p ≡ q) × (a ≡ x) × (b ≡ y)
 
-same_certificate : (text : List ℕ) (p q : Parts) (a b x y : ℤ) (es fs : List Extension) → p ≡ q → a ≡ x → b ≡ y → es ≡ fs
+same_certificate : (text : List ℕ) (p q : Parts) (a b x y : ℤ) (es fs : List Extension) → p ≡ q → a ≡ x → b ≡ y
+    → es ≡ fs
     → certificate_of text q x y fs ≡ certificate_of text p a b es
 same_certificate text p q a b x y es fs e f g h = rw (e, f, g, h) refl
 
-pub read_is : (text : List ℕ) (p : Parts) (a b : ℤ) (es : List Extension) → IsCutAs text p a b → many_at extension_at p.list ≡ Some es
+pub read_is : (text : List ℕ) (p : Parts) (a b : ℤ) (es : List Extension) → IsCutAs text p a b
+    → many_at extension_at p.list ≡ Some es
     → (c : Cert) → IsCertificate text c → c ≡ certificate_of text p a b es
 read_is text p a b es cut read c is =
     let r = certificate_again text c is in

@@ -1,5 +1,6 @@
 -- What the extensions of one object identifier say, by how many there are and what the value of the only one is.
-use Rattle.std.proofs.Common.{◌≡◌, ◌≤◌, Bool, ℕ, List, [], ◌∷◌, length, Option, Some, None, Ok, Err, refl, sym, ap, subst, ◌∙◌, arith, inl, inr}
+use Rattle.std.proofs.Common.{◌≡◌, ◌≤◌, Bool, ℕ, List, [], ◌∷◌, length, Option, Some, None, Ok, Err, refl, sym, ap}
+use Rattle.std.proofs.Common.{subst, ◌∙◌, arith, inl, inr}
 use Rattle.std.specs.Prelude.{option_map}
 use Rattle.sig_der.specs.ObjectIdentifiers as oid
 use Rattle.sig_certificate.specs.declared.values.KeyUsage.{KeyUsage as Usage}
@@ -9,7 +10,8 @@ use Rattle.sig_certificate.specs.declared.profile_error.CertificateValidationErr
 use Rattle.sig_certificate.specs.Certificate.{Extension, Cert}
 use Rattle.sig_certificate.specs.Values.{key_usage_of, purposes_of, has_purpose, basic_constraints_of}
 use Rattle.sig_certificate.specs.Profile.{Held, read_as, held, usage, constraints, code_signing}
-use Rattle.sig_certificate.specs.Faults.{Says, SayNothing, usages, constraint_lists, purpose_lists, SaysUsage, SaysConstraints, SaysCodeSigning}
+use Rattle.sig_certificate.specs.Faults.{Says, SayNothing, usages, constraint_lists, purpose_lists, SaysUsage}
+use Rattle.sig_certificate.specs.Faults.{SaysConstraints, SaysCodeSigning}
 use Rattle.sig_certificate.proofs.HeldLaws.{held_absent, held_one, held_several}
 
 abbrev pub said : {B : Type 0} → B → Held B
@@ -57,12 +59,15 @@ seen e b = (e.critical, b)
 pub constraints_absent : (c : Cert) → constraints c ≡ Ok None → constraint_lists c ≡ []
 constraints_absent c e = held_is basic_constraints_of (λ x b. (x.critical, b)) (constraint_lists c) (Ok None) e
 
-pub constraints_bad : (c : Cert) (x : CertificateValidationError) → constraints c ≡ Err x → (x ≡ Malformed) × SayNothing (constraint_lists c) basic_constraints_of
+pub constraints_bad : (c : Cert) (x : CertificateValidationError) → constraints c ≡ Err x → (x ≡ Malformed)
+    × SayNothing (constraint_lists c) basic_constraints_of
 constraints_bad c x e = held_is basic_constraints_of (λ x b. (x.critical, b)) (constraint_lists c) (Err x) e
 
-pub constraints_say : (c : Cert) (critical : Bool) (b : Constraints) → constraints c ≡ said (critical, b) → SaysConstraints c critical b.ca
+pub constraints_say : (c : Cert) (critical : Bool) (b : Constraints) → constraints c ≡ said (critical, b)
+    → SaysConstraints c critical b.ca
 constraints_say c critical b e =
-    says_map (constraint_lists c) basic_constraints_of (λ x y. (x.critical, y) ≡ (critical, b)) (λ x y. (x.critical ≡ critical) × (y.ca ≡ b.ca))
+    says_map (constraint_lists c) basic_constraints_of (λ x y. (x.critical, y) ≡ (critical, b))
+    (λ x y. (x.critical ≡ critical) × (y.ca ≡ b.ca))
     (λ x y p. (ap (λ (w : Bool × Constraints). w.0) p, ap (λ (w : Bool × Constraints). w.1.ca) p))
     (held_is basic_constraints_of (λ x b. (x.critical, b)) (constraint_lists c) (said (critical, b)) e)
 
@@ -70,7 +75,8 @@ pub no_constraints : (c : Cert) → constraint_lists c ≡ [] → constraints c 
 no_constraints c e = held_again basic_constraints_of (λ x b. (x.critical, b)) (constraint_lists c) (Ok None) e
 
 pub bad_constraints : (c : Cert) → SayNothing (constraint_lists c) basic_constraints_of → constraints c ≡ Err Malformed
-bad_constraints c bad = held_again basic_constraints_of (λ x b. (x.critical, b)) (constraint_lists c) (Err Malformed) (refl, bad)
+bad_constraints c bad =
+    held_again basic_constraints_of (λ x b. (x.critical, b)) (constraint_lists c) (Err Malformed) (refl, bad)
 
 pub said_constraints : (c : Cert) (critical ca : Bool) → SaysConstraints c critical ca
     → (b : Constraints) × ((constraints c ≡ said (critical, b)) × (b.ca ≡ ca))
@@ -92,18 +98,22 @@ map_same : {A : Type 0} (o : Option A) → option_map (λ x. x) o ≡ o
 map_same None = refl
 map_same (Some x) = refl
 
-held_same : {A : Type 0} (read other : Extension → Option A) → ((e : Extension) → read e ≡ other e) → (es : List Extension) → held read es ≡ held other es
+held_same : {A : Type 0} (read other : Extension → Option A) → ((e : Extension) → read e ≡ other e)
+    → (es : List Extension) → held read es ≡ held other es
 held_same read other same [] = refl
 held_same read other same (e ∷ []) = ap read_as (same e)
 held_same read other same (e ∷ f ∷ es) = refl
 
 usage_mapped : (c : Cert) → held (λ e. option_map (λ u. u) (key_usage_of e.value)) (usages c) ≡ usage c
-usage_mapped c = held_same (λ e. option_map (λ u. u) (key_usage_of e.value)) (λ e. key_usage_of e.value) (λ e. map_same (key_usage_of e.value)) (usages c)
+usage_mapped c =
+    held_same (λ e. option_map (λ u. u) (key_usage_of e.value)) (λ e. key_usage_of e.value)
+    (λ e. map_same (key_usage_of e.value)) (usages c)
 
 pub usage_absent : (c : Cert) → usage c ≡ Ok None → usages c ≡ []
 usage_absent c e = held_is key_usage_of (λ x u. u) (usages c) (Ok None) (usage_mapped c ∙ e)
 
-pub usage_bad : (c : Cert) (x : CertificateValidationError) → usage c ≡ Err x → (x ≡ Malformed) × SayNothing (usages c) key_usage_of
+pub usage_bad : (c : Cert) (x : CertificateValidationError) → usage c ≡ Err x → (x ≡ Malformed)
+    × SayNothing (usages c) key_usage_of
 usage_bad c x e = held_is key_usage_of (λ x u. u) (usages c) (Err x) (usage_mapped c ∙ e)
 
 pub usage_says : (c : Cert) (u : Usage) → usage c ≡ said u → SaysUsage c u.digital_signature u.key_cert_sign
@@ -121,15 +131,22 @@ bad_usage c bad = sym (usage_mapped c) ∙ held_again key_usage_of (λ x u. u) (
 
 pub said_usage : (c : Cert) (d k : Bool) → SaysUsage c d k
     → (u : Usage) × ((usage c ≡ said u) × ((u.digital_signature ≡ d) × (u.key_cert_sign ≡ k)))
-said_usage c d k (e, (u, (one, (is, bits)))) =
-    (u, (sym (usage_mapped c) ∙ held_again key_usage_of (λ x u. u) (usages c) (said u) (e, (u, (one, (is, refl)))), bits))
+said_usage c d k (e, (u, (one, (is, bits)))) = (
+  u,
+  (
+    sym (usage_mapped c)
+        ∙ held_again key_usage_of (λ x u. u) (usages c) (said u) (e, (u, (one, (is, refl)))),
+    bits,
+  ),
+)
 
 -- ---- extended key usage
 
 pub purposes_absent : (c : Cert) → code_signing c ≡ Ok None → purpose_lists c ≡ []
 purposes_absent c e = held_is purposes_of (λ x p. has_purpose oid.code_signing p) (purpose_lists c) (Ok None) e
 
-pub purposes_bad : (c : Cert) (x : CertificateValidationError) → code_signing c ≡ Err x → (x ≡ Malformed) × SayNothing (purpose_lists c) purposes_of
+pub purposes_bad : (c : Cert) (x : CertificateValidationError) → code_signing c ≡ Err x → (x ≡ Malformed)
+    × SayNothing (purpose_lists c) purposes_of
 purposes_bad c x e = held_is purposes_of (λ x p. has_purpose oid.code_signing p) (purpose_lists c) (Err x) e
 
 pub purposes_say : (c : Cert) (is : Bool) → code_signing c ≡ said is → SaysCodeSigning c is
@@ -139,7 +156,9 @@ pub no_purposes : (c : Cert) → purpose_lists c ≡ [] → code_signing c ≡ O
 no_purposes c e = held_again purposes_of (λ x p. has_purpose oid.code_signing p) (purpose_lists c) (Ok None) e
 
 pub bad_purposes : (c : Cert) → SayNothing (purpose_lists c) purposes_of → code_signing c ≡ Err Malformed
-bad_purposes c bad = held_again purposes_of (λ x p. has_purpose oid.code_signing p) (purpose_lists c) (Err Malformed) (refl, bad)
+bad_purposes c bad =
+    held_again purposes_of (λ x p. has_purpose oid.code_signing p) (purpose_lists c) (Err Malformed) (refl, bad)
 
 pub said_purposes : (c : Cert) (is : Bool) → SaysCodeSigning c is → code_signing c ≡ said is
-said_purposes c is says = held_again purposes_of (λ x p. has_purpose oid.code_signing p) (purpose_lists c) (said is) says
+said_purposes c is says =
+    held_again purposes_of (λ x p. has_purpose oid.code_signing p) (purpose_lists c) (said is) says

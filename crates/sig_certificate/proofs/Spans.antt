@@ -11,14 +11,16 @@ past_end bytes start end le =
     ap (λ (w : List ℕ). take (end - start) w) (drop_all start bytes le) ∙ take_all (end - start) [] (omega arith)
 
 -- the ends are drawn back to where the text ends
-pub clipped_part : (bytes : List ℕ) (start end from to : ℕ) → (end ≤ length bytes → to ≡ end) → (length bytes < end → to ≡ length bytes)
+pub clipped_part : (bytes : List ℕ) (start end from to : ℕ) → (end ≤ length bytes → to ≡ end)
+    → (length bytes < end → to ≡ length bytes)
     → (start ≤ to → from ≡ start) → (to < start → from ≡ to) → slice_range bytes from to ≡ slice_range bytes start end
 clipped_part bytes start end from to inside outside ordered turned =
     elim (cases_lt (length bytes) end) [
       | inl out ↦ elim (cases_lt to start) [
         | inl behind ↦
             let all : to ≡ length bytes = outside out in
-            part-none bytes from to (omega (arith, turned behind)) ∙ sym (past_end bytes start end (omega (arith, all)))
+            part-none bytes from to (omega (arith, turned behind))
+            ∙ sym (past_end bytes start end (omega (arith, all)))
         | inr before ↦
             let all : to ≡ length bytes = outside out in
             let same : from ≡ start = ordered before in
@@ -30,7 +32,8 @@ clipped_part bytes start end from to inside outside ordered turned =
       | inr fits ↦ elim (cases_lt to start) [
         | inl behind ↦
             let all : to ≡ end = inside fits in
-            part-none bytes from to (omega (arith, turned behind)) ∙ sym (part-none bytes start end (omega (arith, all)))
+            part-none bytes from to (omega (arith, turned behind))
+            ∙ sym (part-none bytes start end (omega (arith, all)))
         | inr before ↦
             let all : to ≡ end = inside fits in
             let same : from ≡ start = ordered before in

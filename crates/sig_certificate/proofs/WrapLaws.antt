@@ -1,7 +1,9 @@
 -- The lines joined are the base64 of the whole.
-use Rattle.std.proofs.Common.{◌≡◌, ℕ, zero, suc, ◌+◌, ◌<◌, ◌≤◌, List, [], ◌∷◌, ◌++◌, length, take, drop, replicate, refl, sym, ap, ◌∙◌, append_assoc, arith, inl, inr}
+use Rattle.std.proofs.Common.{◌≡◌, ℕ, zero, suc, ◌+◌, ◌<◌, ◌≤◌, List, [], ◌∷◌, ◌++◌, length, take, drop, replicate}
+use Rattle.std.proofs.Common.{refl, sym, ap, ◌∙◌, append_assoc, arith, inl, inr}
 use Rattle.std.proofs.lemmas.Bool.{cases_lt}
-use Rattle.std.proofs.lemmas.List.{append-nil, length-drop, length-take-le, length-append, length-replicate, take_all, drop_all}
+use Rattle.std.proofs.lemmas.List.{append-nil, length-drop, length-take-le, length-append, length-replicate, take_all}
+use Rattle.std.proofs.lemmas.List.{drop_all}
 use Rattle.base64.specs.Engines.{standard}
 use Rattle.base64.specs.GeneralPurpose.{encode_of}
 use Rattle.base64.specs.Rfc4648.{encode_symbols, padding_len, unpadded_len}
@@ -19,7 +21,8 @@ unfolding symbols padding
 encoded bytes = refl
 
 -- how many characters the base64 of bytes has
-pub encoded_length : (bytes : List ℕ) → length (encode_of standard bytes) ≡ unpadded_len (length bytes) + padding_len (length bytes)
+pub encoded_length : (bytes : List ℕ)
+    → length (encode_of standard bytes) ≡ unpadded_len (length bytes) + padding_len (length bytes)
 unfolding symbols padding
 encoded_length bytes =
     let a = length-append (symbols bytes) (padding bytes) in
@@ -41,8 +44,10 @@ encode_front bytes long =
     ∙ ap (λ (w : List ℕ). w ++ padding bytes) split
     ∙ append_assoc (symbols (take 48 bytes)) (symbols (drop 48 bytes)) (padding bytes)
     ∙ ap (λ (n : ℕ). symbols (take 48 bytes) ++ (symbols (drop 48 bytes) ++ replicate n 61)) same
-    ∙ ap (λ (w : List ℕ). w ++ (symbols (drop 48 bytes) ++ padding (drop 48 bytes))) (sym (append-nil (symbols (take 48 bytes))))
-    ∙ ap (λ (w : List ℕ). (symbols (take 48 bytes) ++ w) ++ (symbols (drop 48 bytes) ++ padding (drop 48 bytes))) (sym none)
+    ∙ ap (λ (w : List ℕ). w ++ (symbols (drop 48 bytes) ++ padding (drop 48 bytes)))
+    (sym (append-nil (symbols (take 48 bytes))))
+    ∙ ap (λ (w : List ℕ). (symbols (take 48 bytes) ++ w) ++ (symbols (drop 48 bytes) ++ padding (drop 48 bytes)))
+    (sym none)
 
 wrapped_more : (line : List ℕ) (lines : List (List ℕ)) → length line ≡ 64 → IsWrapped lines → IsWrapped (line ∷ lines)
 wrapped_more line [] full is = (omega (arith, full), omega (arith, full))
@@ -83,7 +88,8 @@ lines_are (suc n) (b ∷ bytes) few =
           }
     ]
   where
-    last : (m : ℕ) → encode_of standard (b ∷ bytes) ++ 10 ∷ [] ++ lines_within m [] ≡ encode_of standard (b ∷ bytes) ++ 10 ∷ [] ++ []
+    last : (m : ℕ) → encode_of standard (b ∷ bytes) ++ 10 ∷ [] ++ lines_within m []
+        ≡ encode_of standard (b ∷ bytes) ++ 10 ∷ [] ++ []
     last m = refl
 
 pub lines_wrapped : (bytes : List ℕ) → IsWrappedBase64 bytes (lines_of bytes)

@@ -1,7 +1,8 @@
 -- What contracts see of a borrowed name, and of an iterator over borrowed names.
 use Rattle.std.specs.Prelude.{ℕ, zero, suc, List, [], ◌∷◌, length, Option, Some, None}
 use Rattle.sig_certificate.specs.declared.general_name.GeneralName.{GeneralName}
-use Rattle.sig_certificate.specs.declared.general_name.GeneralName.TheVariants.{Email as EmailOf, Uri as UriOf, Other as OtherOf, Unread as UnreadOf}
+use Rattle.sig_certificate.specs.declared.general_name.GeneralName.TheVariants.{Email as EmailOf, Uri as UriOf}
+use Rattle.sig_certificate.specs.declared.general_name.GeneralName.TheVariants.{Other as OtherOf, Unread as UnreadOf}
 use Rattle.sig_certificate.specs.declared.general_names.AlternativeNames.{AlternativeNames}
 use Rattle.sig_certificate.specs.Names.{Name, Email, Uri, Other, Unread, name_at}
 
@@ -16,8 +17,8 @@ abbrev pub then_names : (List ℕ → List Name) → Option (Name × List ℕ) �
 then_names go None = []
 then_names go (Some x) = x.0 ∷ go x.1
 
--- The names at the front of the bytes, one after another, up to the first that is none. The number bounds the readings; as many
--- as there are bytes suffice.
+-- The names at the front of the bytes, one after another, up to the first that is none. The number bounds the
+-- readings; as many as there are bytes suffice.
 unfoldable pub front_names_within : ℕ → List ℕ → List Name
 front_names_within zero bytes = []
 front_names_within (suc n) bytes = then_names (front_names_within n) (name_at bytes)

@@ -1,22 +1,25 @@
--- *Certificate*: RFC 5280 section 4.1, in the profile that this crate reads. The relation builds the text from the record's
--- parts; the reader cuts it.
+-- *Certificate*: RFC 5280 section 4.1, in the profile that this crate reads. The relation builds the text from the
+-- record's parts; the reader cuts it.
 use Rattle.std.specs.Prelude.{◌≡◌, ℕ, ◌+◌, ◌<◌, ℤ, List, [], ◌∷◌, ◌++◌, length, Bool, true, false, ◌⊎◌, if◌then◌else◌}
 use Rattle.sig_der.specs.Element.{IsElement}
 use Rattle.sig_der.specs.Joined.{AreJoined}
 use Rattle.sig_der.specs.KeyInfo.{Algorithm, IsAlgorithm, KeyInfo, IsKeyInfo}
 use Rattle.sig_der.specs.DerTime.{IsTimeOf}
-use Rattle.sig_der.specs.Tag.{BIT_STRING, BOOLEAN, EXTENSIONS, INTEGER, ISSUER_UNIQUE_ID, OBJECT_IDENTIFIER, OCTET_STRING, SEQUENCE, SUBJECT_UNIQUE_ID, VERSION}
+use Rattle.sig_der.specs.Tag.{BIT_STRING, BOOLEAN, EXTENSIONS, INTEGER, ISSUER_UNIQUE_ID, OBJECT_IDENTIFIER}
+use Rattle.sig_der.specs.Tag.{OCTET_STRING, SEQUENCE, SUBJECT_UNIQUE_ID, VERSION}
 
 -- ---- the records
 
--- An extension: its object identifier, whether it is critical, its value (the content of its OCTET STRING), its whole text.
+-- An extension: its object identifier, whether it is critical, its value (the content of its OCTET STRING), its whole
+-- text.
 pub record Extension : Type 0 where
   pub oid : List ℕ
   pub critical : Bool
   pub value : List ℕ
   pub whole : List ℕ
 
--- A certificate. Every part that is no number and no truth value is a part of its text; the times are seconds since 1970.
+-- A certificate. Every part that is no number and no truth value is a part of its text; the times are seconds since
+-- 1970.
 pub record Cert : Type 0 where
   pub whole : List ℕ
   -- the part that is signed
@@ -94,7 +97,8 @@ pub record IsValidity (text : List ℕ) (not_before not_after : ℤ) : Type 0 wh
   pub begins : IsTimeText first not_before
   pub ends : IsTimeText second not_after
 
--- Extension, section 4.1: a SEQUENCE of an object identifier that is not empty, a BOOLEAN DEFAULT FALSE, an OCTET STRING
+-- Extension, section 4.1: a SEQUENCE of an object identifier that is not empty, a BOOLEAN DEFAULT FALSE, an OCTET
+-- STRING
 pub record IsExtension (e : Extension) : Type 0 where
   pub oid_text : List ℕ
   pub flag_text : List ℕ
@@ -130,7 +134,9 @@ pub record IsSignedPart (c : Cert) : Type 0 where
   pub extensions_text : List ℕ
   pub tbs : IsElement c.tbs SEQUENCE (c.front ++ extensions_text)
   pub front : c.front
-      ≡ version_text ++ (serial_text ++ (c.inner_algorithm ++ (c.issuer ++ (validity_text ++ (c.subject ++ (c.spki ++ (issuer_id_text ++ subject_id_text)))))))
+      ≡ version_text ++ (serial_text
+      ++ (c.inner_algorithm ++ (c.issuer
+      ++ (validity_text ++ (c.subject ++ (c.spki ++ (issuer_id_text ++ subject_id_text)))))))
   pub version : IsVersion version_text c.version
   pub serial : IsSerial serial_text
   pub algorithm : IsAlgorithmText c.inner_algorithm

@@ -1,14 +1,16 @@
--- Reading a certificate by computation: the plain program that the reader is equal to, in the same steps. That it reads exactly
--- the texts of *Certificate* is in proofs/Certificates.
--- The times are told by a relation, as sig_der tells them.
-use Rattle.std.specs.Prelude.{◌≡◌, ℕ, ◌+◌, ◌-◌, ℤ, List, [], ◌∷◌, length, take, Bool, true, false, Option, Some, None, nat_lt, ◌==◌, if◌then◌else◌}
+-- Reading a certificate by computation: the plain program that the reader is equal to, in the same steps. That it
+-- reads exactly the texts of *Certificate* is in proofs/Certificates. The times are told by a relation, as sig_der
+-- tells them.
+use Rattle.std.specs.Prelude.{◌≡◌, ℕ, ◌+◌, ◌-◌, ℤ, List, [], ◌∷◌, length, take, Bool, true, false, Option, Some, None}
+use Rattle.std.specs.Prelude.{nat_lt, ◌==◌, if◌then◌else◌}
 use Rattle.sig_base.specs.OptionSteps.{◌>>=◌}
 use Rattle.sig_der.specs.Reading.{Piece}
 use Rattle.sig_der.specs.Taking.{take_any, take_tag, take_whole, take_optional}
 use Rattle.sig_der.specs.KeyInfo.{is_empty, algorithm_at, bits_of, key_info_at}
 use Rattle.sig_certificate.specs.Certificate.{Extension, Cert}
 use Rattle.sig_der.specs.DerTime.{IsTimeOf}
-use Rattle.sig_der.specs.Tag.{BOOLEAN, EXTENSIONS, INTEGER, ISSUER_UNIQUE_ID, OBJECT_IDENTIFIER, OCTET_STRING, SEQUENCE, SUBJECT_UNIQUE_ID, VERSION}
+use Rattle.sig_der.specs.Tag.{BOOLEAN, EXTENSIONS, INTEGER, ISSUER_UNIQUE_ID, OBJECT_IDENTIFIER, OCTET_STRING}
+use Rattle.sig_der.specs.Tag.{SEQUENCE, SUBJECT_UNIQUE_ID, VERSION}
 
 -- ---- extensions
 

@@ -1,6 +1,7 @@
--- *Extension values*: key usage, extended key usage and basic constraints as relations that build the text, in the words of X.690 and
--- RFC 5280. That the readers of Values read exactly these are laws of the crate.
-use Rattle.std.specs.Prelude.{◌≡◌, ℕ, ◌-◌, ◌/◌, ◌%◌, ◌^◌, ◌<◌, ◌≤◌, List, [], ◌∷◌, ◌++◌, length, true, Option, Some, None, get_or}
+-- *Extension values*: key usage, extended key usage and basic constraints as relations that build the text, in the
+-- words of X.690 and RFC 5280. That the readers of Values read exactly these are laws of the crate.
+use Rattle.std.specs.Prelude.{◌≡◌, ℕ, ◌-◌, ◌/◌, ◌%◌, ◌^◌, ◌<◌, ◌≤◌, List, [], ◌∷◌, ◌++◌, length, true, Option, Some}
+use Rattle.std.specs.Prelude.{None, get_or}
 use Rattle.sig_der.specs.Element.{element, IsElement}
 use Rattle.sig_der.specs.Joined.{AreJoined}
 use Rattle.sig_der.specs.Length.{octets_number}
@@ -11,12 +12,14 @@ use Rattle.sig_certificate.specs.Certificate.{IsFlag}
 
 -- ---- BIT STRING: X.690 section 8.6
 
--- Bit n of the bits that the octets hold: bit 0 is the top bit of the first octet, bit 8 the top bit of the second. A bit past the last
--- octet is 0 (RFC 5280 section 4.2.1.3, with X.680 section 22.7: a named bit list is as if 0 bits followed).
+-- Bit n of the bits that the octets hold: bit 0 is the top bit of the first octet, bit 8 the top bit of the second. A
+-- bit past the last octet is 0 (RFC 5280 section 4.2.1.3, with X.680 section 22.7: a named bit list is as if 0 bits
+-- followed).
 abbrev pub bit : List ℕ → ℕ → ℕ
 bit octets n = get_or octets (n / 8) 0 / 2 ^ (7 - n % 8) % 2
 
--- The contents octets of a BIT STRING: the count of unused bits, from 0 to 7, which is 0 where no octet follows it, and the octets.
+-- The contents octets of a BIT STRING: the count of unused bits, from 0 to 7, which is 0 where no octet follows it,
+-- and the octets.
 pub record IsBitString (content octets : List ℕ) : Type 0 where
   pub unused : ℕ
   pub few : unused < 8
@@ -63,8 +66,9 @@ pub record ArePurposes (value : List ℕ) (purposes : List (List ℕ)) : Type 0 
 
 -- ---- INTEGER: X.690 section 8.3
 
--- The contents octets of an INTEGER that is not negative and has at most four: the shortest two's complement. Not negative: bit 8 of the
--- first octet is 0 (section 8.3.3). Shortest: where there are several, the first nine bits are not all 0 (section 8.3.2).
+-- The contents octets of an INTEGER that is not negative and has at most four: the shortest two's complement. Not
+-- negative: bit 8 of the first octet is 0 (section 8.3.3). Shortest: where there are several, the first nine bits are
+-- not all 0 (section 8.3.2).
 pub record IsNatural (content : List ℕ) (n : ℕ) : Type 0 where
   pub some : 1 ≤ length content
   pub most : length content ≤ 4

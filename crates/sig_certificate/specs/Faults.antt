@@ -1,15 +1,28 @@
--- Where each fault of a certificate's profiles and of its trust comes: the rules before it hold, and its own does not. The rules are
--- told in the words of RFC 5280.
-use Rattle.std.specs.Prelude.{◌≡◌, ◌≢◌, ◌⊎◌, ℕ, ◌≤◌, ℤ, ◌<ℤ◌, ◌≤ℤ◌, List, [], ◌∷◌, length, Bool, true, false, Option, Some, None}
+-- Where each fault of a certificate's profiles and of its trust comes: the rules before it hold, and its own does not.
+-- The rules are told in the words of RFC 5280.
+use Rattle.std.specs.Prelude.{◌≡◌, ◌≢◌, ◌⊎◌, ℕ, ◌≤◌, ℤ, ◌<ℤ◌, ◌≤ℤ◌, List, [], ◌∷◌, length, Bool, true, false, Option}
+use Rattle.std.specs.Prelude.{Some, None}
 use Rattle.sig_base.specs.declared.error.SigstoreError.{SigstoreError}
-use Rattle.sig_base.specs.declared.error.SigstoreError.TheVariants.{CertificateValidityError, CertificateExpiredBeforeSignaturesSubmittedToRekor, CertificateIssuedAfterSignaturesSubmittedToRekor, CertificateWithoutDigitalSignatureKeyUsage, CertificateWithoutCodeSigningKeyUsage, CertificateWithoutSubjectAlternativeName}
+use Rattle.sig_base.specs.declared.error.SigstoreError.TheVariants.{CertificateValidityError}
+use Rattle.sig_base.specs.declared.error.SigstoreError.TheVariants.{CertificateExpiredBeforeSignaturesSubmittedToRekor}
+use Rattle.sig_base.specs.declared.error.SigstoreError.TheVariants.{CertificateIssuedAfterSignaturesSubmittedToRekor}
+use Rattle.sig_base.specs.declared.error.SigstoreError.TheVariants.{CertificateWithoutDigitalSignatureKeyUsage}
+use Rattle.sig_base.specs.declared.error.SigstoreError.TheVariants.{CertificateWithoutCodeSigningKeyUsage}
+use Rattle.sig_base.specs.declared.error.SigstoreError.TheVariants.{CertificateWithoutSubjectAlternativeName}
 use Rattle.sig_der.specs.ObjectIdentifiers as oid
 use Rattle.sig_certificate.specs.declared.profile_error.CertificateValidationError.{CertificateValidationError}
-use Rattle.sig_certificate.specs.declared.profile_error.CertificateValidationError.TheVariants.{VersionUnsupported, Malformed, NotLeaf, NotCA, Extension as OfExtension}
+use Rattle.sig_certificate.specs.declared.profile_error.CertificateValidationError.TheVariants.{VersionUnsupported}
+use Rattle.sig_certificate.specs.declared.profile_error.CertificateValidationError.TheVariants.{Malformed, NotLeaf}
+use Rattle.sig_certificate.specs.declared.profile_error.CertificateValidationError.TheVariants.{NotCA}
+use Rattle.sig_certificate.specs.declared.profile_error.CertificateValidationError.TheVariants.{Extension as OfPart}
 use Rattle.sig_certificate.specs.declared.profile_error.NotLeafErrorKind.TheVariants.{IsCA}
-use Rattle.sig_certificate.specs.declared.profile_error.NotCAErrorKind.TheVariants.{NotCA as Neither, NotRootCA, Invalid}
+use Rattle.sig_certificate.specs.declared.profile_error.NotCAErrorKind.TheVariants.{NotCA as Neither, NotRootCA}
+use Rattle.sig_certificate.specs.declared.profile_error.NotCAErrorKind.TheVariants.{Invalid}
 use Rattle.sig_certificate.specs.declared.profile_error.ExtensionErrorKind.TheVariants.{Missing, NotCritical, BitUnset}
-use Rattle.sig_certificate.specs.declared.profile_error.PartName.TheVariants.{BasicConstraints, KeyUsage, KeyUsageDigitalSignature, ExtendedKeyUsage, ExtendedKeyUsageDigitalSignature}
+use Rattle.sig_certificate.specs.declared.profile_error.PartName.TheVariants.{BasicConstraints, KeyUsage}
+use Rattle.sig_certificate.specs.declared.profile_error.PartName.TheVariants.{KeyUsageDigitalSignature}
+use Rattle.sig_certificate.specs.declared.profile_error.PartName.TheVariants.{ExtendedKeyUsage}
+use Rattle.sig_certificate.specs.declared.profile_error.PartName.TheVariants.{ExtendedKeyUsageDigitalSignature}
 use Rattle.sig_certificate.specs.Certificate.{Extension, Cert}
 use Rattle.sig_certificate.specs.Lookups.{with_oid}
 use Rattle.sig_certificate.specs.Values.{key_usage_of, purposes_of, has_purpose, basic_constraints_of}
@@ -43,7 +56,8 @@ SaysUsage c digital_signature key_cert_sign =
 
 -- basic constraints: whether they are critical, and cA
 abbrev pub SaysConstraints : Cert → Bool → Bool → Type 0
-SaysConstraints c critical ca = Says (constraint_lists c) basic_constraints_of (λ e b. (e.critical ≡ critical) × (b.ca ≡ ca))
+SaysConstraints c critical ca =
+    Says (constraint_lists c) basic_constraints_of (λ e b. (e.critical ≡ critical) × (b.ca ≡ ca))
 
 -- extended key usage: whether code signing is among the purposes
 abbrev pub SaysCodeSigning : Cert → Bool → Type 0
@@ -60,18 +74,23 @@ pub record IsAuthority (c : Cert) : Type 0 where
 
 pub data IsAuthorityFault : Cert → CertificateValidationError → Type 0 where
   other_version : {c : Cert} → c.version ≢ 3 → IsAuthorityFault c VersionUnsupported
-  constraints_malformed : {c : Cert} → c.version ≡ 3 → SayNothing (constraint_lists c) basic_constraints_of → IsAuthorityFault c Malformed
-  constraints_missing : {c : Cert} → c.version ≡ 3 → constraint_lists c ≡ [] → IsAuthorityFault c (OfExtension (Missing BasicConstraints))
+  constraints_malformed : {c : Cert} → c.version ≡ 3 → SayNothing (constraint_lists c) basic_constraints_of
+      → IsAuthorityFault c Malformed
+  constraints_missing : {c : Cert} → c.version ≡ 3 → constraint_lists c ≡ []
+      → IsAuthorityFault c (OfPart (Missing BasicConstraints))
   constraints_not_critical : {c : Cert} (ca : Bool) → c.version ≡ 3 → SaysConstraints c false ca
-      → IsAuthorityFault c (OfExtension (NotCritical BasicConstraints))
-  usage_malformed : {c : Cert} (ca : Bool) → c.version ≡ 3 → SaysConstraints c true ca → SayNothing (usages c) key_usage_of
+      → IsAuthorityFault c (OfPart (NotCritical BasicConstraints))
+  usage_malformed : {c : Cert} (ca : Bool) → c.version ≡ 3 → SaysConstraints c true ca
+      → SayNothing (usages c) key_usage_of
       → IsAuthorityFault c Malformed
   usage_missing : {c : Cert} (ca : Bool) → c.version ≡ 3 → SaysConstraints c true ca → usages c ≡ []
-      → IsAuthorityFault c (OfExtension (Missing KeyUsage))
-  neither : {c : Cert} (digital_signature : Bool) → c.version ≡ 3 → SaysConstraints c true false → SaysUsage c digital_signature false
+      → IsAuthorityFault c (OfPart (Missing KeyUsage))
+  neither : {c : Cert} (digital_signature : Bool) → c.version ≡ 3 → SaysConstraints c true false
+      → SaysUsage c digital_signature false
       → IsAuthorityFault c (NotCA Neither)
   one_alone : {c : Cert} (digital_signature ca key_cert_sign : Bool) → c.version ≡ 3 → SaysConstraints c true ca
-      → SaysUsage c digital_signature key_cert_sign → ca ≢ key_cert_sign → IsAuthorityFault c (NotCA (Invalid ca key_cert_sign))
+      → SaysUsage c digital_signature key_cert_sign → ca ≢ key_cert_sign
+      → IsAuthorityFault c (NotCA (Invalid ca key_cert_sign))
 
 -- ---- roots
 
@@ -84,16 +103,22 @@ pub data IsRootFault : Cert → CertificateValidationError → Type 0 where
 pub data IsLeafFault : Cert → CertificateValidationError → Type 0 where
   leaf_version : {c : Cert} → c.version ≢ 3 → IsLeafFault c VersionUnsupported
   is_authority : {c : Cert} → IsAuthority c → IsLeafFault c (NotLeaf IsCA)
-  leaf_usage_malformed : {c : Cert} → c.version ≡ 3 → ¬ IsAuthority c → SayNothing (usages c) key_usage_of → IsLeafFault c Malformed
-  leaf_usage_missing : {c : Cert} → c.version ≡ 3 → ¬ IsAuthority c → usages c ≡ [] → IsLeafFault c (OfExtension (Missing KeyUsage))
-  no_digital_signature : {c : Cert} (key_cert_sign : Bool) → c.version ≡ 3 → ¬ IsAuthority c → SaysUsage c false key_cert_sign
-      → IsLeafFault c (OfExtension (BitUnset KeyUsageDigitalSignature))
-  purposes_malformed : {c : Cert} (key_cert_sign : Bool) → c.version ≡ 3 → ¬ IsAuthority c → SaysUsage c true key_cert_sign
+  leaf_usage_malformed : {c : Cert} → c.version ≡ 3 → ¬ IsAuthority c → SayNothing (usages c) key_usage_of
+      → IsLeafFault c Malformed
+  leaf_usage_missing : {c : Cert} → c.version ≡ 3 → ¬ IsAuthority c → usages c ≡ []
+      → IsLeafFault c (OfPart (Missing KeyUsage))
+  no_digital_signature : {c : Cert} (key_cert_sign : Bool) → c.version ≡ 3 → ¬ IsAuthority c
+      → SaysUsage c false key_cert_sign
+      → IsLeafFault c (OfPart (BitUnset KeyUsageDigitalSignature))
+  purposes_malformed : {c : Cert} (key_cert_sign : Bool) → c.version ≡ 3 → ¬ IsAuthority c
+      → SaysUsage c true key_cert_sign
       → SayNothing (purpose_lists c) purposes_of → IsLeafFault c Malformed
-  purposes_missing : {c : Cert} (key_cert_sign : Bool) → c.version ≡ 3 → ¬ IsAuthority c → SaysUsage c true key_cert_sign
-      → purpose_lists c ≡ [] → IsLeafFault c (OfExtension (Missing ExtendedKeyUsage))
-  no_code_signing : {c : Cert} (key_cert_sign : Bool) → c.version ≡ 3 → ¬ IsAuthority c → SaysUsage c true key_cert_sign
-      → SaysCodeSigning c false → IsLeafFault c (OfExtension (BitUnset ExtendedKeyUsageDigitalSignature))
+  purposes_missing : {c : Cert} (key_cert_sign : Bool) → c.version ≡ 3 → ¬ IsAuthority c
+      → SaysUsage c true key_cert_sign
+      → purpose_lists c ≡ [] → IsLeafFault c (OfPart (Missing ExtendedKeyUsage))
+  no_code_signing : {c : Cert} (key_cert_sign : Bool) → c.version ≡ 3 → ¬ IsAuthority c
+      → SaysUsage c true key_cert_sign
+      → SaysCodeSigning c false → IsLeafFault c (OfPart (BitUnset ExtendedKeyUsageDigitalSignature))
 
 -- ---- trust
 
@@ -116,7 +141,8 @@ pub data IsNamesFault : Cert → SigstoreError → Type 0 where
 
 -- by now, the validity has not begun
 pub data IsValidityFault : Cert → ℤ → SigstoreError → Type 0 where
-  not_begun : {c : Cert} {now : ℤ} → now <ℤ c.not_before → IsValidityFault c now (CertificateValidityError c.not_before)
+  not_begun : {c : Cert} {now : ℤ} → now <ℤ c.not_before
+      → IsValidityFault c now (CertificateValidityError c.not_before)
 
 -- the time of the entry is before the validity, or after it
 pub data IsExpirationFault : Cert → ℤ → SigstoreError → Type 0 where
@@ -128,8 +154,11 @@ pub data IsExpirationFault : Cert → ℤ → SigstoreError → Type 0 where
 -- the four checks in their order
 pub data IsTrustFault : Cert → ℤ → ℤ → SigstoreError → Type 0 where
   of_usages : {c : Cert} {at now : ℤ} (e : SigstoreError) → IsUsagesFault c e → IsTrustFault c at now e
-  of_names : {c : Cert} {at now : ℤ} (e : SigstoreError) → MaySign c → MaySignCode c → IsNamesFault c e → IsTrustFault c at now e
-  of_validity : {c : Cert} {at now : ℤ} (e : SigstoreError) → MaySign c → MaySignCode c → IsNamed c → IsValidityFault c now e
+  of_names : {c : Cert} {at now : ℤ} (e : SigstoreError) → MaySign c → MaySignCode c → IsNamesFault c e
       → IsTrustFault c at now e
-  of_expiration : {c : Cert} {at now : ℤ} (e : SigstoreError) → MaySign c → MaySignCode c → IsNamed c → c.not_before ≤ℤ now
+  of_validity : {c : Cert} {at now : ℤ} (e : SigstoreError) → MaySign c → MaySignCode c → IsNamed c
+      → IsValidityFault c now e
+      → IsTrustFault c at now e
+  of_expiration : {c : Cert} {at now : ℤ} (e : SigstoreError) → MaySign c → MaySignCode c → IsNamed c
+      → c.not_before ≤ℤ now
       → IsExpirationFault c at e → IsTrustFault c at now e

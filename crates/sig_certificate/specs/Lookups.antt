@@ -1,4 +1,5 @@
--- *Extension values*, the first half: the extensions of an object identifier, and what contracts see of a lent extension.
+-- *Extension values*, the first half: the extensions of an object identifier, and what contracts see of a lent
+-- extension.
 use Rattle.std.specs.Prelude.{◌≡◌, ℕ, ◌≤◌, List, [], ◌∷◌, length, map, filter, Bool, true, not, ◌&&◌}
 use Rattle.std.specs.Str.{bytes_eq}
 use Rattle.std.specs.List.{list_any}

@@ -4,7 +4,8 @@ use Rattle.std.specs.List.{list_all}
 use Rattle.sig_base.specs.OptionSteps.{◌>>=◌}
 use Rattle.sig_der.specs.Taking.{take_any, take_tag, take_whole, many_at}
 use Rattle.sig_der.specs.KeyInfo.{is_empty}
-use Rattle.sig_der.specs.Tag.{OBJECT_IDENTIFIER, OTHER_NAME, OTHER_NAME_VALUE, RFC822_NAME, SEQUENCE, UNIFORM_RESOURCE_IDENTIFIER}
+use Rattle.sig_der.specs.Tag.{OBJECT_IDENTIFIER, OTHER_NAME, OTHER_NAME_VALUE, RFC822_NAME, SEQUENCE}
+use Rattle.sig_der.specs.Tag.{UNIFORM_RESOURCE_IDENTIFIER}
 
 -- A name: an email, a URI, an other name with its object identifier and its value, or one of a kind that is not read.
 pub data Name : Type 0 where

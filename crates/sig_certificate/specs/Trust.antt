@@ -1,7 +1,13 @@
 -- *Certificate profiles*: the four checks of a certificate that signed, and all of them in order.
-use Rattle.std.specs.Prelude.{ℤ, List, [], ◌∷◌, Bool, false, Option, Some, None, Ok, Err, int_lt, is_some, if◌then◌else◌}
+use Rattle.std.specs.Prelude.{ℤ, List, [], ◌∷◌, Bool, false, Option, Some, None, Ok, Err, int_lt, is_some}
+use Rattle.std.specs.Prelude.{if◌then◌else◌}
 use Rattle.sig_base.specs.declared.error.SigstoreError.{SigstoreError}
-use Rattle.sig_base.specs.declared.error.SigstoreError.TheVariants.{CertificateValidityError, CertificateExpiredBeforeSignaturesSubmittedToRekor, CertificateIssuedAfterSignaturesSubmittedToRekor, CertificateWithoutDigitalSignatureKeyUsage, CertificateWithoutCodeSigningKeyUsage, CertificateWithoutSubjectAlternativeName}
+use Rattle.sig_base.specs.declared.error.SigstoreError.TheVariants.{CertificateValidityError}
+use Rattle.sig_base.specs.declared.error.SigstoreError.TheVariants.{CertificateExpiredBeforeSignaturesSubmittedToRekor}
+use Rattle.sig_base.specs.declared.error.SigstoreError.TheVariants.{CertificateIssuedAfterSignaturesSubmittedToRekor}
+use Rattle.sig_base.specs.declared.error.SigstoreError.TheVariants.{CertificateWithoutDigitalSignatureKeyUsage}
+use Rattle.sig_base.specs.declared.error.SigstoreError.TheVariants.{CertificateWithoutCodeSigningKeyUsage}
+use Rattle.sig_base.specs.declared.error.SigstoreError.TheVariants.{CertificateWithoutSubjectAlternativeName}
 use Rattle.sig_der.specs.ObjectIdentifiers.{subject_alternative_name}
 use Rattle.sig_certificate.specs.declared.values.KeyUsage.{KeyUsage as Usage}
 use Rattle.sig_certificate.specs.Certificate.{Extension, Cert}
@@ -33,7 +39,8 @@ is_named (e ∷ f ∷ es) = false
 
 abbrev pub names_refusal : Cert → Option SigstoreError
 names_refusal c =
-    if is_named (with_oid subject_alternative_name c.extensions) then None else Some CertificateWithoutSubjectAlternativeName
+    if is_named (with_oid subject_alternative_name c.extensions) then None
+    else Some CertificateWithoutSubjectAlternativeName
 
 abbrev pub validity_refusal : Cert → ℤ → Option SigstoreError
 validity_refusal c now = if int_lt now c.not_before then Some (CertificateValidityError c.not_before) else None

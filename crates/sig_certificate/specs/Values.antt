@@ -1,5 +1,7 @@
--- *Extension values*, the second half: what the value of an extension says. Each is the whole value; another form says nothing.
-use Rattle.std.specs.Prelude.{ℕ, ◌+◌, ◌*◌, List, [], ◌∷◌, Bool, false, not, ◌&&◌, Option, Some, None, option_map, bit_and, nat_lt, ◌==◌, if◌then◌else◌}
+-- *Extension values*, the second half: what the value of an extension says. Each is the whole value; another form says
+-- nothing.
+use Rattle.std.specs.Prelude.{ℕ, ◌+◌, ◌*◌, List, [], ◌∷◌, Bool, false, not, ◌&&◌, Option, Some, None, option_map}
+use Rattle.std.specs.Prelude.{bit_and, nat_lt, ◌==◌, if◌then◌else◌}
 use Rattle.std.specs.Str.{bytes_eq}
 use Rattle.std.specs.List.{list_any}
 use Rattle.sig_base.specs.OptionSteps.{◌>>=◌}
@@ -19,9 +21,11 @@ has_bit byte mask = not (bit_and byte mask == 0)
 -- the content of its BIT STRING: a count of unused bits from 0 to 7, which is 0 where no byte follows, and the bits
 unfoldable pub usage_of : List ℕ → Option KeyUsage
 usage_of [] = None
-usage_of (unused ∷ []) = if unused == 0 then Some (record { digital_signature = false; key_cert_sign = false }) else None
+usage_of (unused ∷ []) =
+    if unused == 0 then Some (record { digital_signature = false; key_cert_sign = false }) else None
 usage_of (unused ∷ first ∷ rest) =
-    if nat_lt unused 8 then Some (record { digital_signature = has_bit first 128; key_cert_sign = has_bit first 4 }) else None
+    if nat_lt unused 8 then Some (record { digital_signature = has_bit first 128; key_cert_sign = has_bit first 4 })
+    else None
 
 unfoldable pub key_usage_of : List ℕ → Option KeyUsage
 key_usage_of value = take_whole BIT_STRING value >>= λ s. usage_of s.content
@@ -30,7 +34,8 @@ key_usage_of value = take_whole BIT_STRING value >>= λ s. usage_of s.content
 
 -- an object identifier that is not empty, and what follows it
 unfoldable pub oid_at : List ℕ → Option (List ℕ × List ℕ)
-oid_at bytes = take_tag OBJECT_IDENTIFIER bytes >>= λ x. (if is_empty x.0.content then None else Some (x.0.content, x.1))
+oid_at bytes =
+    take_tag OBJECT_IDENTIFIER bytes >>= λ x. (if is_empty x.0.content then None else Some (x.0.content, x.1))
 
 -- a SEQUENCE of them
 unfoldable pub purposes_of : List ℕ → Option (List (List ℕ))
@@ -47,7 +52,8 @@ unfoldable pub number_of : List ℕ → Option ℕ
 number_of [] = None
 number_of (a ∷ []) = if nat_lt a 128 then Some a else None
 number_of (a ∷ b ∷ []) = if (a == 0) && nat_lt b 128 then None else if nat_lt a 128 then Some (a * 256 + b) else None
-number_of (a ∷ b ∷ c ∷ []) = if (a == 0) && nat_lt b 128 then None else if nat_lt a 128 then Some (a * 65536 + b * 256 + c) else None
+number_of (a ∷ b ∷ c ∷ []) =
+    if (a == 0) && nat_lt b 128 then None else if nat_lt a 128 then Some (a * 65536 + b * 256 + c) else None
 number_of (a ∷ b ∷ c ∷ d ∷ []) =
     if (a == 0) && nat_lt b 128 then None
     else if nat_lt a 128 then Some (a * 16777216 + b * 65536 + c * 256 + d)

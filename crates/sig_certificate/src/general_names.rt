@@ -61,7 +61,7 @@ fn are_names(bytes: &[u8]) -> bool
 
 /// Returns the names of the subject alternative name of this value. `None` if the value is not a SEQUENCE of names and
 /// nothing else.
-#[tactic(auto, unfolding(crate::specs::Names::names_of), using(crate::proofs::FrontNames::all_names, crate::proofs::FrontNames::no_names))]
+#[tactic(auto, unfolding(crate::specs::Names::names_of), using(crate::proofs::FrontNames::are_names))]
 pub fn alternative_names(value: &[u8]) -> Option<AlternativeNames<'_>>
     ensures { names_of value.now ≡ option_map names_left result }
 {

@@ -13,8 +13,10 @@ ghost use Rattle.sig_certificate.specs.ExtensionValues.{IsKeyUsageValue, ArePurp
 ghost use Rattle.sig_certificate.specs.Names.{Name, names_of};
 ghost use Rattle.sig_certificate.specs.AlternativeNames.{AreNames};
 ghost use Rattle.sig_certificate.specs.Profile.{ca_refusal, root_refusal, leaf_refusal};
-ghost use Rattle.sig_certificate.specs.Trust.{usages_refusal, names_refusal, validity_refusal, expiration_refusal, trust_refusal};
-ghost use Rattle.sig_certificate.specs.Faults.{IsAuthority, IsAuthorityFault, IsRootFault, IsLeafFault, IsUsagesFault, IsNamesFault, IsValidityFault, IsExpirationFault, IsTrustFault};
+ghost use Rattle.sig_certificate.specs.Trust.{usages_refusal, names_refusal, validity_refusal, expiration_refusal};
+ghost use Rattle.sig_certificate.specs.Trust.{trust_refusal};
+ghost use Rattle.sig_certificate.specs.Faults.{IsAuthority, IsAuthorityFault, IsRootFault, IsLeafFault, IsUsagesFault};
+ghost use Rattle.sig_certificate.specs.Faults.{IsNamesFault, IsValidityFault, IsExpirationFault, IsTrustFault};
 
 /// Bytes are at most one certificate (RFC 5280 section 4.1).
 pub fn certificates()
@@ -32,16 +34,20 @@ pub fn key_usages(value: &[u8])
 /// A value has these purposes if and only if it is the SEQUENCE of their object identifiers (RFC 5280 section
 /// 4.2.1.12).
 pub fn extended_key_usages(value: &[u8])
-    ensures takes { (purposes : List (List ℕ)) → purposes_of value.now ≡ Some purposes → ArePurposes value.now purposes }
-    ensures again { (purposes : List (List ℕ)) → ArePurposes value.now purposes → purposes_of value.now ≡ Some purposes }
+    ensures takes { (purposes : List (List ℕ)) → purposes_of value.now ≡ Some purposes
+        → ArePurposes value.now purposes }
+    ensures again { (purposes : List (List ℕ)) → ArePurposes value.now purposes
+        → purposes_of value.now ≡ Some purposes }
 {
     let _value = value;
 }
 
 /// A value says these basic constraints if and only if it is their SEQUENCE (RFC 5280 section 4.2.1.9).
 pub fn basic_constraints(value: &[u8])
-    ensures takes { (b : BasicConstraints) → basic_constraints_of value.now ≡ Some b → AreBasicConstraints value.now b }
-    ensures again { (b : BasicConstraints) → AreBasicConstraints value.now b → basic_constraints_of value.now ≡ Some b }
+    ensures takes { (b : BasicConstraints) → basic_constraints_of value.now ≡ Some b
+        → AreBasicConstraints value.now b }
+    ensures again { (b : BasicConstraints) → AreBasicConstraints value.now b
+        → basic_constraints_of value.now ≡ Some b }
 {
     let _value = value;
 }
@@ -63,7 +69,8 @@ pub fn pem_lines()
 /// A fault of a profile comes if and only if the rules before its own hold and its own does not.
 pub fn profile_faults()
     ensures authority { (c : Cert) → (ca_refusal c ≡ None) ↔ IsAuthority c }
-    ensures no_authority { (c : Cert) (e : CertificateValidationError) → (ca_refusal c ≡ Some e) ↔ IsAuthorityFault c e }
+    ensures no_authority { (c : Cert) (e : CertificateValidationError) → (ca_refusal c ≡ Some e)
+        ↔ IsAuthorityFault c e }
     ensures no_root { (c : Cert) (e : CertificateValidationError) → (root_refusal c ≡ Some e) ↔ IsRootFault c e }
     ensures no_leaf { (c : Cert) (e : CertificateValidationError) → (leaf_refusal c ≡ Some e) ↔ IsLeafFault c e }
 {}
@@ -72,7 +79,10 @@ pub fn profile_faults()
 pub fn trust_faults()
     ensures usages { (c : Cert) (e : SigstoreError) → (usages_refusal c ≡ Some e) ↔ IsUsagesFault c e }
     ensures names { (c : Cert) (e : SigstoreError) → (names_refusal c ≡ Some e) ↔ IsNamesFault c e }
-    ensures validity { (c : Cert) (now : ℤ) (e : SigstoreError) → (validity_refusal c now ≡ Some e) ↔ IsValidityFault c now e }
-    ensures expiration { (c : Cert) (at : ℤ) (e : SigstoreError) → (expiration_refusal c at ≡ Some e) ↔ IsExpirationFault c at e }
-    ensures all { (c : Cert) (at now : ℤ) (e : SigstoreError) → (trust_refusal c at now ≡ Some e) ↔ IsTrustFault c at now e }
+    ensures validity { (c : Cert) (now : ℤ) (e : SigstoreError) → (validity_refusal c now ≡ Some e)
+        ↔ IsValidityFault c now e }
+    ensures expiration { (c : Cert) (at : ℤ) (e : SigstoreError) → (expiration_refusal c at ≡ Some e)
+        ↔ IsExpirationFault c at e }
+    ensures all { (c : Cert) (at now : ℤ) (e : SigstoreError) → (trust_refusal c at now ≡ Some e)
+        ↔ IsTrustFault c at now e }
 {}

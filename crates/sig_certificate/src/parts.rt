@@ -15,7 +15,8 @@
 //! ```
 
 ghost use Rattle.std.specs.Prelude.{◌≡◌, length, option_map, IfSome};
-ghost use Rattle.sig_certificate.specs.Cutting.{version_number, explicit_version, version_at, head_at, validity_at, body_at, after_ids, list_at, outer_at, parts_at};
+ghost use Rattle.sig_certificate.specs.Cutting.{version_number, explicit_version, version_at, head_at, validity_at};
+ghost use Rattle.sig_certificate.specs.Cutting.{body_at, after_ids, list_at, outer_at, parts_at};
 ghost use Rattle.sig_certificate.specs.Places.{value_read, head_read, IsHeadWithin, validity_read, IsValidityRead};
 ghost use Rattle.sig_certificate.specs.Places.{body_read, IsBodyWithin, outer_of, IsOuterWithin, listed_of};
 ghost use Rattle.sig_certificate.specs.Places.{IsListedWithin, parts_of, ArePlaces};

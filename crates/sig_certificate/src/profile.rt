@@ -1,7 +1,8 @@
 //! What a certificate may be: a leaf, an authority, a root.
 
 ghost use Rattle.std.specs.Prelude.{◌≡◌};
-ghost use Rattle.sig_certificate.specs.Profile.{refusal, usage, constraints, code_signing, authority, signer, ca_refusal, root_refusal, leaf_refusal};
+ghost use Rattle.sig_certificate.specs.Profile.{refusal, usage, constraints, code_signing, authority, signer};
+ghost use Rattle.sig_certificate.specs.Profile.{ca_refusal, root_refusal, leaf_refusal};
 
 use crate::certificate::Certificate;
 use crate::lookup::Lookup;
@@ -14,7 +15,7 @@ use sig_der::oid::{BASIC_CONSTRAINTS, CODE_SIGNING, EXTENDED_KEY_USAGE, KEY_USAG
 
 /// Returns what the key usage of the certificate says, `None` if there is none. Fails with `Malformed` if it is
 /// malformed or a duplicate extension.
-#[tactic(auto, using(crate::proofs::HeldLaws::held_absent, crate::proofs::HeldLaws::held_one, crate::proofs::HeldLaws::held_several))]
+#[tactic(auto, using(crate::proofs::HeldLaws::held_laws))]
 pub(crate) fn key_usage(
     certificate: &Certificate,
 ) -> Result<Option<KeyUsage>, CertificateValidationError>
@@ -32,7 +33,7 @@ pub(crate) fn key_usage(
 
 /// Returns whether the basic constraints of the certificate are critical, and what they say, `None` if there are none.
 /// Fails with `Malformed` if they are malformed or a duplicate extension. For the pools of sig_x509.
-#[tactic(auto, using(crate::proofs::HeldLaws::held_absent, crate::proofs::HeldLaws::held_one, crate::proofs::HeldLaws::held_several))]
+#[tactic(auto, using(crate::proofs::HeldLaws::held_laws))]
 pub fn basic_constraints(
     certificate: &Certificate,
 ) -> Result<Option<(bool, BasicConstraints)>, CertificateValidationError>
@@ -50,7 +51,7 @@ pub fn basic_constraints(
 
 /// Returns whether code signing is among the purposes of the certificate's extended key usage, `None` if there is
 /// none. Fails with `Malformed` if it is malformed or a duplicate extension. For the pools of sig_x509.
-#[tactic(auto, using(crate::proofs::HeldLaws::held_absent, crate::proofs::HeldLaws::held_one, crate::proofs::HeldLaws::held_several))]
+#[tactic(auto, using(crate::proofs::HeldLaws::held_laws))]
 pub fn code_signing(certificate: &Certificate) -> Result<Option<bool>, CertificateValidationError>
     ensures { result ≡ code_signing certificate.now }
 {

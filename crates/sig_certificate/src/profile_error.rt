@@ -1,7 +1,8 @@
 //! Why a certificate does not have the profile that is asked for.
 
 ghost use Rattle.std.specs.Prelude.{◌≡◌};
-ghost use Rattle.sig_certificate.specs.declared.profile_error.CertificateValidationError.TheVariants.{NotLeaf, NotCA, Extension};
+ghost use Rattle.sig_certificate.specs.declared.profile_error.CertificateValidationError.TheVariants.{NotLeaf, NotCA};
+ghost use Rattle.sig_certificate.specs.declared.profile_error.CertificateValidationError.TheVariants.{Extension};
 
 use thiserror::Error;
 

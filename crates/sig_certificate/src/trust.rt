@@ -2,7 +2,8 @@
 
 ghost use Rattle.std.specs.Prelude.{◌≡◌};
 ghost use Rattle.sig_certificate.specs.Profile.{refusal};
-ghost use Rattle.sig_certificate.specs.Trust.{may_sign, may_sign_code, is_named, usages_refusal, names_refusal, validity_refusal, expiration_refusal, trust_refusal};
+ghost use Rattle.sig_certificate.specs.Trust.{may_sign, may_sign_code, is_named, usages_refusal, names_refusal};
+ghost use Rattle.sig_certificate.specs.Trust.{validity_refusal, expiration_refusal, trust_refusal};
 ghost use Rattle.sig_der.specs.ObjectIdentifiers.{subject_alternative_name};
 ghost use Rattle.sig_certificate.specs.Lookups.{with_oid};
 
@@ -55,7 +56,7 @@ pub fn verify_key_usages(certificate: &Certificate) -> Result<()>
 }
 
 /// Whether exactly one well-formed extension of alternative names is there.
-#[tactic(auto, using(crate::proofs::HeldLaws::named_absent, crate::proofs::HeldLaws::named_one, crate::proofs::HeldLaws::named_several))]
+#[tactic(auto, using(crate::proofs::HeldLaws::named_laws))]
 fn is_named(certificate: &Certificate) -> bool
     ensures { result ≡ is_named (with_oid subject_alternative_name certificate.now.extensions) }
 {

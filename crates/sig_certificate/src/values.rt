@@ -10,7 +10,8 @@
 
 ghost use Rattle.std.specs.Prelude.{◌≡◌, option_map};
 ghost use Rattle.sig_der.specs.Readers.{left};
-ghost use Rattle.sig_certificate.specs.Values.{usage_of, key_usage_of, oid_at, number_of, constraints_in, basic_constraints_of};
+ghost use Rattle.sig_certificate.specs.Values.{usage_of, key_usage_of, oid_at, number_of, constraints_in};
+ghost use Rattle.sig_certificate.specs.Values.{basic_constraints_of};
 
 use crate::extensions::read_flag;
 use sig_der::{Reader, tag, take_tag, take_whole};
@@ -59,8 +60,8 @@ pub(crate) fn read_key_usage(value: &[u8]) -> Option<KeyUsage>
     usage(string.content)
 }
 
-/// Returns the contents octets of the object identifier at the front of the bytes, and what follows it. `None` if there
-/// is none, or an empty one.
+/// Returns the contents octets of the object identifier at the front of the bytes, and what follows it. `None` if
+/// there is none, or an empty one.
 #[tactic(auto, unfolding(crate::specs::Values::oid_at))]
 pub(crate) fn take_oid(bytes: &[u8]) -> Option<(&[u8], &[u8])>
     ensures { oid_at bytes.now ≡ option_map (λ x. (x.0.now, x.1.now)) result }

@@ -1,4 +1,5 @@
--- Lists whose numbers are bytes, and their parts. A slice of bytes is such a list: `λ i. omega (arith, c.type_inv.bytes i)`.
+-- Lists whose numbers are bytes, and their parts. A slice of bytes is such a list: `λ i. omega (arith,
+-- c.type_inv.bytes i)`.
 use Rattle.std.proofs.Common.{ℕ, suc, ◌<◌, List, [], ◌∷◌, ◌++◌, length, get_or, subst, arith, inl, inr}
 use Rattle.std.proofs.lemmas.Bool.{cases_lt}
 use Rattle.std.proofs.lemmas.List.{get_or_past, get_or_append_left}

@@ -1,5 +1,6 @@
 -- A run of digits, digit by digit.
-use Rattle.std.proofs.Common.{◌≡◌, ℕ, zero, suc, ◌+◌, add-one, ◌≤◌, true, List, [], ◌∷◌, ◌++◌, length, refl, sym, ap, ◌∙◌, arith, inl, inr}
+use Rattle.std.proofs.Common.{◌≡◌, ℕ, zero, suc, ◌+◌, add-one, ◌≤◌, true, List, [], ◌∷◌, ◌++◌, length, refl, sym, ap}
+use Rattle.std.proofs.Common.{◌∙◌, arith, inl, inr}
 use Rattle.std.specs.List.{AllByRecursion}
 use Rattle.std.proofs.lemmas.Bool.{cases_Bool, cond-true, cond-false, lt-ltb, and_from}
 use Rattle.sig_der.specs.Digits.{is_digit}
@@ -37,7 +38,9 @@ run_takes (suc most) (b ∷ text) =
             b ∷ h.0,
             record {
               each = (digit, h.1.each);
-              parts = ap (λ (w : List ℕ). b ∷ w) (h.1.parts ∙ ap (λ (w : List ℕ). h.0 ++ after_digits most w) (sym skipped));
+              parts =
+                  ap (λ (w : List ℕ). b ∷ w)
+                  (h.1.parts ∙ ap (λ (w : List ℕ). h.0 ++ after_digits most w) (sym skipped));
               bound = omega (arith, h.1.bound);
             },
           )
@@ -53,12 +56,14 @@ run_takes (suc most) (b ∷ text) =
           )
     ]
 
-pub run_again : (most : ℕ) (digits rest : List ℕ) → AllByRecursion (λ b. is_digit b ≡ true) digits → length digits ≤ most → after_digit rest ≡ rest
+pub run_again : (most : ℕ) (digits rest : List ℕ) → AllByRecursion (λ b. is_digit b ≡ true) digits
+    → length digits ≤ most → after_digit rest ≡ rest
     → after_digits most (digits ++ rest) ≡ rest
 unfolding after_digits
 run_again zero [] rest each bound ends = refl
 run_again zero (d ∷ digits) rest each bound ends = absurd (omega arith)
-run_again (suc most) [] rest each bound ends = ap (λ (w : List ℕ). after_digits most w) ends ∙ run_again most [] rest tt (omega arith) ends
+run_again (suc most) [] rest each bound ends =
+    ap (λ (w : List ℕ). after_digits most w) ends ∙ run_again most [] rest tt (omega arith) ends
 run_again (suc most) (d ∷ digits) rest each bound ends =
     ap (λ (w : List ℕ). after_digits most w) (cond-true (is_digit d) (digits ++ rest) (d ∷ (digits ++ rest)) each.0)
     ∙ run_again most digits rest each.1 (omega arith) ends

@@ -1,8 +1,10 @@
 -- Digits that are read are those that are written, and written ones are read again.
-use Rattle.std.proofs.Common.{◌≡◌, ℕ, ◌+◌, ◌-◌, ◌*◌, ◌/◌, ◌%◌, ◌<◌, ◌≤◌, true, ltb, eqb, ◌&&◌, List, [], ◌∷◌, ◌++◌, Option, Some, None, refl, sym, ap, subst, ◌∙◌, append_assoc, arith}
+use Rattle.std.proofs.Common.{◌≡◌, ℕ, ◌+◌, ◌-◌, ◌*◌, ◌/◌, ◌%◌, ◌<◌, ◌≤◌, true, ltb, eqb, ◌&&◌, List, [], ◌∷◌, ◌++◌}
+use Rattle.std.proofs.Common.{Option, Some, None, refl, sym, ap, subst, ◌∙◌, append_assoc, arith}
 use Rattle.std.proofs.lemmas.Bool.{ltb-true, eq-eqb, eqb-true, and_parts, and_from, cond-true}
 use Rattle.sig_base.proofs.OptionSteps.{bind_is, bind_of_some, when_is, some_is}
-use Rattle.sig_der.specs.Digits.{two_digits, four_digits, mark_text, day_text, clock_text, is_digit, two_at, four_at, skip, day_at, clock_at}
+use Rattle.sig_der.specs.Digits.{two_digits, four_digits, mark_text, day_text, clock_text, is_digit, two_at, four_at}
+use Rattle.sig_der.specs.Digits.{skip, day_at, clock_at}
 use Rattle.sig_der.proofs.DigitRuns.{is_digit-within}
 
 -- what a reader of a value took from the front of a text
@@ -47,7 +49,8 @@ unfolding two_at
 two_at_again n rest fits =
     let same : (48 + n / 10 - 48) * 10 + (48 + n % 10 - 48) ≡ n = omega arith in
     cond-true (is_digit (48 + n / 10) && is_digit (48 + n % 10)) _ _
-    (and_from _ _ (is_digit-within (48 + n / 10) (omega arith) (omega arith)) (is_digit-within (48 + n % 10) (omega arith) (omega arith)))
+    (and_from _ _ (is_digit-within (48 + n / 10) (omega arith) (omega arith))
+    (is_digit-within (48 + n % 10) (omega arith) (omega arith)))
     ∙ ap (λ (m : ℕ). two_read m rest) same
 
 -- ---- four digits
@@ -76,7 +79,8 @@ pub four_at_again : (n : ℕ) (rest : List ℕ) → n < 10000 → four_at (four_
 unfolding four_at
 four_at_again n rest fits =
     let same : n / 100 * 100 + n % 100 ≡ n = omega arith in
-    bind_of_some (two_at (two_digits (n / 100) ++ (two_digits (n % 100) ++ rest))) _ _ (two_at_again (n / 100) (two_digits (n % 100) ++ rest) (omega arith))
+    bind_of_some (two_at (two_digits (n / 100) ++ (two_digits (n % 100) ++ rest))) _ _
+    (two_at_again (n / 100) (two_digits (n % 100) ++ rest) (omega arith))
     ∙ bind_of_some (two_at (two_digits (n % 100) ++ rest)) _ _ (two_at_again (n % 100) rest (omega arith))
     ∙ ap (λ (m : ℕ). two_read m rest) same
 
@@ -101,7 +105,8 @@ pub record IsDayPair (pair : ℕ × ℕ) : Type 0 where
   pub month : pair.0 < 100
   pub day : pair.1 < 100
 
-pub day_at_takes : (mark : Option ℕ) (text : List ℕ) (y : (ℕ × ℕ) × List ℕ) → day_at mark text ≡ Some y → Read (day_text mark) IsDayPair text y
+pub day_at_takes : (mark : Option ℕ) (text : List ℕ) (y : (ℕ × ℕ) × List ℕ) → day_at mark text ≡ Some y
+    → Read (day_text mark) IsDayPair text y
 unfolding day_at
 day_at_takes mark text y e =
     let a = bind_is (two_at text) _ y e in
@@ -111,17 +116,22 @@ day_at_takes mark text y e =
     let tb = two_at_takes s.0 b.0 b.1 in
     subst (λ (w : (ℕ × ℕ) × List ℕ). Read (day_text mark) IsDayPair text w) (some_is _ y b.2) (record {
       parts = ta.parts ∙ ap (λ (w : List ℕ). two_digits a.0.0 ++ w)
-          (skip_takes mark a.0.1 s.0 s.1 ∙ ap (λ (w : List ℕ). mark_text mark ++ w) tb.parts ∙ sym (append_assoc (mark_text mark) (two_digits b.0.0) b.0.1));
+          (skip_takes mark a.0.1 s.0 s.1 ∙ ap (λ (w : List ℕ). mark_text mark ++ w) tb.parts
+          ∙ sym (append_assoc (mark_text mark) (two_digits b.0.0) b.0.1));
       fits = record { month = ta.fits; day = tb.fits };
     })
 
-pub day_at_again : (mark : Option ℕ) (day : ℕ × ℕ) (rest : List ℕ) → IsDayPair day → day_at mark (day_text mark day ++ rest) ≡ Some (day, rest)
+pub day_at_again : (mark : Option ℕ) (day : ℕ × ℕ) (rest : List ℕ) → IsDayPair day
+    → day_at mark (day_text mark day ++ rest) ≡ Some (day, rest)
 unfolding day_at
 day_at_again mark day rest fits =
     let after = two_digits day.1 ++ rest in
-    let split : mark_text mark ++ two_digits day.1 ++ rest ≡ mark_text mark ++ after = append_assoc (mark_text mark) (two_digits day.1) rest in
-    bind_of_some (two_at (two_digits day.0 ++ (mark_text mark ++ two_digits day.1 ++ rest))) _ _ (two_at_again day.0 (mark_text mark ++ two_digits day.1 ++ rest) fits.month)
-    ∙ bind_of_some (skip mark (mark_text mark ++ two_digits day.1 ++ rest)) _ _ (ap (λ (w : List ℕ). skip mark w) split ∙ skip_again mark after)
+    let split : mark_text mark ++ two_digits day.1 ++ rest ≡ mark_text mark ++ after =
+    append_assoc (mark_text mark) (two_digits day.1) rest in
+    bind_of_some (two_at (two_digits day.0 ++ (mark_text mark ++ two_digits day.1 ++ rest))) _ _
+    (two_at_again day.0 (mark_text mark ++ two_digits day.1 ++ rest) fits.month)
+    ∙ bind_of_some (skip mark (mark_text mark ++ two_digits day.1 ++ rest)) _ _
+    (ap (λ (w : List ℕ). skip mark w) split ∙ skip_again mark after)
     ∙ bind_of_some (two_at after) _ _ (two_at_again day.1 rest fits.day)
 
 -- ---- hour, minute and second
@@ -131,7 +141,8 @@ pub record IsClockTriple (clock : ℕ × ℕ × ℕ) : Type 0 where
   pub minute : clock.1 < 100
   pub second : clock.2 < 100
 
-pub clock_at_takes : (mark : Option ℕ) (text : List ℕ) (y : (ℕ × ℕ × ℕ) × List ℕ) → clock_at mark text ≡ Some y → Read (clock_text mark) IsClockTriple text y
+pub clock_at_takes : (mark : Option ℕ) (text : List ℕ) (y : (ℕ × ℕ × ℕ) × List ℕ) → clock_at mark text ≡ Some y
+    → Read (clock_text mark) IsClockTriple text y
 unfolding clock_at
 clock_at_takes mark text y e =
     let a = bind_is (two_at text) _ y e in
@@ -142,7 +153,8 @@ clock_at_takes mark text y e =
     let ta = two_at_takes text a.0 a.1 in
     let tb = two_at_takes s.0 b.0 b.1 in
     let td = two_at_takes r.0 d.0 d.1 in
-    let last = skip_takes mark b.0.1 r.0 r.1 ∙ ap (λ (w : List ℕ). mark_text mark ++ w) td.parts ∙ sym (append_assoc (mark_text mark) (two_digits d.0.0) d.0.1) in
+    let last = skip_takes mark b.0.1 r.0 r.1 ∙ ap (λ (w : List ℕ). mark_text mark ++ w) td.parts
+    ∙ sym (append_assoc (mark_text mark) (two_digits d.0.0) d.0.1) in
     let minutes = tb.parts ∙ ap (λ (w : List ℕ). two_digits b.0.0 ++ w) last in
     let middle = skip_takes mark a.0.1 s.0 s.1 ∙ ap (λ (w : List ℕ). mark_text mark ++ w) minutes
     ∙ sym (append_assoc (mark_text mark) (two_digits b.0.0 ++ (mark_text mark ++ two_digits d.0.0)) d.0.1) in
@@ -151,17 +163,21 @@ clock_at_takes mark text y e =
       fits = record { hour = ta.fits; minute = tb.fits; second = td.fits };
     })
 
-pub clock_at_again : (mark : Option ℕ) (clock : ℕ × ℕ × ℕ) (rest : List ℕ) → IsClockTriple clock → clock_at mark (clock_text mark clock ++ rest) ≡ Some (clock, rest)
+pub clock_at_again : (mark : Option ℕ) (clock : ℕ × ℕ × ℕ) (rest : List ℕ) → IsClockTriple clock
+    → clock_at mark (clock_text mark clock ++ rest) ≡ Some (clock, rest)
 unfolding clock_at
 clock_at_again mark clock rest fits =
     let seconds = two_digits clock.2 ++ rest in
     let minutes = two_digits clock.1 ++ (mark_text mark ++ seconds) in
     let inner = two_digits clock.1 ++ (mark_text mark ++ two_digits clock.2) in
-    let inner_is : inner ++ rest ≡ minutes = ap (λ (w : List ℕ). two_digits clock.1 ++ w) (append_assoc (mark_text mark) (two_digits clock.2) rest) in
+    let inner_is : inner ++ rest ≡ minutes =
+    ap (λ (w : List ℕ). two_digits clock.1 ++ w) (append_assoc (mark_text mark) (two_digits clock.2) rest) in
     let split : mark_text mark ++ inner ++ rest ≡ mark_text mark ++ minutes =
     append_assoc (mark_text mark) inner rest ∙ ap (λ (w : List ℕ). mark_text mark ++ w) inner_is in
-    bind_of_some (two_at (two_digits clock.0 ++ (mark_text mark ++ inner ++ rest))) _ _ (two_at_again clock.0 (mark_text mark ++ inner ++ rest) fits.hour)
-    ∙ bind_of_some (skip mark (mark_text mark ++ inner ++ rest)) _ _ (ap (λ (w : List ℕ). skip mark w) split ∙ skip_again mark minutes)
+    bind_of_some (two_at (two_digits clock.0 ++ (mark_text mark ++ inner ++ rest))) _ _
+    (two_at_again clock.0 (mark_text mark ++ inner ++ rest) fits.hour)
+    ∙ bind_of_some (skip mark (mark_text mark ++ inner ++ rest)) _ _
+    (ap (λ (w : List ℕ). skip mark w) split ∙ skip_again mark minutes)
     ∙ bind_of_some (two_at minutes) _ _ (two_at_again clock.1 (mark_text mark ++ seconds) fits.minute)
     ∙ bind_of_some (skip mark (mark_text mark ++ seconds)) _ _ (skip_again mark seconds)
     ∙ bind_of_some (two_at seconds) _ _ (two_at_again clock.2 rest fits.second)

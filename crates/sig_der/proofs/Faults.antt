@@ -1,10 +1,13 @@
 -- Where nothing is read, the fault is the first that shows.
-use Rattle.std.proofs.Common.{◌≡◌, ◌≢◌, ℕ, ◌+◌, ◌-◌, ◌*◌, ◌%◌, ◌≤◌, Bool, true, false, cond, ltb, eqb, ◌&&◌, List, [], ◌∷◌, length, take, drop, Result, Ok, Err, refl, sym, ◌∙◌, arith, inl, inr}
-use Rattle.std.proofs.lemmas.Bool.{cases_Bool, cases_lt, ltb-false, eqb-true, eqb-false, le-ltb, and_left, and_right, cond-true, cond-false}
+use Rattle.std.proofs.Common.{◌≡◌, ◌≢◌, ℕ, ◌+◌, ◌-◌, ◌*◌, ◌%◌, ◌≤◌, Bool, true, false, cond, ltb, eqb, ◌&&◌, List, []}
+use Rattle.std.proofs.Common.{◌∷◌, length, take, drop, Result, Ok, Err, refl, sym, ◌∙◌, arith, inl, inr}
+use Rattle.std.proofs.lemmas.Bool.{cases_Bool, cases_lt, ltb-false, eqb-true, eqb-false, le-ltb, and_left, and_right}
+use Rattle.std.proofs.lemmas.Bool.{cond-true, cond-false}
 use Rattle.sig_base.specs.ResultSteps.{◌>>=◌}
 use Rattle.sig_base.specs.declared.fault.DerError.{DerError}
 use Rattle.sig_base.specs.declared.fault.DerError.TheVariants.{Length, LongTag, Truncated}
-use Rattle.sig_der.specs.Reading.{Piece, one_at, two_at, three_at, four_at, length_at, element_at, is_small_first, is_zero_first, has_bad_length, fault_of}
+use Rattle.sig_der.specs.Reading.{Piece, one_at, two_at, three_at, four_at, length_at, element_at, is_small_first}
+use Rattle.sig_der.specs.Reading.{is_zero_first, has_bad_length, fault_of}
 
 -- a length is read only where it is not bad, and a bad one is told from a cut one
 abbrev Agrees : {A : Type 0} → Result A DerError → Bool → Type 0
@@ -44,10 +47,13 @@ four_at_agrees (a ∷ b ∷ c ∷ d ∷ rest) = guarded (eqb a 0) (Ok (a * 16777
 -- the two chains of tests on the first byte, from 128 on
 abbrev reads : ℕ → List ℕ → Result (ℕ × List ℕ) DerError
 reads first rest =
-    cond (eqb first 129) (one_at rest) (cond (eqb first 130) (two_at rest) (cond (eqb first 131) (three_at rest) (cond (eqb first 132) (four_at rest) (Err Length))))
+    cond (eqb first 129) (one_at rest)
+    (cond (eqb first 130) (two_at rest)
+    (cond (eqb first 131) (three_at rest) (cond (eqb first 132) (four_at rest) (Err Length))))
 
 abbrev is_bad : ℕ → List ℕ → Bool
-is_bad first rest = cond (eqb first 129) (is_small_first rest) (cond (ltb 129 first && ltb first 133) (is_zero_first rest) true)
+is_bad first rest =
+    cond (eqb first 129) (is_small_first rest) (cond (ltb 129 first && ltb first 133) (is_zero_first rest) true)
 
 reads_agrees : (first : ℕ) (rest : List ℕ) → 128 ≤ first → Agrees (reads first rest) (is_bad first rest)
 reads_agrees first rest low =
@@ -86,7 +92,8 @@ length_at_agrees (first ∷ rest) =
 err_is : {A : Type 0} (r : Result A DerError) (d e : DerError) → r ≡ Err d → r ≡ Err e → e ≡ d
 err_is r d e was is = cc
 
-after_length : {A B : Type 0} (r : Result A DerError) (bad : Bool) (missing : A → Bool) (made : A → B) (e : DerError) → Agrees r bad
+after_length : {A B : Type 0} (r : Result A DerError) (bad : Bool) (missing : A → Bool) (made : A → B) (e : DerError)
+    → Agrees r bad
     → (r >>= λ n. cond (missing n) (Err Truncated) (Ok (made n))) ≡ Err e → e ≡ cond bad Length Truncated
 after_length {B = B} (Ok n) bad missing made e good is =
     rw good (elim (cases_Bool (missing n)) [
@@ -110,7 +117,10 @@ unfolding element_at
 element_at_fault [] e is = err_is {A = Piece × List ℕ} (Err Truncated) Truncated e refl is
 element_at_fault (tag ∷ rest) e is =
     elim (cases_Bool (eqb (tag % 32) 31)) [
-      | inl long ↦ rw long (err_is {A = Piece × List ℕ} (Err LongTag) LongTag e refl (sym (cond-true (eqb (tag % 32) 31) _ _ long) ∙ is))
+      | inl long ↦
+          rw long (err_is {A = Piece × List ℕ} (Err LongTag) LongTag e refl
+          (sym (cond-true (eqb (tag % 32) 31) _ _ long) ∙ is))
       | inr not_long ↦ rw not_long (after_length (length_at rest) (has_bad_length rest) (λ n. ltb (length n.1) n.0)
-          (λ n. front_of_parts tag rest n) e (length_at_agrees rest) (sym (cond-false (eqb (tag % 32) 31) _ _ not_long) ∙ is))
+          (λ n. front_of_parts tag rest n) e (length_at_agrees rest)
+          (sym (cond-false (eqb (tag % 32) 31) _ _ not_long) ∙ is))
     ]

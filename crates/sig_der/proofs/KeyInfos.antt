@@ -1,28 +1,36 @@
 -- Algorithms and key infos: what the readers take is what the relations build, and what the relations build is taken.
-use Rattle.std.proofs.Common.{◌≡◌, ◌≢◌, ℕ, ◌<◌, false, true, eqb, List, [], ◌∷◌, ◌++◌, length, Option, Some, None, refl, sym, ap, subst, ◌∙◌, arith}
+use Rattle.std.proofs.Common.{◌≡◌, ◌≢◌, ℕ, ◌<◌, false, true, eqb, List, [], ◌∷◌, ◌++◌, length, Option, Some, None}
+use Rattle.std.proofs.Common.{refl, sym, ap, subst, ◌∙◌, arith}
 use Rattle.std.proofs.lemmas.Bool.{eqb-true, eqb-false, ne_eqb, cond-false}
 use Rattle.std.proofs.lemmas.List.{nil_from_length, append-nil}
 use Rattle.sig_base.proofs.OptionSteps.{bind_is, bind_of_some, when_is, unless_is, some_is}
 use Rattle.sig_der.specs.Element.{IsElement, StandsFirst, spelled_length}
 use Rattle.sig_der.specs.Reading.{Piece}
 use Rattle.sig_der.specs.Taking.{take_any, take_tag, take_whole}
-use Rattle.sig_der.specs.KeyInfo.{Algorithm, IsAtMostOne, IsAlgorithm, KeyInfo, IsKeyInfo, at_most_one, algorithm_at, after_zero, bits_of, key_info_at, is_empty, whole_key_info}
+use Rattle.sig_der.specs.KeyInfo.{Algorithm, IsAtMostOne, IsAlgorithm, KeyInfo, IsKeyInfo, at_most_one, algorithm_at}
+use Rattle.sig_der.specs.KeyInfo.{after_zero, bits_of, key_info_at, is_empty, whole_key_info}
 use Rattle.sig_der.proofs.Bytes.{IsBytes, IsBytes-left, IsBytes-right}
-use Rattle.sig_der.proofs.Takings.{take_any_takes, take_any_again, take_tag_takes, take_tag_again, take_whole_takes, take_whole_again}
+use Rattle.sig_der.proofs.Takings.{take_any_takes, take_any_again, take_tag_takes, take_tag_again, take_whole_takes}
+use Rattle.sig_der.proofs.Takings.{take_whole_again}
 use Rattle.sig_der.specs.Tag.{BIT_STRING, OBJECT_IDENTIFIER, SEQUENCE}
 
 -- ---- bytes of parts
 
-pub content_fits : (text : List ℕ) (tag : ℕ) (content : List ℕ) → IsElement text tag content → IsBytes text → IsBytes content
+pub content_fits : (text : List ℕ) (tag : ℕ) (content : List ℕ) → IsElement text tag content → IsBytes text
+    → IsBytes content
 content_fits text tag content is fits =
     IsBytes-right (tag ∷ spelled_length (length content)) content (subst (λ (w : List ℕ). IsBytes w) is.spelled fits)
 
-pub first_fits : (whole : List ℕ) (tag : ℕ) (content rest bytes : List ℕ) → StandsFirst whole tag content rest bytes → IsBytes bytes → IsBytes content
+pub first_fits : (whole : List ℕ) (tag : ℕ) (content rest bytes : List ℕ) → StandsFirst whole tag content rest bytes
+    → IsBytes bytes → IsBytes content
 first_fits whole tag content rest bytes first fits =
-    content_fits whole tag content first.is (IsBytes-left whole rest (subst (λ (w : List ℕ). IsBytes w) first.parts fits))
+    content_fits whole tag content first.is
+    (IsBytes-left whole rest (subst (λ (w : List ℕ). IsBytes w) first.parts fits))
 
-pub rest_fits : (whole : List ℕ) (tag : ℕ) (content rest bytes : List ℕ) → StandsFirst whole tag content rest bytes → IsBytes bytes → IsBytes rest
-rest_fits whole tag content rest bytes first fits = IsBytes-right whole rest (subst (λ (w : List ℕ). IsBytes w) first.parts fits)
+pub rest_fits : (whole : List ℕ) (tag : ℕ) (content rest bytes : List ℕ) → StandsFirst whole tag content rest bytes
+    → IsBytes bytes → IsBytes rest
+rest_fits whole tag content rest bytes first fits =
+    IsBytes-right whole rest (subst (λ (w : List ℕ). IsBytes w) first.parts fits)
 
 -- ---- whether a list is empty
 
@@ -44,7 +52,8 @@ one_takes (b ∷ bytes) fits p e =
     let x = bind_is (take_any (b ∷ bytes)) _ p e in
     let w = when_is (eqb (length x.0.1) 0) _ p x.2 in
     let t = take_any_takes (b ∷ bytes) fits x.0 x.1 in
-    let all : x.0.0.whole ≡ b ∷ bytes = sym (t.parts ∙ ap (λ (u : List ℕ). x.0.0.whole ++ u) (none_left x.0.1 w.0) ∙ append-nil x.0.0.whole) in
+    let all : x.0.0.whole ≡ b ∷ bytes =
+    sym (t.parts ∙ ap (λ (u : List ℕ). x.0.0.whole ++ u) (none_left x.0.1 w.0) ∙ append-nil x.0.0.whole) in
     subst (λ (q : Option Piece). IsAtMostOne (b ∷ bytes) q) (some_is _ p w.1)
     (subst (λ (u : List ℕ). IsElement u x.0.0.tag x.0.0.content) all t.is, all)
 
@@ -56,7 +65,8 @@ unfolding at_most_one
 one_again bytes None is = rw is refl
 one_again [] (Some p) is = absurd (let e = is.0.spelled in cc)
 one_again (b ∷ bytes) (Some p) is =
-    bind_of_some (take_any (b ∷ bytes)) _ _ (take_any_again (b ∷ bytes) p.tag p.content [] (b ∷ bytes) is.0 (sym (append-nil (b ∷ bytes))))
+    bind_of_some (take_any (b ∷ bytes)) _ _
+    (take_any_again (b ∷ bytes) p.tag p.content [] (b ∷ bytes) is.0 (sym (append-nil (b ∷ bytes))))
     ∙ ap (λ (w : List ℕ). some_piece p.tag w p.content) (sym is.1)
 
 -- ---- algorithms
@@ -64,7 +74,8 @@ one_again (b ∷ bytes) (Some p) is =
 abbrev pub TakesAlgorithm : List ℕ → Algorithm × List ℕ → Type 0
 TakesAlgorithm bytes y = IsAlgorithm y.0 × (bytes ≡ y.0.whole ++ y.1)
 
-pub algorithm_at_takes : (bytes : List ℕ) → IsBytes bytes → (y : Algorithm × List ℕ) → algorithm_at bytes ≡ Some y → TakesAlgorithm bytes y
+pub algorithm_at_takes : (bytes : List ℕ) → IsBytes bytes → (y : Algorithm × List ℕ) → algorithm_at bytes ≡ Some y
+    → TakesAlgorithm bytes y
 unfolding algorithm_at
 algorithm_at_takes bytes fits y e =
     let x = bind_is (take_tag SEQUENCE bytes) _ y e in
@@ -87,13 +98,17 @@ algorithm_at_takes bytes fits y e =
       tx.parts,
     )
 
-pub algorithm_at_again : (a : Algorithm) (rest bytes : List ℕ) → IsAlgorithm a → bytes ≡ a.whole ++ rest → algorithm_at bytes ≡ Some (a, rest)
+pub algorithm_at_again : (a : Algorithm) (rest bytes : List ℕ) → IsAlgorithm a → bytes ≡ a.whole ++ rest
+    → algorithm_at bytes ≡ Some (a, rest)
 unfolding algorithm_at
 algorithm_at_again a rest bytes is parts =
-    bind_of_some (take_tag SEQUENCE bytes) _ _ (take_tag_again a.whole SEQUENCE (is.oid_text ++ is.parameters_text) rest bytes is.whole parts)
+    bind_of_some (take_tag SEQUENCE bytes) _ _
+    (take_tag_again a.whole SEQUENCE (is.oid_text ++ is.parameters_text) rest bytes is.whole parts)
     ∙ bind_of_some (take_tag OBJECT_IDENTIFIER (is.oid_text ++ is.parameters_text)) _ _
-    (take_tag_again is.oid_text OBJECT_IDENTIFIER a.oid is.parameters_text (is.oid_text ++ is.parameters_text) is.oid refl)
-    ∙ bind_of_some (at_most_one is.parameters_text) _ a.parameters (one_again is.parameters_text a.parameters is.parameters)
+    (take_tag_again is.oid_text OBJECT_IDENTIFIER a.oid is.parameters_text
+    (is.oid_text ++ is.parameters_text) is.oid refl)
+    ∙ bind_of_some (at_most_one is.parameters_text) _ a.parameters
+    (one_again is.parameters_text a.parameters is.parameters)
     ∙ cond-false (eqb (length a.oid) 0) _ _ (left_some a.oid is.named)
 
 -- ---- the bits of a BIT STRING
@@ -107,7 +122,8 @@ after_zero_takes (n ∷ rest) bits e =
     let same : rest ≡ bits = some_is rest bits w.1 in
     rw (zero, same) refl
 
-pub bits_of_takes : (bytes : List ℕ) → IsBytes bytes → (bits : List ℕ) → bits_of bytes ≡ Some bits → IsElement bytes BIT_STRING (0 ∷ bits)
+pub bits_of_takes : (bytes : List ℕ) → IsBytes bytes → (bits : List ℕ) → bits_of bytes ≡ Some bits
+    → IsElement bytes BIT_STRING (0 ∷ bits)
 unfolding bits_of
 bits_of_takes bytes fits bits e =
     let s = bind_is (take_whole BIT_STRING bytes) _ bits e in
@@ -116,14 +132,16 @@ bits_of_takes bytes fits bits e =
 
 pub bits_of_again : (bytes bits : List ℕ) → IsElement bytes BIT_STRING (0 ∷ bits) → bits_of bytes ≡ Some bits
 unfolding bits_of after_zero
-bits_of_again bytes bits is = bind_of_some (take_whole BIT_STRING bytes) _ _ (take_whole_again bytes BIT_STRING (0 ∷ bits) is)
+bits_of_again bytes bits is =
+    bind_of_some (take_whole BIT_STRING bytes) _ _ (take_whole_again bytes BIT_STRING (0 ∷ bits) is)
 
 -- ---- key infos
 
 abbrev pub TakesKeyInfo : List ℕ → KeyInfo × List ℕ → Type 0
 TakesKeyInfo bytes y = IsKeyInfo y.0 × (bytes ≡ y.0.whole ++ y.1)
 
-pub key_info_at_takes : (bytes : List ℕ) → IsBytes bytes → (y : KeyInfo × List ℕ) → key_info_at bytes ≡ Some y → TakesKeyInfo bytes y
+pub key_info_at_takes : (bytes : List ℕ) → IsBytes bytes → (y : KeyInfo × List ℕ) → key_info_at bytes ≡ Some y
+    → TakesKeyInfo bytes y
 unfolding key_info_at
 key_info_at_takes bytes fits y e =
     let x = bind_is (take_tag SEQUENCE bytes) _ y e in
@@ -143,26 +161,31 @@ key_info_at_takes bytes fits y e =
       tx.parts,
     )
 
-pub key_info_at_again : (k : KeyInfo) (rest bytes : List ℕ) → IsKeyInfo k → bytes ≡ k.whole ++ rest → key_info_at bytes ≡ Some (k, rest)
+pub key_info_at_again : (k : KeyInfo) (rest bytes : List ℕ) → IsKeyInfo k → bytes ≡ k.whole ++ rest
+    → key_info_at bytes ≡ Some (k, rest)
 unfolding key_info_at
 key_info_at_again k rest bytes is parts =
     let content = k.algorithm.whole ++ is.bits_text in
     bind_of_some (take_tag SEQUENCE bytes) _ _ (take_tag_again k.whole SEQUENCE content rest bytes is.whole parts)
-    ∙ bind_of_some (algorithm_at content) _ (k.algorithm, is.bits_text) (algorithm_at_again k.algorithm is.bits_text content is.algorithm refl)
+    ∙ bind_of_some (algorithm_at content) _ (k.algorithm, is.bits_text)
+    (algorithm_at_again k.algorithm is.bits_text content is.algorithm refl)
     ∙ bind_of_some (bits_of is.bits_text) _ k.bits (bits_of_again is.bits_text k.bits is.bits)
 
 -- ---- all of the text as a key info
 
-pub whole_key_info_takes : (bytes : List ℕ) → IsBytes bytes → (k : KeyInfo) → whole_key_info bytes ≡ Some k → IsKeyInfo k × (k.whole ≡ bytes)
+pub whole_key_info_takes : (bytes : List ℕ) → IsBytes bytes → (k : KeyInfo) → whole_key_info bytes ≡ Some k
+    → IsKeyInfo k × (k.whole ≡ bytes)
 unfolding whole_key_info
 whole_key_info_takes bytes fits k e =
     let b = bind_is (key_info_at bytes) _ k e in
     let w = when_is (is_empty b.0.1) (Some b.0.0) k b.2 in
     let t = key_info_at_takes bytes fits b.0 b.1 in
-    let all : b.0.0.whole ≡ bytes = sym (t.1 ∙ ap (λ (u : List ℕ). b.0.0.whole ++ u) (none_left b.0.1 w.0) ∙ append-nil b.0.0.whole) in
+    let all : b.0.0.whole ≡ bytes =
+    sym (t.1 ∙ ap (λ (u : List ℕ). b.0.0.whole ++ u) (none_left b.0.1 w.0) ∙ append-nil b.0.0.whole) in
     subst (λ (q : KeyInfo). IsKeyInfo q × (q.whole ≡ bytes)) (some_is b.0.0 k w.1) (t.0, all)
 
-pub whole_key_info_again : (bytes : List ℕ) (k : KeyInfo) → IsKeyInfo k → k.whole ≡ bytes → whole_key_info bytes ≡ Some k
+pub whole_key_info_again : (bytes : List ℕ) (k : KeyInfo) → IsKeyInfo k → k.whole ≡ bytes
+    → whole_key_info bytes ≡ Some k
 unfolding whole_key_info
 whole_key_info_again bytes k is text =
     bind_of_some (key_info_at bytes) _ (k, []) (key_info_at_again k [] bytes is (sym text ∙ sym (append-nil k.whole)))

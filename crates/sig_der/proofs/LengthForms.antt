@@ -1,5 +1,6 @@
 -- What is spelled of a length is the definite form with the fewest octets, and nothing else is.
-use Rattle.std.proofs.Common.{◌≡◌, ℕ, suc, ◌+◌, ◌-◌, ◌*◌, ◌/◌, ◌%◌, ◌^◌, ◌<◌, ◌≤◌, List, [], ◌∷◌, length, sym, ap, subst, ◌∙◌, arith, inl, inr}
+use Rattle.std.proofs.Common.{◌≡◌, ℕ, suc, ◌+◌, ◌-◌, ◌*◌, ◌/◌, ◌%◌, ◌^◌, ◌<◌, ◌≤◌, List, [], ◌∷◌, length, sym, ap}
+use Rattle.std.proofs.Common.{subst, ◌∙◌, arith, inl, inr}
 use Rattle.std.specs.List.{AllByRecursion}
 use Rattle.std.proofs.lemmas.Bool.{cases_lt}
 use Rattle.std.proofs.Math.Nat.{pow-suc, one-le-pow}
@@ -13,7 +14,14 @@ long_one : (n : ℕ) → 128 ≤ n → n < 256 → IsLongForm n (spelled_length 
 long_one n low high =
     let same : n * 1 + 0 ≡ n = omega arith in
     let few : 1 ≤ n = omega arith in
-    record { octets = n ∷ []; each = (high, tt); number = same; long = low; fewest = few; spelled = spelled_one n low high }
+    record {
+      octets = n ∷ [];
+      each = (high, tt);
+      number = same;
+      long = low;
+      fewest = few;
+      spelled = spelled_one n low high;
+    }
 
 long_two : (n : ℕ) → 256 ≤ n → n < 65536 → IsLongForm n (spelled_length n)
 long_two n low high =
@@ -50,7 +58,8 @@ long_four n low high =
     let b : n / 65536 % 256 < 256 = omega arith in
     let c : n / 256 % 256 < 256 = omega arith in
     let d : n % 256 < 256 = omega arith in
-    let same : n / 16777216 * 16777216 + (n / 65536 % 256 * 65536 + (n / 256 % 256 * 256 + (n % 256 * 1 + 0))) ≡ n = omega arith in
+    let same : n / 16777216 * 16777216 + (n / 65536 % 256 * 65536 + (n / 256 % 256 * 256 + (n % 256 * 1 + 0))) ≡ n =
+    omega arith in
     record {
       octets = (n / 16777216) ∷ (n / 65536 % 256) ∷ (n / 256 % 256) ∷ (n % 256) ∷ [];
       each = (a, (b, (c, (d, tt))));

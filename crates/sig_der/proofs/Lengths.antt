@@ -1,6 +1,8 @@
 -- A length that is read is the length that was spelled, in the fewest bytes, and a spelled length is read again.
-use Rattle.std.proofs.Common.{◌≡◌, ◌≢◌, ℕ, ◌+◌, ◌*◌, ◌/◌, ◌%◌, ◌^◌, ◌<◌, ◌≤◌, Bool, cond, ltb, eqb, List, [], ◌∷◌, ◌++◌, length, Result, Ok, Err, refl, sym, ap, subst, ◌∙◌, arith, inl, inr}
-use Rattle.std.proofs.lemmas.Bool.{cases_lt, cases_Bool, lt-ltb, le-ltb, ltb-true, ltb-false, eqb-true, eqb-false, ne_eqb, cond-true, cond-false}
+use Rattle.std.proofs.Common.{◌≡◌, ◌≢◌, ℕ, ◌+◌, ◌*◌, ◌/◌, ◌%◌, ◌^◌, ◌<◌, ◌≤◌, Bool, cond, ltb, eqb, List, [], ◌∷◌}
+use Rattle.std.proofs.Common.{◌++◌, length, Result, Ok, Err, refl, sym, ap, subst, ◌∙◌, arith, inl, inr}
+use Rattle.std.proofs.lemmas.Bool.{cases_lt, cases_Bool, lt-ltb, le-ltb, ltb-true, ltb-false, eqb-true, eqb-false}
+use Rattle.std.proofs.lemmas.Bool.{ne_eqb, cond-true, cond-false}
 use Rattle.sig_base.specs.declared.fault.DerError.{DerError}
 use Rattle.sig_base.specs.declared.fault.DerError.TheVariants.{Length, Truncated}
 use Rattle.sig_base.proofs.ResultSteps.{guard_ok, ok_is}
@@ -21,15 +23,18 @@ spelled_two n low high =
     cond-false (ltb n 128) _ _ (le-ltb n 128 (omega arith)) ∙ cond-false (ltb n 256) _ _ (le-ltb n 256 low)
     ∙ cond-true (ltb n 65536) _ _ (lt-ltb n 65536 high)
 
-pub spelled_three : (n : ℕ) → 65536 ≤ n → n < 16777216 → spelled_length n ≡ 131 ∷ (n / 65536) ∷ (n / 256 % 256) ∷ (n % 256) ∷ []
+pub spelled_three : (n : ℕ) → 65536 ≤ n → n < 16777216
+    → spelled_length n ≡ 131 ∷ (n / 65536) ∷ (n / 256 % 256) ∷ (n % 256) ∷ []
 spelled_three n low high =
     cond-false (ltb n 128) _ _ (le-ltb n 128 (omega arith)) ∙ cond-false (ltb n 256) _ _ (le-ltb n 256 (omega arith))
     ∙ cond-false (ltb n 65536) _ _ (le-ltb n 65536 low) ∙ cond-true (ltb n 16777216) _ _ (lt-ltb n 16777216 high)
 
-pub spelled_four : (n : ℕ) → 16777216 ≤ n → spelled_length n ≡ 132 ∷ (n / 16777216) ∷ (n / 65536 % 256) ∷ (n / 256 % 256) ∷ (n % 256) ∷ []
+pub spelled_four : (n : ℕ) → 16777216 ≤ n
+    → spelled_length n ≡ 132 ∷ (n / 16777216) ∷ (n / 65536 % 256) ∷ (n / 256 % 256) ∷ (n % 256) ∷ []
 spelled_four n low =
     cond-false (ltb n 128) _ _ (le-ltb n 128 (omega arith)) ∙ cond-false (ltb n 256) _ _ (le-ltb n 256 (omega arith))
-    ∙ cond-false (ltb n 65536) _ _ (le-ltb n 65536 (omega arith)) ∙ cond-false (ltb n 16777216) _ _ (le-ltb n 16777216 low)
+    ∙ cond-false (ltb n 65536) _ _ (le-ltb n 65536 (omega arith))
+    ∙ cond-false (ltb n 16777216) _ _ (le-ltb n 16777216 low)
 
 -- ---- reading gives what is spelled
 
@@ -69,11 +74,13 @@ two_at_takes (a ∷ b ∷ rest) fits y e =
       short = omega arith;
     })
 
-three_at_takes : (bytes : List ℕ) → IsBytes bytes → (y : ℕ × List ℕ) → three_at bytes ≡ Ok y → TakesLength (131 ∷ bytes) y
+three_at_takes : (bytes : List ℕ) → IsBytes bytes → (y : ℕ × List ℕ) → three_at bytes ≡ Ok y
+    → TakesLength (131 ∷ bytes) y
 unfolding three_at
 three_at_takes [] fits y e = absurd cc
 three_at_takes (a ∷ []) fits y e = absurd (let g = guard_ok (eqb a 0) Length (Err Truncated) y e in let no = g.1 in cc)
-three_at_takes (a ∷ b ∷ []) fits y e = absurd (let g = guard_ok (eqb a 0) Length (Err Truncated) y e in let no = g.1 in cc)
+three_at_takes (a ∷ b ∷ []) fits y e =
+    absurd (let g = guard_ok (eqb a 0) Length (Err Truncated) y e in let no = g.1 in cc)
 three_at_takes (a ∷ b ∷ c ∷ rest) fits y e =
     let g = guard_ok (eqb a 0) Length (Ok (a * 65536 + b * 256 + c, rest)) y e in
     let n = a * 65536 + b * 256 + c in
@@ -89,12 +96,15 @@ three_at_takes (a ∷ b ∷ c ∷ rest) fits y e =
       short = omega arith;
     })
 
-four_at_takes : (bytes : List ℕ) → IsBytes bytes → (y : ℕ × List ℕ) → four_at bytes ≡ Ok y → TakesLength (132 ∷ bytes) y
+four_at_takes : (bytes : List ℕ) → IsBytes bytes → (y : ℕ × List ℕ) → four_at bytes ≡ Ok y
+    → TakesLength (132 ∷ bytes) y
 unfolding four_at
 four_at_takes [] fits y e = absurd cc
 four_at_takes (a ∷ []) fits y e = absurd (let g = guard_ok (eqb a 0) Length (Err Truncated) y e in let no = g.1 in cc)
-four_at_takes (a ∷ b ∷ []) fits y e = absurd (let g = guard_ok (eqb a 0) Length (Err Truncated) y e in let no = g.1 in cc)
-four_at_takes (a ∷ b ∷ c ∷ []) fits y e = absurd (let g = guard_ok (eqb a 0) Length (Err Truncated) y e in let no = g.1 in cc)
+four_at_takes (a ∷ b ∷ []) fits y e =
+    absurd (let g = guard_ok (eqb a 0) Length (Err Truncated) y e in let no = g.1 in cc)
+four_at_takes (a ∷ b ∷ c ∷ []) fits y e =
+    absurd (let g = guard_ok (eqb a 0) Length (Err Truncated) y e in let no = g.1 in cc)
 four_at_takes (a ∷ b ∷ c ∷ d ∷ rest) fits y e =
     let g = guard_ok (eqb a 0) Length (Ok (a * 16777216 + b * 65536 + c * 256 + d, rest)) y e in
     let n = a * 16777216 + b * 65536 + c * 256 + d in
@@ -114,7 +124,9 @@ four_at_takes (a ∷ b ∷ c ∷ d ∷ rest) fits y e =
 
 -- which form the first byte begins
 after_first : (first : ℕ) (rest : List ℕ) → IsBytes rest → (y : ℕ × List ℕ)
-    → cond (eqb first 129) (one_at rest) (cond (eqb first 130) (two_at rest) (cond (eqb first 131) (three_at rest) (cond (eqb first 132) (four_at rest) (Err Length)))) ≡ Ok y
+    → cond (eqb first 129) (one_at rest)
+    (cond (eqb first 130) (two_at rest)
+    (cond (eqb first 131) (three_at rest) (cond (eqb first 132) (four_at rest) (Err Length)))) ≡ Ok y
     → TakesLength (first ∷ rest) y
 after_first first rest fits y e =
     elim (cases_Bool (eqb first 129)) [
@@ -122,22 +134,30 @@ after_first first rest fits y e =
       | inr not129 ↦
           let e2 = sym (cond-false (eqb first 129) (one_at rest) _ not129) ∙ e in
           elim (cases_Bool (eqb first 130)) [
-            | inl is ↦ rw (eqb-true first 130 is) (two_at_takes rest fits y (sym (cond-true (eqb first 130) _ _ is) ∙ e2))
+            | inl is ↦
+                rw (eqb-true first 130 is) (two_at_takes rest fits y (sym (cond-true (eqb first 130) _ _ is) ∙ e2))
             | inr not130 ↦
                 let e3 = sym (cond-false (eqb first 130) (two_at rest) _ not130) ∙ e2 in
                 elim (cases_Bool (eqb first 131)) [
-                  | inl is ↦ rw (eqb-true first 131 is) (three_at_takes rest fits y (sym (cond-true (eqb first 131) _ _ is) ∙ e3))
+                  | inl is ↦
+                      rw (eqb-true first 131 is)
+                      (three_at_takes rest fits y (sym (cond-true (eqb first 131) _ _ is) ∙ e3))
                   | inr not131 ↦
                       let e4 = sym (cond-false (eqb first 131) (three_at rest) _ not131) ∙ e3 in
                       elim (cases_Bool (eqb first 132)) [
-                        | inl is ↦ rw (eqb-true first 132 is) (four_at_takes rest fits y (sym (cond-true (eqb first 132) _ _ is) ∙ e4))
-                        | inr not132 ↦ absurd (let no = sym (cond-false (eqb first 132) (four_at rest) (Err Length) not132) ∙ e4 in cc)
+                        | inl is ↦
+                            rw (eqb-true first 132 is)
+                            (four_at_takes rest fits y (sym (cond-true (eqb first 132) _ _ is) ∙ e4))
+                        | inr not132 ↦
+                            absurd (let no = sym (cond-false (eqb first 132) (four_at rest) (Err Length) not132)
+                            ∙ e4 in cc)
                       ]
                 ]
           ]
     ]
 
-pub length_at_takes : (bytes : List ℕ) → IsBytes bytes → (y : ℕ × List ℕ) → length_at bytes ≡ Ok y → TakesLength bytes y
+pub length_at_takes : (bytes : List ℕ) → IsBytes bytes → (y : ℕ × List ℕ) → length_at bytes ≡ Ok y
+    → TakesLength bytes y
 unfolding length_at
 length_at_takes [] fits y e = absurd cc
 length_at_takes (first ∷ rest) fits y e =
@@ -148,7 +168,9 @@ length_at_takes (first ∷ rest) fits y e =
             parts = rw (spelled_short first high) refl;
             short = omega arith;
           })
-      | inr not ↦ after_first first rest (IsBytes-tail first rest fits) y (sym (cond-false (ltb first 128) (Ok (first, rest)) _ not) ∙ e)
+      | inr not ↦
+          after_first first rest (IsBytes-tail first rest fits) y
+          (sym (cond-false (ltb first 128) (Ok (first, rest)) _ not) ∙ e)
     ]
 
 -- ---- what is spelled is read
@@ -167,16 +189,20 @@ length_at_again n rest short =
           | inl high ↦
               let some : n / 256 ≢ 0 = omega arith in
               let same : n / 256 * 256 + n % 256 ≡ n = omega arith in
-              rw (spelled_two n from256 high) (cond-false (eqb (n / 256) 0) _ _ (ne_eqb _ _ some) ∙ ap (λ (m : ℕ). read_length m rest) same)
+              rw (spelled_two n from256 high)
+              (cond-false (eqb (n / 256) 0) _ _ (ne_eqb _ _ some) ∙ ap (λ (m : ℕ). read_length m rest) same)
           | inr from65536 ↦ elim (cases_lt n 16777216) [
             | inl high ↦
                 let some : n / 65536 ≢ 0 = omega arith in
                 let same : n / 65536 * 65536 + n / 256 % 256 * 256 + n % 256 ≡ n = omega arith in
-                rw (spelled_three n from65536 high) (cond-false (eqb (n / 65536) 0) _ _ (ne_eqb _ _ some) ∙ ap (λ (m : ℕ). read_length m rest) same)
+                rw (spelled_three n from65536 high)
+                (cond-false (eqb (n / 65536) 0) _ _ (ne_eqb _ _ some) ∙ ap (λ (m : ℕ). read_length m rest) same)
             | inr from16777216 ↦
                 let some : n / 16777216 ≢ 0 = omega arith in
-                let same : n / 16777216 * 16777216 + n / 65536 % 256 * 65536 + n / 256 % 256 * 256 + n % 256 ≡ n = omega arith in
-                rw (spelled_four n from16777216) (cond-false (eqb (n / 16777216) 0) _ _ (ne_eqb _ _ some) ∙ ap (λ (m : ℕ). read_length m rest) same)
+                let same : n / 16777216 * 16777216 + n / 65536 % 256 * 65536 + n / 256 % 256 * 256 + n % 256 ≡ n =
+                omega arith in
+                rw (spelled_four n from16777216)
+                (cond-false (eqb (n / 16777216) 0) _ _ (ne_eqb _ _ some) ∙ ap (λ (m : ℕ). read_length m rest) same)
           ]
         ]
       ]
@@ -184,8 +210,10 @@ length_at_again n rest short =
 
 -- ---- a length takes a byte at least
 
-short_two : {A : Type 0} (b : Bool) (x y : A × List ℕ) (n : ℕ) → cond b (Err Length) (Ok x) ≡ Ok y → length x.1 < n → length y.1 < n
-short_two {A = A} b x y n e less = subst (λ (w : A × List ℕ). length w.1 < n) (ok_is x y (guard_ok b Length (Ok x) y e).1) less
+short_two : {A : Type 0} (b : Bool) (x y : A × List ℕ) (n : ℕ) → cond b (Err Length) (Ok x) ≡ Ok y → length x.1 < n
+    → length y.1 < n
+short_two {A = A} b x y n e less =
+    subst (λ (w : A × List ℕ). length w.1 < n) (ok_is x y (guard_ok b Length (Ok x) y e).1) less
 
 stays_cut : {A : Type 0} {P : Type 0} (b : Bool) (y : A) → cond b (Err Length) (Err Truncated) ≡ Ok y → P
 stays_cut b y e = absurd (let no = (guard_ok b Length (Err Truncated) y e).1 in cc)
@@ -214,14 +242,17 @@ four_at_shorter [] y e = absurd cc
 four_at_shorter (a ∷ []) y e = stays_cut (eqb a 0) y e
 four_at_shorter (a ∷ b ∷ []) y e = stays_cut (eqb a 0) y e
 four_at_shorter (a ∷ b ∷ c ∷ []) y e = stays_cut (eqb a 0) y e
-four_at_shorter (a ∷ b ∷ c ∷ d ∷ rest) y e = short_two (eqb a 0) (a * 16777216 + b * 65536 + c * 256 + d, rest) y _ e (omega arith)
+four_at_shorter (a ∷ b ∷ c ∷ d ∷ rest) y e =
+    short_two (eqb a 0) (a * 16777216 + b * 65536 + c * 256 + d, rest) y _ e (omega arith)
 
 pub length_at_shorter : (bytes : List ℕ) (y : ℕ × List ℕ) → length_at bytes ≡ Ok y → length y.1 < length bytes
 unfolding length_at
 length_at_shorter [] y e = absurd cc
 length_at_shorter (first ∷ rest) y e =
     elim (cases_Bool (ltb first 128)) [
-      | inl is ↦ subst (λ (w : ℕ × List ℕ). length w.1 < length (first ∷ rest)) (ok_is _ y (sym (cond-true (ltb first 128) (Ok (first, rest)) _ is) ∙ e)) (omega arith)
+      | inl is ↦
+          subst (λ (w : ℕ × List ℕ). length w.1 < length (first ∷ rest))
+          (ok_is _ y (sym (cond-true (ltb first 128) (Ok (first, rest)) _ is) ∙ e)) (omega arith)
       | inr not ↦
           let e1 = sym (cond-false (ltb first 128) (Ok (first, rest)) _ not) ∙ e in
           elim (cases_Bool (eqb first 129)) [
@@ -233,12 +264,18 @@ length_at_shorter (first ∷ rest) y e =
                   | inr not130 ↦
                       let e3 = sym (cond-false (eqb first 130) (two_at rest) _ not130) ∙ e2 in
                       elim (cases_Bool (eqb first 131)) [
-                        | inl is ↦ let h = three_at_shorter rest y (sym (cond-true (eqb first 131) _ _ is) ∙ e3) in omega arith
+                        | inl is ↦
+                            let h =
+                            three_at_shorter rest y (sym (cond-true (eqb first 131) _ _ is) ∙ e3) in omega arith
                         | inr not131 ↦
                             let e4 = sym (cond-false (eqb first 131) (three_at rest) _ not131) ∙ e3 in
                             elim (cases_Bool (eqb first 132)) [
-                              | inl is ↦ let h = four_at_shorter rest y (sym (cond-true (eqb first 132) _ _ is) ∙ e4) in omega arith
-                              | inr not132 ↦ absurd (let no = sym (cond-false (eqb first 132) (four_at rest) (Err Length) not132) ∙ e4 in cc)
+                              | inl is ↦
+                                  let h =
+                                  four_at_shorter rest y (sym (cond-true (eqb first 132) _ _ is) ∙ e4) in omega arith
+                              | inr not132 ↦
+                                  absurd (let no = sym (cond-false (eqb first 132) (four_at rest) (Err Length) not132)
+                                  ∙ e4 in cc)
                             ]
                       ]
                 ]

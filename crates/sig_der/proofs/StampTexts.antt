@@ -1,16 +1,22 @@
 -- The texts of instants: what is read is spelled so, and what is spelled is read.
-use Rattle.std.proofs.Common.{◌≡◌, ◌≢◌, ℕ, ◌+◌, ◌*◌, ◌<◌, ◌≤◌, true, ltb, eqb, ◌&&◌, List, [], ◌∷◌, ◌++◌, length, Option, Some, None, refl, sym, ap, subst, ◌∙◌, arith, inl, inr, ℤ, pos, neg_ℤ, ◌-ℤ◌, ◌↔◌}
+use Rattle.std.proofs.Common.{◌≡◌, ◌≢◌, ℕ, ◌+◌, ◌*◌, ◌<◌, ◌≤◌, true, ltb, eqb, ◌&&◌, List, [], ◌∷◌, ◌++◌, length}
+use Rattle.std.proofs.Common.{Option, Some, None, refl, sym, ap, subst, ◌∙◌, arith, inl, inr, ℤ, pos, neg_ℤ, ◌-ℤ◌, ◌↔◌}
 use Rattle.std.specs.Prelude.{IsSome, IfSome}
 use Rattle.std.specs.List.{AllByRecursion}
-use Rattle.std.proofs.lemmas.Bool.{cases_Bool, lt-ltb, ltb-true, eqb-true, eqb-false, ne_eqb, and_parts, and_from, cond-true, cond-false}
+use Rattle.std.proofs.lemmas.Bool.{cases_Bool, lt-ltb, ltb-true, eqb-true, eqb-false, ne_eqb, and_parts, and_from}
+use Rattle.std.proofs.lemmas.Bool.{cond-true, cond-false}
 use Rattle.std.proofs.lemmas.List.{nil_from_length}
 use Rattle.sig_base.proofs.OptionSteps.{bind_is, bind_of_some, when_is, unless_is, some_is, some}
 use Rattle.sig_der.specs.declared.moment.Moment.{Moment}
 use Rattle.sig_der.specs.Moment.{IsReal, IsDecimal, second_of}
-use Rattle.sig_der.specs.Digits.{two_digits, four_digits, day_text, clock_text, is_digit, two_at, four_at, skip, day_at, clock_at}
-use Rattle.sig_der.specs.Stamp.{front_text, Zone, zulu, ahead, behind, offset_text, zone_text, IsZone, offset_of, IsFraction, whole, part, IsInstantOf, front_at, after_digit, after_digits, fraction_at, offset_at, zone_at, stamp_at}
+use Rattle.sig_der.specs.Digits.{two_digits, four_digits, day_text, clock_text, is_digit, two_at, four_at, skip}
+use Rattle.sig_der.specs.Digits.{day_at, clock_at}
+use Rattle.sig_der.specs.Stamp.{front_text, Zone, zulu, ahead, behind, offset_text, zone_text, IsZone, offset_of}
+use Rattle.sig_der.specs.Stamp.{IsFraction, whole, part, IsInstantOf, front_at, after_digit, after_digits, fraction_at}
+use Rattle.sig_der.specs.Stamp.{offset_at, zone_at, stamp_at}
 use Rattle.sig_der.proofs.DigitRuns.{run_takes, run_again}
-use Rattle.sig_der.proofs.DigitTexts.{two_at_takes, two_at_again, four_at_takes, four_at_again, skip_takes, skip_again, day_at_takes, day_at_again, clock_at_takes, clock_at_again}
+use Rattle.sig_der.proofs.DigitTexts.{two_at_takes, two_at_again, four_at_takes, four_at_again, skip_takes, skip_again}
+use Rattle.sig_der.proofs.DigitTexts.{day_at_takes, day_at_again, clock_at_takes, clock_at_again}
 use Rattle.sig_der.proofs.TimeTexts.{decimal, year_below}
 
 -- ---- YYYY-MM-DDTHH:MM:SS
@@ -23,10 +29,12 @@ front_at_takes text y e =
     let d = bind_is (day_at (Some 45) s.0) _ y s.2 in
     let t = bind_is (skip (Some 84) d.0.1) _ y d.2 in
     let c = bind_is (clock_at (Some 58) t.0) _ y t.2 in
-    let clock = skip_takes (Some 84) d.0.1 t.0 t.1 ∙ ap (λ (w : List ℕ). 84 ∷ w) (clock_at_takes (Some 58) t.0 c.0 c.1).parts in
+    let clock = skip_takes (Some 84) d.0.1 t.0 t.1
+    ∙ ap (λ (w : List ℕ). 84 ∷ w) (clock_at_takes (Some 58) t.0 c.0 c.1).parts in
     let day = (day_at_takes (Some 45) s.0 d.0 d.1).parts ∙ ap (λ (w : List ℕ). day_text (Some 45) d.0.0 ++ w) clock in
     let year = (four_at_takes text a.0 a.1).parts
-    ∙ ap (λ (w : List ℕ). four_digits a.0.0 ++ w) (skip_takes (Some 45) a.0.1 s.0 s.1 ∙ ap (λ (w : List ℕ). 45 ∷ w) day) in
+    ∙ ap (λ (w : List ℕ). four_digits a.0.0 ++ w)
+    (skip_takes (Some 45) a.0.1 s.0 s.1 ∙ ap (λ (w : List ℕ). 45 ∷ w) day) in
     subst (λ (w : Moment × List ℕ). text ≡ front_text w.0 ++ w.1) (some_is _ y c.2) year
 
 pub front_at_again : (m : Moment) (rest : List ℕ) → IsDecimal m → front_at (front_text m ++ rest) ≡ Some (m, rest)
@@ -36,10 +44,12 @@ front_at_again m rest fits =
     let day = day_text (Some 45) (m.month, m.day) ++ 84 ∷ clock in
     bind_of_some (four_at (four_digits m.year ++ 45 ∷ day)) _ _ (four_at_again m.year (45 ∷ day) fits.year)
     ∙ bind_of_some (skip (Some 45) (45 ∷ day)) _ _ (skip_again (Some 45) day)
-    ∙ bind_of_some (day_at (Some 45) day) _ _ (day_at_again (Some 45) (m.month, m.day) (84 ∷ clock) (record { month = fits.month; day = fits.day }))
+    ∙ bind_of_some (day_at (Some 45) day) _ _
+    (day_at_again (Some 45) (m.month, m.day) (84 ∷ clock) (record { month = fits.month; day = fits.day }))
     ∙ bind_of_some (skip (Some 84) (84 ∷ clock)) _ _ (skip_again (Some 84) clock)
     ∙ bind_of_some (clock_at (Some 58) clock) _ _
-    (clock_at_again (Some 58) (m.hour, m.minute, m.second) rest (record { hour = fits.hour; minute = fits.minute; second = fits.second }))
+    (clock_at_again (Some 58) (m.hour, m.minute, m.second) rest
+    (record { hour = fits.hour; minute = fits.minute; second = fits.second }))
 
 -- ---- the fraction
 
@@ -63,14 +73,19 @@ fraction_at_takes (b ∷ []) rest e =
 fraction_at_takes (b ∷ d ∷ text) rest e =
     elim (cases_Bool (eqb b 46)) [
       | inl point ↦
-          let w = when_is (is_digit d) (some (after_digits 8 (after_digit (d ∷ text)))) rest (sym (cond-true (eqb b 46) _ (some (b ∷ d ∷ text)) point) ∙ e) in
+          let w =
+          when_is (is_digit d) (some (after_digits 8 (after_digit (d ∷ text)))) rest
+          (sym (cond-true (eqb b 46) _ (some (b ∷ d ∷ text)) point) ∙ e) in
           let run = run_takes 8 text in
           let skipped : after_digit (d ∷ text) ≡ text = cond-true (is_digit d) _ _ w.0 in
-          let left : after_digits 8 text ≡ rest = ap (λ (v : List ℕ). after_digits 8 v) (sym skipped) ∙ some_is _ rest w.1 in
+          let left : after_digits 8 text ≡ rest =
+          ap (λ (v : List ℕ). after_digits 8 v) (sym skipped) ∙ some_is _ rest w.1 in
           record {
             fraction = 46 ∷ d ∷ run.0;
             is = part (d ∷ run.0) (w.0, run.1.each) (omega arith) (omega (arith, run.1.bound));
-            parts = rw (eqb-true b 46 point) (ap (λ (v : List ℕ). 46 ∷ d ∷ v) (run.1.parts ∙ ap (λ (v : List ℕ). run.0 ++ v) left));
+            parts =
+                rw (eqb-true b 46 point)
+                (ap (λ (v : List ℕ). 46 ∷ d ∷ v) (run.1.parts ∙ ap (λ (v : List ℕ). run.0 ++ v) left));
           }
       | inr other ↦ record {
         fraction = [];
@@ -90,7 +105,8 @@ zone_stops zulu = record { whole = refl; ends = refl }
 zone_stops (ahead h m) = record { whole = refl; ends = refl }
 zone_stops (behind h m) = record { whole = refl; ends = refl }
 
-pointed : (z : Zone) (digits : List ℕ) → AllByRecursion (λ b. is_digit b ≡ true) digits → 1 ≤ length digits → length digits ≤ 9
+pointed : (z : Zone) (digits : List ℕ) → AllByRecursion (λ b. is_digit b ≡ true) digits → 1 ≤ length digits
+    → length digits ≤ 9
     → fraction_at (46 ∷ (digits ++ zone_text z)) ≡ Some (zone_text z)
 unfolding fraction_at
 pointed z [] each some_digits bound = absurd (omega arith)
@@ -98,7 +114,8 @@ pointed z (d ∷ digits) each some_digits bound =
     cond-true (is_digit d) _ _ each.0
     ∙ ap (λ (w : List ℕ). some w) (run_again 9 (d ∷ digits) (zone_text z) each bound (zone_stops z).ends)
 
-pub fraction_at_again : (fraction : List ℕ) (z : Zone) → IsFraction fraction → fraction_at (fraction ++ zone_text z) ≡ Some (zone_text z)
+pub fraction_at_again : (fraction : List ℕ) (z : Zone) → IsFraction fraction
+    → fraction_at (fraction ++ zone_text z) ≡ Some (zone_text z)
 fraction_at_again fraction z whole = (zone_stops z).whole
 fraction_at_again fraction z (part digits each some_digits bound) = pointed z digits each some_digits bound
 
@@ -133,7 +150,8 @@ offset_at_takes text n e =
       value = sym (some_is _ n w.1);
     }
 
-offset_at_again : (hours minutes : ℕ) → hours < 24 → minutes < 60 → offset_at (offset_text hours minutes) ≡ Some (hours * 3600 + minutes * 60)
+offset_at_again : (hours minutes : ℕ) → hours < 24 → minutes < 60
+    → offset_at (offset_text hours minutes) ≡ Some (hours * 3600 + minutes * 60)
 unfolding offset_at
 offset_at_again hours minutes hour minute =
     let after = two_digits minutes in
@@ -157,12 +175,19 @@ zone_at_takes (b ∷ text) offset e =
       | inl z ↦
           let w = when_is (eqb (length text) 0) (some (pos 0)) offset (sym (cond-true (eqb b 90) _ _ z) ∙ e) in
           let none = nil_from_length text (eqb-true (length text) 0 w.0) in
-          record { zone = zulu; is = tt; parts = ap (λ (v : ℕ). v ∷ text) (eqb-true b 90 z) ∙ ap (λ (w : List ℕ). 90 ∷ w) none; value = sym (some_is (pos 0) offset w.1) }
+          record {
+            zone = zulu;
+            is = tt;
+            parts = ap (λ (v : ℕ). v ∷ text) (eqb-true b 90 z)
+                ∙ ap (λ (w : List ℕ). 90 ∷ w) none;
+            value = sym (some_is (pos 0) offset w.1);
+          }
       | inr not90 ↦
           let e2 = sym (cond-false (eqb b 90) _ _ not90) ∙ e in
           elim (cases_Bool (eqb b 43)) [
             | inl plus ↦
-                let h = bind_is (offset_at text) (λ n. some (pos n)) offset (sym (cond-true (eqb b 43) _ _ plus) ∙ e2) in
+                let h =
+                bind_is (offset_at text) (λ n. some (pos n)) offset (sym (cond-true (eqb b 43) _ _ plus) ∙ e2) in
                 let t = offset_at_takes text h.0 h.1 in
                 record {
                   zone = ahead t.hours t.minutes;
@@ -219,18 +244,21 @@ stamp_at_takes text y e =
       fractional = tr.is;
       zoned = tz.is;
       year = omega arith;
-      spelled = tf ∙ ap (λ (w : List ℕ). front_text f.0.0 ++ w) (tr.parts ∙ ap (λ (w : List ℕ). tr.fraction ++ w) tz.parts);
+      spelled =
+          tf ∙ ap (λ (w : List ℕ). front_text f.0.0 ++ w) (tr.parts ∙ ap (λ (w : List ℕ). tr.fraction ++ w) tz.parts);
       offset = tz.value;
     })
 
-stamp_at_again : (text : List ℕ) (s : ℤ) → (is : IsInstantOf text s) → stamp_at text ≡ Some (is.moment, offset_of is.zone)
+stamp_at_again : (text : List ℕ) (s : ℤ) → (is : IsInstantOf text s)
+    → stamp_at text ≡ Some (is.moment, offset_of is.zone)
 unfolding stamp_at
 stamp_at_again text s is =
     let m = is.moment in
     let zone = zone_text is.zone in
     let not_zero : m.year ≢ 0 = omega (arith, is.year) in
     ap (λ (w : List ℕ). stamp_at w) is.spelled
-    ∙ bind_of_some (front_at (front_text m ++ (is.fraction ++ zone))) _ _ (front_at_again m (is.fraction ++ zone) (decimal m is.real (year_below m is.real)))
+    ∙ bind_of_some (front_at (front_text m ++ (is.fraction ++ zone))) _ _
+    (front_at_again m (is.fraction ++ zone) (decimal m is.real (year_below m is.real)))
     ∙ bind_of_some (fraction_at (is.fraction ++ zone)) _ _ (fraction_at_again is.fraction is.zone is.fractional)
     ∙ bind_of_some (zone_at zone) _ _ (zone_at_again is.zone is.zoned)
     ∙ cond-false (eqb m.year 0) _ _ (ne_eqb m.year 0 not_zero)
@@ -239,7 +267,8 @@ stamp_at_again text s is =
 abbrev pub IsSecondBefore : Moment × ℤ → Option ℤ → Type 0
 IsSecondBefore y r = (IsSome r ↔ IsReal y.0) × IfSome r (λ s. s ≡ (second_of y.0 -ℤ y.1))
 
-pub instant_found : (text : List ℕ) (y : Moment × ℤ) → stamp_at text ≡ Some y → (r : Option ℤ) → IsSecondBefore y r → IfSome r (IsInstantOf text)
+pub instant_found : (text : List ℕ) (y : Moment × ℤ) → stamp_at text ≡ Some y → (r : Option ℤ) → IsSecondBefore y r
+    → IfSome r (IsInstantOf text)
 instant_found text y e None at = tt
 instant_found text y e (Some s) at =
     let t = stamp_at_takes text y e in
@@ -258,11 +287,13 @@ instant_found text y e (Some s) at =
 abbrev some_second : ℤ → Option ℤ
 some_second s = Some s
 
-answer_is : (y : Moment × ℤ) (s : ℤ) (r : Option ℤ) → IsSecondBefore y r → IsReal y.0 → s ≡ (second_of y.0 -ℤ y.1) → r ≡ Some s
+answer_is : (y : Moment × ℤ) (s : ℤ) (r : Option ℤ) → IsSecondBefore y r → IsReal y.0 → s ≡ (second_of y.0 -ℤ y.1)
+    → r ≡ Some s
 answer_is y s None at real value = absurd (let no = at.0.1 real in cc)
 answer_is y s (Some t) at real value = ap (λ (w : ℤ). some_second w) (at.1 ∙ sym value)
 
-pub instant_only : (text : List ℕ) (y : Moment × ℤ) → stamp_at text ≡ Some y → (r : Option ℤ) → IsSecondBefore y r → (s : ℤ) → IsInstantOf text s → r ≡ Some s
+pub instant_only : (text : List ℕ) (y : Moment × ℤ) → stamp_at text ≡ Some y → (r : Option ℤ) → IsSecondBefore y r
+    → (s : ℤ) → IsInstantOf text s → r ≡ Some s
 instant_only text y e r at s is =
     let same : y ≡ (is.moment, offset_of is.zone) = some_is _ _ (sym e ∙ stamp_at_again text s is) in
     answer_is y s r at (subst (λ (w : Moment × ℤ). IsReal w.0) (sym same) is.real)

@@ -1,5 +1,6 @@
 -- Readers that go on: what they take is an *Element*, and an *Element* at the front is taken.
-use Rattle.std.proofs.Common.{◌≡◌, ℕ, ◌<◌, true, false, eqb, List, [], ◌++◌, length, Option, Some, None, Result, Ok, Err, refl, sym, ap, subst, ◌∙◌, inl, inr}
+use Rattle.std.proofs.Common.{◌≡◌, ℕ, ◌<◌, true, false, eqb, List, [], ◌++◌, length, Option, Some, None, Result, Ok}
+use Rattle.std.proofs.Common.{Err, refl, sym, ap, subst, ◌∙◌, inl, inr}
 use Rattle.std.proofs.lemmas.Bool.{cases_Bool, eq-eqb, eqb-true, cond-true, cond-false}
 use Rattle.std.proofs.lemmas.List.{nil_from_length, append-nil}
 use Rattle.sig_base.specs.declared.fault.DerError.{DerError}
@@ -14,7 +15,8 @@ use Rattle.sig_der.proofs.Elements.{Takes, element_at_takes, element_at_again, e
 
 pub take_any_ok : (bytes : List ℕ) (y z : Piece × List ℕ) → element_at bytes ≡ Ok y → y ≡ z → take_any bytes ≡ Some z
 unfolding take_any
-take_any_ok bytes y z e same = ap (λ (r : Result (Piece × List ℕ) DerError). answered r) e ∙ ap (λ (w : Piece × List ℕ). some w) same
+take_any_ok bytes y z e same =
+    ap (λ (r : Result (Piece × List ℕ) DerError). answered r) e ∙ ap (λ (w : Piece × List ℕ). some w) same
 
 pub take_any_err : (bytes : List ℕ) (e : DerError) → element_at bytes ≡ Err e → take_any bytes ≡ None
 unfolding take_any
@@ -28,9 +30,11 @@ pub take_any_takes : (bytes : List ℕ) → IsBytes bytes → (y : Piece × List
 unfolding take_any
 take_any_takes bytes fits y e = element_at_takes bytes fits y (answered_is (element_at bytes) y e)
 
-pub take_any_again : (text : List ℕ) (tag : ℕ) (content rest bytes : List ℕ) → IsElement text tag content → bytes ≡ text ++ rest
+pub take_any_again : (text : List ℕ) (tag : ℕ) (content rest bytes : List ℕ) → IsElement text tag content
+    → bytes ≡ text ++ rest
     → take_any bytes ≡ Some (record { tag = tag; whole = text; content = content }, rest)
-take_any_again text tag content rest bytes is parts = take_any_ok bytes _ _ (element_at_again text tag content rest bytes is parts) refl
+take_any_again text tag content rest bytes is parts =
+    take_any_ok bytes _ _ (element_at_again text tag content rest bytes is parts) refl
 
 -- ---- an element of one tag
 
@@ -45,11 +49,13 @@ take_tag_takes tag bytes fits y e =
     let tagged : y.0.tag ≡ tag = subst (λ (x : Piece × List ℕ). x.0.tag ≡ tag) same (eqb-true b.0.0.tag tag w.0) in
     (subst (λ (n : ℕ). StandsFirst y.0.whole n y.0.content y.1 bytes) tagged t, tagged)
 
-pub take_tag_again : (text : List ℕ) (tag : ℕ) (content rest bytes : List ℕ) → IsElement text tag content → bytes ≡ text ++ rest
+pub take_tag_again : (text : List ℕ) (tag : ℕ) (content rest bytes : List ℕ) → IsElement text tag content
+    → bytes ≡ text ++ rest
     → take_tag tag bytes ≡ Some (record { tag = tag; whole = text; content = content }, rest)
 unfolding take_tag
 take_tag_again text tag content rest bytes is parts =
-    bind_of_some (take_any bytes) _ _ (take_any_again text tag content rest bytes is parts) ∙ cond-true (eqb tag tag) _ _ (eq-eqb tag tag refl)
+    bind_of_some (take_any bytes) _ _ (take_any_again text tag content rest bytes is parts)
+    ∙ cond-true (eqb tag tag) _ _ (eq-eqb tag tag refl)
 
 -- ---- an element takes a byte at least
 
@@ -57,7 +63,8 @@ pub take_any_shrinks : (bytes : List ℕ) (y : Piece × List ℕ) → take_any b
 unfolding take_any
 take_any_shrinks bytes y e = element_at_shorter bytes y (answered_is (element_at bytes) y e)
 
-pub take_tag_shrinks : (tag : ℕ) (bytes : List ℕ) (y : Piece × List ℕ) → take_tag tag bytes ≡ Some y → length y.1 < length bytes
+pub take_tag_shrinks : (tag : ℕ) (bytes : List ℕ) (y : Piece × List ℕ) → take_tag tag bytes ≡ Some y
+    → length y.1 < length bytes
 unfolding take_tag
 take_tag_shrinks tag bytes y e =
     let b = bind_is (take_any bytes) _ y e in
@@ -74,7 +81,8 @@ take_whole_takes tag bytes fits p e =
     let same : b.0.0 ≡ p = some_is b.0.0 p w.1 in
     let t = take_tag_takes tag bytes fits b.0 b.1 in
     let none : b.0.1 ≡ [] = nil_from_length b.0.1 (eqb-true (length b.0.1) 0 w.0) in
-    let all : b.0.0.whole ≡ bytes = sym (t.0.parts ∙ ap (λ (w : List ℕ). b.0.0.whole ++ w) none ∙ append-nil b.0.0.whole) in
+    let all : b.0.0.whole ≡ bytes =
+    sym (t.0.parts ∙ ap (λ (w : List ℕ). b.0.0.whole ++ w) none ∙ append-nil b.0.0.whole) in
     subst (λ (q : Piece). IsElement bytes tag q.content × (q.tag ≡ tag) × (q.whole ≡ bytes)) same
     (subst (λ (w : List ℕ). IsElement w tag b.0.0.content) all t.0.is, t.1, all)
 
@@ -86,18 +94,21 @@ take_whole_again text tag content is =
 
 -- ---- an optional element
 
-begins : (text : List ℕ) (tag : ℕ) (content rest bytes : List ℕ) → IsElement text tag content → bytes ≡ text ++ rest → begins_with tag bytes ≡ true
+begins : (text : List ℕ) (tag : ℕ) (content rest bytes : List ℕ) → IsElement text tag content → bytes ≡ text ++ rest
+    → begins_with tag bytes ≡ true
 begins text tag content rest bytes is parts =
     rw (parts, is.spelled) (eq-eqb tag tag refl)
 
-pub take_optional_here : (text : List ℕ) (tag : ℕ) (content rest bytes : List ℕ) → IsElement text tag content → bytes ≡ text ++ rest
+pub take_optional_here : (text : List ℕ) (tag : ℕ) (content rest bytes : List ℕ) → IsElement text tag content
+    → bytes ≡ text ++ rest
     → take_optional tag bytes ≡ Some (Some (record { tag = tag; whole = text; content = content }), rest)
 unfolding take_optional
 take_optional_here text tag content rest bytes is parts =
     cond-true (begins_with tag bytes) _ _ (begins text tag content rest bytes is parts)
     ∙ bind_of_some (take_tag tag bytes) _ _ (take_tag_again text tag content rest bytes is parts)
 
-pub take_optional_absent : (tag : ℕ) (bytes : List ℕ) → begins_with tag bytes ≡ false → take_optional tag bytes ≡ Some (None, bytes)
+pub take_optional_absent : (tag : ℕ) (bytes : List ℕ) → begins_with tag bytes ≡ false
+    → take_optional tag bytes ≡ Some (None, bytes)
 unfolding take_optional
 take_optional_absent tag bytes e = cond-false (begins_with tag bytes) _ _ e
 
@@ -113,7 +124,8 @@ pub record TakesOptional (tag : ℕ) (bytes : List ℕ) (y : Option Piece × Lis
   pub parts : bytes ≡ text ++ y.1
   pub absent : y.0 ≡ None → begins_with tag bytes ≡ false
 
-pub take_optional_takes : (tag : ℕ) (bytes : List ℕ) → IsBytes bytes → (y : Option Piece × List ℕ) → take_optional tag bytes ≡ Some y → TakesOptional tag bytes y
+pub take_optional_takes : (tag : ℕ) (bytes : List ℕ) → IsBytes bytes → (y : Option Piece × List ℕ)
+    → take_optional tag bytes ≡ Some y → TakesOptional tag bytes y
 unfolding take_optional
 take_optional_takes tag bytes fits y e =
     elim (cases_Bool (begins_with tag bytes)) [
@@ -127,7 +139,8 @@ take_optional_takes tag bytes fits y e =
             absent = λ none. absurd cc;
           })
       | inr other ↦
-          subst (λ (w : Option Piece × List ℕ). TakesOptional tag bytes w) (some_is _ y (sym (cond-false (begins_with tag bytes) _ _ other) ∙ e)) (record {
+          subst (λ (w : Option Piece × List ℕ). TakesOptional tag bytes w)
+          (some_is _ y (sym (cond-false (begins_with tag bytes) _ _ other) ∙ e)) (record {
             text = [];
             is = refl;
             parts = refl;

@@ -1,16 +1,20 @@
 -- The texts of times in certificates: what is read is spelled so, and what is spelled is read.
-use Rattle.std.proofs.Common.{◌≡◌, ℕ, ◌+◌, ◌%◌, ◌<◌, ◌≤◌, true, ltb, eqb, List, [], ◌∷◌, ◌++◌, Option, Some, None, refl, sym, ap, subst, ◌∙◌, arith, inl, inr, pos, ℤ, ◌||◌, lit≤}
+use Rattle.std.proofs.Common.{◌≡◌, ℕ, ◌+◌, ◌%◌, ◌<◌, ◌≤◌, true, ltb, eqb, List, [], ◌∷◌, ◌++◌, Option, Some, None}
+use Rattle.std.proofs.Common.{refl, sym, ap, subst, ◌∙◌, arith, inl, inr, pos, ℤ, ◌||◌, lit≤}
 use Rattle.std.proofs.lemmas.Int.{ints}
 use Rattle.jiff_core.specs.Calendar.{days_in_month, is_leap_year}
-use Rattle.std.proofs.lemmas.Bool.{cases_Bool, cases_lt, lt-ltb, le-ltb, ltb-true, ltb-false, cond-true, cond-false, cond_both}
+use Rattle.std.proofs.lemmas.Bool.{cases_Bool, cases_lt, lt-ltb, le-ltb, ltb-true, ltb-false, cond-true, cond-false}
+use Rattle.std.proofs.lemmas.Bool.{cond_both}
 use Rattle.std.proofs.lemmas.Slice.Eq.{bytes_eq-Decides}
 use Rattle.sig_base.proofs.OptionSteps.{bind_is, bind_of_some, when_is, unless_is, some_is, some}
 use Rattle.sig_der.specs.declared.moment.Moment.{Moment}
 use Rattle.sig_der.specs.Moment.{IsReal, IsDecimal, IsSecondOf, second_of}
 use Rattle.sig_der.specs.Digits.{two_digits, four_digits, day_text, clock_text, two_at, four_at, day_at, clock_at}
 use Rattle.std.specs.Prelude.{IsSome, IfSome, ◌↔◌}
-use Rattle.sig_der.specs.DerTime.{after_year, IsUtcTime, IsGeneralizedTime, full_year, is_zulu, rest_at, utc_at, generalized_at}
-use Rattle.sig_der.proofs.DigitTexts.{two_at_takes, two_at_again, four_at_takes, four_at_again, day_at_takes, day_at_again, clock_at_takes, clock_at_again}
+use Rattle.sig_der.specs.DerTime.{after_year, IsUtcTime, IsGeneralizedTime, full_year, is_zulu, rest_at, utc_at}
+use Rattle.sig_der.specs.DerTime.{generalized_at}
+use Rattle.sig_der.proofs.DigitTexts.{two_at_takes, two_at_again, four_at_takes, four_at_again, day_at_takes}
+use Rattle.sig_der.proofs.DigitTexts.{day_at_again, clock_at_takes, clock_at_again}
 
 -- ---- a real moment has two digits a number
 
@@ -18,7 +22,8 @@ days_in_month_le : (y : ℤ) (m : ℕ) → days_in_month y m ≤ 31
 days_in_month_le y m =
     cond_both (eqb m 2) _ _ (λ (n : ℕ). n ≤ 31)
     (λ february. cond_both (is_leap_year y) 29 28 (λ (n : ℕ). n ≤ 31) (λ leap. lit≤ tt) (λ common. lit≤ tt))
-    (λ other. cond_both (eqb m 4 || eqb m 6 || eqb m 9 || eqb m 11) 30 31 (λ (n : ℕ). n ≤ 31) (λ short. lit≤ tt) (λ long. lit≤ tt))
+    (λ other. cond_both (eqb m 4 || eqb m 6 || eqb m 9 || eqb m 11) 30 31 (λ (n : ℕ). n ≤ 31) (λ short. lit≤ tt)
+    (λ long. lit≤ tt))
 
 pub decimal : (m : Moment) → IsReal m → m.year < 10000 → IsDecimal m
 decimal m real year =
@@ -54,7 +59,9 @@ rest_at_takes year text m e =
     let td = day_at_takes None text d.0 d.1 in
     let tc = clock_at_takes None d.0.1 c.0 c.1 in
     subst (λ (w : Moment). ReadRest year text w) (some_is _ m w.1) (record {
-      parts = td.parts ∙ ap (λ (w : List ℕ). day_text None d.0.0 ++ w) (tc.parts ∙ ap (λ (w : List ℕ). clock_text None c.0.0 ++ w) (zulu_is c.0.1 w.0));
+      parts =
+          td.parts ∙ ap (λ (w : List ℕ). day_text None d.0.0 ++ w)
+          (tc.parts ∙ ap (λ (w : List ℕ). clock_text None c.0.0 ++ w) (zulu_is c.0.1 w.0));
       same = refl;
     })
 
@@ -62,9 +69,11 @@ pub rest_at_again : (m : Moment) → IsDecimal m → rest_at m.year (after_year 
 unfolding rest_at
 rest_at_again m fits =
     let clock = clock_text None (m.hour, m.minute, m.second) in
-    bind_of_some (day_at None (after_year m)) _ _ (day_at_again None (m.month, m.day) (clock ++ 90 ∷ []) (record { month = fits.month; day = fits.day }))
+    bind_of_some (day_at None (after_year m)) _ _
+    (day_at_again None (m.month, m.day) (clock ++ 90 ∷ []) (record { month = fits.month; day = fits.day }))
     ∙ bind_of_some (clock_at None (clock ++ 90 ∷ [])) _ _
-    (clock_at_again None (m.hour, m.minute, m.second) (90 ∷ []) (record { hour = fits.hour; minute = fits.minute; second = fits.second }))
+    (clock_at_again None (m.hour, m.minute, m.second) (90 ∷ [])
+    (record { hour = fits.hour; minute = fits.minute; second = fits.second }))
 
 -- ---- UTCTime
 
@@ -83,7 +92,8 @@ full_year_takes short year fits e =
     elim (cases_Bool (ltb short 50)) [
       | inl young ↦
           let lt = ltb-true short 50 young in
-          subst (λ (w : ℕ). IsFullYear short w) (some_is (2000 + short) year (sym (cond-true (ltb short 50) _ _ young) ∙ e))
+          subst (λ (w : ℕ). IsFullYear short w)
+          (some_is (2000 + short) year (sym (cond-true (ltb short 50) _ _ young) ∙ e))
           (record { from = omega arith; to = omega arith; last = omega arith })
       | inr old ↦
           let ge = ltb-false short 50 old in
@@ -102,7 +112,8 @@ full_year_again year from to =
       | inl before ↦
           let same : 1900 + year % 100 ≡ year = omega arith in
           cond-false (ltb (year % 100) 50) _ _ (le-ltb (year % 100) 50 (omega arith))
-          ∙ cond-false (ltb (year % 100) 70) _ _ (le-ltb (year % 100) 70 (omega arith)) ∙ ap (λ (w : ℕ). some_year w) same
+          ∙ cond-false (ltb (year % 100) 70) _ _ (le-ltb (year % 100) 70 (omega arith))
+          ∙ ap (λ (w : ℕ). some_year w) same
       | inr since ↦
           let same : 2000 + year % 100 ≡ year = omega arith in
           cond-true (ltb (year % 100) 50) _ _ (lt-ltb (year % 100) 50 (omega arith)) ∙ ap (λ (w : ℕ). some_year w) same
@@ -123,7 +134,8 @@ utc_at_takes text m e =
     record {
       from = omega arith;
       to = omega arith;
-      spelled = ta.parts ∙ ap (λ (w : List ℕ). two_digits a.0.0 ++ w) tr.parts ∙ ap (λ (n : ℕ). two_digits n ++ after_year m) (sym short);
+      spelled = ta.parts ∙ ap (λ (w : List ℕ). two_digits a.0.0 ++ w) tr.parts
+          ∙ ap (λ (n : ℕ). two_digits n ++ after_year m) (sym short);
     }
 
 pub utc_at_again : (text : List ℕ) (m : Moment) → IsUtcTime text m → utc_at text ≡ Some m
@@ -132,7 +144,8 @@ utc_at_again text m is =
     let from = is.from in
     let to = is.to in
     ap (λ (w : List ℕ). utc_at w) is.spelled
-    ∙ bind_of_some (two_at (two_digits (m.year % 100) ++ after_year m)) _ _ (two_at_again (m.year % 100) (after_year m) (omega arith))
+    ∙ bind_of_some (two_at (two_digits (m.year % 100) ++ after_year m)) _ _
+    (two_at_again (m.year % 100) (after_year m) (omega arith))
     ∙ bind_of_some (full_year (m.year % 100)) _ _ (full_year_again m.year from to)
     ∙ rest_at_again m (decimal m is.real (omega arith))
 
@@ -153,7 +166,8 @@ generalized_at_takes text m e =
     let from : 1970 ≤ a.0.0 = ltb-false a.0.0 1970 w.0 in
     record {
       from = omega arith;
-      spelled = ta.parts ∙ ap (λ (w : List ℕ). four_digits a.0.0 ++ w) tr.parts ∙ ap (λ (n : ℕ). four_digits n ++ after_year m) (sym year);
+      spelled = ta.parts ∙ ap (λ (w : List ℕ). four_digits a.0.0 ++ w) tr.parts
+          ∙ ap (λ (n : ℕ). four_digits n ++ after_year m) (sym year);
     }
 
 pub generalized_at_again : (text : List ℕ) (m : Moment) → IsGeneralizedTime text m → generalized_at text ≡ Some m
@@ -175,14 +189,17 @@ pub record IsTimeReader (read : Option Moment) (IsTime : Moment → Type 0) : Ty
 
 pub utc_reader : (text : List ℕ) → IsTimeReader (utc_at text) (IsUtcTime text)
 utc_reader text = record {
-  takes = λ m e real. let t = utc_at_takes text m e in record { real = real; from = t.from; to = t.to; spelled = t.spelled };
+  takes =
+      λ m e real. let t =
+      utc_at_takes text m e in record { real = real; from = t.from; to = t.to; spelled = t.spelled };
   again = λ m is. utc_at_again text m is;
   real = λ m is. is.real;
 }
 
 pub generalized_reader : (text : List ℕ) → IsTimeReader (generalized_at text) (IsGeneralizedTime text)
 generalized_reader text = record {
-  takes = λ m e real. let t = generalized_at_takes text m e in record { real = real; from = t.from; spelled = t.spelled };
+  takes =
+      λ m e real. let t = generalized_at_takes text m e in record { real = real; from = t.from; spelled = t.spelled };
   again = λ m is. generalized_at_again text m is;
   real = λ m is. is.real;
 }
@@ -191,7 +208,8 @@ generalized_reader text = record {
 abbrev pub IsSecondAt : Moment → Option ℤ → Type 0
 IsSecondAt m r = (IsSome r ↔ IsReal m) × IfSome r (λ s. s ≡ second_of m)
 
-pub second_found : (read : Option Moment) (IsTime : Moment → Type 0) → IsTimeReader read IsTime → (m : Moment) → read ≡ Some m
+pub second_found : (read : Option Moment) (IsTime : Moment → Type 0) → IsTimeReader read IsTime → (m : Moment)
+    → read ≡ Some m
     → (r : Option ℤ) → IsSecondAt m r → IfSome r (IsSecondOf IsTime)
 second_found read IsTime reader m e None at = tt
 second_found read IsTime reader m e (Some s) at =
@@ -200,7 +218,8 @@ second_found read IsTime reader m e (Some s) at =
 abbrev some_second : ℤ → Option ℤ
 some_second s = Some s
 
-pub second_only : (read : Option Moment) (IsTime : Moment → Type 0) → IsTimeReader read IsTime → (m : Moment) → read ≡ Some m
+pub second_only : (read : Option Moment) (IsTime : Moment → Type 0) → IsTimeReader read IsTime → (m : Moment)
+    → read ≡ Some m
     → (r : Option ℤ) → IsSecondAt m r → (s : ℤ) → IsSecondOf IsTime s → r ≡ Some s
 second_only read IsTime reader m e r at s is =
     let same : m ≡ is.moment = some_is m is.moment (sym e ∙ reader.again is.moment is.time) in
@@ -211,5 +230,6 @@ second_only read IsTime reader m e r at s is =
     exact None at some value = absurd cc
     exact (Some t) at some value = ap (λ (w : ℤ). some_second w) (at.1 ∙ sym value)
 
-pub second_none : (read : Option Moment) (IsTime : Moment → Type 0) → IsTimeReader read IsTime → read ≡ None → (s : ℤ) → IsSecondOf IsTime s → ⊥
+pub second_none : (read : Option Moment) (IsTime : Moment → Type 0) → IsTimeReader read IsTime → read ≡ None → (s : ℤ)
+    → IsSecondOf IsTime s → ⊥
 second_none read IsTime reader e s is = let no = sym e ∙ reader.again is.moment is.time in cc

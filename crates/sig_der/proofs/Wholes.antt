@@ -1,5 +1,6 @@
 -- A text that is one element of a tag: what is read, and why it is not.
-use Rattle.std.proofs.Common.{◌≡◌, ◌≢◌, ℕ, ◌%◌, true, cond, eqb, List, [], ◌∷◌, ◌++◌, length, Result, Ok, Err, refl, sym, ap, subst, ◌∙◌, arith, inl, inr}
+use Rattle.std.proofs.Common.{◌≡◌, ◌≢◌, ℕ, ◌%◌, true, cond, eqb, List, [], ◌∷◌, ◌++◌, length, Result, Ok, Err, refl}
+use Rattle.std.proofs.Common.{sym, ap, subst, ◌∙◌, arith, inl, inr}
 use Rattle.std.proofs.lemmas.Bool.{cases_Bool, eq-eqb, eqb-true, eqb-false, ne_eqb, cond-true, cond-false}
 use Rattle.std.proofs.lemmas.List.{nil_from_length, append-nil}
 use Rattle.sig_base.specs.ResultSteps.{◌>>=◌}
@@ -17,7 +18,8 @@ use Rattle.sig_der.proofs.Faults.{element_at_fault}
 -- an element with nothing after it is the text
 whole_is : (whole rest bytes : List ℕ) → bytes ≡ whole ++ rest → eqb (length rest) 0 ≡ true → whole ≡ bytes
 whole_is whole rest bytes parts none =
-    sym (parts ∙ ap (λ (w : List ℕ). whole ++ w) (nil_from_length rest (eqb-true (length rest) 0 none)) ∙ append-nil whole)
+    sym (parts ∙ ap (λ (w : List ℕ). whole ++ w) (nil_from_length rest (eqb-true (length rest) 0 none))
+    ∙ append-nil whole)
 
 pub all_at_takes : (tag : ℕ) (bytes : List ℕ) → IsBytes bytes → (p : Piece) → all_at tag bytes ≡ Ok p
     → IsElement bytes tag p.content × (p.whole ≡ bytes) × (p.tag ≡ tag)
@@ -29,19 +31,25 @@ all_at_takes tag bytes fits p e =
     let t = element_at_takes bytes fits b.0 b.1 in
     let all = whole_is b.0.0.whole b.0.1 bytes t.parts w.0 in
     let tagged = eqb-true b.0.0.tag tag v.0 in
-    subst (λ (q : Piece). IsElement bytes tag q.content × (q.whole ≡ bytes) × (q.tag ≡ tag)) (ok_is b.0.0 p v.1)
-    (subst (λ (n : ℕ). IsElement bytes n b.0.0.content) tagged (subst (λ (w : List ℕ). IsElement w b.0.0.tag b.0.0.content) all t.is), all, tagged)
+    subst (λ (q : Piece). IsElement bytes tag q.content × (q.whole ≡ bytes) × (q.tag ≡ tag)) (ok_is b.0.0 p v.1) (
+      subst (λ (n : ℕ). IsElement bytes n b.0.0.content) tagged
+          (subst (λ (w : List ℕ). IsElement w b.0.0.tag b.0.0.content) all t.is),
+      all,
+      tagged,
+    )
 
 -- the one element that the text is, before its tag is looked at
 tag_tested : (tag : ℕ) (whole : List ℕ) (other : ℕ) (content : List ℕ) → IsElement whole other content
-    → all_at tag whole ≡ cond (eqb other tag) (Ok (record { tag = other; whole = whole; content = content })) (Err WrongTag)
+    → all_at tag whole ≡ cond (eqb other tag) (Ok (record { tag = other; whole = whole; content = content }))
+    (Err WrongTag)
 unfolding all_at
 tag_tested tag whole other content is =
     bind_of_ok (element_at whole) _ _ (element_at_again whole other content [] whole is (sym (append-nil whole)))
 
 pub all_at_again : (tag : ℕ) (whole content : List ℕ) → IsElement whole tag content
     → all_at tag whole ≡ Ok (record { tag = tag; whole = whole; content = content })
-all_at_again tag whole content is = tag_tested tag whole tag content is ∙ cond-true (eqb tag tag) _ _ (eq-eqb tag tag refl)
+all_at_again tag whole content is =
+    tag_tested tag whole tag content is ∙ cond-true (eqb tag tag) _ _ (eq-eqb tag tag refl)
 
 -- ---- bytes follow
 
@@ -57,8 +65,10 @@ fault_is_own d not_cut not_long not_bad (tag ∷ rest) =
       ])
     ]
 
-trailing_from : (tag : ℕ) (bytes : List ℕ) → IsBytes bytes → (r : Result (Piece × List ℕ) DerError) → element_at bytes ≡ r
-    → (r >>= λ x. cond (eqb (length x.1) 0) (cond (eqb x.0.tag tag) (Ok x.0) (Err WrongTag)) (Err Trailing)) ≡ Err Trailing → IsFollowed bytes
+trailing_from : (tag : ℕ) (bytes : List ℕ) → IsBytes bytes → (r : Result (Piece × List ℕ) DerError)
+    → element_at bytes ≡ r
+    → (r >>= λ x. cond (eqb (length x.1) 0) (cond (eqb x.0.tag tag) (Ok x.0) (Err WrongTag)) (Err Trailing))
+    ≡ Err Trailing → IsFollowed bytes
 trailing_from tag bytes fits (Err d) is e =
     absurd (let same : d ≡ Trailing = cc in
     fault_is_own Trailing (λ no. cc) (λ no. cc) (λ no. cc) bytes (sym (element_at_fault bytes d is) ∙ same))
@@ -66,8 +76,14 @@ trailing_from tag bytes fits (Ok x) is e =
     let t = element_at_takes bytes fits x is in
     elim (cases_Bool (eqb (length x.1) 0)) [
       | inl none ↦ absurd (elim (cases_Bool (eqb x.0.tag tag)) [
-        | inl same ↦ let wrong = sym (cond-true (eqb (length x.1) 0) _ (Err Trailing) none ∙ cond-true (eqb x.0.tag tag) (Ok x.0) (Err WrongTag) same) ∙ e in cc
-        | inr other ↦ let wrong = sym (cond-true (eqb (length x.1) 0) _ (Err Trailing) none ∙ cond-false (eqb x.0.tag tag) (Ok x.0) (Err WrongTag) other) ∙ e in cc
+        | inl same ↦
+            let wrong =
+            sym (cond-true (eqb (length x.1) 0) _ (Err Trailing) none
+            ∙ cond-true (eqb x.0.tag tag) (Ok x.0) (Err WrongTag) same) ∙ e in cc
+        | inr other ↦
+            let wrong =
+            sym (cond-true (eqb (length x.1) 0) _ (Err Trailing) none
+            ∙ cond-false (eqb x.0.tag tag) (Ok x.0) (Err WrongTag) other) ∙ e in cc
       ])
       | inr more ↦
           let some : length x.1 ≢ 0 = eqb-false (length x.1) 0 more in
@@ -88,18 +104,23 @@ trailing_at tag bytes f =
 -- ---- another tag
 
 wrong_from : (tag : ℕ) (bytes : List ℕ) → IsBytes bytes → (r : Result (Piece × List ℕ) DerError) → element_at bytes ≡ r
-    → (r >>= λ x. cond (eqb (length x.1) 0) (cond (eqb x.0.tag tag) (Ok x.0) (Err WrongTag)) (Err Trailing)) ≡ Err WrongTag → IsOfAnother tag bytes
+    → (r >>= λ x. cond (eqb (length x.1) 0) (cond (eqb x.0.tag tag) (Ok x.0) (Err WrongTag)) (Err Trailing))
+    ≡ Err WrongTag → IsOfAnother tag bytes
 wrong_from tag bytes fits (Err d) is e =
     absurd (let same : d ≡ WrongTag = cc in
     fault_is_own WrongTag (λ no. cc) (λ no. cc) (λ no. cc) bytes (sym (element_at_fault bytes d is) ∙ same))
 wrong_from tag bytes fits (Ok x) is e =
     let t = element_at_takes bytes fits x is in
     elim (cases_Bool (eqb (length x.1) 0)) [
-      | inr more ↦ absurd (let wrong = sym (cond-false (eqb (length x.1) 0) (cond (eqb x.0.tag tag) (Ok x.0) (Err WrongTag)) (Err Trailing) more) ∙ e in cc)
+      | inr more ↦
+          absurd (let wrong = sym (cond-false (eqb (length x.1) 0) (cond (eqb x.0.tag tag) (Ok x.0) (Err WrongTag))
+          (Err Trailing) more) ∙ e in cc)
       | inl none ↦
           let all = whole_is x.0.whole x.1 bytes t.parts none in
           elim (cases_Bool (eqb x.0.tag tag)) [
-            | inl same ↦ absurd (let wrong = sym (cond-true (eqb (length x.1) 0) _ (Err Trailing) none ∙ cond-true (eqb x.0.tag tag) (Ok x.0) (Err WrongTag) same) ∙ e in cc)
+            | inl same ↦
+                absurd (let wrong = sym (cond-true (eqb (length x.1) 0) _ (Err Trailing) none
+                ∙ cond-true (eqb x.0.tag tag) (Ok x.0) (Err WrongTag) same) ∙ e in cc)
             | inr other ↦ record {
               other = x.0.tag;
               content = x.0.content;
@@ -109,9 +130,11 @@ wrong_from tag bytes fits (Ok x) is e =
           ]
     ]
 
-pub all_at_wrong_tag : (tag : ℕ) (bytes : List ℕ) → IsBytes bytes → all_at tag bytes ≡ Err WrongTag → IsOfAnother tag bytes
+pub all_at_wrong_tag : (tag : ℕ) (bytes : List ℕ) → IsBytes bytes → all_at tag bytes ≡ Err WrongTag
+    → IsOfAnother tag bytes
 unfolding all_at
 all_at_wrong_tag tag bytes fits e = wrong_from tag bytes fits (element_at bytes) refl e
 
 pub wrong_tag_at : (tag : ℕ) (bytes : List ℕ) → IsOfAnother tag bytes → all_at tag bytes ≡ Err WrongTag
-wrong_tag_at tag bytes a = tag_tested tag bytes a.other a.content a.is ∙ cond-false (eqb a.other tag) _ _ (ne_eqb a.other tag a.differs)
+wrong_tag_at tag bytes a =
+    tag_tested tag bytes a.other a.content a.is ∙ cond-false (eqb a.other tag) _ _ (ne_eqb a.other tag a.differs)

@@ -1,12 +1,13 @@
--- The elements of a content, one after another: the answers of reading at the content and then at each rest. They end where
--- the rest is empty, and after the first fault.
+-- The elements of a content, one after another: the answers of reading at the content and then at each rest. They end
+-- where the rest is empty, and after the first fault.
 use Rattle.std.specs.Prelude.{ℕ, zero, suc, List, [], ◌∷◌, length, map, Result, Ok, Err}
 use Rattle.sig_base.specs.declared.fault.DerError.{DerError}
 use Rattle.sig_der.specs.Element.{IsElement}
 use Rattle.sig_der.specs.Reading.{Piece, element_at}
 
 -- an answer, and the answers at its rest where it is no fault
-abbrev pub then_rest : (List ℕ → List (Result Piece DerError)) → Result (Piece × List ℕ) DerError → List (Result Piece DerError)
+abbrev pub then_rest : (List ℕ → List (Result Piece DerError)) → Result (Piece × List ℕ) DerError
+    → List (Result Piece DerError)
 then_rest go (Ok x) = Ok x.0 ∷ go x.1
 then_rest go (Err e) = Err e ∷ []
 

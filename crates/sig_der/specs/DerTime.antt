@@ -1,6 +1,7 @@
--- Times in certificates: UTCTime and GeneralizedTime of X.690 section 11.7, 11.8 in the forms of RFC 5280 section 4.1.2.5, with
--- two more bounds: a UTCTime of the years 50 to 69 is refused, and a GeneralizedTime is from 1970 on.
-use Rattle.std.specs.Prelude.{◌≡◌, ℕ, ◌+◌, ◌%◌, ◌<◌, ◌≤◌, List, [], ◌∷◌, ◌++◌, ◌⊎◌, Bool, ◌||◌, nat_lt, Option, Some, None, ℤ, ◌==◌, if◌then◌else◌}
+-- Times in certificates: UTCTime and GeneralizedTime of X.690 section 11.7, 11.8 in the forms of RFC 5280 section
+-- 4.1.2.5, with two more bounds: a UTCTime of the years 50 to 69 is refused, and a GeneralizedTime is from 1970 on.
+use Rattle.std.specs.Prelude.{◌≡◌, ℕ, ◌+◌, ◌%◌, ◌<◌, ◌≤◌, List, [], ◌∷◌, ◌++◌, ◌⊎◌, Bool, ◌||◌, nat_lt, Option, Some}
+use Rattle.std.specs.Prelude.{None, ℤ, ◌==◌, if◌then◌else◌}
 use Rattle.sig_base.specs.declared.fault.DerError.{DerError}
 use Rattle.sig_base.specs.declared.fault.DerError.TheVariants.{WrongTag, Value}
 use Rattle.sig_der.specs.declared.moment.Moment.{Moment}
@@ -30,7 +31,8 @@ pub record IsGeneralizedTime (text : List ℕ) (m : Moment) : Type 0 where
 -- the second since 1970 of an element of this tag and this content: a UTCTime or a GeneralizedTime
 abbrev pub IsTimeOf : ℕ → List ℕ → ℤ → Type 0
 IsTimeOf tag content second =
-    ((tag ≡ UTC_TIME) × IsSecondOf (IsUtcTime content) second) ⊎ ((tag ≡ GENERALIZED_TIME) × IsSecondOf (IsGeneralizedTime content) second)
+    ((tag ≡ UTC_TIME) × IsSecondOf (IsUtcTime content) second)
+    ⊎ ((tag ≡ GENERALIZED_TIME) × IsSecondOf (IsGeneralizedTime content) second)
 
 -- why an element is no time
 abbrev pub time_fault : ℕ → DerError

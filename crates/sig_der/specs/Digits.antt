@@ -1,5 +1,6 @@
 -- Decimal digits in texts of times: the texts, and the readers that go on from the front of a text.
-use Rattle.std.specs.Prelude.{ℕ, ◌+◌, ◌-◌, ◌*◌, ◌/◌, ◌%◌, List, [], ◌∷◌, ◌++◌, Bool, ◌&&◌, nat_lt, Option, Some, None, ◌==◌, if◌then◌else◌}
+use Rattle.std.specs.Prelude.{ℕ, ◌+◌, ◌-◌, ◌*◌, ◌/◌, ◌%◌, List, [], ◌∷◌, ◌++◌, Bool, ◌&&◌, nat_lt, Option, Some, None}
+use Rattle.std.specs.Prelude.{◌==◌, if◌then◌else◌}
 use Rattle.sig_base.specs.OptionSteps.{◌>>=◌}
 
 -- ---- texts
@@ -21,7 +22,8 @@ day_text mark (month, day) = two_digits month ++ (mark_text mark ++ two_digits d
 
 -- hour, minute and second, with the mark between them
 abbrev pub clock_text : Option ℕ → ℕ × ℕ × ℕ → List ℕ
-clock_text mark (hour, minute, second) = two_digits hour ++ (mark_text mark ++ (two_digits minute ++ (mark_text mark ++ two_digits second)))
+clock_text mark (hour, minute, second) =
+    two_digits hour ++ (mark_text mark ++ (two_digits minute ++ (mark_text mark ++ two_digits second)))
 
 -- ---- readers
 

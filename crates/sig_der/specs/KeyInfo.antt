@@ -1,5 +1,5 @@
--- Algorithms and key infos: AlgorithmIdentifier of RFC 5280 section 4.1.1.2 and SubjectPublicKeyInfo of section 4.1.2.7, and the
--- plain readers of both. That these read exactly the texts of the relations is in proofs/KeyInfos.
+-- Algorithms and key infos: AlgorithmIdentifier of RFC 5280 section 4.1.1.2 and SubjectPublicKeyInfo of section
+-- 4.1.2.7, and the plain readers of both. That these read exactly the texts of the relations is in proofs/KeyInfos.
 use Rattle.std.specs.Prelude.{◌≡◌, ℕ, ◌<◌, List, [], ◌∷◌, ◌++◌, length, Bool, Option, Some, None, ◌==◌, if◌then◌else◌}
 use Rattle.sig_base.specs.OptionSteps.{◌>>=◌}
 use Rattle.sig_der.specs.Element.{IsElement}

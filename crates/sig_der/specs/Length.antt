@@ -12,8 +12,8 @@ pub record IsShortForm (n : ℕ) (text : List ℕ) : Type 0 where
   pub bits : n < 128
   pub spelled : text ≡ n ∷ []
 
--- The long form (section 8.1.3.5): an octet whose bit 8 is 1 and whose other bits count the octets after it, which are the
--- number. The fewest octets (section 10.1): neither the short form nor one octet fewer holds the number.
+-- The long form (section 8.1.3.5): an octet whose bit 8 is 1 and whose other bits count the octets after it, which are
+-- the number. The fewest octets (section 10.1): neither the short form nor one octet fewer holds the number.
 pub record IsLongForm (n : ℕ) (text : List ℕ) : Type 0 where
   pub octets : List ℕ
   pub each : AllByRecursion (λ octet. octet < 256) octets

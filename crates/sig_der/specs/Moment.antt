@@ -11,7 +11,8 @@ pub record IsReal (m : Moment) : Type 0 where
   pub second : m.second < 60
 
 abbrev pub second_of : Moment → ℤ
-second_of m = (days_from_civil (pos m.year) m.month m.day *ℤ pos 86400) +ℤ pos (m.hour * 3600 + m.minute * 60 + m.second)
+second_of m =
+    (days_from_civil (pos m.year) m.month m.day *ℤ pos 86400) +ℤ pos (m.hour * 3600 + m.minute * 60 + m.second)
 
 -- Four digits hold the year, and two each other number.
 pub record IsDecimal (m : Moment) : Type 0 where

@@ -35,8 +35,8 @@ sct_list = object_identifier (1 ∷ 3 ∷ 6 ∷ 1 ∷ 4 ∷ 1 ∷ 11129 ∷ 2 �
 
 -- ---- Fulcio
 
--- Fulcio's object identifier of this number: 1 the issuer, 2 the GitHub workflow's trigger, 3 its SHA, 4 its name, 5 its
--- repository, 6 its ref, 7 the other name in a subject alternative name
+-- Fulcio's object identifier of this number: 1 the issuer, 2 the GitHub workflow's trigger, 3 its SHA, 4 its name, 5
+-- its repository, 6 its ref, 7 the other name in a subject alternative name
 abbrev pub fulcio : ℕ → List ℕ
 fulcio n = object_identifier (1 ∷ 3 ∷ 6 ∷ 1 ∷ 4 ∷ 1 ∷ 57264 ∷ 1 ∷ n ∷ [])
 

@@ -5,7 +5,8 @@ use Rattle.sig_der.specs.Reading.{Piece}
 
 -- the element at the place
 abbrev pub piece_at : List ℕ → Place → Piece
-piece_at bytes p = record { tag = p.tag; whole = slice_range bytes p.start p.end; content = slice_range bytes p.content p.end }
+piece_at bytes p =
+    record { tag = p.tag; whole = slice_range bytes p.start p.end; content = slice_range bytes p.content p.end }
 
 -- the place of an element that begins at the first number and ends at the second or before it
 pub record IsWithin (at end : ℕ) (p : Place) : Type 0 where

@@ -1,6 +1,7 @@
 -- Reading an element from the front of a text, by computation: the plain program that the readers are equal to.
 -- That it reads exactly the texts of *Element* is `element_at_takes` and `element_at_again` of proofs/Elements.
-use Rattle.std.specs.Prelude.{◌≡◌, ℕ, ◌+◌, ◌-◌, ◌*◌, ◌%◌, List, [], ◌∷◌, length, take, drop, Bool, true, false, Result, Ok, Err, nat_lt, ◌==◌, if◌then◌else◌, ◌&&◌}
+use Rattle.std.specs.Prelude.{◌≡◌, ℕ, ◌+◌, ◌-◌, ◌*◌, ◌%◌, List, [], ◌∷◌, length, take, drop, Bool, true, false, Result}
+use Rattle.std.specs.Prelude.{Ok, Err, nat_lt, ◌==◌, if◌then◌else◌, ◌&&◌}
 use Rattle.sig_base.specs.ResultSteps.{◌>>=◌}
 use Rattle.sig_base.specs.declared.fault.DerError.{DerError}
 use Rattle.sig_base.specs.declared.fault.DerError.TheVariants.{Truncated, LongTag, Length, Trailing, WrongTag}
@@ -16,8 +17,8 @@ abbrev pub Gives : {X Y : Type 0} → (X → Y) → Result X DerError → Result
 Gives view (Ok x) read = read ≡ Ok (view x)
 Gives view (Err e) read = read ≡ Err e
 
--- A length in one to four octets after the first, and what follows it. One that fewer octets hold is refused at the octet
--- that shows it.
+-- A length in one to four octets after the first, and what follows it. One that fewer octets hold is refused at the
+-- octet that shows it.
 unfoldable pub one_at : List ℕ → Result (ℕ × List ℕ) DerError
 one_at [] = Err Truncated
 one_at (a ∷ rest) = if nat_lt a 128 then Err Length else Ok (a, rest)
@@ -72,8 +73,8 @@ unfoldable pub all_at : ℕ → List ℕ → Result Piece DerError
 all_at tag bytes = element_at bytes >>= λ x.
     if length x.1 == 0 then (if x.0.tag == tag then Ok x.0 else Err WrongTag) else Err Trailing
 
--- Why a text begins with no element: the first that shows of a long tag, a length that is indefinite, too long or not in
--- the fewest octets, and missing bytes.
+-- Why a text begins with no element: the first that shows of a long tag, a length that is indefinite, too long or not
+-- in the fewest octets, and missing bytes.
 abbrev pub is_zero_first : List ℕ → Bool
 is_zero_first [] = false
 is_zero_first (a ∷ rest) = a == 0

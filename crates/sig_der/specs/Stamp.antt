@@ -1,17 +1,20 @@
--- Time texts: RFC 3339 section 5.6 in one profile: upper-case `T` and `Z`, a fraction of one to nine digits, no leap seconds,
--- years from 1 to 9999. The second is the floor of the instant, so the fraction does not count.
-use Rattle.std.specs.Prelude.{◌≡◌, ℕ, suc, zero, ◌+◌, ◌*◌, ◌<◌, ◌≤◌, List, [], ◌∷◌, ◌++◌, length, Bool, true, false, ◌&&◌, nat_lt, Option, Some, None, ℤ, pos, neg_ℤ, ◌-ℤ◌, ◌==◌, if◌then◌else◌}
+-- Time texts: RFC 3339 section 5.6 in one profile: upper-case `T` and `Z`, a fraction of one to nine digits, no leap
+-- seconds, years from 1 to 9999. The second is the floor of the instant, so the fraction does not count.
+use Rattle.std.specs.Prelude.{◌≡◌, ℕ, suc, zero, ◌+◌, ◌*◌, ◌<◌, ◌≤◌, List, [], ◌∷◌, ◌++◌, length, Bool, true, false}
+use Rattle.std.specs.Prelude.{◌&&◌, nat_lt, Option, Some, None, ℤ, pos, neg_ℤ, ◌-ℤ◌, ◌==◌, if◌then◌else◌}
 use Rattle.std.specs.List.{AllByRecursion}
 use Rattle.sig_base.specs.OptionSteps.{◌>>=◌}
 use Rattle.sig_der.specs.declared.moment.Moment.{Moment}
 use Rattle.sig_der.specs.Moment.{IsReal, second_of}
-use Rattle.sig_der.specs.Digits.{two_digits, four_digits, day_text, clock_text, is_digit, two_at, four_at, skip, day_at, clock_at}
+use Rattle.sig_der.specs.Digits.{two_digits, four_digits, day_text, clock_text, is_digit, two_at, four_at, skip}
+use Rattle.sig_der.specs.Digits.{day_at, clock_at}
 use Rattle.sig_der.specs.DerTime.{moment_of}
 
 -- YYYY-MM-DDTHH:MM:SS
 abbrev pub front_text : Moment → List ℕ
 front_text m =
-    four_digits m.year ++ 45 ∷ (day_text (Some 45) (m.month, m.day) ++ 84 ∷ clock_text (Some 58) (m.hour, m.minute, m.second))
+    four_digits m.year ++ 45
+    ∷ (day_text (Some 45) (m.month, m.day) ++ 84 ∷ clock_text (Some 58) (m.hour, m.minute, m.second))
 
 -- how far a clock is from that of Greenwich: not at all, or hours and minutes ahead of it or behind it
 pub data Zone : Type 0 where
@@ -41,7 +44,8 @@ offset_of (behind hours minutes) = neg_ℤ (pos (hours * 3600 + minutes * 60))
 -- no text, or a point and one to nine digits
 pub data IsFraction : List ℕ → Type 0 where
   whole : IsFraction []
-  part : (digits : List ℕ) → AllByRecursion (λ b. is_digit b ≡ true) digits → 1 ≤ length digits → length digits ≤ 9 → IsFraction (46 ∷ digits)
+  part : (digits : List ℕ) → AllByRecursion (λ b. is_digit b ≡ true) digits → 1 ≤ length digits → length digits ≤ 9
+      → IsFraction (46 ∷ digits)
 
 -- the text names an instant of this second since 1970
 pub record IsInstantOf (text : List ℕ) (second : ℤ) : Type 0 where
@@ -91,7 +95,8 @@ offset_at text = do
   hours ← two_at text
   after_hours ← skip (Some 58) hours.1
   minutes ← two_at after_hours
-  if nat_lt hours.0 24 && nat_lt minutes.0 60 && (length minutes.1 == 0) then Some (hours.0 * 3600 + minutes.0 * 60) else None
+  if nat_lt hours.0 24 && nat_lt minutes.0 60 && (length minutes.1 == 0) then Some (hours.0 * 3600 + minutes.0 * 60)
+      else None
 
 unfoldable pub zone_at : List ℕ → Option ℤ
 zone_at [] = None

@@ -1,4 +1,5 @@
--- The identifier octet of an element: X.690 section 8.1.2, and the tags of this project's formats by class, form and number.
+-- The identifier octet of an element: X.690 section 8.1.2, and the tags of this project's formats by class, form and
+-- number.
 use Rattle.std.specs.Prelude.{ℕ, ◌+◌, ◌*◌, Bool, true, false, if◌then◌else◌}
 
 -- The four classes of tags: X.690 section 8.1.2.2, table 1.
@@ -78,7 +79,8 @@ SUBJECT_UNIQUE_ID = context 2
 abbrev pub EXTENSIONS : ℕ
 EXTENSIONS = constructed_context 3
 
--- GeneralName (section 4.2.1.6): otherName [0] with its value [0] EXPLICIT, rfc822Name [1], uniformResourceIdentifier [6]
+-- GeneralName (section 4.2.1.6): otherName [0] with its value [0] EXPLICIT, rfc822Name [1], uniformResourceIdentifier
+-- [6]
 abbrev pub OTHER_NAME : ℕ
 OTHER_NAME = constructed_context 0
 

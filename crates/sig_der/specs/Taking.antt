@@ -1,6 +1,7 @@
--- Readers that go on from the front of a text: an element of any tag, of one tag, an optional one, and a list of like parts.
--- Each answers what it read and what follows it, or nothing.
-use Rattle.std.specs.Prelude.{ℕ, zero, suc, List, [], ◌∷◌, length, Bool, false, Option, Some, None, Result, Ok, Err, ◌==◌, if◌then◌else◌}
+-- Readers that go on from the front of a text: an element of any tag, of one tag, an optional one, and a list of like
+-- parts. Each answers what it read and what follows it, or nothing.
+use Rattle.std.specs.Prelude.{ℕ, zero, suc, List, [], ◌∷◌, length, Bool, false, Option, Some, None, Result, Ok, Err}
+use Rattle.std.specs.Prelude.{◌==◌, if◌then◌else◌}
 use Rattle.sig_base.specs.OptionSteps.{◌>>=◌}
 use Rattle.sig_base.specs.declared.fault.DerError.{DerError}
 use Rattle.sig_der.specs.Reading.{Piece, element_at}
@@ -35,8 +36,8 @@ take_whole tag bytes = do
   x ← take_tag tag bytes
   if length x.1 == 0 then Some x.0 else None
 
--- All of the text as a list of parts that the reader takes one after another. The number bounds the readings, and as many
--- as there are bytes suffice, since each part takes a byte at least.
+-- All of the text as a list of parts that the reader takes one after another. The number bounds the readings, and as
+-- many as there are bytes suffice, since each part takes a byte at least.
 unfoldable pub many_within : {A : Type 0} → (List ℕ → Option (A × List ℕ)) → ℕ → List ℕ → Option (List A)
 many_within read n [] = Some []
 many_within read zero (b ∷ bytes) = None

@@ -89,10 +89,12 @@ fn cut_all(bytes: &[u8], tag: u8) -> Result<Element<'_>, DerError>
 
 /// Reads the one element of this tag that the bytes are.
 ///
-/// Fails as `read_element` does; then with `Trailing` if bytes follow the element; then with `WrongTag` if it has another tag.
+/// Fails as `read_element` does; then with `Trailing` if bytes follow the element; then with `WrongTag` if it has
+/// another tag.
 pub fn read_all(bytes: &[u8], tag: u8) -> Result<Element<'_>, DerError>
     // What is returned is all of the bytes.
-    ensures found { IfOk result (λ e. IsElement bytes.now tag e.content.now × (e.whole.now ≡ bytes.now) × (e.tag ≡ tag)) }
+    ensures found { IfOk result
+        (λ e. IsElement bytes.now tag e.content.now × (e.whole.now ≡ bytes.now) × (e.tag ≡ tag)) }
     // An element of the tag is returned.
     ensures only { (content : List ℕ) → IsElement bytes.now tag content
         → Gives piece_of result (Ok (record { tag = tag; whole = bytes.now; content = content })) }

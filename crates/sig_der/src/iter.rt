@@ -3,7 +3,8 @@
 use crate::element::{Element, read_element};
 use sig_base::DerError;
 
-/// The elements of a content in order, each by `read_element`. It ends where the rest is empty, and after its first error.
+/// The elements of a content in order, each by `read_element`. It ends where the rest is empty, and after its first
+/// error.
 #[derive(Clone, Copy, Debug)]
 pub struct Children<'a> {
     pub(crate) rest: &'a [u8],

@@ -78,8 +78,8 @@ fn at_most_one(reader: Reader<'_>) -> Option<Option<Place>>
     }
 }
 
-/// Returns where the bits begin of the BIT STRING without unused bits that is all that is left. `None` if it is no such BIT
-/// STRING.
+/// Returns where the bits begin of the BIT STRING without unused bits that is all that is left. `None` if it is no
+/// such BIT STRING.
 #[tactic(auto, unfolding(crate::specs::KeyInfo::bits_of, crate::specs::KeyInfo::after_zero))]
 pub fn read_bits(reader: Reader<'_>) -> Option<usize>
     ensures cut { bits_of (left reader.entry) ≡ option_map (part_from reader.entry.bytes.now reader.entry.end) result }

@@ -1,5 +1,5 @@
-//! What the constants and the lengths of this crate are, in the words of the standards. No function here does anything: each
-//! states laws, and its proof is that they hold.
+//! What the constants and the lengths of this crate are, in the words of the standards. No function here does
+//! anything: each states laws, and its proof is that they hold.
 
 ghost use Rattle.std.specs.Prelude.{◌≡◌, ◌^◌, ◌<◌, ℕ, List};
 ghost use Rattle.sig_der.specs.Element.{spelled_length};
@@ -57,7 +57,8 @@ pub fn tags()
     ensures uniform_resource_identifier { tag.UNIFORM_RESOURCE_IDENTIFIER ≡ named.UNIFORM_RESOURCE_IDENTIFIER }
 {}
 
-/// A length below 2^32 is spelled in the definite form with the fewest octets (X.690 sections 8.1.3 and 10.1), and in no other.
+/// A length below 2^32 is spelled in the definite form with the fewest octets (X.690 sections 8.1.3 and 10.1), and in
+/// no other.
 pub fn lengths()
     ensures is { (n : ℕ) → n < 2 ^ 32 → IsLength n (spelled_length n) }
     ensures only { (n : ℕ) (text : List ℕ) → n < 2 ^ 32 → IsLength n text → text ≡ spelled_length n }

@@ -1,5 +1,5 @@
-//! DER, the encoding of certificates and keys: elements of one identifier octet with lengths of at most four octets after the
-//! first, read and written exactly (X.690 sections 8.1 and 10.1), and texts of times.
+//! DER, the encoding of certificates and keys: elements of one identifier octet with lengths of at most four octets
+//! after the first, read and written exactly (X.690 sections 8.1 and 10.1), and texts of times.
 #![tactic(auto)]
 
 mod digits;

@@ -43,8 +43,8 @@ impl DerOut {
         Ok(())
     }
 
-    /// Returns the element of this tag and of the content. Fails with `TooLong` if and only if the content has 2^32 bytes or more, and with
-    /// `OutOfMemory`.
+    /// Returns the element of this tag and of the content. Fails with `TooLong` if and only if the content has 2^32
+    /// bytes or more, and with `OutOfMemory`.
     ///
     /// The low five bits of the tag are not all ones.
     pub fn close(self, tag: u8) -> Result<Bytes, DerWriteError>

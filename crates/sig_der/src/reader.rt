@@ -1,5 +1,5 @@
-//! A reader of the elements in a range of one buffer. It keeps offsets and no slices of slices, so that a part of a part is
-//! known by its offsets in the buffer, however deep it is.
+//! A reader of the elements in a range of one buffer. It keeps offsets and no slices of slices, so that a part of a
+//! part is known by its offsets in the buffer, however deep it is.
 //!
 //! ```text
 //! let (whole, rest) = reader.tagged(tag::SEQUENCE)?;                           // whole ::= SEQUENCE {
@@ -12,7 +12,8 @@ ghost use Rattle.std.specs.Prelude.{◌≡◌, ◌≤◌, length};
 use crate::element::read_element;
 use crate::place::Place;
 
-/// What is left to read: a range of a buffer. A call that reads an element returns it with the reader of what follows it.
+/// What is left to read: a range of a buffer. A call that reads an element returns it with the reader of what follows
+/// it.
 #[derive(Clone, Copy, Debug)]
 pub struct Reader<'a> {
     /// The buffer.
@@ -121,8 +122,8 @@ impl<'a> Reader<'a> {
         }
     }
 
-    /// Reads the element of this tag if the next byte is the tag. If it is another byte, or nothing is left, no element is
-    /// taken. `None` if the tag is there and no element begins with it.
+    /// Reads the element of this tag if the next byte is the tag. If it is another byte, or nothing is left, no
+    /// element is taken. `None` if the tag is there and no element begins with it.
     #[tactic(auto, unfolding(crate::specs::Taking::take_optional))]
     pub fn optional(self, tag: u8) -> Option<(Option<Place>, Reader<'a>)>
         ensures cut { take_optional tag (left self.entry) ≡ option_map (option_read self.entry.bytes.now) result }

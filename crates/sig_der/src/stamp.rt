@@ -3,7 +3,8 @@
 ghost use Rattle.std.specs.Prelude.{◌≡◌, ◌<◌, ◌↔◌, ℤ, ◌-ℤ◌, Some, IsSome, IfSome, option_map};
 ghost use Rattle.jiff_core.specs.Calendar.{IsWithin};
 ghost use Rattle.sig_der.specs.Moment.{IsDecimal, IsReal, second_of};
-ghost use Rattle.sig_der.specs.Stamp.{IsInstantOf, front_at, after_digit, after_digits, fraction_at, offset_at, zone_at, stamp_at, starts_with_digit};
+ghost use Rattle.sig_der.specs.Stamp.{IsInstantOf, front_at, after_digit, after_digits, fraction_at, offset_at};
+ghost use Rattle.sig_der.specs.Stamp.{zone_at, stamp_at, starts_with_digit};
 
 use crate::digits::{read_clock, read_day, read_four, read_two, skip_mark};
 use crate::moment::{Moment, second_at};
@@ -139,8 +140,8 @@ fn read_instant(text: &[u8]) -> Option<i64>
 
 /// The second since 1970 in which the instant of the text lies.
 ///
-/// None where the text is not YYYY-MM-DDTHH:MM:SS of a real date and time of the years 1 to 9999, then nothing or a point and one
-/// to nine digits, then `Z` or the offset +HH:MM or -HH:MM with hours to 23 and minutes to 59.
+/// None where the text is not YYYY-MM-DDTHH:MM:SS of a real date and time of the years 1 to 9999, then nothing or a
+/// point and one to nine digits, then `Z` or the offset +HH:MM or -HH:MM with hours to 23 and minutes to 59.
 pub fn rfc3339_second(text: &str) -> Option<i64>
     ensures found { IfSome result (IsInstantOf text.now) }
     ensures only { (s : ℤ) → IsInstantOf text.now s → result ≡ Some s }

@@ -6,7 +6,8 @@ ghost use Rattle.sig_der.specs.Taking.{take_any, take_tag, take_whole};
 
 use crate::element::{Element, read_element};
 
-/// Returns the element at the front of the bytes, and what follows it. `None` if the bytes do not begin with an element.
+/// Returns the element at the front of the bytes, and what follows it. `None` if the bytes do not begin with an
+/// element.
 #[tactic(auto, using(crate::proofs::Takings::take_any_ok, crate::proofs::Takings::take_any_err))]
 pub fn take_any(bytes: &[u8]) -> Option<(Element<'_>, &[u8])>
     ensures { take_any bytes.now ≡ option_map front_of result }
@@ -17,7 +18,8 @@ pub fn take_any(bytes: &[u8]) -> Option<(Element<'_>, &[u8])>
     }
 }
 
-/// Returns the element of this tag at the front of the bytes, and what follows it. `None` if the bytes do not begin with one.
+/// Returns the element of this tag at the front of the bytes, and what follows it. `None` if the bytes do not begin
+/// with one.
 #[tactic(auto, unfolding(crate::specs::Taking::take_tag))]
 pub fn take_tag(bytes: &[u8], tag: u8) -> Option<(Element<'_>, &[u8])>
     ensures { take_tag tag bytes.now ≡ option_map front_of result }

@@ -2,7 +2,8 @@
 
 ghost use Rattle.std.specs.Prelude.{◌≡◌, ◌<◌, ℤ, Ok, Some, IfOk, IfErr, IfSome, option_map};
 ghost use Rattle.sig_der.specs.Moment.{IsDecimal, IsSecondOf};
-ghost use Rattle.sig_der.specs.DerTime.{IsUtcTime, IsGeneralizedTime, IsTimeOf, time_fault, full_year, rest_at, utc_at, generalized_at};
+ghost use Rattle.sig_der.specs.DerTime.{IsUtcTime, IsGeneralizedTime, IsTimeOf, time_fault, full_year, rest_at};
+ghost use Rattle.sig_der.specs.DerTime.{utc_at, generalized_at};
 
 use crate::digits::{read_clock, read_day, read_four, read_two};
 use crate::element::Element;
@@ -92,8 +93,8 @@ fn generalized_second(text: &[u8]) -> Option<i64>
 
 /// The second since 1970 of a UTCTime or a GeneralizedTime.
 ///
-/// `WrongTag` where the element is neither; `Value` where its content is no time of its kind: YYMMDDHHMMSSZ, where 70 to 99 are
-/// 1970 to 1999 and 00 to 49 are 2000 to 2049, or YYYYMMDDHHMMSSZ of the years 1970 to 9999.
+/// `WrongTag` where the element is neither; `Value` where its content is no time of its kind: YYMMDDHHMMSSZ, where 70
+/// to 99 are 1970 to 1999 and 00 to 49 are 2000 to 2049, or YYYYMMDDHHMMSSZ of the years 1970 to 9999.
 pub fn time_of(element: &Element<'_>) -> Result<i64, DerError>
     ensures found { IfOk result (IsTimeOf element.now.tag element.now.content.now) }
     ensures only { (s : ℤ) → IsTimeOf element.now.tag element.now.content.now s → result ≡ Ok s }

@@ -8,8 +8,8 @@ ghost use Rattle.sig_der.specs.Walks.{left_of};
 
 use crate::iter::Children;
 
-/// Returns the elements of the content in order. The items are the results of `read_element` on the content and then on each rest;
-/// they end when the rest is empty, and after the first error.
+/// Returns the elements of the content in order. The items are the results of `read_element` on the content and then
+/// on each rest; they end when the rest is empty, and after the first error.
 pub fn children(content: &[u8]) -> Children<'_>
     // The results, one after another.
     ensures answers { left_of result ≡ children_of content.now }

@@ -30,7 +30,8 @@ impl From<OutOfMemory> for DerWriteError {
 /// The number of bytes from which on a content has no spelled length.
 const CONTENT_LIMIT: usize = 4_294_967_296;
 
-/// Writes the element of this tag and of this content, whose length is known to have a spelling. Fails only if memory runs out.
+/// Writes the element of this tag and of this content, whose length is known to have a spelling. Fails only if memory
+/// runs out.
 ///
 /// The low five bits of the tag are not all ones.
 pub fn write_short(alloc: Global, tag: u8, content: &[u8]) -> Result<Bytes, OutOfMemory>
@@ -45,8 +46,8 @@ pub fn write_short(alloc: Global, tag: u8, content: &[u8]) -> Result<Bytes, OutO
     Ok(Bytes::from(text))
 }
 
-/// Writes the element of this tag and of this content. Fails with `TooLong` if and only if the content has 2^32 bytes or more, and
-/// with `OutOfMemory`.
+/// Writes the element of this tag and of this content. Fails with `TooLong` if and only if the content has 2^32 bytes
+/// or more, and with `OutOfMemory`.
 ///
 /// The low five bits of the tag are not all ones.
 pub fn write_element(alloc: Global, tag: u8, content: &[u8]) -> Result<Bytes, DerWriteError>

@@ -50,7 +50,8 @@ pub(crate) fn read(alloc: Global, der: &[u8]) -> Result<Answer, CaseError> {
     }
 }
 
-/// Adds the version, both seconds of the validity, both algorithms, issuer, subject, SPKI, TBSCertificate and signature.
+/// Adds the version, both seconds of the validity, both algorithms, issuer, subject, SPKI, TBSCertificate and
+/// signature.
 fn with_fields(answer: Answer, read: &Certificate) -> Result<Answer, CaseError> {
     answer
         .value(&read.version())?

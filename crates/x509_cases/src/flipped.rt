@@ -5,8 +5,8 @@ use sig_base::sha256;
 use sig_cases::{Answer, Arguments, CaseError};
 use std::alloc::Global;
 
-/// `flipped MASK DER`: the places at which the bytes stay a certificate once these bits are flipped there, and the SHA-256 of what is
-/// written for each of these certificates, one after another.
+/// `flipped MASK DER`: the places at which the bytes stay a certificate once these bits are flipped there, and the
+/// SHA-256 of what is written for each of these certificates, one after another.
 pub(crate) fn flipped(alloc: Global, arguments: &mut Arguments<'_>) -> Result<Answer, CaseError> {
     let mask = arguments.hex(alloc)?;
     let der = arguments.hex(alloc)?;

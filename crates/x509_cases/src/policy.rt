@@ -107,7 +107,8 @@ fn identity(alloc: Global, arguments: &mut Arguments<'_>) -> Result<Answer, Case
     same(said(alloc, alone)?, &said(alloc, held)?)
 }
 
-/// `all NAME=TEXT,.. DER` and `any NAME=TEXT,.. DER`: what the policy of all or any of these says, in a request and over boxes.
+/// `all NAME=TEXT,.. DER` and `any NAME=TEXT,.. DER`: what the policy of all or any of these says, in a request and
+/// over boxes.
 fn several(
     alloc: Global,
     arguments: &mut Arguments<'_>,

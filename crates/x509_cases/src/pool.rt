@@ -48,8 +48,8 @@ fn spki(alloc: Global, arguments: &mut Arguments<'_>) -> Result<Answer, CaseErro
     }
 }
 
-/// `verify_der_cert TIME LEAF ANCHOR,.. ROW ..`: the place of the leaf's issuer. `verify_cert_with_time` has to say the same of a leaf
-/// that is a certificate; where it does not, its answer follows.
+/// `verify_der_cert TIME LEAF ANCHOR,.. ROW ..`: the place of the leaf's issuer. `verify_cert_with_time` has to say
+/// the same of a leaf that is a certificate; where it does not, its answer follows.
 fn issuer(alloc: Global, arguments: &mut Arguments<'_>) -> Result<Answer, CaseError> {
     let time = arguments.integer()?;
     let leaf = arguments.hex(alloc)?;

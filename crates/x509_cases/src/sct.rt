@@ -98,7 +98,8 @@ fn signed(
         .hex(signed.signature.as_slice())
 }
 
-/// `verify_sct LOG_ID TIME ISSUER_KEY_HASH TBS EXTENSIONS SIGNATURE KEY,.. ROW ..`: whether the keyring vouches for what is signed.
+/// `verify_sct LOG_ID TIME ISSUER_KEY_HASH TBS EXTENSIONS SIGNATURE KEY,.. ROW ..`: whether the keyring vouches for
+/// what is signed.
 fn verified(alloc: Global, arguments: &mut Arguments<'_>) -> Result<Answer, CaseError> {
     let signed = DigitallySigned {
         log_id: arguments.digest(alloc)?,

@@ -13,7 +13,8 @@ returns-in-None c =
     let rest = c.loop-rest.rest.now in
     let more = eqb-false (length rest) 0 (sym c.is_empty.ensures ∙ c.loop-rest-test.true) in
     sym c.loop-rest.invariant
-    ∙ ap (λ (o : Option (List Name)). is_some o) (many_at_stops name_at rest (λ none. more (ap (λ (w : List ℕ). length w) none)) c.in-None.ensures)
+    ∙ ap (λ (o : Option (List Name)). is_some o)
+    (many_at_stops name_at rest (λ none. more (ap (λ (w : List ℕ). length w) none)) c.in-None.ensures)
 
 pub loop-rest-preserved : goal.loop-rest-preserved
 loop-rest-preserved c =

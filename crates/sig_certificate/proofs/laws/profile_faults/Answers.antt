@@ -1,4 +1,6 @@
-use Rattle.sig_certificate.proofs.ProfileFaults.{authority_is, authority_again, authority_fault_is, authority_fault_again, root_fault_is, root_fault_again, leaf_fault_is, leaf_fault_again}
+use Rattle.sig_certificate.proofs.ProfileFaults.{authority_is, authority_again, authority_fault_is}
+use Rattle.sig_certificate.proofs.ProfileFaults.{authority_fault_again, root_fault_is, root_fault_again, leaf_fault_is}
+use Rattle.sig_certificate.proofs.ProfileFaults.{leaf_fault_again}
 use Rattle.sig_certificate.proofs.laws.profile_faults.Goals as goal
 
 pub returns : goal.returns

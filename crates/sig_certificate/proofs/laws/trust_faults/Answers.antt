@@ -1,4 +1,6 @@
-use Rattle.sig_certificate.proofs.TrustFaults.{usages_fault_is, usages_fault_again, names_fault_is, names_fault_again, validity_fault_is, validity_fault_again, expiration_fault_is, expiration_fault_again, trust_fault_is, trust_fault_again}
+use Rattle.sig_certificate.proofs.TrustFaults.{usages_fault_is, usages_fault_again, names_fault_is, names_fault_again}
+use Rattle.sig_certificate.proofs.TrustFaults.{validity_fault_is, validity_fault_again, expiration_fault_is}
+use Rattle.sig_certificate.proofs.TrustFaults.{expiration_fault_again, trust_fault_is, trust_fault_again}
 use Rattle.sig_certificate.proofs.laws.trust_faults.Goals as goal
 
 pub returns : goal.returns

@@ -10,11 +10,14 @@ pub returns-clause-single : goal.returns-clause-single
 returns-clause-single c =
     let bytes = c.args.bytes.now in
     neighbours_tell bytes c.args.extensions.now c.sort_unstable_by.new.self c.sort_unstable_by.ensures.permutation
-    (c.sort_unstable_by.ensures.sorted (is_before bytes) (is_order bytes) (always_returns_same _ _ _ (λ a r f k. search rules))) c.is_sorted_by-single.result
+    (c.sort_unstable_by.ensures.sorted (is_before bytes) (is_order bytes)
+    (always_returns_same _ _ _ (λ a r f k. search rules))) c.is_sorted_by-single.result
     (c.is_sorted_by-single.ensures.cases (is_before bytes) (always_returns_same _ _ _ (λ a r f k. search rules)))
 
 pub returns-clause-same : goal.returns-clause-same
 returns-clause-same c =
     sorted_back (λ (e : ExtensionPlaces). e.whole.start) _ _
-    (IsPermutation-trans _ _ _ c.sort_unstable_by.ensures.permutation c.sort_unstable_by_key.ensures.permutation) c.requires
-    (IsNonDecreasingBy-from_sort_by_key (λ (e : ExtensionPlaces). e.whole.start) _ c.sort_unstable_by_key.ensures.sorted (λ a r q k. search rules))
+    (IsPermutation-trans _ _ _ c.sort_unstable_by.ensures.permutation c.sort_unstable_by_key.ensures.permutation)
+    c.requires
+    (IsNonDecreasingBy-from_sort_by_key
+    (λ (e : ExtensionPlaces). e.whole.start) _ c.sort_unstable_by_key.ensures.sorted (λ a r q k. search rules))

@@ -4,4 +4,5 @@ use Rattle.sig_certificate.specs.Places.{extension_of}
 use Rattle.sig_certificate.proofs.lookup.look_up.Given as goal
 
 abbrev pub invariant-loop-places : goal.invariant-loop-places
-invariant-loop-places l = Finds (with_oid l.oid (map (extension_of l.bytes) (take l.places-index l.extensions))) l.found
+invariant-loop-places l =
+    Finds (with_oid l.oid (map (extension_of l.bytes) (take l.places-index l.extensions))) l.found

@@ -16,7 +16,8 @@ pub returns-in-None-clause-exact : goal.returns-in-None-clause-exact
 returns-in-None-clause-exact c =
     let rest = left c.loop-rest.rest in
     let more = eqb-false (length rest) 0 (sym c.is_done.ensures ∙ c.loop-rest-test.true) in
-    fails_list extension_at _ rest _ (λ none. more (ap (λ (w : List ℕ). length w) none)) c.in-None.ensures.cut c.loop-rest.invariant.all
+    fails_list extension_at _ rest _
+    (λ none. more (ap (λ (w : List ℕ). length w) none)) c.in-None.ensures.cut c.loop-rest.invariant.all
 
 pub loop-rest-preserved : goal.loop-rest-preserved
 loop-rest-preserved c =
@@ -32,17 +33,21 @@ loop-rest-preserved c =
       buffer = c.in-Some.ensures.next.buffer ∙ c.loop-rest.invariant.buffer;
       ends = c.in-Some.ensures.next.ends ∙ c.loop-rest.invariant.ends;
       all = rw (c.in_ok-push-in-Some.ensures.items, map-append (extension_of bytes) found (e ∷ []))
-          (goes_on extension_at extension_at_shrinks (map (extension_of bytes) found) (left rest) (extension_read bytes (e, after))
-          (subst (λ (w : List ℕ). extension_at (left rest) ≡ some (extension_read w (e, after))) c.loop-rest.invariant.buffer c.in-Some.ensures.cut)
+          (goes_on extension_at extension_at_shrinks (map (extension_of bytes) found) (left rest)
+          (extension_read bytes (e, after))
+          (subst (λ (w : List ℕ). extension_at (left rest) ≡ some (extension_read w (e, after)))
+          c.loop-rest.invariant.buffer c.in-Some.ensures.cut)
           ∙ c.loop-rest.invariant.all);
       within = rw c.in_ok-push-in-Some.ensures.items
           (All-push (AreSpans c.args.reader.end) found e c.loop-rest.invariant.within
           (subst (λ (n : ℕ). AreSpans n e) c.loop-rest.invariant.ends c.in-Some.ensures.within));
       before = rw c.in_ok-push-in-Some.ensures.items
           (All-push (λ (f : ExtensionPlaces). f.whole.start < after.at) found e
-          (λ k d below. omega (arith, c.loop-rest.invariant.before k d below, later, next)) (omega (arith, starts, later, next)));
+          (λ k d below. omega (arith, c.loop-rest.invariant.before k d below, later, next))
+          (omega (arith, starts, later, next)));
       ascend = rw c.in_ok-push-in-Some.ensures.items
-          (all_pairs_push (λ (d f : ExtensionPlaces). d.whole.start < f.whole.start) found e c.loop-rest.invariant.ascend
+          (all_pairs_push (λ (d f : ExtensionPlaces). d.whole.start < f.whole.start) found e
+          c.loop-rest.invariant.ascend
           (λ k d below. omega (arith, c.loop-rest.invariant.before k d below, starts)));
     }
 
@@ -50,4 +55,5 @@ pub returns-clause-exact : goal.returns-clause-exact
 returns-clause-exact c =
     let rest = left c.loop-rest.rest in
     ends_list extension_at (map (extension_of c.args.reader.bytes.now) c.loop-rest.found.items) rest _
-    (nil_from_length rest (eqb-true (length rest) 0 (sym c.is_done.ensures ∙ c.loop-rest-test.false))) c.loop-rest.invariant.all
+    (nil_from_length rest (eqb-true (length rest) 0 (sym c.is_done.ensures ∙ c.loop-rest-test.false)))
+    c.loop-rest.invariant.all

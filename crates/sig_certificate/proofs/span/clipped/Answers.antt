@@ -4,4 +4,6 @@ use Rattle.sig_certificate.proofs.Spans.{clipped_part}
 use Rattle.sig_certificate.proofs.span.clipped.Goals as goal
 
 pub returns : goal.returns
-returns c = clipped_part c.args.bytes.now c.args.span.start c.args.span.end _ _ (omega arith) (omega arith) (omega arith) (omega arith)
+returns c =
+    clipped_part c.args.bytes.now c.args.span.start c.args.span.end _ _ (omega arith) (omega arith) (omega arith)
+    (omega arith)

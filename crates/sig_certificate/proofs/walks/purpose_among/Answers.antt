@@ -18,7 +18,9 @@ returns-in-None c =
 pub loop-purpose-preserved : goal.loop-purpose-preserved
 loop-purpose-preserved c =
     rw (c.either-found.ensures, c.eq.ensures)
-    (any_goes_on oid_at oid_at_shrinks (λ (p : List ℕ). bytes_eq p c.args.purpose.now) c.loop-purpose.found c.loop-purpose.rest.now _ c.in-Some.ensures
+    (any_goes_on oid_at oid_at_shrinks
+    (λ (p : List ℕ). bytes_eq p c.args.purpose.now) c.loop-purpose.found c.loop-purpose.rest.now _
+    c.in-Some.ensures
     ∙ c.loop-purpose.invariant)
 
 pub loop-purpose-smaller : goal.loop-purpose-smaller

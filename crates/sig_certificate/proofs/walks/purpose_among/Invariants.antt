@@ -8,7 +8,8 @@ use Rattle.sig_certificate.proofs.walks.purpose_among.Given as goal
 
 abbrev pub invariant-loop-purpose : goal.invariant-loop-purpose
 invariant-loop-purpose l =
-    any_more (λ p. bytes_eq p l.purpose) l.found (many_at oid_at l.rest) ≡ option_map (has_purpose l.purpose) (many_at oid_at l.bytes)
+    any_more (λ p. bytes_eq p l.purpose) l.found (many_at oid_at l.rest)
+    ≡ option_map (has_purpose l.purpose) (many_at oid_at l.bytes)
 
 abbrev pub decreases-loop-purpose : goal.decreases-loop-purpose
 decreases-loop-purpose l = length l.rest

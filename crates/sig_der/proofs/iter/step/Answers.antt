@@ -11,4 +11,5 @@ returns-in-Ok c = children_ok c.args.rest.now _ c.in-Ok.ensures.exact
 
 pub returns-in-Err : goal.returns-in-Err
 returns-in-Err c =
-    children_err_first c.args.rest.now _ (eqb-false (length c.args.rest.now) 0 (sym c.is_empty.ensures ∙ c.if-is_empty.false)) c.in-Err.ensures.exact
+    children_err_first c.args.rest.now _
+    (eqb-false (length c.args.rest.now) 0 (sym c.is_empty.ensures ∙ c.if-is_empty.false)) c.in-Err.ensures.exact

@@ -10,10 +10,12 @@ pub returns-in-Some-clause-found : goal.returns-in-Some-clause-found
 returns-in-Some-clause-found c =
     let fits : FitsSigned w64 c.in-Some.offset = omega (arith, ints, c.in-Some.ensures.day) in
     let value = simp to_z-of_z at c.second_before.ensures.value in
-    instant_found c.args.text.now (c.in-Some.moment, c.in-Some.offset) (sym c.in-Some.ensures.exact) c.second_before.result (c.second_before.ensures.real, value)
+    instant_found c.args.text.now (c.in-Some.moment, c.in-Some.offset)
+    (sym c.in-Some.ensures.exact) c.second_before.result (c.second_before.ensures.real, value)
 
 pub returns-in-Some-clause-only : goal.returns-in-Some-clause-only
 returns-in-Some-clause-only c =
     let fits : FitsSigned w64 c.in-Some.offset = omega (arith, ints, c.in-Some.ensures.day) in
     let value = simp to_z-of_z at c.second_before.ensures.value in
-    instant_only c.args.text.now (c.in-Some.moment, c.in-Some.offset) (sym c.in-Some.ensures.exact) c.second_before.result (c.second_before.ensures.real, value)
+    instant_only c.args.text.now (c.in-Some.moment, c.in-Some.offset)
+    (sym c.in-Some.ensures.exact) c.second_before.result (c.second_before.ensures.real, value)

@@ -14,5 +14,6 @@ pub returns-in-24-clause-only : goal.returns-in-24-clause-only
 returns-in-24-clause-only c = λ s is.
     elim is [
       | inl other ↦ absurd (let tag = c.in-24.is in omega (arith, other.0))
-      | inr generalized ↦ c.ok_or-in-24.ensures.value ∙ ap (λ o. ok_or o Value) (c.generalized_second.ensures.only s generalized.1)
+      | inr generalized ↦
+          c.ok_or-in-24.ensures.value ∙ ap (λ o. ok_or o Value) (c.generalized_second.ensures.only s generalized.1)
     ]

@@ -9,4 +9,5 @@ pub returns-in-Ok-clause-cut : goal.returns-in-Ok-clause-cut
 returns-in-Ok-clause-cut c =
     let r = c.args.self in
     take_any_ok _ _ _ (rw c.rest.ensures at c.in-Ok.ensures.exact)
-    (placed_is r.bytes.now r.at r.end r.ordered r.below c.in-Ok.element.tag _ _ _ (rw c.rest.ensures at c.in-Ok.ensures.found))
+    (placed_is r.bytes.now r.at r.end r.ordered r.below c.in-Ok.element.tag _ _ _
+    (rw c.rest.ensures at c.in-Ok.ensures.found))
