@@ -5,13 +5,15 @@ use Rattle.std.specs.List.{cons_option, filter_map, flat_map, list_any, join_by}
 use Rattle.std.proofs.lemmas.List.{append-nil}
 
 -- what was kept, and then what is kept of what is left, is all
-module _ {X Y : Type 0} (keep : X → Option Y) (front all : List Y) (left : List X) (is : front ++ filter_map keep left ≡ all) where
+module _ {X Y : Type 0} (keep : X → Option Y) (front all : List Y) (left : List X)
+    (is : front ++ filter_map keep left ≡ all) where
   pub kept_passes : (x : X) (rest : List X) → left ≡ x ∷ rest → keep x ≡ None → front ++ filter_map keep rest ≡ all
   kept_passes x rest first none =
       sym (ap (λ (w : List X). front ++ filter_map keep w) first
       ∙ ap (λ (o : Option Y). front ++ cons_option o (filter_map keep rest)) none) ∙ is
 
-  pub kept_takes : (x : X) (rest : List X) (y : Y) → left ≡ x ∷ rest → keep x ≡ Some y → (front ++ y ∷ []) ++ filter_map keep rest ≡ all
+  pub kept_takes : (x : X) (rest : List X) (y : Y) → left ≡ x ∷ rest → keep x ≡ Some y
+      → (front ++ y ∷ []) ++ filter_map keep rest ≡ all
   kept_takes x rest y first some =
       append_assoc front (y ∷ []) (filter_map keep rest)
       ∙ sym (ap (λ (w : List X). front ++ filter_map keep w) first
@@ -22,15 +24,18 @@ module _ {X Y : Type 0} (keep : X → Option Y) (front all : List Y) (left : Lis
 
 -- ---- texts that are seen through references
 
-pub list_any_seen : {A : Type 0} (test : List ℕ → Bool) (seen : A → List ℕ) (xs : List A) → list_any test (map seen xs) ≡ list_any (λ x. test (seen x)) xs
+pub list_any_seen : {A : Type 0} (test : List ℕ → Bool) (seen : A → List ℕ) (xs : List A)
+    → list_any test (map seen xs) ≡ list_any (λ x. test (seen x)) xs
 list_any_seen test seen [] = refl
 list_any_seen test seen (x ∷ xs) = ap (λ (b : Bool). test (seen x) || b) (list_any_seen test seen xs)
 
 flat_map_seen : {A : Type 0} (separator : List ℕ) (seen : A → List ℕ) (xs : List A)
     → flat_map (λ x. separator ++ seen x) xs ≡ flat_map (λ t. separator ++ t) (map seen xs)
 flat_map_seen separator seen [] = refl
-flat_map_seen separator seen (x ∷ xs) = ap (λ (w : List ℕ). (separator ++ seen x) ++ w) (flat_map_seen separator seen xs)
+flat_map_seen separator seen (x ∷ xs) =
+    ap (λ (w : List ℕ). (separator ++ seen x) ++ w) (flat_map_seen separator seen xs)
 
-pub join_by_seen : {A : Type 0} (separator : List ℕ) (seen : A → List ℕ) (xs : List A) → join_by seen separator xs ≡ join_by (λ t. t) separator (map seen xs)
+pub join_by_seen : {A : Type 0} (separator : List ℕ) (seen : A → List ℕ) (xs : List A)
+    → join_by seen separator xs ≡ join_by (λ t. t) separator (map seen xs)
 join_by_seen separator seen [] = refl
 join_by_seen separator seen (x ∷ xs) = ap (λ (w : List ℕ). seen x ++ w) (flat_map_seen separator seen xs)

@@ -1,9 +1,8 @@
 -- When an identity's policy holds, and when each of its refusals comes, in words.
-use Rattle.std.proofs.Common.{◌≡◌, ◌≢◌, ◌⊎◌, ℕ, Bool, true, false, ◌&&◌, cond, List, [], ◌∷◌, Option, Some, None, refl}
+use Rattle.std.proofs.Common.{◌≡◌, ◌≢◌, ℕ, Bool, true, false, ◌&&◌, List, [], ◌∷◌, Option, Some, None, refl}
 use Rattle.std.proofs.Common.{sym, ap, subst, ◌∙◌, inl, inr}
 use Rattle.std.specs.Prelude.{◌↔◌, codes, option_map}
-use Rattle.std.specs.List.{list_any, filter_map, join_by}
-use Rattle.std.specs.Str.{bytes_eq}
+use Rattle.std.specs.List.{filter_map}
 use Rattle.std.proofs.lemmas.Bool.{cases_Bool, cond-true, cond-false, and_parts, and_from}
 use Rattle.sig_base.proofs.OptionSteps.{some_is}
 use Rattle.sig_certificate.specs.Certificate.{Extension, Cert}
@@ -11,17 +10,18 @@ use Rattle.sig_certificate.specs.Lookups.{with_oid}
 use Rattle.sig_certificate.specs.Names.{Name, names_of}
 use Rattle.sig_der.specs.ObjectIdentifiers.{fulcio, subject_alternative_name}
 use Rattle.sig_policy.specs.Claim.{Claim}
-use Rattle.sig_policy.specs.Held.{HasText, HasIdentities, IsNamed, WhyNot, no_issuer, other_issuer, no_names}
+use Rattle.sig_policy.specs.Held.{HasText, HasIdentities, HasIdentity, WhyNot, no_issuer, other_issuer, no_names}
 use Rattle.sig_policy.specs.Held.{other_names, refusal_for}
-use Rattle.sig_policy.specs.Identities.{identity_of, identities_of, only_identities, identities, is_among}
+use Rattle.sig_policy.specs.Identities.{identity_of, only_identities, identities, is_among}
 use Rattle.sig_policy.specs.Identities.{name_refusal, is_issued_by, identity_holds, identity_refusal}
-use Rattle.sig_policy.specs.Refusals.{Refusal, not_found, check_failed}
+use Rattle.sig_policy.specs.Refusals.{Refusal, not_found}
 use Rattle.sig_policy.specs.Single.{extension_text, is_text, single_refusal}
 use Rattle.sig_policy.proofs.SingleLaws.{text_takes, text_again, holds_from, holds_is}
 
 -- ---- the identities of a certificate
 
-named_takes : (o : Option (List Name)) (texts : List (List ℕ)) → option_map (λ ns. filter_map identity_of ns) o ≡ Some texts
+named_takes : (o : Option (List Name)) (texts : List (List ℕ))
+    → option_map (λ ns. filter_map identity_of ns) o ≡ Some texts
     → (ns : List Name) × ((o ≡ Some ns) × (filter_map identity_of ns ≡ texts))
 named_takes None texts e = absurd cc
 named_takes (Some ns) texts e = (ns, (refl, some_is (filter_map identity_of ns) texts e))
@@ -29,7 +29,8 @@ named_takes (Some ns) texts e = (ns, (refl, some_is (filter_map identity_of ns) 
 pub identities_takes : (c : Cert) (texts : List (List ℕ)) → identities c ≡ Some texts → HasIdentities c texts
 identities_takes c texts e = by_list (with_oid subject_alternative_name c.extensions) refl e
   where
-    by_list : (es : List Extension) → with_oid subject_alternative_name c.extensions ≡ es → only_identities es ≡ Some texts → HasIdentities c texts
+    by_list : (es : List Extension) → with_oid subject_alternative_name c.extensions ≡ es
+        → only_identities es ≡ Some texts → HasIdentities c texts
     by_list [] is f = absurd cc
     by_list (x ∷ []) is f =
         let n = named_takes (names_of x.value) texts f in
@@ -48,7 +49,7 @@ module _ (p : Claim) (c : Cert) where
   abbrev Issuer : Option (List ℕ)
   Issuer = extension_text (fulcio 1) c
 
-  among_takes : (o : Option (List (List ℕ))) → identities c ≡ o → is_among p.identity o ≡ true → IsNamed c p.identity
+  among_takes : (o : Option (List (List ℕ))) → identities c ≡ o → is_among p.identity o ≡ true → HasIdentity c p.identity
   among_takes None e is = absurd cc
   among_takes (Some texts) e is = record { texts = texts; are = identities_takes c texts e; named = is }
 
@@ -58,12 +59,13 @@ module _ (p : Claim) (c : Cert) where
   issuer_from : is_issued_by p.issuer c ≡ true → HasText (fulcio 1) c p.issuer
   issuer_from e = text_takes (fulcio 1) c p.issuer (holds_from (codes "OIDCIssuer") p.issuer Issuer e)
 
-  pub identity_held : (identity_holds p c ≡ true) ↔ (HasText (fulcio 1) c p.issuer × IsNamed c p.identity)
+  pub identity_held : (identity_holds p c ≡ true) ↔ (HasText (fulcio 1) c p.issuer × HasIdentity c p.identity)
   identity_held = (
     (λ e. let parts = and_parts (is_issued_by p.issuer c) (is_among p.identity (identities c)) e in
         (issuer_from parts.0, among_takes (identities c) refl parts.1)),
     (λ h. and_from _ _ (issuer_is h.0)
-        (ap (λ (o : Option (List (List ℕ))). is_among p.identity o) (identities_again c h.1.texts h.1.are) ∙ h.1.named)),
+        (ap (λ (o : Option (List (List ℕ))). is_among p.identity o) (identities_again c h.1.texts h.1.are)
+        ∙ h.1.named)),
   )
 
   -- ---- the refusals
@@ -72,9 +74,13 @@ module _ (p : Claim) (c : Cert) where
   Refused r = (identity_holds p c ≡ false) × (identity_refusal p c ≡ r)
 
   -- the issuer is asked first
-  by_issuer : (r : Refusal) → is_issued_by p.issuer c ≡ false → single_refusal (codes "OIDCIssuer") p.issuer Issuer ≡ r → Refused r
-  by_issuer r out says =
-      (ap (λ (b : Bool). b && is_among p.identity (identities c)) out, cond-false (is_issued_by p.issuer c) _ _ out ∙ says)
+  by_issuer : (r : Refusal) → is_issued_by p.issuer c ≡ false → single_refusal (codes "OIDCIssuer") p.issuer Issuer ≡ r
+      → Refused r
+  by_issuer r out says = (
+    ap (λ (b : Bool). b && is_among p.identity (identities c)) out,
+    cond-false (is_issued_by p.issuer c) _ _ out
+        ∙ says,
+  )
 
   by_names : (r : Refusal) → HasText (fulcio 1) c p.issuer → is_among p.identity (identities c) ≡ false
       → name_refusal p.identity (identities c) ≡ r → Refused r
@@ -102,7 +108,8 @@ module _ (p : Claim) (c : Cert) where
       by_text (Some text) e = absurd (none text (text_takes (fulcio 1) c text e))
   caused (other_issuer actual has other) =
       by_issuer _ (not_issued actual has other)
-      (ap (λ (o : Option (List ℕ)). single_refusal (codes "OIDCIssuer") p.issuer o) (text_again (fulcio 1) c actual has))
+      (ap (λ (o : Option (List ℕ)). single_refusal (codes "OIDCIssuer") p.issuer o)
+      (text_again (fulcio 1) c actual has))
   caused (no_names issuer none) = by_option (identities c) refl
     where
       by_option : (o : Option (List (List ℕ))) → identities c ≡ o → Refused not_found
@@ -129,14 +136,16 @@ module _ (p : Claim) (c : Cert) where
       by_option None e = no_issuer (λ text has. let some = sym (text_again (fulcio 1) c text has) ∙ e in cc)
       by_option (Some actual) e =
           other_issuer actual (text_takes (fulcio 1) c actual e)
-          (λ same. let issued = issuer_is (subst (λ (t : List ℕ). HasText (fulcio 1) c t) same (text_takes (fulcio 1) c actual e)) in
+          (λ same. let issued = issuer_is
+          (subst (λ (t : List ℕ). HasText (fulcio 1) c t) same (text_takes (fulcio 1) c actual e)) in
           let wrong = sym issued ∙ out in cc)
 
   why : identity_holds p c ≡ false → WhyNot p c
   why fails =
       elim (cases_Bool (is_issued_by p.issuer c)) [
         | inl issued ↦
-            why_names (issuer_from issued) (sym (ap (λ (b : Bool). b && is_among p.identity (identities c)) issued) ∙ fails)
+            why_names (issuer_from issued) (sym (ap (λ (b : Bool). b && is_among p.identity (identities c)) issued)
+            ∙ fails)
         | inr out ↦ why_issuer out
       ]
 

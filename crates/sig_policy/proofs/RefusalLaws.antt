@@ -1,5 +1,5 @@
 -- An error says at most one refusal, and out of memory says none.
-use Rattle.std.proofs.Common.{◌≡◌, ℕ, List, [], ◌∷◌, refl, sym, ap, subst, ◌∙◌}
+use Rattle.std.proofs.Common.{◌≡◌, ℕ, List, refl, sym, ap, subst, ◌∙◌}
 use Rattle.sig_policy.specs.Failures.{IsAllOf, opens_as_all_of}
 use Rattle.sig_policy.specs.Refusals.{Refusal, Refusals, not_found, check_failed, all_of, any_of, no_refusals}
 use Rattle.sig_policy.specs.Refusals.{more_refusals}
@@ -28,7 +28,8 @@ never_memory (any_of n) e = let no = opens e in cc
 all_not : (n : ℕ) (es : List PolicyError) (e d : PolicyError) → IsAllOf n es e → e ≡ d → IsAllOf n es d
 all_not n es e d is same = subst (λ (x : PolicyError). IsAllOf n es x) same is
 
-same_parts : (n m : ℕ) (es ds : List PolicyError) (o : Opened) → opens_as_all_of n es o → opens_as_all_of m ds o → (n ≡ m) × (es ≡ ds)
+same_parts : (n m : ℕ) (es ds : List PolicyError) (o : Opened) → opens_as_all_of n es o → opens_as_all_of m ds o
+    → (n ≡ m) × (es ≡ ds)
 same_parts n m es ds (opened.AllOf k xs) a b = (sym a.0 ∙ b.0, sym a.1 ∙ b.1)
 same_parts n m es ds opened.ExtensionNotFound a b = absurd a
 same_parts n m es ds (opened.ExtensionCheckFailed x y z) a b = absurd a
@@ -51,7 +52,8 @@ mutual
   one_refusal (all_of n rs) (check_failed x y z) e a b = absurd (all_not n a.0 e (ExtensionCheckFailed x y z) a.1.0 b)
   one_refusal (all_of n rs) (all_of m ss) e a b =
       let parts = same_parts n m a.0 b.0 (out-PolicyError e) a.1.0 b.1.0 in
-      let same = each_refusal rs ss a.0 a.1.1 (subst (λ (w : List PolicyError). AreRefusals ss w) (sym parts.1) b.1.1) in
+      let same =
+      each_refusal rs ss a.0 a.1.1 (subst (λ (w : List PolicyError). AreRefusals ss w) (sym parts.1) b.1.1) in
       let number = parts.0 in
       cc
   one_refusal (all_of n rs) (any_of m) e a b = absurd (all_not n a.0 e (AnyOf m) a.1.0 b)
@@ -69,5 +71,6 @@ mutual
       let first : a.0 ≡ b.0 = cc in
       let rest : a.1.0 ≡ b.1.0 = cc in
       let front = one_refusal r s a.0 a.1.1.1.0 (subst (λ (x : PolicyError). IsRefusal s x) (sym first) b.1.1.1.0) in
-      let others = each_refusal rs ss a.1.0 a.1.1.1.1 (subst (λ (w : List PolicyError). AreRefusals ss w) (sym rest) b.1.1.1.1) in
+      let others =
+      each_refusal rs ss a.1.0 a.1.1.1.1 (subst (λ (w : List PolicyError). AreRefusals ss w) (sym rest) b.1.1.1.1) in
       cc

@@ -26,8 +26,8 @@ pub record HasIdentities (c : Cert) (texts : List (List ℕ)) : Type 0 where
   pub are : names_of extension.value ≡ Some names
   pub given : filter_map identity_of names ≡ texts
 
--- The identity is one of those that the certificate's names give.
-pub record IsNamed (c : Cert) (identity : List ℕ) : Type 0 where
+-- The certificate has this identity: it is one of those that its names give.
+pub record HasIdentity (c : Cert) (identity : List ℕ) : Type 0 where
   pub texts : List (List ℕ)
   pub are : HasIdentities c texts
   pub named : list_any (λ t. bytes_eq t identity) texts ≡ true

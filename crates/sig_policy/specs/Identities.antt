@@ -20,7 +20,7 @@ identity_of (Uri text) = utf8_text text
 identity_of (Other oid value) = if bytes_eq oid (fulcio 7) then utf8_text value else None
 identity_of Unread = None
 
--- the identities that a subject alternative name of this value gives, in order; none where it is malformed
+-- the identities that a subject alternative name of this value gives, in order; absent if it is malformed
 abbrev pub identities_of : List ℕ → Option (List (List ℕ))
 identities_of value = option_map (λ ns. filter_map identity_of ns) (names_of value)
 

@@ -5,5 +5,6 @@ pub mod Verdict
 pub mod Single
 pub mod Claim
 pub mod Identities
+pub mod Said
 pub mod Held
 pub mod Requests

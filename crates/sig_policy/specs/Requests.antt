@@ -1,10 +1,10 @@
 -- The policies of a request: a list of which each, or at least one, has to hold.
-use Rattle.std.specs.Prelude.{ℕ, List, length, Bool, Option, Some, None, codes, if◌then◌else◌}
+use Rattle.std.specs.Prelude.{List, length, Bool, ◌&&◌, Option, Some, None, codes, if◌then◌else◌}
 use Rattle.std.specs.List.{list_all, list_any, filter_map}
 use Rattle.sig_certificate.specs.Certificate.{Cert}
-use Rattle.sig_der.specs.ObjectIdentifiers.{fulcio}
-use Rattle.sig_policy.specs.Single.{extension_text, is_text, single_refusal}
-use Rattle.sig_policy.specs.Identities.{identity_holds, identity_refusal}
+use Rattle.sig_policy.specs.Single.{is_text, single_refusal}
+use Rattle.sig_policy.specs.Identities.{is_among, name_refusal}
+use Rattle.sig_policy.specs.Said.{Values, values_of}
 use Rattle.sig_policy.specs.Refusals.{Refusal, all_of, any_of, refusals_of}
 use Rattle.sig_policy.specs.declared.request.LeafPolicy.{LeafPolicy}
 use Rattle.sig_policy.specs.declared.request.LeafPolicy.TheVariants.{OIDCIssuer, GitHubWorkflowTrigger}
@@ -16,29 +16,32 @@ use Rattle.sig_policy.specs.declared.request.RequestPolicy.TheVariants.{All, Any
 
 -- ---- one policy
 
-abbrev pub holds_at : ℕ → List ℕ → Cert → Bool
-holds_at n asked c = is_text asked (extension_text (fulcio n) c)
+-- by the values that a certificate says
+abbrev pub holds_by : LeafPolicy → Values → Bool
+holds_by (OIDCIssuer p) v = is_text p.0 v.issuer
+holds_by (GitHubWorkflowTrigger p) v = is_text p.0 v.trigger
+holds_by (GitHubWorkflowSHA p) v = is_text p.0 v.sha
+holds_by (GitHubWorkflowName p) v = is_text p.0 v.name
+holds_by (GitHubWorkflowRepository p) v = is_text p.0 v.repository
+holds_by (GitHubWorkflowRef p) v = is_text p.0 v.git_ref
+holds_by (Identity p) v = is_text p.issuer v.issuer && is_among p.identity v.identities
 
-abbrev pub refusal_at : ℕ → List ℕ → List ℕ → Cert → Refusal
-refusal_at n name asked c = single_refusal name asked (extension_text (fulcio n) c)
+abbrev pub refusal_by : LeafPolicy → Values → Refusal
+refusal_by (OIDCIssuer p) v = single_refusal (codes "OIDCIssuer") p.0 v.issuer
+refusal_by (GitHubWorkflowTrigger p) v = single_refusal (codes "GitHubWorkflowTrigger") p.0 v.trigger
+refusal_by (GitHubWorkflowSHA p) v = single_refusal (codes "GitHubWorkflowSHA") p.0 v.sha
+refusal_by (GitHubWorkflowName p) v = single_refusal (codes "GitHubWorkflowName") p.0 v.name
+refusal_by (GitHubWorkflowRepository p) v = single_refusal (codes "GitHubWorkflowRepository") p.0 v.repository
+refusal_by (GitHubWorkflowRef p) v = single_refusal (codes "GitHubWorkflowRef") p.0 v.git_ref
+refusal_by (Identity p) v =
+    if is_text p.issuer v.issuer then name_refusal p.identity v.identities
+    else single_refusal (codes "OIDCIssuer") p.issuer v.issuer
 
 abbrev pub leaf_holds : LeafPolicy → Cert → Bool
-leaf_holds (OIDCIssuer p) c = holds_at 1 p.0 c
-leaf_holds (GitHubWorkflowTrigger p) c = holds_at 2 p.0 c
-leaf_holds (GitHubWorkflowSHA p) c = holds_at 3 p.0 c
-leaf_holds (GitHubWorkflowName p) c = holds_at 4 p.0 c
-leaf_holds (GitHubWorkflowRepository p) c = holds_at 5 p.0 c
-leaf_holds (GitHubWorkflowRef p) c = holds_at 6 p.0 c
-leaf_holds (Identity p) c = identity_holds p c
+leaf_holds p c = holds_by p (values_of c)
 
 abbrev pub leaf_refusal : LeafPolicy → Cert → Refusal
-leaf_refusal (OIDCIssuer p) c = refusal_at 1 (codes "OIDCIssuer") p.0 c
-leaf_refusal (GitHubWorkflowTrigger p) c = refusal_at 2 (codes "GitHubWorkflowTrigger") p.0 c
-leaf_refusal (GitHubWorkflowSHA p) c = refusal_at 3 (codes "GitHubWorkflowSHA") p.0 c
-leaf_refusal (GitHubWorkflowName p) c = refusal_at 4 (codes "GitHubWorkflowName") p.0 c
-leaf_refusal (GitHubWorkflowRepository p) c = refusal_at 5 (codes "GitHubWorkflowRepository") p.0 c
-leaf_refusal (GitHubWorkflowRef p) c = refusal_at 6 (codes "GitHubWorkflowRef") p.0 c
-leaf_refusal (Identity p) c = identity_refusal p c
+leaf_refusal p c = refusal_by p (values_of c)
 
 -- ---- a list of policies, of which each holds by `holds`, or has this refusal
 

@@ -6,7 +6,7 @@ use Rattle.sig_certificate.specs.Lookups.{with_oid}
 use Rattle.sig_policy.specs.Texts.{utf8_text}
 use Rattle.sig_policy.specs.Refusals.{Refusal, not_found, check_failed}
 
--- the value of the only extension, where it is UTF-8
+-- the value of the only extension, if it is UTF-8
 abbrev pub only_text : List Extension → Option (List ℕ)
 only_text [] = None
 only_text (e ∷ []) = utf8_text e.value
@@ -20,7 +20,7 @@ abbrev pub is_text : List ℕ → Option (List ℕ) → Bool
 is_text asked None = false
 is_text asked (Some actual) = bytes_eq actual asked
 
--- why the text is not the one asked for
+-- why the text is not the one asked for: it is absent, or another
 abbrev pub single_refusal : List ℕ → List ℕ → Option (List ℕ) → Refusal
 single_refusal name asked None = not_found
 single_refusal name asked (Some actual) = check_failed name asked actual

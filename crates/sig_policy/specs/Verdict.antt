@@ -5,6 +5,6 @@ use Rattle.sig_policy.specs.declared.failure.PolicyError.{PolicyError}
 use Rattle.sig_policy.specs.declared.failure.PolicyError.TheVariants.{OutOfMemory}
 
 -- Ok only if the policy holds; else memory ran out, or the policy does not hold and the error says its refusal
-abbrev pub IsVerdict : {A : Type 0} → Bool → Refusal → Result A PolicyError → Type 0
-IsVerdict holds refusal (Ok _) = holds ≡ true
-IsVerdict holds refusal (Err e) = (e ≡ OutOfMemory) ⊎ ((holds ≡ false) × IsRefusal refusal e)
+abbrev pub IsPolicyResult : {A : Type 0} → Bool → Refusal → Result A PolicyError → Type 0
+IsPolicyResult holds refusal (Ok _) = holds ≡ true
+IsPolicyResult holds refusal (Err e) = (e ≡ OutOfMemory) ⊎ ((holds ≡ false) × IsRefusal refusal e)

@@ -79,10 +79,10 @@ impl PolicyErrors {
     }
 
     /// Returns the refusal at an index. `None` if the index is not below the length.
-    pub fn get(&self, place: usize) -> Option<&PolicyError>
-        ensures { option_copied result ≡ slice_get (failures self.now) place }
+    pub fn get(&self, index: usize) -> Option<&PolicyError>
+        ensures { option_copied result ≡ slice_get (failures self.now) index }
     {
-        self.items.as_slice().get(place)
+        self.items.as_slice().get(index)
     }
 }
 

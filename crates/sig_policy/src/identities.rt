@@ -42,9 +42,8 @@ fn given(alloc: Global, names: AlternativeNames<'_>) -> Result<Vec<&str>, OutOfM
 {
     let mut found = Vec::new(alloc);
     for name in names {
-        match identity_of(name) {
-            Some(text) => found.push(text)?,
-            None => {}
+        if let Some(text) = identity_of(name) {
+            found.push(text)?;
         }
     }
     Ok(found)

@@ -4,7 +4,7 @@ ghost use Rattle.std.specs.Prelude.{◌≡◌, Some, option_map, map, codes, IfO
 ghost use Rattle.std.specs.List.{list_any, join_by};
 ghost use Rattle.std.specs.Str.{bytes_eq};
 ghost use Rattle.sig_policy.specs.Identities.{identities, is_among, name_refusal, identity_holds, identity_refusal};
-ghost use Rattle.sig_policy.specs.Verdict.{IsVerdict};
+ghost use Rattle.sig_policy.specs.Verdict.{IsPolicyResult};
 
 use crate::failure::PolicyError;
 use crate::fulcio::OIDCIssuer;
@@ -41,6 +41,20 @@ impl Identity {
         let issuer = OIDCIssuer::new(alloc, issuer)?;
         Ok(Identity { identity, issuer })
     }
+
+    /// Returns the identity.
+    pub(crate) fn identity(&self) -> &str
+        ensures { result.now ≡ self.now.identity }
+    {
+        self.identity.as_str()
+    }
+
+    /// Returns the policy of the issuer.
+    pub(crate) fn issuer(&self) -> &OIDCIssuer
+        ensures { result.now.0 ≡ self.now.issuer }
+    {
+        &self.issuer
+    }
 }
 
 impl VerificationPolicy for Identity {
@@ -62,19 +76,40 @@ impl VerificationPolicy for Identity {
 }
 
 fn verify_name(alloc: Global, identity: &str, cert: &Certificate) -> PolicyResult
-    ensures { IsVerdict
+    ensures { IsPolicyResult
         (is_among identity.now (identities cert.now))
         (name_refusal identity.now (identities cert.now))
         result }
 {
-    match identities(alloc, cert)? {
+    let texts = identities(alloc, cert)?;
+    judge_name(alloc, identity, &texts)
+}
+
+/// Returns what the policy returns, if its issuer is the certificate's and the certificate names these identities.
+pub(crate) fn judge_name(alloc: Global, identity: &str, texts: &Option<Vec<&str>>) -> PolicyResult
+    ensures { IsPolicyResult
+        (is_among identity.now (option_map (λ v. map (λ t. t.now) v.items) texts.now))
+        (name_refusal identity.now (option_map (λ v. map (λ t. t.now) v.items) texts.now))
+        result }
+{
+    match texts {
         None => Err(PolicyError::ExtensionNotFound),
         Some(texts) => verify_among(alloc, identity, texts.as_slice()),
     }
 }
 
+/// Whether the identity is one of these.
+pub(crate) fn is_among(identity: &str, texts: &Option<Vec<&str>>) -> bool
+    ensures { result ≡ is_among identity.now (option_map (λ v. map (λ t. t.now) v.items) texts.now) }
+{
+    match texts {
+        None => false,
+        Some(texts) => contains(texts.as_slice(), identity),
+    }
+}
+
 fn verify_among(alloc: Global, identity: &str, texts: &[&str]) -> PolicyResult
-    ensures { IsVerdict
+    ensures { IsPolicyResult
         (is_among identity.now (Some (map (λ t. t.now) texts.now)))
         (name_refusal identity.now (Some (map (λ t. t.now) texts.now)))
         result }
@@ -104,7 +139,10 @@ fn joined(alloc: Global, texts: &[&str]) -> Result<Text, OutOfMemory>
 
 /// Returns the identities that the certificate names. `None` if it has not exactly one well-formed subject alternative
 /// name. Fails only if out of memory.
-fn identities(alloc: Global, cert: &Certificate) -> Result<Option<Vec<&str>>, OutOfMemory>
+pub(crate) fn identities(
+    alloc: Global,
+    cert: &Certificate,
+) -> Result<Option<Vec<&str>>, OutOfMemory>
     ensures { IfOk result (λ o. option_map (λ v. map (λ t. t.now) v.items) o ≡ identities cert.now) }
 {
     match cert.extension(oid::SUBJECT_ALTERNATIVE_NAME) {

@@ -5,7 +5,7 @@ ghost use Rattle.std.specs.Prelude.{◌≡◌, ◌↔◌, true, false};
 ghost use Rattle.sig_certificate.specs.Certificate.{Cert};
 ghost use Rattle.sig_der.specs.ObjectIdentifiers.{fulcio};
 ghost use Rattle.sig_policy.specs.Claim.{Claim};
-ghost use Rattle.sig_policy.specs.Held.{HasText, IsNamed, WhyNot, refusal_for};
+ghost use Rattle.sig_policy.specs.Held.{HasText, HasIdentity, WhyNot, refusal_for};
 ghost use Rattle.sig_policy.specs.Identities.{identity_holds, identity_refusal};
 ghost use Rattle.sig_policy.specs.Refusals.{Refusal, IsRefusal};
 ghost use Rattle.sig_policy.specs.declared.failure.PolicyError.{PolicyError};
@@ -23,7 +23,7 @@ pub fn refusal_laws()
 /// not, its refusal is that of the first rule that is broken, and no other.
 pub fn identity_laws()
     ensures held { (p : Claim) (c : Cert) → (identity_holds p c ≡ true)
-        ↔ (HasText (fulcio 1) c p.issuer × IsNamed c p.identity) }
+        ↔ (HasText (fulcio 1) c p.issuer × HasIdentity c p.identity) }
     ensures caused { (p : Claim) (c : Cert) (w : WhyNot p c)
         → (identity_holds p c ≡ false) × (identity_refusal p c ≡ refusal_for p c w) }
     ensures cause { (p : Claim) (c : Cert) → identity_holds p c ≡ false

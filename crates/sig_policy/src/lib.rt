@@ -15,7 +15,9 @@ mod identity;
 mod laws;
 mod policy;
 mod request;
+mod said;
 mod single;
+mod subject;
 mod utf8;
 
 pub use boxed::{AllOf, AnyOf};

@@ -3,7 +3,7 @@
 ghost use Rattle.std.specs.Prelude.{Bool};
 ghost use Rattle.sig_certificate.specs.Certificate.{Cert};
 ghost use Rattle.sig_policy.specs.Refusals.{Refusal};
-ghost use Rattle.sig_policy.specs.Verdict.{IsVerdict};
+ghost use Rattle.sig_policy.specs.Verdict.{IsPolicyResult};
 
 use crate::failure::PolicyError;
 use sig_certificate::Certificate;
@@ -24,5 +24,5 @@ pub trait VerificationPolicy: Drop {
     /// says its refusal. `OutOfMemory` says nothing of the certificate, also if a policy that this one asks ran out of
     /// memory.
     fn verify(&self, alloc: Global, cert: &Certificate) -> PolicyResult
-        ensures { IsVerdict (holds self.now cert.now) (refusal self.now cert.now) result };
+        ensures { IsPolicyResult (holds self.now cert.now) (refusal self.now cert.now) result };
 }

@@ -6,7 +6,7 @@ ghost use Rattle.sig_policy.specs.Requests.{leaf_holds, leaf_refusal, refused, r
 ghost use Rattle.sig_policy.specs.Requests.{request_refusal};
 ghost use Rattle.sig_policy.specs.Failures.{failures};
 ghost use Rattle.sig_policy.specs.Refusals.{any_of, refusals_of, AreRefusals, IsRefusalOf};
-ghost use Rattle.sig_policy.specs.Verdict.{IsVerdict};
+ghost use Rattle.sig_policy.specs.Verdict.{IsPolicyResult};
 
 use crate::failure::{PolicyError, PolicyErrors, all_of};
 use crate::fulcio::{
@@ -15,6 +15,8 @@ use crate::fulcio::{
 };
 use crate::identity::Identity;
 use crate::policy::{PolicyResult, VerificationPolicy};
+use crate::said::said_by;
+use crate::subject::Subject;
 use sig_base::{OutOfMemory, Register};
 use sig_certificate::Certificate;
 use std::alloc::Global;
@@ -78,22 +80,25 @@ impl VerificationPolicy for RequestPolicy {
     /// of those that do not hold, in order. `Any`: returns `Ok` if and only if at least one holds, else `AnyOf` with
     /// the number of policies.
     fn verify(&self, alloc: Global, cert: &Certificate) -> PolicyResult {
+        // The certificate is read once, since its maker chooses how many extensions it has.
+        let said = said_by(alloc, cert)?;
         match self {
-            RequestPolicy::All(policies) => verify_all(alloc, policies.as_slice(), cert),
-            RequestPolicy::Any(policies) => verify_any(alloc, policies.as_slice(), cert),
+            RequestPolicy::All(policies) => verify_all(alloc, policies.as_slice(), &said),
+            RequestPolicy::Any(policies) => verify_any(alloc, policies.as_slice(), &said),
         }
     }
 }
 
 /// Returns `None` if the policy holds, else its refusal. Fails only if out of memory.
-fn refusal<P: VerificationPolicy>(
+fn refused<P, S: Subject<P>>(
     alloc: Global,
     policy: &P,
-    cert: &Certificate,
+    subject: &S,
 ) -> Result<Option<PolicyError>, OutOfMemory>
-    ensures { IfOk result (IsRefusalOf (refused (λ p. P.holds p cert.now) (λ p. P.refusal p cert.now) policy.now)) }
+    ensures { IfOk result (IsRefusalOf
+        (refused (λ p. S.holds subject.now p) (λ p. S.refusal subject.now p) policy.now)) }
 {
-    match policy.verify(alloc, cert) {
+    match subject.judge(alloc, policy) {
         Ok(()) => Ok(None),
         Err(PolicyError::OutOfMemory) => Err(OutOfMemory),
         Err(error) => Ok(Some(error)),
@@ -101,52 +106,51 @@ fn refusal<P: VerificationPolicy>(
 }
 
 /// Returns the refusals of the policies that do not hold, in order. Fails only if out of memory.
-fn refusals<P: VerificationPolicy>(
+fn refusals<P, S: Subject<P>>(
     alloc: Global,
     policies: &[P],
-    cert: &Certificate,
+    subject: &S,
 ) -> Result<PolicyErrors, OutOfMemory>
     ensures { IfOk result (λ es. AreRefusals
-        (refusals_of (refusals (λ p. P.holds p cert.now) (λ p. P.refusal p cert.now) policies.now)) (failures es)) }
+        (refusals_of (refusals (λ p. S.holds subject.now p) (λ p. S.refusal subject.now p) policies.now))
+        (failures es)) }
 {
     let mut errors = PolicyErrors::new(alloc);
     for policy in policies {
-        match refusal(alloc, policy, cert)? {
-            Some(error) => errors.push(error)?,
-            None => {}
+        if let Some(error) = refused(alloc, policy, subject)? {
+            errors.push(error)?;
         }
     }
     Ok(errors)
 }
 
-pub(crate) fn verify_all<P: VerificationPolicy>(
+pub(crate) fn verify_all<P, S: Subject<P>>(
     alloc: Global,
     policies: &[P],
-    cert: &Certificate,
+    subject: &S,
 ) -> PolicyResult
-    ensures { IsVerdict
-        (list_all (λ p. P.holds p cert.now) policies.now)
-        (all_refusal (λ p. P.holds p cert.now) (λ p. P.refusal p cert.now) policies.now)
+    ensures { IsPolicyResult
+        (list_all (λ p. S.holds subject.now p) policies.now)
+        (all_refusal (λ p. S.holds subject.now p) (λ p. S.refusal subject.now p) policies.now)
         result }
 {
-    let errors = refusals(alloc, policies, cert)?;
+    let errors = refusals(alloc, policies, subject)?;
     if errors.len() == 0 {
         return Ok(());
     }
     Err(all_of(policies.len(), errors))
 }
 
-pub(crate) fn verify_any<P: VerificationPolicy>(
+pub(crate) fn verify_any<P, S: Subject<P>>(
     alloc: Global,
     policies: &[P],
-    cert: &Certificate,
+    subject: &S,
 ) -> PolicyResult
-    ensures { IsVerdict (list_any (λ p. P.holds p cert.now) policies.now) (any_of (length policies.now)) result }
+    ensures { IsPolicyResult (list_any (λ p. S.holds subject.now p) policies.now) (any_of (length policies.now)) result }
 {
     for policy in policies {
-        match refusal(alloc, policy, cert)? {
-            Some(_) => {}
-            None => return Ok(()),
+        if subject.meets(alloc, policy)? {
+            return Ok(());
         }
     }
     Err(PolicyError::AnyOf {

@@ -6,7 +6,7 @@ ghost use Rattle.sig_certificate.specs.Certificate.{Cert};
 ghost use Rattle.sig_policy.specs.Single.{extension_text, is_text, single_refusal};
 ghost use Rattle.sig_policy.specs.Held.{HasText};
 ghost use Rattle.sig_policy.specs.Refusals.{IsRefusal, check_failed};
-ghost use Rattle.sig_policy.specs.Verdict.{IsVerdict};
+ghost use Rattle.sig_policy.specs.Verdict.{IsPolicyResult};
 
 use crate::failure::PolicyError;
 use crate::policy::{PolicyResult, VerificationPolicy};
@@ -75,7 +75,7 @@ pub fn verify_single<T: SingleX509ExtPolicy>(
         (Err (PolicyError.ExtensionCheckFailed T.title (T.asked policy.now) actual))
         (HasText T.identifier cert.now actual × (actual ≢ T.asked policy.now)) }
     // The same by the definition.
-    ensures verdict { IsVerdict
+    ensures verdict { IsPolicyResult
         (is_text (T.asked policy.now) (extension_text T.identifier cert.now))
         (single_refusal T.title (T.asked policy.now) (extension_text T.identifier cert.now))
         result }
@@ -84,12 +84,36 @@ pub fn verify_single<T: SingleX509ExtPolicy>(
 }
 
 fn check<T: SingleX509ExtPolicy>(alloc: Global, policy: &T, cert: &Certificate) -> PolicyResult
-    ensures { IsVerdict
+    ensures { IsPolicyResult
         (is_text (T.asked policy.now) (extension_text T.identifier cert.now))
         (single_refusal T.title (T.asked policy.now) (extension_text T.identifier cert.now))
         result }
 {
-    let Some(actual) = extension_text(cert, T::oid()) else {
+    judge_text(alloc, policy, extension_text(cert, T::oid()))
+}
+
+/// Whether the text of the policy's extension is there, and is the one that the policy asks for.
+pub(crate) fn is_text<T: SingleX509ExtPolicy>(policy: &T, text: Option<&str>) -> bool
+    ensures { result ≡ is_text (T.asked policy.now) (option_map (λ t. t.now) text.entry) }
+{
+    match text {
+        Some(actual) => actual == policy.value(),
+        None => false,
+    }
+}
+
+/// Returns what the policy returns if its extension has this text.
+pub(crate) fn judge_text<T: SingleX509ExtPolicy>(
+    alloc: Global,
+    policy: &T,
+    text: Option<&str>,
+) -> PolicyResult
+    ensures { IsPolicyResult
+        (is_text (T.asked policy.now) (option_map (λ t. t.now) text.entry))
+        (single_refusal T.title (T.asked policy.now) (option_map (λ t. t.now) text.entry))
+        result }
+{
+    let Some(actual) = text else {
         return Err(PolicyError::ExtensionNotFound);
     };
     if actual == policy.value() {

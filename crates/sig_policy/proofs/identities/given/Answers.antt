@@ -10,12 +10,14 @@ pub loop-name-preserved : goal.loop-name-preserved
 loop-name-preserved c = (
   tt,
   tt,
-  kept_passes identity_of (map (λ (t : Bor (List ℕ)). t.now) c.loop-name.found.items) _ (names_left c.loop-name.name-iterator)
+  kept_passes identity_of (map (λ (t : Bor (List ℕ)). t.now) c.loop-name.found.items) _
+      (names_left c.loop-name.name-iterator)
       c.loop-name.invariant.2 (borrowed_name c.in-Some.name) (names_left c.next.new.self) c.in-Some.ensures.steps
-      (sym c.in-None-identity_of.ensures),
+      (sym (rw c.in_default.is at c.identity_of.ensures)),
 )
 
 pub returns : goal.returns
 returns c =
-    kept_ends identity_of (map (λ (t : Bor (List ℕ)). t.now) c.loop-name.found.items) _ (names_left c.loop-name.name-iterator)
+    kept_ends identity_of (map (λ (t : Bor (List ℕ)). t.now) c.loop-name.found.items) _
+    (names_left c.loop-name.name-iterator)
     c.loop-name.invariant.2 c.in-None.ensures.steps.0

@@ -8,5 +8,7 @@ use Rattle.sig_policy.proofs.request.refusals.Given as goal
 abbrev pub invariant-loop-policy : goal.invariant-loop-policy
 invariant-loop-policy g l =
     AreRefusals
-    (refusals_of (refusals (λ p. g.P.VerificationPolicy.holds p l.cert) (λ p. g.P.VerificationPolicy.refusal p l.cert) (take l.policy-index l.policies)))
+    (refusals_of
+    (refusals (λ p. g.S.Subject.holds l.subject p) (λ p. g.S.Subject.refusal l.subject p)
+    (take l.policy-index l.policies)))
     (failures l.errors)
