@@ -5,7 +5,8 @@ use Rattle.sig_base.specs.Answers.{Answers, ComesWhere}
 abbrev err : (X : Type 0) {E : Type 0} → E → Result X E
 err X e = Err e
 
-pub comes_where : {X E : Type 0} (memory : E) (r m answer : Result X E) (P : Type 0) → Answers memory (λ (x : X). x) r m
+pub comes_where : {X E : Type 0} (memory : E) (r m answer : Result X E) (P : Type 0)
+    → Answers memory (λ (x : X). x) r m
     → answer ≢ Err memory → (m ≡ answer → P) → (P → m ≡ answer) → ComesWhere memory r answer P
 comes_where memory (Ok x) m answer P is other to from = ((λ e. to (is ∙ e)), (λ p. inr (sym is ∙ from p)))
 comes_where {X = X} memory (Err e) m answer P is other to from = by_cause is

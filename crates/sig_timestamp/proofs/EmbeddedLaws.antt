@@ -35,8 +35,15 @@ only_fits value text is fits =
     let one = subst (λ (w : List ℕ). IsBytes w) (is.joined.parts ∙ append-nil (vector text)) list in
     IsBytes-right (two_bytes (length text)) text one
 
-of_text : (v text : List ℕ) → IsBytes v → IsSctList v (text ∷ []) → (o : Option Sct) → sct_at text ≡ o → IsSaidOfValue v (sct_or_not o)
-of_text v text fits lists None e = inr (record { text = text; lists = lists; none = λ s is. let again = sct_at_again text s is in let no = sym e ∙ again in cc })
+of_text : (v text : List ℕ) → IsBytes v → IsSctList v (text ∷ []) → (o : Option Sct) → sct_at text ≡ o
+    → IsSaidOfValue v (sct_or_not o)
+of_text v text fits lists None e =
+    inr (record {
+      text = text;
+      lists = lists;
+      none = λ s is. let again = sct_at_again text s is in let no = sym e
+          ∙ again in cc;
+    })
 of_text v text fits lists (Some s) e = (text, (lists, sct_at_takes text (only_fits v text lists fits) s e))
 
 pub value_said : (v : List ℕ) → IsBytes v → IsSaidOfValue v (sct_of_value v)
@@ -47,7 +54,8 @@ value_said v fits = of_list (sct_list_at v) refl
     of_list None e = inl (λ texts is. let again = sct_list_at_again v texts is in let no = sym e ∙ again in cc)
     of_list (Some []) e = ([], (sct_list_at_takes v fits [] e, λ n. omega arith))
     of_list (Some (text ∷ [])) e = of_text v text fits (sct_list_at_takes v fits (text ∷ []) e) (sct_at text) refl
-    of_list (Some (text ∷ other ∷ texts)) e = (text ∷ other ∷ texts, (sct_list_at_takes v fits (text ∷ other ∷ texts) e, λ n. omega arith))
+    of_list (Some (text ∷ other ∷ texts)) e =
+        (text ∷ other ∷ texts, (sct_list_at_takes v fits (text ∷ other ∷ texts) e, λ n. omega arith))
 
 -- ---- a certificate
 
@@ -74,7 +82,8 @@ has_reads : (c : Cert) (s : Sct) → HasSct c s → sct_of c ≡ Ok s
 unfolding sct_of_value
 has_reads c s h =
     sym (read_one c h.extension h.one)
-    ∙ ap (λ (o : Option (List (List ℕ))). sct_in (only_one o)) (sct_list_at_again h.extension.value (h.text ∷ []) h.lists)
+    ∙ ap (λ (o : Option (List (List ℕ))). sct_in (only_one o))
+    (sct_list_at_again h.extension.value (h.text ∷ []) h.lists)
     ∙ ap (λ (o : Option Sct). sct_or_not o) (sct_at_again h.text s h.is)
 
 other_texts : (texts : List (List ℕ)) → length texts ≢ 1 → sct_in (only_one (Some texts)) ≡ Err LeafSCTMissing
@@ -87,7 +96,8 @@ unfolding sct_of sct_of_value
 lacks_reads c (inl n) = sym (not_one (sct_extensions c) n)
 lacks_reads c (inr h) =
     sym (read_one c h.extension h.one)
-    ∙ ap (λ (o : Option (List (List ℕ))). sct_in (only_one o)) (sct_list_at_again h.extension.value h.texts h.lists) ∙ other_texts h.texts h.others
+    ∙ ap (λ (o : Option (List (List ℕ))). sct_in (only_one o)) (sct_list_at_again h.extension.value h.texts h.lists)
+    ∙ other_texts h.texts h.others
 
 -- a list is read in one way, and so is not both malformed and well formed
 same_list : (v : List ℕ) (a b : Texts) → IsSctList v a → IsSctList v b → a ≡ b
@@ -96,13 +106,17 @@ same_list v a b is other = some_is a b (sym (sct_list_at_again v a is) ∙ sct_l
 same_extension : (c : Cert) (e f : Extension) → sct_extensions c ≡ e ∷ [] → sct_extensions c ≡ f ∷ [] → e ≡ f
 same_extension c e f is other = let both : e ∷ [] ≡ f ∷ [] = sym is ∙ other in cc
 
-bad_list : (v : List ℕ) (texts : Texts) → IsSctList v texts → IsNoList v ⊎ ListsNoSct v → (text : List ℕ) × (texts ≡ text ∷ []) × ((s : Sct) → ¬ IsSct text s)
+bad_list : (v : List ℕ) (texts : Texts) → IsSctList v texts → IsNoList v ⊎ ListsNoSct v
+    → (text : List ℕ) × (texts ≡ text ∷ []) × ((s : Sct) → ¬ IsSct text s)
 bad_list v texts is (inl none) = absurd (none texts is)
 bad_list v texts is (inr l) = (l.text, same_list v texts (l.text ∷ []) is l.lists, l.none)
 
-bad_text : (c : Cert) (e : Extension) (texts : Texts) → sct_extensions c ≡ e ∷ [] → IsSctList e.value texts → HasBadSct c
+bad_text : (c : Cert) (e : Extension) (texts : Texts) → sct_extensions c ≡ e ∷ [] → IsSctList e.value texts
+    → HasBadSct c
     → (text : List ℕ) × (texts ≡ text ∷ []) × ((s : Sct) → ¬ IsSct text s)
-bad_text c e texts one is b = bad_list e.value texts is (subst (λ (f : Extension). IsNoList f.value ⊎ ListsNoSct f.value) (same_extension c b.extension e b.one one) b.bad)
+bad_text c e texts one is b =
+    bad_list e.value texts is
+    (subst (λ (f : Extension). IsNoList f.value ⊎ ListsNoSct f.value) (same_extension c b.extension e b.one one) b.bad)
 
 has_none_bad : (c : Cert) (s : Sct) → HasSct c s → HasBadSct c → ⊥
 has_none_bad c s h b =
@@ -125,7 +139,8 @@ bad_reads c (Err IssuerMissing) said b = absurd said
 abbrev Answer : Type 0
 Answer = Result DigitallySigned SCTError
 
-caused : (c : Cert) (spki : List ℕ) (r : Result Sct CertificateErrorKind) → IsSaidOf c r → (a : Answer) → Answers OutOfMemory (λ (d : DigitallySigned). d) a (ready c spki r) → HasCause c spki a
+caused : (c : Cert) (spki : List ℕ) (r : Result Sct CertificateErrorKind) → IsSaidOf c r → (a : Answer)
+    → Answers OutOfMemory (λ (d : DigitallySigned). d) a (ready c spki r) → HasCause c spki a
 caused c spki (Ok s) said (Ok d) e = record { sct = s; has = said; is = let is = e in cc }
 caused c spki (Ok s) said (Err f) (inl memory) = rw memory tt
 caused c spki (Ok s) said (Err f) (inr e) = absurd cc
@@ -138,13 +153,18 @@ caused c spki (Err k) said (Err f) (inr e) = let same : f ≡ Parsing k = cc in 
     of_kind LeafSCTMalformed h = h
     of_kind IssuerMissing h = h
 
-pub embedded : (c : Cert) (spki : List ℕ) (a : Answer) → Answers OutOfMemory (λ (d : DigitallySigned). d) a (ready c spki (sct_of c)) → IsSaidOf c (sct_of c) → IsEmbedded c spki a
+pub embedded : (c : Cert) (spki : List ℕ) (a : Answer)
+    → Answers OutOfMemory (λ (d : DigitallySigned). d) a (ready c spki (sct_of c)) → IsSaidOf c (sct_of c)
+    → IsEmbedded c spki a
 embedded c spki a e said =
     record {
       cause = caused c spki (sct_of c) said a e;
-      has = λ s h. subst (λ (w : Answer). Answers OutOfMemory (λ (d : DigitallySigned). d) a w) (ap (λ (r : Result Sct CertificateErrorKind). ready c spki r) (has_reads c s h)) e;
-      lacks = λ h. subst (λ (w : Answer). Answers OutOfMemory (λ (d : DigitallySigned). d) a w) (ap (λ (r : Result Sct CertificateErrorKind). ready c spki r) (lacks_reads c h)) e;
-      bad = λ h. subst (λ (w : Answer). Answers OutOfMemory (λ (d : DigitallySigned). d) a w) (ap (λ (r : Result Sct CertificateErrorKind). ready c spki r) (bad_reads c (sct_of c) said h)) e;
+      has = λ s h. subst (λ (w : Answer). Answers OutOfMemory (λ (d : DigitallySigned). d) a w)
+          (ap (λ (r : Result Sct CertificateErrorKind). ready c spki r) (has_reads c s h)) e;
+      lacks = λ h. subst (λ (w : Answer). Answers OutOfMemory (λ (d : DigitallySigned). d) a w)
+          (ap (λ (r : Result Sct CertificateErrorKind). ready c spki r) (lacks_reads c h)) e;
+      bad = λ h. subst (λ (w : Answer). Answers OutOfMemory (λ (d : DigitallySigned). d) a w)
+          (ap (λ (r : Result Sct CertificateErrorKind). ready c spki r) (bad_reads c (sct_of c) said h)) e;
       read = e;
     }
 
@@ -155,21 +175,33 @@ comes (Ok d) m e = inr (sym e)
 comes (Err f) m (inl e) = inl (ap (λ (x : SCTError). Err x) e)
 comes (Err f) m (inr e) = inr (sym e)
 
-pub missing : (c : Cert) (spki : List ℕ) (a : Answer) → IsEmbedded c spki a → ComesWhere OutOfMemory a (Err (Parsing LeafSCTMissing)) (LacksSct c)
-missing c spki a is = ((λ e. subst (λ (w : Answer). HasCause c spki w) e is.cause), (λ h. comes a (Err (Parsing LeafSCTMissing)) (is.lacks h)))
+pub missing : (c : Cert) (spki : List ℕ) (a : Answer) → IsEmbedded c spki a
+    → ComesWhere OutOfMemory a (Err (Parsing LeafSCTMissing)) (LacksSct c)
+missing c spki a is = (
+  (λ e. subst (λ (w : Answer). HasCause c spki w) e is.cause),
+  (λ h. comes a (Err (Parsing LeafSCTMissing)) (is.lacks h)),
+)
 
-pub malformed : (c : Cert) (spki : List ℕ) (a : Answer) → IsEmbedded c spki a → ComesWhere OutOfMemory a (Err (Parsing LeafSCTMalformed)) (HasBadSct c)
-malformed c spki a is = ((λ e. subst (λ (w : Answer). HasCause c spki w) e is.cause), (λ h. comes a (Err (Parsing LeafSCTMalformed)) (is.bad h)))
+pub malformed : (c : Cert) (spki : List ℕ) (a : Answer) → IsEmbedded c spki a
+    → ComesWhere OutOfMemory a (Err (Parsing LeafSCTMalformed)) (HasBadSct c)
+malformed c spki a is = (
+  (λ e. subst (λ (w : Answer). HasCause c spki w) e is.cause),
+  (λ h. comes a (Err (Parsing LeafSCTMalformed)) (is.bad h)),
+)
 
-pub under_issuer : (c : Cert) (o : Option Cert) (a : Answer) → IsEmbeddedUnder c o a → (a ≡ Err (Parsing IssuerMissing)) ↔ (o ≡ None)
+pub under_issuer : (c : Cert) (o : Option Cert) (a : Answer) → IsEmbeddedUnder c o a
+    → (a ≡ Err (Parsing IssuerMissing)) ↔ (o ≡ None)
 under_issuer c None a is = ((λ e. refl), (λ e. is))
-under_issuer c (Some x) a is = ((λ e. absurd (subst (λ (w : Answer). HasCause c x.spki w) e is.cause)), (λ e. absurd cc))
+under_issuer c (Some x) a is =
+    ((λ e. absurd (subst (λ (w : Answer). HasCause c x.spki w) e is.cause)), (λ e. absurd cc))
 
-pub under_missing : (c : Cert) (o : Option Cert) (a : Answer) → IsEmbeddedUnder c o a → ComesWhere OutOfMemory a (Err (Parsing LeafSCTMissing)) (IsSome o × LacksSct c)
+pub under_missing : (c : Cert) (o : Option Cert) (a : Answer) → IsEmbeddedUnder c o a
+    → ComesWhere OutOfMemory a (Err (Parsing LeafSCTMissing)) (IsSome o × LacksSct c)
 under_missing c None a is = ((λ e. let no = sym is ∙ e in absurd cc), (λ h. let no = h.0 in absurd cc))
 under_missing c (Some x) a is = let both = missing c x.spki a is in ((λ e. (refl, both.0 e)), (λ h. both.1 h.1))
 
-pub under_malformed : (c : Cert) (o : Option Cert) (a : Answer) → IsEmbeddedUnder c o a → ComesWhere OutOfMemory a (Err (Parsing LeafSCTMalformed)) (IsSome o × HasBadSct c)
+pub under_malformed : (c : Cert) (o : Option Cert) (a : Answer) → IsEmbeddedUnder c o a
+    → ComesWhere OutOfMemory a (Err (Parsing LeafSCTMalformed)) (IsSome o × HasBadSct c)
 under_malformed c None a is = ((λ e. let no = sym is ∙ e in absurd cc), (λ h. let no = h.0 in absurd cc))
 under_malformed c (Some x) a is = let both = malformed c x.spki a is in ((λ e. (refl, both.0 e)), (λ h. both.1 h.1))
 

@@ -2,10 +2,9 @@
 use Rattle.std.proofs.Common.{◌≡◌, ◌≢◌, ◌⊎◌, ℕ, Bool, true, false, not, eqb, cond, ◌&&◌, List, Option, Some, None}
 use Rattle.std.proofs.Common.{Result, Ok, Err, refl, sym, ap, ◌∙◌, inl, inr}
 use Rattle.std.specs.Prelude.{bytes_eq}
-use Rattle.std.proofs.lemmas.Bool.{cases_Bool, cond-true, cond-false, and_parts, and_from}
+use Rattle.std.proofs.lemmas.Bool.{cond-true, cond-false, and_parts, and_from}
 use Rattle.std.proofs.lemmas.Slice.Eq.{bytes_eq-Decides}
 use Rattle.sig_base.specs.Answers.{Answers, ComesWhere}
-use Rattle.sig_base.proofs.OptionSteps.{some_is}
 use Rattle.sig_der.specs.Reading.{Piece}
 use Rattle.sig_der.specs.KeyInfo.{KeyInfo, IsKeyInfo, is_empty, whole_key_info}
 use Rattle.sig_der.specs.Tag.{OBJECT_IDENTIFIER}
@@ -17,7 +16,7 @@ use Rattle.sig_timestamp.specs.declared.keyring_error.KeyringError.TheVariants.{
 use Rattle.sig_timestamp.specs.declared.keyring_error.KeyringError.TheVariants.{OutOfMemory}
 use Rattle.sig_timestamp.specs.RingKey.{RingKey}
 use Rattle.sig_timestamp.specs.Keyring.{IsRingKey, AreKnown, IsMalformedKey, IsOtherKey, is_identifier, is_null}
-use Rattle.sig_timestamp.specs.Keyring.{point_under, point_in, point_of_info, point_of}
+use Rattle.sig_timestamp.specs.Keyring.{point_under, point_of}
 use Rattle.sig_timestamp.proofs.KeyLaws.{point_of_takes, point_of_known, point_of_none}
 use Rattle.sig_timestamp.proofs.ComesLaws.{error_where}
 
@@ -43,10 +42,13 @@ module _ (bits oid : List ℕ) (p : Piece) where
   null_of_rsa h = and_from (is_null p) (bytes_eq oid rsa) h.0 ((bytes_eq-Decides oid rsa).1 h.1)
 
   -- known parameters: the point, or another kind of key
-  known_some : AreKnown oid (Some p) → (point_under bits oid (Some p) ≡ Ok bits) ⊎ (point_under bits oid (Some p) ≡ Err AlgoUnsupported)
+  known_some : AreKnown oid (Some p)
+      → (point_under bits oid (Some p) ≡ Ok bits) ⊎ (point_under bits oid (Some p) ≡ Err AlgoUnsupported)
   known_some known = by_name (is_identifier p) refl known
     where
-      by_curve : (b : Bool) → (cond b (Ok bits) (Err AlgoUnsupported) ≡ Ok bits) ⊎ (cond b (Ok bits) (Err AlgoUnsupported) ≡ Err AlgoUnsupported)
+      by_curve : (b : Bool)
+          → (cond b (Ok bits) (Err AlgoUnsupported) ≡ Ok bits)
+          ⊎ (cond b (Ok bits) (Err AlgoUnsupported) ≡ Err AlgoUnsupported)
       by_curve true = inl refl
       by_curve false = inr refl
 
@@ -76,7 +78,8 @@ module _ (bits oid : List ℕ) (p : Piece) where
   known_or_not : AreKnown oid (Some p) ⊎ ¬ AreKnown oid (Some p)
   known_or_not = by_name (is_identifier p) refl
     where
-      by_null : (b : Bool) → is_identifier p ≡ false → (is_null p && bytes_eq oid rsa) ≡ b → AreKnown oid (Some p) ⊎ ¬ AreKnown oid (Some p)
+      by_null : (b : Bool) → is_identifier p ≡ false → (is_null p && bytes_eq oid rsa) ≡ b
+          → AreKnown oid (Some p) ⊎ ¬ AreKnown oid (Some p)
       by_null true f e =
           let parts = and_parts (is_null p) (bytes_eq oid rsa) e in
           inl (inr (parts.0, (bytes_eq-Decides oid rsa).0 parts.1))
@@ -95,7 +98,8 @@ pub known_point : (bits oid : List ℕ) (o : Option Piece) → AreKnown oid o
 known_point bits oid None known = inr refl
 known_point bits oid (Some p) known = known_some bits oid p known
 
-pub unknown_point : (bits oid : List ℕ) (o : Option Piece) → ¬ AreKnown oid o → point_under bits oid o ≡ Err KeyMalformed
+pub unknown_point : (bits oid : List ℕ) (o : Option Piece) → ¬ AreKnown oid o
+    → point_under bits oid o ≡ Err KeyMalformed
 unknown_point bits oid None unknown = absurd (unknown tt)
 unknown_point bits oid (Some p) unknown = unknown_some bits oid p unknown
 
@@ -143,7 +147,8 @@ module _ (spki : List ℕ) (fits : IsBytes spki) where
   other_to e = of_info (by_info (whole_key_info spki) refl)
     where
       of_known : (k : KeyInfo) → IsKeyInfo k → k.whole ≡ spki
-          → AreKnown k.algorithm.oid k.algorithm.parameters ⊎ ¬ AreKnown k.algorithm.oid k.algorithm.parameters → IsOtherKey spki
+          → AreKnown k.algorithm.oid k.algorithm.parameters ⊎ ¬ AreKnown k.algorithm.oid k.algorithm.parameters
+          → IsOtherKey spki
       of_known k is text (inl known) =
           record {
             info = k;
@@ -153,9 +158,11 @@ module _ (spki : List ℕ) (fits : IsBytes spki) where
             other = λ x ring. let wrong = sym (ring_again spki x ring) ∙ e in cc;
           }
       of_known k is text (inr unknown) =
-          let wrong = sym e ∙ point_of_known spki k is text ∙ unknown_point k.bits k.algorithm.oid k.algorithm.parameters unknown in absurd cc
+          let wrong = sym e ∙ point_of_known spki k is text
+          ∙ unknown_point k.bits k.algorithm.oid k.algorithm.parameters unknown in absurd cc
 
-      of_info : ((k : KeyInfo) → IsKeyInfo k → k.whole ≢ spki) ⊎ ((k : KeyInfo) × (IsKeyInfo k × (k.whole ≡ spki))) → IsOtherKey spki
+      of_info : ((k : KeyInfo) → IsKeyInfo k → k.whole ≢ spki) ⊎ ((k : KeyInfo) × (IsKeyInfo k × (k.whole ≡ spki)))
+          → IsOtherKey spki
       of_info (inl none) = let wrong = sym e ∙ point_of_none spki fits none in absurd cc
       of_info (inr x) = of_known x.0 x.1.0 x.1.1 (cases_known x.0.bits x.0.algorithm.oid x.0.algorithm.parameters)
 
@@ -168,9 +175,12 @@ module _ (spki : List ℕ) (fits : IsBytes spki) where
         | inr x ↦ point_of_known spki o.info o.is o.text ∙ x
       ]
 
-  module _ (r : Result RingKey KeyringError) (is : Answers OutOfMemory (λ (k : RingKey). k.point) r (point_of spki)) where
-    pub malformed_key : ComesWhere OutOfMemory r (Err KeyMalformed) (IsMalformedKey spki)
-    malformed_key = error_where OutOfMemory (λ (k : RingKey). k.point) r (point_of spki) KeyMalformed _ is (λ e. cc) malformed_to malformed_from
+  module _ (r : Result RingKey KeyringError) (is : Answers OutOfMemory (λ (k : RingKey). k.point) r (point_of spki))
+    where
+      pub malformed_key : ComesWhere OutOfMemory r (Err KeyMalformed) (IsMalformedKey spki)
+      malformed_key = error_where OutOfMemory (λ (k : RingKey). k.point) r (point_of spki) KeyMalformed _ is (λ e. cc)
+          malformed_to malformed_from
 
-    pub other_key : ComesWhere OutOfMemory r (Err AlgoUnsupported) (IsOtherKey spki)
-    other_key = error_where OutOfMemory (λ (k : RingKey). k.point) r (point_of spki) AlgoUnsupported _ is (λ e. cc) other_to other_from
+      pub other_key : ComesWhere OutOfMemory r (Err AlgoUnsupported) (IsOtherKey spki)
+      other_key = error_where OutOfMemory (λ (k : RingKey). k.point) r (point_of spki) AlgoUnsupported _ is (λ e. cc)
+          other_to other_from

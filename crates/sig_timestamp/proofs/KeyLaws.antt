@@ -22,7 +22,8 @@ use Rattle.sig_timestamp.specs.Keyring.{point_of}
 abbrev point_answer : Type 0
 point_answer = Result (List ℕ) KeyringError
 
-refused : (b : Bool) (x : point_answer) (e : KeyringError) (p : List ℕ) → cond b x (Err e) ≡ Ok p → (b ≡ true) × (x ≡ Ok p)
+refused : (b : Bool) (x : point_answer) (e : KeyringError) (p : List ℕ) → cond b x (Err e) ≡ Ok p
+    → (b ≡ true) × (x ≡ Ok p)
 refused true x e p is = (refl, is)
 refused false x e p is = absurd cc
 
@@ -37,7 +38,8 @@ record IsPoint (bits oid : List ℕ) (p : Piece) (point : List ℕ) : Type 0 whe
   curve : p.content ≡ p256
   point_is : bits ≡ point
 
-point_under_takes : (bits oid : List ℕ) (p : Piece) (point : List ℕ) → point_under bits oid (Some p) ≡ Ok point → IsPoint bits oid p point
+point_under_takes : (bits oid : List ℕ) (p : Piece) (point : List ℕ) → point_under bits oid (Some p) ≡ Ok point
+    → IsPoint bits oid p point
 point_under_takes bits oid p point e =
     elim (cases_Bool (is_identifier p)) [
       | inl named ↦
@@ -50,24 +52,38 @@ point_under_takes bits oid p point e =
             curve = (bytes_eq-Decides p.content p256).0 t.1;
             point_is = let is = h.1 in cc;
           }
-      | inr other ↦ absurd (no_other (is_null p && bytes_eq oid rsa) (sym (cond-false (is_identifier p) _ _ other) ∙ e))
+      | inr other ↦
+          absurd (no_other (is_null p && bytes_eq oid rsa) (sym (cond-false (is_identifier p) _ _ other) ∙ e))
     ]
   where
     no_other : (b : Bool) → cond b (Err AlgoUnsupported) (Err KeyMalformed) ≡ Ok point → ⊥
     no_other true is = cc
     no_other false is = cc
 
-pub point_of_takes : (spki : List ℕ) → IsBytes spki → (point : List ℕ) → point_of spki ≡ Ok point → IsRingKey spki point
+pub point_of_takes : (spki : List ℕ) → IsBytes spki → (point : List ℕ) → point_of spki ≡ Ok point
+    → IsRingKey spki point
 unfolding point_of
 point_of_takes spki fits point e = of_info (whole_key_info spki) (λ k is. whole_key_info_takes spki fits k is) e
   where
-    of_key : (k : KeyInfo) → IsKeyInfo k → k.whole ≡ spki → (o : Option Piece) → k.algorithm.parameters ≡ o → point_under k.bits k.algorithm.oid o ≡ Ok point → IsRingKey spki point
+    of_key : (k : KeyInfo) → IsKeyInfo k → k.whole ≡ spki → (o : Option Piece) → k.algorithm.parameters ≡ o
+        → point_under k.bits k.algorithm.oid o ≡ Ok point → IsRingKey spki point
     of_key k is text None has e = absurd cc
     of_key k is text (Some p) has e =
         let h = point_under_takes k.bits k.algorithm.oid p point e in
-        record { info = k; is = is; text = text; parameters = p; has = has; elliptic = h.elliptic; identifier = h.identifier; curve = h.curve; bits = h.point_is }
+        record {
+          info = k;
+          is = is;
+          text = text;
+          parameters = p;
+          has = has;
+          elliptic = h.elliptic;
+          identifier = h.identifier;
+          curve = h.curve;
+          bits = h.point_is;
+        }
 
-    of_info : (o : Option KeyInfo) → ((k : KeyInfo) → o ≡ Some k → IsKeyInfo k × (k.whole ≡ spki)) → point_of_info o ≡ Ok point → IsRingKey spki point
+    of_info : (o : Option KeyInfo) → ((k : KeyInfo) → o ≡ Some k → IsKeyInfo k × (k.whole ≡ spki))
+        → point_of_info o ≡ Ok point → IsRingKey spki point
     of_info None h e = absurd cc
     of_info (Some k) h e = let t = h k refl in of_key k t.0 t.1 k.algorithm.parameters refl e
 
@@ -75,15 +91,18 @@ pub point_of_known : (spki : List ℕ) (k : KeyInfo) → IsKeyInfo k → k.whole
 unfolding point_of
 point_of_known spki k is text = ap (λ (o : Option KeyInfo). point_of_info o) (whole_key_info_again spki k is text)
 
-pub point_of_none : (spki : List ℕ) → IsBytes spki → ((k : KeyInfo) → IsKeyInfo k → k.whole ≢ spki) → point_of spki ≡ Err KeyMalformed
+pub point_of_none : (spki : List ℕ) → IsBytes spki → ((k : KeyInfo) → IsKeyInfo k → k.whole ≢ spki)
+    → point_of spki ≡ Err KeyMalformed
 unfolding point_of
 point_of_none spki fits none = of_info (whole_key_info spki) (λ k is. whole_key_info_takes spki fits k is)
   where
-    of_info : (o : Option KeyInfo) → ((k : KeyInfo) → o ≡ Some k → IsKeyInfo k × (k.whole ≡ spki)) → point_of_info o ≡ Err KeyMalformed
+    of_info : (o : Option KeyInfo) → ((k : KeyInfo) → o ≡ Some k → IsKeyInfo k × (k.whole ≡ spki))
+        → point_of_info o ≡ Err KeyMalformed
     of_info None h = refl
     of_info (Some k) h = let t = h k refl in absurd (none k t.0 t.1)
 
-pub found_key : (spki : List ℕ) → IsBytes spki → (r : Result RingKey KeyringError) → Answers OutOfMemory (λ (k : RingKey). k.point) r (point_of spki)
+pub found_key : (spki : List ℕ) → IsBytes spki → (r : Result RingKey KeyringError)
+    → Answers OutOfMemory (λ (k : RingKey). k.point) r (point_of spki)
     → IfOk r (λ k. IsRingKey spki k.point)
 found_key spki fits (Ok k) e = point_of_takes spki fits k.point e
 found_key spki fits (Err d) e = tt

@@ -1,7 +1,7 @@
 -- The entries of a ring: what is found after a key was added, and the ring of a list of key infos.
-use Rattle.std.proofs.Common.{◌≡◌, ℕ, ◌+◌, ◌<◌, Bool, true, false, cond, List, [], ◌∷◌, ◌++◌, length, take, Option}
+use Rattle.std.proofs.Common.{◌≡◌, ℕ, ◌+◌, ◌<◌, Bool, true, false, cond, List, [], ◌∷◌, ◌++◌, length, take, get_or, Option}
 use Rattle.std.proofs.Common.{Some, None, Ok, refl, sym, ap, ◌∙◌}
-use Rattle.std.specs.Prelude.{bytes_eq, option_map, slice_get}
+use Rattle.std.specs.Prelude.{bytes_eq, option_map}
 use Rattle.std.specs.Borrow.{Bor}
 use Rattle.sig_base.specs.Sha256.{sha256}
 use Rattle.std.specs.Ordering.{nat_cmp, is_eq}
@@ -10,7 +10,6 @@ use Rattle.std.specs.Bool.{one_answer}
 use Rattle.std.specs.Map.{lookup}
 use Rattle.std.specs.Option.{option_or, option_copied}
 use Rattle.std.proofs.lemmas.List.{take_more}
-use Rattle.std.proofs.lemmas.Option.{slice_get_within, slice_get-get_or, get_or_from_slice_get}
 use Rattle.std.proofs.lemmas.Map.Text.{is_eq-slice_cmp}
 use Rattle.std.proofs.lemmas.Slice.Eq.{bytes_eq-Decides}
 use Rattle.sig_timestamp.specs.RingKey.{RingKey, point_at}
@@ -27,20 +26,25 @@ at_key id k = is_eq (slice_cmp nat_cmp id k)
 abbrev points : Option RingKey → Option (List ℕ)
 points o = option_map (λ (k : RingKey). k.point) o
 
-points_cond : (b : Bool) (x : RingKey) (o : Option RingKey) (p : Option (List ℕ)) → points o ≡ p → points (cond b (Some x) o) ≡ cond b (Some x.point) p
+points_cond : (b : Bool) (x : RingKey) (o : Option RingKey) (p : Option (List ℕ)) → points o ≡ p
+    → points (cond b (Some x) o) ≡ cond b (Some x.point) p
 points_cond true x o p e = refl
 points_cond false x o p e = e
 
-pub lookup_points : (id : List ℕ) (ring : Ring) → points (lookup (λ k. is_eq (slice_cmp nat_cmp id k)) ring) ≡ point_at ring id
+pub lookup_points : (id : List ℕ) (ring : Ring)
+    → points (lookup (λ k. is_eq (slice_cmp nat_cmp id k)) ring) ≡ point_at ring id
 lookup_points id [] = refl
 lookup_points id (e ∷ ring) =
-    rw (is_eq-slice_cmp id e.0) (points_cond (bytes_eq id e.0) e.1 (lookup (at_key id) ring) (point_at ring id) (lookup_points id ring))
+    rw (is_eq-slice_cmp id e.0)
+    (points_cond (bytes_eq id e.0) e.1 (lookup (at_key id) ring) (point_at ring id) (lookup_points id ring))
 
-lent_points : (r : Option (Bor RingKey)) (o : Option RingKey) → option_copied r ≡ o → option_map (λ (k : Bor RingKey). k.now.point) r ≡ points o
+lent_points : (r : Option (Bor RingKey)) (o : Option RingKey) → option_copied r ≡ o
+    → option_map (λ (k : Bor RingKey). k.now.point) r ≡ points o
 lent_points None o e = rw (← e) refl
 lent_points (Some k) o e = rw (← e) refl
 
-pub lent_is : (id : List ℕ) (ring : Ring) (r : Option (Bor RingKey)) → option_copied r ≡ lookup (λ k. is_eq (slice_cmp nat_cmp id k)) ring
+pub lent_is : (id : List ℕ) (ring : Ring) (r : Option (Bor RingKey))
+    → option_copied r ≡ lookup (λ k. is_eq (slice_cmp nat_cmp id k)) ring
     → option_map (λ (k : Bor RingKey). k.now.point) r ≡ point_at ring id
 lent_is id ring r e = lent_points r _ e ∙ lookup_points id ring
 
@@ -51,15 +55,18 @@ bytes_eq_flip xs ys =
     one_answer (bytes_eq xs ys) (bytes_eq ys xs) (bytes_eq-Decides xs ys)
     ((λ e. sym ((bytes_eq-Decides ys xs).0 e)), (λ e. (bytes_eq-Decides ys xs).1 (sym e)))
 
-pub added : (id spki name : List ℕ) (k : RingKey) (before after : Ring) → point_of spki ≡ Ok k.point → name ≡ sha256 spki
-    → lookup (λ q. is_eq (slice_cmp nat_cmp id q)) after ≡ cond (is_eq (slice_cmp nat_cmp name id)) (Some k) (lookup (λ q. is_eq (slice_cmp nat_cmp id q)) before)
+pub added : (id spki name : List ℕ) (k : RingKey) (before after : Ring) → point_of spki ≡ Ok k.point
+    → name ≡ sha256 spki
+    → lookup (λ q. is_eq (slice_cmp nat_cmp id q)) after ≡ cond (is_eq (slice_cmp nat_cmp name id)) (Some k)
+    (lookup (λ q. is_eq (slice_cmp nat_cmp id q)) before)
     → point_at after id ≡ option_or (point_if id spki) (point_at before id)
 added id spki name k before after is named found =
     sym (lookup_points id after) ∙ ap points found
     ∙ points_cond (at_key name id) k (lookup (at_key id) before) (point_at before id) (lookup_points id before)
     ∙ rw (is_eq-slice_cmp name id, bytes_eq_flip name id, named, is) (by_cases (bytes_eq id (sha256 spki)))
   where
-    by_cases : (b : Bool) → cond b (Some k.point) (point_at before id) ≡ option_or (cond b (Some k.point) None) (point_at before id)
+    by_cases : (b : Bool)
+        → cond b (Some k.point) (point_at before id) ≡ option_or (cond b (Some k.point) None) (point_at before id)
     by_cases true = refl
     by_cases false = refl
 
@@ -77,19 +84,22 @@ pub key_of_none : (id : List ℕ) → None ≡ key_of [] id
 unfolding key_of
 key_of_none id = refl
 
-key_of_push : (keys : List (List ℕ)) (spki id : List ℕ) → key_of (keys ++ spki ∷ []) id ≡ option_or (point_if id spki) (key_of keys id)
+key_of_push : (keys : List (List ℕ)) (spki id : List ℕ)
+    → key_of (keys ++ spki ∷ []) id ≡ option_or (point_if id spki) (key_of keys id)
 unfolding key_of
 key_of_push [] spki id = sym (option_or_none (point_if id spki))
 key_of_push (k ∷ keys) spki id =
-    ap (λ (o : Option (List ℕ)). option_or o (point_if id k)) (key_of_push keys spki id) ∙ option_or_assoc (point_if id spki) (key_of keys id) (point_if id k)
+    ap (λ (o : Option (List ℕ)). option_or o (point_if id k)) (key_of_push keys spki id)
+    ∙ option_or_assoc (point_if id spki) (key_of keys id) (point_if id k)
 
--- one turn of the loop over the list
-pub key_of_more : (keys : List (List ℕ)) (place : ℕ) (spki id : List ℕ) (before after : Ring) → slice_get keys place ≡ Some spki
-    → point_at after id ≡ option_or (point_if id spki) (point_at before id) → point_at before id ≡ key_of (take place keys) id
-    → point_at after id ≡ key_of (take (place + 1) keys) id
-key_of_more keys place spki id before after got e h =
-    e ∙ ap (λ (o : Option (List ℕ)). option_or (point_if id spki) o) h ∙ sym (key_of_push (take place keys) spki id)
-    ∙ ap (λ (xs : List (List ℕ)). key_of xs id) (sym (take_more keys place spki (slice_get_within keys place spki got) ∙ ap (λ (x : List ℕ). take place keys ++ x ∷ []) (get_or_from_slice_get keys place spki spki got)))
-
-pub within_list : (keys : List (List ℕ)) (place : ℕ) → place < length keys → None ≡ slice_get keys place → ⊥
-within_list keys place lt e = let some = slice_get-get_or keys place [] lt in let no = e ∙ some in cc
+-- one turn of the loop over the list: the items are walked in the list's own memory
+pub key_of_more : (keys items : List (List ℕ)) (i : ℕ) (spki item id : List ℕ) (before after : Ring) → items ≡ keys
+    → i < length items → item ≡ get_or items i item → spki ≡ item
+    → point_at after id ≡ option_or (point_if id spki) (point_at before id)
+    → point_at before id ≡ key_of (take i keys) id → point_at after id ≡ key_of (take (i + 1) keys) id
+key_of_more keys items i spki item id before after same lt there seen e h =
+    let below : i < length keys = rw (sym same) lt in
+    let got : spki ≡ get_or keys i spki = rw (seen, sym same) there in
+    e ∙ ap (λ (o : Option (List ℕ)). option_or (point_if id spki) o) h ∙ sym (key_of_push (take i keys) spki id)
+    ∙ ap (λ (xs : List (List ℕ)). key_of xs id)
+    (ap (λ (x : List ℕ). take i keys ++ x ∷ []) got ∙ sym (take_more keys i spki below))

@@ -17,11 +17,13 @@ use Rattle.sig_timestamp.specs.Precert.{precertificate, HaveSpelling, IsWithoutS
 
 -- ---- what is kept
 
-kept_texts_cond : (b : Bool) (e : Extension) (es : List Extension) → texts_of (cond (not b) (e ∷ es) es) ≡ cond b [] e.whole ++ texts_of es
+kept_texts_cond : (b : Bool) (e : Extension) (es : List Extension)
+    → texts_of (cond (not b) (e ∷ es) es) ≡ cond b [] e.whole ++ texts_of es
 kept_texts_cond true e es = refl
 kept_texts_cond false e es = refl
 
-pub kept_push : (es : List Extension) (e : Extension) → texts_of (without_oid sct_list (es ++ e ∷ [])) ≡ texts_of (without_oid sct_list es) ++ kept_of e
+pub kept_push : (es : List Extension) (e : Extension)
+    → texts_of (without_oid sct_list (es ++ e ∷ [])) ≡ texts_of (without_oid sct_list es) ++ kept_of e
 kept_push [] e = kept_texts_cond (bytes_eq e.oid sct_list) e [] ∙ append-nil (kept_of e)
 kept_push (x ∷ es) e =
     kept_texts_cond (bytes_eq x.oid sct_list) x (without_oid sct_list (es ++ e ∷ []))
@@ -30,18 +32,22 @@ kept_push (x ∷ es) e =
     ∙ ap (λ (w : List ℕ). w ++ kept_of e) (sym (kept_texts_cond (bytes_eq x.oid sct_list) x (without_oid sct_list es)))
 
 -- one turn of the loop over the extensions
-pub kept_more : (es : List Extension) (place : ℕ) (e : Extension) (before after : List ℕ) → slice_get es place ≡ Some e → after ≡ before ++ kept_of e
-    → before ≡ texts_of (without_oid sct_list (take place es)) → after ≡ texts_of (without_oid sct_list (take (place + 1) es))
+pub kept_more : (es : List Extension) (place : ℕ) (e : Extension) (before after : List ℕ) → slice_get es place ≡ Some e
+    → after ≡ before ++ kept_of e
+    → before ≡ texts_of (without_oid sct_list (take place es))
+    → after ≡ texts_of (without_oid sct_list (take (place + 1) es))
 kept_more es place e before after got is h =
     is ∙ ap (λ (w : List ℕ). w ++ kept_of e) h ∙ sym (kept_push (take place es) e)
     ∙ ap (λ (xs : List Extension). texts_of (without_oid sct_list xs))
-    (sym (take_more es place e (slice_get_within es place e got) ∙ ap (λ (x : Extension). take place es ++ x ∷ []) (get_or_from_slice_get es place e e got)))
+    (sym (take_more es place e (slice_get_within es place e got)
+    ∙ ap (λ (x : Extension). take place es ++ x ∷ []) (get_or_from_slice_get es place e e got)))
 
 pub place_within : (es : List Extension) (place : ℕ) → place < length es → None ≡ slice_get es place → ⊥
 place_within [] place lt e = absurd (omega arith)
 place_within (x ∷ es) place lt e = let some = slice_get-get_or (x ∷ es) place x lt in let no = e ∙ some in cc
 
-kept_each : (es : List Extension) → AllByRecursion IsExtension es → AllByRecursion IsExtension (without_oid sct_list es)
+kept_each : (es : List Extension) → AllByRecursion IsExtension es
+    → AllByRecursion IsExtension (without_oid sct_list es)
 kept_each [] h = tt
 kept_each (e ∷ es) h = by_test (not (bytes_eq e.oid sct_list)) (kept_each es h.1)
   where
@@ -60,11 +66,13 @@ kept_shorter (e ∷ es) =
     elim (cases_Bool (bytes_eq e.oid sct_list)) [
       | inl out ↦
           let is = ap (λ (w : List ℕ). length w) (kept_texts_cond (bytes_eq e.oid sct_list) e (without_oid sct_list es)
-          ∙ ap (λ (w : List ℕ). w ++ texts_of (without_oid sct_list es)) (cond-true (bytes_eq e.oid sct_list) [] e.whole out)) in
+          ∙ ap (λ (w : List ℕ). w ++ texts_of (without_oid sct_list es))
+          (cond-true (bytes_eq e.oid sct_list) [] e.whole out)) in
           omega arith
       | inr in_it ↦
           let is = ap (λ (w : List ℕ). length w) (kept_texts_cond (bytes_eq e.oid sct_list) e (without_oid sct_list es)
-          ∙ ap (λ (w : List ℕ). w ++ texts_of (without_oid sct_list es)) (cond-false (bytes_eq e.oid sct_list) [] e.whole in_it)) in
+          ∙ ap (λ (w : List ℕ). w ++ texts_of (without_oid sct_list es))
+          (cond-false (bytes_eq e.oid sct_list) [] e.whole in_it)) in
           omega (arith, length-append e.whole (texts_of (without_oid sct_list es)))
     ]
 
@@ -76,7 +84,9 @@ unfolding octets_of
 length-spelled n = by_tests (ltb n 128) (ltb n 256) (ltb n 65536) (ltb n 16777216)
   where
     by_tests : (a b c d : Bool)
-        → length (cond a (n ∷ []) (cond b (129 ∷ n ∷ []) (cond c (130 ∷ (n / 256) ∷ (n % 256) ∷ []) (cond d (131 ∷ (n / 65536) ∷ (n / 256 % 256) ∷ (n % 256) ∷ [])
+        → length (cond a (n ∷ [])
+        (cond b (129 ∷ n ∷ [])
+        (cond c (130 ∷ (n / 256) ∷ (n % 256) ∷ []) (cond d (131 ∷ (n / 65536) ∷ (n / 256 % 256) ∷ (n % 256) ∷ [])
         (132 ∷ (n / 16777216) ∷ (n / 65536 % 256) ∷ (n / 256 % 256) ∷ (n % 256) ∷ [])))))
         ≡ cond a 1 (cond b 2 (cond c 3 (cond d 4 5)))
     by_tests true b c d = refl
@@ -107,19 +117,27 @@ pub have_spelling : (c : Cert) → IsSignedPart c → c.listed ≡ true → Have
 have_spelling c is listed =
     let l = list_of c is listed in
     let kept = texts_of (kept_extensions c) in
-    let inner : length kept ≤ length l.inner = subst (λ (w : List ℕ). length kept ≤ length w) (sym l.joined.parts) (kept_shorter c.extensions) in
+    let inner : length kept ≤ length l.inner =
+    subst (λ (w : List ℕ). length kept ≤ length w) (sym l.joined.parts) (kept_shorter c.extensions) in
     let list : length (element 48 kept) ≤ length l.sequence =
-    subst (λ (w : List ℕ). length (element 48 kept) ≤ length w) (sym l.list.spelled) (element_shorter 48 kept l.inner inner) in
+    subst (λ (w : List ℕ). length (element 48 kept) ≤ length w) (sym l.list.spelled)
+    (element_shorter 48 kept l.inner inner) in
     let outer : length (extensions_element (kept_extensions c)) ≤ length is.extensions_text =
     subst (λ (w : List ℕ). length (extensions_element (kept_extensions c)) ≤ length w) (sym l.outer.spelled)
     (element_shorter 163 (element 48 kept) l.sequence list) in
     record {
       kept = omega (arith, l.list.short);
       list = omega (arith, l.outer.short);
-      body = omega (arith, is.tbs.short, length-append c.front is.extensions_text, length-append c.front (extensions_element (kept_extensions c)));
+      body = omega (
+        arith,
+        is.tbs.short,
+        length-append c.front is.extensions_text,
+        length-append c.front (extensions_element (kept_extensions c)),
+      );
     }
 
-signed_part_of : (c : Cert) (is : IsSignedPart c) (text extensions_text : List ℕ) → IsElement text 48 (c.front ++ extensions_text)
+signed_part_of : (c : Cert) (is : IsSignedPart c) (text extensions_text : List ℕ)
+    → IsElement text 48 (c.front ++ extensions_text)
     → AreExtensions extensions_text c.listed (kept_extensions c) → IsWithoutScts c text
 signed_part_of c is text extensions_text tbs extensions =
     record {
@@ -151,9 +169,11 @@ without_scts c is =
           let s = have_spelling c is listed in
           let kept = texts_of (kept_extensions c) in
           subst (λ (w : List ℕ). IsWithoutScts c w) (sym (cond-true c.listed _ _ listed))
-          (signed_part_of c is (element 48 (c.front ++ extensions_element (kept_extensions c))) (extensions_element (kept_extensions c))
+          (signed_part_of c is (element 48 (c.front ++ extensions_element (kept_extensions c)))
+          (extensions_element (kept_extensions c))
           (record { tagged = is.tbs.tagged; short = s.body; spelled = refl })
-          (subst (λ (b : Bool). AreExtensions (extensions_element (kept_extensions c)) b (kept_extensions c)) (sym listed) (record {
+          (subst (λ (b : Bool). AreExtensions (extensions_element (kept_extensions c)) b (kept_extensions c))
+          (sym listed) (record {
             sequence = element 48 kept;
             inner = kept;
             outer = record { tagged = l.outer.tagged; short = s.list; spelled = refl };
@@ -168,6 +188,7 @@ without_scts c is =
           (none.0, ap (λ (es : List Extension). without_oid sct_list es) none.1)))
     ]
 
-pub keeps_of : (c : Cert) → IsSignedPart c → (r : Result (List ℕ) OutOfMemory) → IfOk r (λ t. t ≡ precertificate c) → IfOk r (IsWithoutScts c)
+pub keeps_of : (c : Cert) → IsSignedPart c → (r : Result (List ℕ) OutOfMemory) → IfOk r (λ t. t ≡ precertificate c)
+    → IfOk r (IsWithoutScts c)
 keeps_of c is (Ok t) e = subst (λ (w : List ℕ). IsWithoutScts c w) (sym e) (without_scts c is)
 keeps_of c is (Err d) e = tt

@@ -20,7 +20,8 @@ use Rattle.sig_timestamp.proofs.VectorLaws.{whole_vector_takes, whole_vector_aga
 
 -- ---- the list
 
-pub sct_list_at_takes : (value : List ℕ) → IsBytes value → (texts : List (List ℕ)) → sct_list_at value ≡ Some texts → IsSctList value texts
+pub sct_list_at_takes : (value : List ℕ) → IsBytes value → (texts : List (List ℕ)) → sct_list_at value ≡ Some texts
+    → IsSctList value texts
 unfolding sct_list_at list_in
 sct_list_at_takes value fits texts e =
     let l = bind_is (list_in value) _ texts e in
@@ -36,11 +37,13 @@ sct_list_at_takes value fits texts e =
       joined = many_at_takes vector_at IsShort vector vectors l.0 list_fits texts l.2;
     }
 
-pub sct_list_at_again : (value : List ℕ) (texts : List (List ℕ)) → IsSctList value texts → sct_list_at value ≡ Some texts
+pub sct_list_at_again : (value : List ℕ) (texts : List (List ℕ)) → IsSctList value texts
+    → sct_list_at value ≡ Some texts
 unfolding sct_list_at list_in
 sct_list_at_again value texts is =
     bind_of_some (list_in value) _ is.list
-    (bind_of_some (take_whole 4 value) _ _ (take_whole_again value 4 (vector is.list) is.is) ∙ whole_vector_again is.list is.short)
+    (bind_of_some (take_whole 4 value) _ _ (take_whole_again value 4 (vector is.list) is.is)
+    ∙ whole_vector_again is.list is.short)
     ∙ many_at_again vector_at IsShort vector vectors is.list texts is.joined
 
 -- ---- the end of an SCT
@@ -52,7 +55,8 @@ record IsSigned (bytes : List ℕ) (y : List ℕ × List ℕ) : Type 0 where
   signed : IsShort y.1
   spelled : bytes ≡ vector y.0 ++ (algorithm ++ vector y.1)
 
-signed_at_takes : (bytes : List ℕ) → IsBytes bytes → (y : List ℕ × List ℕ) → signed_at bytes ≡ Some y → IsSigned bytes y
+signed_at_takes : (bytes : List ℕ) → IsBytes bytes → (y : List ℕ × List ℕ) → signed_at bytes ≡ Some y
+    → IsSigned bytes y
 unfolding signed_at
 signed_at_takes bytes fits y e =
     let v = bind_is (vector_at bytes) _ y e in
@@ -71,7 +75,8 @@ signed_at_takes bytes fits y e =
       spelled = tv.1 ∙ ap (λ (w : List ℕ). vector v.0.0 ++ w) (ta.1 ∙ ap (λ (w : List ℕ). a.0.0 ++ w) ts.1);
     })
 
-signed_at_again : (e a s : List ℕ) → IsShort e → length a ≡ 2 → IsShort s → signed_at (vector e ++ (a ++ vector s)) ≡ Some (e, s)
+signed_at_again : (e a s : List ℕ) → IsShort e → length a ≡ 2 → IsShort s
+    → signed_at (vector e ++ (a ++ vector s)) ≡ Some (e, s)
 unfolding signed_at
 signed_at_again e a s fe fa fs =
     bind_of_some (vector_at (vector e ++ (a ++ vector s))) _ (e, a ++ vector s) (vector_at_again e (a ++ vector s) fe)
@@ -128,7 +133,8 @@ sct_at_again text s is =
     let eight : length (eight_bytes s.timestamp) ≡ 8 = refl in
     ap (λ (w : List ℕ). sct_at w) is.spelled
     ∙ bind_of_some (bytes_at 32 (s.log_id ++ middle)) _ (s.log_id, middle) (bytes_at_again 32 s.log_id middle is.named)
-    ∙ bind_of_some (bytes_at 8 middle) _ (eight_bytes s.timestamp, last) (bytes_at_again 8 (eight_bytes s.timestamp) last eight)
+    ∙ bind_of_some (bytes_at 8 middle) _ (eight_bytes s.timestamp, last)
+    (bytes_at_again 8 (eight_bytes s.timestamp) last eight)
     ∙ bind_of_some (signed_at last) _ (s.extensions, s.signature)
     (signed_at_again s.extensions is.algorithm s.signature is.extended is.two is.signed)
     ∙ ap (λ (n : ℕ). some_sct s.log_id n s.extensions s.signature) (from_be_bytes-to_be_bytes_8 s.timestamp is.timed)

@@ -15,7 +15,8 @@ use Rattle.sig_timestamp.specs.Vectors.{vector, IsShort, bytes_at, vector_at, wh
 
 -- ---- so many bytes
 
-pub bytes_at_takes : (n : ℕ) (bytes : List ℕ) (y : List ℕ × List ℕ) → bytes_at n bytes ≡ Some y → (length y.0 ≡ n) × (bytes ≡ y.0 ++ y.1)
+pub bytes_at_takes : (n : ℕ) (bytes : List ℕ) (y : List ℕ × List ℕ) → bytes_at n bytes ≡ Some y
+    → (length y.0 ≡ n) × (bytes ≡ y.0 ++ y.1)
 unfolding bytes_at
 bytes_at_takes n bytes y e =
     let g = unless_is (ltb (length bytes) n) (Some (take n bytes, drop n bytes)) y e in
@@ -31,13 +32,15 @@ bytes_at_again n x rest len =
 
 -- ---- a vector
 
-spelled : (a b n : ℕ) (content : List ℕ) → a < 256 → b < 256 → n ≡ a * 256 + b → a ∷ b ∷ content ≡ (n / 256) ∷ (n % 256) ∷ content
+spelled : (a b n : ℕ) (content : List ℕ) → a < 256 → b < 256 → n ≡ a * 256 + b
+    → a ∷ b ∷ content ≡ (n / 256) ∷ (n % 256) ∷ content
 spelled a b n content fa fb is =
     let high : a ≡ n / 256 = omega arith in
     let low : b ≡ n % 256 = omega arith in
     ap (λ (x : ℕ). x ∷ b ∷ content) high ∙ ap (λ (x : ℕ). (n / 256) ∷ x ∷ content) low
 
-pub vector_at_takes : (bytes : List ℕ) → IsBytes bytes → (y : List ℕ × List ℕ) → vector_at bytes ≡ Some y → IsShort y.0 × (bytes ≡ vector y.0 ++ y.1)
+pub vector_at_takes : (bytes : List ℕ) → IsBytes bytes → (y : List ℕ × List ℕ) → vector_at bytes ≡ Some y
+    → IsShort y.0 × (bytes ≡ vector y.0 ++ y.1)
 unfolding vector_at
 vector_at_takes [] fits y e = absurd cc
 vector_at_takes (a ∷ []) fits y e = absurd cc
@@ -50,7 +53,9 @@ vector_at_takes (a ∷ b ∷ rest) fits y e =
 
 pub vector_at_again : (x rest : List ℕ) → IsShort x → vector_at (vector x ++ rest) ≡ Some (x, rest)
 unfolding vector_at
-vector_at_again x rest short = (let len : length x ≡ length x / 256 * 256 + length x % 256 = omega arith in bytes_at_again (length x / 256 * 256 + length x % 256) x rest len)
+vector_at_again x rest short =
+    (let len : length x ≡ length x / 256 * 256 + length x % 256 = omega arith in
+    bytes_at_again (length x / 256 * 256 + length x % 256) x rest len)
 
 pub vector_at_shrinks : (bytes : List ℕ) (y : List ℕ × List ℕ) → vector_at bytes ≡ Some y → length y.1 < length bytes
 unfolding vector_at
@@ -66,7 +71,8 @@ vectors = record { takes = vector_at_takes; again = vector_at_again; shrinks = v
 
 -- ---- all of the text
 
-pub whole_vector_takes : (bytes : List ℕ) → IsBytes bytes → (x : List ℕ) → whole_vector bytes ≡ Some x → IsShort x × (bytes ≡ vector x)
+pub whole_vector_takes : (bytes : List ℕ) → IsBytes bytes → (x : List ℕ) → whole_vector bytes ≡ Some x
+    → IsShort x × (bytes ≡ vector x)
 unfolding whole_vector
 whole_vector_takes bytes fits x e =
     let v = bind_is (vector_at bytes) _ x e in
@@ -78,7 +84,8 @@ whole_vector_takes bytes fits x e =
 pub whole_vector_again : (x : List ℕ) → IsShort x → whole_vector (vector x) ≡ Some x
 unfolding whole_vector
 whole_vector_again x short =
-    bind_of_some (vector_at (vector x)) _ (x, []) (subst (λ (w : List ℕ). vector_at w ≡ Some (x, [])) (append-nil (vector x)) (vector_at_again x [] short))
+    bind_of_some (vector_at (vector x)) _ (x, [])
+    (subst (λ (w : List ℕ). vector_at w ≡ Some (x, [])) (append-nil (vector x)) (vector_at_again x [] short))
 
 -- ---- a list of them
 
@@ -86,17 +93,21 @@ is_some_bind : {A B : Type 0} (o : Option A) (f : A → B) → is_some (o >>= λ
 is_some_bind (Some x) f = refl
 is_some_bind None f = refl
 
-pub vectors_go_on : (bytes : List ℕ) (y : List ℕ × List ℕ) → vector_at bytes ≡ Some y → is_some (many_at vector_at y.1) ≡ is_some (many_at vector_at bytes)
+pub vectors_go_on : (bytes : List ℕ) (y : List ℕ × List ℕ) → vector_at bytes ≡ Some y
+    → is_some (many_at vector_at y.1) ≡ is_some (many_at vector_at bytes)
 vectors_go_on bytes y e =
     sym (ap (λ (o : Option (List (List ℕ))). is_some o) (many_at_more vector_at vector_at_shrinks bytes y e)
     ∙ is_some_bind (many_at vector_at y.1) (λ xs. y.0 ∷ xs))
 
 pub vectors_end : (bytes : List ℕ) → true ≡ eqb (length bytes) 0 → is_some (many_at vector_at bytes) ≡ true
 vectors_end bytes none =
-    ap (λ (w : List ℕ). is_some (many_at vector_at w)) (none_left bytes (sym none)) ∙ ap (λ (o : Option (List (List ℕ))). is_some o) (many_at_none vector_at)
+    ap (λ (w : List ℕ). is_some (many_at vector_at w)) (none_left bytes (sym none))
+    ∙ ap (λ (o : Option (List (List ℕ))). is_some o) (many_at_none vector_at)
 
 pub is_left : (bytes : List ℕ) → false ≡ eqb (length bytes) 0 → bytes ≢ []
 is_left bytes e = λ none. let no = e ∙ ap (λ (w : List ℕ). eqb (length w) 0) none in cc
 
-pub vectors_stop : (bytes : List ℕ) → false ≡ eqb (length bytes) 0 → vector_at bytes ≡ None → is_some (many_at vector_at bytes) ≡ false
-vectors_stop bytes some_left e = ap (λ (o : Option (List (List ℕ))). is_some o) (many_at_stops vector_at bytes (is_left bytes some_left) e)
+pub vectors_stop : (bytes : List ℕ) → false ≡ eqb (length bytes) 0 → vector_at bytes ≡ None
+    → is_some (many_at vector_at bytes) ≡ false
+vectors_stop bytes some_left e =
+    ap (λ (o : Option (List (List ℕ))). is_some o) (many_at_stops vector_at bytes (is_left bytes some_left) e)

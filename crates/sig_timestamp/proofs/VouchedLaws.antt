@@ -1,11 +1,10 @@
 -- Each result of a keyring and of a timestamp, and when it comes.
-use Rattle.std.proofs.Common.{◌≡◌, ◌≢◌, ◌⊎◌, ℕ, ◌+◌, ◌-◌, ◌^◌, ◌<◌, Bool, true, false, cond, ltb, List, length, Option}
+use Rattle.std.proofs.Common.{◌≡◌, ℕ, ◌+◌, ◌-◌, ◌^◌, ◌<◌, Bool, true, false, cond, ltb, List, length, Option}
 use Rattle.std.proofs.Common.{Some, None, Result, Ok, Err}
-use Rattle.std.proofs.Common.{refl, sym, ap, subst, ◌∙◌, arith, inl, inr}
+use Rattle.std.proofs.Common.{refl, sym, ap, ◌∙◌, arith, inl, inr}
 use Rattle.std.specs.Prelude.{◌↔◌}
 use Rattle.std.proofs.lemmas.Bool.{cases_Bool, cond-true, cond-false, le-ltb, ltb-false}
 use Rattle.sig_base.specs.Answers.{Answers, ComesWhere}
-use Rattle.sig_base.proofs.OptionSteps.{some_is}
 use Rattle.sig_timestamp.specs.declared.keyring_error.KeyringError.{KeyringError}
 use Rattle.sig_timestamp.specs.declared.keyring_error.KeyringError.TheVariants.{KeyNotFound, VerificationFailed}
 use Rattle.sig_timestamp.specs.declared.sct_error.SCTError.{SCTError}
@@ -39,7 +38,8 @@ module _ (accepts : Accepts) (ring : Ring) (id message signature : List ℕ) whe
   known p e = ap (λ (o : Option (List ℕ)). vouch accepts o message signature) e
 
   pub vouch_unknown : (Meant ≡ Err KeyNotFound) ↔ (point_at ring id ≡ None)
-  vouch_unknown = (to (point_at ring id) refl, (λ e. ap (λ (o : Option (List ℕ)). vouch accepts o message signature) e))
+  vouch_unknown =
+      (to (point_at ring id) refl, (λ e. ap (λ (o : Option (List ℕ)). vouch accepts o message signature) e))
     where
       not_unknown : (b : Bool) → as_result b ≡ Err KeyNotFound → ⊥
       not_unknown true e = cc
@@ -57,9 +57,11 @@ module _ (accepts : Accepts) (ring : Ring) (id message signature : List ℕ) whe
       unknown_not true e = cc
       unknown_not false e = cc
 
-      to : (o : Option (List ℕ)) → point_at ring id ≡ o → Meant ≡ as_result b → IsSignedUnder accepts ring id message signature b
+      to : (o : Option (List ℕ)) → point_at ring id ≡ o → Meant ≡ as_result b
+          → IsSignedUnder accepts ring id message signature b
       to None e f = absurd (unknown_not b (sym (vouch_unknown.1 e) ∙ f))
-      to (Some p) e f = record { point = p; has = e; said = as_result_one (accepts p message signature) b (sym (known p e) ∙ f) }
+      to (Some p) e f =
+          record { point = p; has = e; said = as_result_one (accepts p message signature) b (sym (known p e) ∙ f) }
 
 -- ---- a timestamp
 
@@ -89,16 +91,23 @@ module _ (accepts : Accepts) (d : DigitallySigned) (ring : Ring) where
 
   by_point : HasBytes d → (o : Option (List ℕ)) → point_at ring d.log_id ≡ o → Cases
   by_point h None e =
-      unknown (record { bytes = h; unknown = e }) (has_bytes h ∙ ap verified ((vouch_unknown accepts ring d.log_id (signed_bytes d) d.signature).1 e))
+      unknown (record { bytes = h; unknown = e })
+      (has_bytes h ∙ ap verified ((vouch_unknown accepts ring d.log_id (signed_bytes d) d.signature).1 e))
   by_point h (Some p) e = by_said (accepts p (signed_bytes d) d.signature) refl
     where
       by_said : (b : Bool) → accepts p (signed_bytes d) d.signature ≡ b → Cases
       by_said true said =
           genuine (record { bytes = h; signed = record { point = p; has = e; said = said } })
-          (has_bytes h ∙ ap verified ((vouch_signed accepts ring d.log_id (signed_bytes d) d.signature true).1 (record { point = p; has = e; said = said })))
+          (has_bytes h
+          ∙ ap verified
+          ((vouch_signed accepts ring d.log_id (signed_bytes d) d.signature true).1
+          (record { point = p; has = e; said = said })))
       by_said false said =
           forged (record { bytes = h; signed = record { point = p; has = e; said = said } })
-          (has_bytes h ∙ ap verified ((vouch_signed accepts ring d.log_id (signed_bytes d) d.signature false).1 (record { point = p; has = e; said = said })))
+          (has_bytes h
+          ∙ ap verified
+          ((vouch_signed accepts ring d.log_id (signed_bytes d) d.signature false).1
+          (record { point = p; has = e; said = said })))
 
   cases : Cases
   cases =
@@ -106,11 +115,13 @@ module _ (accepts : Accepts) (d : DigitallySigned) (ring : Ring) where
         | inl body ↦ long (λ h. above _ _ body h.body) (cond-true _ _ _ body)
         | inr body ↦
             elim (cases_Bool (ltb (2 ^ 16 - 1) (length d.extensions))) [
-              | inl extensions ↦ long (λ h. above _ _ extensions h.extensions) (cond-false _ _ _ body ∙ cond-true _ _ _ extensions)
+              | inl extensions ↦
+                  long (λ h. above _ _ extensions h.extensions) (cond-false _ _ _ body ∙ cond-true _ _ _ extensions)
               | inr extensions ↦
                   let short = ltb-false _ _ body in
                   let few = ltb-false _ _ extensions in
-                  by_point (record { body = omega (arith, short); extensions = omega (arith, few) }) (point_at ring d.log_id) refl
+                  by_point (record { body = omega (arith, short); extensions = omega (arith, few) })
+                  (point_at ring d.log_id) refl
             ]
       ]
 
@@ -145,10 +156,12 @@ module _ (accepts : Accepts) (d : DigitallySigned) (ring : Ring) where
   to_forged (forged x e) f = x
 
   from_signed : (b : Bool) → IsSignedByLog accepts d ring b → Meaning ≡ verified (as_result b)
-  from_signed b x = has_bytes x.bytes ∙ ap verified ((vouch_signed accepts ring d.log_id (signed_bytes d) d.signature b).1 x.signed)
+  from_signed b x =
+      has_bytes x.bytes ∙ ap verified ((vouch_signed accepts ring d.log_id (signed_bytes d) d.signature b).1 x.signed)
 
   from_unknown : IsOfUnknownLog d ring → Meaning ≡ Err (Verification KeyNotFound)
-  from_unknown x = has_bytes x.bytes ∙ ap verified ((vouch_unknown accepts ring d.log_id (signed_bytes d) d.signature).1 x.unknown)
+  from_unknown x =
+      has_bytes x.bytes ∙ ap verified ((vouch_unknown accepts ring d.log_id (signed_bytes d) d.signature).1 x.unknown)
 
   module _ (r : Judged) (is : Answers OutOfMemory (λ (x : Unit {0}). x) r Meaning) where
     pub comes_long : ComesWhere OutOfMemory r (Err Serialization) (¬ HasBytes d)
@@ -160,5 +173,6 @@ module _ (accepts : Accepts) (d : DigitallySigned) (ring : Ring) where
     pub comes_genuine : ComesWhere OutOfMemory r (Ok tt) (IsSignedByLog accepts d ring true)
     comes_genuine = comes_where OutOfMemory r Meaning _ _ is (λ e. cc) (to_genuine cases) (from_signed true)
 
-    pub comes_forged : ComesWhere OutOfMemory r (Err (Verification VerificationFailed)) (IsSignedByLog accepts d ring false)
+    pub comes_forged : ComesWhere OutOfMemory r (Err (Verification VerificationFailed))
+        (IsSignedByLog accepts d ring false)
     comes_forged = comes_where OutOfMemory r Meaning _ _ is (λ e. cc) (to_forged cases) (from_signed false)

@@ -1,5 +1,5 @@
 -- Whether a keyring vouches for a timestamp, in the words of RFC 6962 section 3.2: each result, and when it comes.
-use Rattle.std.specs.Prelude.{◌≡◌, ℕ, Bool, true, false, List, Option, Some, None}
+use Rattle.std.specs.Prelude.{◌≡◌, ℕ, Bool, List, Some, None}
 use Rattle.sig_timestamp.specs.declared.signed.DigitallySigned.{DigitallySigned}
 use Rattle.sig_timestamp.specs.RingKey.{RingKey, point_at}
 use Rattle.sig_timestamp.specs.Vectors.{IsShort, IsLong}

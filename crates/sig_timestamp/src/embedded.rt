@@ -131,13 +131,9 @@ fn embed(
     ensures read { Answers SCTError.OutOfMemory (λ d. d) result (ready leaf.now issuer_spki.now (sct_of leaf.now)) }
     ensures said { IsSaidOf leaf.now (sct_of leaf.now) }
 {
-    match sct_of(leaf) {
-        Err(kind) => Err(SCTError::Parsing(kind)),
-        Ok(sct) => {
-            let signed = sign(alloc, leaf, issuer_spki, sct)?;
-            Ok(CertificateEmbeddedSCT { signed })
-        }
-    }
+    let sct = sct_of(leaf)?;
+    let signed = sign(alloc, leaf, issuer_spki, sct)?;
+    Ok(CertificateEmbeddedSCT { signed })
 }
 
 /// Returns what the SCT of the certificate signs.
@@ -193,11 +189,6 @@ fn read_value(value: &[u8]) -> Result<LentSct<'_>, CertificateErrorKind>
 fn read_only(list: &[u8]) -> Result<LentSct<'_>, CertificateErrorKind>
     ensures { sct_answer result ≡ sct_in (only_one (many_at vector_at list.now)) }
 {
-    match only_one(list) {
-        Err(kind) => Err(kind),
-        Ok(text) => match sct_at(text) {
-            None => Err(CertificateErrorKind::LeafSCTMalformed),
-            Some(sct) => Ok(sct),
-        },
-    }
+    let sct = only_one(list)?;
+    sct_at(sct).ok_or(CertificateErrorKind::LeafSCTMalformed)
 }

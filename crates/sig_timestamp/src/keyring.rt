@@ -39,11 +39,8 @@ impl Keyring {
         let mut ring = Keyring {
             keys: BTreeMap::new(alloc),
         };
-        for place in 0..keys.len() {
-            match keys.get(place) {
-                None => {}
-                Some(spki) => ring.add(alloc, spki)?,
-            }
+        for spki in keys.as_slice() {
+            ring.add(alloc, spki.as_slice())?;
         }
         Ok(ring)
     }

@@ -61,10 +61,9 @@ fn kept_extensions(alloc: Global, leaf: &Certificate) -> Result<Vec<u8>, OutOfMe
     ensures { IfOk result (λ v. v.items ≡ texts_of (kept_extensions leaf.now)) }
 {
     let mut kept = Vec::new(alloc);
-    for place in 0..leaf.extension_count() {
-        match leaf.extension_at(place) {
-            None => {}
-            Some(extension) => push_kept(&mut kept, extension)?,
+    for index in 0..leaf.extension_count() {
+        if let Some(extension) = leaf.extension_at(index) {
+            push_kept(&mut kept, extension)?;
         }
     }
     Ok(kept)

@@ -3,4 +3,5 @@ use Rattle.sig_timestamp.proofs.PrecertLaws.{keeps_of}
 use Rattle.sig_timestamp.proofs.precert.precert_tbs_der.Goals as goal
 
 pub returns-clause-keeps : goal.returns-clause-keeps
-returns-clause-keeps c = keeps_of c.args.leaf.now c.is_certificate.ensures.tbs c.precertificate.result c.precertificate.ensures
+returns-clause-keeps c =
+    keeps_of c.args.leaf.now c.is_certificate.ensures.tbs c.precertificate.result c.precertificate.ensures

@@ -9,4 +9,5 @@ pub returns-then-is_empty : goal.returns-then-is_empty
 returns-then-is_empty c = only_first c.args.list.now _ c.in-Some.ensures c.if-is_empty.ensures
 
 pub returns-else-is_empty : goal.returns-else-is_empty
-returns-else-is_empty c = only_more c.args.list.now _ c.if-not-are_vectors.ensures c.in-Some.ensures c.if-is_empty.ensures
+returns-else-is_empty c =
+    only_more c.args.list.now _ c.if-not-are_vectors.ensures c.in-Some.ensures c.if-is_empty.ensures

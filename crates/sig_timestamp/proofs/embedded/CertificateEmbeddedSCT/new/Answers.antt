@@ -4,10 +4,13 @@ use Rattle.sig_timestamp.proofs.EmbeddedLaws.{under_issuer, under_missing, under
 use Rattle.sig_timestamp.proofs.embedded.CertificateEmbeddedSCT.new.Goals as goal
 
 pub returns-clause-issuer : goal.returns-clause-issuer
-returns-clause-issuer c = under_issuer c.args.leaf.now (issuer_of c.args.chain.now) c.embed_under.result c.embed_under.ensures
+returns-clause-issuer c =
+    under_issuer c.args.leaf.now (issuer_of c.args.chain.now) c.embed_under.result c.embed_under.ensures
 
 pub returns-clause-missing : goal.returns-clause-missing
-returns-clause-missing c = under_missing c.args.leaf.now (issuer_of c.args.chain.now) c.embed_under.result c.embed_under.ensures
+returns-clause-missing c =
+    under_missing c.args.leaf.now (issuer_of c.args.chain.now) c.embed_under.result c.embed_under.ensures
 
 pub returns-clause-malformed : goal.returns-clause-malformed
-returns-clause-malformed c = under_malformed c.args.leaf.now (issuer_of c.args.chain.now) c.embed_under.result c.embed_under.ensures
+returns-clause-malformed c =
+    under_malformed c.args.leaf.now (issuer_of c.args.chain.now) c.embed_under.result c.embed_under.ensures

@@ -3,7 +3,8 @@ use Rattle.sig_timestamp.proofs.EmbeddedLaws.{embedded, missing, malformed}
 use Rattle.sig_timestamp.proofs.embedded.CertificateEmbeddedSCT.new_with_verified_path.Goals as goal
 
 pub returns-clause-embedded : goal.returns-clause-embedded
-returns-clause-embedded c = embedded c.args.leaf.now c.args.issuer_spki.now c.embed.result c.embed.ensures.read c.embed.ensures.said
+returns-clause-embedded c =
+    embedded c.args.leaf.now c.args.issuer_spki.now c.embed.result c.embed.ensures.read c.embed.ensures.said
 
 pub returns-clause-missing : goal.returns-clause-missing
 returns-clause-missing c =

@@ -10,7 +10,8 @@ use Rattle.sig_timestamp.proofs.key.Key.new.Goals as goal
 
 pub returns-clause-found : goal.returns-clause-found
 returns-clause-found c =
-    found_key c.args.spki_bytes.now (λ i. omega (arith, c.type_inv.spki_bytes i)) c.read_key.result c.read_key.ensures.exact
+    found_key c.args.spki_bytes.now (λ i. omega (arith, c.type_inv.spki_bytes i)) c.read_key.result
+    c.read_key.ensures.exact
 
 pub returns-clause-info : goal.returns-clause-info
 returns-clause-info c = λ k is text.
@@ -24,8 +25,10 @@ returns-clause-none c = λ none.
 
 pub returns-clause-key_malformed : goal.returns-clause-key_malformed
 returns-clause-key_malformed c =
-    malformed_key c.args.spki_bytes.now (λ i. omega (arith, c.type_inv.spki_bytes i)) c.read_key.result c.read_key.ensures.exact
+    malformed_key c.args.spki_bytes.now (λ i. omega (arith, c.type_inv.spki_bytes i)) c.read_key.result
+    c.read_key.ensures.exact
 
 pub returns-clause-algo_unsupported : goal.returns-clause-algo_unsupported
 returns-clause-algo_unsupported c =
-    other_key c.args.spki_bytes.now (λ i. omega (arith, c.type_inv.spki_bytes i)) c.read_key.result c.read_key.ensures.exact
+    other_key c.args.spki_bytes.now (λ i. omega (arith, c.type_inv.spki_bytes i)) c.read_key.result
+    c.read_key.ensures.exact

@@ -8,6 +8,8 @@ use Rattle.sig_timestamp.proofs.keyring.Keyring.add.Goals as goal
 
 pub returns-in_ok-insert-in-Ok-clause-ok : goal.returns-in_ok-insert-in-Ok-clause-ok
 returns-in_ok-insert-in-Ok-clause-ok c = λ id.
-    added id c.args.spki.now c.key.inside.id c.in-Ok.key c.self.inside.keys.entries c.insert.new.self.entries c.in-Ok.ensures.exact
+    added id c.args.spki.now c.key.inside.id c.in-Ok.key c.self.inside.keys.entries c.insert.new.self.entries
+    c.in-Ok.ensures.exact
     (ap (λ (k : RingKey). k.id) c.key.view_is ∙ c.in-Ok.ensures.id) (c.in_ok-insert-in-Ok.ensures.updates.0 id)
-    ∙ ap (λ (ring : List (List ℕ × RingKey)). option_or (point_if id c.args.spki.now) (point_at ring id)) c.self.view_is
+    ∙ ap (λ (ring : List (List ℕ × RingKey)). option_or (point_if id c.args.spki.now) (point_at ring id))
+    c.self.view_is

@@ -3,5 +3,6 @@ use Rattle.sig_timestamp.specs.Keyring.{key_of}
 use Rattle.sig_timestamp.specs.RingKey.{point_at}
 use Rattle.sig_timestamp.proofs.keyring.Keyring.new.Given as goal
 
-abbrev pub invariant-loop-place : goal.invariant-loop-place
-invariant-loop-place l = (id : List ℕ) → point_at l.ring id ≡ key_of (take l.place l.keys) id
+-- the ring is that of the keys so far
+abbrev pub invariant-loop-spki : goal.invariant-loop-spki
+invariant-loop-spki l = (id : List ℕ) → point_at l.ring id ≡ key_of (take l.spki-index l.keys) id
