@@ -24,38 +24,47 @@ none_one es e is = rw is refl
 pub none_several : (es : List Extension) → 2 ≤ length es → nat_eq (length es) 0 ≡ false
 none_several es le = ne_eqb (length es) 0 (λ is. omega (arith, le, is))
 
--- ---- a list up to a place
+-- whether none is there, by what a look-up finds
+pub ruleset lookup_counts = (none_absent, none_one, none_several)
 
-pub within_list : {X : Type 0} (xs : List X) (place : ℕ) → place < length xs → slice_get xs place ≡ None → ⊥
-within_list [] place lt none = omega (arith, lt)
-within_list (x ∷ xs) place lt none = let some = slice_get-get_or (x ∷ xs) place x lt in let no = sym none ∙ some in absurd cc
+-- ---- a list up to an index
 
-at_place : {X : Type 0} (xs : List X) (place : ℕ) (x : X) → slice_get xs place ≡ Some x → get_or xs place x ≡ x
-at_place xs place x got = get_or_from_slice_get xs place x x got
+pub within_list : {X : Type 0} (xs : List X) (index : ℕ) → index < length xs → slice_get xs index ≡ None → ⊥
+within_list [] index lt none = omega (arith, lt)
+within_list (x ∷ xs) index lt none =
+    let some = slice_get-get_or (x ∷ xs) index x lt in let no = sym none ∙ some in absurd cc
 
-pub all_more : {X : Type 0} (p : X → Bool) (xs : List X) (place : ℕ) (x : X) → slice_get xs place ≡ Some x → p x ≡ true
-    → list_all p (take place xs) ≡ true → list_all p (take (place + 1) xs) ≡ true
-all_more p xs place x got is before =
-    list_all_more p xs place x (slice_get_within xs place x got) ∙ rw (before, at_place xs place x got, is) refl
+at_place : {X : Type 0} (xs : List X) (index : ℕ) (x : X) → slice_get xs index ≡ Some x → get_or xs index x ≡ x
+at_place xs index x got = get_or_from_slice_get xs index x x got
 
-pub all_fails : {X : Type 0} (p : X → Bool) (xs : List X) (place : ℕ) (x : X) → slice_get xs place ≡ Some x → p x ≡ false → list_all p xs ≡ false
-all_fails p xs place x got is = list_all_at p xs place x (slice_get_within xs place x got) (rw (at_place xs place x got) is)
+pub all_more : {X : Type 0} (p : X → Bool) (xs : List X) (index : ℕ) (x : X) → slice_get xs index ≡ Some x → p x ≡ true
+    → list_all p (take index xs) ≡ true → list_all p (take (index + 1) xs) ≡ true
+all_more p xs index x got is before =
+    list_all_more p xs index x (slice_get_within xs index x got) ∙ rw (before, at_place xs index x got, is) refl
+
+pub all_fails : {X : Type 0} (p : X → Bool) (xs : List X) (index : ℕ) (x : X) → slice_get xs index ≡ Some x
+    → p x ≡ false → list_all p xs ≡ false
+all_fails p xs index x got is =
+    list_all_at p xs index x (slice_get_within xs index x got) (rw (at_place xs index x got) is)
 
 -- ---- anchors
 
-anchors_push : (ts : List (List ℕ)) (cs : List Cert) (t : List ℕ) (c : Cert) → AreAnchors ts cs → IsAnchor t c → AreAnchors (ts ++ t ∷ []) (cs ++ c ∷ [])
+anchors_push : (ts : List (List ℕ)) (cs : List Cert) (t : List ℕ) (c : Cert) → AreAnchors ts cs → IsAnchor t c
+    → AreAnchors (ts ++ t ∷ []) (cs ++ c ∷ [])
 anchors_push [] [] t c are is = (is, tt)
 anchors_push (u ∷ ts) (d ∷ cs) t c are is = (are.0, anchors_push ts cs t c are.1 is)
 anchors_push [] (d ∷ cs) t c are is = absurd are
 anchors_push (u ∷ ts) [] t c are is = absurd are
 
 -- the texts are walked in the list's own memory, us
-pub anchors_more : (ts us : List (List ℕ)) (place : ℕ) (t u : List ℕ) (c : Cert) (before after : List Cert) → us ≡ ts → place < length us → u ≡ get_or us place u
-    → t ≡ u → IsAnchor t c → after ≡ before ++ c ∷ [] → AreAnchors (take place ts) before → AreAnchors (take (place + 1) ts) after
-anchors_more ts us place t u c before after same lt there seen is grown are =
-    let below : place < length ts = rw (sym same) lt in
-    let got : t ≡ get_or ts place t = rw (seen, sym same) there in
-    rw (grown, take_more ts place t below, sym got) (anchors_push (take place ts) before t c are is)
+pub anchors_more : (ts us : List (List ℕ)) (index : ℕ) (t u : List ℕ) (c : Cert) (before after : List Cert) → us ≡ ts
+    → index < length us → u ≡ get_or us index u
+    → t ≡ u → IsAnchor t c → after ≡ before ++ c ∷ [] → AreAnchors (take index ts) before
+    → AreAnchors (take (index + 1) ts) after
+anchors_more ts us index t u c before after same lt there seen is grown are =
+    let below : index < length ts = rw (sym same) lt in
+    let got : t ≡ get_or ts index t = rw (seen, sym same) there in
+    rw (grown, take_more ts index t below, sym got) (anchors_push (take index ts) before t c are is)
 
 -- ---- what was read is the only certificate of its text
 
@@ -66,19 +75,23 @@ read_same c d same = ap (λ (o : Option Cert). option_or_else c o) same
     option_or_else x None = x
     option_or_else x (Some y) = y
 
-pub no_anchor : (c d : Cert) (b : Bool) → Some d ≡ Some c → b ≡ false → b ≡ is_unconstrained c → is_unconstrained d ≡ true → ⊥
+pub no_anchor : (c d : Cert) (b : Bool) → Some d ≡ Some c → b ≡ false → b ≡ is_unconstrained c
+    → is_unconstrained d ≡ true → ⊥
 no_anchor c d b same answer is un =
     let wrong : true ≡ false = sym un ∙ ap (λ (x : Cert). is_unconstrained x) (read_same c d same) ∙ sym is ∙ answer in
     absurd cc
 
-pub der_only : (text : List ℕ) (e : X509ReadError) → e ≡ Der → IsRefusedOnlyWithout text e → (d : Cert) → IsCertificate text d → ⊥
+pub der_only : (text : List ℕ) (e : X509ReadError) → e ≡ Der → IsRefusedOnlyWithout text e → (d : Cert)
+    → IsCertificate text d → ⊥
 der_only text Der is none = none
 der_only text NoMemory is none = absurd cc
 
 -- ---- the issuer
 
-pub judged : (accepts : Accepts) (anchors : List Cert) (c : Cert) (t s : ℤ) (b : Bool) (o : Option ℕ) → s ≡ t → b ≡ true → b ≡ is_profiled c
+pub judged : (accepts : Accepts) (anchors : List Cert) (c : Cert) (t s : ℤ) (b : Bool) (o : Option ℕ) → s ≡ t
+    → b ≡ true → b ≡ is_profiled c
     → o ≡ position (is_issued accepts c s) anchors → placed o ≡ issuer_of accepts anchors c t
 judged accepts anchors c t s b o time profiled is found =
     ap placed (found ∙ ap (λ (x : ℤ). position (is_issued accepts c x) anchors) time)
-    ∙ sym (ap (λ (x : Bool). cond x (placed (position (is_issued accepts c t) anchors)) (Err Malformed)) (sym is ∙ profiled))
+    ∙ sym (ap (λ (x : Bool). cond x (placed (position (is_issued accepts c t) anchors)) (Err Malformed))
+    (sym is ∙ profiled))

@@ -41,41 +41,52 @@ critical_from oid is = first (or_cases _ _ is)
     third (inl e) = inr (inr (inl (bytes_same oid basic_constraints e)))
     third (inr e) = inr (inr (inr (bytes_same oid extended_key_usage e)))
 
-    second : (bytes_eq oid subject_alternative_name ≡ true) ⊎ ((bytes_eq oid basic_constraints || bytes_eq oid extended_key_usage) ≡ true) → MayBeCritical oid
+    second : (bytes_eq oid subject_alternative_name ≡ true)
+        ⊎ ((bytes_eq oid basic_constraints || bytes_eq oid extended_key_usage) ≡ true) → MayBeCritical oid
     second (inl e) = inr (inl (bytes_same oid subject_alternative_name e))
     second (inr e) = third (or_cases _ _ e)
 
-    first : (bytes_eq oid key_usage ≡ true) ⊎ ((bytes_eq oid subject_alternative_name || (bytes_eq oid basic_constraints || bytes_eq oid extended_key_usage)) ≡ true) → MayBeCritical oid
+    first : (bytes_eq oid key_usage ≡ true)
+        ⊎ ((bytes_eq oid subject_alternative_name || (bytes_eq oid basic_constraints || bytes_eq oid extended_key_usage))
+        ≡ true) → MayBeCritical oid
     first (inl e) = inl (bytes_same oid key_usage e)
     first (inr e) = second (or_cases _ _ e)
 
 critical_is : (oid : List ℕ) → MayBeCritical oid → may_be_critical oid ≡ true
 critical_is oid (inl e) = rw (same_bytes oid key_usage e) refl
-critical_is oid (inr (inl e)) = or_right (bytes_eq oid key_usage) _ (rw (same_bytes oid subject_alternative_name e) refl)
+critical_is oid (inr (inl e)) =
+    or_right (bytes_eq oid key_usage) _ (rw (same_bytes oid subject_alternative_name e) refl)
 critical_is oid (inr (inr (inl e))) =
     or_right (bytes_eq oid key_usage) _
     (or_right (bytes_eq oid subject_alternative_name) _ (rw (same_bytes oid basic_constraints e) refl))
 critical_is oid (inr (inr (inr e))) =
     or_right (bytes_eq oid key_usage) _
     (or_right (bytes_eq oid subject_alternative_name) _
-    (or_right (bytes_eq oid basic_constraints) (bytes_eq oid extended_key_usage) (same_bytes oid extended_key_usage e)))
+    (or_right (bytes_eq oid basic_constraints) (bytes_eq oid extended_key_usage)
+    (same_bytes oid extended_key_usage e)))
 
-understood_one : (critical : Bool) (oid : List ℕ) → (not critical || may_be_critical oid) ≡ true → critical ≡ true → MayBeCritical oid
+understood_one : (critical : Bool) (oid : List ℕ) → (not critical || may_be_critical oid) ≡ true → critical ≡ true
+    → MayBeCritical oid
 understood_one true oid is e = critical_from oid is
 understood_one false oid is e = absurd cc
 
-one_understood : (critical : Bool) (oid : List ℕ) → (critical ≡ true → MayBeCritical oid) → (not critical || may_be_critical oid) ≡ true
+one_understood : (critical : Bool) (oid : List ℕ) → (critical ≡ true → MayBeCritical oid)
+    → (not critical || may_be_critical oid) ≡ true
 one_understood true oid is = critical_is oid (is refl)
 one_understood false oid is = refl
 
-understood_from : (es : List Extension) → are_understood es ≡ true → AllByRecursion (λ (e : Extension). e.critical ≡ true → MayBeCritical e.oid) es
+understood_from : (es : List Extension) → are_understood es ≡ true
+    → AllByRecursion (λ (e : Extension). e.critical ≡ true → MayBeCritical e.oid) es
 understood_from [] is = tt
 understood_from (e ∷ es) is =
-    let parts = and_parts (is_understood e) (are_understood es) is in (understood_one e.critical e.oid parts.0, understood_from es parts.1)
+    let parts = and_parts (is_understood e) (are_understood es) is in
+    (understood_one e.critical e.oid parts.0, understood_from es parts.1)
 
-understood_is : (es : List Extension) → AllByRecursion (λ (e : Extension). e.critical ≡ true → MayBeCritical e.oid) es → are_understood es ≡ true
+understood_is : (es : List Extension) → AllByRecursion (λ (e : Extension). e.critical ≡ true → MayBeCritical e.oid) es
+    → are_understood es ≡ true
 understood_is [] is = refl
-understood_is (e ∷ es) is = and_from (is_understood e) (are_understood es) (one_understood e.critical e.oid is.0) (understood_is es is.1)
+understood_is (e ∷ es) is =
+    and_from (is_understood e) (are_understood es) (one_understood e.critical e.oid is.0) (understood_is es is.1)
 
 none_from : (es : List Extension) → (length es == 0) ≡ true → es ≡ []
 none_from [] is = refl
@@ -104,12 +115,14 @@ fit_is c is =
     (and_from _ _ (ap (λ (es : List Extension). length es == 0) is.unconstrained)
     (and_from _ _ (understood_is c.extensions is.understood) (distinct_is (oids c.extensions) is.single))))
 
-no_authority_from : (h : Held (Bool × Constraints)) → is_no_authority h ≡ true → (h ≡ Ok None) ⊎ ((b : Bool × Constraints) × (h ≡ Ok (Some b)) × (b.1.ca ≡ false))
+no_authority_from : (h : Held (Bool × Constraints)) → is_no_authority h ≡ true
+    → (h ≡ Ok None) ⊎ ((b : Bool × Constraints) × (h ≡ Ok (Some b)) × (b.1.ca ≡ false))
 no_authority_from (Err e) is = absurd cc
 no_authority_from (Ok None) is = inl refl
 no_authority_from (Ok (Some b)) is = inr (b, refl, not-true b.1.ca is)
 
-no_authority_is : (h : Held (Bool × Constraints)) → (h ≡ Ok None) ⊎ ((b : Bool × Constraints) × (h ≡ Ok (Some b)) × (b.1.ca ≡ false)) → is_no_authority h ≡ true
+no_authority_is : (h : Held (Bool × Constraints))
+    → (h ≡ Ok None) ⊎ ((b : Bool × Constraints) × (h ≡ Ok (Some b)) × (b.1.ca ≡ false)) → is_no_authority h ≡ true
 no_authority_is h (inl e) = rw e refl
 no_authority_is h (inr x) = rw x.1 (ap not x.2)
 
@@ -119,7 +132,9 @@ profile_from c is =
     record { fit = fit_from c parts.0; no_authority = no_authority_from (constraints c) parts.1 }
 
 pub profile_is : (c : Cert) → HasProfile c → is_profiled c ≡ true
-profile_is c is = and_from (is_fit c) (is_no_authority (constraints c)) (fit_is c is.fit) (no_authority_is (constraints c) is.no_authority)
+profile_is c is =
+    and_from (is_fit c) (is_no_authority (constraints c)) (fit_is c is.fit)
+    (no_authority_is (constraints c) is.no_authority)
 
 -- ---- the issuer
 
@@ -142,7 +157,8 @@ signs_from (Err e) is = absurd cc
 signs_from (Ok None) is = absurd cc
 signs_from (Ok (Some b)) is = ap (λ (x : Bool). Ok (Some x)) is
 
-pub issued_from : (accepts : Accepts) (c : Cert) (t : ℤ) (x : Cert) → is_issued accepts c t x ≡ true → IsIssuedBy accepts c t x
+pub issued_from : (accepts : Accepts) (c : Cert) (t : ℤ) (x : Cert) → is_issued accepts c t x ≡ true
+    → IsIssuedBy accepts c t x
 issued_from accepts c t x is =
     let a = and_parts _ _ is in
     let b = and_parts _ _ a.0 in
@@ -155,10 +171,12 @@ issued_from accepts c t x is =
       signed = record { issuer = bytes_same c.issuer x.subject e.0; genuine = e.1 };
     }
 
-pub issued_is : (accepts : Accepts) (c : Cert) (t : ℤ) (x : Cert) → IsIssuedBy accepts c t x → is_issued accepts c t x ≡ true
+pub issued_is : (accepts : Accepts) (c : Cert) (t : ℤ) (x : Cert) → IsIssuedBy accepts c t x
+    → is_issued accepts c t x ≡ true
 issued_is accepts c t x is =
     and_from _ _
-    (and_from _ _ (and_from _ _ (le_is c.not_before t is.begun) (le_is t c.not_after is.lasting)) (ap may_sign_code is.purpose))
+    (and_from _ _ (and_from _ _ (le_is c.not_before t is.begun) (le_is t c.not_after is.lasting))
+    (ap may_sign_code is.purpose))
     (and_from _ _ (same_bytes c.issuer x.subject is.signed.issuer) is.signed.genuine)
 
 -- ---- the first of a list that passes
@@ -167,26 +185,32 @@ module _ (accepts : Accepts) (c : Cert) (t : ℤ) (anchors : List Cert) where
   abbrev Passes : Cert → Bool
   Passes x = is_issued accepts c t x
 
-  first_from : (place : ℕ) → position Passes anchors ≡ Some place → IsFirstIssuer accepts c t anchors place
-  first_from place is =
-      let found = position-Some Passes anchors place c is in
+  first_from : (index : ℕ) → position Passes anchors ≡ Some index → IsFirstIssuer accepts c t anchors index
+  first_from index is =
+      let found = position-Some Passes anchors index c is in
       record {
-        anchor = get_or anchors place c;
-        there = slice_get-get_or anchors place c found.0;
-        issued = issued_from accepts c t (get_or anchors place c) found.1;
+        anchor = get_or anchors index c;
+        there = slice_get-get_or anchors index c found.0;
+        issued = issued_from accepts c t (get_or anchors index c) found.1;
         first = λ earlier x lt got is_its.
             let fails = found.2 earlier lt in
-            let here = subst (λ (w : Cert). Passes w ≡ true) (sym (get_or_from_slice_get anchors earlier x c got)) (issued_is accepts c t x is_its) in
+            let here = subst (λ (w : Cert). Passes w ≡ true) (sym (get_or_from_slice_get anchors earlier x c got))
+            (issued_is accepts c t x is_its) in
             both_ways (Passes (get_or anchors earlier c)) fails here;
       }
 
   none_from_position : position Passes anchors ≡ None → IsIssuedByNone accepts c t anchors
-  none_from_position is place x got is_its =
-      let within = slice_get_within anchors place x got in
-      let all : length anchors ≤ position_or_len Passes anchors = ltb-false (position_or_len Passes anchors) (length anchors) (missed (position_or_len Passes anchors) (length anchors) is) in
-      let fails = not-true (Passes (get_or anchors place c)) (prefix_len_passes (λ (x : Cert). not (Passes x)) anchors place c (omega (arith, within, all))) in
-      let here = subst (λ (w : Cert). Passes w ≡ true) (sym (get_or_from_slice_get anchors place x c got)) (issued_is accepts c t x is_its) in
-      both_ways (Passes (get_or anchors place c)) fails here
+  none_from_position is index x got is_its =
+      let within = slice_get_within anchors index x got in
+      let all : length anchors ≤ position_or_len Passes anchors =
+      ltb-false (position_or_len Passes anchors) (length anchors)
+      (missed (position_or_len Passes anchors) (length anchors) is) in
+      let fails =
+      not-true (Passes (get_or anchors index c))
+      (prefix_len_passes (λ (x : Cert). not (Passes x)) anchors index c (omega (arith, within, all))) in
+      let here = subst (λ (w : Cert). Passes w ≡ true) (sym (get_or_from_slice_get anchors index x c got))
+      (issued_is accepts c t x is_its) in
+      both_ways (Passes (get_or anchors index c)) fails here
     where
       missed : (a n : ℕ) → cond (ltb a n) (Some a) None ≡ None → ltb a n ≡ false
       missed a n e = by_cases (ltb a n) e
@@ -195,31 +219,33 @@ module _ (accepts : Accepts) (c : Cert) (t : ℤ) (anchors : List Cert) where
           by_cases true e = absurd cc
           by_cases false e = refl
 
-  first_is : (place : ℕ) → IsFirstIssuer accepts c t anchors place → position Passes anchors ≡ Some place
-  first_is place is = by_found (position Passes anchors) refl
+  first_is : (index : ℕ) → IsFirstIssuer accepts c t anchors index → position Passes anchors ≡ Some index
+  first_is index is = by_found (position Passes anchors) refl
     where
-      by_order : (found : ℕ) → position Passes anchors ≡ Some found → IsFirstIssuer accepts c t anchors found → (found ≡ place) ⊎ ((found < place) ⊎ (place < found))
-          → position Passes anchors ≡ Some place
+      by_order : (found : ℕ) → position Passes anchors ≡ Some found → IsFirstIssuer accepts c t anchors found
+          → (found ≡ index) ⊎ ((found < index) ⊎ (index < found))
+          → position Passes anchors ≡ Some index
       by_order found e other (inl same) = e ∙ ap (λ (n : ℕ). Some n) same
       by_order found e other (inr (inl lt)) = absurd (is.first found other.anchor lt other.there other.issued)
-      by_order found e other (inr (inr lt)) = absurd (other.first place is.anchor lt is.there is.issued)
+      by_order found e other (inr (inr lt)) = absurd (other.first index is.anchor lt is.there is.issued)
 
-      by_found : (o : Option ℕ) → position Passes anchors ≡ o → position Passes anchors ≡ Some place
-      by_found None e = absurd (none_from_position e place is.anchor is.there is.issued)
-      by_found (Some found) e = by_order found e (first_from found e) (cases_order found place)
+      by_found : (o : Option ℕ) → position Passes anchors ≡ o → position Passes anchors ≡ Some index
+      by_found None e = absurd (none_from_position e index is.anchor is.there is.issued)
+      by_found (Some found) e = by_order found e (first_from found e) (cases_order found index)
 
   none_is : IsIssuedByNone accepts c t anchors → position Passes anchors ≡ None
   none_is none = by_found (position Passes anchors) refl
     where
       by_found : (o : Option ℕ) → position Passes anchors ≡ o → position Passes anchors ≡ None
       by_found None e = e
-      by_found (Some found) e = let other = first_from found e in absurd (none found other.anchor other.there other.issued)
+      by_found (Some found) e =
+          let other = first_from found e in absurd (none found other.anchor other.there other.issued)
 
 -- ---- the answers
 
-placed_some : (o : Option ℕ) (place : ℕ) → placed o ≡ Ok place → o ≡ Some place
-placed_some None place e = absurd cc
-placed_some (Some found) place e = let same : found ≡ place = cc in ap (λ (n : ℕ). Some n) same
+placed_some : (o : Option ℕ) (index : ℕ) → placed o ≡ Ok index → o ≡ Some index
+placed_some None index e = absurd cc
+placed_some (Some found) index e = let same : found ≡ index = cc in ap (λ (n : ℕ). Some n) same
 
 placed_none : (o : Option ℕ) → placed o ≡ Err VerificationFailed → o ≡ None
 placed_none None e = refl
@@ -229,7 +255,8 @@ never_malformed : (o : Option ℕ) → placed o ≡ Err Malformed → ⊥
 never_malformed None e = cc
 never_malformed (Some found) e = cc
 
-pub at_time : (accepts : Accepts) (anchors : List Cert) (c : Cert) (t s : ℤ) (r : Result ℕ PoolError) → s ≡ t → r ≡ issuer_of accepts anchors c s
+pub at_time : (accepts : Accepts) (anchors : List Cert) (c : Cert) (t s : ℤ) (r : Result ℕ PoolError) → s ≡ t
+    → r ≡ issuer_of accepts anchors c s
     → r ≡ issuer_of accepts anchors c t
 at_time accepts anchors c t s r time e = e ∙ ap (λ (x : ℤ). issuer_of accepts anchors c x) time
 
@@ -255,49 +282,59 @@ module _ (accepts : Accepts) (anchors : List Cert) (c : Cert) (t : ℤ) where
       by_cases false e = inr (λ is. both_ways (is_profiled c) e (profile_is c is))
 
   module _ (r : Result ℕ PoolError) (e : r ≡ issuer_of accepts anchors c t) where
-    pub answers_issued : (place : ℕ) → (r ≡ Ok place) ↔ (HasProfile c × IsFirstIssuer accepts c t anchors place)
-    answers_issued place = (to has_or_not, (λ is. e ∙ profiled is.0 ∙ ap placed (first_is accepts c t anchors place is.1)))
+    pub answers_issued : (index : ℕ) → (r ≡ Ok index) ↔ (HasProfile c × IsFirstIssuer accepts c t anchors index)
+    answers_issued index =
+        (to has_or_not, (λ is. e ∙ profiled is.0 ∙ ap placed (first_is accepts c t anchors index is.1)))
       where
-        to : HasProfile c ⊎ (HasProfile c → ⊥) → r ≡ Ok place → HasProfile c × IsFirstIssuer accepts c t anchors place
-        to (inl is) f = (is, first_from accepts c t anchors place (placed_some Found place (sym (profiled is) ∙ sym e ∙ f)))
+        to : HasProfile c ⊎ (HasProfile c → ⊥) → r ≡ Ok index → HasProfile c × IsFirstIssuer accepts c t anchors index
+        to (inl is) f =
+            (is, first_from accepts c t anchors index (placed_some Found index (sym (profiled is) ∙ sym e ∙ f)))
         to (inr not_so) f = let wrong = sym (unprofiled not_so) ∙ sym e ∙ f in absurd cc
 
     pub answers_malformed : (r ≡ Err Malformed) ↔ (HasProfile c → ⊥)
-    answers_malformed = ((λ f is. never_malformed Found (sym (profiled is) ∙ sym e ∙ f)), (λ not_so. e ∙ unprofiled not_so))
+    answers_malformed =
+        ((λ f is. never_malformed Found (sym (profiled is) ∙ sym e ∙ f)), (λ not_so. e ∙ unprofiled not_so))
 
     pub answers_none : (r ≡ Err VerificationFailed) ↔ (HasProfile c × IsIssuedByNone accepts c t anchors)
     answers_none = (to has_or_not, (λ is. e ∙ profiled is.0 ∙ ap placed (none_is accepts c t anchors is.1)))
       where
-        to : HasProfile c ⊎ (HasProfile c → ⊥) → r ≡ Err VerificationFailed → HasProfile c × IsIssuedByNone accepts c t anchors
-        to (inl is) f = (is, none_from_position accepts c t anchors (placed_none Found (sym (profiled is) ∙ sym e ∙ f)))
+        to : HasProfile c ⊎ (HasProfile c → ⊥) → r ≡ Err VerificationFailed
+            → HasProfile c × IsIssuedByNone accepts c t anchors
+        to (inl is) f =
+            (is, none_from_position accepts c t anchors (placed_none Found (sym (profiled is) ∙ sym e ∙ f)))
         to (inr not_so) f = let wrong = sym (unprofiled not_so) ∙ sym e ∙ f in absurd cc
 
 -- ---- the answers of a text
 
-answers_itself : (r m : Result ℕ PoolError) → r ≡ m → Answers OutOfMemory (λ (place : ℕ). place) r m
-answers_itself (Ok place) m e = sym e
+answers_itself : (r m : Result ℕ PoolError) → r ≡ m → Answers OutOfMemory (λ (index : ℕ). index) r m
+answers_itself (Ok index) m e = sym e
 answers_itself (Err x) m e = inr (sym e)
 
-memory : (r : Result ℕ PoolError) → r ≡ Err OutOfMemory → (m : Result ℕ PoolError) → Answers OutOfMemory (λ (place : ℕ). place) r m
-memory (Ok place) e m = absurd cc
+memory : (r : Result ℕ PoolError) → r ≡ Err OutOfMemory → (m : Result ℕ PoolError)
+    → Answers OutOfMemory (λ (index : ℕ). index) r m
+memory (Ok index) e m = absurd cc
 memory (Err x) e m = inl cc
 
-module _ (accepts : Accepts) (text : List ℕ) (t : ℤ) (anchors : List Cert) (r : Result ℕ PoolError) (j : IsJudgedText accepts text t anchors r) where
-  pub text_issued : (place : ℕ) → ComesWhere OutOfMemory r (Ok place) (IsIssuedText accepts text t anchors place)
-  text_issued place = (to j, from j)
+module _ (accepts : Accepts) (text : List ℕ) (t : ℤ) (anchors : List Cert) (r : Result ℕ PoolError)
+    (j : IsJudgedText accepts text t anchors r) where
+  pub text_issued : (index : ℕ) → ComesWhere OutOfMemory r (Ok index) (IsIssuedText accepts text t anchors index)
+  text_issued index = (to j, from j)
     where
-      to : IsJudgedText accepts text t anchors r → r ≡ Ok place → IsIssuedText accepts text t anchors place
+      to : IsJudgedText accepts text t anchors r → r ≡ Ok index → IsIssuedText accepts text t anchors index
       to (inl x) f =
-          let is = (answers_issued accepts anchors x.0 t r x.2 place).0 f in
+          let is = (answers_issued accepts anchors x.0 t r x.2 index).0 f in
           record { certificate = x.0; is = x.1.is; profile = is.0; issuer = is.1 }
       to (inr (inl x)) f = let wrong = sym x.1 ∙ f in absurd cc
       to (inr (inr x)) f = let wrong = sym x ∙ f in absurd cc
 
-      from : IsJudgedText accepts text t anchors r → IsIssuedText accepts text t anchors place → (r ≡ Err OutOfMemory) ⊎ (r ≡ Ok place)
+      from : IsJudgedText accepts text t anchors r → IsIssuedText accepts text t anchors index
+          → (r ≡ Err OutOfMemory) ⊎ (r ≡ Ok index)
       from (inl x) is =
           let same = x.1.only is.certificate is.is in
-          let here = subst (λ (w : Cert). HasProfile w × IsFirstIssuer accepts w t anchors place) same (is.profile, is.issuer) in
-          inr ((answers_issued accepts anchors x.0 t r x.2 place).1 here)
+          let here =
+          subst (λ (w : Cert). HasProfile w × IsFirstIssuer accepts w t anchors index) same
+          (is.profile, is.issuer) in
+          inr ((answers_issued accepts anchors x.0 t r x.2 index).1 here)
       from (inr (inl x)) is = absurd (x.0 is.certificate is.is)
       from (inr (inr x)) is = inl x
 
@@ -305,7 +342,9 @@ module _ (accepts : Accepts) (text : List ℕ) (t : ℤ) (anchors : List Cert) (
   text_malformed = (to j, from j)
     where
       to : IsJudgedText accepts text t anchors r → r ≡ Err Malformed → HasNoProfile text
-      to (inl x) f = λ d is has. (answers_malformed accepts anchors x.0 t r x.2).0 f (subst (λ (w : Cert). HasProfile w) (x.1.only d is) has)
+      to (inl x) f =
+          λ d is has. (answers_malformed accepts anchors x.0 t r x.2).0 f
+          (subst (λ (w : Cert). HasProfile w) (x.1.only d is) has)
       to (inr (inl x)) f = λ d is has. x.0 d is
       to (inr (inr x)) f = let wrong = sym x ∙ f in absurd cc
 
@@ -324,27 +363,34 @@ module _ (accepts : Accepts) (text : List ℕ) (t : ℤ) (anchors : List Cert) (
       to (inr (inl x)) f = let wrong = sym x.1 ∙ f in absurd cc
       to (inr (inr x)) f = let wrong = sym x ∙ f in absurd cc
 
-      from : IsJudgedText accepts text t anchors r → IsUnissuedText accepts text t anchors → (r ≡ Err OutOfMemory) ⊎ (r ≡ Err VerificationFailed)
+      from : IsJudgedText accepts text t anchors r → IsUnissuedText accepts text t anchors
+          → (r ≡ Err OutOfMemory) ⊎ (r ≡ Err VerificationFailed)
       from (inl x) is =
           let same = x.1.only is.certificate is.is in
-          let here = subst (λ (w : Cert). HasProfile w × IsIssuedByNone accepts w t anchors) same (is.profile, is.none) in
+          let here =
+          subst (λ (w : Cert). HasProfile w × IsIssuedByNone accepts w t anchors) same (is.profile, is.none) in
           inr ((answers_none accepts anchors x.0 t r x.2).1 here)
       from (inr (inl x)) is = absurd (x.0 is.certificate is.is)
       from (inr (inr x)) is = inl x
 
   -- of a certificate, the answer is that of its record; of another text it is `Malformed`
-  pub text_certificate : (c : Cert) → IsCertificate text c → Answers OutOfMemory (λ (place : ℕ). place) r (issuer_of accepts anchors c t)
+  pub text_certificate : (c : Cert) → IsCertificate text c
+      → Answers OutOfMemory (λ (index : ℕ). index) r (issuer_of accepts anchors c t)
   text_certificate c is = by_cases j
     where
-      by_cases : IsJudgedText accepts text t anchors r → Answers OutOfMemory (λ (place : ℕ). place) r (issuer_of accepts anchors c t)
-      by_cases (inl x) = answers_itself r (issuer_of accepts anchors c t) (x.2 ∙ ap (λ (w : Cert). issuer_of accepts anchors w t) (sym (x.1.only c is)))
+      by_cases : IsJudgedText accepts text t anchors r
+          → Answers OutOfMemory (λ (index : ℕ). index) r (issuer_of accepts anchors c t)
+      by_cases (inl x) =
+          answers_itself r (issuer_of accepts anchors c t)
+          (x.2 ∙ ap (λ (w : Cert). issuer_of accepts anchors w t) (sym (x.1.only c is)))
       by_cases (inr (inl x)) = absurd (x.0 c is)
       by_cases (inr (inr x)) = memory r x (issuer_of accepts anchors c t)
 
-  pub text_none : ((c : Cert) → IsCertificate text c → ⊥) → Answers OutOfMemory (λ (place : ℕ). place) r (Err Malformed)
+  pub text_none : ((c : Cert) → IsCertificate text c → ⊥)
+      → Answers OutOfMemory (λ (index : ℕ). index) r (Err Malformed)
   text_none none = by_cases j
     where
-      by_cases : IsJudgedText accepts text t anchors r → Answers OutOfMemory (λ (place : ℕ). place) r (Err Malformed)
+      by_cases : IsJudgedText accepts text t anchors r → Answers OutOfMemory (λ (index : ℕ). index) r (Err Malformed)
       by_cases (inl x) = absurd (none x.0 x.1.is)
       by_cases (inr (inl x)) = answers_itself r (Err Malformed) x.1
       by_cases (inr (inr x)) = memory r x (Err Malformed)

@@ -22,7 +22,7 @@ may_be_critical oid =
     bytes_eq oid key_usage || (bytes_eq oid subject_alternative_name
     || (bytes_eq oid basic_constraints || bytes_eq oid extended_key_usage))
 
--- a critical extension that is not known refuses the certificate
+-- a certificate with a critical extension that is not known is rejected
 abbrev pub is_understood : Extension → Bool
 is_understood e = not e.critical || may_be_critical e.oid
 
@@ -53,7 +53,7 @@ is_profiled c = is_fit c && is_no_authority (constraints c)
 
 -- ---- who issued it
 
--- the bodies and signatures that a checker accepts under a key info and an algorithm
+-- the TBSCertificates and signatures that a checker accepts under an SPKI and an algorithm
 abbrev pub Accepts : Type 0
 Accepts = List ℕ → List ℕ → List ℕ → List ℕ → Bool
 
@@ -76,48 +76,48 @@ is_issued accepts c t x = signs_code_at c t && is_signed accepts c x
 
 abbrev pub placed : Option ℕ → Result ℕ PoolError
 placed None = Err VerificationFailed
-placed (Some place) = Ok place
+placed (Some index) = Ok index
 
--- the place of the first anchor that issued c, which signs code at the time t
+-- the index of the first anchor that issued c, which signs code at the time t
 abbrev pub issuer_of : Accepts → List Cert → Cert → ℤ → Result ℕ PoolError
 issuer_of accepts anchors c t = if is_profiled c then placed (position (is_issued accepts c t) anchors)
     else Err Malformed
 
 -- ---- anchors
 
--- the text of an anchor: a certificate without name constraints
-pub record IsAnchor (text : List ℕ) (c : Cert) : Type 0 where
-  pub certificate : IsCertificate text c
+-- The bytes are a trust anchor: a certificate without name constraints.
+pub record IsAnchor (der : List ℕ) (c : Cert) : Type 0 where
+  pub certificate : IsCertificate der c
   pub unconstrained : is_unconstrained c ≡ true
 
 abbrev pub IsNoAnchor : List ℕ → Type 0
-IsNoAnchor text = (c : Cert) → IsAnchor text c → ⊥
+IsNoAnchor der = (c : Cert) → IsAnchor der c → ⊥
 
--- the texts are those of the anchors, one by one
+-- the DERs are those of the anchors, one by one
 abbrev pub AreAnchors : List (List ℕ) → List Cert → Type 0
 AreAnchors [] [] = ⊤
 AreAnchors (t ∷ ts) (c ∷ cs) = IsAnchor t c × AreAnchors ts cs
 AreAnchors [] (c ∷ cs) = ⊥
 AreAnchors (t ∷ ts) [] = ⊥
 
--- the text at this place is the first that is no anchor
-pub record IsFirstNoAnchor (texts : List (List ℕ)) (place : ℕ) : Type 0 where
+-- The DER at this index is the first that is no anchor.
+pub record IsFirstNoAnchor (ders : List (List ℕ)) (index : ℕ) : Type 0 where
   pub anchors : List Cert
-  pub before : AreAnchors (take place texts) anchors
-  pub text : List ℕ
-  pub there : slice_get texts place ≡ Some text
-  pub no : IsNoAnchor text
+  pub before : AreAnchors (take index ders) anchors
+  pub der : List ℕ
+  pub there : slice_get ders index ≡ Some der
+  pub no : IsNoAnchor der
 
--- why the text at this place is refused
+-- why the DER at this index is rejected
 abbrev pub IsRefusedAt : List ℕ → ℕ → PoolError → Type 0
-IsRefusedAt text place (Anchor at) = (at ≡ place) × IsNoAnchor text
-IsRefusedAt text place OutOfMemory = ⊤
-IsRefusedAt text place Malformed = ⊥
-IsRefusedAt text place VerificationFailed = ⊥
+IsRefusedAt der index (Anchor at) = (at ≡ index) × IsNoAnchor der
+IsRefusedAt der index OutOfMemory = ⊤
+IsRefusedAt der index Malformed = ⊥
+IsRefusedAt der index VerificationFailed = ⊥
 
--- why a pool of these texts is refused
+-- why there is no pool of these DERs
 abbrev pub IsPoolRefusal : List (List ℕ) → PoolError → Type 0
-IsPoolRefusal texts (Anchor place) = IsFirstNoAnchor texts place
-IsPoolRefusal texts OutOfMemory = ⊤
-IsPoolRefusal texts Malformed = ⊥
-IsPoolRefusal texts VerificationFailed = ⊥
+IsPoolRefusal ders (Anchor index) = IsFirstNoAnchor ders index
+IsPoolRefusal ders OutOfMemory = ⊤
+IsPoolRefusal ders Malformed = ⊥
+IsPoolRefusal ders VerificationFailed = ⊥

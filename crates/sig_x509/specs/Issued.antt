@@ -28,9 +28,9 @@ pub record IsFit (c : Cert) : Type 0 where
   pub algorithms : c.inner_algorithm ≡ c.algorithm
   -- section 4.2.1.10: they are not read
   pub unconstrained : with_oid name_constraints c.extensions ≡ []
-  -- section 4.2: a critical extension that is not known refuses the certificate
+  -- section 4.2: a certificate with a critical extension that is not known is rejected
   pub understood : AllByRecursion (λ e. e.critical ≡ true → MayBeCritical e.oid) c.extensions
-  -- section 4.2: no object identifier stands twice
+  -- section 4.2: no duplicate extension
   pub single : IsDistinct bytes_eq (oids c.extensions)
 
 -- basic constraints, section 4.2.1.9, are absent, or well formed and not cA
@@ -60,15 +60,15 @@ pub record IsIssuedBy (accepts : Accepts) (c : Cert) (t : ℤ) (x : Cert) : Type
 
 -- none of the anchors issued it
 abbrev pub IsIssuedByNone : Accepts → Cert → ℤ → List Cert → Type 0
-IsIssuedByNone accepts c t anchors = (place : ℕ) (x : Cert) → slice_get anchors place ≡ Some x
+IsIssuedByNone accepts c t anchors = (index : ℕ) (x : Cert) → slice_get anchors index ≡ Some x
     → ¬ IsIssuedBy accepts c t x
 
--- the anchor at the place issued it, and none before it did
-pub record IsFirstIssuer (accepts : Accepts) (c : Cert) (t : ℤ) (anchors : List Cert) (place : ℕ) : Type 0 where
+-- the anchor at the index issued it, and none before it did
+pub record IsFirstIssuer (accepts : Accepts) (c : Cert) (t : ℤ) (anchors : List Cert) (index : ℕ) : Type 0 where
   pub anchor : Cert
-  pub there : slice_get anchors place ≡ Some anchor
+  pub there : slice_get anchors index ≡ Some anchor
   pub issued : IsIssuedBy accepts c t anchor
-  pub first : (earlier : ℕ) (x : Cert) → earlier < place → slice_get anchors earlier ≡ Some x
+  pub first : (earlier : ℕ) (x : Cert) → earlier < index → slice_get anchors earlier ≡ Some x
       → ¬ IsIssuedBy accepts c t x
 
 -- ---- what the checker is asked
@@ -85,35 +85,36 @@ pub record IsAsked (c : Cert) (t : ℤ) (x : Cert) : Type 0 where
 -- two checkers say the same of the anchors that are asked
 abbrev pub AgreeWhereAsked : Accepts → Accepts → Cert → ℤ → List Cert → Type 0
 AgreeWhereAsked accepts other c t anchors =
-    (place : ℕ) (x : Cert) → slice_get anchors place ≡ Some x → IsAsked c t x
+    (index : ℕ) (x : Cert) → slice_get anchors index ≡ Some x → IsAsked c t x
     → accepts x.spki c.algorithm c.tbs c.signature ≡ other x.spki c.algorithm c.tbs c.signature
 
--- ---- of a text
+-- ---- of bytes
 
--- the text is no certificate with the profile
+-- the bytes are no certificate with the profile
 abbrev pub HasNoProfile : List ℕ → Type 0
-HasNoProfile text = (c : Cert) → IsCertificate text c → ¬ HasProfile c
+HasNoProfile der = (c : Cert) → IsCertificate der c → ¬ HasProfile c
 
--- the text is a certificate with the profile, and the anchor at the place is the first that issued it
-pub record IsIssuedText (accepts : Accepts) (text : List ℕ) (t : ℤ) (anchors : List Cert) (place : ℕ) : Type 0 where
+-- The bytes are a certificate with the profile, and the anchor at the index is the first that issued it.
+pub record IsIssuedText (accepts : Accepts) (der : List ℕ) (t : ℤ) (anchors : List Cert) (index : ℕ) : Type 0 where
   pub certificate : Cert
-  pub is : IsCertificate text certificate
+  pub is : IsCertificate der certificate
   pub profile : HasProfile certificate
-  pub issuer : IsFirstIssuer accepts certificate t anchors place
+  pub issuer : IsFirstIssuer accepts certificate t anchors index
 
--- the text is a certificate with the profile, and no anchor issued it
-pub record IsUnissuedText (accepts : Accepts) (text : List ℕ) (t : ℤ) (anchors : List Cert) : Type 0 where
+-- The bytes are a certificate with the profile, and no anchor issued it.
+pub record IsUnissuedText (accepts : Accepts) (der : List ℕ) (t : ℤ) (anchors : List Cert) : Type 0 where
   pub certificate : Cert
-  pub is : IsCertificate text certificate
+  pub is : IsCertificate der certificate
   pub profile : HasProfile certificate
   pub none : IsIssuedByNone accepts certificate t anchors
 
--- The answer of a text: that of the one certificate that it is, or `Malformed`, or want of memory.
-pub record IsRead (text : List ℕ) (c : Cert) : Type 0 where
-  pub is : IsCertificate text c
-  pub only : (d : Cert) → IsCertificate text d → d ≡ c
+-- The bytes are this certificate and no other.
+pub record IsRead (der : List ℕ) (c : Cert) : Type 0 where
+  pub is : IsCertificate der c
+  pub only : (d : Cert) → IsCertificate der d → d ≡ c
 
+-- the result for these bytes: that of the one certificate that they are, or `Malformed`, or out of memory
 abbrev pub IsJudgedText : Accepts → List ℕ → ℤ → List Cert → Result ℕ PoolError → Type 0
-IsJudgedText accepts text t anchors answer =
-    ((c : Cert) × IsRead text c × (answer ≡ issuer_of accepts anchors c t))
-    ⊎ ((((c : Cert) → ¬ IsCertificate text c) × (answer ≡ Err Malformed)) ⊎ (answer ≡ Err OutOfMemory))
+IsJudgedText accepts der t anchors answer =
+    ((c : Cert) × IsRead der c × (answer ≡ issuer_of accepts anchors c t))
+    ⊎ ((((c : Cert) → ¬ IsCertificate der c) × (answer ≡ Err Malformed)) ⊎ (answer ≡ Err OutOfMemory))

@@ -34,13 +34,10 @@ fn is_understood(extension: &ExtensionRef<'_>) -> bool
 fn are_understood(certificate: &Certificate) -> bool
     ensures { result ≡ are_understood certificate.now.extensions }
 {
-    for place in 0..certificate.extension_count() {
-        match certificate.extension_at(place) {
-            None => {}
-            Some(extension) => {
-                if !is_understood(&extension) {
-                    return false;
-                }
+    for index in 0..certificate.extension_count() {
+        if let Some(extension) = certificate.extension_at(index) {
+            if !is_understood(&extension) {
+                return false;
             }
         }
     }
@@ -48,7 +45,7 @@ fn are_understood(certificate: &Certificate) -> bool
 }
 
 /// Whether the certificate has no name constraints.
-#[tactic(auto, using(crate::proofs::IssuanceLaws::none_absent, crate::proofs::IssuanceLaws::none_one, crate::proofs::IssuanceLaws::none_several))]
+#[tactic(auto, using(crate::proofs::IssuanceLaws::lookup_counts))]
 pub(crate) fn is_unconstrained(certificate: &Certificate) -> bool
     ensures { result ≡ is_unconstrained certificate.now }
 {

@@ -33,19 +33,19 @@ impl Model for CertificatePool {
 
 /// Returns the trust anchor that the bytes at this index are. Fails with `Anchor` and the index if and only if they
 /// are none, unless out of memory.
-fn read_anchor(alloc: Global, place: usize, der: &[u8]) -> Result<Certificate, PoolError>
+fn read_anchor(alloc: Global, index: usize, der: &[u8]) -> Result<Certificate, PoolError>
     ensures found { IfOk result (IsAnchor der.now) }
-    ensures refused { IfErr result (IsRefusedAt der.now place) }
+    ensures refused { IfErr result (IsRefusedAt der.now index) }
 {
     match Certificate::try_from_der(alloc, der) {
         Ok(anchor) => {
             if is_unconstrained(&anchor) {
                 Ok(anchor)
             } else {
-                Err(PoolError::Anchor(place))
+                Err(PoolError::Anchor(index))
             }
         }
-        Err(X509ReadError::Der) => Err(PoolError::Anchor(place)),
+        Err(X509ReadError::Der) => Err(PoolError::Anchor(index)),
         Err(X509ReadError::OutOfMemory) => Err(PoolError::OutOfMemory),
     }
 }
@@ -59,13 +59,14 @@ impl CertificatePool {
         alloc: Global,
         trusted_roots: &Entries,
     ) -> Result<CertificatePool, PoolError>
-        // The anchors are those of the texts, one by one.
+        // The anchors are those of the DERs, one by one.
         ensures anchors { IfOk result (AreAnchors trusted_roots.now) }
-        // A refusal names the first text that is no anchor, unless memory ran out.
+        // An error names the first DER that is no anchor, unless memory ran out.
         ensures refusal { IfErr result (IsPoolRefusal trusted_roots.now) }
-        // The text at an index is refused if and only if it is the first that is no anchor, unless memory ran out.
-        ensures anchor { (place : ℕ) → ComesWhere PoolError.OutOfMemory result
-            (Err (PoolError.Anchor place)) (IsFirstNoAnchor trusted_roots.now place) }
+        // `Anchor` is returned with an index if and only if the DER there is the first that is no anchor, unless memory
+        // ran out.
+        ensures anchor { (index : ℕ) → ComesWhere PoolError.OutOfMemory result
+            (Err (PoolError.Anchor index)) (IsFirstNoAnchor trusted_roots.now index) }
     {
         CertificatePool::read(alloc, trusted_roots)
     }
@@ -75,8 +76,8 @@ impl CertificatePool {
         ensures refusal { IfErr result (IsPoolRefusal trusted_roots.now) }
     {
         let mut anchors = Register::new(alloc);
-        'texts: for (place, der) in trusted_roots.as_slice().iter().enumerate() {
-            let anchor = read_anchor(alloc, place, der.as_slice())?;
+        'ders: for (index, der) in trusted_roots.as_slice().iter().enumerate() {
+            let anchor = read_anchor(alloc, index, der.as_slice())?;
             anchors.push(anchor)?;
         }
         Ok(CertificatePool { anchors })
@@ -110,7 +111,7 @@ impl CertificatePool {
             return Err(PoolError::Malformed);
         }
         match self.first_issuer(leaf, time, checker) {
-            Some(place) => Ok(place),
+            Some(index) => Ok(index),
             None => Err(PoolError::VerificationFailed),
         }
     }
@@ -131,8 +132,8 @@ impl CertificatePool {
     ) -> Result<usize, PoolError>
         // An index is returned if and only if the leaf has the profile, the anchor there issued it, and none before it
         // did.
-        ensures issued { (place : ℕ) → (result ≡ Ok place) ↔ (HasProfile leaf.now × IsFirstIssuer
-            (C.cert_accepts checker.now) leaf.now verification_time self.now place) }
+        ensures issued { (index : ℕ) → (result ≡ Ok index) ↔ (HasProfile leaf.now × IsFirstIssuer
+            (C.cert_accepts checker.now) leaf.now verification_time self.now index) }
         // `Malformed` is returned if and only if it has not the profile.
         ensures malformed { IsErrOf result PoolError.Malformed ↔ (HasProfile leaf.now → ⊥) }
         // `VerificationFailed` is returned if and only if it has the profile, and no anchor issued it.
@@ -179,35 +180,35 @@ impl CertificatePool {
     ) -> Result<usize, PoolError>
         // An index is returned if and only if the bytes are a certificate with the profile, the anchor there issued
         // it, and none before it did, unless memory ran out.
-        ensures issued { (place : ℕ) → ComesWhere PoolError.OutOfMemory result (Ok place) (IsIssuedText
-            (C.cert_accepts checker.now) der.now verification_time self.now place) }
+        ensures issued { (index : ℕ) → ComesWhere PoolError.OutOfMemory result (Ok index) (IsIssuedText
+            (C.cert_accepts checker.now) der.now verification_time self.now index) }
         // `Malformed` is returned if and only if the bytes are no certificate with the profile, unless memory ran out.
         ensures malformed { ComesWhere PoolError.OutOfMemory result (Err PoolError.Malformed) (HasNoProfile der.now) }
         // `VerificationFailed` is returned if and only if they are one, and no anchor issued it, unless memory ran
         // out.
         ensures failed { ComesWhere PoolError.OutOfMemory result (Err PoolError.VerificationFailed) (IsUnissuedText
             (C.cert_accepts checker.now) der.now verification_time self.now) }
-        // Of a certificate, the answer is that of its record.
+        // Of a certificate, the result is that of its record.
         ensures certificate { (c : Cert) → IsCertificate der.now c
-            → Answers PoolError.OutOfMemory (λ place. place) result (issuer_of
+            → Answers PoolError.OutOfMemory (λ index. index) result (issuer_of
             (C.cert_accepts checker.now) self.now c verification_time) }
         // Of the anchors that the checker is not asked about, its word does not matter.
         ensures asked { (other : Accepts) (c : Cert) → IsCertificate der.now c
             → AgreeWhereAsked (C.cert_accepts checker.now) other c verification_time self.now
-            → Answers PoolError.OutOfMemory (λ place. place) result (issuer_of other self.now c verification_time) }
+            → Answers PoolError.OutOfMemory (λ index. index) result (issuer_of other self.now c verification_time) }
         // Bytes that are no certificate are malformed.
         ensures none { ((c : Cert) → IsCertificate der.now c → ⊥)
-            → Answers PoolError.OutOfMemory (λ (place : ℕ). place) result (Err PoolError.Malformed) }
+            → Answers PoolError.OutOfMemory (λ (index : ℕ). index) result (Err PoolError.Malformed) }
     {
         self.check_der(alloc, der, verification_time, checker)
     }
 
     /// Returns the SubjectPublicKeyInfo (DER) of the trust anchor at this index. `None` if and only if the index is
     /// not below the number of trust anchors.
-    pub fn anchor_spki(&self, place: usize) -> Option<&[u8]>
-        ensures { option_map (λ s. s.now) result ≡ option_map (λ c. c.spki) (slice_get self.now place) }
+    pub fn anchor_spki(&self, index: usize) -> Option<&[u8]>
+        ensures { option_map (λ s. s.now) result ≡ option_map (λ c. c.spki) (slice_get self.now index) }
     {
-        match self.anchors.get(place) {
+        match self.anchors.get(index) {
             Some(anchor) => Some(anchor.spki()),
             None => None,
         }

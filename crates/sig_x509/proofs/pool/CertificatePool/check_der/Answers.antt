@@ -10,8 +10,10 @@ returns-in-Ok g c =
     inl (
       c.in-Ok.leaf,
       record { is = c.in-Ok.ensures.found; only = λ d is. read_same c.in-Ok.leaf d (c.in-Ok.ensures.only d is) },
-      at_time (g.C.SignatureChecker.cert_accepts c.args.checker.now) c.args.self.now c.in-Ok.leaf c.args.time _ c.check.result (to_z-of_z c.ranges.time) c.check.ensures,
+      at_time (g.C.SignatureChecker.cert_accepts c.args.checker.now) c.args.self.now c.in-Ok.leaf c.args.time _
+          c.check.result (to_z-of_z c.ranges.time) c.check.ensures,
     )
 
 pub returns-in-Err-Der : goal.returns-in-Err-Der
-returns-in-Err-Der g c = inr (inl (der_only c.args.der.now c.in-Err-Der.field-0 c.in-Err-Der.field-0-is c.in-Err-Der.ensures.refused, refl))
+returns-in-Err-Der g c =
+    inr (inl (der_only c.args.der.now c.in-Err-Der.field-0 c.in-Err-Der.field-0-is c.in-Err-Der.ensures.refused, refl))

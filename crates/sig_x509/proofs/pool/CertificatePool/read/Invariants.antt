@@ -2,6 +2,6 @@ use Rattle.std.proofs.Common.{take}
 use Rattle.sig_x509.specs.Issuance.{AreAnchors}
 use Rattle.sig_x509.proofs.pool.CertificatePool.read.Given as goal
 
--- the anchors so far are those of the texts so far
-abbrev pub invariant-texts : goal.invariant-texts
-invariant-texts l = AreAnchors (take l.place l.trusted_roots) l.anchors
+-- the anchors so far are those of the DERs so far
+abbrev pub invariant-ders : goal.invariant-ders
+invariant-ders l = AreAnchors (take l.index l.trusted_roots) l.anchors
