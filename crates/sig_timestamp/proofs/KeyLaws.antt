@@ -3,7 +3,8 @@ use Rattle.std.proofs.Common.{◌≡◌, ◌≢◌, ℕ, Bool, true, false, cond
 use Rattle.std.proofs.Common.{refl, sym, ap, ◌∙◌, inl, inr}
 use Rattle.std.specs.Prelude.{bytes_eq, IfOk}
 use Rattle.sig_base.specs.Answers.{Answers}
-use Rattle.std.proofs.lemmas.Bool.{cases_Bool, eqb-true, cond-true, cond-false}
+use Rattle.sig_base.proofs.ResultSteps.{when_ok}
+use Rattle.std.proofs.lemmas.Bool.{and_parts, cases_Bool, eqb-true, cond-true, cond-false}
 use Rattle.std.proofs.lemmas.Slice.Eq.{bytes_eq-Decides}
 use Rattle.sig_der.specs.Reading.{Piece}
 use Rattle.sig_der.specs.KeyInfo.{KeyInfo, IsKeyInfo, whole_key_info}
@@ -19,18 +20,6 @@ use Rattle.sig_timestamp.specs.Keyring.{point_of}
 
 -- ---- the point
 
-abbrev point_answer : Type 0
-point_answer = Result (List ℕ) KeyringError
-
-refused : (b : Bool) (x : point_answer) (e : KeyringError) (p : List ℕ) → cond b x (Err e) ≡ Ok p
-    → (b ≡ true) × (x ≡ Ok p)
-refused true x e p is = (refl, is)
-refused false x e p is = absurd cc
-
-both : (a b : Bool) → (a && b) ≡ true → (a ≡ true) × (b ≡ true)
-both true b e = (refl, e)
-both false b e = absurd cc
-
 -- the parameters are the identifier of the curve
 record IsPoint (bits oid : List ℕ) (p : Piece) (point : List ℕ) : Type 0 where
   elliptic : oid ≡ ec_public_key
@@ -43,12 +32,12 @@ point_under_takes : (bits oid : List ℕ) (p : Piece) (point : List ℕ) → poi
 point_under_takes bits oid p point e =
     elim (cases_Bool (is_identifier p)) [
       | inl named ↦
-          let h = refused (bytes_eq oid ec_public_key && bytes_eq p.content p256) (Ok bits) AlgoUnsupported point
+          let h = when_ok (bytes_eq oid ec_public_key && bytes_eq p.content p256) AlgoUnsupported (Ok bits) point
           (sym (cond-true (is_identifier p) _ _ named) ∙ e) in
-          let t = both _ _ h.0 in
+          let t = and_parts _ _ h.0 in
           record {
             elliptic = (bytes_eq-Decides oid ec_public_key).0 t.0;
-            identifier = eqb-true p.tag 6 (both _ _ named).0;
+            identifier = eqb-true p.tag 6 (and_parts _ _ named).0;
             curve = (bytes_eq-Decides p.content p256).0 t.1;
             point_is = let is = h.1 in cc;
           }

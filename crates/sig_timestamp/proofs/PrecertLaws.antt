@@ -12,39 +12,41 @@ use Rattle.std.proofs.lemmas.Option.{slice_get_within, slice_get-get_or, get_or_
 use Rattle.sig_der.specs.Element.{IsElement, element, spelled_length}
 use Rattle.sig_der.specs.ObjectIdentifiers.{sct_list}
 use Rattle.sig_certificate.specs.Certificate.{Extension, Cert, IsExtension, IsList, AreExtensions, IsSignedPart}
-use Rattle.sig_timestamp.specs.Precert.{without_oid, kept_extensions, kept_of, texts_of, extensions_element}
+use Rattle.sig_timestamp.specs.Precert.{without_oid, kept_extensions, kept_of, ders_of, extensions_element}
 use Rattle.sig_timestamp.specs.Precert.{precertificate, HaveSpelling, IsWithoutScts}
 
 -- ---- what is kept
 
 kept_texts_cond : (b : Bool) (e : Extension) (es : List Extension)
-    → texts_of (cond (not b) (e ∷ es) es) ≡ cond b [] e.whole ++ texts_of es
+    → ders_of (cond (not b) (e ∷ es) es) ≡ cond b [] e.whole ++ ders_of es
 kept_texts_cond true e es = refl
 kept_texts_cond false e es = refl
 
 pub kept_push : (es : List Extension) (e : Extension)
-    → texts_of (without_oid sct_list (es ++ e ∷ [])) ≡ texts_of (without_oid sct_list es) ++ kept_of e
+    → ders_of (without_oid sct_list (es ++ e ∷ [])) ≡ ders_of (without_oid sct_list es) ++ kept_of e
 kept_push [] e = kept_texts_cond (bytes_eq e.oid sct_list) e [] ∙ append-nil (kept_of e)
 kept_push (x ∷ es) e =
     kept_texts_cond (bytes_eq x.oid sct_list) x (without_oid sct_list (es ++ e ∷ []))
     ∙ ap (λ (w : List ℕ). kept_of x ++ w) (kept_push es e)
-    ∙ sym (append_assoc (kept_of x) (texts_of (without_oid sct_list es)) (kept_of e))
+    ∙ sym (append_assoc (kept_of x) (ders_of (without_oid sct_list es)) (kept_of e))
     ∙ ap (λ (w : List ℕ). w ++ kept_of e) (sym (kept_texts_cond (bytes_eq x.oid sct_list) x (without_oid sct_list es)))
 
 -- one turn of the loop over the extensions
-pub kept_more : (es : List Extension) (place : ℕ) (e : Extension) (before after : List ℕ) → slice_get es place ≡ Some e
+pub kept_more : (es : List Extension) (index : ℕ) (e : Extension) (before after : List ℕ) → slice_get es index ≡ Some e
     → after ≡ before ++ kept_of e
-    → before ≡ texts_of (without_oid sct_list (take place es))
-    → after ≡ texts_of (without_oid sct_list (take (place + 1) es))
-kept_more es place e before after got is h =
-    is ∙ ap (λ (w : List ℕ). w ++ kept_of e) h ∙ sym (kept_push (take place es) e)
-    ∙ ap (λ (xs : List Extension). texts_of (without_oid sct_list xs))
-    (sym (take_more es place e (slice_get_within es place e got)
-    ∙ ap (λ (x : Extension). take place es ++ x ∷ []) (get_or_from_slice_get es place e e got)))
+    → before ≡ ders_of (without_oid sct_list (take index es))
+    → after ≡ ders_of (without_oid sct_list (take (index + 1) es))
+kept_more es index e before after got is h =
+    is ∙ ap (λ (w : List ℕ). w ++ kept_of e) h ∙ sym (kept_push (take index es) e)
+    ∙ ap (λ (xs : List Extension). ders_of (without_oid sct_list xs))
+    (sym (take_more es index e (slice_get_within es index e got)
+    ∙ ap (λ (x : Extension). take index es ++ x ∷ []) (get_or_from_slice_get es index e e got)))
 
-pub place_within : (es : List Extension) (place : ℕ) → place < length es → None ≡ slice_get es place → ⊥
-place_within [] place lt e = absurd (omega arith)
-place_within (x ∷ es) place lt e = let some = slice_get-get_or (x ∷ es) place x lt in let no = e ∙ some in cc
+-- an index below the length has an item
+pub within_list : {X : Type 0} (xs : List X) (index : ℕ) → index < length xs → slice_get xs index ≡ None → ⊥
+within_list [] index lt none = omega (arith, lt)
+within_list (x ∷ xs) index lt none =
+    let some = slice_get-get_or (x ∷ xs) index x lt in let no = sym none ∙ some in absurd cc
 
 kept_each : (es : List Extension) → AllByRecursion IsExtension es
     → AllByRecursion IsExtension (without_oid sct_list es)
@@ -58,22 +60,22 @@ kept_each (e ∷ es) h = by_test (not (bytes_eq e.oid sct_list)) (kept_each es h
 
 -- ---- lengths
 
-kept_shorter : (es : List Extension) → length (texts_of (without_oid sct_list es)) ≤ length (texts_of es)
+kept_shorter : (es : List Extension) → length (ders_of (without_oid sct_list es)) ≤ length (ders_of es)
 kept_shorter [] = omega arith
 kept_shorter (e ∷ es) =
     let rest = kept_shorter es in
-    let more = length-append e.whole (texts_of es) in
+    let more = length-append e.whole (ders_of es) in
     elim (cases_Bool (bytes_eq e.oid sct_list)) [
       | inl out ↦
           let is = ap (λ (w : List ℕ). length w) (kept_texts_cond (bytes_eq e.oid sct_list) e (without_oid sct_list es)
-          ∙ ap (λ (w : List ℕ). w ++ texts_of (without_oid sct_list es))
+          ∙ ap (λ (w : List ℕ). w ++ ders_of (without_oid sct_list es))
           (cond-true (bytes_eq e.oid sct_list) [] e.whole out)) in
           omega arith
       | inr in_it ↦
           let is = ap (λ (w : List ℕ). length w) (kept_texts_cond (bytes_eq e.oid sct_list) e (without_oid sct_list es)
-          ∙ ap (λ (w : List ℕ). w ++ texts_of (without_oid sct_list es))
+          ∙ ap (λ (w : List ℕ). w ++ ders_of (without_oid sct_list es))
           (cond-false (bytes_eq e.oid sct_list) [] e.whole in_it)) in
-          omega (arith, length-append e.whole (texts_of (without_oid sct_list es)))
+          omega (arith, length-append e.whole (ders_of (without_oid sct_list es)))
     ]
 
 octets_of : ℕ → ℕ
@@ -116,7 +118,7 @@ list_of c is listed = subst (λ (b : Bool). AreExtensions is.extensions_text b c
 pub have_spelling : (c : Cert) → IsSignedPart c → c.listed ≡ true → HaveSpelling c
 have_spelling c is listed =
     let l = list_of c is listed in
-    let kept = texts_of (kept_extensions c) in
+    let kept = ders_of (kept_extensions c) in
     let inner : length kept ≤ length l.inner =
     subst (λ (w : List ℕ). length kept ≤ length w) (sym l.joined.parts) (kept_shorter c.extensions) in
     let list : length (element 48 kept) ≤ length l.sequence =
@@ -167,7 +169,7 @@ without_scts c is =
       | inl listed ↦
           let l = list_of c is listed in
           let s = have_spelling c is listed in
-          let kept = texts_of (kept_extensions c) in
+          let kept = ders_of (kept_extensions c) in
           subst (λ (w : List ℕ). IsWithoutScts c w) (sym (cond-true c.listed _ _ listed))
           (signed_part_of c is (element 48 (c.front ++ extensions_element (kept_extensions c)))
           (extensions_element (kept_extensions c))

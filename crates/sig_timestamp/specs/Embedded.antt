@@ -1,4 +1,4 @@
--- The timestamp that a certificate carries, made ready to be checked: RFC 6962 sections 3.2 and 3.3.
+-- The SCT that a certificate carries, made ready to be checked: RFC 6962 sections 3.2 and 3.3.
 use Rattle.std.specs.Prelude.{◌≡◌, ◌≢◌, ◌⊎◌, ℕ, length, Bool, false, List, [], ◌∷◌, Option, Some, None, option_map}
 use Rattle.std.specs.Prelude.{slice_get, unwrap_or, Result, Ok, Err, is_some, if◌then◌else◌}
 use Rattle.sig_base.specs.Answers.{Answers}
@@ -29,7 +29,7 @@ signs_by (e ∷ f ∷ es) = false
 abbrev pub signs_precertificates : Cert → Bool
 signs_precertificates c = signs_by (with_oid extended_key_usage c.extensions)
 
--- the first of the chain, or the second where the first only signed the precertificate (RFC 6962 section 3.1)
+-- the first of the chain, or the second if the first only signs precertificates (RFC 6962 section 3.1)
 abbrev pub candidate_of : List Cert → Option Cert
 candidate_of [] = None
 candidate_of (c ∷ chain) = if signs_precertificates c then slice_get chain 0 else Some c
@@ -42,19 +42,19 @@ if_authority (Some c) = if is_some (ca_refusal c) then None else Some c
 abbrev pub issuer_of : List Cert → Option Cert
 issuer_of chain = if_authority (candidate_of chain)
 
--- ---- what is answered
+-- ---- the result
 
 abbrev pub ready : Cert → List ℕ → Result Sct CertificateErrorKind → Result DigitallySigned SCTError
 ready c spki (Ok s) = Ok (signed_of c spki s)
 ready c spki (Err e) = Err (Parsing e)
 
--- The certificate's one timestamp, ready to be checked for an issuer with this key info.
+-- The certificate's one SCT, ready to be checked for an issuer with this SPKI.
 pub record IsReady (c : Cert) (spki : List ℕ) (d : DigitallySigned) : Type 0 where
   pub sct : Sct
   pub has : HasSct c sct
   pub is : d ≡ signed_of c spki sct
 
--- each answer and its cause
+-- each result and its cause
 abbrev pub HasCause : Cert → List ℕ → Result DigitallySigned SCTError → Type 0
 HasCause c spki (Ok d) = IsReady c spki d
 HasCause c spki (Err (Parsing LeafSCTMissing)) = LacksSct c
@@ -64,27 +64,27 @@ HasCause c spki (Err Serialization) = ⊥
 HasCause c spki (Err (Verification e)) = ⊥
 HasCause c spki (Err OutOfMemory) = Unit {0}
 
--- The answer for an issuer with this key info.
-pub record IsEmbedded (c : Cert) (spki : List ℕ) (answer : Result DigitallySigned SCTError) : Type 0 where
-  -- no answer without its cause
-  pub cause : HasCause c spki answer
-  -- and no cause without its answer
-  pub has : (s : Sct) → HasSct c s → Answers OutOfMemory (λ d. d) answer (Ok (signed_of c spki s))
-  pub lacks : LacksSct c → Answers OutOfMemory (λ d. d) answer (Err (Parsing LeafSCTMissing))
-  pub bad : HasBadSct c → Answers OutOfMemory (λ d. d) answer (Err (Parsing LeafSCTMalformed))
-  pub read : Answers OutOfMemory (λ d. d) answer (ready c spki (sct_of c))
+-- The result for an issuer with this SPKI.
+pub record IsEmbedded (c : Cert) (spki : List ℕ) (result : Result DigitallySigned SCTError) : Type 0 where
+  -- no result without its cause
+  pub cause : HasCause c spki result
+  -- and no cause without its result
+  pub has : (s : Sct) → HasSct c s → Answers OutOfMemory (λ d. d) result (Ok (signed_of c spki s))
+  pub lacks : LacksSct c → Answers OutOfMemory (λ d. d) result (Err (Parsing LeafSCTMissing))
+  pub bad : HasBadSct c → Answers OutOfMemory (λ d. d) result (Err (Parsing LeafSCTMalformed))
+  pub read : Answers OutOfMemory (λ d. d) result (ready c spki (sct_of c))
 
--- The answer for the issuer that a chain begins with.
+-- The result for the issuer that a chain begins with.
 abbrev pub IsEmbeddedUnder : Cert → Option Cert → Result DigitallySigned SCTError → Type 0
-IsEmbeddedUnder c None answer = answer ≡ Err (Parsing IssuerMissing)
-IsEmbeddedUnder c (Some issuer) answer = IsEmbedded c issuer.spki answer
+IsEmbeddedUnder c None result = result ≡ Err (Parsing IssuerMissing)
+IsEmbeddedUnder c (Some issuer) result = IsEmbedded c issuer.spki result
 
--- ---- the cause of an answer of the reader
+-- ---- the cause of a result of the reader
 
 -- of an extension's value
 abbrev pub IsSaidOfValue : List ℕ → Result Sct CertificateErrorKind → Type 0
-IsSaidOfValue v (Ok s) = (text : List ℕ) × (IsSctList v (text ∷ []) × IsSct text s)
-IsSaidOfValue v (Err LeafSCTMissing) = (texts : List (List ℕ)) × (IsSctList v texts × (length texts ≢ 1))
+IsSaidOfValue v (Ok s) = (sct : List ℕ) × (IsSctList v (sct ∷ []) × IsSct sct s)
+IsSaidOfValue v (Err LeafSCTMissing) = (scts : List (List ℕ)) × (IsSctList v scts × (length scts ≢ 1))
 IsSaidOfValue v (Err LeafSCTMalformed) = IsNoList v ⊎ ListsNoSct v
 IsSaidOfValue v (Err IssuerMissing) = ⊥
 

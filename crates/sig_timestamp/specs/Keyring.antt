@@ -1,4 +1,4 @@
--- *Keyring key*: which key infos are keys of a certificate log, and the key that a list of key infos has for an id.
+-- *Keyring key*: which SPKIs are keys of Certificate Transparency logs, and the key that a list of them has for an id.
 use Rattle.std.specs.Prelude.{◌≡◌, ◌⊎◌, ◌≤◌, ℕ, Bool, true, not, ◌&&◌, ◌==◌, if◌then◌else◌, List, [], ◌∷◌, Option}
 use Rattle.std.specs.Prelude.{Some, None, Result, Ok, Err, bytes_eq}
 use Rattle.std.specs.Borrow.{Bor}
@@ -34,11 +34,11 @@ point_under bits oid (Some p) =
     else if is_null p && bytes_eq oid rsa then Err AlgoUnsupported
     else Err KeyMalformed
 
--- the point of a key info, or why it is no key of a ring
+-- the point of an SPKI, or why it is no key of a ring
 abbrev pub point_in : KeyInfo → Result (List ℕ) KeyringError
 point_in k = point_under k.bits k.algorithm.oid k.algorithm.parameters
 
--- The text is a key info that is a key of a ring, and this is its point.
+-- The bytes are an SPKI that is a key of a ring, and this is its point.
 pub record IsRingKey (spki point : List ℕ) : Type 0 where
   pub info : KeyInfo
   pub is : IsKeyInfo info
@@ -54,27 +54,27 @@ abbrev pub point_of_info : Option KeyInfo → Result (List ℕ) KeyringError
 point_of_info None = Err KeyMalformed
 point_of_info (Some k) = point_in k
 
--- the point of a text, or why it is no key of a ring
+-- the point of bytes, or why they are no key of a ring
 unfoldable pub point_of : List ℕ → Result (List ℕ) KeyringError
 point_of spki = point_of_info (whole_key_info spki)
 
--- the point that was lent
-abbrev pub lent_point : Result (Bor (List ℕ)) KeyringError → Result (List ℕ) KeyringError
-lent_point (Ok p) = Ok p.now
-lent_point (Err e) = Err e
+-- the point that was borrowed
+abbrev pub borrowed_point : Result (Bor (List ℕ)) KeyringError → Result (List ℕ) KeyringError
+borrowed_point (Ok p) = Ok p.now
+borrowed_point (Err e) = Err e
 
--- the place of the parameters, if there are any, lies within the text
+-- the range of the parameters, if there are any, lies within the bytes
 abbrev pub IsParametersWithin : ℕ → Option Place → Type 0
 IsParametersWithin end None = Unit {0}
 IsParametersWithin end (Some p) = (p.content ≤ p.end) × (p.end ≤ end)
 
 -- ---- a ring
 
--- the point of the key info, where it is a key of a ring and has this id
+-- the point of the SPKI, if it is a key of a ring and has this id
 abbrev pub point_if : List ℕ → List ℕ → Option (List ℕ)
 point_if id spki = if bytes_eq id (sha256 spki) then result_ok (point_of spki) else None
 
--- *Keyring key*: the point of the last key info in the list that is a key of a ring and has this id
+-- *Keyring key*: the point of the last SPKI in the list that is a key of a ring and has this id
 unfoldable pub key_of : List (List ℕ) → List ℕ → Option (List ℕ)
 key_of [] id = None
 key_of (spki ∷ keys) id = option_or (key_of keys id) (point_if id spki)
@@ -86,18 +86,18 @@ vouch accepts None message signature = Err KeyNotFound
 vouch accepts (Some point) message signature = if accepts point message signature then Ok tt
     else Err VerificationFailed
 
--- ---- why a text is no key of a ring
+-- ---- why bytes are no key of a ring
 
 -- the parameters are absent, an object identifier, or the NULL of an RSA key (RFC 3279 section 2.3.1)
 abbrev pub AreKnown : List ℕ → Option Piece → Type 0
 AreKnown oid None = Unit {0}
 AreKnown oid (Some p) = (is_identifier p ≡ true) ⊎ ((is_null p ≡ true) × (oid ≡ rsa))
 
--- The text is no SPKI, or one with other parameters.
+-- The bytes are no SPKI, or one with other parameters.
 abbrev pub IsMalformedKey : List ℕ → Type 0
 IsMalformedKey spki = (k : KeyInfo) → IsKeyInfo k → k.whole ≡ spki → ¬ AreKnown k.algorithm.oid k.algorithm.parameters
 
--- The text is an SPKI with such parameters, and no point of P-256.
+-- The bytes are an SPKI with such parameters, and no point of P-256.
 pub record IsOtherKey (spki : List ℕ) : Type 0 where
   pub info : KeyInfo
   pub is : IsKeyInfo info

@@ -4,7 +4,7 @@ pub mod Numbers
 pub mod Vectors
 pub mod SctList
 pub mod Timestamps
-pub mod Lent
+pub mod Borrowed
 pub mod Precert
 pub mod SctErrors
 pub mod SctBytes

@@ -1,4 +1,4 @@
--- *Precertificate TBS*: RFC 6962 section 3.2. The signed part of the certificate without its lists of timestamps.
+-- *Precertificate TBS*: RFC 6962 section 3.2. The TBSCertificate without its lists of SCTs.
 use Rattle.std.specs.Prelude.{ℕ, ◌^◌, ◌<◌, not, List, [], ◌++◌, length, filter, if◌then◌else◌}
 use Rattle.std.specs.Str.{bytes_eq}
 use Rattle.sig_der.specs.Element.{element}
@@ -14,17 +14,17 @@ without_oid oid es = filter (λ e. not (bytes_eq e.oid oid)) es
 abbrev pub kept_extensions : Cert → List Extension
 kept_extensions c = without_oid sct_list c.extensions
 
--- the whole texts of extensions
-abbrev pub texts_of : List Extension → List ℕ
-texts_of es = joined (λ (e : Extension). e.whole) es
+-- the DER of extensions, one after another
+abbrev pub ders_of : List Extension → List ℕ
+ders_of es = joined (λ (e : Extension). e.whole) es
 
--- the text of an extension that is kept
+-- the DER of an extension that is kept
 abbrev pub kept_of : Extension → List ℕ
 kept_of e = if bytes_eq e.oid sct_list then [] else e.whole
 
 -- extensions [3] EXPLICIT SEQUENCE OF Extension, RFC 5280 section 4.1
 abbrev pub extensions_element : List Extension → List ℕ
-extensions_element es = element EXTENSIONS (element SEQUENCE (texts_of es))
+extensions_element es = element EXTENSIONS (element SEQUENCE (ders_of es))
 
 -- the TBSCertificate with these extensions: each element before them as it is
 abbrev pub tbs_with : Cert → List Extension → List ℕ
@@ -37,10 +37,10 @@ precertificate c = if c.listed then tbs_with c (kept_extensions c) else c.tbs
 
 -- the lengths of what is written anew have a spelling
 pub record HaveSpelling (c : Cert) : Type 0 where
-  pub kept : length (texts_of (kept_extensions c)) < 2 ^ 32
-  pub list : length (element SEQUENCE (texts_of (kept_extensions c))) < 2 ^ 32
+  pub kept : length (ders_of (kept_extensions c)) < 2 ^ 32
+  pub list : length (element SEQUENCE (ders_of (kept_extensions c))) < 2 ^ 32
   pub body : length (c.front ++ extensions_element (kept_extensions c)) < 2 ^ 32
 
--- The text is the signed part of a certificate that has every part of this one, but no list of timestamps.
+-- The bytes are the TBSCertificate of a certificate that has every part of this one, but no list of SCTs.
 abbrev pub IsWithoutScts : Cert → List ℕ → Type 0
-IsWithoutScts c text = IsSignedPart (record c { tbs = text; extensions = kept_extensions c })
+IsWithoutScts c tbs = IsSignedPart (record c { tbs = tbs; extensions = kept_extensions c })

@@ -1,7 +1,7 @@
--- Keys of certificate logs, as contracts see them.
+-- Keys of Certificate Transparency logs, as contracts see them.
 use Rattle.std.specs.Prelude.{ℕ, List, [], ◌∷◌, Option, Some, None, bytes_eq, if◌then◌else◌}
 
--- A key: its id, which is the SHA-256 of its key info (RFC 6962 section 3.2), and its point.
+-- A key: its id, which is the SHA-256 of its SPKI (RFC 6962 section 3.2), and its point.
 pub record RingKey : Type 0 where
   pub id : List ℕ
   pub point : List ℕ

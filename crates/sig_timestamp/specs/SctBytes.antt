@@ -1,5 +1,5 @@
--- *SCT signed bytes*: RFC 6962 section 3.2, the text that the signature of a timestamp is over, for an entry of the
--- type precert_entry; and what is said of a timestamp.
+-- *SCT signed bytes*: RFC 6962 section 3.2, the bytes that the signature of an SCT is over, for an entry of the type
+-- precert_entry; and what is said of an SCT.
 use Rattle.std.specs.Prelude.{ℕ, ◌-◌, ◌^◌, Bool, List, ◌∷◌, ◌++◌, length, Result, Ok, Err, nat_lt, if◌then◌else◌}
 use Rattle.sig_base.specs.Sha256.{sha256}
 use Rattle.sig_timestamp.specs.declared.signed.DigitallySigned.{DigitallySigned}
@@ -21,8 +21,8 @@ signed_bytes d =
     (v1 ∷ certificate_timestamp ∷ eight_bytes d.timestamp)
     ++ ((two_bytes precert_entry ++ d.issuer_key_hash) ++ (long_vector d.tbs_certificate ++ vector d.extensions))
 
--- what a timestamp of a certificate signs, and its signature, where the issuer has this key info: `signed_bytes` of it
--- is *SCT signed bytes*
+-- what an SCT of a certificate signs, and its signature, if the issuer has this SPKI: `signed_bytes` of it is *SCT
+-- signed bytes*
 abbrev pub signed_of : Cert → List ℕ → Sct → DigitallySigned
 signed_of c spki s =
     record {
@@ -40,7 +40,7 @@ abbrev pub verified : Result (Unit {0}) KeyringError → Result (Unit {0}) SCTEr
 verified (Ok x) = Ok x
 verified (Err e) = Err (of_keyring e)
 
--- the lengths have no spelling, or the key of the log's id says it
+-- a length has no spelling, or the key of the log's id says it
 abbrev pub judged : (List ℕ → List ℕ → List ℕ → Bool) → DigitallySigned → List (List ℕ × RingKey)
     → Result (Unit {0}) SCTError
 judged accepts d ring =

@@ -1,4 +1,4 @@
--- The errors of timestamps, by those of keyrings.
+-- The errors of SCTs, by those of keyrings.
 use Rattle.sig_timestamp.specs.declared.keyring_error.KeyringError.{KeyringError}
 use Rattle.sig_timestamp.specs.declared.keyring_error.KeyringError.TheVariants.{KeyMalformed, AlgoUnsupported}
 use Rattle.sig_timestamp.specs.declared.keyring_error.KeyringError.TheVariants.{KeyNotFound, VerificationFailed}

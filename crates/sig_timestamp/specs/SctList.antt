@@ -26,14 +26,14 @@ eight_bytes n = to_be_bytes w64 n
 
 -- *SCT*: version v1, the log's id, the time, extensions, the two bytes of the signature's algorithm (RFC 5246 section
 -- 4.7), which are not compared, and the signature
-pub record IsSct (text : List ℕ) (s : Sct) : Type 0 where
+pub record IsSct (bytes : List ℕ) (s : Sct) : Type 0 where
   pub algorithm : List ℕ
   pub named : length s.log_id ≡ hash_length
   pub timed : s.timestamp < 2 ^ 64
   pub extended : IsShort s.extensions
   pub two : length algorithm ≡ 2
   pub signed : IsShort s.signature
-  pub spelled : text ≡ v1 ∷ (s.log_id ++ (eight_bytes s.timestamp ++ (vector s.extensions
+  pub spelled : bytes ≡ v1 ∷ (s.log_id ++ (eight_bytes s.timestamp ++ (vector s.extensions
       ++ (algorithm ++ vector s.signature))))
 
 -- *SCT list*: an OCTET STRING of a vector of vectors
@@ -45,7 +45,7 @@ pub record IsSctList (value : List ℕ) (scts : List (List ℕ)) : Type 0 where
 
 -- ---- how they are read
 
--- extensions and signature, which are all of the text
+-- extensions and signature, which are all of the bytes
 unfoldable pub signed_at : List ℕ → Option (List ℕ × List ℕ)
 signed_at bytes = do
   e ← vector_at bytes
@@ -59,8 +59,8 @@ after_version [] = None
 after_version (version ∷ rest) = if version == v1 then Some rest else None
 
 unfoldable pub sct_at : List ℕ → Option Sct
-sct_at text = do
-  r ← after_version text
+sct_at bytes = do
+  r ← after_version bytes
   i ← bytes_at hash_length r
   t ← bytes_at 8 i.1
   s ← signed_at t.1

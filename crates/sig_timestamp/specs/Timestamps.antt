@@ -1,4 +1,4 @@
--- The timestamp of a certificate: RFC 6962 section 3.3.
+-- The SCT of a certificate: RFC 6962 section 3.3.
 use Rattle.std.specs.Prelude.{◌≡◌, ◌≢◌, ℕ, List, [], ◌∷◌, length, Option, Some, None, Result, Ok, Err, ◌⊎◌}
 use Rattle.sig_der.specs.ObjectIdentifiers.{sct_list}
 use Rattle.sig_timestamp.specs.declared.sct_error.CertificateErrorKind.{CertificateErrorKind}
@@ -9,11 +9,11 @@ use Rattle.sig_timestamp.specs.SctList.{Sct, IsSct, IsSctList, sct_at, sct_list_
 
 -- ---- what it is
 
--- the extensions that list timestamps
+-- the extensions that list SCTs
 abbrev pub sct_extensions : Cert → List Extension
 sct_extensions c = with_oid sct_list c.extensions
 
--- The certificate has this timestamp: one extension lists timestamps, and it lists this one alone.
+-- The certificate has this SCT: one extension lists SCTs, and it lists this one alone.
 pub record HasSct (c : Cert) (s : Sct) : Type 0 where
   pub extension : Extension
   pub text : List ℕ
@@ -21,7 +21,7 @@ pub record HasSct (c : Cert) (s : Sct) : Type 0 where
   pub lists : IsSctList extension.value (text ∷ [])
   pub is : IsSct text s
 
--- The only extension that lists timestamps lists none, or several.
+-- The only extension that lists SCTs lists none, or several.
 pub record ListsOthers (c : Cert) : Type 0 where
   pub extension : Extension
   pub texts : List (List ℕ)
@@ -29,21 +29,21 @@ pub record ListsOthers (c : Cert) : Type 0 where
   pub lists : IsSctList extension.value texts
   pub others : length texts ≢ 1
 
--- The certificate has not one timestamp.
+-- The certificate has not one SCT.
 abbrev pub LacksSct : Cert → Type 0
 LacksSct c = (length (sct_extensions c) ≢ 1) ⊎ ListsOthers c
 
--- The value is no list of timestamps.
+-- The value is no list of SCTs.
 abbrev pub IsNoList : List ℕ → Type 0
 IsNoList value = (texts : List (List ℕ)) → ¬ IsSctList value texts
 
--- The value lists one text, which is no timestamp.
+-- The value lists one SCT, which is malformed.
 pub record ListsNoSct (value : List ℕ) : Type 0 where
   pub text : List ℕ
   pub lists : IsSctList value (text ∷ [])
   pub none : (s : Sct) → ¬ IsSct text s
 
--- The only extension that lists timestamps is malformed.
+-- The only extension that lists SCTs is malformed.
 pub record HasBadSct (c : Cert) : Type 0 where
   pub extension : Extension
   pub one : sct_extensions c ≡ extension ∷ []
@@ -51,7 +51,7 @@ pub record HasBadSct (c : Cert) : Type 0 where
 
 -- ---- how it is read
 
--- the only text of a list
+-- the only SCT of a list
 abbrev pub only_one : Option (List (List ℕ)) → Result (List ℕ) CertificateErrorKind
 only_one None = Err LeafSCTMalformed
 only_one (Some []) = Err LeafSCTMissing
@@ -66,7 +66,7 @@ abbrev pub sct_in : Result (List ℕ) CertificateErrorKind → Result Sct Certif
 sct_in (Err e) = Err e
 sct_in (Ok text) = sct_or_not (sct_at text)
 
--- the timestamp of an extension's value
+-- the SCT of an extension's value
 unfoldable pub sct_of_value : List ℕ → Result Sct CertificateErrorKind
 sct_of_value value = sct_in (only_one (sct_list_at value))
 
@@ -75,6 +75,6 @@ sct_of_list [] = Err LeafSCTMissing
 sct_of_list (e ∷ []) = sct_of_value e.value
 sct_of_list (e ∷ f ∷ es) = Err LeafSCTMissing
 
--- the timestamp of a certificate
+-- the SCT of a certificate
 unfoldable pub sct_of : Cert → Result Sct CertificateErrorKind
 sct_of c = sct_of_list (sct_extensions c)

@@ -38,7 +38,7 @@ vector_at [] = None
 vector_at (a ∷ []) = None
 vector_at (a ∷ b ∷ rest) = bytes_at (a * 256 + b) rest
 
--- all of the text as a vector
+-- all of the bytes as a vector
 unfoldable pub whole_vector : List ℕ → Option (List ℕ)
 whole_vector bytes = do
   v ← vector_at bytes

@@ -7,12 +7,12 @@ ghost use Rattle.sig_timestamp.specs.Timestamps.{LacksSct, HasBadSct, only_one, 
 ghost use Rattle.sig_der.specs.Taking.{many_at};
 ghost use Rattle.sig_timestamp.specs.Vectors.{vector_at};
 ghost use Rattle.sig_timestamp.specs.Embedded.{issuer_of, ready, IsEmbedded, IsEmbeddedUnder, IsSaidOf, IsSaidOfValue};
-ghost use Rattle.sig_timestamp.specs.Lent.{sct_answer, sct_now};
+ghost use Rattle.sig_timestamp.specs.Borrowed.{sct_result, sct_now};
 
 use crate::issuer::find_issuer;
 use crate::precert::precert_tbs_der;
 use crate::sct_error::{CertificateErrorKind, SCTError};
-use crate::sct_list::{LentSct, list_in, only_one, sct_at};
+use crate::sct_list::{BorrowedSct, list_in, only_one, sct_at};
 use crate::signed::DigitallySigned;
 use sig_base::{Bytes, OutOfMemory, sha256};
 use sig_certificate::{Certificate, Lookup};
@@ -141,7 +141,7 @@ fn sign(
     alloc: Global,
     leaf: &Certificate,
     issuer_spki: &[u8],
-    sct: LentSct<'_>,
+    sct: BorrowedSct<'_>,
 ) -> Result<DigitallySigned, OutOfMemory>
     ensures { IfOk result (λ d. d ≡ signed_of leaf.now issuer_spki.now (sct_now sct.entry)) }
 {
@@ -156,9 +156,9 @@ fn sign(
 }
 
 /// Returns the one SCT of the certificate.
-fn sct_of(leaf: &Certificate) -> Result<LentSct<'_>, CertificateErrorKind>
-    ensures read { sct_answer result ≡ sct_of leaf.now }
-    ensures said { IsSaidOf leaf.now (sct_answer result) }
+fn sct_of(leaf: &Certificate) -> Result<BorrowedSct<'_>, CertificateErrorKind>
+    ensures read { sct_result result ≡ sct_of leaf.now }
+    ensures said { IsSaidOf leaf.now (sct_result result) }
 {
     match leaf.extension(SCT_LIST) {
         Lookup::Absent => Err(CertificateErrorKind::LeafSCTMissing),
@@ -168,16 +168,16 @@ fn sct_of(leaf: &Certificate) -> Result<LentSct<'_>, CertificateErrorKind>
 }
 
 /// Returns the one SCT that an extension of this value lists.
-fn sct_of_value(value: &[u8]) -> Result<LentSct<'_>, CertificateErrorKind>
-    ensures read { sct_answer result ≡ sct_of_value value.now }
-    ensures said { IsSaidOfValue value.now (sct_answer result) }
+fn sct_of_value(value: &[u8]) -> Result<BorrowedSct<'_>, CertificateErrorKind>
+    ensures read { sct_result result ≡ sct_of_value value.now }
+    ensures said { IsSaidOfValue value.now (sct_result result) }
 {
     read_value(value)
 }
 
 #[tactic(auto, unfolding(crate::specs::Timestamps::sct_of_value, crate::specs::SctList::sct_list_at))]
-fn read_value(value: &[u8]) -> Result<LentSct<'_>, CertificateErrorKind>
-    ensures { sct_answer result ≡ sct_of_value value.now }
+fn read_value(value: &[u8]) -> Result<BorrowedSct<'_>, CertificateErrorKind>
+    ensures { sct_result result ≡ sct_of_value value.now }
 {
     match list_in(value) {
         None => Err(CertificateErrorKind::LeafSCTMalformed),
@@ -186,8 +186,8 @@ fn read_value(value: &[u8]) -> Result<LentSct<'_>, CertificateErrorKind>
 }
 
 /// Returns the one SCT of a list.
-fn read_only(list: &[u8]) -> Result<LentSct<'_>, CertificateErrorKind>
-    ensures { sct_answer result ≡ sct_in (only_one (many_at vector_at list.now)) }
+fn read_only(list: &[u8]) -> Result<BorrowedSct<'_>, CertificateErrorKind>
+    ensures { sct_result result ≡ sct_in (only_one (many_at vector_at list.now)) }
 {
     let sct = only_one(list)?;
     sct_at(sct).ok_or(CertificateErrorKind::LeafSCTMalformed)

@@ -6,7 +6,7 @@ ghost use Rattle.sig_base.specs.Sha256.{sha256};
 ghost use Rattle.sig_der.specs.KeyInfo.{KeyInfo, IsKeyInfo};
 ghost use Rattle.sig_der.specs.KeyInfoPlaces.{placed_option};
 ghost use Rattle.sig_timestamp.specs.Keyring.{IsRingKey, IsMalformedKey, IsOtherKey, IsParametersWithin};
-ghost use Rattle.sig_timestamp.specs.Keyring.{point_in, point_of, point_under, lent_point};
+ghost use Rattle.sig_timestamp.specs.Keyring.{point_in, point_of, point_under, borrowed_point};
 
 use crate::keyring_error::KeyringError;
 use sig_base::{Bytes, SignatureChecker, sha256};
@@ -84,7 +84,7 @@ fn read_key(alloc: Global, spki: &[u8]) -> Result<Key, KeyringError>
 /// Returns the point of an SPKI.
 #[tactic(auto, unfolding(crate::specs::Keyring::point_of))]
 fn point_of(spki: &[u8]) -> Result<&[u8], KeyringError>
-    ensures { lent_point result ≡ point_of spki.now }
+    ensures { borrowed_point result ≡ point_of spki.now }
 {
     match whole_key_info(spki) {
         None => Err(KeyringError::KeyMalformed),
@@ -100,20 +100,20 @@ fn point_of(spki: &[u8]) -> Result<&[u8], KeyringError>
     }
 }
 
-/// Returns the bits, if the algorithm and its parameters, an element of the text, say that they are a point of P-256.
+/// Returns the bits, if the algorithm and its parameters, an element of the SPKI, say that they are a point of P-256.
 fn point_under<'a>(
-    text: &[u8],
+    spki: &[u8],
     bits: &'a [u8],
     oid: &[u8],
     parameters: Option<Place>,
 ) -> Result<&'a [u8], KeyringError>
-    requires { IsParametersWithin (length text.now) parameters }
-    ensures { lent_point result ≡ point_under bits.now oid.now (placed_option text.now parameters) }
+    requires { IsParametersWithin (length spki.now) parameters }
+    ensures { borrowed_point result ≡ point_under bits.now oid.now (placed_option spki.now parameters) }
 {
     let Some(place) = parameters else {
         return Err(KeyringError::AlgoUnsupported);
     };
-    let content = &text[place.content..place.end];
+    let content = &spki[place.content..place.end];
     if place.tag == OBJECT_IDENTIFIER && !content.is_empty() {
         if oid == EC_PUBLIC_KEY && content == P256 {
             Ok(bits)

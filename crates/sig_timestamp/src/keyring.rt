@@ -45,7 +45,7 @@ impl Keyring {
         Ok(ring)
     }
 
-    /// Adds the key of an SPKI in place of one of the same id, or leaves it out.
+    /// Adds the key of an SPKI, which replaces one of the same id, or leaves it out.
     fn add(&mut self, alloc: Global, spki: &[u8]) -> Result<(), KeyringError>
         ensures ok { OnOk result ((id : List ℕ) → point_at self.new id ≡ option_or (point_if id spki.now)
             (point_at self.old id)) }

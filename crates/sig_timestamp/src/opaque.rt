@@ -3,7 +3,7 @@
 
 ghost use Rattle.std.specs.Prelude.{◌≡◌, option_map};
 ghost use Rattle.sig_timestamp.specs.Vectors.{bytes_at, vector_at, whole_vector};
-ghost use Rattle.sig_timestamp.specs.Lent.{both_now};
+ghost use Rattle.sig_timestamp.specs.Borrowed.{both_now};
 
 /// Returns so many bytes, and what follows them.
 #[tactic(auto, unfolding(crate::specs::Vectors::bytes_at))]
@@ -28,7 +28,7 @@ pub(crate) fn vector_at(bytes: &[u8]) -> Option<(&[u8], &[u8])>
     }
 }
 
-/// Returns the bytes of the vector that is all of the text.
+/// Returns the content of the vector, if it is all of the bytes.
 #[tactic(auto, unfolding(crate::specs::Vectors::whole_vector))]
 pub(crate) fn whole_vector(bytes: &[u8]) -> Option<&[u8]>
     ensures { whole_vector bytes.now ≡ option_map (λ v. v.now) result }

@@ -9,7 +9,7 @@
 ghost use Rattle.std.specs.Prelude.{◌≡◌, [], ◌∷◌, ◌++◌, IfOk, OnOk};
 ghost use Rattle.sig_certificate.specs.Certificate.{IsSignedPart};
 ghost use Rattle.sig_certificate.specs.Lookups.{lent};
-ghost use Rattle.sig_timestamp.specs.Precert.{precertificate, kept_extensions, kept_of, texts_of, tbs_with};
+ghost use Rattle.sig_timestamp.specs.Precert.{precertificate, kept_extensions, kept_of, ders_of, tbs_with};
 ghost use Rattle.sig_timestamp.specs.Precert.{HaveSpelling, IsWithoutScts};
 
 use sig_base::{Bytes, OutOfMemory};
@@ -58,7 +58,7 @@ fn made_anew(alloc: Global, leaf: &Certificate) -> Result<Bytes, OutOfMemory>
 
 /// Returns the extensions that list no SCTs, one after another.
 fn kept_extensions(alloc: Global, leaf: &Certificate) -> Result<Vec<u8>, OutOfMemory>
-    ensures { IfOk result (λ v. v.items ≡ texts_of (kept_extensions leaf.now)) }
+    ensures { IfOk result (λ v. v.items ≡ ders_of (kept_extensions leaf.now)) }
 {
     let mut kept = Vec::new(alloc);
     for index in 0..leaf.extension_count() {

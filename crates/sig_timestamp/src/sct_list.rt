@@ -18,7 +18,7 @@ ghost use Rattle.sig_der.specs.Taking.{many_at};
 ghost use Rattle.sig_timestamp.specs.Vectors.{vector_at};
 ghost use Rattle.sig_timestamp.specs.SctList.{signed_at, after_version, sct_at, list_in};
 ghost use Rattle.sig_timestamp.specs.Timestamps.{only_one};
-ghost use Rattle.sig_timestamp.specs.Lent.{both_now, sct_now, part_now};
+ghost use Rattle.sig_timestamp.specs.Borrowed.{both_now, sct_now, part_now};
 
 use crate::opaque::{bytes_at, vector_at, whole_vector};
 use crate::sct_error::CertificateErrorKind;
@@ -30,8 +30,8 @@ pub(crate) const SCT_V1: u8 = 0;
 
 /// A signed certificate timestamp, borrowed from its bytes.
 #[derive(Clone, Copy)]
-pub(crate) struct LentSct<'a> {
-    /// The SHA-256 of the log's key info.
+pub(crate) struct BorrowedSct<'a> {
+    /// The SHA-256 of the log's SPKI.
     pub(crate) log_id: &'a [u8; 32],
     /// Milliseconds since 1970.
     pub(crate) timestamp: u64,
@@ -41,14 +41,14 @@ pub(crate) struct LentSct<'a> {
 
 /// Returns the SCT that the bytes are. `None` if they are none.
 #[tactic(auto, unfolding(crate::specs::SctList::sct_at, crate::specs::Vectors::bytes_at))]
-pub(crate) fn sct_at(text: &[u8]) -> Option<LentSct<'_>>
-    ensures { sct_at text.now ≡ option_map sct_now result }
+pub(crate) fn sct_at(bytes: &[u8]) -> Option<BorrowedSct<'_>>
+    ensures { sct_at bytes.now ≡ option_map sct_now result }
 {
-    let rest = after_version(text)?;
+    let rest = after_version(bytes)?;
     let (log_id, rest) = rest.split_first_chunk::<32>()?;
     let (timestamp, rest) = rest.split_first_chunk::<8>()?;
     let (extensions, signature) = signed_at(rest)?;
-    Some(LentSct {
+    Some(BorrowedSct {
         log_id,
         timestamp: u64::from_be_bytes(*timestamp),
         extensions,
@@ -58,10 +58,10 @@ pub(crate) fn sct_at(text: &[u8]) -> Option<LentSct<'_>>
 
 /// Returns what follows version v1.
 #[tactic(auto, unfolding(crate::specs::SctList::after_version))]
-fn after_version(text: &[u8]) -> Option<&[u8]>
-    ensures { after_version text.now ≡ option_map (λ r. r.now) result }
+fn after_version(bytes: &[u8]) -> Option<&[u8]>
+    ensures { after_version bytes.now ≡ option_map (λ r. r.now) result }
 {
-    match text {
+    match bytes {
         [version, rest @ ..] if *version == SCT_V1 => Some(rest),
         _ => None,
     }
@@ -97,9 +97,9 @@ pub(crate) fn only_one(list: &[u8]) -> Result<&[u8], CertificateErrorKind>
     }
     match vector_at(list) {
         None => Err(CertificateErrorKind::LeafSCTMissing),
-        Some((text, rest)) => {
+        Some((sct, rest)) => {
             if rest.is_empty() {
-                Ok(text)
+                Ok(sct)
             } else {
                 Err(CertificateErrorKind::LeafSCTMissing)
             }

@@ -107,54 +107,55 @@ fn check<C: SignatureChecker>(
 
 /// The signed bytes.
 fn signed_bytes(alloc: Global, sct: &DigitallySigned) -> Result<Vec<u8>, OutOfMemory>
-    requires body { IsLong sct.now.tbs_certificate }
+    requires tbs { IsLong sct.now.tbs_certificate }
     requires extensions { IsShort sct.now.extensions }
     ensures { IfOk result (λ v. v.items ≡ signed_bytes sct.now) }
 {
-    let mut text = Vec::new(alloc);
-    push_time(&mut text, sct.timestamp)?;
-    push_issuer(&mut text, &sct.issuer_key_hash)?;
-    push_body(&mut text, sct.tbs_certificate.as_slice())?;
-    push_extensions(&mut text, sct.extensions.as_slice())?;
-    Ok(text)
+    let mut message = Vec::new(alloc);
+    push_time(&mut message, sct.timestamp)?;
+    push_issuer(&mut message, &sct.issuer_key_hash)?;
+    push_tbs(&mut message, sct.tbs_certificate.as_slice())?;
+    push_extensions(&mut message, sct.extensions.as_slice())?;
+    Ok(message)
 }
 
 /// Version v1, the signature type certificate_timestamp, and the time.
-fn push_time(text: &mut Vec<u8>, timestamp: u64) -> Result<(), AllocError>
-    ensures { OnOk result (text.new.items ≡ text.old.items ++ (v1 ∷ certificate_timestamp ∷ eight_bytes timestamp)) }
+fn push_time(message: &mut Vec<u8>, timestamp: u64) -> Result<(), AllocError>
+    ensures { OnOk result
+        (message.new.items ≡ message.old.items ++ (v1 ∷ certificate_timestamp ∷ eight_bytes timestamp)) }
 {
-    text.extend_from_slice(&[SCT_V1, CERTIFICATE_TIMESTAMP])?;
-    text.extend_from_slice(&timestamp.to_be_bytes())
+    message.extend_from_slice(&[SCT_V1, CERTIFICATE_TIMESTAMP])?;
+    message.extend_from_slice(&timestamp.to_be_bytes())
 }
 
-/// The entry type precert_entry, and the SHA-256 of the issuer's key info.
-fn push_issuer(text: &mut Vec<u8>, issuer_key_hash: &[u8; 32]) -> Result<(), AllocError>
-    ensures { OnOk result (text.new.items ≡ text.old.items ++ (two_bytes precert_entry ++ issuer_key_hash.now)) }
+/// The entry type precert_entry, and the SHA-256 of the issuer's SPKI.
+fn push_issuer(message: &mut Vec<u8>, issuer_key_hash: &[u8; 32]) -> Result<(), AllocError>
+    ensures { OnOk result (message.new.items ≡ message.old.items ++ (two_bytes precert_entry ++ issuer_key_hash.now)) }
 {
-    text.extend_from_slice(&PRECERT_ENTRY.to_be_bytes())?;
-    text.extend_from_slice(issuer_key_hash)
+    message.extend_from_slice(&PRECERT_ENTRY.to_be_bytes())?;
+    message.extend_from_slice(issuer_key_hash)
 }
 
-/// The body after its length in three bytes.
-fn push_body(text: &mut Vec<u8>, body: &[u8]) -> Result<(), AllocError>
-    requires { IsLong body.now }
-    ensures { OnOk result (text.new.items ≡ text.old.items ++ long_vector body.now) }
+/// The TBSCertificate after its length in three bytes.
+fn push_tbs(message: &mut Vec<u8>, tbs: &[u8]) -> Result<(), AllocError>
+    requires { IsLong tbs.now }
+    ensures { OnOk result (message.new.items ≡ message.old.items ++ long_vector tbs.now) }
 {
-    let len = body.len();
-    text.extend_from_slice(&[
+    let len = tbs.len();
+    message.extend_from_slice(&[
         (len / 65536) as u8,
         (len / 256 % 256) as u8,
         (len % 256) as u8,
     ])?;
-    text.extend_from_slice(body)
+    message.extend_from_slice(tbs)
 }
 
 /// The extensions after their length in two bytes.
-fn push_extensions(text: &mut Vec<u8>, extensions: &[u8]) -> Result<(), AllocError>
+fn push_extensions(message: &mut Vec<u8>, extensions: &[u8]) -> Result<(), AllocError>
     requires { IsShort extensions.now }
-    ensures { OnOk result (text.new.items ≡ text.old.items ++ vector extensions.now) }
+    ensures { OnOk result (message.new.items ≡ message.old.items ++ vector extensions.now) }
 {
     let len = extensions.len();
-    text.extend_from_slice(&[(len / 256) as u8, (len % 256) as u8])?;
-    text.extend_from_slice(extensions)
+    message.extend_from_slice(&[(len / 256) as u8, (len % 256) as u8])?;
+    message.extend_from_slice(extensions)
 }

@@ -1,7 +1,7 @@
 -- One turn of the loop over the extensions.
 use Rattle.std.proofs.Common.{◌<◌, length, sym, arith}
 use Rattle.sig_certificate.specs.Lookups.{lent}
-use Rattle.sig_timestamp.proofs.PrecertLaws.{kept_more, place_within}
+use Rattle.sig_timestamp.proofs.PrecertLaws.{kept_more, within_list}
 use Rattle.sig_timestamp.proofs.precert.kept_extensions.Goals as goal
 use Rattle.sig_timestamp.proofs.precert.kept_extensions.Goals.{in-Some+in_ok-push_kept, in_default}
 
@@ -15,5 +15,5 @@ loop-index-preserved c =
       | in_default w ↦
           let lt : c.loop-index.index < length c.args.leaf.now.extensions = omega arith in
           let none = rw w.in_default.is at c.extension_at.ensures in
-          absurd (place_within c.args.leaf.now.extensions c.loop-index.index lt none)
+          absurd (within_list c.args.leaf.now.extensions c.loop-index.index lt (sym none))
     ]
