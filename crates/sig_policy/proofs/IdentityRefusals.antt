@@ -49,7 +49,8 @@ module _ (p : Claim) (c : Cert) where
   abbrev Issuer : Option (List ℕ)
   Issuer = extension_text (fulcio 1) c
 
-  among_takes : (o : Option (List (List ℕ))) → identities c ≡ o → is_among p.identity o ≡ true → HasIdentity c p.identity
+  among_takes : (o : Option (List (List ℕ))) → identities c ≡ o → is_among p.identity o ≡ true
+      → HasIdentity c p.identity
   among_takes None e is = absurd cc
   among_takes (Some texts) e is = record { texts = texts; are = identities_takes c texts e; named = is }
 

@@ -1,6 +1,7 @@
 pub mod Utf8Laws
 pub mod IdentityLaws
 pub mod RequestLaws
+pub mod SetLaws
 pub mod SaidLaws
 pub mod RefusalLaws
 pub mod ComesLaws

@@ -84,31 +84,34 @@ module _ (name asked : List ℕ) where
       unequal false is = is
 
 module _ (name asked oid : List ℕ) (c : Cert) (r : Answer)
-    (is : IsPolicyResult (is_text asked (extension_text oid c)) (single_refusal name asked (extension_text oid c)) r) where
-  abbrev Text : Option (List ℕ)
-  Text = extension_text oid c
+    (is : IsPolicyResult (is_text asked (extension_text oid c)) (single_refusal name asked (extension_text oid c)) r)
+  where
+    abbrev Text : Option (List ℕ)
+    Text = extension_text oid c
 
-  pub single_accepted : ComesWhere OutOfMemory r (Ok tt) (HasText oid c asked)
-  single_accepted =
-      comes_ok _ _ r _ is (λ e. text_takes oid c asked (holds_from name asked Text e))
-      (λ h. holds_is name asked Text (text_again oid c asked h))
+    pub single_accepted : ComesWhere OutOfMemory r (Ok tt) (HasText oid c asked)
+    single_accepted =
+        comes_ok _ _ r _ is (λ e. text_takes oid c asked (holds_from name asked Text e))
+        (λ h. holds_is name asked Text (text_again oid c asked h))
 
-  pub single_missing : ComesWhere OutOfMemory r (Err ExtensionNotFound) ((text : List ℕ) → ¬ HasText oid c text)
-  single_missing =
-      comes_err _ _ not_found r ExtensionNotFound _ refl (λ d same. same) is
-      (λ fails e text h. let none = missing_from name asked Text e in let wrong = sym none ∙ text_again oid c text h in
-      cc)
-      (λ none. missing_is name asked Text (by_text Text refl none))
-    where
-      by_text : (x : Option (List ℕ)) → Text ≡ x → ((text : List ℕ) → ¬ HasText oid c text) → Text ≡ None
-      by_text None e none = e
-      by_text (Some text) e none = absurd (none text (text_takes oid c text e))
+    pub single_missing : ComesWhere OutOfMemory r (Err ExtensionNotFound) ((text : List ℕ) → ¬ HasText oid c text)
+    single_missing =
+        comes_err _ _ not_found r ExtensionNotFound _ refl (λ d same. same) is
+        (λ fails e text h. let none = missing_from name asked Text e in
+        let wrong = sym none ∙ text_again oid c text h in
+        cc)
+        (λ none. missing_is name asked Text (by_text Text refl none))
+      where
+        by_text : (x : Option (List ℕ)) → Text ≡ x → ((text : List ℕ) → ¬ HasText oid c text) → Text ≡ None
+        by_text None e none = e
+        by_text (Some text) e none = absurd (none text (text_takes oid c text e))
 
-  pub single_differs : (actual : List ℕ)
-      → ComesWhere OutOfMemory r (Err (ExtensionCheckFailed name asked actual))
-      (HasText oid c actual × (actual ≢ asked))
-  single_differs actual =
-      comes_err _ _ (check_failed name asked actual) r (ExtensionCheckFailed name asked actual) _ refl (λ d same. same)
-      is
-      (λ fails e. let d = differs_from name asked Text actual fails e in (text_takes oid c actual d.0, d.1))
-      (λ h. differs_is name asked Text actual (text_again oid c actual h.0) h.1)
+    pub single_differs : (actual : List ℕ)
+        → ComesWhere OutOfMemory r (Err (ExtensionCheckFailed name asked actual))
+        (HasText oid c actual × (actual ≢ asked))
+    single_differs actual =
+        comes_err _ _ (check_failed name asked actual) r (ExtensionCheckFailed name asked actual) _
+        refl (λ d same. same)
+        is
+        (λ fails e. let d = differs_from name asked Text actual fails e in (text_takes oid c actual d.0, d.1))
+        (λ h. differs_is name asked Text actual (text_again oid c actual h.0) h.1)

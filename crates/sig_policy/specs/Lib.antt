@@ -5,6 +5,7 @@ pub mod Verdict
 pub mod Single
 pub mod Claim
 pub mod Identities
+pub mod IdentitySet
 pub mod Said
 pub mod Held
 pub mod Requests

@@ -39,5 +39,5 @@ said_values s =
       name = option_map (λ t. t.now) s.name;
       repository = option_map (λ t. t.now) s.repository;
       git_ref = option_map (λ t. t.now) s.git_ref;
-      identities = option_map (λ v. map (λ t. t.now) v.items) s.identities;
+      identities = option_map (λ v. map (λ t. t.now) v.items) s.identities.texts;
     }

@@ -98,16 +98,6 @@ pub(crate) fn judge_name(alloc: Global, identity: &str, texts: &Option<Vec<&str>
     }
 }
 
-/// Whether the identity is one of these.
-pub(crate) fn is_among(identity: &str, texts: &Option<Vec<&str>>) -> bool
-    ensures { result ≡ is_among identity.now (option_map (λ v. map (λ t. t.now) v.items) texts.now) }
-{
-    match texts {
-        None => false,
-        Some(texts) => contains(texts.as_slice(), identity),
-    }
-}
-
 fn verify_among(alloc: Global, identity: &str, texts: &[&str]) -> PolicyResult
     ensures { IsPolicyResult
         (is_among identity.now (Some (map (λ t. t.now) texts.now)))

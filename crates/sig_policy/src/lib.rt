@@ -12,6 +12,7 @@ mod failure;
 mod fulcio;
 mod identities;
 mod identity;
+mod identity_set;
 mod laws;
 mod policy;
 mod request;

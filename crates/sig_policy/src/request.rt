@@ -80,7 +80,7 @@ impl VerificationPolicy for RequestPolicy {
     /// of those that do not hold, in order. `Any`: returns `Ok` if and only if at least one holds, else `AnyOf` with
     /// the number of policies.
     fn verify(&self, alloc: Global, cert: &Certificate) -> PolicyResult {
-        // The certificate is read once, since its maker chooses how many extensions it has.
+        // The extensions are looked up once, since whoever makes a certificate chooses how many it has.
         let said = said_by(alloc, cert)?;
         match self {
             RequestPolicy::All(policies) => verify_all(alloc, policies.as_slice(), &said),
@@ -146,7 +146,10 @@ pub(crate) fn verify_any<P, S: Subject<P>>(
     policies: &[P],
     subject: &S,
 ) -> PolicyResult
-    ensures { IsPolicyResult (list_any (λ p. S.holds subject.now p) policies.now) (any_of (length policies.now)) result }
+    ensures { IsPolicyResult
+        (list_any (λ p. S.holds subject.now p) policies.now)
+        (any_of (length policies.now))
+        result }
 {
     for policy in policies {
         if subject.meets(alloc, policy)? {

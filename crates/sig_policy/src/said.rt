@@ -1,11 +1,13 @@
-//! What a certificate says to the policies of a request. Each extension is looked up once, however many policies there
-//! are.
+//! What a certificate says to the policies of a request. Each extension is looked up once, and each identity is found
+//! without a look at the others, however many policies there are. A policy that does not hold costs the length of its
+//! refusal, which has what the certificate says.
 
 ghost use Rattle.std.specs.Prelude.{◌≡◌, IfOk};
 ghost use Rattle.sig_policy.specs.Requests.{holds_by, refusal_by};
 ghost use Rattle.sig_policy.specs.Said.{said_values, values_of};
 
-use crate::identity::{identities, is_among, judge_name};
+use crate::identity::{identities, judge_name};
+use crate::identity_set::IdentitySet;
 use crate::policy::PolicyResult;
 use crate::request::LeafPolicy;
 use crate::single::{extension_text, is_text, judge_text};
@@ -25,14 +27,15 @@ pub(crate) struct Said<'a> {
     name: Option<&'a str>,
     repository: Option<&'a str>,
     git_ref: Option<&'a str>,
-    identities: Option<Vec<&'a str>>,
+    identities: IdentitySet<'a>,
 }
 
 /// Returns what the certificate says. Fails only if out of memory.
 pub(crate) fn said_by(alloc: Global, cert: &Certificate) -> Result<Said<'_>, OutOfMemory>
     ensures { IfOk result (λ s. said_values s ≡ values_of cert.now) }
 {
-    let identities = identities(alloc, cert)?;
+    let texts = identities(alloc, cert)?;
+    let identities = IdentitySet::new(alloc, texts)?;
     Ok(Said {
         issuer: extension_text(cert, oid::FULCIO_ISSUER),
         trigger: extension_text(cert, oid::FULCIO_TRIGGER),
@@ -61,7 +64,10 @@ impl Subject<LeafPolicy> for Said<'_> {
             LeafPolicy::GitHubWorkflowRef(policy) => judge_text(alloc, policy, self.git_ref),
             LeafPolicy::Identity(policy) => {
                 judge_text(alloc, policy.issuer(), self.issuer)?;
-                judge_name(alloc, policy.identity(), &self.identities)
+                if self.identities.has(policy.identity()) {
+                    return Ok(());
+                }
+                judge_name(alloc, policy.identity(), &self.identities.texts)
             }
         }
     }
@@ -76,8 +82,7 @@ impl Subject<LeafPolicy> for Said<'_> {
             LeafPolicy::GitHubWorkflowRepository(policy) => is_text(policy, self.repository),
             LeafPolicy::GitHubWorkflowRef(policy) => is_text(policy, self.git_ref),
             LeafPolicy::Identity(policy) => {
-                is_text(policy.issuer(), self.issuer)
-                    && is_among(policy.identity(), &self.identities)
+                is_text(policy.issuer(), self.issuer) && self.identities.has(policy.identity())
             }
         })
     }

@@ -1,0 +1,80 @@
+-- A set of texts: what it has after one more, and what the order of its keys finds.
+use Rattle.std.proofs.Common.{◌≡◌, ℕ, ◌+◌, ◌<◌, Bool, true, false, ◌||◌, List, [], ◌∷◌, length, take, get_or}
+use Rattle.std.proofs.Common.{refl, sym, ap, ◌∙◌}
+use Rattle.std.specs.Borrow.{Bor}
+use Rattle.std.specs.Str.{bytes_eq}
+use Rattle.std.specs.List.{list_any}
+use Rattle.std.proofs.Common.{Ordering, Less, Equal, Greater}
+use Rattle.std.specs.Ordering.{nat_cmp, is_eq, match_ordering}
+use Rattle.std.specs.Bool.{one_answer}
+use Rattle.std.specs.Cmp.Lexicographic.{slice_cmp}
+use Rattle.std.specs.BTreeMap.{is_at}
+use Rattle.std.specs.BTreeSet.{insert_key}
+use Rattle.std.proofs.lemmas.List.Folds.{list_any_more}
+use Rattle.std.proofs.lemmas.Map.Text.{is_eq-slice_cmp}
+use Rattle.std.proofs.lemmas.Slice.Eq.{bytes_eq-Decides}
+use Rattle.sig_policy.specs.IdentitySet.{has_text}
+
+or_comm : (a b : Bool) → (a || b) ≡ (b || a)
+or_comm true true = refl
+or_comm true false = refl
+or_comm false true = refl
+or_comm false false = refl
+
+or_swap : (a b c : Bool) → (a || (b || c)) ≡ (b || (a || c))
+or_swap true true c = refl
+or_swap true false c = refl
+or_swap false true c = refl
+or_swap false false c = refl
+
+or_twice : (a b : Bool) → (a || b) ≡ (a || (a || b))
+or_twice true b = refl
+or_twice false b = refl
+
+flipped : (xs ys : List ℕ) → bytes_eq xs ys ≡ bytes_eq ys xs
+flipped xs ys =
+    one_answer (bytes_eq xs ys) (bytes_eq ys xs) (bytes_eq-Decides xs ys)
+    ((λ e. sym ((bytes_eq-Decides ys xs).0 e)), (λ e. (bytes_eq-Decides ys xs).1 (sym e)))
+
+-- ---- a look-up
+
+pub found_by_order : (q : List ℕ) (ks : List (Bor (List ℕ)))
+    → list_any (is_at (λ k. slice_cmp nat_cmp q k.now)) ks ≡ has_text ks q
+found_by_order q [] = refl
+found_by_order q (k ∷ ks) =
+    ap (λ (b : Bool). b || list_any (is_at (λ k. slice_cmp nat_cmp q k.now)) ks)
+    (is_eq-slice_cmp q k.now ∙ flipped q k.now)
+    ∙ ap (λ (b : Bool). bytes_eq k.now q || b) (found_by_order q ks)
+
+-- ---- one text more
+
+abbrev order : Bor (List ℕ) → Bor (List ℕ) → Ordering
+order x y = slice_cmp nat_cmp x.now y.now
+
+added : (q : List ℕ) (k : Bor (List ℕ)) (ks : List (Bor (List ℕ)))
+    → has_text (insert_key order ks k) q ≡ (bytes_eq k.now q || has_text ks q)
+added q k [] = refl
+added q k (x ∷ xs) = by_order (added q k xs) (slice_cmp nat_cmp k.now x.now) refl
+  where
+    by_order : has_text (insert_key order xs k) q ≡ (bytes_eq k.now q || has_text xs q)
+        → (o : Ordering) → slice_cmp nat_cmp k.now x.now ≡ o
+        → has_text (match_ordering o (k ∷ x ∷ xs) (x ∷ xs) (x ∷ insert_key order xs k)) q
+        ≡ (bytes_eq k.now q || (bytes_eq x.now q || has_text xs q))
+    by_order rest Less e = refl
+    by_order rest Equal e =
+        let same : k.now ≡ x.now =
+        (bytes_eq-Decides k.now x.now).0 (sym (is_eq-slice_cmp k.now x.now) ∙ ap is_eq e) in
+        rw same (or_twice (bytes_eq x.now q) (has_text xs q))
+    by_order rest Greater e =
+        ap (λ (b : Bool). bytes_eq x.now q || b) rest
+        ∙ or_swap (bytes_eq x.now q) (bytes_eq k.now q) (has_text xs q)
+
+-- one turn of the loop over the texts
+pub set_more : (texts : List (Bor (List ℕ))) (i : ℕ) (d : Bor (List ℕ)) (before after : List (Bor (List ℕ)))
+    (q : List ℕ) → i < length texts → after ≡ insert_key order before (get_or texts i d)
+    → has_text before q ≡ has_text (take i texts) q → has_text after q ≡ has_text (take (i + 1) texts) q
+set_more texts i d before after q below grown so_far =
+    ap (λ (ks : List (Bor (List ℕ))). has_text ks q) grown ∙ added q (get_or texts i d) before
+    ∙ ap (λ (b : Bool). bytes_eq (get_or texts i d).now q || b) so_far
+    ∙ or_comm (bytes_eq (get_or texts i d).now q) (has_text (take i texts) q)
+    ∙ sym (list_any_more (λ (x : Bor (List ℕ)). bytes_eq x.now q) texts i d below)
