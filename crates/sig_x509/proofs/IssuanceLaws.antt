@@ -6,7 +6,7 @@ use Rattle.std.specs.List.{list_all}
 use Rattle.std.proofs.lemmas.Bool.{ne_eqb}
 use Rattle.std.proofs.lemmas.List.{take_more}
 use Rattle.std.proofs.lemmas.List.Folds.{list_all_more, list_all_at}
-use Rattle.std.proofs.lemmas.Option.{slice_get_within, slice_get-get_or, get_or_from_slice_get}
+use Rattle.std.proofs.lemmas.Option.{slice_get_within, get_or_from_slice_get}
 use Rattle.sig_certificate.specs.declared.error.X509ReadError.{X509ReadError}
 use Rattle.sig_certificate.specs.declared.error.X509ReadError.TheVariants.{Der, OutOfMemory as NoMemory}
 use Rattle.sig_certificate.specs.Answers.{IsRefusedOnlyWithout}
@@ -28,11 +28,6 @@ none_several es le = ne_eqb (length es) 0 (λ is. omega (arith, le, is))
 pub ruleset lookup_counts = (none_absent, none_one, none_several)
 
 -- ---- a list up to an index
-
-pub within_list : {X : Type 0} (xs : List X) (index : ℕ) → index < length xs → slice_get xs index ≡ None → ⊥
-within_list [] index lt none = omega (arith, lt)
-within_list (x ∷ xs) index lt none =
-    let some = slice_get-get_or (x ∷ xs) index x lt in let no = sym none ∙ some in absurd cc
 
 at_place : {X : Type 0} (xs : List X) (index : ℕ) (x : X) → slice_get xs index ≡ Some x → get_or xs index x ≡ x
 at_place xs index x got = get_or_from_slice_get xs index x x got

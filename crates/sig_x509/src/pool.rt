@@ -63,8 +63,8 @@ impl CertificatePool {
         ensures anchors { IfOk result (AreAnchors trusted_roots.now) }
         // An error names the first DER that is no anchor, unless memory ran out.
         ensures refusal { IfErr result (IsPoolRefusal trusted_roots.now) }
-        // `Anchor` is returned with an index if and only if the DER there is the first that is no anchor, unless memory
-        // ran out.
+        // `Anchor` is returned with an index if and only if the DER there is the first that is no anchor, unless
+        // memory ran out.
         ensures anchor { (index : ℕ) → ComesWhere PoolError.OutOfMemory result
             (Err (PoolError.Anchor index)) (IsFirstNoAnchor trusted_roots.now index) }
     {

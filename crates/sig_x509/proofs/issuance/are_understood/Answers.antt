@@ -1,6 +1,7 @@
 use Rattle.std.proofs.Common.{rules, ◌<◌, sym, length, arith}
 use Rattle.sig_x509.specs.Issuance.{is_understood}
-use Rattle.sig_x509.proofs.IssuanceLaws.{all_more, all_fails, within_list}
+use Rattle.sig_timestamp.proofs.PrecertLaws.{within_list}
+use Rattle.sig_x509.proofs.IssuanceLaws.{all_more, all_fails}
 use Rattle.sig_x509.proofs.issuance.are_understood.Goals as goal
 use Rattle.sig_x509.proofs.issuance.are_understood.Goals.{in_default, in-Some+else-not-is_understood}
 
