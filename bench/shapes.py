@@ -96,6 +96,14 @@ def signatures_of_a_long_note(count):
     return request(checkpoint=note + "\n" + "\n".join(lines), accepted=rows)
 
 
+def equal_signatures_of_a_long_note(count):
+    """The same, but the row of the equal signatures is over a note that differs from this one in its last byte."""
+    note = NOTE + "c" * (5 * count) + "\n"
+    lines = [signature_line(b"", name="")] * count + [signature_line(b"sig")]
+    rows = [row(note.encode()), row(note.encode()[:-1] + b"c", b"")]
+    return request(checkpoint=note + "\n" + "\n".join(lines), accepted=rows)
+
+
 def signatures(count):
     """Signatures of which none is accepted."""
     return request(checkpoint=NOTE + "\n" + "\n".join([signature_line(b"s" * 70)] * count))

@@ -13,8 +13,9 @@ use std::marker::Model;
 /// Decides whether signatures are genuine. Each call returns exactly its predicate of the listed bytes: a checker has no faults.
 /// What this project proves is relative to these four predicates.
 ///
-/// A checker is asked for each signature of a signed note until it accepts one, with the whole text of the note as message. One that hashes the
-/// message in each call hashes signatures times text: keep the digest of the last message, or check the lengths of signatures first.
+/// A checker is asked for each different signature of a signed note until it accepts one, with the whole text of the note
+/// as message. One that hashes the message in each call hashes signatures times text: keep the digest of the last
+/// message, or check the lengths of signatures first.
 pub trait SignatureChecker {
     /// The signatures over messages that are genuine under a scheme and a key info (DER).
     ghost spki_accepts: { Self → scheme_type → List ℕ → List ℕ → List ℕ → Bool };

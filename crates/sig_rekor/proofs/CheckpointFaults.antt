@@ -2,14 +2,13 @@
 use Rattle.std.proofs.Common.{◌≡◌, ℕ, List, [], ◌∷◌, Option, Some, None, Result, Ok, Err, refl, sym, ◌∙◌, ap, inl, inr, arith, ◌↔◌, filter, ◌⊎◌}
 use Rattle.std.specs.List.{AllByRecursion}
 use Rattle.sig_base.specs.declared.fault.CheckpointFault.{CheckpointFault}
-use Rattle.sig_base.specs.declared.fault.CheckpointFault.TheVariants.{Format}
 use Rattle.sig_rekor.specs.declared.checkpoint.Checkpoint.{Checkpoint}
 use Rattle.sig_rekor.specs.declared.checkpoint.CheckpointSignature.{CheckpointSignature}
-use Rattle.sig_rekor.specs.Cut.{IsTrimmed, cut_at, parts, trimmed}
+use Rattle.sig_rekor.specs.Cut.{cut_at, parts, trimmed}
 use Rattle.sig_rekor.specs.Reading.{each}
 use Rattle.sig_rekor.specs.NoteText.{note_of}
 use Rattle.sig_rekor.specs.SignatureText.{signature_of}
-use Rattle.sig_rekor.specs.CheckpointText.{quotation_mark, empty_line, is_written, signatures_by, checkpoint_by, checkpoint_of}
+use Rattle.sig_rekor.specs.CheckpointText.{quotation_mark, empty_line, is_written, signatures_by, checkpoint_of}
 use Rattle.sig_rekor.specs.Faults.{IsPieceFault, StandsForSignature, HasPieces, IsNoteFault, IsCheckpointFault}
 use Rattle.sig_rekor.proofs.Cutting.{cut_at-some, cut_at-none, cut_at-cut, cut_at-lacks, parts-found, parts-only, trimmed-found, trimmed-only}
 use Rattle.sig_rekor.proofs.NoteFaults.{note-fails, note-only_fails}

@@ -6,6 +6,7 @@ pub mod NoteLaws
 pub mod SignatureLaws
 pub mod CheckpointLaws
 pub mod VerifyLaws
+pub mod Deduped
 pub mod Graphic
 pub mod WrittenCuts
 pub mod ReadBackLaws

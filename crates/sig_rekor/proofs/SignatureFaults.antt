@@ -1,8 +1,8 @@
 -- The fault of a signature is the first of its rules that is broken.
-use Rattle.std.proofs.Common.{◌≡◌, ℕ, ◌≤◌, true, false, nat_lt, nat_eq, List, [], ◌∷◌, ◌++◌, length, take, drop, Option, Some, None, Result, Ok, Err, refl, sym, ◌∙◌, ap, subst, inl, inr, arith, ◌↔◌, length-append}
-use Rattle.std.proofs.lemmas.Bool.{ltb-false, ltb-true, le-ltb}
+use Rattle.std.proofs.Common.{◌≡◌, ℕ, ◌≤◌, nat_lt, nat_eq, List, [], ◌∷◌, length, take, drop, Option, Some, None, Result, Ok, Err, refl, sym, ◌∙◌, ap, subst, inl, inr, arith, ◌↔◌, length-append}
+use Rattle.std.proofs.lemmas.Bool.{ltb-true}
 use Rattle.std.specs.List.{AllByRecursion, starts_with}
-use Rattle.std.specs.Prelude.{⊤, Bool}
+use Rattle.std.specs.Prelude.{⊤}
 use Rattle.std.specs.Str.{trim_end}
 use Rattle.sig_base.specs.declared.fault.CheckpointFault.{CheckpointFault}
 use Rattle.sig_base.specs.declared.fault.CheckpointFault.TheVariants.{NoDash, SignatureFormat, SignatureBase64, SignatureLength}
@@ -10,10 +10,10 @@ use Rattle.sig_base.specs.Base64.{base64_bytes}
 use Rattle.sig_rekor.specs.declared.checkpoint.CheckpointSignature.{CheckpointSignature}
 use Rattle.sig_rekor.specs.Cut.{IsTrimmed, IsParts, trimmed, parts}
 use Rattle.sig_rekor.specs.Reading.{base64_of}
-use Rattle.sig_rekor.specs.SignatureText.{em_dash, space, signed_bytes, IsSignature, line_of, name_and_bytes, signature_by, signature_of}
+use Rattle.sig_rekor.specs.SignatureText.{em_dash, space, signed_bytes, IsSignature, line_of, signature_by, signature_of}
 use Rattle.sig_rekor.specs.Rules.{FailsFirst}
 use Rattle.sig_rekor.specs.Faults.{OfThird, OfBytes, SignatureKeeps, signature_rules, IsSignatureFault}
-use Rattle.sig_rekor.proofs.Cutting.{parts-found, parts-only, trimmed-found, trimmed-only}
+use Rattle.sig_rekor.proofs.Cutting.{parts-found, parts-only, trimmed-only}
 use Rattle.sig_rekor.proofs.SignatureLaws.{line-found, line-only, signature-found}
 use Rattle.sig_rekor.proofs.RuleLaws.{one_fails, none_fails}
 use Rattle.sig_rekor.proofs.Steps.{chosen}

@@ -1,5 +1,5 @@
 -- What `trim` takes for white space is Unicode's, and a blank text is nothing else.
-use Rattle.std.proofs.Common.{◌≡◌, ◌≢◌, ℕ, suc, Bool, true, false, ◌&&◌, ◌||◌, ◌==◌, nat_lt, List, [], ◌∷◌, ◌++◌, length, refl, sym, ◌∙◌, ap, subst, inl, inr, arith, ◌↔◌, ◌⊎◌, length-append}
+use Rattle.std.proofs.Common.{◌≡◌, ◌≢◌, ℕ, Bool, true, false, ◌&&◌, ◌||◌, ◌==◌, nat_lt, List, [], ◌∷◌, length, refl, sym, ◌∙◌, subst, inl, inr, arith, ◌↔◌, ◌⊎◌, length-append}
 use Rattle.std.proofs.lemmas.Bool.{cases_Bool, cases_eq, ne_eqb, eqb-true, ltb-true, and_parts, false≢true}
 use Rattle.std.proofs.lemmas.Str.{chars-encodes, scalars-chars, length-encode, len_utf8_bounds}
 use Rattle.std.specs.Char.{is_whitespace, char_set_contains, encode_utf8}

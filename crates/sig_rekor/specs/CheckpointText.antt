@@ -1,5 +1,5 @@
 -- A signed checkpoint, both ways: a note, an empty line, and signatures between empty lines.
-use Rattle.std.specs.Prelude.{ℕ, Bool, not, List, [], ◌∷◌, ◌++◌, filter, Option, Some, None, Result, Ok, Err}
+use Rattle.std.specs.Prelude.{ℕ, Bool, not, List, ◌++◌, filter, Option, Some, None, Result, Ok, Err}
 use Rattle.std.specs.List.{AllZip, join_by}
 use Rattle.sig_base.specs.ResultSteps.{◌>>=◌}
 use Rattle.sig_base.specs.declared.fault.CheckpointFault.{CheckpointFault}

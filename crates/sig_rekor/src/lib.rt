@@ -19,6 +19,7 @@
 mod checkpoint;
 mod coding;
 mod cuts;
+mod different;
 mod fault;
 mod inclusion_proof;
 pub mod laws;

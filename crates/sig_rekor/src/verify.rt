@@ -8,6 +8,7 @@ ghost use Rattle.sig_rekor.specs.NoteText.{note_text};
 ghost use Rattle.sig_rekor.specs.Verify.{is_signed, IsOfTree, signed_answer, tree_answer};
 
 use crate::checkpoint::{CheckpointSignature, SignedCheckpoint};
+use crate::different::different;
 use sig_base::{MerkleProofError, OutOfMemory, Result, RootHex, SignatureChecker, SigstoreError};
 use sig_key::CosignVerificationKey;
 use std::alloc::Global;
@@ -16,10 +17,11 @@ impl SignedCheckpoint {
     /// Checks that one of the signatures is the log's over the marshalled note. Fails with
     /// `CheckpointSignatureVerificationError` if and only if the checker accepts none of them.
     ///
-    /// The note is marshalled once, and the checker is asked once for each signature, until it accepts one. A checker that
-    /// hashes the message at each call hashes the whole note once for each signature of an untrusted text: its caller
-    /// should limit the number of signatures or the size of a checkpoint, or hash a note once and keep the digest. The
-    /// program's table hashes nothing, and compares the message last.
+    /// The note is marshalled once, and the checker is asked once for each different signature, in byte order, until it
+    /// accepts one. A checker that hashes the message at each call hashes the whole note once for each different
+    /// signature of an untrusted text: its caller should limit the number of signatures or the size of a checkpoint, or
+    /// hash a note once and keep the digest. The program's table hashes nothing, and compares the message last. The call
+    /// takes the memory of the note, and 16 bytes a signature.
     pub fn verify_signature<C: SignatureChecker>(
         &self,
         alloc: Global,
@@ -49,7 +51,7 @@ impl SignedCheckpoint {
     {
         let note = self.note.marshal(alloc)?;
         let message = note.as_str().as_bytes();
-        Ok(accepts_one(self.signatures.as_slice(), message, key, checker))
+        accepts_one(alloc, self.signatures.as_slice(), message, key, checker)
     }
 
     /// Checks that the note is of a proof's tree, whose root and number of leaves these are. It takes no memory.
@@ -88,14 +90,29 @@ impl SignedCheckpoint {
     }
 }
 
-/// Whether the checker takes one of the signatures for the key's over the message.
+/// Whether the checker accepts one of the signatures over the message as the key's.
 fn accepts_one<C: SignatureChecker>(
+    alloc: Global,
     signatures: &[CheckpointSignature],
     message: &[u8],
     key: &CosignVerificationKey,
     checker: &C,
-) -> bool
-    ensures { result ≡ list_any (λ s. key_accepts (C.spki_accepts checker.now) key.now message.now s.raw) signatures.now }
+) -> std::result::Result<bool, OutOfMemory>
+    ensures { IfOk result (λ accepted. accepted
+        ≡ list_any (λ s. key_accepts (C.spki_accepts checker.now) key.now message.now s.raw) signatures.now) }
 {
-    signatures.iter().any(|signature| key.accepts(signature.raw.as_slice(), message, checker))
+    let raws = different(alloc, signatures)?;
+    Ok(accepts_one_of(raws.as_slice(), message, key, checker))
+}
+
+/// The same of raw bytes.
+fn accepts_one_of<C: SignatureChecker>(
+    raws: &[&[u8]],
+    message: &[u8],
+    key: &CosignVerificationKey,
+    checker: &C,
+) -> bool
+    ensures { result ≡ list_any (λ raw. key_accepts (C.spki_accepts checker.now) key.now message.now raw.now) raws.now }
+{
+    raws.iter().any(|raw| key.accepts(raw, message, checker))
 }
