@@ -1,5 +1,5 @@
 -- The signatures of a checkpoint: the pieces between empty lines, one by one.
-use Rattle.std.proofs.Common.{◌≡◌, ℕ, true, false, List, [], ◌∷◌, ◌++◌, Some, None, Result, Ok, Err, refl, sym, ◌∙◌, ap, arith, append_assoc, append-nil, inl, inr}
+use Rattle.std.proofs.Common.{◌≡◌, ℕ, true, false, List, [], ◌∷◌, ◌++◌, Some, None, Result, Ok, Err, refl, sym, ◌∙◌, ap, arith, append_assoc, append-nil, ◌⊎◌, inl, inr}
 use Rattle.std.proofs.lemmas.Bool.{cases_Bool}
 use Rattle.sig_base.specs.ResultSteps.{◌>>=◌}
 use Rattle.sig_base.specs.declared.fault.CheckpointFault.{CheckpointFault}
@@ -7,8 +7,8 @@ use Rattle.sig_base.specs.declared.fault.CheckpointFault.TheVariants.{SignatureF
 use Rattle.sig_rekor.specs.declared.checkpoint.CheckpointSignature.{CheckpointSignature}
 use Rattle.sig_rekor.specs.Cut.{cut_at, parts}
 use Rattle.sig_rekor.specs.declared.fault.ParseCheckpointError.{ParseCheckpointError}
-use Rattle.sig_rekor.specs.declared.fault.ParseCheckpointError.TheVariants.{DecodeError, OutOfMemory}
-use Rattle.sig_rekor.specs.Reading.{Reads}
+use Rattle.sig_rekor.specs.declared.fault.ParseCheckpointError.TheVariants.{OutOfMemory}
+use Rattle.sig_rekor.specs.Reading.{as_error}
 use Rattle.sig_rekor.specs.NoteText.{is_blank}
 use Rattle.sig_rekor.specs.SignatureText.{space, name_and_bytes, signature_of}
 use Rattle.sig_rekor.specs.CheckpointText.{empty_line, signatures_by, signatures_on}
@@ -102,11 +102,24 @@ pub ruleset three_parts = (no_part, two_parts, just_three, more_parts)
 
 pub ruleset one_signature = (signatures_on-blank, signatures_on-read, signatures_on-refused)
 
-pub ruleset all_signatures = (signatures_on-cut, signatures_on-cut_refused, signatures_on-end, signatures_on-nothing)
+-- what fails at a cut fails for the whole
+failed_at_cut : (before : List CheckpointSignature) (text piece rest : List ℕ) (error : ParseCheckpointError)
+    → Some (piece, rest) ≡ cut_at empty_line text → as_error (signatures_on before (piece ∷ [])) ≡ Err error
+    → as_error (signatures_on before (parts empty_line text)) ≡ Err error
+failed_at_cut before text piece rest error cut is = by (signatures_on before (piece ∷ [])) refl is where
+  by : (r : Result (List CheckpointSignature) CheckpointFault) → signatures_on before (piece ∷ []) ≡ r
+      → as_error r ≡ Err error → as_error (signatures_on before (parts empty_line text)) ≡ Err error
+  by (Ok after) same failed = absurd cc
+  by (Err fault) same failed = rw (signatures_on-cut_refused before text piece rest fault cut same) failed
 
--- a refusal at a cut is the refusal of the whole
-pub refused_at_cut : (error : ParseCheckpointError) (before after : List CheckpointSignature) (text piece rest : List ℕ) (whole : Result (List CheckpointSignature) CheckpointFault)
+-- so does what ends at a cut for want of memory
+pub ends_at_cut : (before : List CheckpointSignature) (text piece rest : List ℕ) (error : ParseCheckpointError)
+    (whole : Result (List CheckpointSignature) CheckpointFault)
     → signatures_on before (parts empty_line text) ≡ whole → Some (piece, rest) ≡ cut_at empty_line text
-    → Reads {X = Unit {0}} (λ _. after) (Err error) (signatures_on before (piece ∷ [])) → Reads {X = List CheckpointSignature} (λ x. x) (Err error) whole
-refused_at_cut (DecodeError fault) before after text piece rest whole same e f = sym same ∙ signatures_on-cut_refused before text piece rest fault e f
-refused_at_cut OutOfMemory before after text piece rest whole same e f = tt
+    → (error ≡ OutOfMemory) ⊎ (as_error (signatures_on before (piece ∷ [])) ≡ Err error)
+    → (error ≡ OutOfMemory) ⊎ (as_error whole ≡ Err error)
+ends_at_cut before text piece rest error whole same cut (inl memory) = inl memory
+ends_at_cut before text piece rest error whole same cut (inr failed) =
+    inr (ap as_error (sym same) ∙ failed_at_cut before text piece rest error cut failed)
+
+pub ruleset all_signatures = (signatures_on-cut, signatures_on-end, signatures_on-nothing)

@@ -1,10 +1,10 @@
 -- Readers in steps: what an answer says of each step.
-use Rattle.std.proofs.Common.{◌≡◌, Bool, true, false, ◌⊎◌, cond, Option, Some, None, Result, Ok, Err, refl, inl, inr, ok_or, List, [], ◌∷◌, ◌++◌, subst, IfOk}
+use Rattle.std.proofs.Common.{◌≡◌, Bool, true, false, ◌⊎◌, cond, Option, Some, None, Result, Ok, Err, refl, inl, inr, ok_or, List, [], ◌∷◌, ◌++◌, subst, ap, IfOk}
 use Rattle.sig_base.specs.declared.fault.CheckpointFault.{CheckpointFault}
 use Rattle.std.specs.List.{AllZip, AllByRecursion}
 use Rattle.sig_base.proofs.ResultSteps.{bind_ok}
 use Rattle.sig_rekor.specs.declared.fault.ParseCheckpointError.{ParseCheckpointError}
-use Rattle.sig_rekor.specs.Reading.{each, Reads}
+use Rattle.sig_rekor.specs.Reading.{each, as_error, Reads}
 
 -- which way a test went
 pub chosen : {A : Type 0} (b : Bool) (x y z : A) → cond b x y ≡ z → ((b ≡ true) × (x ≡ z)) ⊎ ((b ≡ false) × (y ≡ z))
@@ -15,12 +15,19 @@ pub ok_or-ok : {A E : Type 0} (o : Option A) (fault : E) (x : A) → ok_or o fau
 ok_or-ok (Some y) fault x e = (let same : y ≡ x = cc in cc)
 ok_or-ok None fault x e = cc
 
+-- a value that is returned is the one that reading gives
+pub reads-value : {Y : Type 0} (y : Y) (read : Result Y CheckpointFault) → as_error read ≡ Ok y → read ≡ Ok y
+reads-value y (Ok x) is = let same : x ≡ y = cc in ap Ok same
+reads-value y (Err fault) is = absurd cc
+
 -- a reading that gives a value of which P holds
-pub reads-found : {X : Type 0} (P : X → Type 0) (r : Result X ParseCheckpointError) (read : Result X CheckpointFault) → Reads (λ x. x) r read → ((x : X) → read ≡ Ok x → P x) → IfOk r P
-reads-found P (Ok x) read is found = found x is
+pub reads-found : {X : Type 0} (P : X → Type 0) (r : Result X ParseCheckpointError) (read : Result X CheckpointFault)
+    → Reads (λ x. x) r read → ((x : X) → read ≡ Ok x → P x) → IfOk r P
+reads-found P (Ok x) read is found = found x (reads-value x read is)
 reads-found P (Err error) read is found = tt
 
-pub reads-only : {X : Type 0} (r : Result X ParseCheckpointError) (read : Result X CheckpointFault) (x : X) → Reads (λ x. x) r read → read ≡ Ok x → Reads (λ x. x) r (Ok x)
+pub reads-only : {X : Type 0} (r : Result X ParseCheckpointError) (read : Result X CheckpointFault) (x : X)
+    → Reads (λ x. x) r read → read ≡ Ok x → Reads (λ x. x) r (Ok x)
 reads-only r read x is same = subst (Reads (λ x. x) r) same is
 
 -- each of a list

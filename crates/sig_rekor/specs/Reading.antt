@@ -1,6 +1,7 @@
 -- What a reader of the checkpoint format answers: the value, or the first rule that is broken.
 use Rattle.std.specs.Prelude.{◌≡◌, ℕ, Result, Ok, Err, List, [], ◌∷◌}
 use Rattle.std.specs.Option.{ok_or}
+use Rattle.sig_base.specs.Answers.{Answers}
 use Rattle.sig_base.specs.ResultSteps.{◌>>=◌}
 use Rattle.sig_base.specs.Base64.{base64_bytes}
 use Rattle.sig_base.specs.declared.fault.CheckpointFault.{CheckpointFault}
@@ -19,8 +20,11 @@ each read (x ∷ xs) = do
 unfoldable pub base64_of : CheckpointFault → List ℕ → Result (List ℕ) CheckpointFault
 base64_of fault text = ok_or (base64_bytes text) fault
 
--- a call answers what reading gives, and wants memory at any input
+-- a fault of the format as the readers' error
+abbrev pub as_error : {Y : Type 0} → Result Y CheckpointFault → Result Y ParseCheckpointError
+as_error (Ok y) = Ok y
+as_error (Err fault) = Err (DecodeError fault)
+
+-- a result is the value or the fault that reading gives, unless memory ran out
 abbrev pub Reads : {X Y : Type 0} → (X → Y) → Result X ParseCheckpointError → Result Y CheckpointFault → Type 0
-Reads view (Ok x) read = read ≡ Ok (view x)
-Reads view (Err (DecodeError fault)) read = read ≡ Err fault
-Reads view (Err OutOfMemory) read = Unit {0}
+Reads view result read = Answers OutOfMemory view result (as_error read)

@@ -73,15 +73,11 @@ fn read_signatures(alloc: Global, text: &str) -> Result<CheckpointSignatures, Pa
     let mut signatures = CheckpointSignatures::new(alloc);
     let mut rest = text;
     'pieces: while let Some((piece, after)) = cut(rest, "\n\n") {
-        match add_signature(alloc, piece, &mut signatures) {
-            Ok(()) => rest = after,
-            Err(error) => return Err(error),
-        }
+        add_signature(alloc, piece, &mut signatures)?;
+        rest = after;
     }
-    match add_signature(alloc, rest, &mut signatures) {
-        Ok(()) => Ok(signatures),
-        Err(error) => Err(error),
-    }
+    add_signature(alloc, rest, &mut signatures)?;
+    Ok(signatures)
 }
 
 /// Adds the signature of a piece, unless the piece is only white space.

@@ -1,8 +1,10 @@
 -- The first failing link of a request, from what holds under its checkpoint.
-use Rattle.std.proofs.Common.{◌≡◌, ℕ, List, Option, Some, None, Result, Ok, Err, IfOk, inl, inr, refl, subst, sym}
+use Rattle.std.proofs.Common.{◌≡◌, ◌⊎◌, ℕ, List, Option, Some, None, Result, Ok, Err, IfOk, inl, inr, refl, subst, sym}
 use Rattle.sig_base.specs.declared.memory.OutOfMemory.{OutOfMemory}
 use Rattle.sig_base.specs.declared.fault.CheckpointFault.{CheckpointFault}
 use Rattle.sig_rekor.specs.declared.checkpoint.SignedCheckpoint.{SignedCheckpoint}
+use Rattle.sig_rekor.specs.declared.fault.ParseCheckpointError.{ParseCheckpointError}
+use Rattle.sig_rekor.specs.declared.fault.ParseCheckpointError.TheVariants.{DecodeError, OutOfMemory as Memory}
 use Rattle.sig_rekor.specs.CheckpointText.{IsCheckpoint}
 use Rattle.sigverify.specs.declared.link.Link.{Link}
 use Rattle.sigverify.specs.declared.link.Link.TheVariants.{Request, Checkpoint, NoteKey, NoteMatch, Inclusion}
@@ -34,19 +36,26 @@ under-verdict request checkpoint (Some NoteMatch) is only under =
 under-verdict request checkpoint (Some Inclusion) is only under =
     inr (tt, inr ((checkpoint, is, tt), inr ((checkpoint, is, under.0), inr ((checkpoint, is, under.1), inl (under.2, refl)))))
 
--- the answers of the reader: no reading, and one
+-- a fault is neither want of memory nor a value
+no_fault : (checkpoint : SignedCheckpoint) (fault : CheckpointFault)
+    → (DecodeError fault ≡ Memory) ⊎ ◌≡◌ {A = Result SignedCheckpoint ParseCheckpointError} (Ok checkpoint) (Err (DecodeError fault)) → ⊥
+no_fault checkpoint fault (inl e) = absurd cc
+no_fault checkpoint fault (inr e) = absurd cc
+
+-- the results of the reader: no reading, and one
 pub refused-verdict : (request : LogRequest) (text : List ℕ) (fault : CheckpointFault) → text ≡ request.checkpoint
-    → ((other : SignedCheckpoint) → IsCheckpoint text other → ◌≡◌ {A = Result SignedCheckpoint CheckpointFault} (Ok other) (Err fault))
+    → ((other : SignedCheckpoint) → IsCheckpoint text other
+        → (DecodeError fault ≡ Memory) ⊎ ◌≡◌ {A = Result SignedCheckpoint ParseCheckpointError} (Ok other) (Err (DecodeError fault)))
     → IsVerdict request (Some Checkpoint)
 refused-verdict request text fault same none =
-    unread-verdict request (λ other is. let e = none other (subst (λ t. IsCheckpoint t other) (sym same) is) in cc)
+    unread-verdict request (λ other is. no_fault other fault (none other (subst (λ t. IsCheckpoint t other) (sym same) is)))
 
-same_reading : (a b : SignedCheckpoint) → ◌≡◌ {A = Result SignedCheckpoint CheckpointFault} (Ok a) (Ok b) → a ≡ b
+same_reading : (a b : SignedCheckpoint) → ◌≡◌ {A = Result SignedCheckpoint ParseCheckpointError} (Ok a) (Ok b) → a ≡ b
 same_reading a b e = cc
 
 pub read-verdict : (request : LogRequest) (text : List ℕ) (checkpoint : SignedCheckpoint) (verdict : Result (Option Link) OutOfMemory) → text ≡ request.checkpoint
     → IsCheckpoint text checkpoint
-    → ((other : SignedCheckpoint) → IsCheckpoint text other → ◌≡◌ {A = Result SignedCheckpoint CheckpointFault} (Ok other) (Ok checkpoint))
+    → ((other : SignedCheckpoint) → IsCheckpoint text other → ◌≡◌ {A = Result SignedCheckpoint ParseCheckpointError} (Ok other) (Ok checkpoint))
     → IfOk verdict (IsVerdictUnder request checkpoint) → IfOk verdict (IsVerdict request)
 read-verdict request text checkpoint (Err memory) same is only under = tt
 read-verdict request text checkpoint (Ok verdict) same is only under =
