@@ -1,5 +1,5 @@
 //! Calls of sig_key.
-use sig_base::{SigningScheme, SigstoreError};
+use sig_base::{SigningScheme, SigstoreError, TableChecker};
 use sig_cases::{Answer, Arguments, CaseError};
 use sig_key::{CosignVerificationKey, KeyKind, Signature, VerificationKeys, key_kind};
 use std::alloc::Global;
@@ -50,11 +50,16 @@ fn key_answer(
     read: sig_base::Result<CosignVerificationKey>,
 ) -> Result<Answer, CaseError> {
     match read {
-        Ok(key) => Answer::ok(alloc)?
-            .value(&key.scheme().name())?
-            .hex(key.spki()),
+        Ok(key) => shown(alloc, &key),
         Err(error) => refused(alloc, error),
     }
+}
+
+/// A key's scheme and its bytes.
+fn shown(alloc: Global, key: &CosignVerificationKey) -> Result<Answer, CaseError> {
+    Answer::ok(alloc)?
+        .value(&key.scheme().name())?
+        .hex(key.spki())
 }
 
 /// Reads `SCHEME DER` as a key.
@@ -95,59 +100,125 @@ fn decode(alloc: Global, arguments: &mut Arguments<'_>) -> Result<Answer, CaseEr
     }
 }
 
+/// What a case asks of a key: a signature over a message or a digest, and the rows that are accepted.
+#[derive(Drop)]
+struct Asked {
+    key: CosignVerificationKey,
+    encoded: bool,
+    bytes: Vec<u8>,
+    message: Vec<u8>,
+    checker: TableChecker,
+}
+
+impl Asked {
+    /// Reads `SCHEME KEY FORM SIGNATURE MESSAGE` and rows.
+    fn read(alloc: Global, arguments: &mut Arguments<'_>) -> Result<Asked, CaseError> {
+        let key = key(alloc, arguments)?;
+        let (encoded, bytes) = signature(alloc, arguments)?;
+        Asked::of(alloc, arguments, key, encoded, bytes)
+    }
+
+    /// Reads `MESSAGE` and rows.
+    fn of(
+        alloc: Global,
+        arguments: &mut Arguments<'_>,
+        key: CosignVerificationKey,
+        encoded: bool,
+        bytes: Vec<u8>,
+    ) -> Result<Asked, CaseError> {
+        let message = arguments.hex(alloc)?;
+        let checker = arguments.checker(alloc)?;
+        Ok(Asked {
+            key,
+            encoded,
+            bytes,
+            message,
+            checker,
+        })
+    }
+
+    fn signature(&self) -> Signature<'_> {
+        signature_of(self.encoded, self.bytes.as_slice())
+    }
+}
+
 /// `SCHEME KEY SIGNATURE MESSAGE` and rows: whether the key accepts the signature.
 fn accepts(alloc: Global, arguments: &mut Arguments<'_>) -> Result<Answer, CaseError> {
     let key = key(alloc, arguments)?;
-    let signature = arguments.hex(alloc)?;
-    let message = arguments.hex(alloc)?;
-    let checker = arguments.checker(alloc)?;
-    let accepted = key.accepts(signature.as_slice(), message.as_slice(), &checker);
+    let bytes = arguments.hex(alloc)?;
+    let asked = Asked::of(alloc, arguments, key, false, bytes)?;
+    let accepted = asked.key.accepts(
+        asked.bytes.as_slice(),
+        asked.message.as_slice(),
+        &asked.checker,
+    );
     Answer::ok(alloc)?.value(&accepted)
+}
+
+/// The result of a check.
+fn outcome(alloc: Global, checked: sig_base::Result<()>) -> Result<Answer, CaseError> {
+    match checked {
+        Ok(()) => Answer::ok(alloc),
+        Err(error) => refused(alloc, error),
+    }
 }
 
 /// `SCHEME KEY FORM SIGNATURE MESSAGE` and rows.
 fn verify_signature(alloc: Global, arguments: &mut Arguments<'_>) -> Result<Answer, CaseError> {
-    let key = key(alloc, arguments)?;
-    let (encoded, bytes) = signature(alloc, arguments)?;
-    let signature = signature_of(encoded, bytes.as_slice());
-    let message = arguments.hex(alloc)?;
-    let checker = arguments.checker(alloc)?;
-    match key.verify_signature(alloc, signature, message.as_slice(), &checker) {
-        Ok(()) => Answer::ok(alloc),
-        Err(error) => refused(alloc, error),
-    }
+    let asked = Asked::read(alloc, arguments)?;
+    let message = asked.message.as_slice();
+    outcome(
+        alloc,
+        asked
+            .key
+            .verify_signature(alloc, asked.signature(), message, &asked.checker),
+    )
 }
 
 /// `SCHEME KEY FORM SIGNATURE DIGEST` and rows.
 fn verify_prehash(alloc: Global, arguments: &mut Arguments<'_>) -> Result<Answer, CaseError> {
-    let key = key(alloc, arguments)?;
-    let (encoded, bytes) = signature(alloc, arguments)?;
-    let signature = signature_of(encoded, bytes.as_slice());
-    let digest = arguments.hex(alloc)?;
-    let checker = arguments.checker(alloc)?;
-    match key.verify_prehash(alloc, signature, digest.as_slice(), &checker) {
-        Ok(()) => Answer::ok(alloc),
-        Err(error) => refused(alloc, error),
-    }
+    let asked = Asked::read(alloc, arguments)?;
+    let digest = asked.message.as_slice();
+    outcome(
+        alloc,
+        asked
+            .key
+            .verify_prehash(alloc, asked.signature(), digest, &asked.checker),
+    )
 }
 
 /// `SOUGHT`, and then names, schemes and bytes of keys in turn: the key of the name that is sought.
 fn keys(alloc: Global, arguments: &mut Arguments<'_>) -> Result<Answer, CaseError> {
     let sought = arguments.text(alloc)?;
+    let keys = read_keys(alloc, arguments)?;
+    match keys.get(sought.as_str()) {
+        Some(key) => shown(alloc, key),
+        None => Answer::of(alloc, &"None"),
+    }
+}
+
+/// Reads names, schemes and bytes of keys in turn.
+fn read_keys(alloc: Global, arguments: &mut Arguments<'_>) -> Result<VerificationKeys, CaseError> {
     let mut keys = VerificationKeys::new(alloc);
     for _ in 0..u64::MAX {
         if arguments.is_empty() {
             break;
         }
-        let name = arguments.text(alloc)?;
-        let key = key(alloc, arguments)?;
-        keys.insert(name.as_str(), key)
-            .map_err(|_| CaseError::OutOfMemory)?;
+        insert_key(alloc, arguments, &mut keys)?;
     }
-    match keys.get(sought.as_str()) {
-        Some(key) => Answer::ok(alloc)?
-            .value(&key.scheme().name())?
-            .hex(key.spki()),
-        None => Answer::of(alloc, &"None"),
+    Ok(keys)
+}
+
+/// Reads a name, a scheme and the bytes of a key.
+fn insert_key(
+    alloc: Global,
+    arguments: &mut Arguments<'_>,
+    keys: &mut VerificationKeys,
+) -> Result<(), CaseError> {
+    let name = arguments.text(alloc)?;
+    let key = key(alloc, arguments)?;
+    match keys.insert(name.as_str(), key) {
+        Ok(_) => Ok(()),
+        Err(_) => Err(CaseError::OutOfMemory),
     }
 }

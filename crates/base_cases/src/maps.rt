@@ -19,58 +19,130 @@ pub fn answer(
     }
 }
 
-/// `SOUGHT`, and then texts and bytes in turn: the number of entries, the value that is sought, the entry at index 1, and all entries.
+/// Adds bytes, or `None`.
+fn add_bytes(answer: Answer, bytes: Option<&[u8]>) -> Result<Answer, CaseError> {
+    match bytes {
+        Some(bytes) => answer.hex(bytes),
+        None => answer.value(&"None"),
+    }
+}
+
+/// Adds a text, or `None`.
+fn add_text(answer: Answer, text: Option<&str>) -> Result<Answer, CaseError> {
+    match text {
+        Some(text) => answer.debug(&text),
+        None => answer.value(&"None"),
+    }
+}
+
+/// `SOUGHT`, and then texts and bytes in turn: the number of entries, the value that is sought, the entry at index 1, and
+/// all entries.
 fn key_map(alloc: Global, arguments: &mut Arguments<'_>) -> Result<Answer, CaseError> {
     let sought = arguments.text(alloc)?;
+    let map = read_key_map(alloc, arguments)?;
+    let copied = map.copy(alloc)?;
+    show_key_map(alloc, &copied, sought.as_str())
+}
+
+/// Reads texts and bytes in turn.
+fn read_key_map(alloc: Global, arguments: &mut Arguments<'_>) -> Result<KeyMap, CaseError> {
     let mut map = KeyMap::new(alloc);
     for _ in 0..u64::MAX {
         if arguments.is_empty() {
             break;
         }
-        let key = arguments.text(alloc)?;
-        let value = arguments.hex(alloc)?;
-        map.insert(key.as_str(), value.as_slice())?;
+        insert_bytes(alloc, arguments, &mut map)?;
     }
-    let map = map.copy(alloc)?;
-    let mut answer = Answer::ok(alloc)?.value(&map.len())?;
-    answer = match map.get(sought.as_str()) {
-        Some(value) => answer.hex(value)?,
+    Ok(map)
+}
+
+/// Reads a text and bytes as an entry.
+fn insert_bytes(
+    alloc: Global,
+    arguments: &mut Arguments<'_>,
+    map: &mut KeyMap,
+) -> Result<(), CaseError> {
+    let key = arguments.text(alloc)?;
+    let value = arguments.hex(alloc)?;
+    map.insert(key.as_str(), value.as_slice())?;
+    Ok(())
+}
+
+fn show_key_map(alloc: Global, map: &KeyMap, sought: &str) -> Result<Answer, CaseError> {
+    let answer = Answer::ok(alloc)?.value(&map.len())?;
+    let answer = add_bytes(answer, map.get(sought))?;
+    let answer = match map.at(1) {
+        Some((key, value)) => add_key_and_bytes(answer, key, value)?,
         None => answer.value(&"None")?,
     };
-    answer = match map.at(1) {
-        Some((key, value)) => answer.debug(&key)?.hex(value)?,
-        None => answer.value(&"None")?,
-    };
+    add_key_map(answer, map)
+}
+
+fn add_key_and_bytes(answer: Answer, key: &str, value: &[u8]) -> Result<Answer, CaseError> {
+    answer.debug(&key)?.hex(value)
+}
+
+/// Adds all entries.
+fn add_key_map(answer: Answer, map: &KeyMap) -> Result<Answer, CaseError> {
+    let mut answer = answer;
     for (key, value) in map.iter() {
-        answer = answer.debug(&key)?.hex(value)?;
+        answer = add_key_and_bytes(answer, key, value)?;
     }
     Ok(answer)
 }
 
-/// `SOUGHT`, and then texts in pairs: the number of entries, the value that is sought, the entry at index 1, and all entries.
+/// `SOUGHT`, and then texts in pairs: the number of entries, the value that is sought, the entry at index 1, and all
+/// entries.
 fn text_map(alloc: Global, arguments: &mut Arguments<'_>) -> Result<Answer, CaseError> {
     let sought = arguments.text(alloc)?;
+    let map = read_text_map(alloc, arguments)?;
+    let copied = map.copy(alloc)?;
+    show_text_map(alloc, &copied, sought.as_str())
+}
+
+/// Reads texts in pairs.
+fn read_text_map(alloc: Global, arguments: &mut Arguments<'_>) -> Result<TextMap, CaseError> {
     let mut map = TextMap::new(alloc);
     for _ in 0..u64::MAX {
         if arguments.is_empty() {
             break;
         }
-        let key = arguments.text(alloc)?;
-        let value = arguments.text(alloc)?;
-        map.insert(key.as_str(), value.as_str())?;
+        insert_text(alloc, arguments, &mut map)?;
     }
-    let map = map.copy(alloc)?;
-    let mut answer = Answer::ok(alloc)?.value(&map.len())?;
-    answer = match map.get(sought.as_str()) {
-        Some(value) => answer.debug(&value)?,
+    Ok(map)
+}
+
+/// Reads two texts as an entry.
+fn insert_text(
+    alloc: Global,
+    arguments: &mut Arguments<'_>,
+    map: &mut TextMap,
+) -> Result<(), CaseError> {
+    let key = arguments.text(alloc)?;
+    let value = arguments.text(alloc)?;
+    map.insert(key.as_str(), value.as_str())?;
+    Ok(())
+}
+
+fn show_text_map(alloc: Global, map: &TextMap, sought: &str) -> Result<Answer, CaseError> {
+    let answer = Answer::ok(alloc)?.value(&map.len())?;
+    let answer = add_text(answer, map.get(sought))?;
+    let answer = match map.at(1) {
+        Some((key, value)) => add_key_and_text(answer, key, value)?,
         None => answer.value(&"None")?,
     };
-    answer = match map.at(1) {
-        Some((key, value)) => answer.debug(&key)?.debug(&value)?,
-        None => answer.value(&"None")?,
-    };
+    add_text_map(answer, map)
+}
+
+fn add_key_and_text(answer: Answer, key: &str, value: &str) -> Result<Answer, CaseError> {
+    answer.debug(&key)?.debug(&value)
+}
+
+/// Adds all entries.
+fn add_text_map(answer: Answer, map: &TextMap) -> Result<Answer, CaseError> {
+    let mut answer = answer;
     for (key, value) in map.iter() {
-        answer = answer.debug(&key)?.debug(&value)?;
+        answer = add_key_and_text(answer, key, value)?;
     }
     Ok(answer)
 }
@@ -80,14 +152,19 @@ fn entries(alloc: Global, arguments: &mut Arguments<'_>) -> Result<Answer, CaseE
     let index = arguments.natural()? as usize;
     let entries = arguments.entries(alloc)?;
     let copied = entries.copy(alloc)?;
-    let mut answer = Answer::ok(alloc)?
-        .value(&copied.len())?
-        .value(&(copied == entries))?;
-    answer = match copied.get(index) {
-        Some(entry) => answer.hex(entry)?,
-        None => answer.value(&"None")?,
-    };
-    for entry in copied.as_slice() {
+    let same = copied == entries;
+    show_entries(alloc, &copied, index, same)
+}
+
+fn show_entries(
+    alloc: Global,
+    entries: &Entries,
+    index: usize,
+    same: bool,
+) -> Result<Answer, CaseError> {
+    let answer = Answer::ok(alloc)?.value(&entries.len())?.value(&same)?;
+    let mut answer = add_bytes(answer, entries.get(index))?;
+    for entry in entries.as_slice() {
         answer = answer.hex(entry.as_slice())?;
     }
     Ok(answer)
@@ -96,6 +173,13 @@ fn entries(alloc: Global, arguments: &mut Arguments<'_>) -> Result<Answer, CaseE
 /// An index, and then numbers: their number, the one at the index, and all.
 fn numbers(alloc: Global, arguments: &mut Arguments<'_>) -> Result<Answer, CaseError> {
     let index = arguments.natural()? as usize;
+    let numbers = read_numbers(alloc, arguments)?;
+    let copied = numbers.copy(alloc)?;
+    let same = copied == numbers;
+    show_numbers(alloc, &copied, index, same)
+}
+
+fn read_numbers(alloc: Global, arguments: &mut Arguments<'_>) -> Result<Numbers, CaseError> {
     let mut numbers = Numbers::new(alloc);
     for _ in 0..u64::MAX {
         if arguments.is_empty() {
@@ -103,15 +187,21 @@ fn numbers(alloc: Global, arguments: &mut Arguments<'_>) -> Result<Answer, CaseE
         }
         numbers.push(arguments.natural()? as usize)?;
     }
-    let copied = numbers.copy(alloc)?;
-    let mut answer = Answer::ok(alloc)?
-        .value(&copied.len())?
-        .value(&(copied == numbers))?;
-    answer = match copied.get(index) {
+    Ok(numbers)
+}
+
+fn show_numbers(
+    alloc: Global,
+    numbers: &Numbers,
+    index: usize,
+    same: bool,
+) -> Result<Answer, CaseError> {
+    let answer = Answer::ok(alloc)?.value(&numbers.len())?.value(&same)?;
+    let mut answer = match numbers.get(index) {
         Some(number) => answer.value(number)?,
         None => answer.value(&"None")?,
     };
-    for number in copied.as_slice() {
+    for number in numbers.as_slice() {
         answer = answer.value(number)?;
     }
     Ok(answer)
@@ -119,6 +209,12 @@ fn numbers(alloc: Global, arguments: &mut Arguments<'_>) -> Result<Answer, CaseE
 
 /// Digests: their number, and all.
 fn hashes(alloc: Global, arguments: &mut Arguments<'_>) -> Result<Answer, CaseError> {
+    let hashes = read_hashes(alloc, arguments)?;
+    let copied = hashes.copy(alloc)?;
+    show_hashes(alloc, &copied)
+}
+
+fn read_hashes(alloc: Global, arguments: &mut Arguments<'_>) -> Result<Hashes, CaseError> {
     let mut hashes = Hashes::new(alloc);
     for _ in 0..u64::MAX {
         if arguments.is_empty() {
@@ -126,8 +222,12 @@ fn hashes(alloc: Global, arguments: &mut Arguments<'_>) -> Result<Answer, CaseEr
         }
         hashes.push(arguments.digest(alloc)?)?;
     }
+    Ok(hashes)
+}
+
+fn show_hashes(alloc: Global, hashes: &Hashes) -> Result<Answer, CaseError> {
     let mut answer = Answer::ok(alloc)?.value(&hashes.len())?;
-    for hash in hashes.copy(alloc)?.as_slice() {
+    for hash in hashes.as_slice() {
         answer = answer.hex(hash.as_slice())?;
     }
     Ok(answer)
