@@ -1,6 +1,7 @@
 mod CheckedLaws
 mod Equality
 mod PassedLaws
+mod ProofLaws
 mod RefusalCauses
 mod SigningCertificateLaws
 mod VersionLaws
@@ -8,8 +9,10 @@ pub mod EntriesBack
 pub mod EntryTrees
 pub mod Found
 pub mod Lists
+pub mod LogBodies
 pub mod MaterialBack
 pub mod Nesting
 pub mod Objects
 pub mod PayloadDigests
+pub mod ProofHashes
 pub mod Values

@@ -6,7 +6,7 @@ use Rattle.sig_certificate.specs.declared.profile_error.CertificateValidationErr
 use Rattle.sig_certificate.specs.Answers.{IsRefusedOnlyWithout}
 use Rattle.sig_certificate.specs.Certificate.{Cert, IsCertificate}
 use Rattle.sig_certificate.specs.Profile.{leaf_refusal}
-use Rattle.sig_bundle.specs.Meant.{IsMeant, IsOnlyMeant}
+use Rattle.sig_base.specs.Answers.{AnswersOnly}
 use Rattle.sig_bundle.specs.SigningCertificate.{AreReadings, IsSigningCertificateAmong, signing_certificate_among}
 use Rattle.sig_bundle.specs.SigningCertificate.{leaf_or_refusal}
 use Rattle.sig_bundle.specs.declared.bundle_error.BundleErrorKind.{BundleErrorKind}
@@ -44,11 +44,6 @@ nothing text none (Some c ∷ rest) r = absurd (none c r.0)
 nothing text none (None ∷ []) r = refl
 nothing text none (None ∷ e ∷ rest) r = absurd r.1
 
-pub meant : (text : List ℕ) → (c : Cert) → (answer : Result Cert BundleErrorKind) → IsCertificate text c
-    → answer ≡ signing_certificate_among (Some c ∷ [])
-    → IsMeant OutOfMemory (IsSigningCertificateAmong (Ok (text ∷ []))) answer
-meant text c answer is e = inr (Some c ∷ [], (is, tt), e)
-
 -- what an answer equals under the one reading, it equals under every reading
 under : (one readings : List (Option Cert)) → (answer other : Result Cert BundleErrorKind) → readings ≡ one
     → answer ≡ signing_certificate_among one → other ≡ signing_certificate_among readings → answer ≡ other
@@ -57,19 +52,21 @@ under one readings answer other same_readings e of =
     let Q : Result Cert BundleErrorKind → Type 0 = λ r. answer ≡ r in
     subst Q (sym (subst P same_readings of)) e
 
-pub only : (text : List ℕ) → (c : Cert) → (answer : Result Cert BundleErrorKind) → IsCertificate text c → IsOnly text c
+-- the answer that the one certificate has
+pub sole : (text : List ℕ) → (c : Cert) → (answer : Result Cert BundleErrorKind) → IsCertificate text c → IsOnly text c
     → answer ≡ signing_certificate_among (Some c ∷ [])
-    → IsOnlyMeant OutOfMemory (IsSigningCertificateAmong (Ok (text ∷ []))) answer
-only text c answer is unique e other of =
-    inr (under (Some c ∷ []) of.0 answer other (same text c is unique of.0 of.1) e of.2)
+    → AnswersOnly OutOfMemory (IsSigningCertificateAmong (Ok (text ∷ []))) answer
+sole text c answer is unique e = (
+  inr (Some c ∷ [], (is, tt), e),
+  λ other of. inr (under (Some c ∷ []) of.0 answer other (same text c is unique of.0 of.1) e of.2),
+)
 
-pub meant_none : (text : List ℕ) → ((c : Cert) → ¬ IsCertificate text c)
-    → IsMeant OutOfMemory (IsSigningCertificateAmong (Ok (text ∷ []))) (Err (CertificateMalformed 0))
-meant_none text none = inr (None ∷ [], (none, tt), refl)
-
-pub only_none : (text : List ℕ) → ((c : Cert) → ¬ IsCertificate text c)
-    → IsOnlyMeant OutOfMemory (IsSigningCertificateAmong (Ok (text ∷ []))) (Err (CertificateMalformed 0))
-only_none text none other of = inr (under (None ∷ []) of.0 _ other (nothing text none of.0 of.1) refl of.2)
+pub no_certificate : (text : List ℕ) → ((c : Cert) → ¬ IsCertificate text c)
+    → AnswersOnly OutOfMemory (IsSigningCertificateAmong (Ok (text ∷ []))) (Err (CertificateMalformed 0))
+no_certificate text none = (
+  inr (None ∷ [], (none, tt), refl),
+  λ other of. inr (under (None ∷ []) of.0 _ other (nothing text none of.0 of.1) refl of.2),
+)
 
 -- `Der` says that the text is no certificate
 pub none_of : (text : List ℕ) → (e : X509ReadError) → e ≡ Der → IsRefusedOnlyWithout text e → (c : Cert)
@@ -77,13 +74,21 @@ pub none_of : (text : List ℕ) → (e : X509ReadError) → e ≡ Der → IsRefu
 none_of text e is without = let P : X509ReadError → Type 0 = IsRefusedOnlyWithout text in subst P is without
 
 -- the texts are those of the material's content
-pub only_of : (texts : Result (List (List ℕ)) BundleErrorKind) → (certificate text : List ℕ)
+pub of_texts : (texts : Result (List (List ℕ)) BundleErrorKind) → (certificate text : List ℕ)
     → (answer : Result Cert BundleErrorKind)
     → Ok (certificate ∷ []) ≡ texts → text ≡ certificate
-    → IsOnlyMeant OutOfMemory (IsSigningCertificateAmong (Ok (text ∷ []))) answer
-    → IsOnlyMeant OutOfMemory (IsSigningCertificateAmong texts) answer
-only_of texts certificate text answer is is_text only =
-    let P : List ℕ → Type 0 = λ t. IsOnlyMeant OutOfMemory (IsSigningCertificateAmong (Ok (t ∷ []))) answer in
-    let Q : Result (List (List ℕ)) BundleErrorKind → Type 0 = λ t. IsOnlyMeant OutOfMemory
-    (IsSigningCertificateAmong t) answer in
-    subst Q is (subst P is_text only)
+    → AnswersOnly OutOfMemory (IsSigningCertificateAmong (Ok (text ∷ []))) answer
+    → AnswersOnly OutOfMemory (IsSigningCertificateAmong texts) answer
+of_texts texts certificate text answer is is_text sole =
+    let P : List ℕ → Type 0 = λ t. AnswersOnly OutOfMemory (IsSigningCertificateAmong (Ok (t ∷ []))) answer in
+    let Q : Result (List (List ℕ)) BundleErrorKind → Type 0 =
+    λ t. AnswersOnly OutOfMemory (IsSigningCertificateAmong t) answer in
+    subst Q is (subst P is_text sole)
+
+-- or there are none
+pub no_texts : (texts : Result (List (List ℕ)) BundleErrorKind) → (e : BundleErrorKind) → Err e ≡ texts
+    → AnswersOnly OutOfMemory (IsSigningCertificateAmong texts) (Err e)
+no_texts texts e is =
+    let Q : Result (List (List ℕ)) BundleErrorKind → Type 0 =
+    λ t. AnswersOnly OutOfMemory (IsSigningCertificateAmong t) (Err e) in
+    subst Q is (inr refl, λ other of. inr (sym of))

@@ -2,12 +2,13 @@ pub mod BundleRecord
 pub mod Checked
 pub mod Content
 pub mod Lent
+pub mod LogBody
 pub mod Passed
 pub mod Promise
+pub mod Proof
 pub mod Refusals
 pub mod Profile
 pub mod SigningCertificate
-pub mod Meant
 pub mod Version
 pub mod BundleTree
 pub mod ReadBack

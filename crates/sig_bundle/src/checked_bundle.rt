@@ -1,17 +1,18 @@
 //! `CheckedBundle`: a bundle that passed its own checks.
 
-ghost use Rattle.std.specs.Prelude.{◌≡◌, Some, Ok};
-ghost use Rattle.sig_base.specs.Answers.{Answers};
+ghost use Rattle.std.specs.Prelude.{◌≡◌, ◌↔◌, Some, Ok, IfOk, IfSome, IsSome};
+ghost use Rattle.sig_base.specs.Answers.{Answers, AnswersOnly};
 ghost use Rattle.sig_bundle.specs.Checked.{Checked, checked, IsChecked, IsCheckedWith};
-ghost use Rattle.sig_bundle.specs.Meant.{IsMeant, IsOnlyMeant};
+ghost use Rattle.sig_bundle.specs.LogBody.{IsLogBody, NeedsNoFetch};
 
 use crate::bundle::Bundle;
 use crate::bundle_error::BundleErrorKind;
 use crate::content_check::{CheckedContent, checked_content};
+use crate::log_body::is_body_about;
 use crate::material::{TransparencyLogEntry, VerificationMaterial};
 use crate::profile_check::{meets_profile, only_entry};
 use crate::signing_certificate::signing_certificate;
-use sig_base::Bytes;
+use sig_base::{Bytes, OutOfMemory};
 use sig_certificate::Certificate;
 use std::alloc::Global;
 use std::marker::Model;
@@ -45,8 +46,7 @@ fn check(
     input: &Bundle,
     material: &VerificationMaterial,
 ) -> Result<CheckedBundle, BundleErrorKind>
-    ensures meant { IsMeant BundleErrorKind.OutOfMemory (IsCheckedWith input.now (Some material.now)) result }
-    ensures only { IsOnlyMeant BundleErrorKind.OutOfMemory (IsCheckedWith input.now (Some material.now)) result }
+    ensures { AnswersOnly BundleErrorKind.OutOfMemory (IsCheckedWith input.now (Some material.now)) result }
 {
     let certificate = signing_certificate(alloc, &material.content)?;
     check_content(alloc, input, material, certificate)
@@ -92,10 +92,8 @@ impl CheckedBundle {
     /// 0.1 or 0.2; under 0.3
     ///     `InclusionProofMissing`, then `CheckpointMissing`.
     pub fn try_from_bundle(alloc: Global, input: &Bundle) -> Result<CheckedBundle, BundleErrorKind>
-        // What is answered is what the checks answer, unless memory ran out.
-        ensures meant { IsMeant BundleErrorKind.OutOfMemory (IsChecked input.now) result }
-        // And what they answer is answered, unless memory ran out: they have one answer.
-        ensures only { IsOnlyMeant BundleErrorKind.OutOfMemory (IsChecked input.now) result }
+        // What is returned is the result of the checks, of which there is one, unless memory ran out.
+        ensures { AnswersOnly BundleErrorKind.OutOfMemory (IsChecked input.now) result }
     {
         match &input.verification_material {
             Some(material) => check(alloc, input, material),
@@ -129,5 +127,37 @@ impl CheckedBundle {
         ensures { result.now ≡ self.now.entry }
     {
         &self.entry
+    }
+
+    /// Returns the log entry if its body is about what the bundle holds, and nothing has to be fetched to check it: with
+    /// `offline`, or with an inclusion proof at hand. `None` if and only if one of both does not hold. Fails only if
+    /// memory runs out.
+    ///
+    /// The body of an envelope's entry is one of kind `dsse`, version 0.0.1 (Rekor): its hashes are the SHA-256 of the
+    /// envelope's text and of the payload, its first signature is the envelope's, and the verifier of that is the PEM of
+    /// the signing certificate (RFC 7468 section 5.1). `input_digest`, the artifact's SHA-256, is for signatures over an
+    /// artifact alone, which are not read yet.
+    pub fn tlog_entry(
+        &self,
+        alloc: Global,
+        offline: bool,
+        input_digest: &[u8],
+    ) -> Result<Option<&TransparencyLogEntry>, OutOfMemory>
+        ensures entry { IfOk result (λ found. IfSome found (λ entry. entry.now ≡ self.now.entry)) }
+        ensures exact { IfOk result (λ found. IsSome found
+            ↔ (IsLogBody self.now × NeedsNoFetch offline self.now.entry)) }
+    {
+        let _ = input_digest;
+        if !offline && self.entry.inclusion_proof.is_none() {
+            return Ok(None);
+        }
+        let is_about = is_body_about(
+            alloc,
+            &self.content,
+            self.signature.as_slice(),
+            self.certificate.der(),
+            self.entry.canonicalized_body.as_slice(),
+        )?;
+        Ok(if is_about { Some(&self.entry) } else { None })
     }
 }

@@ -1,9 +1,13 @@
 //! What the definitions mean, and what equality is.
-ghost use Rattle.std.specs.Prelude.{◌≡◌, ◌↔◌, IsTrue, Ok};
+ghost use Rattle.std.specs.Prelude.{◌≡◌, ◌↔◌, IsTrue, Ok, Err};
 ghost use Rattle.sig_bundle.specs.Checked.{Checked, IsChecked};
 ghost use Rattle.sig_bundle.specs.Passed.{IsPassed};
+ghost use Rattle.sig_bundle.specs.Proof.{IsProof, IsProofFault, proof_or_fault};
 ghost use Rattle.sig_bundle.specs.Refusals.{RefusalsHaveTheirCause};
 ghost use Rattle.sig_bundle.specs.declared.bundle.Bundle.{Bundle};
+ghost use Rattle.sig_bundle.specs.declared.material.ProofFields.{ProofFields as Members};
+ghost use Rattle.sig_bundle.specs.declared.proof_error.ProofFieldsError.{ProofFieldsError};
+ghost use Rattle.sig_rekor.specs.declared.inclusion_proof.InclusionProof.{InclusionProof};
 
 use crate::bundle::{Bundle, Content, MessageSignature};
 use crate::material::{
@@ -20,6 +24,19 @@ pub fn passed_bundles()
 /// before it hold, and this one does not. It has no code.
 pub fn causes_of_refusals()
     ensures { RefusalsHaveTheirCause }
+{}
+
+/// The members of an inclusion proof are taken for a proof if and only if they are it. It has no code.
+pub fn proofs()
+    ensures { (fields : Members) (proof : InclusionProof) →
+        (proof_or_fault fields ≡ Ok proof) ↔ IsProof fields proof }
+{}
+
+/// An error for the members of an inclusion proof comes if and only if it has its cause: the rules before it hold, and
+/// this one does not. It has no code.
+pub fn proof_faults()
+    ensures { (fields : Members) (error : ProofFieldsError) →
+        (proof_or_fault fields ≡ Err error) ↔ IsProofFault fields error }
 {}
 
 /// Two bundles are equal if and only if all their parts are.

@@ -13,10 +13,13 @@ mod checked_bundle;
 mod content_check;
 mod copy;
 pub mod laws;
+mod log_body;
 mod material;
 mod object;
 mod profile_check;
 mod promise;
+mod proof;
+mod proof_error;
 mod read;
 mod read_content;
 mod read_entry;
@@ -40,6 +43,7 @@ pub use material::{
     VerificationMaterial,
 };
 pub use promise::promise_text;
+pub use proof_error::ProofFieldsError;
 pub use read::read_bundle;
 pub use sig_dsse::{
     ArtifactDigest, DigestName, Digests, DsseEnvelope, DsseSignature, DsseSignatures,

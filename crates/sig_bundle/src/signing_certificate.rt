@@ -2,7 +2,7 @@
 //! is checked here.
 
 ghost use Rattle.std.specs.Prelude.{◌≡◌, [], ◌∷◌, Ok};
-ghost use Rattle.sig_bundle.specs.Meant.{IsMeant, IsOnlyMeant};
+ghost use Rattle.sig_base.specs.Answers.{AnswersOnly};
 ghost use Rattle.sig_bundle.specs.Lent.{texts_now};
 ghost use Rattle.sig_bundle.specs.SigningCertificate.{IsSigningCertificate, IsSigningCertificateAmong};
 ghost use Rattle.sig_bundle.specs.SigningCertificate.{certificate_texts};
@@ -29,8 +29,7 @@ fn certificate_text(content: &Option<MaterialContent>) -> Result<&Bytes, BundleE
 /// The one certificate of a bundle, which has to be a leaf. `CertificateMalformed` where the text is none, `NoLeaf`
 /// where it is no leaf.
 fn sole_certificate(alloc: Global, text: &[u8]) -> Result<Certificate, BundleErrorKind>
-    ensures meant { IsMeant BundleErrorKind.OutOfMemory (IsSigningCertificateAmong (Ok (text.now ∷ []))) result }
-    ensures only { IsOnlyMeant BundleErrorKind.OutOfMemory (IsSigningCertificateAmong (Ok (text.now ∷ []))) result }
+    ensures { AnswersOnly BundleErrorKind.OutOfMemory (IsSigningCertificateAmong (Ok (text.now ∷ []))) result }
 {
     let certificate = match Certificate::try_from_der(alloc, text) {
         Ok(certificate) => certificate,
@@ -52,8 +51,7 @@ pub(crate) fn signing_certificate(
     alloc: Global,
     content: &Option<MaterialContent>,
 ) -> Result<Certificate, BundleErrorKind>
-    ensures meant { IsMeant BundleErrorKind.OutOfMemory (IsSigningCertificate content.now) result }
-    ensures only { IsOnlyMeant BundleErrorKind.OutOfMemory (IsSigningCertificate content.now) result }
+    ensures { AnswersOnly BundleErrorKind.OutOfMemory (IsSigningCertificate content.now) result }
 {
     let text = certificate_text(content)?;
     sole_certificate(alloc, text.as_slice())
