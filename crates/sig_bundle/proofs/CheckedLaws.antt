@@ -61,8 +61,8 @@ ended : (b : Bundle) → (m : VerificationMaterial) → (e : BundleErrorKind) �
 ended b m e signer is (inl memory) = inl (let same : e ≡ OutOfMemory = cc in ap Err same)
 ended b m e signer is (inr signs) = inr (Err e, signs, refl)
 
-ends_as : (b : Bundle) → (m : VerificationMaterial) → (e : BundleErrorKind) → (signer one : Result Cert BundleErrorKind)
-    → (other : Result Checked BundleErrorKind) → signer ≡ Err e
+ends_as : (b : Bundle) → (m : VerificationMaterial) → (e : BundleErrorKind)
+    → (signer one : Result Cert BundleErrorKind) → (other : Result Checked BundleErrorKind) → signer ≡ Err e
     → (signer ≡ Err OutOfMemory) ⊎ (signer ≡ one) → other ≡ checked b m one
     → UnlessMemory {X = Checked} OutOfMemory (Err e) (Err e ≡ other)
 ends_as b m e signer one other is (inl memory) of = inl (let same : e ≡ OutOfMemory = cc in ap Err same)

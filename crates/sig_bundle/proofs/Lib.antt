@@ -1,6 +1,8 @@
 mod CheckedLaws
 mod Equality
 mod PassedLaws
+mod PlainTexts
+mod PromiseLaws
 mod ProofLaws
 mod RefusalCauses
 mod SigningCertificateLaws

@@ -26,7 +26,8 @@ left-all all = nothing_before (hashes_from 0 all)
 
 left_is : (all hashes : List (List ℕ)) (place : ℕ) (bytes : List ℕ) → place < length all
     → bytes ≡ get_or all place bytes
-    → with_left hashes place all ≡ (hashes_from place (bytes ∷ drop (place + 1) all) >>= λ others. Ok (hashes ++ others))
+    → with_left hashes place all ≡
+    (hashes_from place (bytes ∷ drop (place + 1) all) >>= λ others. Ok (hashes ++ others))
 left_is all hashes place bytes below here =
     ap (λ xs. hashes_from place xs >>= λ others. Ok (hashes ++ others))
     (drop_more all place bytes below ∙ ap (λ x. x ∷ drop (place + 1) all) (sym here))

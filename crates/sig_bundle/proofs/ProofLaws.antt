@@ -1,5 +1,5 @@
--- The members of an inclusion proof: what is computed of them is the proof that they are, or the first rule that does not
--- hold.
+-- The members of an inclusion proof: what is computed of them is the proof that they are, or the first rule that does
+-- not hold.
 use Rattle.std.proofs.Common.{◌≡◌, ◌⊎◌, inl, inr, ℕ, zero, suc, ◌+◌, ◌==◌, ℤ, pos, negsuc, Bool, true, false, cond}
 use Rattle.std.proofs.Common.{List, [], ◌∷◌, ◌++◌, length, Option, Some, None, Result, Ok, Err}
 use Rattle.std.proofs.Common.{refl, sym, ap, subst, ◌∙◌, arith}
@@ -228,15 +228,16 @@ proof-only fields proof is =
 
 -- ---- the first rule that does not hold
 
-checkpoint_or-fails : (fields : ProofFields) (e : ProofFieldsError) → HasRoot fields → HasHashes fields → HasSize fields
-    → (held : Option (List ℕ)) → fields.checkpoint ≡ held → checkpoint_or_fault held ≡ Err e → IsProofFault fields e
+checkpoint_or-fails : (fields : ProofFields) (e : ProofFieldsError) → HasRoot fields → HasHashes fields
+    → HasSize fields → (held : Option (List ℕ)) → fields.checkpoint ≡ held → checkpoint_or_fault held ≡ Err e → IsProofFault fields e
 checkpoint_or-fails fields e root hashes size None held is =
     let named : CheckpointMissing ≡ e = cc in subst (IsProofFault fields) named (root, hashes, size, held)
 checkpoint_or-fails fields e root hashes size (Some text) held is =
     let f = named-fails (checkpoint_of text) e is in
     subst (IsProofFault fields) (sym f.1) (root, hashes, size, (text, held, checkpoint-fails text f.0 f.2))
 
-pub proof-fails : (fields : ProofFields) (e : ProofFieldsError) → proof_or_fault fields ≡ Err e → IsProofFault fields e
+pub proof-fails : (fields : ProofFields) (e : ProofFieldsError) → proof_or_fault fields ≡ Err e
+    → IsProofFault fields e
 proof-fails fields e is =
     elim (bind_err (hash_or RootLength fields.root_hash) _ e is) [
       | inl wrong ↦

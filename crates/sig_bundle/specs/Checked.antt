@@ -19,7 +19,7 @@ pub record Checked : Type 0 where
   pub content : CheckedContent
   pub entry : TransparencyLogEntry
 
--- The checks in order; the last argument is the answer of the certificate's check. The first that refuses ends them.
+-- The checks in order; the last argument is the result of the certificate's check. The first that fails ends them.
 abbrev pub checked : Bundle → VerificationMaterial → Result Cert BundleErrorKind → Result Checked BundleErrorKind
 checked bundle material answer = do
   certificate ← answer
@@ -34,6 +34,6 @@ IsCheckedWith bundle (Some material) answer =
     (certificate : Result Cert BundleErrorKind) × IsSigningCertificate material.content certificate ×
     (answer ≡ checked bundle material certificate)
 
--- what the checks of a bundle answer: the bundle as checked, or the first refusal that has its cause
+-- the result of a bundle's checks: the bundle as checked, or the first error that has its cause
 abbrev pub IsChecked : Bundle → Result Checked BundleErrorKind → Type 0
 IsChecked bundle answer = IsCheckedWith bundle bundle.verification_material answer

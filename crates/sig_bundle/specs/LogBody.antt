@@ -1,5 +1,6 @@
--- *Log body*: what a log's entry about a signed envelope says (Rekor's entry of kind `dsse`, version 0.0.1), and that it
--- is about this one. Hashes are SHA-256 (FIPS 180-4 section 6.2), and a certificate is its text of RFC 7468 section 5.1.
+-- *Log body*: what a log's entry about a signed envelope says (Rekor's entry of kind `dsse`, version 0.0.1), and that
+-- it is about this one. Hashes are SHA-256 (FIPS 180-4 section 6.2), and a certificate is its PEM (RFC 7468 section
+-- 5.1).
 use Rattle.std.specs.Prelude.{◌≡◌, ◌⊎◌, ℕ, List, [], ◌∷◌, Bool, codes, Option, Some, None, Ok, IsTrue, IsSome}
 use Rattle.sig_base.specs.OptionSteps.{◌>>=◌}
 use Rattle.sig_base.specs.Sha256.{sha256}
@@ -71,8 +72,8 @@ body_about envelope payload signature pem = record {
   };
 }
 
--- The body says this of the content. Of a signature over an artifact no entry is read yet, and none passes the checks of
--- a bundle.
+-- The body says this of the content. No entry about a signature over an artifact alone is read yet, and no bundle of
+-- one passes its checks.
 abbrev pub IsBodyAbout : CheckedContent → List ℕ → List ℕ → List ℕ → Type 0
 IsBodyAbout MessageSignature signature certificate body = ⊥
 IsBodyAbout (Dsse pae digests envelope payload) signature certificate body =

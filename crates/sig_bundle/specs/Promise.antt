@@ -1,5 +1,7 @@
 -- *Promise*: what a log signs to promise that it includes an entry (Rekor's signed entry timestamp).
-use Rattle.std.specs.Prelude.{[], ◌∷◌, codes, Some, unwrap_or}
+use Rattle.std.specs.Prelude.{◌<◌, ◌^◌, ◌++◌, ℕ, ℤ, List, [], ◌∷◌, codes, Some, unwrap_or, unsigned_abs}
+use Rattle.std.specs.Fmt.{signed_decimal}
+use Rattle.std.specs.List.{AllByRecursion}
 use Rattle.hex.specs.Hex.{encode_lower}
 use Rattle.sig_base.specs.Base64.{base64_text}
 use Rattle.sig_json.specs.Data.{Data, string, number}
@@ -18,3 +20,25 @@ promise_tree_of entry =
     ∷ (codes "logIndex", Some (number (of_integer entry.log_index)))
     ∷ []
     )
+
+-- ---- *Promise law*: the canonical text of that object, letter by letter
+
+abbrev pub AreBytes : List ℕ → Type 0
+AreBytes bytes = AllByRecursion (λ b. b < 256) bytes
+
+-- within plus or minus 2^53 - 1
+abbrev pub IsExact : ℤ → Type 0
+IsExact z = unsigned_abs z < 2 ^ 53
+
+abbrev pub promise_of_parts : List ℕ → ℤ → List ℕ → ℤ → List ℕ
+promise_of_parts body time id index =
+    codes "{\"body\":\"" ++ (base64_text body ++ (codes "\",\"integratedTime\":" ++ (signed_decimal time
+    ++ (codes ",\"logID\":\"" ++ (encode_lower id ++ (codes "\",\"logIndex\":" ++ (signed_decimal index
+    ++ codes "}")))))))
+
+abbrev pub promise_of_entry : TransparencyLogEntry → List ℕ
+promise_of_entry e =
+    promise_of_parts e.canonicalized_body e.integrated_time (unwrap_or e.log_id []) e.log_index
+
+abbrev pub IsExactEntry : TransparencyLogEntry → Type 0
+IsExactEntry e = IsExact e.integrated_time × IsExact e.log_index

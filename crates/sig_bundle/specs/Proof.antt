@@ -1,5 +1,5 @@
--- *Proof of an entry*: what the members of an inclusion proof have to be so that an audit path can be followed (Sigstore
--- bundle format, InclusionProof; RFC 6962 section 2.1.1), and the first of them that is not.
+-- *Proof of an entry*: what the members of an inclusion proof have to be so that an audit path can be followed
+-- (Sigstore bundle format, InclusionProof; RFC 6962 section 2.1.1), and the first of them that is not.
 use Rattle.std.specs.Prelude.{◌≡◌, ℕ, ◌+◌, ◌==◌, ℤ, pos, negsuc, if◌then◌else◌}
 use Rattle.std.specs.Prelude.{List, [], ◌∷◌, ◌++◌, length, Option, Some, None, Result, Ok, Err}
 use Rattle.std.specs.List.{AllByRecursion}

@@ -1,6 +1,6 @@
 -- *Causes of the refusals*: each refusal of a bundle's own checks in the words of the bundle: the rules before it
 -- hold, and this one does not.
-use Rattle.std.specs.Prelude.{◌≡◌, ◌≢◌, ◌↔◌, ℕ, List, [], ◌∷◌, length, Option, Some, None, Err}
+use Rattle.std.specs.Prelude.{◌≡◌, ◌≢◌, ◌↔◌, ℕ, List, [], ◌∷◌, length, Some, None, Err}
 use Rattle.sig_certificate.specs.Certificate.{Cert, IsCertificate}
 use Rattle.sig_certificate.specs.Profile.{leaf_refusal}
 use Rattle.sig_dsse.specs.Faults.{IsCauseOf}

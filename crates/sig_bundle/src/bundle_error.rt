@@ -12,8 +12,7 @@ use sig_certificate::CertificateValidationError;
 use sig_dsse::{DigestName, SubjectFault};
 use thiserror::Error;
 
-/// Why a bundle does not pass its own checks, or that memory ran out before the answer. The variants stand in the
-/// order of the checks.
+/// Why a bundle does not pass its own checks, or that memory ran out. The variants are in the order of the checks.
 #[derive(Debug, Drop, PartialEq, Eq, Error)]
 pub enum BundleErrorKind {
     /// There is no verification material.
@@ -22,7 +21,7 @@ pub enum BundleErrorKind {
     /// The material has no content, or one that is not read: a hint at a key, and for now a chain.
     #[error("VerificationMaterialContentUnsupported")]
     VerificationMaterialContentUnsupported,
-    /// The certificate at this place, counted from 0, is none.
+    /// The certificate at this index, counted from 0, is none.
     #[error("CertificateMalformed")]
     CertificateMalformed(usize),
     /// The chain of certificates is empty.

@@ -74,14 +74,14 @@ fn check_content(
 }
 
 impl CheckedBundle {
-    /// Checks what a bundle alone can show, and keeps what the checks behind it need. The first of these that has its
-    /// cause is answered:
+    /// Checks what a bundle alone can show, and keeps what the checks behind it need. Fails with the first of these
+    /// that has its cause:
     ///
     /// 1. `VerificationMaterialMissing`: there is no verification material.
     /// 2. `VerificationMaterialContentUnsupported`: the material has no content, or a hint at a key, or a chain, which
-    /// is not read yet.
-    /// 3. `CertificateMalformed` of place 0: the certificate is none (RFC 5280 section 4.1).
-    /// 4. `NoLeaf`: the certificate may not sign, with the refusal of [`sig_certificate::is_leaf`].
+    ///    is not read yet.
+    /// 3. `CertificateMalformed` of index 0: the certificate is none (RFC 5280 section 4.1).
+    /// 4. `NoLeaf`: the certificate may not sign, with the error of [`sig_certificate::is_leaf`].
     /// 5. `SignatureMissing`: there is no content, or a signature over an artifact alone, which is not read yet.
     /// 6. `DsseInvalidSignatureCount`: the envelope has not one signature.
     /// 7. `DssePayloadDecode`: its payload is no statement.
@@ -89,8 +89,7 @@ impl CheckedBundle {
     ///    `DsseNoRecognizedSubjectDigest`, as [`sig_dsse::recognized_digests`].
     /// 9. `TlogEntry`: there is not one log entry.
     /// 10. `BundleProfile`: `Unknown` for a media type that names no version, or one whose profile is not read yet,
-    /// 0.1 or 0.2; under 0.3
-    ///     `InclusionProofMissing`, then `CheckpointMissing`.
+    ///     0.1 or 0.2; under 0.3 `InclusionProofMissing`, then `CheckpointMissing`.
     pub fn try_from_bundle(alloc: Global, input: &Bundle) -> Result<CheckedBundle, BundleErrorKind>
         // What is returned is the result of the checks, of which there is one, unless memory ran out.
         ensures { AnswersOnly BundleErrorKind.OutOfMemory (IsChecked input.now) result }
@@ -129,14 +128,14 @@ impl CheckedBundle {
         &self.entry
     }
 
-    /// Returns the log entry if its body is about what the bundle holds, and nothing has to be fetched to check it: with
-    /// `offline`, or with an inclusion proof at hand. `None` if and only if one of both does not hold. Fails only if
-    /// memory runs out.
+    /// Returns the log entry if its body is about what the bundle holds, and nothing has to be fetched to check it:
+    /// with `offline`, or with an inclusion proof at hand. Returns `None` if and only if one of both does not hold.
+    /// Fails only if memory runs out.
     ///
     /// The body of an envelope's entry is one of kind `dsse`, version 0.0.1 (Rekor): its hashes are the SHA-256 of the
-    /// envelope's text and of the payload, its first signature is the envelope's, and the verifier of that is the PEM of
-    /// the signing certificate (RFC 7468 section 5.1). `input_digest`, the artifact's SHA-256, is for signatures over an
-    /// artifact alone, which are not read yet.
+    /// envelope's text and of the payload, its first signature is the envelope's, and the verifier of that is the PEM
+    /// of the signing certificate (RFC 7468 section 5.1). `input_digest`, the artifact's SHA-256, is for signatures
+    /// over an artifact alone, which are not read yet.
     pub fn tlog_entry(
         &self,
         alloc: Global,

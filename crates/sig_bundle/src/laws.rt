@@ -1,18 +1,22 @@
 //! What the definitions mean, and what equality is.
-ghost use Rattle.std.specs.Prelude.{◌≡◌, ◌↔◌, IsTrue, Ok, Err};
+ghost use Rattle.std.specs.Prelude.{◌≡◌, ◌↔◌, [], IsTrue, Ok, Err, unwrap_or};
 ghost use Rattle.sig_bundle.specs.Checked.{Checked, IsChecked};
 ghost use Rattle.sig_bundle.specs.Passed.{IsPassed};
+ghost use Rattle.sig_bundle.specs.Promise.{AreBytes, IsExactEntry, promise_of_entry, promise_tree_of};
 ghost use Rattle.sig_bundle.specs.Proof.{IsProof, IsProofFault, proof_or_fault};
 ghost use Rattle.sig_bundle.specs.Refusals.{RefusalsHaveTheirCause};
 ghost use Rattle.sig_bundle.specs.declared.bundle.Bundle.{Bundle};
 ghost use Rattle.sig_bundle.specs.declared.material.ProofFields.{ProofFields as Members};
 ghost use Rattle.sig_bundle.specs.declared.proof_error.ProofFieldsError.{ProofFieldsError};
+ghost use Rattle.sig_bundle.specs.declared.material.TransparencyLogEntry.{TransparencyLogEntry as Entry};
+ghost use Rattle.sig_json.specs.Canonical.{canonical_of};
 ghost use Rattle.sig_rekor.specs.declared.inclusion_proof.InclusionProof.{InclusionProof};
 
 use crate::bundle::{Bundle, Content, MessageSignature};
 use crate::material::{
     KindVersion, MaterialContent, ProofFields, TransparencyLogEntry, VerificationMaterial,
 };
+use sig_json::CanonicalError;
 
 /// A bundle passes its own checks if and only if it has all that the format demands of a statement with one
 /// certificate, one signature and one log entry, under version 0.3. It has no code.
@@ -24,6 +28,15 @@ pub fn passed_bundles()
 /// before it hold, and this one does not. It has no code.
 pub fn causes_of_refusals()
     ensures { RefusalsHaveTheirCause }
+{}
+
+/// The text of a log's promise is the template of Rekor's signed entry timestamp, if both integers are within plus or
+/// minus 2^53 - 1, and there is none if one is not. It has no code.
+pub fn promises()
+    ensures text { (entry : Entry) → AreBytes entry.canonicalized_body → AreBytes (unwrap_or entry.log_id [])
+        → IsExactEntry entry → canonical_of (promise_tree_of entry) ≡ Ok (promise_of_entry entry) }
+    ensures too_large { (entry : Entry) → ¬ IsExactEntry entry
+        → canonical_of (promise_tree_of entry) ≡ Err CanonicalError.IntegerTooLarge }
 {}
 
 /// The members of an inclusion proof are taken for a proof if and only if they are it. It has no code.

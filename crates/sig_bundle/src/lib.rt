@@ -1,10 +1,12 @@
 //! Sigstore bundles: read, written, and checked as far as a bundle alone can be checked.
 //!
-//! The layer above uses three facts. A text is read as the bundle that its members are, if and only if they fit the
+//! The layer above uses five facts. A text is read as the bundle that its members are, if and only if they fit the
 //! table of the format. The text of a bundle is read back as that bundle. A bundle passes its own checks if and only
-//! if no refusal has its cause, and else gets the first: chains, signatures over an artifact alone and the profiles
-//! 0.1 and 0.2 are refused until they are read. What a bundle holds that passes, and what equality of bundles and of
-//! their parts is, say `laws`.
+//! if no error has its cause, and else fails with the first: chains, signatures over an artifact alone and the
+//! profiles 0.1 and 0.2 are rejected until they are read. A checked bundle hands out its log entry if and only if the
+//! entry is about what the bundle holds. The members of an inclusion proof are taken for a proof if and only if they
+//! are one, and else the first that is wrong is told. What a bundle holds that passes, and what equality of bundles
+//! and of their parts is, say `laws`.
 #![tactic(auto)]
 
 mod bundle;

@@ -187,8 +187,8 @@ fn read_body(alloc: Global, body: &[u8]) -> Result<Option<DsseBody>, OutOfMemory
     }
 }
 
-/// Whether the body of an entry is about an envelope of this text and payload, with this signature, which the certificate
-/// of this DER verifies. Fails only if memory runs out.
+/// Whether the body of an entry is about an envelope of this text and payload, with this signature, which the
+/// certificate of this DER verifies. Fails only if memory runs out.
 #[tactic(auto, using(crate::proofs::LogBodies::bodies))]
 fn is_about_envelope(
     alloc: Global,
@@ -210,9 +210,9 @@ fn is_about_envelope(
     }
 }
 
-/// Whether the body of a log's entry is about the content: it is one of kind `dsse`, version 0.0.1, whose hashes are the
-/// SHA-256 of the envelope's text and of the payload, and whose first signature is this one, verified by the certificate
-/// of this DER. Fails only if memory runs out.
+/// Whether the body of a log's entry is about the content: it is one of kind `dsse`, version 0.0.1, whose hashes are
+/// the SHA-256 of the envelope's text and of the payload, and whose first signature is this one, verified by the
+/// certificate of this DER. Fails only if memory runs out.
 pub(crate) fn is_body_about(
     alloc: Global,
     content: &CheckedContent,

@@ -26,7 +26,7 @@ pub enum MaterialContent {
 /// An entry of a transparency log.
 #[derive(Drop, PartialEq, Eq)]
 pub struct TransparencyLogEntry {
-    /// The entry's place in the whole log, over all shards.
+    /// The entry's index in the whole log, over all shards.
     pub log_index: i64,
     /// The SHA-256 of the log's key.
     pub log_id: Option<Bytes>,
@@ -54,10 +54,10 @@ pub struct KindVersion {
     pub version: Text,
 }
 
-/// The members of an inclusion proof as they stand: lengths and sizes are not looked at.
+/// The members of an inclusion proof as they are: lengths and sizes are not looked at, until `to_proof`.
 #[derive(Drop, PartialEq, Eq)]
 pub struct ProofFields {
-    /// The place of the leaf in the tree, counted from 0.
+    /// The index of the leaf in the tree, counted from 0.
     pub log_index: i64,
     /// The root hash of the tree.
     pub root_hash: Bytes,

@@ -12,7 +12,7 @@ use sig_base::Text;
 use std::alloc::Global;
 use std::str::FromStr;
 
-/// The one log entry. `TlogEntry` with their number if and only if there is not one.
+/// The one log entry. Fails with `TlogEntry` and their number if and only if there is not one.
 pub(crate) fn only_entry(entries: &LogEntries) -> Result<&TransparencyLogEntry, BundleErrorKind>
     ensures { lent_now result ≡ entry_among entries.now }
 {
@@ -35,7 +35,7 @@ fn lacks_proof(proof: &Option<ProofFields>) -> Option<BundleProfileErrorKind>
     }
 }
 
-/// The refusal of a media type whose profile is not known: `Unknown` with its text, unless memory runs out.
+/// The error for a media type whose profile is not known: `Unknown` with its text, unless memory runs out.
 fn unknown(alloc: Global, media_type: &Text) -> BundleErrorKind
     ensures { (result ≡ BundleErrorKind.OutOfMemory)
         ⊎ (result ≡ BundleErrorKind.BundleProfile (BundleProfileErrorKind.Unknown media_type.now)) }
@@ -48,9 +48,8 @@ fn unknown(alloc: Global, media_type: &Text) -> BundleErrorKind
 
 /// Whether the entry has what the media type demands: under version 0.3 an inclusion proof with a checkpoint.
 ///
-/// `BundleProfile` of `Unknown` if and only if the media type names no version, or one whose profile is not read yet,
-/// 0.1 or 0.2. Then, under
-/// 0.3, of `Bundle02Profile` of the first that is missing.
+/// Fails with `BundleProfile` of `Unknown` if and only if the media type names no version, or one whose profile is not
+/// read yet, 0.1 or 0.2; then, under 0.3, with that of `Bundle02Profile` of the first that is missing.
 pub(crate) fn meets_profile(
     alloc: Global,
     media_type: &Text,

@@ -84,8 +84,8 @@ fn size_of(size: &i64) -> Result<u64, ProofFieldsError>
     }
 }
 
-/// The checkpoint that a text is. Fails with `CheckpointMissing` if there is none, or with `Checkpoint` and the fault of
-/// the text.
+/// The checkpoint that a text is. Fails with `CheckpointMissing` if there is none, or with `Checkpoint` and the fault
+/// of the text.
 fn checkpoint_of(alloc: Global, text: &Option<Text>) -> Result<SignedCheckpoint, ProofFieldsError>
     ensures { Answers ProofFieldsError.OutOfMemory (λ checkpoint. checkpoint) result (checkpoint_or_fault text.now) }
 {

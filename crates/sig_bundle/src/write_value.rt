@@ -58,8 +58,8 @@ pub(crate) fn write_list<T: ElementWriter>(
     Ok(list)
 }
 
-/// Writes an integer, as a text. The integer is passed by reference, so that the clauses name it as the field that it
-/// stands in.
+/// Writes an integer, as a text. The integer is passed by reference, so that the clauses name it as the field that
+/// it is.
 #[tactic(auto, using(crate::proofs::Values::values), unfolding(crate::specs::Written::integer_tree))]
 pub(crate) fn write_integer(alloc: Global, integer: &i64) -> Result<Document, OutOfMemory>
     ensures tree { IfOk result (λ document. document_tree document ≡ integer_tree integer.now) }
