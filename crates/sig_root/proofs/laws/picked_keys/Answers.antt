@@ -1,0 +1,10 @@
+-- By recursion over the instances.
+use Rattle.std.proofs.Common.{[]}
+use Rattle.sig_root.proofs.LastKeys.{each_ascends, last_found, none_ascend, only_last}
+use Rattle.sig_root.proofs.laws.picked_keys.Goals as goal
+
+pub returns-clause-last : goal.returns-clause-last
+returns-clause-last c = λ now instances id key. (only_last now instances id key, last_found now instances id key [])
+
+pub returns-clause-ordered : goal.returns-clause-ordered
+returns-clause-ordered c = λ now instances. each_ascends now instances [] none_ascend

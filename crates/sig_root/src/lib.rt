@@ -1,0 +1,32 @@
+//! Trusted roots of Sigstore: which authorities and logs are trusted, and of what time each is.
+//!
+//! ```text
+//! {"certificateAuthorities":[{"certChain":{"certificates":[{"rawBytes":"MIIB.."}]},
+//!                             "validFor":{"start":"2023-01-01T00:00:00Z"}}],
+//!  "tlogs":[{"publicKey":{"rawBytes":"MFkw..","validFor":{"start":"2023-01-01T00:00:00Z"}},
+//!            "logId":{"keyId":"wNI9.."}}],
+//!  "ctlogs":[]}
+//! ```
+//!
+//! The layer above uses two facts. A text is read as the trusted root that its members are, if and only if they fit
+//! the table of the format. What a trusted root has at a time are the certificates of the authorities that began by
+//! then, and the keys of the logs whose range holds then; of equal log ids the last of these.
+#![tactic(auto)]
+
+pub mod laws;
+mod manual;
+mod picked;
+mod read;
+mod record;
+mod sigstore;
+#[cfg(test)]
+mod tests;
+mod trust_root;
+
+pub use manual::ManualTrustRoot;
+pub use read::read_trusted_root;
+pub use record::{
+    CertificateAuthority, PublicKey, TimeRange, TransparencyLogInstance, TrustedRoot,
+};
+pub use sigstore::SigstoreTrustRoot;
+pub use trust_root::TrustRoot;

@@ -1,0 +1,50 @@
+//! `TrustedRoot`: what the text of a trusted root says (Sigstore trusted root format).
+
+use sig_base::{Bytes, Entries, Register};
+
+/// The authorities and logs that are trusted. Nothing is checked beyond the kinds of the members.
+#[derive(Drop)]
+pub struct TrustedRoot {
+    /// Those that issue certificates.
+    pub certificate_authorities: Register<CertificateAuthority>,
+    /// The logs of signatures.
+    pub tlogs: Register<TransparencyLogInstance>,
+    /// The Certificate Transparency logs.
+    pub ctlogs: Register<TransparencyLogInstance>,
+}
+
+/// An authority that issues certificates.
+#[derive(Drop)]
+pub struct CertificateAuthority {
+    /// Its certificates (DER).
+    pub cert_chain: Option<Entries>,
+    /// When it issued certificates.
+    pub valid_for: Option<TimeRange>,
+}
+
+/// A log, for as long as it has one key.
+#[derive(Drop)]
+pub struct TransparencyLogInstance {
+    /// The key that it signs with.
+    pub public_key: Option<PublicKey>,
+    /// The id by which its entries and SCTs name it.
+    pub log_id: Option<Bytes>,
+}
+
+/// The key of a log.
+#[derive(Drop)]
+pub struct PublicKey {
+    /// Its SubjectPublicKeyInfo (DER).
+    pub raw_bytes: Option<Bytes>,
+    /// When the log signs with it.
+    pub valid_for: Option<TimeRange>,
+}
+
+/// A range of time, in whole seconds since 1970, both ends included.
+#[derive(Clone, Copy, Drop)]
+pub struct TimeRange {
+    /// The first second; without it the range has neither a first nor a last.
+    pub start: Option<i64>,
+    /// The last second.
+    pub end: Option<i64>,
+}
