@@ -10,7 +10,6 @@ ghost use Rattle.std.specs.Prelude.{◌≡◌, ◌↔◌, IsTrue, IfOk, Ok, Opti
 ghost use Rattle.std.specs.Result.{result_ok};
 ghost use Rattle.sig_certificate.specs.Pem.{pem_of};
 ghost use Rattle.sig_json.specs.Data.{Data};
-ghost use Rattle.sig_json.specs.Reads.{Reads};
 ghost use Rattle.sig_json.specs.Record.{record_in};
 ghost use Rattle.sig_json.specs.Tree.{tree};
 ghost use Rattle.sig_bundle.specs.LogBody.{body_signature_of, dsse_body_of, dsse_spec_of, first_signature_of};
