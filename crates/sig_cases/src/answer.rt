@@ -12,13 +12,13 @@ pub struct Answer {
 }
 
 impl Answer {
-    /// `ok`, to which the values of the result are added. Fails for memory alone, as each call here.
+    /// `ok`, to which the values of the result are added. Fails only if out of memory, as each call here.
     pub fn ok(alloc: Global) -> Result<Answer, CaseError> {
         Answer::of(alloc, &"ok")
     }
 
-    /// An error, by its Debug text. Its Display text has to be the name of its variant, with which the Debug text begins; where it is another,
-    /// it follows in brackets.
+    /// An error, by its Debug text. Its Display text has to be the name of its variant, with which the Debug text
+    /// begins; if it is another, it follows in brackets.
     pub fn error<E: Debug + Display>(alloc: Global, error: &E) -> Result<Answer, CaseError> {
         let text = format!(in alloc; "{error:?}")?;
         let name = format!(in alloc; "{error}")?;

@@ -26,12 +26,14 @@ impl<'a> Arguments<'a> {
         self.rest.is_none()
     }
 
-    /// Returns the rest of the line, which may have spaces, as a JSON text. Fails with `BadLine` where the arguments are at their end.
+    /// Returns the rest of the line, which may have spaces, as a JSON text. Fails with `BadLine` if the arguments are
+    /// at their end.
     pub fn rest(&mut self) -> Result<&'a str, CaseError> {
         self.rest.take().ok_or(CaseError::BadLine)
     }
 
-    /// Returns the next argument as it is, up to the next space. Fails with `BadLine` where the arguments are at their end.
+    /// Returns the next argument as it is, up to the next space. Fails with `BadLine` if the arguments are at their
+    /// end.
     pub fn word(&mut self) -> Result<&'a str, CaseError> {
         let rest = self.rest()?;
         match rest.split_once(' ') {
@@ -43,14 +45,15 @@ impl<'a> Arguments<'a> {
         }
     }
 
-    /// Reads the next argument as bytes in hexadecimal, in either case; `-` is no bytes, and `3082+00*65535+ff` joins parts of which one is so
-    /// many times the same bytes. Fails with `BadLine` for other letters, and where the arguments are at their end.
+    /// Reads the next argument as bytes in hexadecimal, in either case; `-` is no bytes, and `3082+00*65535+ff` joins
+    /// parts of which one is so many times the same bytes. Fails with `BadLine` for other letters, and if the
+    /// arguments are at their end.
     pub fn hex(&mut self, alloc: Global) -> Result<Vec<u8>, CaseError> {
         hex_bytes(alloc, shown(self.word()?))
     }
 
-    /// Reads the next argument as a list of bytes in hexadecimal, divided by commas, each as [`Arguments::hex`] reads it; `-` is the empty list.
-    /// Fails with `BadLine` for other letters, and where the arguments are at their end.
+    /// Reads the next argument as a list of bytes in hexadecimal, divided by commas, each as [`Arguments::hex`] reads
+    /// it; `-` is the empty list. Fails with `BadLine` for other letters, and if the arguments are at their end.
     pub fn hex_list(&mut self, alloc: Global) -> Result<Vec<Vec<u8>>, CaseError> {
         let mut list = Vec::new(alloc);
         let word = self.word()?;
@@ -62,8 +65,8 @@ impl<'a> Arguments<'a> {
         Ok(list)
     }
 
-    /// Reads the next argument as bytes in base64, padded; `-` is no bytes. Fails with `BadLine` for other letters, and where the arguments are
-    /// at their end.
+    /// Reads the next argument as bytes in base64, padded; `-` is no bytes. Fails with `BadLine` for other letters,
+    /// and if the arguments are at their end.
     pub fn base64(&mut self, alloc: Global) -> Result<Vec<u8>, CaseError> {
         let word = self.word()?;
         match STANDARD.decode(alloc, shown(word).as_bytes()) {
@@ -73,8 +76,8 @@ impl<'a> Arguments<'a> {
         }
     }
 
-    /// Reads the next argument as a text in percent-encoding, as `a%20b`; `-` is the empty text. Fails with `BadLine` where it stands for no
-    /// UTF-8, and where the arguments are at their end.
+    /// Reads the next argument as a text in percent-encoding, as `a%20b`; `-` is the empty text. Fails with `BadLine`
+    /// if it stands for no UTF-8, and if the arguments are at their end.
     pub fn text(&mut self, alloc: Global) -> Result<String, CaseError> {
         let word = self.word()?;
         let mut bytes = Vec::new(alloc);
@@ -82,14 +85,14 @@ impl<'a> Arguments<'a> {
         String::from_utf8(bytes).map_err(|_| CaseError::BadLine)
     }
 
-    /// Reads the next argument as an integer in decimal. Fails with `BadLine` where it is none in `i64`, and where the arguments are at their
-    /// end.
+    /// Reads the next argument as an integer in decimal. Fails with `BadLine` if it is none in `i64`, and if the
+    /// arguments are at their end.
     pub fn integer(&mut self) -> Result<i64, CaseError> {
         self.word()?.parse::<i64>().map_err(|_| CaseError::BadLine)
     }
 
-    /// Reads the next argument as a natural number in decimal. Fails with `BadLine` where it is none in `u64`, and where the arguments are at
-    /// their end.
+    /// Reads the next argument as a natural number in decimal. Fails with `BadLine` if it is none in `u64`, and if the
+    /// arguments are at their end.
     pub fn natural(&mut self) -> Result<u64, CaseError> {
         self.word()?.parse::<u64>().map_err(|_| CaseError::BadLine)
     }
@@ -129,7 +132,7 @@ fn decoded(alloc: Global, digits: &str) -> Result<Vec<u8>, CaseError> {
     }
 }
 
-/// What a word spells: nothing where it is `-`.
+/// What a word spells: nothing if it is `-`.
 fn shown(word: &str) -> &str {
     if word == "-" { "" } else { word }
 }

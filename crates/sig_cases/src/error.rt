@@ -1,15 +1,15 @@
-//! Why a line has no answer.
+//! Why a line has no result.
 use sig_base::OutOfMemory;
 use std::alloc::{AllocError, AllocFailed};
 use thiserror::Error;
 
-/// Why a line has no answer.
+/// Why a line has no result.
 #[derive(Debug, Drop, Error)]
 pub enum CaseError {
     /// The line names no call of the program, or its arguments are not those of the call.
     #[error("bad line")]
     BadLine,
-    /// Memory ran out.
+    /// Out of memory.
     #[error("out of memory")]
     OutOfMemory,
 }

@@ -6,9 +6,10 @@ use anyhow::{Context, Result, bail};
 use std::alloc::Global;
 use std::io::{self, BufRead, BufReader, BufWriter, Write};
 
-/// A program of cases: what it answers to a line.
+/// A program of cases: what it returns for a line.
 pub trait Cases {
-    /// Calls what `call` names on the arguments. Fails with `BadLine` where there is no such call, or its arguments are others.
+    /// Calls what `call` names on the arguments. Fails with `BadLine` if there is no such call, or its arguments are
+    /// others.
     fn answer(
         alloc: Global,
         call: &str,
@@ -16,7 +17,7 @@ pub trait Cases {
     ) -> Result<Answer, CaseError>;
 }
 
-/// Writes a line for each line of standard input, to its end. Fails where memory runs out or a stream fails.
+/// Writes a line for each line of standard input, to its end. Fails if out of memory, or if a stream fails.
 pub fn run<C: Cases>(rt: &HostRuntime) -> Result<()> {
     let alloc = rt.alloc();
     let mut written = BufWriter::new(alloc, io::writer(rt))?;

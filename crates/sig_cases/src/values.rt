@@ -14,15 +14,16 @@ impl<'a> Arguments<'a> {
         Ok(entries)
     }
 
-    /// Reads the next argument as 32 bytes in hexadecimal. Fails with `BadLine` where there are not 32.
+    /// Reads the next argument as 32 bytes in hexadecimal. Fails with `BadLine` if there are not 32.
     pub fn digest(&mut self, alloc: Global) -> Result<[u8; 32], CaseError> {
         let bytes = self.hex(alloc)?;
         bytes.as_slice().try_into().map_err(|_| CaseError::BadLine)
     }
 
-    /// Reads the arguments to their end as the rows of a checker, which accepts these signatures alone: `message SCHEME KEY MESSAGE SIGNATURE`,
-    /// `prehash SCHEME KEY DIGEST SIGNATURE`, `point POINT MESSAGE SIGNATURE` and `certificate ALGORITHM SPKI TBS SIGNATURE`, where a scheme is
-    /// the name of one. Fails with `BadLine` for other words.
+    /// Reads the arguments to their end as the rows of a checker, which accepts these signatures alone. A row is
+    /// `message SCHEME KEY MESSAGE SIGNATURE`, `prehash SCHEME KEY DIGEST SIGNATURE`, `point POINT MESSAGE SIGNATURE`
+    /// and `certificate ALGORITHM SPKI TBS SIGNATURE`, where a scheme is the name of one. Fails with `BadLine` for
+    /// other words.
     pub fn checker(&mut self, alloc: Global) -> Result<TableChecker, CaseError> {
         let mut checker = TableChecker::new(alloc);
         for _ in 0..u64::MAX {
