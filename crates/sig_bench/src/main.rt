@@ -5,8 +5,8 @@
 //! - `read` reads a JSON document, and prints 0;
 //! - `compact` and `canonical` read one, write it so, and print how many bytes were written;
 //! - `bundle` reads a bundle, and prints 0;
-//! - `statement` reads a payload as a statement, `digests` as the checks of a bundle do, and both print how many digests
-//!   were taken.
+//! - `statement` reads a payload as a statement, `digests` as the checks of a bundle do, and both print how many
+//!   digests were taken.
 //!
 //! It promises nothing.
 #![tactic(auto)]

@@ -3,7 +3,7 @@
 use sig_dsse::{InTotoStatementV1, payload_digests, recognized_digests};
 use std::alloc::Global;
 
-/// Returns how many digests were taken of the statement; `None` if the payload is none, or its digests are refused.
+/// Returns how many digests were taken of the statement; `None` if the payload is none, or its digests are rejected.
 pub fn digests_of(alloc: Global, payload: &[u8]) -> Option<u64> {
     let statement = InTotoStatementV1::from_json(alloc, payload).ok()?;
     let digests = recognized_digests(alloc, &statement).ok()?;
