@@ -34,7 +34,7 @@ impl Keyring {
     /// is kept. Fails only if out of memory.
     pub fn new(alloc: Global, keys: &Entries) -> Result<Keyring, KeyringError>
         ensures keys { IfOk result (λ r. (id : List ℕ) → point_at r id ≡ key_of keys.now id) }
-        ensures refusal { IfErr result (λ e. e ≡ KeyringError.OutOfMemory) }
+        ensures err { IfErr result (λ e. e ≡ KeyringError.OutOfMemory) }
     {
         let mut ring = Keyring {
             keys: BTreeMap::new(alloc),
@@ -49,7 +49,7 @@ impl Keyring {
     fn add(&mut self, alloc: Global, spki: &[u8]) -> Result<(), KeyringError>
         ensures ok { OnOk result ((id : List ℕ) → point_at self.new id ≡ option_or (point_if id spki.now)
             (point_at self.old id)) }
-        ensures refusal { IfErr result (λ e. e ≡ KeyringError.OutOfMemory) }
+        ensures err { IfErr result (λ e. e ≡ KeyringError.OutOfMemory) }
     {
         match Key::new(alloc, spki) {
             Ok(key) => {

@@ -48,7 +48,7 @@ critical_from oid is = first (or_cases _ _ is)
 
     first : (bytes_eq oid key_usage ≡ true)
         ⊎ ((bytes_eq oid subject_alternative_name ||
-          (bytes_eq oid basic_constraints || bytes_eq oid extended_key_usage))
+        (bytes_eq oid basic_constraints || bytes_eq oid extended_key_usage))
         ≡ true) → MayBeCritical oid
     first (inl e) = inl (bytes_same oid key_usage e)
     first (inr e) = second (or_cases _ _ e)

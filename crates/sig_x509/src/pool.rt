@@ -62,7 +62,7 @@ impl CertificatePool {
         // The anchors are those of the DERs, one by one.
         ensures anchors { IfOk result (AreAnchors trusted_roots.now) }
         // An error names the first DER that is no anchor, unless memory ran out.
-        ensures refusal { IfErr result (IsPoolRefusal trusted_roots.now) }
+        ensures err { IfErr result (IsPoolRefusal trusted_roots.now) }
         // `Anchor` is returned with an index if and only if the DER there is the first that is no anchor, unless
         // memory ran out.
         ensures anchor { (index : ℕ) → ComesWhere PoolError.OutOfMemory result
@@ -73,7 +73,7 @@ impl CertificatePool {
 
     fn read(alloc: Global, trusted_roots: &Entries) -> Result<CertificatePool, PoolError>
         ensures anchors { IfOk result (AreAnchors trusted_roots.now) }
-        ensures refusal { IfErr result (IsPoolRefusal trusted_roots.now) }
+        ensures err { IfErr result (IsPoolRefusal trusted_roots.now) }
     {
         let mut anchors = Register::new(alloc);
         'ders: for (index, der) in trusted_roots.as_slice().iter().enumerate() {
