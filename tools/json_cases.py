@@ -277,6 +277,17 @@ def read_case(data, words=None):
     case("read " + (words or document(data)), answer(lambda: compact(tree(data))))
 
 
+def members_of_names_case(names, data, words=None):
+    def make():
+        value = tree(data)
+        if isinstance(value, dict):
+            value = {name: item for name, item in value.items() if name in names}
+        return compact(value)
+
+    arguments = [str(len(names))] + [percent(name) for name in names] + [words or document(data)]
+    case("read_members " + " ".join(arguments), answer(make))
+
+
 def back_case(data, words=None):
     case("read_back " + (words or document(data)), answer(lambda: "true true" if tree(data) is not Ellipsis else ""))
 
@@ -471,6 +482,51 @@ def nesting():
             back_case(*nested(depth, begin, end))
     for text in STRUCTURES + STRINGS + NUMBERS:
         back_case(text)
+
+
+def members_of_names():
+    say("read_members COUNT NAME.. DOCUMENT: as read, but of an object with the members of these names alone. A float that is ignored counts too,")
+    say("unless a later member of its name takes its place; a number without a finite value never does.")
+    forms = ['{"k":%s}', '{"x":%s,"k":1}', '{"k":%s,"k":1}', '{"x":%s,"k":1,"x":1}', '{"x":1,"k":1,"x":%s}', '{"k":1,"x":[{"m":%s,"m":1}]}', '{"x":[1,{"m":%s}],"k":1}', "[%s]", "%s"]
+    for text in NUMBERS + LONG:
+        for form in forms:
+            members_of_names_case(["k"], form % text)
+    say("Names are the same where their bytes are, escapes resolved.")
+    for text in STRINGS:
+        for form in ['{%s:1,"k":2}', '{"x":%s,"k":1}', '{"x":{%s:1},"k":1}', '{"k":{%s:1},"x":1}']:
+            members_of_names_case(["k", "a", ""], form % text)
+    for names in [[], ["k"], ["K"], ["kk"], [""], ["k\0"], ["\u00e9"], ["e\u0301"], ["k", "k"], ["x", "\u00e9", "k"]]:
+        for text in ['{"k":1,"K":2,"kk":3,"":4,"k\\u0000":5}', '{"\\u006b":1,"x":2}', '{"k":1,"\\u006b":2}', '{"\\u006b":1,"k":2}', '{"\u00e9":1,"e\u0301":2,"\\u00e9":3}', '{"k":1.5,"\\u006b":2}', "{}"]:
+            members_of_names_case(names, text)
+    say("What is no JSON is none wherever it stands, and any value but an object is kept whole.")
+    for text in STRUCTURES:
+        members_of_names_case(["a"], text)
+        members_of_names_case([], '{"x":%s,"a":1}' % text)
+    for data in RAW:
+        members_of_names_case(["k"], data)
+        members_of_names_case(["k"], b'{"x":' + data + b',"k":1}')
+    whole = '{"a":[1,-2,"\\u00e9\\n",{"b":null}],"c":true,"d":{"e":[false]}}'
+    for length in range(len(whole) + 1):
+        members_of_names_case(["c"], whole[:length])
+    say("Members of one name, with floats or without: the last counts.")
+    for length in range(5):
+        for order in itertools.product(['"k":1', '"k":1.5', '"x":2', '"x":-0'], repeat=length):
+            members_of_names_case(["k"], "{" + ",".join(order) + "}")
+    for text in ['{"x":{"y":1.5},"x":{}}', '{"x":{"y":1.5,"y":1},"k":1}', '{"x":[{"y":[1.5],"y":1}],"k":1}', '{"x":[{"y":1,"y":1.5}],"k":1}', '{"x":[1.5,{"y":1,"y":1}],"k":1}', '{"k":{"y":1.5,"y":1},"x":1}',
+                 '{"x":1.5,"k":1.5,"x":1,"k":1}', '{"x":1.5,"k":1', '{"x":1.5,"k":nul}', '{"x":1.5,"k":1e999}', '{"x":1e999,"x":1}', '{"x":1e999,"k":1.5}', '{"x":[1e999,1.5]}', '{"x":1.5} x', '{"x":1} {}', '{"k":1} 1.5']:
+        members_of_names_case(["k"], text)
+    say("Lists and objects nest to 127, in an ignored member too.")
+    for begin, end in [("[", "]"), ('{"a":', "}"), ('[{"a":', "}]"), ('{"a":1,"a":', "}")]:
+        levels = begin.count("[") + begin.count("{")
+        for core, inner in [("[]", 1), ("{}", 1), ("1", 0), ("1.5", 0), ("", 0)]:
+            for depth in sorted({(limit - inner) // levels for limit in (125, 126, 127, 128)}):
+                text, words = nested(depth, begin, end, core)
+                for front, back in [('{"x":', ',"k":1}'), ('{"k":', "}"), ('{"x":', ',"x":1}')]:
+                    members_of_names_case(["k"], front + text + back, "hex %s+%s+%s" % (front.encode().hex(), words[4:], back.encode().hex()))
+    for depth in (1000, 100000):
+        for begin, end in [("[", "]"), ('{"a":', "}"), ("[", "")]:
+            text, words = nested(depth, begin, end, "1")
+            members_of_names_case(["k"], '{"x":' + text + "}", "hex 7b2278223a+%s+7d" % words[4:].replace("+*%d" % depth, ""))
 
 
 def orders():
@@ -741,6 +797,7 @@ def errors():
 def main():
     texts()
     nesting()
+    members_of_names()
     orders()
     canonicals()
     views()

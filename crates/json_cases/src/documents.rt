@@ -21,6 +21,32 @@ pub(crate) fn read(alloc: Global, arguments: &mut Arguments<'_>) -> Result<Answe
     }
 }
 
+/// `read_members COUNT NAME.. DOCUMENT`: the compact text of its tree, of an object with its members of these names
+/// alone.
+pub(crate) fn read_members(
+    alloc: Global,
+    arguments: &mut Arguments<'_>,
+) -> Result<Answer, CaseError> {
+    let names = names(alloc, arguments)?;
+    let mut lent = Vec::new(alloc);
+    for name in &names {
+        lent.push(name.as_str())?;
+    }
+    match Document::read_members(alloc, &bytes(alloc, arguments)?, lent.as_slice()) {
+        Ok(document) => with_tree(alloc, Answer::ok(alloc)?, document.view()),
+        Err(error) => Answer::error(alloc, &error),
+    }
+}
+
+/// So many names as the first argument says.
+fn names(alloc: Global, arguments: &mut Arguments<'_>) -> Result<Vec<String>, CaseError> {
+    let mut names = Vec::new(alloc);
+    for _ in 0..arguments.natural()? {
+        names.push(arguments.text(alloc)?)?;
+    }
+    Ok(names)
+}
+
 /// `read_back DOCUMENT`: whether its compact text is read as an equal tree, and has itself as its compact text.
 pub(crate) fn read_back(alloc: Global, arguments: &mut Arguments<'_>) -> Result<Answer, CaseError> {
     let document = match Document::read(alloc, &bytes(alloc, arguments)?) {

@@ -15,7 +15,9 @@ mod kinds;
 mod readers;
 
 use built::{list, object};
-use documents::{canonical_text, item, member, members, quoted_text, read, read_back, values};
+use documents::{
+    canonical_text, item, member, members, quoted_text, read, read_back, read_members, values,
+};
 use equal::equal;
 use errors::errors;
 use readers::{integers, reader};
@@ -32,6 +34,7 @@ impl Cases for JsonCases {
     ) -> Result<Answer, CaseError> {
         match call {
             "read" => read(alloc, arguments),
+            "read_members" => read_members(alloc, arguments),
             "read_back" => read_back(alloc, arguments),
             "canonical" => canonical_text(alloc, arguments),
             "quoted" => quoted_text(alloc, arguments),
