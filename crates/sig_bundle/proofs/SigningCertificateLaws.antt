@@ -1,9 +1,10 @@
 -- The signing certificate among the certificates of one text.
-use Rattle.std.proofs.Common.{◌≡◌, inr, ℕ, List, [], ◌∷◌, Option, Some, None, Result, Ok, Err, refl, sym, subst}
+use Rattle.std.proofs.Common.{◌≡◌, inr, ℕ, List, [], ◌∷◌, Option, Some, None, Result, Ok, Err, refl, sym, ap, subst}
 use Rattle.sig_certificate.specs.declared.error.X509ReadError.{X509ReadError}
-use Rattle.sig_certificate.specs.declared.error.X509ReadError.TheVariants.{Der}
+use Rattle.sig_certificate.specs.declared.error.X509ReadError.TheVariants.{Der, OutOfMemory as NoMemory}
 use Rattle.sig_certificate.specs.declared.profile_error.CertificateValidationError.{CertificateValidationError}
-use Rattle.sig_certificate.specs.Answers.{IsRefusedOnlyWithout}
+use Rattle.sig_base.specs.Answers.{ComesWhere}
+use Rattle.sig_base.proofs.ResultSteps.{ok_is}
 use Rattle.sig_certificate.specs.Certificate.{Cert, IsCertificate}
 use Rattle.sig_certificate.specs.Profile.{leaf_refusal}
 use Rattle.sig_base.specs.Answers.{AnswersOnly}
@@ -24,9 +25,16 @@ refuses c e is =
     let P : Option CertificateValidationError → Type 0 = λ o. Err (NoLeaf e) ≡ leaf_or_refusal c [] o in subst
     P is refl
 
+-- what reading a certificate returns
+abbrev pub read : Cert → Result Cert X509ReadError
+read c = Ok c
+
+abbrev pub not_read : X509ReadError → Result Cert X509ReadError
+not_read e = Err e
+
 -- no other certificate is the text's
 abbrev pub IsOnly : List ℕ → Cert → Type 0
-IsOnly text c = (d : Cert) → IsCertificate text d → Some d ≡ Some c
+IsOnly text c = (d : Cert) → IsCertificate text d → read d ≡ read c
 
 -- so there are no other readings
 same : (text : List ℕ) → (c : Cert) → IsCertificate text c → IsOnly text c
@@ -34,7 +42,7 @@ same : (text : List ℕ) → (c : Cert) → IsCertificate text c → IsOnly text
 same text c is only [] r = absurd r
 same text c is only (None ∷ rest) r = absurd (r.0 c is)
 same text c is only (Some d ∷ []) r =
-    let P : Option Cert → Type 0 = λ o. o ∷ [] ≡ Some c ∷ [] in subst P (sym (only d r.0)) refl
+    let P : Cert → Type 0 = λ x. Some x ∷ [] ≡ Some c ∷ [] in subst P (sym (ok_is d c (only d r.0))) refl
 same text c is only (Some d ∷ e ∷ rest) r = absurd r.1
 
 nothing : (text : List ℕ) → ((c : Cert) → ¬ IsCertificate text c)
@@ -69,9 +77,10 @@ no_certificate text none = (
 )
 
 -- `Der` says that the text is no certificate
-pub none_of : (text : List ℕ) → (e : X509ReadError) → e ≡ Der → IsRefusedOnlyWithout text e → (c : Cert)
-    → ¬ IsCertificate text c
-none_of text e is without = let P : X509ReadError → Type 0 = IsRefusedOnlyWithout text in subst P is without
+pub none_of : (text : List ℕ) → (e : X509ReadError) → e ≡ Der
+    → ComesWhere NoMemory (not_read e) (not_read Der) ((c : Cert) → ¬ IsCertificate text c)
+    → (c : Cert) → ¬ IsCertificate text c
+none_of text e is comes = comes.0 (ap not_read is)
 
 -- the texts are those of the material's content
 pub of_texts : (texts : Result (List (List ℕ)) BundleErrorKind) → (certificate text : List ℕ)

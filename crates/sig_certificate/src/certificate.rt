@@ -7,8 +7,8 @@
 //!      signatureValue       BIT STRING }
 //! ```
 
-ghost use Rattle.std.specs.Prelude.{◌≡◌, ◌≤◌, ◌+◌, ℕ, pos, ◌≤ℤ◌, Some, length, slice_get, option_map, IfOk, IfErr};
-ghost use Rattle.sig_certificate.specs.Answers.{Reads, IsRefusedOnlyWithout};
+ghost use Rattle.std.specs.Prelude.{◌≡◌, ◌≤◌, ◌+◌, ℕ, pos, ◌≤ℤ◌, length, slice_get, option_map, Ok, Err, IfOk};
+ghost use Rattle.sig_base.specs.Answers.{Answers, ComesWhere};
 ghost use Rattle.sig_certificate.specs.Certificate.{Cert, IsCertificate};
 ghost use Rattle.sig_certificate.specs.Lookups.{lent, with_oid, are_single, Finds};
 
@@ -57,10 +57,12 @@ impl Certificate {
     pub fn try_from_der(alloc: Global, der: &[u8]) -> Result<Certificate, X509ReadError>
         // What is returned is the certificate.
         ensures found { IfOk result (IsCertificate der.now) }
-        // A certificate is returned.
-        ensures only { (c : Cert) → IsCertificate der.now c → Reads (λ r. r) result (Some c) }
-        // `Der` comes only where the bytes are no certificate.
-        ensures refused { IfErr result (IsRefusedOnlyWithout der.now) }
+        // A certificate is returned, unless memory ran out.
+        ensures only { (c : Cert) → IsCertificate der.now c
+            → Answers X509ReadError.OutOfMemory (λ r. r) result (Ok c) }
+        // `Der` comes only where the bytes are no certificate, and there nothing else does, unless memory ran out.
+        ensures refused { ComesWhere X509ReadError.OutOfMemory result (Err X509ReadError.Der)
+            ((c : Cert) → ¬ IsCertificate der.now c) }
     {
         let Some(dated) = dated_parts(der) else {
             return Err(X509ReadError::Der);

@@ -6,7 +6,8 @@ ghost use Rattle.std.specs.Ordering.{nat_cmp};
 ghost use Rattle.std.specs.Cmp.Lexicographic.{slice_cmp};
 ghost use Rattle.sig_der.specs.Readers.{left};
 ghost use Rattle.sig_der.specs.Taking.{many_at};
-ghost use Rattle.sig_certificate.specs.Answers.{Reads};
+ghost use Rattle.sig_base.specs.Answers.{Answers};
+ghost use Rattle.sig_certificate.specs.Answers.{or_der};
 ghost use Rattle.sig_certificate.specs.Cutting.{extension_at};
 ghost use Rattle.sig_certificate.specs.Held.{IsRecorded};
 ghost use Rattle.sig_certificate.specs.Lookups.{are_single};
@@ -51,8 +52,8 @@ fn are_single(bytes: &[u8], extensions: &mut [ExtensionPlaces]) -> bool
 
 /// Reads the extensions that are all that is left. Fails with `Der` if anything else is left, and with `OutOfMemory`.
 pub(crate) fn read_listed(alloc: Global, reader: Reader<'_>) -> Result<Listed, X509ReadError>
-    ensures exact { Reads (λ l. map (extension_of reader.entry.bytes.now) l.places.items) result
-        (many_at extension_at (left reader.entry)) }
+    ensures exact { Answers X509ReadError.OutOfMemory (λ l. map (extension_of reader.entry.bytes.now) l.places.items)
+        result (or_der (many_at extension_at (left reader.entry))) }
     ensures within { IfOk result (λ l. All (AreSpans reader.entry.end) l.places.items) }
     ensures recorded { IfOk result (IsRecorded reader.entry.bytes.now) }
 {

@@ -4,7 +4,8 @@ ghost use Rattle.std.specs.Prelude.{◌≡◌, ℤ, length, map, IfOk, IfSome};
 ghost use Rattle.std.specs.List.{All};
 ghost use Rattle.sig_der.specs.Readers.{left};
 ghost use Rattle.sig_der.specs.Taking.{many_at};
-ghost use Rattle.sig_certificate.specs.Answers.{Reads};
+ghost use Rattle.sig_base.specs.Answers.{Answers};
+ghost use Rattle.sig_certificate.specs.Answers.{or_der};
 ghost use Rattle.sig_certificate.specs.Cutting.{Parts, extension_at, IsCut};
 ghost use Rattle.sig_certificate.specs.Places.{extension_of, parts_of, AreSpans, ArePlaces, Ascend};
 ghost use Rattle.sig_certificate.specs.Held.{IsDatedAs};
@@ -47,8 +48,8 @@ pub(crate) fn read_extensions(
     alloc: Global,
     reader: Reader<'_>,
 ) -> Result<Vec<ExtensionPlaces>, X509ReadError>
-    ensures exact { Reads (λ v. map (extension_of reader.entry.bytes.now) v.items) result
-        (many_at extension_at (left reader.entry)) }
+    ensures exact { Answers X509ReadError.OutOfMemory (λ v. map (extension_of reader.entry.bytes.now) v.items)
+        result (or_der (many_at extension_at (left reader.entry))) }
     ensures within { IfOk result (λ v. All (AreSpans reader.entry.end) v.items) }
     ensures ascend { IfOk result (λ v. Ascend v.items) }
 {

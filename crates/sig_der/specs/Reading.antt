@@ -2,6 +2,7 @@
 -- That it reads exactly the texts of *Element* is `element_at_takes` and `element_at_again` of proofs/Elements.
 use Rattle.std.specs.Prelude.{◌≡◌, ℕ, ◌+◌, ◌-◌, ◌*◌, ◌%◌, List, [], ◌∷◌, length, take, drop, Bool, true, false, Result}
 use Rattle.std.specs.Prelude.{Ok, Err, nat_lt, ◌==◌, if◌then◌else◌, ◌&&◌}
+use Rattle.std.specs.Result.{result_map_both}
 use Rattle.sig_base.specs.ResultSteps.{◌>>=◌}
 use Rattle.sig_base.specs.declared.fault.DerError.{DerError}
 use Rattle.sig_base.specs.declared.fault.DerError.TheVariants.{Truncated, LongTag, Length, Trailing, WrongTag}
@@ -12,10 +13,9 @@ pub record Piece : Type 0 where
   pub whole : List ℕ
   pub content : List ℕ
 
--- What a call returned, seen by the view, is what reading gives.
+-- What a call returned, seen by the view, is what reading gives. No memory is taken, so nothing else may come.
 abbrev pub Gives : {X Y : Type 0} → (X → Y) → Result X DerError → Result Y DerError → Type 0
-Gives view (Ok x) read = read ≡ Ok (view x)
-Gives view (Err e) read = read ≡ Err e
+Gives view result read = read ≡ result_map_both view (λ e. e) result
 
 -- A length in one to four octets after the first, and what follows it. One that fewer octets hold is refused at the
 -- octet that shows it.

@@ -1,6 +1,6 @@
 -- How often an object identifier stands, by what a look-up finds; lists of extensions, and of anchors, that grow.
 use Rattle.std.proofs.Common.{◌≡◌, ℕ, ◌+◌, ◌<◌, ◌≤◌, Bool, true, false, cond, List, [], ◌∷◌, ◌++◌, length, take}
-use Rattle.std.proofs.Common.{get_or, ℤ, Option, Some, None, Err, refl, sym, ap, ◌∙◌, arith}
+use Rattle.std.proofs.Common.{get_or, ℤ, Option, Some, None, Result, Ok, Err, refl, sym, ap, ◌∙◌, arith}
 use Rattle.std.specs.Prelude.{nat_eq, slice_get, position}
 use Rattle.std.specs.List.{list_all}
 use Rattle.std.proofs.lemmas.Bool.{ne_eqb}
@@ -9,7 +9,8 @@ use Rattle.std.proofs.lemmas.List.Folds.{list_all_more, list_all_at}
 use Rattle.std.proofs.lemmas.Option.{slice_get_within, get_or_from_slice_get}
 use Rattle.sig_certificate.specs.declared.error.X509ReadError.{X509ReadError}
 use Rattle.sig_certificate.specs.declared.error.X509ReadError.TheVariants.{Der, OutOfMemory as NoMemory}
-use Rattle.sig_certificate.specs.Answers.{IsRefusedOnlyWithout}
+use Rattle.sig_base.specs.Answers.{ComesWhere}
+use Rattle.sig_base.proofs.ResultSteps.{ok_is}
 use Rattle.sig_certificate.specs.Certificate.{Extension, Cert, IsCertificate}
 use Rattle.sig_base.specs.declared.fault.PoolError.TheVariants.{Malformed}
 use Rattle.sig_x509.specs.Issuance.{Accepts, placed, is_issued, is_profiled, issuer_of, is_unconstrained, IsAnchor}
@@ -63,23 +64,28 @@ anchors_more ts us index t u c before after same lt there seen is grown are =
 
 -- ---- what was read is the only certificate of its text
 
-pub read_same : (c d : Cert) → Some d ≡ Some c → d ≡ c
-read_same c d same = ap (λ (o : Option Cert). option_or_else c o) same
-  where
-    option_or_else : Cert → Option Cert → Cert
-    option_or_else x None = x
-    option_or_else x (Some y) = y
+-- what reading a certificate returns, and that the bytes are none
+abbrev pub not_read : X509ReadError → Result Cert X509ReadError
+not_read e = Err e
 
-pub no_anchor : (c d : Cert) (b : Bool) → Some d ≡ Some c → b ≡ false → b ≡ is_unconstrained c
+abbrev pub IsNone : List ℕ → Type 0
+IsNone text = (c : Cert) → ¬ IsCertificate text c
+
+abbrev pub read : Cert → Result Cert X509ReadError
+read c = Ok c
+
+pub read_same : (c d : Cert) → read d ≡ read c → d ≡ c
+read_same c d same = ok_is d c same
+
+pub no_anchor : (c d : Cert) (b : Bool) → read d ≡ read c → b ≡ false → b ≡ is_unconstrained c
     → is_unconstrained d ≡ true → ⊥
 no_anchor c d b same answer is un =
     let wrong : true ≡ false = sym un ∙ ap (λ (x : Cert). is_unconstrained x) (read_same c d same) ∙ sym is ∙ answer in
     absurd cc
 
-pub der_only : (text : List ℕ) (e : X509ReadError) → e ≡ Der → IsRefusedOnlyWithout text e → (d : Cert)
-    → IsCertificate text d → ⊥
-der_only text Der is none = none
-der_only text NoMemory is none = absurd cc
+pub der_only : (text : List ℕ) (e : X509ReadError) → e ≡ Der → ComesWhere NoMemory (not_read e) (not_read Der) (IsNone text)
+    → (d : Cert) → IsCertificate text d → ⊥
+der_only text e is comes = comes.0 (ap not_read is)
 
 -- ---- the issuer
 

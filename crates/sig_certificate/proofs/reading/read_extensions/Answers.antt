@@ -1,4 +1,4 @@
-use Rattle.std.proofs.Common.{◌≡◌, ℕ, ◌<◌, ◌∷◌, [], List, length, map, sym, ap, subst, ◌∙◌, arith}
+use Rattle.std.proofs.Common.{inr, Option, ◌≡◌, ℕ, ◌<◌, ◌∷◌, [], List, length, map, sym, ap, subst, ◌∙◌, arith}
 use Rattle.std.proofs.lemmas.Bool.{eqb-true, eqb-false}
 use Rattle.std.proofs.lemmas.List.{nil_from_length, map-append}
 use Rattle.std.proofs.lemmas.List.Elements.{All-push}
@@ -7,6 +7,8 @@ use Rattle.sig_base.proofs.OptionSteps.{some}
 use Rattle.sig_der.specs.Readers.{left}
 use Rattle.sig_der.proofs.Many.{goes_on, ends_list, fails_list}
 use Rattle.sig_certificate.specs.declared.extensions.ExtensionPlaces.{ExtensionPlaces}
+use Rattle.sig_certificate.specs.Answers.{or_der}
+use Rattle.sig_certificate.specs.Certificate.{Extension}
 use Rattle.sig_certificate.specs.Cutting.{extension_at}
 use Rattle.sig_certificate.specs.Places.{extension_of, extension_read, AreSpans}
 use Rattle.sig_certificate.proofs.ExtensionLaws.{extension_at_shrinks}
@@ -16,8 +18,9 @@ pub returns-in-None-clause-exact : goal.returns-in-None-clause-exact
 returns-in-None-clause-exact c =
     let rest = left c.loop-rest.rest in
     let more = eqb-false (length rest) 0 (sym c.is_done.ensures ∙ c.loop-rest-test.true) in
-    fails_list extension_at _ rest _
-    (λ none. more (ap (λ (w : List ℕ). length w) none)) c.in-None.ensures.cut c.loop-rest.invariant.all
+    inr (ap (λ (o : Option (List Extension)). or_der o)
+    (fails_list extension_at _ rest _
+    (λ none. more (ap (λ (w : List ℕ). length w) none)) c.in-None.ensures.cut c.loop-rest.invariant.all))
 
 pub loop-rest-preserved : goal.loop-rest-preserved
 loop-rest-preserved c =
@@ -54,6 +57,7 @@ loop-rest-preserved c =
 pub returns-clause-exact : goal.returns-clause-exact
 returns-clause-exact c =
     let rest = left c.loop-rest.rest in
-    ends_list extension_at (map (extension_of c.args.reader.bytes.now) c.loop-rest.found.items) rest _
+    ap (λ (o : Option (List Extension)). or_der o)
+    (ends_list extension_at (map (extension_of c.args.reader.bytes.now) c.loop-rest.found.items) rest _
     (nil_from_length rest (eqb-true (length rest) 0 (sym c.is_done.ensures ∙ c.loop-rest-test.false)))
-    c.loop-rest.invariant.all
+    c.loop-rest.invariant.all)

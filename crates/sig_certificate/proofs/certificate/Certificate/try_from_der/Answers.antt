@@ -1,10 +1,12 @@
-use Rattle.std.proofs.Common.{rules, ◌≡◌, List, ℕ, ℤ, map, length, Some, sym, ap, subst, arith}
+use Rattle.std.proofs.Common.{rules, ◌≡◌, ◌⊎◌, inl, inr, List, ℕ, ℤ, map, length, Option, Some, None, Result, Ok, Err}
+use Rattle.std.proofs.Common.{refl, sym, ap, subst, arith}
 use Rattle.sig_base.proofs.OptionSteps.{some}
 use Rattle.sig_der.proofs.Bytes.{IsBytes}
 use Rattle.sig_certificate.specs.declared.error.X509ReadError.{X509ReadError}
 use Rattle.sig_certificate.specs.declared.error.X509ReadError.TheVariants.{Der, OutOfMemory}
-use Rattle.sig_certificate.specs.Answers.{Refuses, IsRefusedOnlyWithout}
-use Rattle.sig_certificate.specs.Certificate.{Cert, IsCertificate}
+use Rattle.sig_certificate.specs.Answers.{or_der}
+use Rattle.sig_base.proofs.ResultSteps.{ok_is}
+use Rattle.sig_certificate.specs.Certificate.{Extension, Cert, IsCertificate}
 use Rattle.sig_certificate.specs.declared.parts.Places.{Places}
 use Rattle.sig_certificate.specs.declared.extensions.ExtensionPlaces.{ExtensionPlaces}
 use Rattle.std.specs.List.{All}
@@ -21,32 +23,71 @@ pub returns-in_default-clause-only : goal.returns-in_default-clause-only
 returns-in_default-clause-only c = λ d is. absurd (no_parts c.args.der.now c.in_default.ensures.only d is)
 
 pub returns-in_default-clause-refused : goal.returns-in_default-clause-refused
-returns-in_default-clause-refused c = no_parts c.args.der.now c.in_default.ensures.only
+returns-in_default-clause-refused c = (λ e. no_parts c.args.der.now c.in_default.ensures.only, λ none. inr refl)
 
--- what a refused list says of the certificates
+abbrev ok : Cert → Result Cert X509ReadError
+ok c = Ok c
+
+abbrev err : X509ReadError → Result Cert X509ReadError
+err e = Err e
+
+-- what an error says of the bytes: memory ran out, or they are no certificate
+abbrev Says : List ℕ → X509ReadError → Type 0
+Says text e = (e ≡ OutOfMemory) ⊎ ((c : Cert) → IsCertificate text c → ⊥)
+
+none_read : (o : Option (List Extension)) (e : X509ReadError) → or_der o ≡ Err e → o ≡ None
+none_read (Some es) e is = absurd cc
+none_read None e is = refl
+
 refused : (text : List ℕ) (p : Parts) (a b : ℤ) → IsCutAs text p a b → (e : X509ReadError)
-    → Refuses e (many_at extension_at p.list) → IsRefusedOnlyWithout text e
-refused text p a b cut Der none = no_list text p a b cut none
-refused text p a b cut OutOfMemory free = tt
+    → (e ≡ OutOfMemory) ⊎ (or_der (many_at extension_at p.list) ≡ Err e) → Says text e
+refused text p a b cut e h =
+    elim h [
+      | inl memory ↦ inl memory
+      | inr der ↦ inr (no_list text p a b cut (none_read _ e der))
+    ]
 
-only_so : (text : List ℕ) (e : X509ReadError) → IsRefusedOnlyWithout text e → (c : Cert) → IsCertificate text c
-    → Refuses e (some c)
-only_so text Der none c is = absurd (none c is)
-only_so text OutOfMemory none c is = tt
+only_so : (text : List ℕ) (e : X509ReadError) → Says text e → (c : Cert) → IsCertificate text c
+    → (e ≡ OutOfMemory) ⊎ (ok c ≡ Err e)
+only_so text e h c is =
+    elim h [
+      | inl memory ↦ inl memory
+      | inr none ↦ absurd (none c is)
+    ]
+
+der_so : (text : List ℕ) (e : X509ReadError) → Says text e → err e ≡ err Der → (c : Cert) → IsCertificate text c → ⊥
+der_so text e h is =
+    elim h [
+      | inl memory ↦ absurd cc
+      | inr none ↦ none
+    ]
+
+either_error : (e : X509ReadError) → (err e ≡ err OutOfMemory) ⊎ (err e ≡ err Der)
+either_error Der = inr refl
+either_error OutOfMemory = inl refl
 
 pub returns-in-Err-clause-refused : goal.returns-in-Err-clause-refused
 returns-in-Err-clause-refused c =
-    let d = c.in-Some.dated in
-    refused c.args.der.now (parts_of c.args.der.now d.places) d.not_before d.not_after c.in-Some.ensures.only
-    c.in-Err.e c.in-Err.ensures.exact
+    let d = c.in-Some.dated in (
+      der_so c.args.der.now c.in-Err.e
+          (refused c.args.der.now (parts_of c.args.der.now d.places) d.not_before d.not_after c.in-Some.ensures.only
+          c.in-Err.e
+          c.in-Err.ensures.exact),
+      λ none. either_error c.in-Err.e,
+    )
 
 pub returns-in-Err-clause-only : goal.returns-in-Err-clause-only
-returns-in-Err-clause-only c = λ r is.
+returns-in-Err-clause-only c =
     let d = c.in-Some.dated in
     only_so c.args.der.now c.in-Err.e
     (refused c.args.der.now (parts_of c.args.der.now d.places) d.not_before d.not_after c.in-Some.ensures.only
-    c.in-Err.e c.in-Err.ensures.exact)
-    r is
+    c.in-Err.e
+    c.in-Err.ensures.exact)
+
+-- what is read is some list
+read_some : (o : Option (List Extension)) (es : List Extension) → or_der o ≡ Ok es → o ≡ Some es
+read_some (Some fs) es e = ap (λ (w : List Extension). some w) (ok_is fs es e)
+read_some None es e = absurd cc
 
 -- the certificate that is answered
 is_read : (text : List ℕ) (p : Places) (a b x y : ℤ) (es : List ExtensionPlaces) (items : List ℕ) → IsBytes text
@@ -83,7 +124,7 @@ returns-in_ok-from_slice-in-Ok-clause-found c =
     is_read c.args.der.now d.places d.not_before d.not_after _ _ c.in-Ok.extensions.places.items
     c.in_ok-from_slice-in-Ok.field-0.items
     (λ i. omega (arith, c.type_inv.der i)) c.in_ok-from_slice-in-Ok.ensures.items (search rules)
-    (search rules) c.in-Some.ensures.found c.in-Ok.ensures.exact
+    (search rules) c.in-Some.ensures.found (read_some _ _ c.in-Ok.ensures.exact)
 
 pub invariant_of-result : goal.invariant_of-result
 invariant_of-result c =
@@ -94,14 +135,18 @@ invariant_of-result c =
     (is_read c.args.der.now d.places d.not_before d.not_after _ _ c.in-Ok.extensions.places.items
     c.in_ok-from_slice-in-Ok.field-0.items
     (λ i. omega (arith, c.type_inv.der i)) c.in_ok-from_slice-in-Ok.ensures.items (search rules)
-    (search rules) c.in-Some.ensures.found c.in-Ok.ensures.exact)
+    (search rules) c.in-Some.ensures.found (read_some _ _ c.in-Ok.ensures.exact))
     c.in-Ok.ensures.recorded
 
 pub returns-in_ok-from_slice-in-Ok-clause-only : goal.returns-in_ok-from_slice-in-Ok-clause-only
 returns-in_ok-from_slice-in-Ok-clause-only c = λ r is.
     let d = c.in-Some.dated in
-    ap (λ (w : Cert). some w)
+    ap (λ (w : Cert). ok w)
     (read_only c.args.der.now d.places d.not_before d.not_after _ _ c.in-Ok.extensions.places.items
     c.in_ok-from_slice-in-Ok.field-0.items
     c.in_ok-from_slice-in-Ok.ensures.items (search rules)
-    (search rules) c.in-Some.ensures.only c.in-Ok.ensures.exact r is)
+    (search rules) c.in-Some.ensures.only (read_some _ _ c.in-Ok.ensures.exact) r is)
+
+pub returns-in_ok-from_slice-in-Ok-clause-refused : goal.returns-in_ok-from_slice-in-Ok-clause-refused
+returns-in_ok-from_slice-in-Ok-clause-refused c =
+    (λ e. absurd cc, λ none. absurd (none _ (returns-in_ok-from_slice-in-Ok-clause-found c)))
