@@ -1,7 +1,8 @@
 -- A table accepts a signature if and only if it has its row.
-use Rattle.std.proofs.Common.{◌≡◌, ◌↔◌, ℕ, ◌==◌, Bool, true, false, cond, ◌&&◌, List, get_or, refl, sym, subst, ◌∙◌, ap, nat_eq, arith}
+use Rattle.std.proofs.Common.{◌≡◌, ◌↔◌, ℕ, ◌==◌, Bool, true, false, cond, ◌&&◌, List, get_or, refl, sym, subst, ◌∙◌}
+use Rattle.std.proofs.Common.{ap, nat_eq, arith}
 use Rattle.std.specs.Prelude.{Any, Contains}
-use Rattle.std.proofs.lemmas.Bool.{eqb-true}
+use Rattle.std.proofs.lemmas.Bool.{and_parts, eqb-true}
 use Rattle.std.proofs.lemmas.List.Folds.{Any-from_list_any, list_any-from_Any}
 use Rattle.std.proofs.lemmas.Slice.Eq.{bytes_eq-Decides}
 use Rattle.sig_base.specs.declared.checker.Operation.{Operation}
@@ -22,10 +23,6 @@ operation_at-code Certificate = refl
 pub same_operation : (a b : Operation) → operation_code a ≡ operation_code b → a ≡ b
 same_operation a b e = sym (operation_at-code a) ∙ ap operation_at e ∙ operation_at-code b
 
-both : (a b : Bool) → (a && b) ≡ true → (a ≡ true) × (b ≡ true)
-both true b e = (refl, e)
-both false b e = cc
-
 abbrev pub row_with : Operation → List ℕ → List ℕ → List ℕ → List ℕ → AcceptedRow
 row_with operation scheme key message signature =
     record { operation = operation; scheme = scheme; key = key; message = message; signature = signature }
@@ -34,11 +31,12 @@ row_with operation scheme key message signature =
 matches-row : (operation : Operation) (scheme key message signature : List ℕ) (row : AcceptedRow)
     → matches operation scheme key message signature row ≡ true → row ≡ row_with operation scheme key message signature
 matches-row operation scheme key message signature row e =
-    let a = both _ _ e in
-    let b = both _ _ a.1 in
-    let c = both _ _ b.1 in
-    let d = both _ _ c.1 in
-    ap (λ o. row_with o row.scheme row.key row.message row.signature) (same_operation row.operation operation (eqb-true _ _ a.0))
+    let a = and_parts _ _ e in
+    let b = and_parts _ _ a.1 in
+    let c = and_parts _ _ b.1 in
+    let d = and_parts _ _ c.1 in
+    ap (λ o. row_with o row.scheme row.key row.message row.signature)
+    (same_operation row.operation operation (eqb-true _ _ a.0))
     ∙ ap (λ s. row_with operation s row.key row.message row.signature) ((bytes_eq-Decides row.scheme scheme).0 b.0)
     ∙ ap (λ k. row_with operation scheme k row.message row.signature) ((bytes_eq-Decides row.key key).0 c.0)
     ∙ ap (λ m. row_with operation scheme key m row.signature) ((bytes_eq-Decides row.message message).0 d.0)
@@ -56,7 +54,13 @@ row-matches operation scheme key message signature =
 
 pub accepted-rows : (rows : List AcceptedRow) (operation : Operation) (scheme key message signature : List ℕ)
     → (accepted rows operation scheme key message signature ≡ true)
-    ↔ Contains rows (record { operation = operation; scheme = scheme; key = key; message = message; signature = signature })
+    ↔ Contains rows (record {
+      operation = operation;
+      scheme = scheme;
+      key = key;
+      message = message;
+      signature = signature;
+    })
 accepted-rows rows operation scheme key message signature =
     let test : AcceptedRow → Bool = matches operation scheme key message signature in
     let row = row_with operation scheme key message signature in (
@@ -64,7 +68,14 @@ accepted-rows rows operation scheme key message signature =
           let same : some.1 ≡ row = matches-row operation scheme key message signature some.1 some.4 in
           let P : AcceptedRow → Type 0 = λ x. get_or rows some.0 x ≡ x in
           (some.0, some.2, subst P same some.3),
-      λ held. list_any-from_Any test rows (held.0, row, held.1, held.2, row-matches operation scheme key message signature),
+      λ held. list_any-from_Any test rows (
+        held.0,
+        row,
+        held.1,
+        held.2,
+        row-matches operation scheme key message
+            signature,
+      ),
     )
 
 module _ (a b : Bool) (P : Type 0) where

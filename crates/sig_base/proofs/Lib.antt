@@ -7,3 +7,4 @@ pub mod Ascending
 pub mod OptionSteps
 pub mod ResultSteps
 pub mod TextEntries
+pub mod Decisions

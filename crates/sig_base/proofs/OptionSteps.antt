@@ -9,7 +9,8 @@ pub some_is : {A : Type 0} (x y : A) → some x ≡ some y → x ≡ y
 some_is x y e = cc
 
 -- both steps found something
-pub bind_is : {A B : Type 0} (o : Option A) (f : A → Option B) (y : B) → (o >>= f) ≡ Some y → (x : A) × (o ≡ Some x) × (f x ≡ Some y)
+pub bind_is : {A B : Type 0} (o : Option A) (f : A → Option B) (y : B) → (o >>= f) ≡ Some y
+    → (x : A) × (o ≡ Some x) × (f x ≡ Some y)
 bind_is (Some x) f y e = (x, refl, e)
 bind_is None f y e = absurd cc
 

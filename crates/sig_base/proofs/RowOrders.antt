@@ -1,5 +1,6 @@
 -- The order of rows is total, and rows that tie are equal; what is found by it is what the table holds.
-use Rattle.std.proofs.Common.{◌≡◌, ◌≢◌, ◌↔◌, ℕ, ◌+◌, ◌<◌, List, [], ◌∷◌, ◌++◌, length, get_or, Bool, true, Option, None, Some, Result, Ok, Err, refl, sym, ap, subst, ◌∙◌, arith, slice_get, ⊎_elim}
+use Rattle.std.proofs.Common.{◌≡◌, ◌≢◌, ◌↔◌, ℕ, ◌+◌, ◌<◌, List, [], ◌∷◌, ◌++◌, length, get_or, Bool, true, Option}
+use Rattle.std.proofs.Common.{None, Some, Result, Ok, Err, refl, sym, ap, subst, ◌∙◌, arith, slice_get, ⊎_elim}
 use borrow.Author.Count.{below_more}
 use Rattle.std.specs.Prelude.{Contains, is_ok}
 use Rattle.std.specs.declared.cmp.Ordering.{Ordering}
@@ -34,7 +35,8 @@ last_held : (n : ℕ) → Contains (n ∷ []) n
 last_held n = (0, omega arith, refl)
 
 -- one index more
-pub covers_more : (n : ℕ) (xs ys : List ℕ) → ys ≡ xs ++ n ∷ [] → ((k : ℕ) → k < n → Contains xs k) → (k : ℕ) → k < n + 1 → Contains ys k
+pub covers_more : (n : ℕ) (xs ys : List ℕ) → ys ≡ xs ++ n ∷ [] → ((k : ℕ) → k < n → Contains xs k) → (k : ℕ)
+    → k < n + 1 → Contains ys k
 covers_more n xs ys e before k below =
     subst (λ l. Contains l k) (sym e)
     (below_more (λ m. Contains (xs ++ n ∷ []) m) n
@@ -49,11 +51,13 @@ same_row a b e =
     let k = both_tie _ _ m.0 in
     let s = both_tie _ _ k.0 in
     let o = both_tie _ _ s.0 in
-    ap (λ operation. row_with operation a.scheme a.key a.message a.signature) (same_operation a.operation b.operation (exact_unsigned _ _ o.1))
+    ap (λ operation. row_with operation a.scheme a.key a.message a.signature)
+    (same_operation a.operation b.operation (exact_unsigned _ _ o.1))
     ∙ ap (λ scheme. row_with b.operation scheme a.key a.message a.signature) (exact_bytes a.scheme b.scheme s.1)
     ∙ ap (λ key. row_with b.operation b.scheme key a.message a.signature) (exact_bytes a.key b.key k.1)
     ∙ ap (λ message. row_with b.operation b.scheme b.key message a.signature) (exact_bytes a.message b.message m.1)
-    ∙ ap (λ signature. row_with b.operation b.scheme b.key b.message signature) (exact_bytes a.signature b.signature o.0)
+    ∙ ap (λ signature. row_with b.operation b.scheme b.key b.message signature)
+    (exact_bytes a.signature b.signature o.0)
 
 module _ (rows : List AcceptedRow) (row : AcceptedRow) where
   -- what the search asks of each index
@@ -68,7 +72,8 @@ module _ (rows : List AcceptedRow) (row : AcceptedRow) where
   at_row index e = rw e (tied_itself row_order_total row)
 
   -- the search finds an index if and only if the row is there
-  pub finds_row : (order : List ℕ) (result : Result ℕ ℕ) → IsOrderOf rows order → IsBinarySearchResult sought order result
+  pub finds_row : (order : List ℕ) (result : Result ℕ ℕ) → IsOrderOf rows order
+      → IsBinarySearchResult sought order result
       → (is_ok result ≡ true) ↔ Contains rows row
   finds_row order (Ok place) of found = (
     λ _.
@@ -82,8 +87,10 @@ module _ (rows : List AcceptedRow) (row : AcceptedRow) where
     λ held.
         let at : slice_get rows held.0 ≡ Some row = slice_get-get_or rows held.0 row held.1 ∙ ap Some held.2 in
         let place_of = of.covers held.0 held.1 in
-        let tied : sought (get_or order place_of.0 held.0) ≡ Equal = subst (λ index. sought index ≡ Equal) (sym place_of.2) (at_row held.0 at) in
-        let rises = searchable_from_sorted (options_total row_order_total) (λ index. slice_get rows index) order (Some row) of.ascends in
+        let tied : sought (get_or order place_of.0 held.0) ≡ Equal =
+        subst (λ index. sought index ≡ Equal) (sym place_of.2) (at_row held.0 at) in
+        let rises = searchable_from_sorted (options_total row_order_total) (λ index. slice_get rows index) order
+        (Some row) of.ascends in
         let parts = found rises in
         ⊎_elim
         (λ before. let less = parts.0 place_of.0 held.0 (omega arith) before in absurd (cc (less, tied)))

@@ -1,7 +1,9 @@
 -- A text that the reader of names refuses is the name of no scheme.
 use Rattle.std.proofs.Common.{◌≡◌, ◌≢◌, ℕ, List, None, sym, subst}
 use Rattle.sig_base.specs.declared.scheme.VerifyScheme.{VerifyScheme}
-use Rattle.sig_base.specs.declared.scheme.VerifyScheme.TheVariants.{RSA_PSS_SHA256, RSA_PKCS1_SHA256, ECDSA_P256_SHA256_ASN1, ECDSA_P384_SHA384_ASN1, ECDSA_P521_SHA512_ASN1, ED25519}
+use Rattle.sig_base.specs.declared.scheme.VerifyScheme.TheVariants.{RSA_PSS_SHA256, RSA_PKCS1_SHA256}
+use Rattle.sig_base.specs.declared.scheme.VerifyScheme.TheVariants.{ECDSA_P256_SHA256_ASN1, ECDSA_P384_SHA384_ASN1}
+use Rattle.sig_base.specs.declared.scheme.VerifyScheme.TheVariants.{ECDSA_P521_SHA512_ASN1, ED25519}
 use Rattle.sig_base.specs.Scheme.{name_of, scheme_named}
 
 -- a name is read

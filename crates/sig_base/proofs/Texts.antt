@@ -29,8 +29,10 @@ module _ {V : Type 0} where
   text_put-entries [] k v = refl
   text_put-entries (e ∷ es) k v =
       elim (slice_cmp nat_cmp (string_bytes k) (string_bytes e.0)) as (λ o.
-      text_entries (match_ordering o ((k, v) ∷ e ∷ es) ((e.0, v) ∷ es) (e ∷ insert_entry (λ a b. slice_cmp nat_cmp (string_bytes a) (string_bytes b)) es k v))
-      ≡ match_ordering o ((string_bytes k, v) ∷ text_entries (e ∷ es)) ((string_bytes e.0, v) ∷ text_entries es) ((string_bytes e.0, e.1) ∷ text_put (string_bytes k) v (text_entries es)))
+      text_entries (match_ordering o ((k, v) ∷ e ∷ es) ((e.0, v) ∷ es)
+      (e ∷ insert_entry (λ a b. slice_cmp nat_cmp (string_bytes a) (string_bytes b)) es k v))
+      ≡ match_ordering o ((string_bytes k, v) ∷ text_entries (e ∷ es)) ((string_bytes e.0, v) ∷ text_entries es)
+      ((string_bytes e.0, e.1) ∷ text_put (string_bytes k) v (text_entries es)))
       [ Less ↦ refl | Equal ↦ refl | Greater ↦ ap (λ r. (string_bytes e.0, e.1) ∷ r) (text_put-entries es k v) ]
 
   below_all : (text : List ℕ) (es : List (String Global × V))

@@ -17,7 +17,7 @@ module _ {V : Type 0} where
   text_lookup text [] = None
   text_lookup text (e ∷ es) = if bytes_eq text e.0 then Some e.1 else text_lookup text es
 
-  -- the entries with this value for the text: in place of its old value, or as a new entry at its place in the order
+  -- the entries with this value for the text: in place of its old value, or as a new entry at its index in the order
   abbrev pub text_put : List ℕ → V → List (List ℕ × V) → List (List ℕ × V)
   text_put text value entries = insert_entry (slice_cmp nat_cmp) entries text value
 

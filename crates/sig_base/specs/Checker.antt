@@ -16,7 +16,8 @@ operation_code Certificate = 3
 abbrev pub matches : Operation → List ℕ → List ℕ → List ℕ → List ℕ → AcceptedRow → Bool
 matches operation scheme key message signature row =
     nat_eq (operation_code row.operation) (operation_code operation)
-    && (bytes_eq row.scheme scheme && (bytes_eq row.key key && (bytes_eq row.message message && bytes_eq row.signature signature)))
+    && (bytes_eq row.scheme scheme && (bytes_eq row.key key &&
+    (bytes_eq row.message message && bytes_eq row.signature signature)))
 
 -- some row equals all five parts
 abbrev pub accepted : List AcceptedRow → Operation → List ℕ → List ℕ → List ℕ → List ℕ → Bool

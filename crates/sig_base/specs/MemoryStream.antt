@@ -1,8 +1,8 @@
 -- What a source and a sink over memory are.
 use Rattle.std.specs.Prelude.{ℕ, ◌+◌, ◌-◌, ◌^◌, min, List, ◌<◌, Contains}
 
--- a source over memory: the bytes that are left; the greatest count of one call; the numbers of the calls that fail; how many calls there
--- were so far, and how many of them failed
+-- a source over memory: the bytes that are left; the greatest count of one call; the numbers of the calls that fail;
+-- how many calls there were so far, and how many of them failed
 pub record Supply : Type 0 where
   pub left : List ℕ
   pub piece : ℕ

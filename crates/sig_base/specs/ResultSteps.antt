@@ -1,4 +1,4 @@
--- Steps one after another, for `do`: the first that refuses ends them.
+-- Steps one after another, for `do`: the first that fails ends them.
 use Rattle.std.specs.Prelude.{Result, Ok, Err}
 
 infixl 10 ◌>>=◌

@@ -1,6 +1,7 @@
--- What a source gives and a sink takes, and what a fault of either rests on. A source means the bytes that it has left, a sink those that
--- it took so far, where they are told; and each a count of faults.
-use Rattle.std.specs.Prelude.{◌≡◌, ℕ, ◌+◌, ◌-◌, ◌^◌, ◌<◌, ◌≤◌, min, List, [], ◌∷◌, ◌++◌, length, drop, ⊤, Option, None, Some, Result, IfOk, OnErr}
+-- What a source gives and a sink takes, and what a fault of either rests on. A source means the bytes that it has
+-- left, a sink those that it took so far, where they are told; and each a count of faults.
+use Rattle.std.specs.Prelude.{◌≡◌, ℕ, ◌+◌, ◌-◌, ◌^◌, ◌<◌, ◌≤◌, min, List, [], ◌∷◌, ◌++◌, length, drop, ⊤, Option, None}
+use Rattle.std.specs.Prelude.{Some, Result, IfOk, OnErr}
 use Rattle.std.specs.Io.KnownBytes.{Consumes, Appends, IsAtEnd}
 
 -- the count of faults rose, or stood at its greatest value
@@ -30,7 +31,8 @@ pub record HandsOver (old new : Option (List ℕ)) (bytes : List ℕ) : Type 0 w
 abbrev pub TookCount : Option (List ℕ) → Option (List ℕ) → ℕ → Type 0
 TookCount old new count = (bytes : List ℕ) × Consumes old new bytes × (length bytes ≡ count)
 
--- the bytes that were taken are all that were left, or, where those are more, the first n of them: then the others are still left
+-- the bytes that were taken are all that were left, or, where those are more, the first n of them: then the others are
+-- still left
 abbrev pub TakesUpTo : ℕ → Option (List ℕ) → Option (List ℕ) → List ℕ → Type 0
 TakesUpTo n None new bytes = ⊤
 TakesUpTo n (Some all) new bytes = (bytes ≡ all) × (new ≡ Some (drop n all))

@@ -11,8 +11,8 @@ use base64::engine::general_purpose::STANDARD;
 use std::alloc::Global;
 
 impl Bytes {
-    /// The bytes that a base64 text stands for; none where it is no such text: other letters, line ends, padding that is missing or too much,
-    /// stray bits. The empty text stands for no bytes. Refuses for want of memory alone.
+    /// Returns the bytes of a base64 text, or `None` if it is none: other letters, line ends, padding that is missing
+    /// or too much, stray bits. The empty text is that of no bytes. Fails if out of memory alone.
     #[tactic(auto, unfolding(crate::specs::Base64::base64_bytes))]
     pub fn of_base64(alloc: Global, text: &[u8]) -> Result<Option<Bytes>, OutOfMemory>
         ensures { IfOk result (λ found. found ≡ base64_bytes text.now) }
@@ -26,7 +26,7 @@ impl Bytes {
 }
 
 impl Text {
-    /// Bytes in base64. Refuses for want of memory alone.
+    /// Returns bytes in base64. Fails if out of memory alone.
     #[tactic(auto, unfolding(crate::specs::Base64::base64_text, crate::specs::Base64::base64_bytes))]
     pub fn in_base64(alloc: Global, bytes: &[u8]) -> Result<Text, OutOfMemory>
         ensures text { IfOk result (λ text. text ≡ base64_text bytes.now) }

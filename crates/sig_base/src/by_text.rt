@@ -59,8 +59,8 @@ impl<V> ByText<V> {
         self.entries.get(key)
     }
 
-    /// The entry at a place of the byte order, counted from 0; none where the place is not below the length. It walks to the place, so
-    /// go over a whole map by `iter`.
+    /// Returns the entry at an index of the byte order, or `None` if the index is not below the length. It walks to
+    /// the index, so go over a whole map by `iter`.
     pub fn at(&self, place: usize) -> Option<(&str, &V)>
         ensures entry { option_map deref_pair result ≡ slice_get self.now place }
         ensures ordered { KeysAscend self.now }
@@ -81,7 +81,8 @@ impl<V> ByText<V> {
 }
 
 impl<V: Drop> ByText<V> {
-    /// Gives a text this value, in place of the one that it may have. Refuses for want of memory alone; the map is then as before.
+    /// Gives a text this value, in place of the one that it may have. Fails if out of memory alone; the map is then
+    /// unchanged.
     #[tactic(auto, using(crate::proofs::Texts::text_maps))]
     pub fn insert(&mut self, key: &str, value: V) -> Result<(), OutOfMemory>
         ensures ok { OnOk result (self.new ≡ text_put key.now value self.old) }

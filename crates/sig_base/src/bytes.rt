@@ -20,7 +20,7 @@ impl Model for Bytes {
 }
 
 impl Bytes {
-    /// A copy of these bytes. Refuses for want of memory alone.
+    /// Returns a copy of these bytes. Fails if out of memory alone.
     pub fn copy_of(alloc: Global, bytes: &[u8]) -> Result<Bytes, OutOfMemory>
         ensures { IfOk result (λ b. b ≡ bytes.now) }
     {
@@ -35,7 +35,7 @@ impl Bytes {
         self.held.as_slice()
     }
 
-    /// The same bytes in memory of their own. Refuses for want of memory alone.
+    /// Returns the same bytes in memory of their own. Fails if out of memory alone.
     pub fn copy(&self, alloc: Global) -> Result<Bytes, OutOfMemory>
         ensures { IfOk result (λ b. b ≡ self.now) }
     {

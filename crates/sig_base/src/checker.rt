@@ -1,4 +1,5 @@
-//! Who says whether a signature is genuine: a [`SignatureChecker`]; the one of this program is a table of accepted rows.
+//! Who says whether a signature is genuine: a [`SignatureChecker`]; the one of this program is a table of accepted
+//! rows.
 ghost use Rattle.std.specs.Prelude.{◌≡◌, ◌↔◌, Bool, List, ℕ, [], ◌∷◌, ◌++◌, IfOk, OnOk, OnErr, IsTrue, Contains};
 ghost use Rattle.sig_base.specs.declared.scheme.VerifyScheme.{VerifyScheme as scheme_type};
 
@@ -10,26 +11,27 @@ use crate::scheme::VerifyScheme;
 use std::alloc::Global;
 use std::marker::Model;
 
-/// Decides whether signatures are genuine. Each call returns exactly its predicate of the listed bytes: a checker has no faults.
+/// Decides whether signatures are genuine. Each call returns exactly its predicate of the listed bytes: a checker has
+/// no faults.
 /// What this project proves is relative to these four predicates.
 ///
-/// A checker is asked for each different signature of a signed note until it accepts one, with the whole text of the note
-/// as message. One that hashes the message in each call hashes signatures times text: keep the digest of the last
+/// A checker is asked for each different signature of a signed note until it accepts one, with the whole text of the
+/// note as message. One that hashes the message in each call hashes signatures times text: keep the digest of the last
 /// message, or check the lengths of signatures first.
 pub trait SignatureChecker {
-    /// The signatures over messages that are genuine under a scheme and a key info (DER).
+    /// The signatures over messages that are genuine under a scheme and an SPKI (DER).
     ghost spki_accepts: { Self → scheme_type → List ℕ → List ℕ → List ℕ → Bool };
 
-    /// The signatures over digests that are genuine under a scheme and a key info (DER).
+    /// The signatures over digests that are genuine under a scheme and an SPKI (DER).
     ghost prehash_accepts: { Self → scheme_type → List ℕ → List ℕ → List ℕ → Bool };
 
     /// The signatures over messages that are genuine under a point of P-256.
     ghost point_accepts: { Self → List ℕ → List ℕ → List ℕ → Bool };
 
-    /// The signatures over certificates' bodies that are genuine under a key info and an algorithm (both DER).
+    /// The signatures over TBSCertificates that are genuine under an SPKI and an algorithm (both DER).
     ghost cert_accepts: { Self → List ℕ → List ℕ → List ℕ → List ℕ → Bool };
 
-    /// Whether `signature` over `message` is genuine under `scheme` and the key info `spki` (DER).
+    /// Whether `signature` over `message` is genuine under `scheme` and the SPKI `spki` (DER).
     fn verify_spki(
         &self,
         scheme: VerifyScheme,
@@ -39,7 +41,7 @@ pub trait SignatureChecker {
     ) -> bool
         ensures { result ≡ spki_accepts self.now scheme spki.now message.now signature.now };
 
-    /// Whether `signature` over the message of this `digest` is genuine under `scheme` and the key info `spki` (DER).
+    /// Whether `signature` over the message of this `digest` is genuine under `scheme` and the SPKI `spki` (DER).
     fn verify_spki_prehash(
         &self,
         scheme: VerifyScheme,
@@ -53,7 +55,8 @@ pub trait SignatureChecker {
     fn verify_p256_point(&self, point: &[u8], message: &[u8], signature: &[u8]) -> bool
         ensures { result ≡ point_accepts self.now point.now message.now signature.now };
 
-    /// Whether `signature` over the certificate body `tbs` is genuine under the issuer's key info and the `algorithm` (all DER).
+    /// Whether `signature` over the TBSCertificate `tbs` is genuine under the issuer's SPKI and the `algorithm` (all
+    /// DER).
     fn verify_cert_signature(
         &self,
         issuer_spki: &[u8],
@@ -67,26 +70,26 @@ pub trait SignatureChecker {
 /// The four questions that a checker is asked.
 #[derive(Clone, Copy, PartialEq, Eq)]
 pub enum Operation {
-    /// A signature over a message, under a scheme and a key info.
+    /// A signature over a message, under a scheme and an SPKI.
     Message,
-    /// A signature over a digest, under a scheme and a key info.
+    /// A signature over a digest, under a scheme and an SPKI.
     Prehash,
     /// A signature over a message, under a point of P-256.
     Point,
-    /// A signature over a certificate's body, under an algorithm element.
+    /// A signature over a TBSCertificate, under an algorithm element.
     Certificate,
 }
 
 /// One signature that is taken for genuine.
 #[derive(Drop)]
 pub struct AcceptedRow {
-    /// The question that the row answers.
+    /// The question that the row is for.
     pub operation: Operation,
     /// The scheme's name; empty for a point; the algorithm element's DER for a certificate.
     pub scheme: Bytes,
-    /// The key info's DER; the point's bytes for a point; the issuer's key info's DER for a certificate.
+    /// The SPKI's DER; the point's bytes for a point; the issuer's SPKI's DER for a certificate.
     pub key: Bytes,
-    /// The message that is signed; its digest for a prehash; the body's DER for a certificate.
+    /// The message that is signed; its digest for a prehash; the TBSCertificate's DER for a certificate.
     pub message: Bytes,
     /// The signature's bytes.
     pub signature: Bytes,
@@ -136,8 +139,8 @@ impl TableChecker {
         Ok(TableChecker { rows, order })
     }
 
-    /// Adds a row at the end. It sorts the table anew, so make a table of many rows by `from_rows`. Fails if out of memory alone; the table is
-    /// then unchanged.
+    /// Adds a row at the end. It sorts the table anew, so make a table of many rows by `from_rows`. Fails if out of
+    /// memory alone; the table is then unchanged.
     pub fn push(&mut self, row: AcceptedRow) -> Result<(), OutOfMemory>
         ensures ok { OnOk result (self.new ≡ self.old ++ row ∷ []) }
         ensures err { OnErr result (self.new ≡ self.old) }
@@ -150,8 +153,8 @@ impl TableChecker {
         Ok(())
     }
 
-    /// Whether a row of the table equals all five parts. A binary search: it compares with about as many rows as the number of rows has binary
-    /// digits, and compares messages only with a row that equals all other parts.
+    /// Whether a row of the table equals all five parts. A binary search: it compares with about as many rows as the
+    /// number of rows has binary digits, and compares messages only with a row that equals all other parts.
     pub fn accepts(
         &self,
         operation: Operation,
@@ -190,13 +193,16 @@ impl SignatureChecker for TableChecker {
     ghost use Rattle.sig_base.specs.Scheme.{name_of};
     ghost use Rattle.sig_base.specs.declared.checker.Operation.TheVariants.{Message, Prehash, Point, Certificate};
 
-    ghost spki_accepts = { λ rows scheme spki message signature. accepted rows Message (name_of scheme) spki message signature };
+    ghost spki_accepts = { λ rows scheme spki message signature. accepted rows Message
+        (name_of scheme) spki message signature };
 
-    ghost prehash_accepts = { λ rows scheme spki digest signature. accepted rows Prehash (name_of scheme) spki digest signature };
+    ghost prehash_accepts = { λ rows scheme spki digest signature. accepted rows Prehash
+        (name_of scheme) spki digest signature };
 
     ghost point_accepts = { λ rows point message signature. accepted rows Point [] point message signature };
 
-    ghost cert_accepts = { λ rows issuer algorithm tbs signature. accepted rows Certificate algorithm issuer tbs signature };
+    ghost cert_accepts = { λ rows issuer algorithm tbs signature. accepted rows Certificate algorithm issuer tbs
+        signature };
 
     fn verify_spki(
         &self,

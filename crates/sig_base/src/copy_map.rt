@@ -17,8 +17,8 @@ pub type KeyMap = CopyMap<Bytes>;
 /// A map from texts to texts, as digests by their algorithms. It is filled from `&str` and returns `&str`.
 pub type TextMap = CopyMap<Text>;
 
-/// A map from texts to values that own a copy of what was borrowed. Contracts see the list of its entries, each text once, in byte order of the
-/// texts.
+/// A map from texts to values that own a copy of what was borrowed. Contracts see the list of its entries, each text
+/// once, in byte order of the texts.
 #[derive(Drop)]
 pub struct CopyMap<V> {
     alloc: Global,
@@ -54,7 +54,8 @@ impl<V> CopyMap<V> {
         self.entries.len()
     }
 
-    /// Gives a text a copy of this value, in place of the one that it may have. Fails if out of memory alone; the map is then unchanged.
+    /// Gives a text a copy of this value, in place of the one that it may have. Fails if out of memory alone; the map
+    /// is then unchanged.
     pub fn insert<'v>(&mut self, key: &str, value: V::Borrowed) -> Result<(), OutOfMemory>
     where
         V: Owned<'v>,
@@ -78,8 +79,8 @@ impl<V> CopyMap<V> {
         }
     }
 
-    /// Returns the entry at an index of the byte order, or `None` if the index is not below the length. It walks to its place: go over a whole
-    /// map by `iter`.
+    /// Returns the entry at an index of the byte order, or `None` if the index is not below the length. It walks to
+    /// that index: go over a whole map by `iter`.
     pub fn at<'a>(&'a self, place: usize) -> Option<(&'a str, V::Borrowed)>
     where
         V: Owned<'a>,

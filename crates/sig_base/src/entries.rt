@@ -40,7 +40,7 @@ impl Entries {
         Entries { alloc, items }
     }
 
-    /// Adds a copy of an entry at the end. Refuses for want of memory alone; the list is then as before.
+    /// Adds a copy of an entry at the end. Fails if out of memory alone; the list is then unchanged.
     pub fn push(&mut self, entry: &[u8]) -> Result<(), OutOfMemory>
         ensures ok { OnOk result (self.new ≡ self.old ++ entry.now ∷ []) }
         ensures err { OnErr result (self.new ≡ self.old) }
@@ -56,7 +56,7 @@ impl Entries {
         self.items.len()
     }
 
-    /// The entry at a place, counted from 0; none where the place is not below the length.
+    /// Returns the entry at an index, or `None` if the index is not below the length.
     pub fn get(&self, place: usize) -> Option<&[u8]>
         ensures { option_map (λ e. e.now) result ≡ slice_get self.now place }
     {
@@ -73,7 +73,7 @@ impl Entries {
         self.items.as_slice()
     }
 
-    /// The same list in memory of its own. Refuses for want of memory alone.
+    /// Returns the same list in memory of its own. Fails if out of memory alone.
     pub fn copy(&self, alloc: Global) -> Result<Entries, OutOfMemory>
         ensures { IfOk result (λ e. e ≡ self.now) }
     {

@@ -1,4 +1,4 @@
-//! Equality of the types that own memory: two values are equal exactly where contracts see the same list.
+//! Equality of the types that own memory: two values are equal if and only if contracts see the same list.
 ghost use Rattle.std.specs.Prelude.{nat_eq};
 ghost use Rattle.std.specs.Cmp.{partial_equiv_from_equiv};
 ghost use Rattle.std.specs.Cmp.Lexicographic.{nat_list_eq_equiv, lists_per, lists_equiv, pointwise};

@@ -8,10 +8,10 @@ use std::alloc::{AllocError, AllocFailed};
 use std::error::Error;
 use std::fmt;
 
-/// What a call of this project answers that has the crate's error.
+/// The result of a call that fails with the crate's error.
 pub type Result<T> = std::result::Result<T, SigstoreError>;
 
-/// Why a call refuses. Each variant is one cause, and keeps places, seconds or faults and no sentences.
+/// Why a call fails. Each variant is one cause, and keeps indices, seconds or faults and no sentences.
 #[derive(Debug, Drop)]
 pub enum SigstoreError {
     /// A text is no padded standard base64.
@@ -24,11 +24,11 @@ pub enum SigstoreError {
     SerdeJsonError,
     /// A text is no signed checkpoint.
     ParseCheckpointError(CheckpointFault),
-    /// A key info is of a kind that is not supported.
+    /// A SubjectPublicKeyInfo is of a kind that is not supported.
     PublicKeyUnsupportedAlgorithmError,
-    /// The checker refuses a signature.
+    /// The checker does not accept a signature.
     PublicKeyVerificationError,
-    /// Bytes are no key info.
+    /// Bytes are no SubjectPublicKeyInfo.
     KeyParsingError,
     /// The checker accepts none of a checkpoint's signatures.
     CheckpointSignatureVerificationError,
@@ -52,7 +52,7 @@ pub enum SigstoreError {
     CertificateWithoutSubjectAlternativeName,
     /// The subject alternative name has neither an email nor a URI.
     CertificateWithIncompleteSubjectAlternativeName,
-    /// The pool of anchors refuses a certificate, or could not be made.
+    /// The pool of trust anchors rejects a certificate, or could not be made.
     CertificatePoolError(PoolError),
     /// A part of a certificate is malformed.
     CertificateParsingError,
@@ -60,7 +60,7 @@ pub enum SigstoreError {
     X509Error,
     /// A checkpoint and a proof, or two heads, do not agree.
     ConsistencyProofError(MerkleProofError),
-    /// An inclusion proof is refused.
+    /// The check of an inclusion proof fails.
     InclusionProofError(MerkleProofError),
     /// No key of a log has this id.
     RekorPublicKeyNotFoundError(Text),
@@ -84,7 +84,7 @@ pub enum SigstoreError {
     ApplyConstraintError(Text),
     /// Something is not as the call expects it.
     UnexpectedError(UnexpectedKind),
-    /// No memory could be had.
+    /// Out of memory.
     OutOfMemory,
 }
 

@@ -2,7 +2,7 @@
 use crate::memory::OutOfMemory;
 use thiserror::Error;
 
-/// Why bytes are no DER element, or no value of the wanted kind. No memory is taken where it comes from.
+/// Why bytes are no DER element, or no value of the wanted kind. Its reader takes no memory.
 #[derive(Clone, Copy, Debug, PartialEq, Eq, Error)]
 pub enum DerError {
     /// Bytes are missing.
@@ -63,7 +63,7 @@ pub enum CheckpointFault {
 /// Why a pool has no issuing anchor for a certificate, or could not be made.
 #[derive(Clone, Copy, Debug, PartialEq, Eq, Error)]
 pub enum PoolError {
-    /// The certificate at this place of the list is no anchor.
+    /// The certificate at this index of the list is no trust anchor.
     #[error("Anchor")]
     Anchor(usize),
     /// The leaf does not meet the certificate profile, or its bytes are no certificate.
@@ -72,7 +72,7 @@ pub enum PoolError {
     /// No anchor issued the leaf.
     #[error("VerificationFailed")]
     VerificationFailed,
-    /// No memory could be had.
+    /// Out of memory.
     #[error("OutOfMemory")]
     OutOfMemory,
 }

@@ -4,13 +4,15 @@ ghost use Rattle.base64.specs.GeneralPurpose.{IsBytes};
 ghost use Rattle.sig_base.specs.Base64.{base64_bytes, base64_text};
 ghost use Rattle.sig_base.specs.ByText.{text_lookup, text_put, KeysAscend};
 
-/// A text has bytes in base64 exactly where it is their one encoding (RFC 4648 section 4, with padding and without stray bits).
+/// A text has bytes in base64 if and only if it is their one encoding (RFC 4648 section 4, with padding and without
+/// stray bits).
 pub fn base64_texts()
-    ensures { (text bytes : List ℕ) → IsBytes text → IsBytes bytes → (base64_bytes text ≡ Some bytes) ↔ (text ≡ base64_text bytes) }
+    ensures { (text bytes : List ℕ) → IsBytes text → IsBytes bytes
+        → (base64_bytes text ≡ Some bytes) ↔ (text ≡ base64_text bytes) }
 {}
 
-/// Where the texts of the entries ascend in byte order, what is found at a text is the value of its entry, and nothing is found exactly where
-/// there is no entry of that text.
+/// Where the texts of the entries ascend in byte order, what is found at a text is the value of its entry, and nothing
+/// is found if and only if there is no entry of that text.
 pub fn entries_found<V>()
     ensures found { (text : List ℕ) (value : V) (entries : List (List ℕ × V)) → KeysAscend entries
         → (text_lookup text entries ≡ Some value) ↔ Contains entries (text, value) }
@@ -18,8 +20,8 @@ pub fn entries_found<V>()
         → (text_lookup text entries ≡ None) ↔ ((value : V) → Contains entries (text, value) → ⊥) }
 {}
 
-/// A value that is put at a text is the one that is found there, and what is found at each other text stays. Texts that ascend in byte order
-/// still do.
+/// A value that is put at a text is the one that is found there, and what is found at each other text stays. Texts
+/// that ascend in byte order still do.
 pub fn entries_put<V>()
     ensures found { (text : List ℕ) (value : V) (entries : List (List ℕ × V))
         → text_lookup text (text_put text value entries) ≡ Some value }

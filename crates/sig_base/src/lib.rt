@@ -1,8 +1,10 @@
-//! What every crate of the house stands on: bytes, texts and lists that own their memory, the errors, and the traits of the outside.
+//! What every crate of the house stands on: bytes, texts and lists that own their memory, the errors, and the traits
+//! of the outside.
 //!
-//! The layer above uses five facts. A register is the list of what was pushed, and a refused push changes nothing. A map from texts is the list
-//! of its entries in byte order, each text once. A text is base64 exactly where it is the one encoding of its bytes. A fault of a source or a sink
-//! comes only where its count of faults rose. A signature check is a predicate of the bytes that it is handed.
+//! The layer above uses five facts. A register is the list of what was pushed, and a push that fails changes nothing.
+//! A map from texts is the list of its entries in byte order, each text once. A text is base64 if and only if it is
+//! the one encoding of its bytes. A fault of a source or a sink comes only where its count of faults rose. A signature
+//! check is a predicate of the bytes that it is handed.
 #![tactic(auto)]
 
 mod base64_coding;

@@ -1,8 +1,8 @@
-//! Want of memory: the one answer that no contract ties to a cause.
+//! Out of memory: the one error that no contract ties to a cause.
 use std::alloc::{AllocError, AllocFailed};
 use thiserror::Error;
 
-/// No memory could be had. It may come from every call that allocates, and says nothing of the input.
+/// Out of memory. It may come from every call that allocates, and says nothing of the input.
 #[derive(Clone, Copy, Debug, PartialEq, Eq, Error)]
 #[error("OutOfMemory")]
 pub struct OutOfMemory;

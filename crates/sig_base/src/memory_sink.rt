@@ -1,5 +1,6 @@
 //! `MemorySink`: a sink over memory of a fixed size, whose calls can be made to fail.
-ghost use Rattle.std.specs.Prelude.{◌≡◌, ◌⊎◌, ℕ, ◌+◌, ◌≤◌, ◌<◌, ◌↔◌, Some, None, [], min, length, IsErr, IfOk, OnOk, OnErr};
+ghost use Rattle.std.specs.Prelude.{◌≡◌, ◌⊎◌, ℕ, ◌+◌, ◌≤◌, ◌<◌, ◌↔◌, Some, None, [], min, length, IsErr, IfOk, OnOk};
+ghost use Rattle.std.specs.Prelude.{OnErr};
 ghost use Rattle.std.specs.Io.{WritesAtMost};
 ghost use Rattle.std.specs.Io.KnownBytes.{WriteAppends};
 ghost use Rattle.sig_base.specs.Stream.{Hands, HasCause, Moves};
@@ -11,8 +12,8 @@ use crate::stream::{Failed, Sink};
 use std::alloc::Global;
 use std::marker::Model;
 
-/// A sink over memory of a fixed size. Contracts see a `Store`: what was taken, the room that is left, the greatest count of one call, which
-/// calls fail, and the counts of calls and of faults, which both stand still at the greatest `u64`.
+/// A sink over memory of a fixed size. Contracts see a `Store`: what was taken, the room that is left, the greatest
+/// count of one call, which calls fail, and the counts of calls and of faults, which both stay at the greatest `u64`.
 #[derive(Drop)]
 pub struct MemorySink {
     held: Vec<u8>,
@@ -42,8 +43,8 @@ impl Model for MemorySink {
 }
 
 impl MemorySink {
-    /// A sink with room for `room` bytes, which it takes here and not in a write. Each call takes at most `piece`; the calls with these numbers,
-    /// counted from 0, fail. Refuses for want of memory alone.
+    /// A sink with room for `room` bytes, which it takes here and not in a write. Each call takes at most `piece`; the
+    /// calls with these numbers, counted from 0, fail. Fails if out of memory alone.
     pub fn new(
         alloc: Global,
         room: usize,
@@ -51,7 +52,14 @@ impl MemorySink {
         failing: Numbers,
     ) -> Result<MemorySink, OutOfMemory>
         requires { 1 ≤ piece }
-        ensures { IfOk result (λ s. s ≡ record { taken = []; room = room; piece = piece; failing = failing; calls = 0; faults = 0 }) }
+        ensures { IfOk result (λ s. s ≡ record {
+          taken = [];
+          room = room;
+          piece = piece;
+          failing = failing;
+          calls = 0;
+          faults = 0;
+        }) }
     {
         let held = vec![in alloc; 0; room]?;
         Ok(MemorySink {
@@ -80,8 +88,8 @@ impl Sink for MemorySink {
 
     ghost faults = { λ s. s.faults };
 
-    /// Fails exactly at the calls whose numbers were given, and where `buf` is not empty and no room is left. It then changes nothing but the
-    /// two counts.
+    /// Fails exactly at the calls whose numbers were given, and where `buf` is not empty and no room is left. It then
+    /// changes nothing but the two counts.
     fn write(&mut self, buf: &[u8]) -> Result<usize, Failed>
         ensures bound { WritesAtMost result buf.now }
         ensures moves { Moves result buf.now }

@@ -10,8 +10,8 @@ use crate::register::Numbers;
 use crate::stream::{Failed, Source};
 use std::marker::Model;
 
-/// A source over bytes in memory. Contracts see a `Supply`: what is left, the greatest count of one call, which calls fail, and the counts of
-/// calls and of faults, which both stand still at the greatest `u64`.
+/// A source over bytes in memory. Contracts see a `Supply`: what is left, the greatest count of one call, which calls
+/// fail, and the counts of calls and of faults, which both stay at the greatest `u64`.
 #[derive(Drop)]
 pub struct MemorySource {
     held: Bytes,
@@ -28,13 +28,20 @@ impl Model for MemorySource {
 
     ghost Value = { Supply };
 
-    ghost view = { λ s. record { left = drop s.at s.held; piece = s.piece; failing = s.failing; calls = s.calls; faults = s.faults } };
+    ghost view = { λ s. record {
+      left = drop s.at s.held;
+      piece = s.piece;
+      failing = s.failing;
+      calls = s.calls;
+      faults = s.faults;
+    } };
 
     ghost invariant = { λ s. (s.at ≤ length s.held) × (1 ≤ s.piece) };
 }
 
 impl MemorySource {
-    /// A source of these bytes, of which each call gives at most `piece`; the calls with these numbers, counted from 0, fail.
+    /// A source of these bytes, of which each call gives at most `piece`; the calls with these numbers, counted from
+    /// 0, fail.
     pub fn new(held: Bytes, piece: usize, failing: Numbers) -> MemorySource
         requires { 1 ≤ piece }
         ensures { result ≡ record { left = held; piece = piece; failing = failing; calls = 0; faults = 0 } }

@@ -1,11 +1,11 @@
-//! Why a proof in an RFC 6962 tree is refused.
+//! Why the check of a proof in an RFC 6962 tree fails.
 ghost use Rattle.std.specs.Prelude.{◌≡◌, ◌<◌, Some, slice_index};
 ghost use Rattle.sig_base.specs.Hex.{digits, hex};
 
 use std::fmt;
 use thiserror::Error;
 
-/// A refusal of an inclusion or a consistency proof (RFC 6962 sections 2.1.1 and 2.1.2).
+/// Why the check of an inclusion or a consistency proof fails (RFC 6962 sections 2.1.1 and 2.1.2).
 ///
 /// Its text is the name of its variant; what it keeps is in its fields.
 #[derive(Clone, Copy, Debug, PartialEq, Eq, Error)]

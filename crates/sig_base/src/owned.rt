@@ -8,7 +8,7 @@ use std::alloc::Global;
 
 /// A value that owns a copy of what was borrowed, and lends it.
 pub trait Owned<'a>: Drop {
-    /// What is copied, and what is lent: `&[u8]`, `&str`.
+    /// What is copied, and what is borrowed: `&[u8]`, `&str`.
     type Borrowed;
 
     /// The value that owns a copy of this.

@@ -53,7 +53,7 @@ impl<T> Register<T> {
         self.items.as_slice()
     }
 
-    /// The element at a place, counted from 0; none where the place is not below the length.
+    /// Returns the element at an index, or `None` if the index is not below the length.
     pub fn get(&self, place: usize) -> Option<&T>
         ensures { option_copied result ≡ slice_get self.now place }
     {
@@ -62,7 +62,7 @@ impl<T> Register<T> {
 }
 
 impl<T: Drop> Register<T> {
-    /// Adds an element at the end. Refuses for want of memory alone; the list is then as before.
+    /// Adds an element at the end. Fails if out of memory alone; the list is then unchanged.
     pub fn push(&mut self, item: T) -> Result<(), OutOfMemory>
         ensures ok { OnOk result (self.new ≡ self.old ++ item ∷ []) }
         ensures err { OnErr result (self.new ≡ self.old) }
@@ -73,7 +73,7 @@ impl<T: Drop> Register<T> {
 }
 
 impl<T: Copy> Register<T> {
-    /// The same list in memory of its own. Refuses for want of memory alone.
+    /// Returns the same list in memory of its own. Fails if out of memory alone.
     pub fn copy(&self, alloc: Global) -> Result<Register<T>, OutOfMemory>
         ensures { IfOk result (λ r. r ≡ self.now) }
     {

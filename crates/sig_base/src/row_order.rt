@@ -1,5 +1,5 @@
-//! The order in which a table of accepted rows is searched: the signature first and the message last, so that a message is compared only where
-//! all else is equal.
+//! The order in which a table of accepted rows is searched: the signature first and the message last, so that a
+//! message is compared only where all else is equal.
 ghost use Rattle.std.specs.Prelude.{◌≡◌, Some, IfOk, slice_get, IsPermutation};
 ghost use Rattle.std.specs.Option.{option_cmp};
 ghost use Rattle.sig_base.specs.Checker.{operation_code};

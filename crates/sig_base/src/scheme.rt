@@ -1,4 +1,5 @@
-//! The signature schemes: as a key is made for one ([`SigningScheme`]), and as a checker is asked for one ([`VerifyScheme`]).
+//! The signature schemes: as a key is made for one ([`SigningScheme`]), and as a checker is asked for one
+//! ([`VerifyScheme`]).
 ghost use Rattle.std.specs.Prelude.{◌≡◌, Some, None};
 ghost use Rattle.sig_base.specs.Scheme.{name_of, scheme_of, IsReadOf};
 
@@ -101,7 +102,8 @@ impl Default for SigningScheme {
 #[error("UnknownScheme")]
 pub struct UnknownScheme;
 
-/// Reads a scheme's name; an RSA key's size is then [`DEFAULT_KEY_SIZE`]. Refused exactly where the text is none of the six names.
+/// Reads a scheme's name; an RSA key's size is then [`DEFAULT_KEY_SIZE`]. Fails if and only if the text is none of the
+/// six names.
 impl TryFrom<&str> for SigningScheme {
     type Error = UnknownScheme;
 

@@ -6,7 +6,8 @@ ghost use Rattle.sig_base.specs.Stream.{Hands, HasCause, Moves};
 
 use thiserror::Error;
 
-/// A read or a write failed. It comes only where the count of faults rose in that call, or stood at its greatest value.
+/// A read or a write failed. It comes only where the count of faults rose in that call, or stood at its greatest
+/// value.
 #[derive(Clone, Copy, Debug, PartialEq, Eq, Error)]
 #[error("Failed")]
 pub struct Failed;
@@ -19,8 +20,9 @@ pub trait Source {
     /// How many faults there were so far.
     ghost faults: { Self → ℕ };
 
-    /// Reads into the front of `buf`, and answers how many bytes. They are the first that were left, and are then gone; 0 for a buffer that
-    /// is not empty comes exactly where nothing is left. `Failed` leaves the bytes left as they were.
+    /// Reads into the front of `buf`, and returns how many bytes. They are the first that were left, and are then
+    /// gone; 0 for a buffer that is not empty is returned if and only if nothing is left. `Failed` leaves the bytes
+    /// left as they were.
     fn read(&mut self, buf: &mut [u8]) -> Result<usize, Failed>
         ensures bound { ReadsAtMost result buf.new }
         ensures bytes { ReadConsumes (left self.old) (left self.new) result buf.new }
@@ -38,7 +40,7 @@ pub trait Sink {
     /// How many faults there were so far.
     ghost faults: { Self → ℕ };
 
-    /// Takes bytes from the front of `buf`, and answers how many; 0 only for an empty `buf`. `Failed` takes nothing.
+    /// Takes bytes from the front of `buf`, and returns how many; 0 only for an empty `buf`. `Failed` takes nothing.
     fn write(&mut self, buf: &[u8]) -> Result<usize, Failed>
         ensures bound { WritesAtMost result buf.now }
         ensures moves { Moves result buf.now }

@@ -38,13 +38,13 @@ pub enum UnexpectedKind {
     PromiseMissing,
     /// An integer of the promise has no exact spelling in canonical JSON.
     PromiseInteger,
-    /// The checker refuses the inclusion promise.
+    /// The checker does not accept the inclusion promise.
     Promise,
     /// There is no inclusion proof.
     ProofMissing,
     /// The proof's root does not have 32 bytes.
     RootLength,
-    /// The hash at this place of the proof does not have 32 bytes.
+    /// The hash at this index of the proof does not have 32 bytes.
     HashLength(usize),
     /// The tree size is negative.
     TreeSize,

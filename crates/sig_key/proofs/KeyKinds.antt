@@ -13,7 +13,8 @@ of_scheme : (spki : List ℕ) (info : KeyInfo) → IsKeyInfo info → info.whole
 of_scheme spki info is whole None e = record { info = info; is = is; whole = whole; kind = e }
 of_scheme spki info is whole (Some s) e = record { info = info; is = is; whole = whole; kind = e }
 
-of_info : (spki : List ℕ) → IsBytes spki → (found : Option KeyInfo) → whole_key_info spki ≡ found → IsKind spki (kind_of_info found)
+of_info : (spki : List ℕ) → IsBytes spki → (found : Option KeyInfo) → whole_key_info spki ≡ found
+    → IsKind spki (kind_of_info found)
 of_info spki fits None e = λ info is whole. let no = sym e ∙ whole_key_info_again spki info is whole in cc
 of_info spki fits (Some info) e =
     let t = whole_key_info_takes spki fits info e in
@@ -23,7 +24,8 @@ pub key_kind_is : (spki : List ℕ) → IsBytes spki → IsKind spki (key_kind s
 unfolding key_kind
 key_kind_is spki fits = of_info spki fits (whole_key_info spki) refl
 
-none_is : (spki : List ℕ) → IsBytes spki → (found : Option KeyInfo) → whole_key_info spki ≡ found → IsKind spki NoKeyInfo → NoKeyInfo ≡ kind_of_info found
+none_is : (spki : List ℕ) → IsBytes spki → (found : Option KeyInfo) → whole_key_info spki ≡ found
+    → IsKind spki NoKeyInfo → NoKeyInfo ≡ kind_of_info found
 none_is spki fits None e none = refl
 none_is spki fits (Some info) e none = let t = whole_key_info_takes spki fits info e in absurd (none info t.0 t.1)
 

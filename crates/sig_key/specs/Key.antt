@@ -1,4 +1,4 @@
--- A key to check signatures with: a scheme and the key info's DER; and what a check with it answers.
+-- A key to check signatures with: a scheme and the SPKI's DER; and the result of a check with it.
 use Rattle.std.specs.Prelude.{ℕ, Bool, if◌then◌else◌, List, Option, Some, None, Result, Ok, Err}
 use Rattle.sig_base.specs.declared.scheme.VerifyScheme.{VerifyScheme}
 use Rattle.sig_base.specs.declared.scheme.VerifyScheme.TheVariants as scheme
@@ -16,7 +16,7 @@ key_scheme (key.ECDSA_P384_SHA384_ASN1 _) = scheme.ECDSA_P384_SHA384_ASN1
 key_scheme (key.ECDSA_P521_SHA512_ASN1 _) = scheme.ECDSA_P521_SHA512_ASN1
 key_scheme (key.ED25519 _) = scheme.ED25519
 
--- the key info's DER
+-- the SPKI's DER
 abbrev pub key_info : CosignVerificationKey → List ℕ
 key_info (key.RSA_PSS_SHA256 spki) = spki
 key_info (key.RSA_PKCS1_SHA256 spki) = spki
@@ -26,10 +26,11 @@ key_info (key.ECDSA_P521_SHA512_ASN1 spki) = spki
 key_info (key.ED25519 spki) = spki
 
 -- what a checker accepts of a key: messages and signatures. The first argument is the checker's predicate
-abbrev pub key_accepts : (VerifyScheme → List ℕ → List ℕ → List ℕ → Bool) → CosignVerificationKey → List ℕ → List ℕ → Bool
+abbrev pub key_accepts : (VerifyScheme → List ℕ → List ℕ → List ℕ → Bool) → CosignVerificationKey → List ℕ → List ℕ
+    → Bool
 key_accepts accepts key message signature = accepts (key_scheme key) (key_info key) message signature
 
--- the answer for the bytes of a signature, where it has some
+-- the result for the bytes of a signature, or for no bytes
 abbrev pub check_answer : (List ℕ → Bool) → Option (List ℕ) → Result (Unit {0}) SigstoreError
 check_answer accepts None = Err Base64DecodeError
 check_answer accepts (Some signature) = if accepts signature then Ok tt else Err PublicKeyVerificationError

@@ -1,11 +1,13 @@
--- *Key kind*: what kind of key some bytes are. SubjectPublicKeyInfo of RFC 5280 section 4.1.2.7, with the algorithms of RFC 5480 section 2.1
--- (elliptic curves), RFC 3279 section 2.3.1 and RFC 8017 appendix A.1 (RSA) and RFC 8410 section 3 (Ed25519), by their dotted numbers.
+-- *Key kind*: what kind of key some bytes are. SubjectPublicKeyInfo of RFC 5280 section 4.1.2.7, with the algorithms
+-- of RFC 5480 section 2.1 (elliptic curves), RFC 3279 section 2.3.1 and RFC 8017 appendix A.1 (RSA) and RFC 8410
+-- section 3 (Ed25519), by their dotted numbers.
 use Rattle.std.specs.Prelude.{◌≡◌, ◌≢◌, ℕ, List, Option, Some, None, Result, Ok, Err, ◌==◌, if◌then◌else◌}
 use Rattle.std.specs.Str.{bytes_eq}
 use Rattle.sig_base.specs.declared.scheme.VerifyScheme.{VerifyScheme}
 use Rattle.sig_base.specs.declared.scheme.VerifyScheme.TheVariants as scheme
 use Rattle.sig_base.specs.declared.error.SigstoreError.{SigstoreError}
-use Rattle.sig_base.specs.declared.error.SigstoreError.TheVariants.{KeyParsingError, PublicKeyUnsupportedAlgorithmError}
+use Rattle.sig_base.specs.declared.error.SigstoreError.TheVariants.{KeyParsingError}
+use Rattle.sig_base.specs.declared.error.SigstoreError.TheVariants.{PublicKeyUnsupportedAlgorithmError}
 use Rattle.sig_der.specs.ObjectIdentifiers.{ec_public_key, p256, p384, p521, rsa, ed25519}
 use Rattle.sig_der.specs.Tag.{OBJECT_IDENTIFIER}
 use Rattle.sig_der.specs.Reading.{Piece}
@@ -43,7 +45,7 @@ abbrev pub kind_of_scheme : Option VerifyScheme → KeyKind
 kind_of_scheme None = Unsupported
 kind_of_scheme (Some s) = Scheme s
 
--- the text is a key info of this kind, or none
+-- the bytes are an SPKI of this kind, or none
 pub record IsKeyInfoOf (spki : List ℕ) (found : Option VerifyScheme) : Type 0 where
   pub info : KeyInfo
   pub is : IsKeyInfo info
@@ -64,7 +66,7 @@ kind_of_info (Some info) = kind_of_scheme (algorithm_scheme info.algorithm)
 unfoldable pub key_kind : List ℕ → KeyKind
 key_kind spki = kind_of_info (whole_key_info spki)
 
--- ---- the answer for a text of a kind: the key's scheme and its key info
+-- ---- the result for bytes of a kind: the key's scheme and its SPKI
 
 abbrev pub key_parts : CosignVerificationKey → VerifyScheme × List ℕ
 key_parts key = (key_scheme key, key_info key)

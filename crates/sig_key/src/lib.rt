@@ -1,8 +1,9 @@
 //! Signatures and the keys that check them.
 //!
-//! The layer above uses three facts. [`Signature::decode_bytes`] is a function of the signature's text. What kind of key an SPKI has, and so
-//! its scheme, is a function of its bytes ([`key_kind`]). A check with a [`CosignVerificationKey`] is the checker's own predicate of
-//! the key's scheme, its SPKI, the message or its digest, and the signature.
+//! The layer above uses three facts. [`Signature::decode_bytes`] is a function of the signature's text. What kind of
+//! key an SPKI has, and so its scheme, is a function of its bytes ([`key_kind`]). A check with a
+//! [`CosignVerificationKey`] is the checker's own predicate of the key's scheme, its SPKI, the message or its digest,
+//! and the signature.
 #![tactic(auto)]
 
 mod kind;

@@ -21,8 +21,8 @@ pub enum Signature<'a> {
 impl<'a> Signature<'a> {
     ghost use Rattle.sig_key.specs.Signature.{signature_bytes};
 
-    /// Returns the signature's bytes: raw ones unchanged; those of a text in strict base64 (padded and canonical); else those of the text
-    /// without line feeds and carriage returns. Errors:
+    /// Returns the signature's bytes: raw ones unchanged; those of a text in strict base64 (padded and canonical);
+    /// else those of the text without line feeds and carriage returns. Errors:
     /// - `Base64DecodeError`: neither is strict base64;
     /// - `OutOfMemory`.
     pub fn decode_bytes(&self, alloc: Global) -> Result<Bytes>

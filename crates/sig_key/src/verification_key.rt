@@ -13,7 +13,8 @@ use crate::signature::{Signature, decode_text};
 use sig_base::{Bytes, Result, SignatureChecker, SigningScheme, SigstoreError, VerifyScheme};
 use std::alloc::Global;
 
-/// A key that checks signatures: the scheme, over the DER of its SubjectPublicKeyInfo (SPKI, RFC 5280 section 4.1.2.7).
+/// A key that checks signatures: the scheme, over the DER of its SubjectPublicKeyInfo (SPKI, RFC 5280 section
+/// 4.1.2.7).
 #[allow(non_camel_case_types)]
 #[derive(Drop)]
 pub enum CosignVerificationKey {
@@ -126,16 +127,17 @@ impl CosignVerificationKey {
         }
     }
 
-    /// Whether the checker accepts `signature` over `msg` as this key's. It takes no memory. The checker is asked once: one that hashes the
-    /// message hashes it in each call.
+    /// Whether the checker accepts `signature` over `msg` as this key's. It takes no memory. The checker is asked
+    /// once: one that hashes the message hashes it in each call.
     pub fn accepts<C: SignatureChecker>(&self, signature: &[u8], msg: &[u8], checker: &C) -> bool
         ensures { result ≡ key_accepts (C.spki_accepts checker.now) self.now msg.now signature.now }
     {
         checker.verify_spki(self.scheme(), self.spki(), msg, signature)
     }
 
-    /// Checks that `signature` over `msg` is this key's. A raw signature is checked in place, without memory. A checker that hashes the message
-    /// hashes it in each call: for many signatures over one long message, [`CosignVerificationKey::verify_prehash`] takes its digest. Errors:
+    /// Checks that `signature` over `msg` is this key's. A raw signature is checked in place, without memory. A
+    /// checker that hashes the message hashes it in each call: for many signatures over one long message,
+    /// [`CosignVerificationKey::verify_prehash`] takes its digest. Errors:
     /// - `Base64DecodeError`: the signature's text has no bytes, as [`Signature::decode_bytes`] says;
     /// - `PublicKeyVerificationError`: the checker does not accept them;
     /// - `OutOfMemory`, of a text alone.
@@ -147,9 +149,11 @@ impl CosignVerificationKey {
         checker: &C,
     ) -> Result<()>
         ensures answer { Answers Memory (λ x. x) result
-            (check_answer (key_accepts (C.spki_accepts checker.now) self.now msg.now) (signature_bytes signature.entry)) }
+            (check_answer (key_accepts (C.spki_accepts checker.now) self.now msg.now)
+            (signature_bytes signature.entry)) }
         ensures raw { IsRaw signature.entry → result
-            ≡ check_answer (key_accepts (C.spki_accepts checker.now) self.now msg.now) (signature_bytes signature.entry) }
+            ≡ check_answer (key_accepts (C.spki_accepts checker.now) self.now msg.now)
+            (signature_bytes signature.entry) }
     {
         match signature {
             Signature::Raw(bytes) => self.check(bytes, msg, checker),
@@ -160,7 +164,8 @@ impl CosignVerificationKey {
         }
     }
 
-    /// Checks that `signature` over the message of the digest `msg` is this key's. A raw signature is checked in place, without memory. Errors:
+    /// Checks that `signature` over the message of the digest `msg` is this key's. A raw signature is checked in
+    /// place, without memory. Errors:
     /// - `Base64DecodeError`: the signature's text has no bytes, as [`Signature::decode_bytes`] says;
     /// - `PublicKeyVerificationError`: the checker does not accept them;
     /// - `OutOfMemory`, of a text alone.
@@ -172,9 +177,11 @@ impl CosignVerificationKey {
         checker: &C,
     ) -> Result<()>
         ensures answer { Answers Memory (λ x. x) result
-            (check_answer (key_accepts (C.prehash_accepts checker.now) self.now msg.now) (signature_bytes signature.entry)) }
+            (check_answer (key_accepts (C.prehash_accepts checker.now) self.now msg.now)
+            (signature_bytes signature.entry)) }
         ensures raw { IsRaw signature.entry → result
-            ≡ check_answer (key_accepts (C.prehash_accepts checker.now) self.now msg.now) (signature_bytes signature.entry) }
+            ≡ check_answer (key_accepts (C.prehash_accepts checker.now) self.now msg.now)
+            (signature_bytes signature.entry) }
     {
         match signature {
             Signature::Raw(bytes) => self.check_prehash(bytes, msg, checker),
@@ -192,7 +199,8 @@ impl CosignVerificationKey {
         digest: &[u8],
         checker: &C,
     ) -> Result<()>
-        ensures { result ≡ check_answer (key_accepts (C.prehash_accepts checker.now) self.now digest.now) (Some signature.now) }
+        ensures { result ≡ check_answer (key_accepts (C.prehash_accepts checker.now) self.now digest.now)
+            (Some signature.now) }
     {
         if checker.verify_spki_prehash(self.scheme(), self.spki(), digest, signature) {
             Ok(())
@@ -203,7 +211,8 @@ impl CosignVerificationKey {
 
     /// Checks the bytes of a signature.
     fn check<C: SignatureChecker>(&self, signature: &[u8], msg: &[u8], checker: &C) -> Result<()>
-        ensures { result ≡ check_answer (key_accepts (C.spki_accepts checker.now) self.now msg.now) (Some signature.now) }
+        ensures { result ≡ check_answer (key_accepts (C.spki_accepts checker.now) self.now msg.now)
+            (Some signature.now) }
     {
         if self.accepts(signature, msg, checker) {
             Ok(())

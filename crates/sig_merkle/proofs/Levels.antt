@@ -1,6 +1,7 @@
 -- Recursions on the size of a tree that go down by levels: any level that is high enough gives
 -- the same.
-use Rattle.std.proofs.Common.{◌≡◌, ℕ, zero, suc, ◌+◌, ◌-◌, ◌*◌, ◌^◌, ◌<◌, ◌≤◌, refl, sym, ◌∙◌, ap, inl, inr, arith, add-zero, add-suc}
+use Rattle.std.proofs.Common.{◌≡◌, ℕ, zero, suc, ◌+◌, ◌-◌, ◌*◌, ◌^◌, ◌<◌, ◌≤◌, refl, sym, ◌∙◌, ap, inl, inr, arith}
+use Rattle.std.proofs.Common.{add-zero, add-suc}
 use Rattle.std.proofs.Math.Nat.{pow-suc, pow-le-pow_right}
 use Rattle.std.proofs.lemmas.Bool.{cases_lt}
 use Rattle.sig_merkle.specs.Split.{IsSplit}
@@ -13,18 +14,22 @@ below_pow (suc n) = omega (arith, pow-suc 2 n, below_pow n)
 pub within_pow : (n : ℕ) → n ≤ 2 ^ n
 within_pow n = omega (arith, below_pow n)
 
-higher_level : {X : Type 0} (f : ℕ → X) (n : ℕ) → ((e : ℕ) → n ≤ 2 ^ e → f (suc e) ≡ f e) → (k e : ℕ) → n ≤ 2 ^ e → f (e + k) ≡ f e
+higher_level : {X : Type 0} (f : ℕ → X) (n : ℕ) → ((e : ℕ) → n ≤ 2 ^ e → f (suc e) ≡ f e) → (k e : ℕ) → n ≤ 2 ^ e
+    → f (e + k) ≡ f e
 higher_level f n step zero e fits = ap f (add-zero e)
 higher_level f n step (suc k) e fits =
     let grown : 2 ^ e ≤ 2 ^ (e + k) = pow-le-pow_right (omega arith) (omega arith) in
     rw add-suc (step (e + k) (omega arith) ∙ higher_level f n step k e fits)
 
 -- where one level more changes nothing, all levels that are high enough give the same
-pub same_level : {X : Type 0} (f : ℕ → X) (n : ℕ) → ((e : ℕ) → n ≤ 2 ^ e → f (suc e) ≡ f e) → (d e : ℕ) → n ≤ 2 ^ d → n ≤ 2 ^ e → f d ≡ f e
+pub same_level : {X : Type 0} (f : ℕ → X) (n : ℕ) → ((e : ℕ) → n ≤ 2 ^ e → f (suc e) ≡ f e) → (d e : ℕ) → n ≤ 2 ^ d
+    → n ≤ 2 ^ e → f d ≡ f e
 same_level f n step d e fits_d fits_e =
     elim (cases_lt d e) [
-      | inl d_lt ↦ (let same : d + (e - d) ≡ e = omega arith in sym (higher_level f n step (e - d) d fits_d) ∙ ap f same)
-      | inr e_le ↦ (let same : e + (d - e) ≡ d = omega arith in sym (ap f same) ∙ higher_level f n step (d - e) e fits_e)
+      | inl d_lt ↦ (let same : d + (e - d) ≡ e = omega arith in
+          sym (higher_level f n step (e - d) d fits_d) ∙ ap f same)
+      | inr e_le ↦ (let same : e + (d - e) ≡ d = omega arith in
+          sym (ap f same) ∙ higher_level f n step (d - e) e fits_e)
     ]
 
 split_below : (e n : ℕ) → n ≤ 2 ^ e → 1 < n → (k : ℕ) × IsSplit n k
@@ -44,7 +49,8 @@ split_of n more = split_below n n (within_pow n) more
 exponent_le : (n d e : ℕ) → 2 ^ d < n → n ≤ 2 * 2 ^ e → d ≤ e
 exponent_le n d e below largest =
     elim (cases_lt e d) [
-      | inl e_lt ↦ absurd (let grown : 2 ^ suc e ≤ 2 ^ d = pow-le-pow_right (omega arith) (omega arith) in omega (arith, pow-suc 2 e))
+      | inl e_lt ↦ absurd (let grown : 2 ^ suc e ≤ 2 ^ d = pow-le-pow_right (omega arith) (omega arith) in
+          omega (arith, pow-suc 2 e))
       | inr d_le ↦ d_le
     ]
 

@@ -5,7 +5,8 @@ use Rattle.sig_merkle.specs.Split.{IsSplit}
 use Rattle.sig_merkle.specs.Root.{node_of}
 use Rattle.sig_merkle.specs.Path.{path_root_at, path_root, path_len_at, path_len}
 use Rattle.sig_merkle.proofs.Levels.{split_of}
-use Rattle.sig_merkle.proofs.PathLaws.{path_root_is, path_root-left, path_root-right, path_len_is, path_len-left, path_len-right, path_len-within}
+use Rattle.sig_merkle.proofs.PathLaws.{path_root_is, path_root-left, path_root-right, path_len_is, path_len-left}
+use Rattle.sig_merkle.proofs.PathLaws.{path_len-right, path_len-within}
 
 -- a tree of one leaf has no hash on a path
 pub path_len-leaf : (index size : ℕ) → size ≤ 1 → path_len index size ≡ 0
@@ -29,7 +30,8 @@ list_empty [] none = refl
 list_empty (hash ∷ rest) none = absurd (omega arith)
 
 -- where a path of the right length has no hash, it leads to the leaf
-pub fold_leaf : (index size : ℕ) (leaf : List ℕ) (hashes : List (List ℕ)) → length hashes ≡ path_len index size → length hashes ≡ 0 → path_root index leaf size hashes ≡ Some leaf
+pub fold_leaf : (index size : ℕ) (leaf : List ℕ) (hashes : List (List ℕ)) → length hashes ≡ path_len index size
+    → length hashes ≡ 0 → path_root index leaf size hashes ≡ Some leaf
 unfolding path_root_at
 fold_leaf index size leaf hashes fits none =
     elim (cases_lt 1 size) [
@@ -38,7 +40,8 @@ fold_leaf index size leaf hashes fits none =
     ]
 
 -- where it has one, the tree has more than one leaf
-pub fold_several : (index size : ℕ) (hashes : List (List ℕ)) → length hashes ≡ path_len index size → 0 < length hashes → 1 < size
+pub fold_several : (index size : ℕ) (hashes : List (List ℕ)) → length hashes ≡ path_len index size → 0 < length hashes
+    → 1 < size
 fold_several index size hashes fits some =
     elim (cases_lt 1 size) [
       | inl several ↦ several
@@ -46,11 +49,15 @@ fold_several index size hashes fits some =
     ]
 
 -- from the root of the left half to the root, by the last hash
-pub fold_left : (index size half : ℕ) (leaf root last : List ℕ) (hashes rest : List (List ℕ)) → IsSplit size half → index < half → hashes ≡ rest ++ last ∷ [] → path_root index leaf half rest ≡ Some root → path_root index leaf size hashes ≡ Some (node_of root last)
+pub fold_left : (index size half : ℕ) (leaf root last : List ℕ) (hashes rest : List (List ℕ)) → IsSplit size half
+    → index < half → hashes ≡ rest ++ last ∷ [] → path_root index leaf half rest ≡ Some root
+    → path_root index leaf size hashes ≡ Some (node_of root last)
 fold_left index size half leaf root last hashes rest split left ends led =
     rw ends (path_root-left index size half leaf last rest split left ∙ rw led refl)
 
 -- from the root of the right half to the root, by the last hash
-pub fold_right : (index size half : ℕ) (leaf root last : List ℕ) (hashes rest : List (List ℕ)) → IsSplit size half → half ≤ index → hashes ≡ rest ++ last ∷ [] → path_root (index - half) leaf (size - half) rest ≡ Some root → path_root index leaf size hashes ≡ Some (node_of last root)
+pub fold_right : (index size half : ℕ) (leaf root last : List ℕ) (hashes rest : List (List ℕ)) → IsSplit size half
+    → half ≤ index → hashes ≡ rest ++ last ∷ [] → path_root (index - half) leaf (size - half) rest ≡ Some root
+    → path_root index leaf size hashes ≡ Some (node_of last root)
 fold_right index size half leaf root last hashes rest split right ends led =
     rw ends (path_root-right index size half leaf last rest split right ∙ rw led refl)

@@ -1,10 +1,14 @@
--- What an inclusion proof shows, and the answer to one (RFC 6962 section 2.1.1).
-use Rattle.std.specs.Prelude.{◌≡◌, ◌≢◌, ℕ, ◌<◌, ◌≤◌, List, length, nat_le, bytes_eq, if◌then◌else◌, Option, Some, None, Result, Ok, Err}
+-- What an inclusion proof shows, and the result of a check of one (RFC 6962 section 2.1.1).
+use Rattle.std.specs.Prelude.{◌≡◌, ◌≢◌, ℕ, ◌<◌, ◌≤◌, List, length, nat_le, bytes_eq, if◌then◌else◌, Option, Some, None}
+use Rattle.std.specs.Prelude.{Result, Ok, Err}
 use Rattle.sig_base.specs.declared.merkle_error.MerkleProofError.{MerkleProofError}
-use Rattle.sig_base.specs.declared.merkle_error.MerkleProofError.TheVariants.{MismatchedRoot, IndexGtTreeSize, UnexpectedNonEmptyProof, UnexpectedEmptyProof, NewTreeSmaller, WrongProofSize, WrongEmptyTreeHash}
+use Rattle.sig_base.specs.declared.merkle_error.MerkleProofError.TheVariants.{MismatchedRoot, IndexGtTreeSize}
+use Rattle.sig_base.specs.declared.merkle_error.MerkleProofError.TheVariants.{UnexpectedNonEmptyProof}
+use Rattle.sig_base.specs.declared.merkle_error.MerkleProofError.TheVariants.{UnexpectedEmptyProof, NewTreeSmaller}
+use Rattle.sig_base.specs.declared.merkle_error.MerkleProofError.TheVariants.{WrongProofSize, WrongEmptyTreeHash}
 use Rattle.sig_merkle.specs.Path.{path_root, path_len}
 
--- the hashes show that a leaf of this hash stands at the index of the tree of this size and root
+-- the hashes show that a leaf of this hash is at the index of the tree of this size and root
 abbrev pub IsIncluded : ℕ → List ℕ → ℕ → List (List ℕ) → List ℕ → Type 0
 IsIncluded index leaf size hashes root = (index < size) × (path_root index leaf size hashes ≡ Some root)
 
@@ -31,11 +35,11 @@ match_root (Ok computed) root =
     if bytes_eq computed root then Ok tt
     else Err (MismatchedRoot (record { root = computed }) (record { root = root }))
 
--- the answer to an inclusion proof: the law `inclusion_answers` says when each comes
+-- the result of a check of an inclusion proof: the law `inclusion_answers` says when each comes
 unfoldable pub inclusion_answer : ℕ → List ℕ → ℕ → List (List ℕ) → List ℕ → Result (Unit {0}) MerkleProofError
 inclusion_answer index leaf size hashes root = match_root (inclusion_root index leaf size hashes) root
 
--- the cause of each answer of `root_from_inclusion_proof`
+-- the cause of each result of `root_from_inclusion_proof`
 abbrev pub IsRootAnswer : ℕ → List ℕ → ℕ → List (List ℕ) → Result (List ℕ) MerkleProofError → Type 0
 IsRootAnswer index leaf size hashes (Ok root) = IsIncluded index leaf size hashes root
 IsRootAnswer index leaf size hashes (Err IndexGtTreeSize) = size ≤ index
@@ -46,7 +50,7 @@ IsRootAnswer index leaf size hashes (Err UnexpectedEmptyProof) = ⊥
 IsRootAnswer index leaf size hashes (Err (NewTreeSmaller _ _)) = ⊥
 IsRootAnswer index leaf size hashes (Err WrongEmptyTreeHash) = ⊥
 
--- the cause of each answer of `verify_inclusion`
+-- the cause of each result of `verify_inclusion`
 abbrev pub IsInclusionAnswer : ℕ → List ℕ → ℕ → List (List ℕ) → List ℕ → Result (Unit {0}) MerkleProofError → Type 0
 IsInclusionAnswer index leaf size hashes root (Ok _) = IsIncluded index leaf size hashes root
 IsInclusionAnswer index leaf size hashes root (Err IndexGtTreeSize) = size ≤ index
@@ -59,7 +63,7 @@ IsInclusionAnswer index leaf size hashes root (Err (NewTreeSmaller _ _)) = ⊥
 IsInclusionAnswer index leaf size hashes root (Err WrongEmptyTreeHash) = ⊥
 
 -- how many pairs of children an inclusion check hashes: all hashes of a path whose root was
--- compared, and none before a refusal of the index or of the number of hashes
+-- compared, and none where the index or the number of hashes is wrong
 abbrev pub inclusion_steps : Result (Unit {0}) MerkleProofError → ℕ → ℕ
 inclusion_steps (Ok _) count = count
 inclusion_steps (Err (MismatchedRoot _ _)) count = count

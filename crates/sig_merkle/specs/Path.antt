@@ -3,7 +3,8 @@
 -- the half that the leaf is not in, and the hashes before it are the path within the leaf's half.
 --
 -- As `root`, these go down by levels. The law `path_roots` states the standard's own recursion.
-use Rattle.std.specs.Prelude.{ℕ, zero, suc, ◌+◌, ◌-◌, ◌^◌, List, [], ◌∷◌, reverse, nat_lt, if◌then◌else◌, Option, Some, None, option_map}
+use Rattle.std.specs.Prelude.{ℕ, zero, suc, ◌+◌, ◌-◌, ◌^◌, List, [], ◌∷◌, reverse, nat_lt, if◌then◌else◌, Option, Some}
+use Rattle.std.specs.Prelude.{None, option_map}
 use Rattle.sig_merkle.specs.Root.{node_of}
 
 -- the leaf itself, where no hash is left

@@ -1,7 +1,8 @@
 //! The check that a leaf is in a tree (RFC 6962 section 2.1.1).
 ghost use Rattle.std.specs.Prelude.{◌≡◌, ◌+◌, ◌<◌, ◌≤◌, ◌↔◌, length, Some, IsOk, OnOk, OnErr};
 ghost use Rattle.sig_merkle.specs.Path.{path_root, path_len};
-ghost use Rattle.sig_merkle.specs.Inclusion.{IsIncluded, inclusion_root, inclusion_answer, IsRootAnswer, IsInclusionAnswer, inclusion_steps};
+ghost use Rattle.sig_merkle.specs.Inclusion.{IsIncluded, inclusion_root, inclusion_answer, IsRootAnswer};
+ghost use Rattle.sig_merkle.specs.Inclusion.{IsInclusionAnswer, inclusion_steps};
 
 use crate::hashing::hash_step;
 use crate::split::split_point;

@@ -1,6 +1,7 @@
 //! What the definitions of this crate mean, in the words of RFC 6962. No function here does
 //! anything: each states laws, and its proof is that they hold.
-ghost use Rattle.std.specs.Prelude.{◌≡◌, ◌≢◌, ℕ, ◌+◌, ◌-◌, ◌^◌, ◌<◌, ◌≤◌, ◌↔◌, List, [], ◌∷◌, ◌++◌, length, take, drop, Some, IsSome, IsNone, option_map, Result};
+ghost use Rattle.std.specs.Prelude.{◌≡◌, ◌≢◌, ℕ, ◌+◌, ◌-◌, ◌^◌, ◌<◌, ◌≤◌, ◌↔◌, List, [], ◌∷◌, ◌++◌, length, take};
+ghost use Rattle.std.specs.Prelude.{drop, Some, IsSome, IsNone, option_map, Result};
 ghost use Rattle.sig_base.specs.Sha256.{sha256};
 ghost use Rattle.sig_base.specs.declared.merkle_error.MerkleProofError.{MerkleProofError};
 ghost use Rattle.sig_merkle.specs.Split.{IsSplit};
@@ -8,7 +9,7 @@ ghost use Rattle.sig_merkle.specs.Root.{leaf_of, node_of, root};
 ghost use Rattle.sig_merkle.specs.Path.{path_root, path_len};
 ghost use Rattle.sig_merkle.specs.Inclusion.{inclusion_root, inclusion_answer, IsRootAnswer, IsInclusionAnswer};
 
-/// A tree of more than one leaf is cut at one place (RFC 6962 section 2.1).
+/// A tree of more than one leaf is cut at one index (RFC 6962 section 2.1).
 pub fn splits()
     ensures exists { (n : ℕ) → 1 < n → (k : ℕ) × IsSplit n k }
     ensures unique { (n j k : ℕ) → IsSplit n j → IsSplit n k → j ≡ k }
@@ -51,7 +52,7 @@ pub fn path_lens()
     ensures bound { (index size : ℕ) → size ≤ 2 ^ 64 → path_len index size ≤ 64 }
 {}
 
-/// An answer to an inclusion proof is the one whose cause holds.
+/// The result of the check of an inclusion proof is the one whose cause holds.
 pub fn inclusion_answers()
     ensures root { (index size : ℕ) (leaf : List ℕ) (hashes : List (List ℕ))
         (answer : Result (List ℕ) MerkleProofError)

@@ -5,13 +5,16 @@ use Rattle.sig_rekor.specs.declared.checkpoint.SignedCheckpoint.{SignedCheckpoin
 use Rattle.sig_rekor.specs.Cut.{cut_at, parts, trimmed}
 use Rattle.sig_rekor.specs.NoteText.{note_of}
 use Rattle.sig_rekor.specs.SignatureText.{IsSignature, signature_of}
-use Rattle.sig_rekor.specs.CheckpointText.{quotation_mark, empty_line, is_written, IsCheckpoint, signatures_by, checkpoint_by, checkpoint_of}
+use Rattle.sig_rekor.specs.CheckpointText.{quotation_mark, empty_line, is_written, IsCheckpoint, signatures_by}
+use Rattle.sig_rekor.specs.CheckpointText.{checkpoint_by, checkpoint_of}
 use Rattle.sig_rekor.proofs.Cutting.{cut_at-some, cut_at-cut, parts-found, parts-only, trimmed-found, trimmed-only}
 use Rattle.sig_rekor.proofs.Steps.{each-found, each-only}
 use Rattle.sig_rekor.proofs.NoteLaws.{note-found, note-only}
 use Rattle.sig_rekor.proofs.SignatureLaws.{signature-found, signature-only}
 
-cut-found : (text : List ℕ) (checkpoint : SignedCheckpoint) (o : Option (List ℕ × List ℕ)) → cut_at empty_line (trimmed quotation_mark text) ≡ o → checkpoint_by o ≡ Ok checkpoint → IsCheckpoint text checkpoint
+cut-found : (text : List ℕ) (checkpoint : SignedCheckpoint) (o : Option (List ℕ × List ℕ))
+    → cut_at empty_line (trimmed quotation_mark text) ≡ o → checkpoint_by o ≡ Ok checkpoint
+    → IsCheckpoint text checkpoint
 unfolding signatures_by
 cut-found text checkpoint None cut e = cc
 cut-found text checkpoint (Some split) cut e =
@@ -27,21 +30,25 @@ cut-found text checkpoint (Some split) cut e =
       quotes = trimmed-found quotation_mark text;
       split = cut_at-some empty_line (trimmed quotation_mark text) split.0 split.1 cut;
       between = parts-found empty_line split.1 (omega arith);
-      signatures = each-found signature_of IsSignature signature-found (filter is_written (parts empty_line split.1)) a.0 a.1;
+      signatures =
+          each-found signature_of IsSignature signature-found (filter is_written (parts empty_line split.1)) a.0 a.1;
       note = note-found split.0 b.0 b.1;
     })
 
-pub checkpoint-found : (text : List ℕ) (checkpoint : SignedCheckpoint) → checkpoint_of text ≡ Ok checkpoint → IsCheckpoint text checkpoint
+pub checkpoint-found : (text : List ℕ) (checkpoint : SignedCheckpoint) → checkpoint_of text ≡ Ok checkpoint
+    → IsCheckpoint text checkpoint
 unfolding checkpoint_of
 checkpoint-found text checkpoint e = cut-found text checkpoint (cut_at empty_line (trimmed quotation_mark text)) refl e
 
-pub checkpoint-only : (text : List ℕ) (checkpoint : SignedCheckpoint) → IsCheckpoint text checkpoint → checkpoint_of text ≡ Ok checkpoint
+pub checkpoint-only : (text : List ℕ) (checkpoint : SignedCheckpoint) → IsCheckpoint text checkpoint
+    → checkpoint_of text ≡ Ok checkpoint
 unfolding checkpoint_of signatures_by
 checkpoint-only text checkpoint is =
     rw (
       trimmed-only quotation_mark text is.body is.quotes,
       cut_at-cut empty_line is.body is.note_part is.rest (omega arith) is.split,
       parts-only empty_line is.rest is.pieces (omega arith) is.between,
-      each-only signature_of IsSignature signature-only (filter is_written is.pieces) checkpoint.signatures is.signatures,
+      each-only signature_of IsSignature signature-only
+          (filter is_written is.pieces) checkpoint.signatures is.signatures,
       note-only is.note_part checkpoint.note is.note,
     ) refl

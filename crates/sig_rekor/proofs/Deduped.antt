@@ -23,7 +23,8 @@ module _ (test : List ℕ → Bool) where
   passes raw = test raw.now
 
   step : (x k : Raw) (xs kept next : List Raw) (b : Bool) → same_raw x k ≡ b
-      → list_any passes kept ≡ (passes k || list_any passes xs) → list_any passes next ≡ (passes x || list_any passes xs)
+      → list_any passes kept ≡ (passes k || list_any passes xs)
+      → list_any passes next ≡ (passes x || list_any passes xs)
       → list_any passes (cond b kept (k ∷ next)) ≡ (passes k || (passes x || list_any passes xs))
   step x k xs kept next true is one other =
       let equal : passes x ≡ passes k = ap test ((bytes_eq-Decides x.now k.now).0 is) in

@@ -1,13 +1,13 @@
 -- The derived `==` of checkpoints, notes and proofs is equality of all parts.
-use Rattle.std.proofs.Common.{◌≡◌, ℕ, ℤ, List, Bool, Option, Some, None, refl, ap, subst, sym}
-use Rattle.std.proofs.lemmas.Bool.{and_parts, and_from}
-use Rattle.std.proofs.lemmas.Bool.Decides.{Decides-int_eq}
+use Rattle.std.proofs.Common.{◌≡◌, ℕ, ℤ, List, Bool, Option, Some, None, refl, ap}
+use Rattle.std.proofs.lemmas.Bool.Decides.{Decides-and, Decides-int_eq}
 use Rattle.std.proofs.lemmas.Slice.Eq.{slice_eq-Decides}
 use Rattle.std.specs.Bool.{Decides}
 use Rattle.std.specs.Cmp.{unsigned_Decides}
 use Rattle.std.specs.Cmp.Lexicographic.{pointwise}
 use Rattle.std.specs.Option.{option_eq}
-use Rattle.std.specs.Prelude.{nat_eq, ◌&&◌}
+use Rattle.std.specs.Prelude.{nat_eq}
+use Rattle.sig_base.proofs.Decisions.{decides_same, decides_bytes}
 use Rattle.sig_rekor.specs.contracts.checkpoint.CheckpointPartialEq.TheImpl as note_eq
 use Rattle.sig_rekor.specs.contracts.checkpoint.CheckpointSignaturePartialEq.TheImpl as signature_eq
 use Rattle.sig_rekor.specs.contracts.checkpoint.OtherContentPartialEq.TheImpl as content_eq
@@ -22,61 +22,58 @@ use Rattle.sig_rekor.specs.declared.inclusion_proof.InclusionProof.{InclusionPro
 
 -- ---- parts
 
-both : {P Q : Type 0} → (p q : Bool) → Decides p P → Decides q Q → Decides (p && q) (P × Q)
-both p q one other =
-    (λ e. let h = and_parts p q e in (one.0 h.0, other.0 h.1), λ pq. and_from p q (one.1 pq.0) (other.1 pq.1))
-
--- a test of the parts is one of the whole, where the parts tell the whole
-told : {P Q : Type 0} → (p : Bool) → (P → Q) → (Q → P) → Decides p P → Decides p Q
-told p there back decides = (λ e. there (decides.0 e), λ q. decides.1 (back q))
-
-bytes_eq-tells : (a b : List ℕ) → Decides (pointwise nat_eq a b) (a ≡ b)
-bytes_eq-tells a b = slice_eq-Decides unsigned_Decides a b (pointwise nat_eq a b) refl
-
 texts_eq-tells : (a b : List (List ℕ)) → Decides (pointwise (pointwise nat_eq) a b) (a ≡ b)
-texts_eq-tells a b = slice_eq-Decides bytes_eq-tells a b (pointwise (pointwise nat_eq) a b) refl
-
--- an answer that is such a test
-pub answers : {P : Type 0} → (r p : Bool) → r ≡ p → Decides p P → Decides r P
-answers {P} r p is decides = subst (λ b. Decides b P) (sym is) decides
+texts_eq-tells a b = slice_eq-Decides decides_bytes a b (pointwise (pointwise nat_eq) a b) refl
 
 -- ---- notes
 
 content_eq-tells : (a b : OtherContent) → Decides ((content_eq.ghosts).eq a b) (a ≡ b)
 content_eq-tells (KeyValue k v) (KeyValue l w) =
-    told _ (λ e. rw (e.0, e.1) refl) (λ e. (cc, cc)) (both _ _ (bytes_eq-tells k l) (bytes_eq-tells v w))
+    decides_same _ (λ e. rw (e.0, e.1) refl) (λ e. (cc, cc)) (Decides-and _ _ (decides_bytes k l) (decides_bytes v w))
 content_eq-tells (KeyValue k v) (Value w) = (λ e. absurd cc, λ e. absurd cc)
 content_eq-tells (Value v) (KeyValue l w) = (λ e. absurd cc, λ e. absurd cc)
-content_eq-tells (Value v) (Value w) = told _ (λ e. ap Value e) (λ e. cc) (bytes_eq-tells v w)
+content_eq-tells (Value v) (Value w) = decides_same _ (λ e. ap Value e) (λ e. cc) (decides_bytes v w)
 
-note-of_parts : (o p : List ℕ) → (s t : ℕ) → (h g : List ℕ) → (cs ds : List OtherContent) → (o ≡ p) × ((s ≡ t) × ((h ≡ g) × (cs ≡ ds)))
-    → ◌≡◌ {A = Checkpoint} (record { origin = o; size = s; hash = h; other_content = cs }) (record { origin = p; size = t; hash = g; other_content = ds })
+note-of_parts : (o p : List ℕ) → (s t : ℕ) → (h g : List ℕ) → (cs ds : List OtherContent)
+    → (o ≡ p) × ((s ≡ t) × ((h ≡ g) × (cs ≡ ds)))
+    → ◌≡◌ {A = Checkpoint} (record { origin = o; size = s; hash = h; other_content = cs })
+    (record { origin = p; size = t; hash = g; other_content = ds })
 note-of_parts o p s t h g cs ds e = rw (e.0, e.1.0, e.1.1.0, e.1.1.1) refl
 
 pub note_eq-tells : (a b : Checkpoint) → Decides ((note_eq.ghosts).eq a b) (a ≡ b)
 note_eq-tells a b =
-    told _ (note-of_parts a.origin b.origin a.size b.size a.hash b.hash a.other_content b.other_content)
+    decides_same _ (note-of_parts a.origin b.origin a.size b.size a.hash b.hash a.other_content b.other_content)
     (λ e. (
       ap (λ (n : Checkpoint). n.origin) e,
-      (ap (λ (n : Checkpoint). n.size) e, (ap (λ (n : Checkpoint). n.hash) e, ap (λ (n : Checkpoint). n.other_content) e)),
+      (
+        ap (λ (n : Checkpoint). n.size) e,
+        (
+          ap (λ (n : Checkpoint). n.hash) e,
+          ap
+              (λ (n : Checkpoint). n.other_content) e,
+        ),
+      ),
     ))
-    (both _ _ (bytes_eq-tells a.origin b.origin) (both _ _ (unsigned_Decides a.size b.size)
-    (both _ _ (bytes_eq-tells a.hash b.hash) (slice_eq-Decides content_eq-tells a.other_content b.other_content _ refl))))
+    (Decides-and _ _ (decides_bytes a.origin b.origin) (Decides-and _ _ (unsigned_Decides a.size b.size)
+    (Decides-and _ _ (decides_bytes a.hash b.hash)
+    (slice_eq-Decides content_eq-tells a.other_content b.other_content _ refl))))
 
 -- ---- checkpoints
 
 signature-of_parts : (f g r s n m : List ℕ) → (f ≡ g) × ((r ≡ s) × (n ≡ m))
-    → ◌≡◌ {A = CheckpointSignature} (record { key_fingerprint = f; raw = r; name = n }) (record { key_fingerprint = g; raw = s; name = m })
+    → ◌≡◌ {A = CheckpointSignature} (record { key_fingerprint = f; raw = r; name = n })
+    (record { key_fingerprint = g; raw = s; name = m })
 signature-of_parts f g r s n m e = rw (e.0, e.1.0, e.1.1) refl
 
 signature_eq-tells : (a b : CheckpointSignature) → Decides ((signature_eq.ghosts).eq a b) (a ≡ b)
 signature_eq-tells a b =
-    told _ (signature-of_parts a.key_fingerprint b.key_fingerprint a.raw b.raw a.name b.name)
+    decides_same _ (signature-of_parts a.key_fingerprint b.key_fingerprint a.raw b.raw a.name b.name)
     (λ e. (
       ap (λ (s : CheckpointSignature). s.key_fingerprint) e,
       (ap (λ (s : CheckpointSignature). s.raw) e, ap (λ (s : CheckpointSignature). s.name) e),
     ))
-    (both _ _ (bytes_eq-tells a.key_fingerprint b.key_fingerprint) (both _ _ (bytes_eq-tells a.raw b.raw) (bytes_eq-tells a.name b.name)))
+    (Decides-and _ _ (decides_bytes a.key_fingerprint b.key_fingerprint)
+    (Decides-and _ _ (decides_bytes a.raw b.raw) (decides_bytes a.name b.name)))
 
 checkpoint-of_parts : (n m : Checkpoint) → (ss zs : List CheckpointSignature) → (n ≡ m) × (ss ≡ zs)
     → ◌≡◌ {A = SignedCheckpoint} (record { note = n; signatures = ss }) (record { note = m; signatures = zs })
@@ -84,13 +81,15 @@ checkpoint-of_parts n m ss zs e = rw (e.0, e.1) refl
 
 pub checkpoint_eq-tells : (a b : SignedCheckpoint) → Decides ((checkpoint_eq.ghosts).eq a b) (a ≡ b)
 checkpoint_eq-tells a b =
-    told _ (checkpoint-of_parts a.note b.note a.signatures b.signatures)
+    decides_same _ (checkpoint-of_parts a.note b.note a.signatures b.signatures)
     (λ e. (ap (λ (c : SignedCheckpoint). c.note) e, ap (λ (c : SignedCheckpoint). c.signatures) e))
-    (both _ _ (note_eq-tells a.note b.note) (slice_eq-Decides signature_eq-tells a.signatures b.signatures _ refl))
+    (Decides-and _ _ (note_eq-tells a.note b.note)
+    (slice_eq-Decides signature_eq-tells a.signatures b.signatures _ refl))
 
 -- ---- proofs
 
-option_eq-tells : {A : Type 0} → (E : A → A → Bool) → ((a b : A) → Decides (E a b) (a ≡ b)) → (x y : Option A) → Decides (option_eq E x y) (x ≡ y)
+option_eq-tells : {A : Type 0} → (E : A → A → Bool) → ((a b : A) → Decides (E a b) (a ≡ b)) → (x y : Option A)
+    → Decides (option_eq E x y) (x ≡ y)
 option_eq-tells E tells None None = (λ _. refl, λ _. refl)
 option_eq-tells E tells None (Some y) = (λ e. absurd cc, λ e. absurd cc)
 option_eq-tells E tells (Some x) None = (λ e. absurd cc, λ e. absurd cc)
@@ -105,13 +104,24 @@ proof-of_parts i j r q s t h g c d e = rw (e.0, e.1.0, e.1.1.0, e.1.1.1.0, e.1.1
 
 pub proof_eq-tells : (a b : InclusionProof) → Decides ((proof_eq.ghosts).eq a b) (a ≡ b)
 proof_eq-tells a b =
-    told _ (proof-of_parts a.log_index b.log_index a.root_hash b.root_hash a.tree_size b.tree_size a.hashes b.hashes a.checkpoint b.checkpoint)
+    decides_same _ (proof-of_parts a.log_index b.log_index a.root_hash b.root_hash a.tree_size b.tree_size a.hashes
+    b.hashes a.checkpoint b.checkpoint)
     (λ e. (
       ap (λ (p : InclusionProof). p.log_index) e,
       (
         ap (λ (p : InclusionProof). p.root_hash) e,
-        (ap (λ (p : InclusionProof). p.tree_size) e, (ap (λ (p : InclusionProof). p.hashes) e, ap (λ (p : InclusionProof). p.checkpoint) e)),
+        (
+          ap (λ (p : InclusionProof). p.tree_size) e,
+          (
+            ap (λ (p : InclusionProof). p.hashes) e,
+            ap
+                (λ (p : InclusionProof). p.checkpoint) e,
+          ),
+        ),
       ),
     ))
-    (both _ _ (Decides-int_eq a.log_index b.log_index) (both _ _ (bytes_eq-tells a.root_hash b.root_hash) (both _ _ (unsigned_Decides a.tree_size b.tree_size)
-    (both _ _ (texts_eq-tells a.hashes b.hashes) (option_eq-tells _ checkpoint_eq-tells a.checkpoint b.checkpoint)))))
+    (Decides-and _ _ (Decides-int_eq a.log_index b.log_index)
+    (Decides-and _ _ (decides_bytes a.root_hash b.root_hash)
+    (Decides-and _ _ (unsigned_Decides a.tree_size b.tree_size)
+    (Decides-and _ _ (texts_eq-tells a.hashes b.hashes)
+    (option_eq-tells _ checkpoint_eq-tells a.checkpoint b.checkpoint)))))

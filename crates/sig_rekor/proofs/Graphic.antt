@@ -1,5 +1,7 @@
 -- Texts of graphic ASCII characters: decimals and base64. They hold no white space, and none is trimmed off.
-use Rattle.std.proofs.Common.{◌≡◌, ◌≢◌, ℕ, zero, suc, ◌+◌, ◌*◌, ◌/◌, ◌%◌, ◌<◌, ◌≤◌, ◌^◌, Bool, true, false, ◌&&◌, nat_lt, List, [], ◌∷◌, ◌++◌, length, replicate, get_or, slice_index, refl, sym, ◌∙◌, ap, subst, arith, Ok, Some}
+use Rattle.std.proofs.Common.{◌≡◌, ◌≢◌, ℕ, zero, suc, ◌+◌, ◌*◌, ◌/◌, ◌%◌, ◌<◌, ◌≤◌, ◌^◌, Bool, true, false, ◌&&◌}
+use Rattle.std.proofs.Common.{nat_lt, List, [], ◌∷◌, ◌++◌, length, replicate, get_or, slice_index, refl, sym, ◌∙◌, ap}
+use Rattle.std.proofs.Common.{subst, arith, Ok, Some}
 use Rattle.std.proofs.lemmas.Bool.{and_parts, and_from, lt-ltb, ltb-true, ne_eqb}
 use Rattle.std.proofs.lemmas.Bool.Decides.{nat_tests}
 use Rattle.std.proofs.lemmas.Str.{chars-IsAscii, encodes-IsAscii}
@@ -55,7 +57,8 @@ digits_graphic : (ds : List ℕ) → AllDigits 10 ds → IsGraphic ds
 digits_graphic [] all = refl
 digits_graphic (d ∷ ds) all =
     let range : (47 < d) × (d < 58) = digit_range d all.0 in
-    and_from (is_graphic d) (list_all is_graphic ds) (byte_graphic d (omega arith) (omega arith)) (digits_graphic ds all.1) where
+    and_from (is_graphic d) (list_all is_graphic ds) (byte_graphic d (omega arith) (omega arith))
+    (digits_graphic ds all.1) where
       digit_range : (d : ℕ) → digit_value d < 10 → (47 < d) × (d < 58)
       digit_range d small = (grind (arith, nat_tests), grind (arith, nat_tests))
 
@@ -72,13 +75,15 @@ pub size_of-decimal : (n : ℕ) → n < 2 ^ 64 → size_of (decimal n) ≡ Ok n
 size_of-decimal n small =
     let is = decimal_is_IsNumeral n small in
     let plain = no_plus (decimal n) is.0 in
-    size_of-numeral (decimal n) n (subst (λ t. IsNumeral 10 t × (digits_value 10 t < 2 ^ 64)) (sym plain) (is.0, subst (λ v. v < 2 ^ 64) (sym is.1) small)) (sym is.1 ∙ ap (digits_value 10) (sym plain))
+    size_of-numeral (decimal n) n (subst (λ t. IsNumeral 10 t × (digits_value 10 t < 2 ^ 64)) (sym plain)
+    (is.0, subst (λ v. v < 2 ^ 64) (sym is.1) small)) (sym is.1 ∙ ap (digits_value 10) (sym plain))
 
 -- base64
 table_at : (xs : List ℕ) (i : ℕ) → list_all is_graphic xs ≡ true → i < length xs → is_graphic (get_or xs i 0) ≡ true
 table_at [] i all in_range = absurd (omega arith)
 table_at (x ∷ xs) zero all in_range = (and_parts (is_graphic x) (list_all is_graphic xs) all).0
-table_at (x ∷ xs) (suc i) all in_range = table_at xs i (and_parts (is_graphic x) (list_all is_graphic xs) all).1 (omega arith)
+table_at (x ∷ xs) (suc i) all in_range =
+    table_at xs i (and_parts (is_graphic x) (list_all is_graphic xs) all).1 (omega arith)
 
 abbrev alphabet : List ℕ
 alphabet = engine_symbols standard
@@ -89,11 +94,16 @@ symbol i small = table_at alphabet i refl small
 symbols : (m : List ℕ) → AllByRecursion (λ b. b < 256) m → IsGraphic (encode_symbols alphabet m)
 unfolding encode_symbols
 symbols [] all = refl
-symbols (a ∷ []) all = and_from _ _ (symbol (a / 4) (omega arith)) (and_from _ _ (symbol (a % 4 * 16) (omega arith)) refl)
-symbols (a ∷ b ∷ []) all = and_from _ _ (symbol (a / 4) (omega arith)) (and_from _ _ (symbol (a % 4 * 16 + b / 16) (omega arith)) (and_from _ _ (symbol (b % 16 * 4) (omega arith)) refl))
+symbols (a ∷ []) all =
+    and_from _ _ (symbol (a / 4) (omega arith)) (and_from _ _ (symbol (a % 4 * 16) (omega arith)) refl)
+symbols (a ∷ b ∷ []) all =
+    and_from _ _ (symbol (a / 4) (omega arith))
+    (and_from _ _ (symbol (a % 4 * 16 + b / 16) (omega arith)) (and_from _ _ (symbol (b % 16 * 4) (omega arith)) refl))
 symbols (a ∷ b ∷ c ∷ rest) all =
     graphic-append (encode_group alphabet a b c) (encode_symbols alphabet rest)
-    (and_from _ _ (symbol (a / 4) (omega arith)) (and_from _ _ (symbol (a % 4 * 16 + b / 16) (omega arith)) (and_from _ _ (symbol (b % 16 * 4 + c / 64) (omega arith)) (and_from _ _ (symbol (c % 64) (omega arith)) refl))))
+    (and_from _ _ (symbol (a / 4) (omega arith)) (and_from _ _ (symbol (a % 4 * 16 + b / 16) (omega arith))
+    (and_from _ _ (symbol (b % 16 * 4 + c / 64) (omega arith))
+    (and_from _ _ (symbol (c % 64) (omega arith)) refl))))
     (symbols rest all.1.1.1)
 
 pads : (n : ℕ) → IsGraphic (replicate n 61)
@@ -106,7 +116,9 @@ each_byte (b ∷ m) all = (all 0, each_byte m (λ i. all (suc i)))
 
 pub base64-graphic : (m : List ℕ) → IsBytes m → IsGraphic (base64_text m)
 unfolding base64_text
-base64-graphic m all = graphic-append (encode_symbols alphabet m) (replicate (padding_len (length m)) 61) (symbols m (each_byte m all)) (pads (padding_len (length m)))
+base64-graphic m all =
+    graphic-append (encode_symbols alphabet m) (replicate (padding_len (length m)) 61) (symbols m (each_byte m all))
+    (pads (padding_len (length m)))
 
 pub base64-again : (m : List ℕ) → IsBytes m → base64_bytes (base64_text m) ≡ Some m
 unfolding base64_text base64_bytes
@@ -130,4 +142,5 @@ graphic-ascii (b ∷ t) g (suc i) = graphic-ascii t (and_parts (is_graphic b) (l
 pub trim_end-graphic : (t : List ℕ) → IsGraphic t → trim_end t ≡ t
 unfolding trim_end
 trim_end-graphic t g =
-    ap (λ cs. encode_utf8_all (drop_trailing_whitespace cs)) (chars-IsAscii t (graphic-ascii t g)) ∙ ap encode_utf8_all (no_trailing t g) ∙ encodes-IsAscii t (graphic-ascii t g)
+    ap (λ cs. encode_utf8_all (drop_trailing_whitespace cs)) (chars-IsAscii t (graphic-ascii t g))
+    ∙ ap encode_utf8_all (no_trailing t g) ∙ encodes-IsAscii t (graphic-ascii t g)

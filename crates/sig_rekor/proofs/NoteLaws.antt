@@ -1,5 +1,6 @@
 -- What is read as a note stands for it, and what stands for a note is read as it.
-use Rattle.std.proofs.Common.{◌≡◌, ℕ, ◌<◌, ◌^◌, false, ◌&&◌, ◌==◌, nat_lt, List, [], ◌∷◌, length, Option, Some, None, Ok, Err, refl, sym, ◌∙◌, ap, subst, inl, inr, arith, filter, map}
+use Rattle.std.proofs.Common.{◌≡◌, ℕ, ◌<◌, ◌^◌, false, ◌&&◌, ◌==◌, nat_lt, List, [], ◌∷◌, length, Option, Some, None}
+use Rattle.std.proofs.Common.{Ok, Err, refl, sym, ◌∙◌, ap, subst, inl, inr, arith, filter, map}
 use Rattle.std.proofs.lemmas.Bool.{eqb-true, eq-eqb, ltb-true, and_parts}
 use Rattle.std.specs.List.{AllZip, list_all}
 use Rattle.std.specs.Char.{is_ascii_digit}
@@ -12,7 +13,8 @@ use Rattle.sig_rekor.specs.Cut.{IsParts, cut_at, parts}
 use Rattle.sig_base.specs.Base64.{base64_bytes}
 use Rattle.sig_base.proofs.ResultSteps.{bind_ok}
 use Rattle.sig_rekor.specs.Reading.{base64_of}
-use Rattle.sig_rekor.specs.NoteText.{newline, colon, is_blank, is_not_empty, IsContent, IsSize, IsNote, content_by, content_of, contents_of, origin_of, size_of, hash_by, hash_of, note_by, note_of}
+use Rattle.sig_rekor.specs.NoteText.{newline, colon, is_blank, is_not_empty, IsContent, IsSize, IsNote, content_by}
+use Rattle.sig_rekor.specs.NoteText.{content_of, contents_of, origin_of, size_of, hash_by, hash_of, note_by, note_of}
 use Rattle.sig_rekor.proofs.Cutting.{cut_at-some, cut_at-none, cut_at-cut, cut_at-lacks, parts-found, parts-only}
 use Rattle.sig_rekor.proofs.Notes.{size_of-numeral, digits_mean}
 use Rattle.sig_rekor.proofs.Steps.{chosen, ok_or-ok}
@@ -34,11 +36,13 @@ contents-found : (lines : List (List ℕ)) → AllZip IsContent lines (map conte
 contents-found [] = tt
 contents-found (line ∷ lines) = (content-found line, contents-found lines)
 
-contents-only : (lines : List (List ℕ)) (contents : List OtherContent) → AllZip IsContent lines contents → map content_of lines ≡ contents
+contents-only : (lines : List (List ℕ)) (contents : List OtherContent) → AllZip IsContent lines contents
+    → map content_of lines ≡ contents
 contents-only [] [] are = refl
 contents-only [] (content ∷ contents) are = absurd are
 contents-only (line ∷ lines) [] are = absurd are
-contents-only (line ∷ lines) (content ∷ contents) are = rw (content-only line content are.0, contents-only lines contents are.1) refl
+contents-only (line ∷ lines) (content ∷ contents) are =
+    rw (content-only line content are.0, contents-only lines contents are.1) refl
 
 -- the origin, the size and the hash
 origin-found : (line origin : List ℕ) → origin_of line ≡ Ok origin → (line ≡ origin) × (is_blank line ≡ false)
@@ -61,8 +65,12 @@ size-found line n e =
       | inl all ↦
           let both = and_parts (list_all is_ascii_digit ds) big all.0 in
           let rest = and_parts (is_not_empty ds) (nat_lt (digits_value 10 ds) (2 ^ 64)) both.1 in
-          let same : digits_value 10 ds ≡ n = (let f = all.1 in cc) in
-          ((ltb-true 0 (length ds) rest.0, digits_mean ds both.0), sym same, subst (λ m. m < 2 ^ 64) same (ltb-true (digits_value 10 ds) (2 ^ 64) rest.1))
+          let same : digits_value 10 ds ≡ n = (let f = all.1 in cc) in (
+            (ltb-true 0 (length ds) rest.0, digits_mean ds both.0),
+            sym same,
+            subst (λ m. m < 2 ^ 64) same
+                (ltb-true (digits_value 10 ds) (2 ^ 64) rest.1),
+          )
       | inr none ↦ (let f = none.1 in cc)
     ]
 
@@ -75,8 +83,11 @@ hash-found line hash e =
     let read = bind_ok (base64_of HashBase64 line) hash_by hash e in
     elim (chosen (length read.0 == 32) (Ok read.0) (Err HashLength) (Ok hash) read.2) [
       | inl sized ↦
-          let same : read.0 ≡ hash = (let f = sized.1 in cc) in
-          (ok_or-ok (base64_bytes line) HashBase64 hash (read.1 ∙ ap Ok same), sym (ap length same) ∙ eqb-true (length read.0) 32 sized.0)
+          let same : read.0 ≡ hash = (let f = sized.1 in cc) in (
+            ok_or-ok (base64_bytes line) HashBase64 hash (read.1 ∙ ap Ok same),
+            sym (ap length same)
+                ∙ eqb-true (length read.0) 32 sized.0,
+          )
       | inr other ↦ (let f = other.1 in cc)
     ]
 
@@ -85,7 +96,8 @@ unfolding hash_of base64_of
 hash-only line hash is = rw (is.0, eq-eqb (length hash) 32 is.1) refl
 
 -- the note
-lines-found : (text : List ℕ) (lines : List (List ℕ)) (note : Checkpoint) → IsParts newline text lines → note_by lines ≡ Ok note → IsNote text note
+lines-found : (text : List ℕ) (lines : List (List ℕ)) (note : Checkpoint) → IsParts newline text lines
+    → note_by lines ≡ Ok note → IsNote text note
 unfolding contents_of
 lines-found text [] note are e = absurd are
 lines-found text (a ∷ []) note are e = cc

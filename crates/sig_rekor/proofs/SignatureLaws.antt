@@ -1,5 +1,6 @@
 -- What is read as a signature stands for it, and what stands for a signature is read as it.
-use Rattle.std.proofs.Common.{◌≡◌, ℕ, true, nat_lt, nat_eq, List, [], ◌∷◌, ◌++◌, length, take, drop, Ok, Err, refl, sym, ◌∙◌, ap, subst, inl, inr, arith, take-append-drop, length-append}
+use Rattle.std.proofs.Common.{◌≡◌, ℕ, true, nat_lt, nat_eq, List, [], ◌∷◌, ◌++◌, length, take, drop, Ok, Err, refl}
+use Rattle.std.proofs.Common.{sym, ◌∙◌, ap, subst, inl, inr, arith, take-append-drop, length-append}
 use Rattle.std.proofs.lemmas.Bool.{le-ltb, ltb-false}
 use Rattle.std.proofs.lemmas.Bool.Decides.{Decides-eqb}
 use Rattle.std.proofs.lemmas.List.{take_at, drop_at, length-take-le}
@@ -12,27 +13,39 @@ use Rattle.sig_rekor.specs.Cut.{IsTrimmed, IsParts, trimmed, parts}
 use Rattle.sig_base.specs.Base64.{base64_bytes}
 use Rattle.sig_base.proofs.ResultSteps.{bind_ok}
 use Rattle.sig_rekor.specs.Reading.{base64_of}
-use Rattle.sig_rekor.specs.SignatureText.{em_dash, space, signed_bytes, IsSignature, line_of, name_and_bytes, signature_by, signature_of}
+use Rattle.sig_rekor.specs.SignatureText.{em_dash, space, signed_bytes, IsSignature, line_of, name_and_bytes}
+use Rattle.sig_rekor.specs.SignatureText.{signature_by, signature_of}
 use Rattle.sig_rekor.proofs.Cutting.{parts-found, parts-only, trimmed-found, trimmed-only}
 use Rattle.sig_rekor.proofs.Steps.{chosen, ok_or-ok}
 
 -- the line behind its dash
-pub line-found : (text line : List ℕ) → line_of text ≡ Ok line → IsTrimmed 10 text line × (line ≡ em_dash ++ drop 3 line)
+pub line-found : (text line : List ℕ) → line_of text ≡ Ok line
+    → IsTrimmed 10 text line × (line ≡ em_dash ++ drop 3 line)
 unfolding line_of
-line-found text line e = elim (chosen (starts_with nat_eq (trimmed 10 text) em_dash) (Ok (trimmed 10 text)) (Err NoDash) (Ok line) e) [
-  | inl dash ↦
-      let same : trimmed 10 text ≡ line = (let f = dash.1 in cc) in
-      (subst (IsTrimmed 10 text) same (trimmed-found 10 text), subst (λ t. t ≡ em_dash ++ drop 3 t) same ((starts_is Decides-eqb (trimmed 10 text) em_dash true (sym dash.0)).0 refl))
-  | inr none ↦ (let f = none.1 in cc)
-]
+line-found text line e =
+    elim (chosen (starts_with nat_eq (trimmed 10 text) em_dash) (Ok (trimmed 10 text)) (Err NoDash) (Ok line) e) [
+      | inl dash ↦
+          let same : trimmed 10 text ≡ line = (let f = dash.1 in cc) in (
+            subst (IsTrimmed 10 text) same (trimmed-found 10 text),
+            subst (λ t. t ≡ em_dash ++ drop 3 t) same
+                ((starts_is Decides-eqb (trimmed 10 text) em_dash true (sym dash.0)).0 refl),
+          )
+      | inr none ↦ (let f = none.1 in cc)
+    ]
 
-pub line-only : (text line behind : List ℕ) → IsTrimmed 10 text line → line ≡ em_dash ++ behind → line_of text ≡ Ok line
+pub line-only : (text line behind : List ℕ) → IsTrimmed 10 text line → line ≡ em_dash ++ behind
+    → line_of text ≡ Ok line
 unfolding line_of
 line-only text line behind is dash =
-    rw (trimmed-only 10 text line is, (starts_is Decides-eqb line em_dash (starts_with nat_eq line em_dash) refl).1 behind dash) refl
+    rw (
+      trimmed-only 10 text line is,
+      (starts_is Decides-eqb line em_dash (starts_with nat_eq line em_dash) refl).1
+          behind dash,
+    ) refl
 
 -- three parts
-three-found : (ps : List (List ℕ)) (named : List ℕ × List ℕ) → name_and_bytes ps ≡ Ok named → (first : List ℕ) × (ps ≡ first ∷ named.0 ∷ named.1 ∷ [])
+three-found : (ps : List (List ℕ)) (named : List ℕ × List ℕ) → name_and_bytes ps ≡ Ok named
+    → (first : List ℕ) × (ps ≡ first ∷ named.0 ∷ named.1 ∷ [])
 three-found [] named e = cc
 three-found (a ∷ []) named e = cc
 three-found (a ∷ b ∷ []) named e = cc
@@ -42,19 +55,28 @@ three-found (a ∷ b ∷ c ∷ []) named e =
 three-found (a ∷ b ∷ c ∷ d ∷ ps) named e = cc
 
 -- four bytes and the others
-signature_by-found : (name bytes : List ℕ) (s : CheckpointSignature) → signature_by name bytes ≡ Ok s → (s.name ≡ name) × (signed_bytes s ≡ bytes) × (length s.key_fingerprint ≡ 4)
+signature_by-found : (name bytes : List ℕ) (s : CheckpointSignature) → signature_by name bytes ≡ Ok s
+    → (s.name ≡ name) × (signed_bytes s ≡ bytes) × (length s.key_fingerprint ≡ 4)
 signature_by-found name bytes s e =
     let made : CheckpointSignature = record { key_fingerprint = take 4 bytes; raw = drop 4 bytes; name = name } in
     elim (chosen (nat_lt (length bytes) 4) (Err SignatureLength) (Ok made) (Ok s) e) [
       | inl short ↦ (let f = short.1 in cc)
       | inr long ↦
           let same : made ≡ s = (let f = long.1 in cc) in
-          subst (λ (x : CheckpointSignature). (x.name ≡ name) × (signed_bytes x ≡ bytes) × (length x.key_fingerprint ≡ 4)) same
+          subst (λ (x : CheckpointSignature). (x.name ≡ name) × (signed_bytes x ≡ bytes)
+          × (length x.key_fingerprint ≡ 4)) same
           (refl, take-append-drop 4 bytes, length-take-le 4 bytes (ltb-false (length bytes) 4 long.0))
     ]
 
-signature_by-only : (s : CheckpointSignature) → length s.key_fingerprint ≡ 4 → signature_by s.name (signed_bytes s) ≡ Ok s
-signature_by-only s four = rw (le-ltb (length (signed_bytes s)) 4 (omega (arith, length-append s.key_fingerprint s.raw)), take_at s.key_fingerprint s.raw 4 four, drop_at s.key_fingerprint s.raw 4 four) refl
+signature_by-only : (s : CheckpointSignature) → length s.key_fingerprint ≡ 4
+    → signature_by s.name (signed_bytes s) ≡ Ok s
+signature_by-only s four =
+    rw (
+      le-ltb (length (signed_bytes s)) 4 (omega (arith, length-append s.key_fingerprint s.raw)),
+      take_at
+          s.key_fingerprint s.raw 4 four,
+      drop_at s.key_fingerprint s.raw 4 four,
+    ) refl
 
 pub signature-found : (text : List ℕ) (s : CheckpointSignature) → signature_of text ≡ Ok s → IsSignature text s
 unfolding signature_of base64_of
@@ -72,7 +94,9 @@ signature-found text s e =
       coded = b.0.1;
       newlines = line.0;
       dash = line.1;
-      parts = subst (λ name. IsParts space a.0 (three.0 ∷ name ∷ b.0.1 ∷ [])) (sym made.0) (subst (IsParts space a.0) three.1 (parts-found space a.0 (omega arith)));
+      parts =
+          subst (λ name. IsParts space a.0 (three.0 ∷ name ∷ b.0.1 ∷ [])) (sym made.0)
+          (subst (IsParts space a.0) three.1 (parts-found space a.0 (omega arith)));
       bytes = ok_or-ok (base64_bytes (trim_end b.0.1)) SignatureBase64 (signed_bytes s) (c.1 ∙ ap Ok (sym made.1));
       fingerprint = made.2;
     }

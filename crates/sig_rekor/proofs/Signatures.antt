@@ -1,5 +1,6 @@
 -- The signatures of a checkpoint: the pieces between empty lines, one by one.
-use Rattle.std.proofs.Common.{◌≡◌, ℕ, true, false, List, [], ◌∷◌, ◌++◌, Some, None, Result, Ok, Err, refl, sym, ◌∙◌, ap, arith, append_assoc, append-nil, ◌⊎◌, inl, inr}
+use Rattle.std.proofs.Common.{◌≡◌, ℕ, true, false, List, [], ◌∷◌, ◌++◌, Some, None, Result, Ok, Err, refl, sym, ◌∙◌}
+use Rattle.std.proofs.Common.{ap, arith, append_assoc, append-nil, ◌⊎◌, inl, inr}
 use Rattle.std.proofs.lemmas.Bool.{cases_Bool}
 use Rattle.sig_base.specs.ResultSteps.{◌>>=◌}
 use Rattle.sig_base.specs.declared.fault.CheckpointFault.{CheckpointFault}
@@ -15,11 +16,14 @@ use Rattle.sig_rekor.specs.CheckpointText.{empty_line, signatures_by, signatures
 use Rattle.sig_rekor.proofs.Cutting.{parts-whole, parts-cut, parts-first}
 
 -- a piece of white space alone gives none, and any other one
-pub signatures_by-blank : (piece : List ℕ) (pieces : List (List ℕ)) → is_blank piece ≡ true → signatures_by (piece ∷ pieces) ≡ signatures_by pieces
+pub signatures_by-blank : (piece : List ℕ) (pieces : List (List ℕ)) → is_blank piece ≡ true
+    → signatures_by (piece ∷ pieces) ≡ signatures_by pieces
 unfolding signatures_by
 signatures_by-blank piece pieces blank = rw blank refl
 
-pub signatures_by-written : (piece : List ℕ) (pieces : List (List ℕ)) → is_blank piece ≡ false → signatures_by (piece ∷ pieces) ≡ (signature_of piece >>= λ first. signatures_by pieces >>= λ others. Ok (first ∷ others))
+pub signatures_by-written : (piece : List ℕ) (pieces : List (List ℕ)) → is_blank piece ≡ false
+    → signatures_by (piece ∷ pieces) ≡ (signature_of piece >>= λ first. signatures_by pieces >>= λ others. Ok
+    (first ∷ others))
 unfolding signatures_by
 signatures_by-written piece pieces written = rw written refl
 
@@ -28,37 +32,48 @@ unfolding signatures_by
 signatures_by-none = refl
 
 -- one piece behind those that were read before
-pub signatures_on-blank : (before : List CheckpointSignature) (piece : List ℕ) → is_blank piece ≡ true → signatures_on before (piece ∷ []) ≡ Ok before
-signatures_on-blank before piece blank = rw (signatures_by-blank piece [] blank, signatures_by-none, append-nil before) refl
+pub signatures_on-blank : (before : List CheckpointSignature) (piece : List ℕ) → is_blank piece ≡ true
+    → signatures_on before (piece ∷ []) ≡ Ok before
+signatures_on-blank before piece blank =
+    rw (signatures_by-blank piece [] blank, signatures_by-none, append-nil before) refl
 
-pub signatures_on-read : (before : List CheckpointSignature) (piece : List ℕ) (s : CheckpointSignature) → is_blank piece ≡ false → signature_of piece ≡ Ok s → signatures_on before (piece ∷ []) ≡ Ok (before ++ s ∷ [])
+pub signatures_on-read : (before : List CheckpointSignature) (piece : List ℕ) (s : CheckpointSignature)
+    → is_blank piece ≡ false → signature_of piece ≡ Ok s → signatures_on before (piece ∷ []) ≡ Ok (before ++ s ∷ [])
 signatures_on-read before piece s written e = rw (signatures_by-written piece [] written, e, signatures_by-none) refl
 
-pub signatures_on-refused : (before : List CheckpointSignature) (piece : List ℕ) (fault : CheckpointFault) → is_blank piece ≡ false → signature_of piece ≡ Err fault → signatures_on before (piece ∷ []) ≡ Err fault
+pub signatures_on-refused : (before : List CheckpointSignature) (piece : List ℕ) (fault : CheckpointFault)
+    → is_blank piece ≡ false → signature_of piece ≡ Err fault → signatures_on before (piece ∷ []) ≡ Err fault
 signatures_on-refused before piece fault written e = rw (signatures_by-written piece [] written, e) refl
 
 -- one piece, and then the others
-put_before : (a b : List CheckpointSignature) (r : Result (List CheckpointSignature) CheckpointFault) → ((r >>= λ xs. Ok (b ++ xs)) >>= λ xs. Ok (a ++ xs)) ≡ (r >>= λ xs. Ok ((a ++ b) ++ xs))
+put_before : (a b : List CheckpointSignature) (r : Result (List CheckpointSignature) CheckpointFault)
+    → ((r >>= λ xs. Ok (b ++ xs)) >>= λ xs. Ok (a ++ xs)) ≡ (r >>= λ xs. Ok ((a ++ b) ++ xs))
 put_before a b (Ok xs) = ap Ok (sym (append_assoc a b xs))
 put_before a b (Err fault) = refl
 
-pub signatures_on-more : (before after : List CheckpointSignature) (piece : List ℕ) (pieces : List (List ℕ)) → signatures_on before (piece ∷ []) ≡ Ok after → signatures_on before (piece ∷ pieces) ≡ signatures_on after pieces
+pub signatures_on-more : (before after : List CheckpointSignature) (piece : List ℕ) (pieces : List (List ℕ))
+    → signatures_on before (piece ∷ []) ≡ Ok after → signatures_on before (piece ∷ pieces) ≡ signatures_on after pieces
 signatures_on-more before after piece pieces e = elim (cases_Bool (is_blank piece)) [
-  | inl blank ↦ let same : before ≡ after = (let f = signatures_on-blank before piece blank in cc) in rw (signatures_by-blank piece pieces blank, same) refl
+  | inl blank ↦ let same : before ≡ after = (let f = signatures_on-blank before piece blank in cc) in
+      rw (signatures_by-blank piece pieces blank, same) refl
   | inr written ↦ read _ refl written
 ] where
-  read : (r : Result CheckpointSignature CheckpointFault) → signature_of piece ≡ r → is_blank piece ≡ false → signatures_on before (piece ∷ pieces) ≡ signatures_on after pieces
+  read : (r : Result CheckpointSignature CheckpointFault) → signature_of piece ≡ r → is_blank piece ≡ false
+      → signatures_on before (piece ∷ pieces) ≡ signatures_on after pieces
   read (Ok s) is written =
       let same : before ++ s ∷ [] ≡ after = (let f = signatures_on-read before piece s written is in cc) in
       rw (signatures_by-written piece pieces written, is, ← same) (put_before before (s ∷ []) (signatures_by pieces))
   read (Err fault) is written = let f = signatures_on-refused before piece fault written is in cc
 
-pub signatures_on-stops : (before : List CheckpointSignature) (piece : List ℕ) (pieces : List (List ℕ)) (fault : CheckpointFault) → signatures_on before (piece ∷ []) ≡ Err fault → signatures_on before (piece ∷ pieces) ≡ Err fault
+pub signatures_on-stops : (before : List CheckpointSignature) (piece : List ℕ) (pieces : List (List ℕ))
+    (fault : CheckpointFault) → signatures_on before (piece ∷ []) ≡ Err fault
+    → signatures_on before (piece ∷ pieces) ≡ Err fault
 signatures_on-stops before piece pieces fault e = elim (cases_Bool (is_blank piece)) [
   | inl blank ↦ let f = signatures_on-blank before piece blank in cc
   | inr written ↦ read _ refl written
 ] where
-  read : (r : Result CheckpointSignature CheckpointFault) → signature_of piece ≡ r → is_blank piece ≡ false → signatures_on before (piece ∷ pieces) ≡ Err fault
+  read : (r : Result CheckpointSignature CheckpointFault) → signature_of piece ≡ r → is_blank piece ≡ false
+      → signatures_on before (piece ∷ pieces) ≡ Err fault
   read (Ok s) is written = let f = signatures_on-read before piece s written is in cc
   read (Err other) is written =
       let f = signatures_on-refused before piece other written is in
@@ -66,13 +81,22 @@ signatures_on-stops before piece pieces fault e = elim (cases_Bool (is_blank pie
       rw (signatures_by-written piece pieces written, is, same) refl
 
 -- the pieces of what is left, at a cut and at the end
-pub signatures_on-cut : (before after : List CheckpointSignature) (text piece rest : List ℕ) → Some (piece, rest) ≡ cut_at empty_line text → signatures_on before (piece ∷ []) ≡ Ok after → signatures_on before (parts empty_line text) ≡ signatures_on after (parts empty_line rest)
-signatures_on-cut before after text piece rest e f = ap (signatures_on before) (parts-cut empty_line text piece rest (omega arith) (sym e)) ∙ signatures_on-more before after piece (parts empty_line rest) f
+pub signatures_on-cut : (before after : List CheckpointSignature) (text piece rest : List ℕ)
+    → Some (piece, rest) ≡ cut_at empty_line text → signatures_on before (piece ∷ []) ≡ Ok after
+    → signatures_on before (parts empty_line text) ≡ signatures_on after (parts empty_line rest)
+signatures_on-cut before after text piece rest e f =
+    ap (signatures_on before) (parts-cut empty_line text piece rest (omega arith) (sym e))
+    ∙ signatures_on-more before after piece (parts empty_line rest) f
 
-pub signatures_on-cut_refused : (before : List CheckpointSignature) (text piece rest : List ℕ) (fault : CheckpointFault) → Some (piece, rest) ≡ cut_at empty_line text → signatures_on before (piece ∷ []) ≡ Err fault → signatures_on before (parts empty_line text) ≡ Err fault
-signatures_on-cut_refused before text piece rest fault e f = ap (signatures_on before) (parts-cut empty_line text piece rest (omega arith) (sym e)) ∙ signatures_on-stops before piece (parts empty_line rest) fault f
+pub signatures_on-cut_refused : (before : List CheckpointSignature) (text piece rest : List ℕ)
+    (fault : CheckpointFault) → Some (piece, rest) ≡ cut_at empty_line text
+    → signatures_on before (piece ∷ []) ≡ Err fault → signatures_on before (parts empty_line text) ≡ Err fault
+signatures_on-cut_refused before text piece rest fault e f =
+    ap (signatures_on before) (parts-cut empty_line text piece rest (omega arith) (sym e))
+    ∙ signatures_on-stops before piece (parts empty_line rest) fault f
 
-pub signatures_on-end : (before : List CheckpointSignature) (text : List ℕ) → None ≡ cut_at empty_line text → signatures_on before (parts empty_line text) ≡ signatures_on before (text ∷ [])
+pub signatures_on-end : (before : List CheckpointSignature) (text : List ℕ) → None ≡ cut_at empty_line text
+    → signatures_on before (parts empty_line text) ≡ signatures_on before (text ∷ [])
 signatures_on-end before text e = ap (signatures_on before) (parts-whole empty_line text (sym e))
 
 pub signatures_on-nothing : (pieces : List (List ℕ)) → signatures_on [] pieces ≡ signatures_by pieces
@@ -86,17 +110,34 @@ signatures_on-nothing pieces = same (signatures_by pieces) where
 pub no_part : (line : List ℕ) → None ≡ cut_at space line → name_and_bytes (parts space line) ≡ Err SignatureFormat
 no_part line e = rw (parts-whole space line (sym e)) refl
 
-pub two_parts : (line first behind : List ℕ) → Some (first, behind) ≡ cut_at space line → None ≡ cut_at space behind → name_and_bytes (parts space line) ≡ Err SignatureFormat
-two_parts line first behind e f = rw (parts-cut space line first behind (omega arith) (sym e), parts-whole space behind (sym f)) refl
+pub two_parts : (line first behind : List ℕ) → Some (first, behind) ≡ cut_at space line → None ≡ cut_at space behind
+    → name_and_bytes (parts space line) ≡ Err SignatureFormat
+two_parts line first behind e f =
+    rw (parts-cut space line first behind (omega arith) (sym e), parts-whole space behind (sym f)) refl
 
-pub just_three : (line first behind name coded : List ℕ) → Some (first, behind) ≡ cut_at space line → Some (name, coded) ≡ cut_at space behind → None ≡ cut_at space coded → name_and_bytes (parts space line) ≡ Ok (name, coded)
+pub just_three : (line first behind name coded : List ℕ) → Some (first, behind) ≡ cut_at space line
+    → Some (name, coded) ≡ cut_at space behind → None ≡ cut_at space coded
+    → name_and_bytes (parts space line) ≡ Ok (name, coded)
 just_three line first behind name coded e f g =
-    rw (parts-cut space line first behind (omega arith) (sym e), parts-cut space behind name coded (omega arith) (sym f), parts-whole space coded (sym g)) refl
+    rw (
+      parts-cut space line first behind (omega arith) (sym e),
+      parts-cut space behind name coded (omega arith)
+          (sym f),
+      parts-whole space coded (sym g),
+    ) refl
 
-pub more_parts : (line first behind name coded more last : List ℕ) → Some (first, behind) ≡ cut_at space line → Some (name, coded) ≡ cut_at space behind → Some (more, last) ≡ cut_at space coded → name_and_bytes (parts space line) ≡ Err SignatureFormat
+pub more_parts : (line first behind name coded more last : List ℕ) → Some (first, behind) ≡ cut_at space line
+    → Some (name, coded) ≡ cut_at space behind → Some (more, last) ≡ cut_at space coded
+    → name_and_bytes (parts space line) ≡ Err SignatureFormat
 more_parts line first behind name coded more last e f g =
     let p = parts-first space last in
-    rw (parts-cut space line first behind (omega arith) (sym e), parts-cut space behind name coded (omega arith) (sym f), parts-cut space coded more last (omega arith) (sym g), p.2) refl
+    rw (
+      parts-cut space line first behind (omega arith) (sym e),
+      parts-cut space behind name coded (omega arith)
+          (sym f),
+      parts-cut space coded more last (omega arith) (sym g),
+      p.2,
+    ) refl
 
 pub ruleset three_parts = (no_part, two_parts, just_three, more_parts)
 

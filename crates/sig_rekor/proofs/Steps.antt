@@ -1,10 +1,15 @@
 -- Readers in steps: what an answer says of each step.
-use Rattle.std.proofs.Common.{◌≡◌, Bool, true, false, ◌⊎◌, cond, Option, Some, None, Result, Ok, Err, refl, inl, inr, ok_or, List, [], ◌∷◌, ◌++◌, subst, ap, IfOk}
+use Rattle.std.proofs.Common.{◌≡◌, Bool, true, false, ◌⊎◌, cond, Option, Some, None, Result, Ok, Err, refl, inl, inr}
+use Rattle.std.proofs.Common.{ok_or, List, [], ◌∷◌, ◌++◌, subst, ap, IfOk}
+use Rattle.std.proofs.lemmas.List.{append_assoc, flat_map_more, take_more}
 use Rattle.sig_base.specs.declared.fault.CheckpointFault.{CheckpointFault}
 use Rattle.std.specs.List.{AllZip, AllByRecursion}
 use Rattle.sig_base.proofs.ResultSteps.{bind_ok}
 use Rattle.sig_rekor.specs.declared.fault.ParseCheckpointError.{ParseCheckpointError}
 use Rattle.sig_rekor.specs.Reading.{each, as_error, Reads}
+
+-- what is appended, piece by piece and element by element
+pub ruleset appended = (append_assoc, flat_map_more, take_more)
 
 -- which way a test went
 pub chosen : {A : Type 0} (b : Bool) (x y z : A) → cond b x y ≡ z → ((b ≡ true) × (x ≡ z)) ⊎ ((b ≡ false) × (y ≡ z))
@@ -31,7 +36,8 @@ pub reads-only : {X : Type 0} (r : Result X ParseCheckpointError) (read : Result
 reads-only r read x is same = subst (Reads (λ x. x) r) same is
 
 -- each of a list
-pub each-found : {A B : Type 0} (read : A → Result B CheckpointFault) (R : A → B → Type 0) → ((x : A) (y : B) → read x ≡ Ok y → R x y) → (xs : List A) (ys : List B) → each read xs ≡ Ok ys → AllZip R xs ys
+pub each-found : {A B : Type 0} (read : A → Result B CheckpointFault) (R : A → B → Type 0)
+    → ((x : A) (y : B) → read x ≡ Ok y → R x y) → (xs : List A) (ys : List B) → each read xs ≡ Ok ys → AllZip R xs ys
 each-found read R found [] [] e = tt
 each-found read R found [] (y ∷ ys) e = cc
 each-found read R found (x ∷ xs) ys e =
@@ -40,13 +46,15 @@ each-found read R found (x ∷ xs) ys e =
     let same : a.0 ∷ b.0 ≡ ys = (let f = b.2 in cc) in
     subst (AllZip R (x ∷ xs)) same (found x a.0 a.1, each-found read R found xs b.0 b.1)
 
-pub each-only : {A B : Type 0} (read : A → Result B CheckpointFault) (R : A → B → Type 0) → ((x : A) (y : B) → R x y → read x ≡ Ok y) → (xs : List A) (ys : List B) → AllZip R xs ys → each read xs ≡ Ok ys
+pub each-only : {A B : Type 0} (read : A → Result B CheckpointFault) (R : A → B → Type 0)
+    → ((x : A) (y : B) → R x y → read x ≡ Ok y) → (xs : List A) (ys : List B) → AllZip R xs ys → each read xs ≡ Ok ys
 each-only read R only [] [] are = refl
 each-only read R only [] (y ∷ ys) are = absurd are
 each-only read R only (x ∷ xs) [] are = absurd are
 each-only read R only (x ∷ xs) (y ∷ ys) are = rw (only x y are.0, each-only read R only xs ys are.1) refl
 
 -- one more element of which P holds
-pub all_push : {A : Type 0} (P : A → Type 0) (xs : List A) (x : A) → AllByRecursion P xs → P x → AllByRecursion P (xs ++ x ∷ [])
+pub all_push : {A : Type 0} (P : A → Type 0) (xs : List A) (x : A) → AllByRecursion P xs → P x
+    → AllByRecursion P (xs ++ x ∷ [])
 all_push P [] x all here = (here, tt)
 all_push P (y ∷ xs) x all here = (all.0, all_push P xs x all.1 here)

@@ -1,4 +1,5 @@
--- The characters that the format names, by their code points in hexadecimal as Unicode lists them, and how long its fixed parts are.
+-- The characters that the format names, by their code points in hexadecimal as Unicode lists them, and how long its
+-- fixed parts are.
 use Rattle.std.specs.Prelude.{◌≡◌, ℕ, ◌*◌, Bool, List, [], ◌∷◌, ◌++◌}
 use Rattle.std.specs.Char.{encode_utf8, char_set_contains}
 use Rattle.sig_rekor.specs.NoteText.{line_feed, newline, colon, hash_len}

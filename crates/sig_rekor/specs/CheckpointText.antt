@@ -23,7 +23,7 @@ abbrev pub is_written : List ℕ → Bool
 is_written piece = not (is_blank piece)
 
 -- *Checkpoint grammar*: with quotation marks trimmed, the text is a note text, the first empty line, and a rest.
--- The pieces of the rest between empty lines that are not only white space stand for the signatures one by one
+-- The pieces of the rest between empty lines that are not only white space are the signatures one by one
 pub record IsCheckpoint (text : List ℕ) (checkpoint : SignedCheckpoint) : Type 0 where
   pub body : List ℕ
   pub note_part : List ℕ
@@ -51,10 +51,11 @@ checkpoint_by (Some cut) = do
   note ← note_of cut.0
   Ok (record { note = note; signatures = signatures })
 
--- the checkpoint that a text stands for, or the first rule that is broken
+-- the checkpoint that a text means, or the first rule that is broken
 unfoldable pub checkpoint_of : List ℕ → Result SignedCheckpoint CheckpointFault
 checkpoint_of text = checkpoint_by (cut_at empty_line (trimmed quotation_mark text))
 
 -- how a checkpoint is written: the note text, two newlines, and the signatures with a newline between each two
 unfoldable pub checkpoint_text : SignedCheckpoint → List ℕ
-checkpoint_text checkpoint = note_text checkpoint.note ++ (empty_line ++ join_by signature_text newline checkpoint.signatures)
+checkpoint_text checkpoint =
+    note_text checkpoint.note ++ (empty_line ++ join_by signature_text newline checkpoint.signatures)

@@ -1,6 +1,7 @@
 -- Cutting a text, as the checkpoint format does it: marks trimmed at its ends, and the parts between separators.
 -- Each cut is a relation that puts the text together again, beside a function on bytes that finds it.
-use Rattle.std.specs.Prelude.{◌≡◌, ◌≢◌, ℕ, zero, suc, ◌≤◌, ◌==◌, if◌then◌else◌, List, [], ◌∷◌, ◌++◌, length, reverse, replicate, Option, Some, None, option_map}
+use Rattle.std.specs.Prelude.{◌≡◌, ◌≢◌, ℕ, zero, suc, ◌≤◌, ◌==◌, if◌then◌else◌, List, [], ◌∷◌, ◌++◌, length, reverse}
+use Rattle.std.specs.Prelude.{replicate, Option, Some, None, option_map}
 
 -- the text is the body between marks, all of them: the body neither begins nor ends with one
 pub record IsTrimmed (mark : ℕ) (text body : List ℕ) : Type 0 where
@@ -10,11 +11,11 @@ pub record IsTrimmed (mark : ℕ) (text body : List ℕ) : Type 0 where
   pub front : (rest : List ℕ) → body ≢ mark ∷ rest
   pub back : (rest : List ℕ) → body ≢ rest ++ mark ∷ []
 
--- the separator stands nowhere in the text
+-- the separator is nowhere in the text
 abbrev pub Lacks : List ℕ → List ℕ → Type 0
 Lacks separator text = (before after : List ℕ) → text ≢ before ++ (separator ++ after)
 
--- the text is what stands before the first separator, the separator, and what stands after it
+-- the text is what is before the first separator, the separator, and what is after it
 pub record IsCut (separator text before after : List ℕ) : Type 0 where
   pub whole : text ≡ before ++ (separator ++ after)
   pub first : (front back : List ℕ) → text ≡ front ++ (separator ++ back) → length before ≤ length front
@@ -23,7 +24,8 @@ pub record IsCut (separator text before after : List ℕ) : Type 0 where
 abbrev pub IsParts : List ℕ → List ℕ → List (List ℕ) → Type 0
 IsParts separator text [] = ⊥
 IsParts separator text (part ∷ []) = (text ≡ part) × Lacks separator text
-IsParts separator text (part ∷ next ∷ parts) = (rest : List ℕ) × IsCut separator text part rest × IsParts separator rest (next ∷ parts)
+IsParts separator text (part ∷ next ∷ parts) =
+    (rest : List ℕ) × IsCut separator text part rest × IsParts separator rest (next ∷ parts)
 
 -- the text without the marks at its front, and at both its ends
 abbrev pub without_front : ℕ → List ℕ → List ℕ
@@ -36,7 +38,7 @@ without_back mark text = reverse (without_front mark (reverse text))
 unfoldable pub trimmed : ℕ → List ℕ → List ℕ
 trimmed mark text = without_back mark (without_front mark text)
 
--- what stands after the separator, where the text begins with it
+-- what is after the separator, where the text begins with it
 abbrev pub after_separator : List ℕ → List ℕ → Option (List ℕ)
 after_separator [] text = Some text
 after_separator (s ∷ separator) [] = None
@@ -47,12 +49,12 @@ abbrev pub cut_here : ℕ → Option (List ℕ) → Option (List ℕ × List ℕ
 cut_here b (Some after) later = Some ([], after)
 cut_here b None later = option_map (λ (cut : List ℕ × List ℕ). (b ∷ cut.0, cut.1)) later
 
--- what stands before and after the first separator, where there is one
+-- what is before and after the first separator, where there is one
 unfoldable pub cut_at : List ℕ → List ℕ → Option (List ℕ × List ℕ)
 cut_at separator [] = None
 cut_at separator (b ∷ bs) = cut_here b (after_separator separator (b ∷ bs)) (cut_at separator bs)
 
--- the part before the cut, and then those of what stands after it
+-- the part before the cut, and then those of what is after it
 abbrev pub parts_of_cut : List ℕ → (List ℕ → List (List ℕ)) → Option (List ℕ × List ℕ) → List (List ℕ)
 parts_of_cut text more None = text ∷ []
 parts_of_cut text more (Some cut) = cut.0 ∷ more cut.1

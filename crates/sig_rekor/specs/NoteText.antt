@@ -1,13 +1,15 @@
 -- The note of a checkpoint, both ways: origin, size, root hash and further contents, a line each
 -- (the checkpoint format of transparency-dev, "Checkpoint body").
-use Rattle.std.specs.Prelude.{◌≡◌, ℕ, ◌<◌, ◌^◌, Bool, false, ◌&&◌, nat_lt, if◌then◌else◌, List, [], ◌∷◌, ◌++◌, length, map, filter, codes, Option, Some, None, Result, Ok, Err, decimal, ◌==◌}
+use Rattle.std.specs.Prelude.{◌≡◌, ℕ, ◌<◌, ◌^◌, Bool, false, ◌&&◌, nat_lt, if◌then◌else◌, List, [], ◌∷◌, ◌++◌, length}
+use Rattle.std.specs.Prelude.{map, filter, codes, Option, Some, None, Result, Ok, Err, decimal, ◌==◌}
 use Rattle.std.specs.List.{AllZip, list_all, flat_map}
 use Rattle.std.specs.Char.{is_ascii_digit}
 use Rattle.std.specs.Str.{trim}
 use Rattle.std.specs.Str.Parse.{IsNumeral, digits_value, without_leading_plus}
 use Rattle.sig_base.specs.ResultSteps.{◌>>=◌}
 use Rattle.sig_base.specs.declared.fault.CheckpointFault.{CheckpointFault}
-use Rattle.sig_base.specs.declared.fault.CheckpointFault.TheVariants.{NoteFormat, EmptyOrigin, Size, HashBase64, HashLength}
+use Rattle.sig_base.specs.declared.fault.CheckpointFault.TheVariants.{NoteFormat, EmptyOrigin, Size, HashBase64}
+use Rattle.sig_base.specs.declared.fault.CheckpointFault.TheVariants.{HashLength}
 use Rattle.sig_rekor.specs.declared.checkpoint.Checkpoint.{Checkpoint}
 use Rattle.sig_rekor.specs.declared.checkpoint.OtherContent.{OtherContent}
 use Rattle.sig_rekor.specs.declared.checkpoint.OtherContent.TheVariants.{KeyValue, Value}
@@ -44,9 +46,11 @@ IsContent line (Value value) = (value ≡ line) × Lacks colon line
 
 -- digits of a number below 2^64, after an optional plus sign
 abbrev pub IsSize : List ℕ → ℕ → Type 0
-IsSize line n = IsNumeral 10 (without_leading_plus line) × (n ≡ digits_value 10 (without_leading_plus line)) × (n < 2 ^ 64)
+IsSize line n =
+    IsNumeral 10 (without_leading_plus line) × (n ≡ digits_value 10 (without_leading_plus line)) × (n < 2 ^ 64)
 
--- *Note*: the text is at least three lines, which stand for the origin, the size and the root hash, and each further line that is not empty for a content
+-- *Note*: the text is at least three lines, which are the origin, the size and the root hash, and each further line
+-- that is not empty is a content
 pub record IsNote (text : List ℕ) (note : Checkpoint) : Type 0 where
   pub size_line : List ℕ
   pub hash_line : List ℕ
@@ -68,7 +72,7 @@ content_of line = content_by line (cut_at colon line)
 unfoldable pub contents_of : List (List ℕ) → List OtherContent
 contents_of lines = map content_of (filter is_not_empty lines)
 
--- the size that a line stands for
+-- the size that a line says
 abbrev pub size_by : List ℕ → Result ℕ CheckpointFault
 size_by digits = if list_all is_ascii_digit digits && (is_not_empty digits && nat_lt (digits_value 10 digits) (2 ^ 64))
     then Ok (digits_value 10 digits) else Err Size
@@ -76,7 +80,7 @@ size_by digits = if list_all is_ascii_digit digits && (is_not_empty digits && na
 unfoldable pub size_of : List ℕ → Result ℕ CheckpointFault
 size_of line = size_by (without_leading_plus line)
 
--- the hash that a line stands for
+-- the hash that a line says
 abbrev pub hash_by : List ℕ → Result (List ℕ) CheckpointFault
 hash_by bytes = if length bytes == hash_len then Ok bytes else Err HashLength
 
@@ -108,4 +112,6 @@ content_line content = content_text content ++ newline
 
 -- *Note text*: origin, size in decimal, base64 of the hash and the contents, each ended by a newline
 unfoldable pub note_text : Checkpoint → List ℕ
-note_text note = note.origin ++ (newline ++ (decimal note.size ++ (newline ++ (base64_text note.hash ++ (newline ++ flat_map content_line note.other_content)))))
+note_text note =
+    note.origin ++ (newline ++ (decimal note.size ++
+    (newline ++ (base64_text note.hash ++ (newline ++ flat_map content_line note.other_content)))))

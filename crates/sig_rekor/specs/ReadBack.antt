@@ -11,7 +11,7 @@ use Rattle.sig_rekor.specs.NoteText.{newline, hash_len, is_blank, content_of, co
 use Rattle.sig_rekor.specs.SignatureText.{space, fingerprint_len, signed_bytes}
 use Rattle.sig_rekor.specs.CheckpointText.{quotation_mark}
 
--- one line that is not empty and stands for this content: a value has no `: `, and a key none either
+-- one line that is not empty and means this content: a value has no `: `, and a key none either
 pub record IsLineOf (content : OtherContent) : Type 0 where
   pub line : Lacks newline (content_text content)
   pub written : 0 < length (content_text content)
@@ -22,7 +22,8 @@ pub record IsName (name : List ℕ) : Type 0 where
   pub word : Lacks space name
   pub line : Lacks newline name
 
--- *Reads back*: an origin of one line that is more than white space and starts with no quotation mark, contents that are lines, and names
+-- *Reads back*: an origin of one line that is more than white space and starts with no quotation mark, contents that
+-- are lines, and names
 pub record ReadsBack (checkpoint : SignedCheckpoint) : Type 0 where
   pub origin : is_blank checkpoint.note.origin ≡ false
   pub line : Lacks newline checkpoint.note.origin

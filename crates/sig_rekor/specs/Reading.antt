@@ -1,4 +1,4 @@
--- What a reader of the checkpoint format answers: the value, or the first rule that is broken.
+-- What a reader of the checkpoint format returns: the value, or the first rule that is broken.
 use Rattle.std.specs.Prelude.{◌≡◌, ℕ, Result, Ok, Err, List, [], ◌∷◌}
 use Rattle.std.specs.Option.{ok_or}
 use Rattle.sig_base.specs.Answers.{Answers}

@@ -4,4 +4,5 @@ use Rattle.std.specs.Prelude.{◌≡◌, ◌⊎◌, List, [], ◌∷◌}
 -- of the rules from the left, `rule` is the first that does not hold: each before it holds
 abbrev pub FailsFirst : {R : Type 0} → (R → Type 0) → List R → R → Type 0
 FailsFirst Holds [] rule = ⊥
-FailsFirst Holds (first ∷ others) rule = (¬ Holds first × (rule ≡ first)) ⊎ (Holds first × FailsFirst Holds others rule)
+FailsFirst Holds (first ∷ others) rule =
+    (¬ Holds first × (rule ≡ first)) ⊎ (Holds first × FailsFirst Holds others rule)

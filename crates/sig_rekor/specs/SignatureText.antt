@@ -1,11 +1,13 @@
--- A signature line of a checkpoint, both ways: an em dash, the name of the key, and in base64 the key's fingerprint and the signature
--- (the checkpoint format of transparency-dev, "Signed Envelope"; Go's sumdb/note).
-use Rattle.std.specs.Prelude.{◌≡◌, ℕ, nat_lt, nat_eq, if◌then◌else◌, List, [], ◌∷◌, ◌++◌, length, take, drop, Some, Result, Ok, Err}
+-- A signature line of a checkpoint, both ways: an em dash, the name of the key, and in base64 the key's fingerprint
+-- and the signature (the checkpoint format of transparency-dev, "Signed Envelope"; Go's sumdb/note).
+use Rattle.std.specs.Prelude.{◌≡◌, ℕ, nat_lt, nat_eq, if◌then◌else◌, List, [], ◌∷◌, ◌++◌, length, take, drop, Some}
+use Rattle.std.specs.Prelude.{Result, Ok, Err}
 use Rattle.std.specs.List.{starts_with}
 use Rattle.std.specs.Str.{trim_end}
 use Rattle.sig_base.specs.ResultSteps.{◌>>=◌}
 use Rattle.sig_base.specs.declared.fault.CheckpointFault.{CheckpointFault}
-use Rattle.sig_base.specs.declared.fault.CheckpointFault.TheVariants.{NoDash, SignatureFormat, SignatureBase64, SignatureLength}
+use Rattle.sig_base.specs.declared.fault.CheckpointFault.TheVariants.{NoDash, SignatureFormat, SignatureBase64}
+use Rattle.sig_base.specs.declared.fault.CheckpointFault.TheVariants.{SignatureLength}
 use Rattle.sig_rekor.specs.declared.checkpoint.CheckpointSignature.{CheckpointSignature}
 use Rattle.sig_rekor.specs.Cut.{IsTrimmed, IsParts, trimmed, parts}
 use Rattle.sig_base.specs.Base64.{base64_bytes, base64_text}
@@ -28,7 +30,8 @@ abbrev pub signed_bytes : CheckpointSignature → List ℕ
 signed_bytes signature = signature.key_fingerprint ++ signature.raw
 
 -- *Signature*: with newlines trimmed, the text starts with an em dash and has three parts between single spaces.
--- The second is the name, and the third, white space at its end dropped, the base64 of the fingerprint's four bytes and the signature's
+-- The second is the name, and the third, white space at its end dropped, the base64 of the fingerprint's four bytes
+-- and the signature's
 pub record IsSignature (text : List ℕ) (signature : CheckpointSignature) : Type 0 where
   pub line : List ℕ
   pub behind_dash : List ℕ
@@ -54,7 +57,7 @@ abbrev pub signature_by : List ℕ → List ℕ → Result CheckpointSignature C
 signature_by name bytes = if nat_lt (length bytes) fingerprint_len then Err SignatureLength
     else Ok (record { key_fingerprint = take fingerprint_len bytes; raw = drop fingerprint_len bytes; name = name })
 
--- the signature that a text stands for, or the first rule that is broken
+-- the signature that a text means, or the first rule that is broken
 unfoldable pub signature_of : List ℕ → Result CheckpointSignature CheckpointFault
 signature_of text = do
   line ← line_of text
@@ -64,4 +67,5 @@ signature_of text = do
 
 -- how a signature is written: em dash, space, name, space, base64, newline
 unfoldable pub signature_text : CheckpointSignature → List ℕ
-signature_text signature = em_dash ++ (space ++ (signature.name ++ (space ++ (base64_text (signed_bytes signature) ++ newline))))
+signature_text signature =
+    em_dash ++ (space ++ (signature.name ++ (space ++ (base64_text (signed_bytes signature) ++ newline))))

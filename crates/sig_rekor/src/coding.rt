@@ -1,4 +1,4 @@
-//! Base64 as checkpoints use it, with the fault of the place.
+//! Base64 as checkpoints use it, with the fault of the line.
 ghost use Rattle.sig_rekor.specs.Reading.{Reads, base64_of};
 
 use crate::fault::ParseCheckpointError;

@@ -3,7 +3,7 @@ ghost use Rattle.std.specs.Prelude.{◌≡◌, ◌<◌, length, option_map, IfSo
 ghost use Rattle.sig_rekor.specs.Cut.{cut_at, trimmed as without_marks};
 ghost use Rattle.sig_rekor.specs.NoteText.{is_blank};
 
-/// What stands before and after the first separator, where there is one.
+/// What is before and after the first separator, or `None` if there is none.
 pub(crate) fn cut<'a>(text: &'a str, separator: &str) -> Option<(&'a str, &'a str)>
     requires { 0 < length separator.now }
     ensures cut { option_map (λ x. (x.0.now, x.1.now)) result ≡ cut_at separator.now text.now }

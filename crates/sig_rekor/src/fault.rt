@@ -8,7 +8,7 @@ pub enum ParseCheckpointError {
     /// The rule of the checkpoint format that the text breaks first.
     #[error("DecodeError")]
     DecodeError(CheckpointFault),
-    /// No memory could be had.
+    /// Out of memory.
     #[error("OutOfMemory")]
     OutOfMemory,
 }

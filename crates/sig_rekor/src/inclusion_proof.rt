@@ -13,7 +13,7 @@ use std::alloc::Global;
 /// The path from an entry's leaf to the root of a log's tree (RFC 6962 section 2.1.1), with a checkpoint of that tree.
 #[derive(Drop, PartialEq, Eq)]
 pub struct InclusionProof {
-    /// The place of the leaf in the tree, counted from 0.
+    /// The index of the leaf in the tree.
     pub log_index: i64,
     /// The root hash of the tree.
     pub root_hash: [u8; 32],
@@ -53,8 +53,8 @@ impl InclusionProof {
         }
     }
 
-    /// Checks that the log vouches for the entry: a checkpoint is present, one of its signatures is the log's, it is of this
-    /// proof's tree, and the audit path leads from the entry's leaf to the root.
+    /// Checks that the log vouches for the entry: a checkpoint is present, one of its signatures is the log's, it is
+    /// of this proof's tree, and the audit path leads from the entry's leaf to the root.
     ///
     /// Errors, the first that applies:
     /// - `UnexpectedError` of `CheckpointMissing`;
@@ -72,7 +72,8 @@ impl InclusionProof {
     ) -> Result<()>
         ensures answer { Answers Memory (λ x. x) result
             (proof_answer (key_accepts (C.spki_accepts checker.now) rekor_key.now) entry.now self.now) }
-        ensures ok { OnOk result (IsVouched (key_accepts (C.spki_accepts checker.now) rekor_key.now) entry.now self.now) }
+        ensures ok { OnOk result (IsVouched (key_accepts (C.spki_accepts checker.now) rekor_key.now) entry.now
+            self.now) }
         ensures only { IsVouched (key_accepts (C.spki_accepts checker.now) rekor_key.now) entry.now self.now
             → IsOkUnless result Memory }
     {

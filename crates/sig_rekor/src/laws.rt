@@ -1,4 +1,4 @@
-//! What the format's constants are, where each refusal comes, and what equality is.
+//! What the format's constants are, when each error comes, and what equality is.
 ghost use Rattle.std.specs.Prelude.{◌≡◌, ◌↔◌, IsTrue, List, ℕ, Err};
 ghost use Rattle.std.specs.Char.{is_whitespace};
 ghost use Rattle.std.specs.List.{list_all};
@@ -64,29 +64,29 @@ pub fn equal_proofs(one: &InclusionProof, other: &InclusionProof) -> bool
     one == other
 }
 
-/// Whether two refusals are equal: if and only if both are of memory, or both of one fault.
+/// Whether two errors are equal: if and only if both are out of memory, or both the same fault.
 pub fn equal_refusals(one: &ParseCheckpointError, other: &ParseCheckpointError) -> bool
     ensures { IsTrue result ↔ (one.now ≡ other.now) }
 {
     one == other
 }
 
-/// A text is refused as a note with a fault if and only if it is the first of the note's rules that the text breaks. It
-/// has no code.
+/// Reading a text as a note fails with a fault if and only if it is the first of the note's rules that the text
+/// breaks. It has no code.
 pub fn note_faults()
     ensures { (text : List ℕ) (fault : CheckpointFault) → (note_of text ≡ Err fault) ↔ IsNoteFault text fault }
 {}
 
-/// A text is refused as a signature with a fault if and only if it is the first of the signature's rules that the text
-/// breaks. It has no code.
+/// Reading a text as a signature fails with a fault if and only if it is the first of the signature's rules that the
+/// text breaks. It has no code.
 pub fn signature_faults()
     ensures { (text : List ℕ) (fault : CheckpointFault) →
         (signature_of text ≡ Err fault) ↔ IsSignatureFault text fault }
 {}
 
-/// A text is refused as a checkpoint with a fault if and only if the fault is `Format` and no empty line is there, or it
-/// is the fault of the first piece, from the left, that is no signature, or all are and it is the note's. It has no
-/// code.
+/// Reading a text as a checkpoint fails with a fault if and only if the fault is `Format` and no empty line is there,
+/// or it is the fault of the first piece, from the left, that is no signature, or all are and it is the note's. It has
+/// no code.
 pub fn checkpoint_faults()
     ensures { (text : List ℕ) (fault : CheckpointFault) →
         (checkpoint_of text ≡ Err fault) ↔ IsCheckpointFault text fault }

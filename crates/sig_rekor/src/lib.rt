@@ -1,8 +1,8 @@
 //! Models of the transparency log Rekor: signed checkpoints, and inclusion proofs that carry one.
 //!
-//! The layer above uses two facts. [`SignedCheckpoint::decode`] returns the checkpoint that its text means, or the first
-//! rule that the text breaks. [`InclusionProof::verify`] fails with the first condition that does not hold, in this
-//! order: a checkpoint, an accepted signature, a note of the same tree, inclusion.
+//! The layer above uses two facts. [`SignedCheckpoint::decode`] returns the checkpoint that its text means, or the
+//! first rule that the text breaks. [`InclusionProof::verify`] fails with the first condition that does not hold, in
+//! this order: a checkpoint, an accepted signature, a note of the same tree, inclusion.
 //!
 //! The format is transparency-dev's checkpoint (C2SP tlog-checkpoint) in a signed note (C2SP signed-note):
 //!

@@ -12,7 +12,8 @@ ghost use Rattle.sig_rekor.specs.declared.checkpoint.Checkpoint.{Checkpoint as N
 ghost use Rattle.std.specs.List.{flat_map};
 ghost use Rattle.sig_rekor.specs.Cut.{parts};
 ghost use Rattle.sig_rekor.specs.Reading.{Reads};
-ghost use Rattle.sig_rekor.specs.NoteText.{newline, content_of, contents_of, content_line, origin_of, size_of, hash_of, note_by, note_of, note_text, IsNote};
+ghost use Rattle.sig_rekor.specs.NoteText.{newline, content_of, contents_of, content_line, origin_of, size_of};
+ghost use Rattle.sig_rekor.specs.NoteText.{hash_of, note_by, note_of, note_text, IsNote};
 ghost use Rattle.sig_rekor.specs.ReadBack.{IsNoteValue};
 
 use crate::checkpoint::{Checkpoint, OtherContent, OtherContents};
@@ -49,7 +50,7 @@ impl Checkpoint {
     }
 
     /// The note's text, to write on behind it.
-    #[tactic(auto, using(std::proofs::lemmas::List::append_assoc), unfolding(crate::specs::NoteText::note_text))]
+    #[tactic(auto, using(crate::proofs::Steps::appended), unfolding(crate::specs::NoteText::note_text))]
     pub(crate) fn write(&self, alloc: Global) -> Result<String, OutOfMemory>
         ensures text { IfOk result (λ text. string_bytes text ≡ note_text self.now) }
         ensures value { OnOk result (IsNoteValue self.now) }
@@ -62,7 +63,7 @@ impl Checkpoint {
     }
 }
 
-/// The first three lines of a note, and what stands behind them.
+/// The first three lines of a note, and what follows them.
 #[derive(Drop)]
 struct Lines<'a> {
     origin: &'a str,
@@ -92,7 +93,8 @@ fn read_note(alloc: Global, text: &str) -> Result<Checkpoint, ParseCheckpointErr
 #[tactic(auto, using(crate::proofs::Notes::all_lines))]
 fn lines_of(text: &str) -> Option<Lines<'_>>
     ensures { MatchOption result (note_of text.now ≡ Err NoteFormat)
-        (λ lines. note_of text.now ≡ note_by (lines.origin.now ∷ lines.size.now ∷ lines.hash.now ∷ parts newline lines.others.now)) }
+        (λ lines. note_of text.now ≡ note_by (lines.origin.now ∷ lines.size.now ∷ lines.hash.now ∷ parts newline
+        lines.others.now)) }
 {
     let (origin, rest) = cut(text, "\n")?;
     let (size, rest) = cut(rest, "\n")?;
@@ -178,7 +180,7 @@ fn read_content(alloc: Global, line: &str) -> Result<OtherContent, OutOfMemory>
     }
 }
 
-#[tactic(auto, using(std::proofs::lemmas::List::flat_map_more, std::proofs::lemmas::List::take_more, std::proofs::lemmas::List::append_assoc))]
+#[tactic(auto, using(crate::proofs::Steps::appended))]
 fn push_contents(text: &mut String, contents: &[OtherContent]) -> Result<(), OutOfMemory>
     ensures { OnOk result (string_bytes text.new ≡ string_bytes text.old ++ flat_map content_line contents.now) }
 {

@@ -11,7 +11,8 @@ ghost use Rattle.sig_rekor.specs.declared.checkpoint.CheckpointSignature.{Checkp
 ghost use Rattle.sig_rekor.specs.Cut.{parts};
 ghost use Rattle.sig_base.specs.Base64.{base64_text};
 ghost use Rattle.sig_rekor.specs.Reading.{Reads};
-ghost use Rattle.sig_rekor.specs.SignatureText.{space, line_of, name_and_bytes, signature_by, signature_of, signature_text, signed_bytes, IsSignature};
+ghost use Rattle.sig_rekor.specs.SignatureText.{space, line_of, name_and_bytes, signature_by, signature_of};
+ghost use Rattle.sig_rekor.specs.SignatureText.{signature_text, signed_bytes, IsSignature};
 ghost use Rattle.sig_rekor.specs.ReadBack.{IsName, IsSignatureValue};
 
 use crate::checkpoint::CheckpointSignature;
@@ -37,8 +38,8 @@ impl CheckpointSignature {
         read_signature(alloc, s)
     }
 
-    /// Writes the signature: em dash, space, name, space, base64 of fingerprint and signature, newline. It is read back
-    /// if the name has neither a space nor a newline. Fails if out of memory alone.
+    /// Writes the signature: em dash, space, name, space, base64 of fingerprint and signature, newline. It is read
+    /// back if the name has neither a space nor a newline. Fails if out of memory alone.
     pub fn encode(&self, alloc: Global) -> Result<Text, OutOfMemory>
         ensures text { IfOk result (λ text. text ≡ signature_text self.now) }
         ensures reads_back { IsName self.now.name → IfOk result (λ text. signature_of text ≡ Ok self.now) }
@@ -47,7 +48,7 @@ impl CheckpointSignature {
     }
 
     /// The signature's text.
-    #[tactic(auto, using(std::proofs::lemmas::List::append_assoc), unfolding(crate::specs::SignatureText::signature_text))]
+    #[tactic(auto, using(crate::proofs::Steps::appended), unfolding(crate::specs::SignatureText::signature_text))]
     pub(crate) fn write(&self, alloc: Global) -> Result<Text, OutOfMemory>
         ensures text { IfOk result (λ text. text ≡ signature_text self.now) }
         ensures value { OnOk result (IsSignatureValue self.now) }
@@ -114,7 +115,8 @@ fn read_line(text: &str) -> Result<&str, ParseCheckpointError>
 /// The second and the third of three parts.
 #[tactic(auto, using(crate::proofs::Signatures::three_parts))]
 fn name_and_bytes(line: &str) -> Option<(&str, &str)>
-    ensures { name_and_bytes (parts space line.now) ≡ ok_or (option_map (λ x. (x.0.now, x.1.now)) result) SignatureFormat }
+    ensures { name_and_bytes (parts space line.now) ≡ ok_or
+        (option_map (λ x. (x.0.now, x.1.now)) result) SignatureFormat }
 {
     let (_, behind) = cut(line, " ")?;
     let (name, coded) = cut(behind, " ")?;

@@ -1,4 +1,12 @@
 //! A signed checkpoint as text: a note, an empty line, and signatures between empty lines.
+//!
+//! ```text
+//! log.example
+//! 1
+//! OVqgZKpMKfcBCs/j8l25SFu9S5GJe2rXrVR2OSUrTVY=
+//!
+//! — log.example AAAAAXNpZw==
+//! ```
 ghost use Rattle.std.specs.Prelude.{◌≡◌, ◌++◌, ◌∷◌, [], Ok, IfOk, OnOk, string_bytes};
 ghost use Rattle.std.specs.List.{AllByRecursion, join_by, flat_map};
 ghost use Rattle.std.specs.Option.{option_to_list};
@@ -7,7 +15,8 @@ ghost use Rattle.sig_rekor.specs.Cut.{parts};
 ghost use Rattle.sig_rekor.specs.Reading.{Reads};
 ghost use Rattle.sig_rekor.specs.NoteText.{newline};
 ghost use Rattle.sig_rekor.specs.SignatureText.{signature_text};
-ghost use Rattle.sig_rekor.specs.CheckpointText.{empty_line, signatures_by, signatures_on, checkpoint_of, checkpoint_text, IsCheckpoint};
+ghost use Rattle.sig_rekor.specs.CheckpointText.{empty_line, signatures_by, signatures_on, checkpoint_of};
+ghost use Rattle.sig_rekor.specs.CheckpointText.{checkpoint_text, IsCheckpoint};
 ghost use Rattle.sig_rekor.specs.ReadBack.{IsNoteValue, IsSignatureValue, ReadsBack};
 
 use crate::checkpoint::{Checkpoint, CheckpointSignature, CheckpointSignatures, SignedCheckpoint};
@@ -17,12 +26,12 @@ use sig_base::{CheckpointFault, OutOfMemory, Text};
 use std::alloc::Global;
 
 impl SignedCheckpoint {
-    /// Reads a signed checkpoint. Quotation marks at both ends are dropped, and so is what is between two empty lines and
-    /// only white space.
+    /// Reads a signed checkpoint. Quotation marks at both ends are dropped, and so is what is between two empty lines
+    /// and only white space.
     ///
     /// Errors, the first whose rule is broken: `Format` where no empty line ends a note, then those of
-    /// [`CheckpointSignature::decode`] for the signatures from the left, then those of [`Checkpoint::unmarshal`] for the
-    /// note.
+    /// [`CheckpointSignature::decode`] for the signatures from the left, then those of [`Checkpoint::unmarshal`] for
+    /// the note.
     pub fn decode(alloc: Global, s: &str) -> Result<SignedCheckpoint, ParseCheckpointError>
         ensures found { IfOk result (λ checkpoint. IsCheckpoint s.now checkpoint) }
         ensures only { (checkpoint : Signed) → IsCheckpoint s.now checkpoint → Reads (λ x. x) result (Ok checkpoint) }
@@ -31,8 +40,8 @@ impl SignedCheckpoint {
         read_checkpoint(alloc, s)
     }
 
-    /// Writes the checkpoint: the note, two newlines, and the signatures with a newline between each two. It is read back
-    /// if `ReadsBack` holds. Fails if out of memory alone.
+    /// Writes the checkpoint: the note, two newlines, and the signatures with a newline between each two. It is read
+    /// back if `ReadsBack` holds. Fails if out of memory alone.
     pub fn encode(&self, alloc: Global) -> Result<Text, OutOfMemory>
         ensures text { IfOk result (λ text. text ≡ checkpoint_text self.now) }
         ensures reads_back { ReadsBack self.now → IfOk result (λ text. checkpoint_of text ≡ Ok self.now) }
@@ -41,7 +50,7 @@ impl SignedCheckpoint {
     }
 
     /// The checkpoint's text.
-    #[tactic(auto, using(std::proofs::lemmas::List::append_assoc), unfolding(crate::specs::CheckpointText::checkpoint_text))]
+    #[tactic(auto, using(crate::proofs::Steps::appended), unfolding(crate::specs::CheckpointText::checkpoint_text))]
     fn write(&self, alloc: Global) -> Result<Text, OutOfMemory>
         ensures text { IfOk result (λ text. text ≡ checkpoint_text self.now) }
         ensures note { OnOk result (IsNoteValue self.now.note) }
@@ -98,13 +107,14 @@ fn add_signature(
 }
 
 /// Writes signatures with a newline between each two.
-#[tactic(auto, using(std::proofs::lemmas::List::append_assoc))]
+#[tactic(auto, using(crate::proofs::Steps::appended))]
 fn push_signatures(
     alloc: Global,
     text: &mut String,
     signatures: &[CheckpointSignature],
 ) -> Result<(), OutOfMemory>
-    ensures text { OnOk result (string_bytes text.new ≡ string_bytes text.old ++ join_by signature_text newline signatures.now) }
+    ensures text { OnOk result (string_bytes text.new ≡ string_bytes text.old ++ join_by signature_text newline
+        signatures.now) }
     ensures values { OnOk result (AllByRecursion IsSignatureValue signatures.now) }
 {
     let Some((first, others)) = signatures.split_first() else {
@@ -116,13 +126,14 @@ fn push_signatures(
 }
 
 /// Writes signatures with a newline before each.
-#[tactic(auto, using(std::proofs::lemmas::List::flat_map_more, std::proofs::lemmas::List::take_more, std::proofs::lemmas::List::append_assoc, crate::proofs::Steps::all_push))]
+#[tactic(auto, using(crate::proofs::Steps::appended, crate::proofs::Steps::all_push))]
 fn push_others(
     alloc: Global,
     text: &mut String,
     signatures: &[CheckpointSignature],
 ) -> Result<(), OutOfMemory>
-    ensures text { OnOk result (string_bytes text.new ≡ string_bytes text.old ++ flat_map (λ s. newline ++ signature_text s) signatures.now) }
+    ensures text { OnOk result (string_bytes text.new ≡ string_bytes text.old ++ flat_map
+        (λ s. newline ++ signature_text s) signatures.now) }
     ensures values { OnOk result (AllByRecursion IsSignatureValue signatures.now) }
 {
     for signature in signatures {

@@ -17,11 +17,11 @@ impl SignedCheckpoint {
     /// Checks that one of the signatures is the log's over the marshalled note. Fails with
     /// `CheckpointSignatureVerificationError` if and only if the checker accepts none of them.
     ///
-    /// The note is marshalled once, and the checker is asked once for each different signature, in byte order, until it
-    /// accepts one. A checker that hashes the message at each call hashes the whole note once for each different
-    /// signature of an untrusted text: its caller should limit the number of signatures or the size of a checkpoint, or
-    /// hash a note once and keep the digest. The program's table hashes nothing, and compares the message last. The call
-    /// takes the memory of the note, and 16 bytes a signature.
+    /// The note is marshalled once, and the checker is asked once for each different signature, in byte order, until
+    /// it accepts one. A checker that hashes the message at each call hashes the whole note once for each different
+    /// signature of an untrusted text: its caller should limit the number of signatures or the size of a checkpoint,
+    /// or hash a note once and keep the digest. The program's table hashes nothing, and compares the message last. The
+    /// call takes the memory of the note, and 16 bytes a signature.
     pub fn verify_signature<C: SignatureChecker>(
         &self,
         alloc: Global,
@@ -30,7 +30,8 @@ impl SignedCheckpoint {
     ) -> Result<()>
         ensures answer { Answers Memory (λ x. x) result
             (signed_answer (key_accepts (C.spki_accepts checker.now) rekor_key.now) self.now) }
-        ensures ok { OnOk result (IsTrue (is_signed (key_accepts (C.spki_accepts checker.now) rekor_key.now) self.now)) }
+        ensures ok { OnOk result (IsTrue (is_signed (key_accepts (C.spki_accepts checker.now) rekor_key.now)
+            self.now)) }
     {
         if self.is_signed_by(alloc, rekor_key, checker)? {
             Ok(())
@@ -47,7 +48,8 @@ impl SignedCheckpoint {
         key: &CosignVerificationKey,
         checker: &C,
     ) -> std::result::Result<bool, OutOfMemory>
-        ensures { IfOk result (λ signed. signed ≡ is_signed (key_accepts (C.spki_accepts checker.now) key.now) self.now) }
+        ensures { IfOk result (λ signed. signed ≡ is_signed (key_accepts (C.spki_accepts checker.now) key.now)
+            self.now) }
     {
         let note = self.note.marshal(alloc)?;
         let message = note.as_str().as_bytes();
@@ -112,7 +114,8 @@ fn accepts_one_of<C: SignatureChecker>(
     key: &CosignVerificationKey,
     checker: &C,
 ) -> bool
-    ensures { result ≡ list_any (λ raw. key_accepts (C.spki_accepts checker.now) key.now message.now raw.now) raws.now }
+    ensures { result ≡ list_any (λ raw. key_accepts (C.spki_accepts checker.now) key.now message.now raw.now)
+        raws.now }
 {
     raws.iter().any(|raw| key.accepts(raw, message, checker))
 }

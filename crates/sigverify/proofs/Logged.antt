@@ -14,7 +14,8 @@ pub logged-at : (request : LogRequest) (index : ℕ) → request.log_index ≡ p
 logged-at request index place = (
   λ included. record { index = index; place = place; within = included.0; path = included.1 },
   λ logged. let same : logged.index ≡ index = pos-same logged.index index (let e = logged.place in cc) in
-      let P : ℕ → Type 0 = λ i. IsIncluded i (leaf_of request.entry) request.tree_size request.hashes request.root_hash in
+      let P : ℕ → Type 0 = λ i. IsIncluded i (leaf_of request.entry) request.tree_size request.hashes request.root_hash
+      in
       subst P same (logged.within, logged.path),
 )
 

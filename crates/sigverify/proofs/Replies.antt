@@ -1,5 +1,6 @@
 -- One reply is meant: a text is one request, and one link is the first that fails.
-use Rattle.std.proofs.Common.{◌≡◌, ◌<◌, ℕ, inl, inr, List, [], ◌∷◌, length, Option, Some, None, Result, Ok, Err, IfOk, ap, refl, sym, subst, arith}
+use Rattle.std.proofs.Common.{◌≡◌, ◌<◌, ℕ, inl, inr, List, [], ◌∷◌, length, Option, Some, None, Result, Ok, Err, IfOk}
+use Rattle.std.proofs.Common.{ap, refl, sym, subst, arith}
 use Rattle.std.specs.List.{AllByRecursion}
 use Rattle.sig_base.specs.declared.memory.OutOfMemory.{OutOfMemory}
 use Rattle.sig_rekor.proofs.RuleLaws.{one_fails, none_fails}
@@ -28,7 +29,8 @@ refused-status NoteMatch e = cc
 refused-status Inclusion e = cc
 
 -- the reply where every link holds
-every-reply : (command : Command) (text : List ℕ) (reply : Reply) → reply.status ≡ 0 → Succeeds command text reply → EveryLinkHolds command text → IsReply command text reply
+every-reply : (command : Command) (text : List ℕ) (reply : Reply) → reply.status ≡ 0 → Succeeds command text reply
+    → EveryLinkHolds command text → IsReply command text reply
 every-reply command text reply zero succeeds every = record {
   decided = inl every;
   succeeds = (λ _. every, λ _. zero);
@@ -37,45 +39,61 @@ every-reply command text reply zero succeeds every = record {
 }
 
 -- the reply where a link is the first that fails
-first-reply : (command : Command) (text : List ℕ) (link : Link) → IsFirstFailing command text link → IsReply command text (refusal link)
+first-reply : (command : Command) (text : List ℕ) (link : Link) → IsFirstFailing command text link
+    → IsReply command text (refusal link)
 first-reply command text link first = record {
   decided = inr (link, first);
-  succeeds = (λ e. absurd (refused-status link e), λ every. absurd (none_fails (Holds command text) (links command) link every first));
+  succeeds = (
+    λ e. absurd (refused-status link e),
+    λ every. absurd
+        (none_fails (Holds command text) (links command) link every first),
+  );
   vouched = λ every. absurd (none_fails (Holds command text) (links command) link every first);
-  refused = λ other other_first. ap refusal (one_fails (Holds command text) (links command) link other first other_first);
+  refused =
+      λ other other_first. ap refusal (one_fails (Holds command text) (links command) link other first other_first);
 }
 
 -- what holds of the request, and what fails first of it, does so of its text
-every-of_text : (text : List ℕ) (request : LogRequest) (ls : List Link) → IsRequest text request → AllByRecursion (HoldsOf request) ls → AllByRecursion (Holds Log text) ls
+every-of_text : (text : List ℕ) (request : LogRequest) (ls : List Link) → IsRequest text request
+    → AllByRecursion (HoldsOf request) ls → AllByRecursion (Holds Log text) ls
 every-of_text text request [] is every = tt
 every-of_text text request (link ∷ ls) is every = ((request, is, every.0), every-of_text text request ls is every.1)
 
-first-of_text : (text : List ℕ) (request : LogRequest) (ls : List Link) (link : Link) → IsRequest text request → FailsFirst (HoldsOf request) ls link → FailsFirst (Holds Log text) ls link
+first-of_text : (text : List ℕ) (request : LogRequest) (ls : List Link) (link : Link) → IsRequest text request
+    → FailsFirst (HoldsOf request) ls link → FailsFirst (Holds Log text) ls link
 first-of_text text request [] link is first = first
 first-of_text text request (l ∷ ls) link is (inl here) = inl (
-  λ holds. here.0 (let P : LogRequest → Type 0 = λ r. HoldsOf r l in subst P (one_request text holds.0 request holds.1 is) holds.2),
+  λ holds. here.0 (let P : LogRequest → Type 0 = λ r. HoldsOf r l in
+      subst P (one_request text holds.0 request holds.1 is) holds.2),
   here.1,
 )
-first-of_text text request (l ∷ ls) link is (inr later) = inr ((request, is, later.0), first-of_text text request ls link is later.1)
+first-of_text text request (l ∷ ls) link is (inr later) =
+    inr ((request, is, later.0), first-of_text text request ls link is later.1)
 
 -- no text that is no request has the link `request`
 pub unread-reply : (text : List ℕ) → IsReadFrom text None → IsReply Log text (refusal Request)
 unread-reply text none = first-reply Log text Request (inl (λ holds. none holds.0 holds.1, refl))
 
 -- nor has one that is too long
-pub long-reply : (command : Command) (text : List ℕ) → most_bytes < length text → IsReply command text (refusal Request)
+pub long-reply : (command : Command) (text : List ℕ) → most_bytes < length text
+    → IsReply command text (refusal Request)
 long-reply Log text long = unread-reply text (λ request is. absurd (omega (arith, is.short, long)))
 
-pub vouched-reply : (text : List ℕ) (request : LogRequest) → IsReadFrom text (Some request) → IsVerdict request None → IsReply Log text (success request)
+pub vouched-reply : (text : List ℕ) (request : LogRequest) → IsReadFrom text (Some request) → IsVerdict request None
+    → IsReply Log text (success request)
 vouched-reply text request is every =
-    every-reply Log text (success request) refl (λ other other_is. ap success (one_request text request other is other_is)) (every-of_text text request log_links is every)
+    every-reply Log text (success request) refl (λ other other_is. ap success
+    (one_request text request other is other_is)) (every-of_text text request log_links is every)
 
-pub refused-reply : (text : List ℕ) (request : LogRequest) (link : Link) → IsReadFrom text (Some request) → IsVerdict request (Some link)
+pub refused-reply : (text : List ℕ) (request : LogRequest) (link : Link) → IsReadFrom text (Some request)
+    → IsVerdict request (Some link)
     → IsReply Log text (refusal link)
-refused-reply text request link is first = first-reply Log text link (first-of_text text request log_links link is first)
+refused-reply text request link is first =
+    first-reply Log text link (first-of_text text request log_links link is first)
 
 -- the replies of a call
-unread-replied_by : (text : List ℕ) (r : Result Reply OutOfMemory) → IfOk r (λ reply. reply ≡ refusal Request) → IsReadFrom text None → IfOk r (IsReply Log text)
+unread-replied_by : (text : List ℕ) (r : Result Reply OutOfMemory) → IfOk r (λ reply. reply ≡ refusal Request)
+    → IsReadFrom text None → IfOk r (IsReply Log text)
 unread-replied_by text (Ok reply) is none = subst (IsReply Log text) (sym is) (unread-reply text none)
 unread-replied_by text (Err memory) is none = tt
 
@@ -84,21 +102,30 @@ pub unread-replied : (text : List ℕ) (found : Option LogRequest) (r : Result R
 unread-replied text found r is none read = unread-replied_by text r is (subst (IsReadFrom text) none read)
 
 refused-replied_by : (text : List ℕ) (request : LogRequest) (link : Link) (r : Result Reply OutOfMemory)
-    → IfOk r (λ reply. reply ≡ refusal link) → IsReadFrom text (Some request) → IsVerdict request (Some link) → IfOk r (IsReply Log text)
-refused-replied_by text request link (Ok reply) is read first = subst (IsReply Log text) (sym is) (refused-reply text request link read first)
+    → IfOk r (λ reply. reply ≡ refusal link) → IsReadFrom text (Some request) → IsVerdict request (Some link)
+    → IfOk r (IsReply Log text)
+refused-replied_by text request link (Ok reply) is read first =
+    subst (IsReply Log text) (sym is) (refused-reply text request link read first)
 refused-replied_by text request link (Err memory) is read first = tt
 
-pub refused-replied : (text : List ℕ) (found : Option LogRequest) (request : LogRequest) (verdict : Option Link) (link : Link) (r : Result Reply OutOfMemory)
-    → IfOk r (λ reply. reply ≡ refusal link) → found ≡ Some request → IsReadFrom text found → verdict ≡ Some link → IsVerdict request verdict → IfOk r (IsReply Log text)
+pub refused-replied : (text : List ℕ) (found : Option LogRequest) (request : LogRequest) (verdict : Option Link)
+    (link : Link) (r : Result Reply OutOfMemory)
+    → IfOk r (λ reply. reply ≡ refusal link) → found ≡ Some request → IsReadFrom text found → verdict ≡ Some link
+    → IsVerdict request verdict → IfOk r (IsReply Log text)
 refused-replied text found request verdict link r is some read which first =
-    refused-replied_by text request link r is (subst (IsReadFrom text) some read) (subst (IsVerdict request) which first)
+    refused-replied_by text request link r is (subst (IsReadFrom text) some read)
+    (subst (IsVerdict request) which first)
 
 vouched-replied_by : (text : List ℕ) (request : LogRequest) (r : Result Reply OutOfMemory)
-    → IfOk r (λ reply. reply ≡ success request) → IsReadFrom text (Some request) → IsVerdict request None → IfOk r (IsReply Log text)
-vouched-replied_by text request (Ok reply) is read every = subst (IsReply Log text) (sym is) (vouched-reply text request read every)
+    → IfOk r (λ reply. reply ≡ success request) → IsReadFrom text (Some request) → IsVerdict request None
+    → IfOk r (IsReply Log text)
+vouched-replied_by text request (Ok reply) is read every =
+    subst (IsReply Log text) (sym is) (vouched-reply text request read every)
 vouched-replied_by text request (Err memory) is read every = tt
 
-pub vouched-replied : (text : List ℕ) (found : Option LogRequest) (request : LogRequest) (verdict : Option Link) (r : Result Reply OutOfMemory)
-    → IfOk r (λ reply. reply ≡ success request) → found ≡ Some request → IsReadFrom text found → verdict ≡ None → IsVerdict request verdict → IfOk r (IsReply Log text)
+pub vouched-replied : (text : List ℕ) (found : Option LogRequest) (request : LogRequest) (verdict : Option Link)
+    (r : Result Reply OutOfMemory)
+    → IfOk r (λ reply. reply ≡ success request) → found ≡ Some request → IsReadFrom text found → verdict ≡ None
+    → IsVerdict request verdict → IfOk r (IsReply Log text)
 vouched-replied text found request verdict r is some read none every =
     vouched-replied_by text request r is (subst (IsReadFrom text) some read) (subst (IsVerdict request) none every)

@@ -1,5 +1,6 @@
 -- What a run owes, from what it read and what it replied.
-use Rattle.std.proofs.Common.{◌≡◌, ◌<◌, ◌≤◌, ℕ, inl, inr, List, [], ◌∷◌, ◌++◌, Option, Some, None, length, drop, ap, sym, ◌∙◌, ◌↔◌, true, refl, subst, arith, get_or, lit<, length-append}
+use Rattle.std.proofs.Common.{◌≡◌, ◌<◌, ◌≤◌, ℕ, inl, inr, List, [], ◌∷◌, ◌++◌, Option, Some, None, length, drop, ap}
+use Rattle.std.proofs.Common.{sym, ◌∙◌, ◌↔◌, true, refl, subst, arith, get_or, lit<, length-append}
 use Rattle.std.proofs.lemmas.List.{append-nil, drop_all}
 use Rattle.std.proofs.Math.Seq.{drop-append_seam}
 use Rattle.std.proofs.lemmas.Slice.Eq.{bytes_eq-Decides}
@@ -15,7 +16,8 @@ use Rattle.sigverify.specs.Run.{RepliesTo, WriteFaulted, HandsRests, WritesRests
 use Rattle.sigverify.proofs.Replies.{long-reply}
 
 -- all that was left, fewer than n bytes
-TakesUpTo-whole : (n : ℕ) (old new : Option (List ℕ)) (bytes : List ℕ) → HandsOver old new bytes → length bytes < n → TakesUpTo n old new bytes
+TakesUpTo-whole : (n : ℕ) (old new : Option (List ℕ)) (bytes : List ℕ) → HandsOver old new bytes → length bytes < n
+    → TakesUpTo n old new bytes
 TakesUpTo-whole n None new bytes all short = tt
 TakesUpTo-whole n (Some xs) None bytes all short = elim all.taken [ ]
 TakesUpTo-whole n (Some xs) (Some ys) bytes all short =
@@ -45,7 +47,8 @@ RepliesTo-whole command old new bytes reply all short meant = record {
 }
 
 -- the reply to one that is too long
-pub RepliesTo-long : (command : Command) (old new : Option (List ℕ)) (reply : Reply) → TookCount old new 16777217 → reply ≡ refusal Request → RepliesTo command old new reply
+pub RepliesTo-long : (command : Command) (old new : Option (List ℕ)) (reply : Reply) → TookCount old new 16777217
+    → reply ≡ refusal Request → RepliesTo command old new reply
 RepliesTo-long command old new reply took refused =
     let long = TakesUpTo-long 16777217 old new took in
     let meant : IsReply command long.0 (refusal Request) = long-reply command long.0 long.2 in
@@ -67,38 +70,56 @@ IsReply-small command text reply meant =
           subst P (sym (meant.refused first.0 first.1)) (status_of-small first.0)
     ]
 
-pub RepliesTo-small : (command : Command) (old new : Option (List ℕ)) (reply : Reply) → RepliesTo command old new reply → reply.status < 3
+pub RepliesTo-small : (command : Command) (old new : Option (List ℕ)) (reply : Reply) → RepliesTo command old new reply
+    → reply.status < 3
 RepliesTo-small command old new reply replies = IsReply-small command replies.text reply replies.meant
 
 -- a write of the line for other words that failed
-pub WriteFaulted-usage : (words : List (List ℕ)) (left_old left_new : Option (List ℕ)) (before now : ℕ) (taken_old taken_new : Option (List ℕ))
+pub WriteFaulted-usage : (words : List (List ℕ)) (left_old left_new : Option (List ℕ)) (before now : ℕ)
+    (taken_old taken_new : Option (List ℕ))
     → ¬ IsCommand words → Rose before now → AppendsFront taken_old taken_new usage_line
     → WriteFaulted words left_old left_new before now taken_old taken_new
 WriteFaulted-usage words left_old left_new before now taken_old taken_new other rose written =
     record { bytes = usage_line; output = inr (other, refl); rose = rose; written = written }
 
 -- a write of a reply that failed
-pub WriteFaulted-reply : (words : List (List ℕ)) (command : Command) (left_old left_new : Option (List ℕ)) (before now : ℕ) (taken_old taken_new : Option (List ℕ)) (reply : Reply)
-    → Names words command → RepliesTo command left_old left_new reply → Rose before now → AppendsFront taken_old taken_new reply.text
+pub WriteFaulted-reply : (words : List (List ℕ)) (command : Command) (left_old left_new : Option (List ℕ))
+    (before now : ℕ) (taken_old taken_new : Option (List ℕ)) (reply : Reply)
+    → Names words command → RepliesTo command left_old left_new reply → Rose before now
+    → AppendsFront taken_old taken_new reply.text
     → WriteFaulted words left_old left_new before now taken_old taken_new
 WriteFaulted-reply words command left_old left_new before now taken_old taken_new reply named replies rose written =
-    record { bytes = reply.text; output = inl (command, named, (reply, replies, refl)); rose = rose; written = written }
+    record {
+      bytes = reply.text;
+      output = inl (command, named, (reply, replies, refl));
+      rose = rose;
+      written = written;
+    }
 
-pub faulted-reply : (words : List (List ℕ)) (command : Command) (left_old left_new : Option (List ℕ)) (before now : ℕ) (taken_old taken_new : Option (List ℕ)) (reply : Reply) (text : List ℕ)
-    → text ≡ reply.text → Names words command → RepliesTo command left_old left_new reply → Rose before now → AppendsFront taken_old taken_new text
+pub faulted-reply : (words : List (List ℕ)) (command : Command) (left_old left_new : Option (List ℕ)) (before now : ℕ)
+    (taken_old taken_new : Option (List ℕ)) (reply : Reply) (text : List ℕ)
+    → text ≡ reply.text → Names words command → RepliesTo command left_old left_new reply → Rose before now
+    → AppendsFront taken_old taken_new text
     → WriteFaulted words left_old left_new before now taken_old taken_new
-faulted-reply words command left_old left_new before now taken_old taken_new reply text same named replies rose written =
-    WriteFaulted-reply words command left_old left_new before now taken_old taken_new reply named replies rose (subst (AppendsFront taken_old taken_new) same written)
+faulted-reply words command left_old left_new before now taken_old taken_new reply text same named replies rose written
+    =
+    WriteFaulted-reply words command left_old left_new before now taken_old taken_new reply named replies rose
+    (subst (AppendsFront taken_old taken_new) same written)
 
 -- the pieces of the line for other words, and of a reply
-pub WritesRests-usage : (words : List (List ℕ)) (left_old left_new : Option (List ℕ)) (handed_old handed_new : Option (List (List ℕ)))
-    → ¬ IsCommand words → HandsRests handed_old handed_new usage_line → WritesRests words left_old left_new handed_old handed_new
-WritesRests-usage words left_old left_new handed_old handed_new other rests = inr (usage_line, inr (other, refl), rests)
+pub WritesRests-usage : (words : List (List ℕ)) (left_old left_new : Option (List ℕ))
+    (handed_old handed_new : Option (List (List ℕ)))
+    → ¬ IsCommand words → HandsRests handed_old handed_new usage_line
+    → WritesRests words left_old left_new handed_old handed_new
+WritesRests-usage words left_old left_new handed_old handed_new other rests =
+    inr (usage_line, inr (other, refl), rests)
 
-pub WritesRests-reply : (words : List (List ℕ)) (command : Command) (left_old left_new : Option (List ℕ)) (handed_old handed_new : Option (List (List ℕ))) (reply : Reply)
+pub WritesRests-reply : (words : List (List ℕ)) (command : Command) (left_old left_new : Option (List ℕ))
+    (handed_old handed_new : Option (List (List ℕ))) (reply : Reply)
     → Names words command → RepliesTo command left_old left_new reply → HandsRests handed_old handed_new reply.text
     → WritesRests words left_old left_new handed_old handed_new
-WritesRests-reply words command left_old left_new handed_old handed_new reply named replies rests = inr (reply.text, inl (command, named, (reply, replies, refl)), rests)
+WritesRests-reply words command left_old left_new handed_old handed_new reply named replies rests =
+    inr (reply.text, inl (command, named, (reply, replies, refl)), rests)
 
 -- words that are not one word name no command
 unnamed : (words : List (List ℕ)) → ((word : List ℕ) → words ≡ word ∷ [] → ⊥) → ¬ IsCommand words
@@ -111,9 +132,21 @@ pub IsCommand-none : (words : List (List ℕ)) → length words < 1 → ¬ IsCom
 IsCommand-none words few = unnamed words (λ word e. omega (arith, few, ap length e))
 
 -- one word, and the test whether it is a name
-pub is_one_word : (words : List (List ℕ)) (word : List ℕ) → word ≡ get_or words 0 word → 1 ≤ length words → length words < 2 → words ≡ word ∷ []
+pub is_one_word : (words : List (List ℕ)) (word : List ℕ) → word ≡ get_or words 0 word → 1 ≤ length words
+    → length words < 2 → words ≡ word ∷ []
 is_one_word [] word is some few = absurd (omega arith)
 is_one_word (first ∷ []) word is some few = ap (λ w. w ∷ []) (sym is)
 is_one_word (first ∷ second ∷ rest) word is some few = absurd (omega arith)
 
-pub ruleset runs = (RepliesTo-whole, RepliesTo-long, RepliesTo-small, WriteFaulted-usage, WriteFaulted-reply, WritesRests-usage, WritesRests-reply, IsCommand-many, IsCommand-none, is_one_word)
+pub ruleset runs = (
+  RepliesTo-whole,
+  RepliesTo-long,
+  RepliesTo-small,
+  WriteFaulted-usage,
+  WriteFaulted-reply,
+  WritesRests-usage,
+  WritesRests-reply,
+  IsCommand-many,
+  IsCommand-none,
+  is_one_word,
+)

@@ -23,47 +23,57 @@ Any-more xs more some = (some.0, some.1, some.2, some.3, more some.1 some.4)
 
 -- one of the signatures passes the test exactly where the table has its row
 is_signed-rows : (request : LogRequest) (checkpoint : SignedCheckpoint) (accepts : List ℕ → List ℕ → Bool)
-    → ((message signature : List ℕ) → accepts message signature ≡ accepted request.accepted Message (name_of (scheme_of request.scheme)) request.key message signature)
+    → ((message signature : List ℕ) → accepts message signature
+    ≡ accepted request.accepted Message (name_of (scheme_of request.scheme)) request.key message signature)
     → (is_signed accepts checkpoint ≡ true) ↔ IsSigned request checkpoint
 unfolding is_signed
 is_signed-rows request checkpoint accepts same =
     let note = note_text checkpoint.note in (
       λ e. Any-more checkpoint.signatures
-          (λ s passes. (accepted-rows request.accepted Message (name_of (scheme_of request.scheme)) request.key note s.raw).0 (sym (same note s.raw) ∙ passes))
+          (λ s passes. (accepted-rows request.accepted Message
+          (name_of (scheme_of request.scheme)) request.key note s.raw).0 (sym (same note s.raw) ∙ passes))
           (Any-from_list_any (λ s. accepts note s.raw) checkpoint.signatures e),
       λ some. list_any-from_Any (λ s. accepts note s.raw) checkpoint.signatures (Any-more checkpoint.signatures
-          (λ s row. same note s.raw ∙ (accepted-rows request.accepted Message (name_of (scheme_of request.scheme)) request.key note s.raw).1 row) some),
+          (λ s row. same note s.raw ∙ (accepted-rows request.accepted Message
+          (name_of (scheme_of request.scheme)) request.key note s.raw).1 row) some),
     )
 
 -- the test under the request's key is the table's
 pub is_signed-key : (request : LogRequest) (checkpoint : SignedCheckpoint) (key : CosignVerificationKey)
     → key_scheme key ≡ scheme_of request.scheme → key_info key ≡ request.key
-    → (is_signed (key_accepts (λ scheme info message signature. accepted request.accepted Message (name_of scheme) info message signature) key) checkpoint ≡ true)
+    → (is_signed (key_accepts (λ scheme info message signature. accepted request.accepted Message
+    (name_of scheme) info message signature) key) checkpoint ≡ true)
     ↔ IsSigned request checkpoint
 is_signed-key request checkpoint key scheme info =
-    is_signed-rows request checkpoint (λ message signature. accepted request.accepted Message (name_of (key_scheme key)) (key_info key) message signature)
+    is_signed-rows request checkpoint (λ message signature. accepted request.accepted Message
+    (name_of (key_scheme key)) (key_info key) message signature)
     (λ message signature. rw (scheme, info))
 
 -- the answers of the check under the request's key
 pub signed-yes : (request : LogRequest) (checkpoint : SignedCheckpoint) (key : CosignVerificationKey)
     → key_scheme key ≡ scheme_of request.scheme → key_info key ≡ request.key
-    → is_signed (key_accepts (λ scheme info message signature. accepted request.accepted Message (name_of scheme) info message signature) key) checkpoint ≡ true
+    → is_signed (key_accepts (λ scheme info message signature. accepted request.accepted Message
+    (name_of scheme) info message signature) key) checkpoint ≡ true
     → IsTrue true ↔ IsSigned request checkpoint
-signed-yes request checkpoint key scheme info is = (λ _. (is_signed-key request checkpoint key scheme info).0 is, λ _. refl)
+signed-yes request checkpoint key scheme info is =
+    (λ _. (is_signed-key request checkpoint key scheme info).0 is, λ _. refl)
 
-unsigned : (accepts : List ℕ → List ℕ → Bool) (checkpoint : SignedCheckpoint) → signed_answer accepts checkpoint ≡ Err CheckpointSignatureVerificationError
+unsigned : (accepts : List ℕ → List ℕ → Bool) (checkpoint : SignedCheckpoint)
+    → signed_answer accepts checkpoint ≡ Err CheckpointSignatureVerificationError
     → is_signed accepts checkpoint ≡ true → ⊥
 unsigned accepts checkpoint refused is = let answer = rw is at refused in cc
 
 pub signed-no : (request : LogRequest) (checkpoint : SignedCheckpoint) (key : CosignVerificationKey)
     → key_scheme key ≡ scheme_of request.scheme → key_info key ≡ request.key
     → (◌≡◌ {A = SigstoreError} CheckpointSignatureVerificationError OutOfMemory)
-    ⊎ (signed_answer (key_accepts (λ scheme info message signature. accepted request.accepted Message (name_of scheme) info message signature) key) checkpoint
+    ⊎ (signed_answer (key_accepts (λ scheme info message signature. accepted request.accepted Message
+    (name_of scheme) info message signature) key) checkpoint
     ≡ Err CheckpointSignatureVerificationError)
     → IsTrue false ↔ IsSigned request checkpoint
 signed-no request checkpoint key scheme info (inl memory) = absurd (let e : ⊥ = cc in e)
 signed-no request checkpoint key scheme info (inr refused) = (
   λ e. absurd (false≢true e),
-  λ signed. absurd (unsigned (key_accepts (λ scheme info message signature. accepted request.accepted Message (name_of scheme) info message signature) key) checkpoint refused
+  λ signed. absurd (unsigned (key_accepts (λ scheme info message signature. accepted request.accepted Message
+      (name_of scheme) info message signature) key) checkpoint refused
       ((is_signed-key request checkpoint key scheme info).1 signed)),
 )

@@ -1,5 +1,6 @@
 -- What a sink takes over several writes.
-use Rattle.std.proofs.Common.{◌≡◌, ℕ, ◌+◌, List, [], ◌∷◌, ◌++◌, Option, None, Some, ◌∙◌, ap, append_assoc, sym, subst, take, drop, take-append-drop}
+use Rattle.std.proofs.Common.{◌≡◌, ℕ, ◌+◌, List, [], ◌∷◌, ◌++◌, Option, None, Some, ◌∙◌, ap, append_assoc, sym, subst}
+use Rattle.std.proofs.Common.{take, drop, take-append-drop}
 use Rattle.std.proofs.lemmas.List.{append-nil}
 use Rattle.std.proofs.Math.Seq.{take-add}
 use Rattle.std.specs.Io.KnownBytes.{Appends, Keeps}
@@ -13,7 +14,8 @@ Appends-none None = tt
 Appends-none (Some xs) = sym (append-nil xs)
 
 -- two writes add the bytes of both
-pub Appends-more : (a b c : Option (List ℕ)) (xs ys : List ℕ) → Appends a b xs → Appends b c ys → Appends a c (xs ++ ys)
+pub Appends-more : (a b c : Option (List ℕ)) (xs ys : List ℕ) → Appends a b xs → Appends b c ys
+    → Appends a c (xs ++ ys)
 Appends-more None b c xs ys p q = tt
 Appends-more (Some first) None c xs ys p q = elim p [ ]
 Appends-more (Some first) (Some second) None xs ys p q = elim q [ ]
@@ -38,15 +40,21 @@ pub HandsRests-none : (handed : Option (List (List ℕ))) (bytes : List ℕ) →
 HandsRests-none None bytes = tt
 HandsRests-none (Some before) bytes = ([], ap Some (sym (append-nil before)), tt)
 
-rests-more : (bytes : List ℕ) (pieces : List (List ℕ)) (n : ℕ) → AllByRecursion (IsRestOf bytes) pieces → AllByRecursion (IsRestOf bytes) (pieces ++ drop n bytes ∷ [])
+rests-more : (bytes : List ℕ) (pieces : List (List ℕ)) (n : ℕ) → AllByRecursion (IsRestOf bytes) pieces
+    → AllByRecursion (IsRestOf bytes) (pieces ++ drop n bytes ∷ [])
 rests-more bytes [] n all = ((take n bytes, sym (take-append-drop n bytes)), tt)
 rests-more bytes (piece ∷ pieces) n all = (all.0, rests-more bytes pieces n all.1)
 
-pub HandsRests-more : (a b c : Option (List (List ℕ))) (bytes : List ℕ) (n : ℕ) → HandsRests a b bytes → Hands b c (drop n bytes) → HandsRests a c bytes
+pub HandsRests-more : (a b c : Option (List (List ℕ))) (bytes : List ℕ) (n : ℕ) → HandsRests a b bytes
+    → Hands b c (drop n bytes) → HandsRests a c bytes
 HandsRests-more None b c bytes n before now = tt
 HandsRests-more (Some first) None c bytes n before now = let f = before.1 in cc
 HandsRests-more (Some first) (Some second) c bytes n before now =
-    let same : second ≡ first ++ before.0 = (let f = before.1 in cc) in
-    (before.0 ++ drop n bytes ∷ [], now ∙ ap (λ t. Some (t ++ drop n bytes ∷ [])) same ∙ ap Some (append_assoc first before.0 (drop n bytes ∷ [])), rests-more bytes before.0 n before.2)
+    let same : second ≡ first ++ before.0 = (let f = before.1 in cc) in (
+      before.0 ++ drop n bytes ∷ [],
+      now ∙ ap (λ t. Some (t ++ drop n bytes ∷ [])) same
+          ∙ ap Some (append_assoc first before.0 (drop n bytes ∷ [])),
+      rests-more bytes before.0 n before.2,
+    )
 
 pub ruleset turns = (Appends-none, Appends-take, Appends-kept, HandsRests-none, HandsRests-more)

@@ -45,7 +45,8 @@ note_row request checkpoint signature = record {
 
 -- one of the signatures over the note text is accepted under the log's scheme and key
 abbrev pub IsSigned : LogRequest → SignedCheckpoint → Type 0
-IsSigned request checkpoint = Any (λ signature. Contains request.accepted (note_row request checkpoint signature)) checkpoint.signatures
+IsSigned request checkpoint =
+    Any (λ signature. Contains request.accepted (note_row request checkpoint signature)) checkpoint.signatures
 
 -- the note speaks of the proof's tree
 abbrev pub IsMatched : LogRequest → SignedCheckpoint → Type 0
@@ -94,4 +95,5 @@ IsVerdictUnder request checkpoint (Some Request) = ⊥
 IsVerdictUnder request checkpoint (Some Checkpoint) = ⊥
 IsVerdictUnder request checkpoint (Some NoteKey) = ¬ IsSigned request checkpoint
 IsVerdictUnder request checkpoint (Some NoteMatch) = IsSigned request checkpoint × ¬ IsMatched request checkpoint
-IsVerdictUnder request checkpoint (Some Inclusion) = IsSigned request checkpoint × IsMatched request checkpoint × ¬ IsLogged request
+IsVerdictUnder request checkpoint (Some Inclusion) =
+    IsSigned request checkpoint × IsMatched request checkpoint × ¬ IsLogged request

@@ -26,14 +26,18 @@ refusal link = record { status = status_of link; text = codes "refused " ++ (lin
 abbrev pub success : LogRequest → Reply
 success request = record {
   status = 0;
-  text = codes "logged " ++ (signed_decimal request.log_index ++ (codes " " ++ (decimal request.tree_size ++ codes "\n")));
+  text =
+      codes "logged " ++ (signed_decimal request.log_index ++
+      (codes " " ++ (decimal request.tree_size ++ codes "\n")));
 }
 
--- the reply of a command to a text of which every link holds: `log` shows the proof of the one request that the text is
+-- the reply of a command to a text of which every link holds: `log` shows the proof of the one request that the text
+-- is
 abbrev pub Succeeds : Command → List ℕ → Reply → Type 0
 Succeeds Log text reply = (request : LogRequest) → IsRequest text request → reply ≡ success request
 
--- the reply to a request's text: the success line if and only if every link of the command holds, else the first link that fails
+-- the reply to a request's text: the success line if and only if every link of the command holds, else the first link
+-- that fails
 pub record IsReply (command : Command) (text : List ℕ) (reply : Reply) : Type 0 where
   pub decided : EveryLinkHolds command text ⊎ ((link : Link) × IsFirstFailing command text link)
   pub succeeds : (reply.status ≡ 0) ↔ EveryLinkHolds command text

@@ -4,7 +4,8 @@ use Rattle.sig_base.specs.OptionSteps.{◌>>=◌}
 use Rattle.sig_json.specs.Data.{Data}
 use Rattle.sig_json.specs.Document.{document_of}
 use Rattle.sig_json.specs.Kinds.{hash_of}
-use Rattle.sig_json.specs.Member.{required, required_bytes, required_hash, required_i64, required_text, required_u64, optional, optional_list}
+use Rattle.sig_json.specs.Member.{required, required_bytes, required_hash, required_i64, required_text, required_u64}
+use Rattle.sig_json.specs.Member.{optional, optional_list}
 use Rattle.sigverify.specs.declared.request.LogRequest.{LogRequest}
 use Rattle.sigverify.specs.Limit.{most_bytes}
 use Rattle.sigverify.specs.Row.{no_kind, row_of, scheme_kind}
@@ -41,7 +42,7 @@ pub record IsRequest (text : List ℕ) (request : LogRequest) : Type 0 where
   pub document : document_of text ≡ Ok tree
   pub members : log_request tree ≡ Some request
 
--- a request, exactly where the text is one
+-- a request, if and only if the text is one
 abbrev pub IsReadFrom : List ℕ → Option LogRequest → Type 0
 IsReadFrom text None = (request : LogRequest) → ¬ IsRequest text request
 IsReadFrom text (Some request) = IsRequest text request

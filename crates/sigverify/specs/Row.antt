@@ -30,7 +30,8 @@ scheme_kind d = text_of d >>= scheme_named
 abbrev pub no_kind : Data → Option ⊤
 no_kind d = None
 
--- the scheme of a row: a scheme's name for a message and a digest, nothing for a point, and an algorithm element for a certificate
+-- the scheme of a row: a scheme's name for a message and a digest, nothing for a point, and an algorithm element for a
+-- certificate
 abbrev pub scheme_for : Operation → Data → Option (List ℕ)
 scheme_for Message d = required scheme_kind (codes "scheme") d >>= λ scheme. Some (name_of (scheme_of scheme))
 scheme_for Prehash d = required scheme_kind (codes "scheme") d >>= λ scheme. Some (name_of (scheme_of scheme))

@@ -9,7 +9,7 @@ use Rattle.sigverify.specs.Reply.{IsReply}
 use Rattle.sigverify.specs.declared.command.Command.{Command}
 use Rattle.sigverify.specs.declared.reply.Reply.{Reply}
 
--- the words are the one word `--help`, or the one word `--version`: `main` answers these itself
+-- the words are the one word `--help`, or the one word `--version`: `main` replies to these itself
 abbrev pub AsksHelp : List (List ℕ) → Type 0
 AsksHelp words = words ≡ codes "--help" ∷ []
 
@@ -26,8 +26,9 @@ pub record RepliesTo (command : Command) (old new : Option (List ℕ)) (reply : 
   pub request : TakesRequest old new text
   pub meant : IsReply command text reply
 
--- the run answered a request of the command that the words name, and wrote the whole reply and nothing else
-pub record Answered (words : List (List ℕ)) (left_old left_new taken_old taken_new : Option (List ℕ)) (status : ℕ) : Type 0 where
+-- the run replied to a request of the command that the words name, and wrote the whole reply and nothing else
+pub record Answered (words : List (List ℕ)) (left_old left_new taken_old taken_new : Option (List ℕ))
+    (status : ℕ) : Type 0 where
   pub command : Command
   pub named : Names words command
   pub reply : Reply
@@ -38,11 +39,13 @@ pub record Answered (words : List (List ℕ)) (left_old left_new taken_old taken
 -- what a run writes: the text of the reply of the command that the words name, or the line for other words
 abbrev pub IsOutput : List (List ℕ) → Option (List ℕ) → Option (List ℕ) → List ℕ → Type 0
 IsOutput words left_old left_new bytes =
-    ((command : Command) × Names words command × ((reply : Reply) × RepliesTo command left_old left_new reply × (bytes ≡ reply.text)))
+    ((command : Command) × Names words command × ((reply : Reply) × RepliesTo command left_old left_new reply
+    × (bytes ≡ reply.text)))
     ⊎ (¬ IsCommand words × (bytes ≡ usage_line))
 
 -- a write failed: the sink's count of faults rose, and a prefix of the output was written
-pub record WriteFaulted (words : List (List ℕ)) (left_old left_new : Option (List ℕ)) (before now : ℕ) (taken_old taken_new : Option (List ℕ)) : Type 0 where
+pub record WriteFaulted (words : List (List ℕ)) (left_old left_new : Option (List ℕ)) (before now : ℕ)
+    (taken_old taken_new : Option (List ℕ)) : Type 0 where
   pub bytes : List ℕ
   pub output : IsOutput words left_old left_new bytes
   pub rose : Rose before now
@@ -59,9 +62,12 @@ IsRestOf bytes piece = (front : List ℕ) × (bytes ≡ front ++ piece)
 -- each piece that was handed over is all that was left of the bytes
 abbrev pub HandsRests : Option (List (List ℕ)) → Option (List (List ℕ)) → List ℕ → Type 0
 HandsRests None new bytes = ⊤
-HandsRests (Some before) new bytes = (pieces : List (List ℕ)) × (new ≡ Some (before ++ pieces)) × AllByRecursion (IsRestOf bytes) pieces
+HandsRests (Some before) new bytes =
+    (pieces : List (List ℕ)) × (new ≡ Some (before ++ pieces)) × AllByRecursion (IsRestOf bytes) pieces
 
 -- of the output, each write was handed all that was left; where there is none, nothing was handed over
-abbrev pub WritesRests : List (List ℕ) → Option (List ℕ) → Option (List ℕ) → Option (List (List ℕ)) → Option (List (List ℕ)) → Type 0
+abbrev pub WritesRests : List (List ℕ) → Option (List ℕ) → Option (List ℕ) → Option (List (List ℕ))
+    → Option (List (List ℕ)) → Type 0
 WritesRests words left_old left_new handed_old handed_new =
-    (handed_new ≡ handed_old) ⊎ ((bytes : List ℕ) × IsOutput words left_old left_new bytes × HandsRests handed_old handed_new bytes)
+    (handed_new ≡ handed_old) ⊎ ((bytes : List ℕ) × IsOutput words left_old left_new bytes
+    × HandsRests handed_old handed_new bytes)

@@ -68,7 +68,7 @@ fn is_signed(
     ensures { IfOk result (λ signed. IsTrue signed ↔ IsSigned request.now checkpoint.now) }
 {
     let der = request.key.as_slice();
-    // Both calls refuse otherwise for want of memory alone.
+    // Both calls fail otherwise only if out of memory.
     let Ok(key) = CosignVerificationKey::from_der(alloc, der, &request.scheme) else {
         return Err(OutOfMemory);
     };

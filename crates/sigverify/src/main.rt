@@ -1,7 +1,7 @@
 //! `sigverify`: decides without a network whether a signed artifact may be trusted.
 //!
-//! [`run::run`] is the program, and its contract the promise of this project; `main` gives it the words and the standard
-//! streams.
+//! [`run::run`] is the program, and its contract the promise of this project; `main` gives it the words and the
+//! standard streams.
 #![tactic(auto)]
 
 mod command;

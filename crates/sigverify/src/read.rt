@@ -52,16 +52,17 @@ impl From<AllocError> for ReadFault {
     }
 }
 
-/// Reads all that the source has left, if that is at most 2^24 bytes. Each turn takes a byte, so that it ends for every
-/// source.
+/// Reads all that the source has left, if that is at most 2^24 bytes. Each turn takes a byte, so that it ends for
+/// every source.
 ///
-/// Errors: `TooLong` if and only if 2^24 + 1 bytes were taken; `Failed` only if the source's count of faults rose; out of
-/// memory.
+/// Errors: `TooLong` if and only if 2^24 + 1 bytes were taken; `Failed` only if the source's count of faults rose; out
+/// of memory.
 #[tactic(auto, using(crate::proofs::Reading::turns))]
 pub fn read_request<S: Source>(alloc: Global, source: &mut S) -> Result<Bytes, ReadFault>
     ensures ok { IfOk result (λ bytes. HandsOver (S.left source.old) (S.left source.new) bytes) }
     ensures short { IfOk result (λ bytes. length bytes < most_bytes + 1) }
-    ensures long { IsErrOf result ReadFault.TooLong → TookCount (S.left source.old) (S.left source.new) (most_bytes + 1) }
+    ensures long { IsErrOf result ReadFault.TooLong → TookCount (S.left source.old) (S.left source.new)
+        (most_bytes + 1) }
     ensures failed { IsErrOf result ReadFault.Failed → Rose (S.faults source.old) (S.faults source.new) }
     ensures most { TookAtMost (most_bytes + 1) (S.left source.old) (S.left source.new) }
     ensures later { S.faults source.old ≤ S.faults source.new }

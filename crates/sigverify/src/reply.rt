@@ -9,7 +9,7 @@ use std::alloc::Global;
 /// The line for words that are no command.
 pub const USAGE_LINE: &str = "usage\n";
 
-/// What a command answers: the status of the program, and the text that it writes.
+/// The reply of a command: the status of the program, and the text that it writes.
 #[derive(Drop)]
 pub struct Reply {
     pub status: u8,
@@ -19,8 +19,8 @@ pub struct Reply {
 impl Reply {
     ghost use Rattle.sigverify.specs.Reply.{refusal, success};
 
-    /// Returns `refused NAME`, for the first link that fails, with status 2 for the link `request`, else 1. Fails if out
-    /// of memory alone.
+    /// Returns `refused NAME`, for the first link that fails, with status 2 for the link `request`, else 1. Fails if
+    /// out of memory alone.
     pub fn refused(alloc: Global, link: Link) -> Result<Reply, OutOfMemory>
         ensures { IfOk result (λ reply. reply ≡ refusal link) }
     {
@@ -33,7 +33,8 @@ impl Reply {
         Ok(Reply { status, text })
     }
 
-    /// Returns `logged I N`, the index and the size of the inclusion proof, with status 0. Fails if out of memory alone.
+    /// Returns `logged I N`, the index and the size of the inclusion proof, with status 0. Fails if out of memory
+    /// alone.
     pub fn logged(alloc: Global, request: &LogRequest) -> Result<Reply, OutOfMemory>
         ensures { IfOk result (λ reply. reply ≡ success request.now) }
     {

@@ -1,4 +1,26 @@
-//! `LogRequest`: the request of `log`.
+//! `LogRequest`: the request of `log`, a JSON document.
+//!
+//! ```text
+//! {
+//!   "entry": "TDEyMzQ1Ng==",
+//!   "logIndex": 0,
+//!   "treeSize": 1,
+//!   "rootHash": "395aa064aa4c29f7010acfe3f25db9485bbd4b91897b6ad7ad547639252b4d56",
+//!   "hashes": [],
+//!   "checkpoint": "log.example\n1\nOVqgZKpMKfcBCs/j8l25SFu9S5GJe2rXrVR2OSUrTVY=\n\n\u2014 log.example
+//!   AAAAAXNpZw==\n", "scheme": "ECDSA_P256_SHA256_ASN1",
+//!   "key": "a2V5",
+//!   "accepted": [
+//!     {
+//!       "operation": "message",
+//!       "scheme": "ECDSA_P256_SHA256_ASN1",
+//!       "key": "a2V5",
+//!       "message": "bG9nLmV4YW1wbGUKMQpPVnFnWktwTUtmY0JDcy9qOGwyNVNGdTlTNUdKZTJyWHJWUjJPU1VyVFZZPQo=",
+//!       "signature": "c2ln"
+//!     }
+//!   ]
+//! }
+//! ```
 ghost use Rattle.std.specs.Prelude.{IfOk};
 ghost use Rattle.sig_base.specs.Answers.{Answers};
 ghost use Rattle.sig_json.specs.Record.{record_in};
@@ -19,7 +41,7 @@ use std::alloc::Global;
 pub struct LogRequest {
     /// The entry that is said to be logged.
     pub entry: Bytes,
-    /// Its place in the log, counted from 0.
+    /// Its index in the log.
     pub log_index: i64,
     /// How many entries the log has.
     pub tree_size: u64,
@@ -98,8 +120,8 @@ fn read_listed(alloc: Global, text: &[u8]) -> Result<LogRequest, JsonError>
 impl LogRequest {
     ghost use Rattle.sigverify.specs.Request.{IsReadFrom};
 
-    /// Reads a request; `None` if and only if the text has more than 2^24 bytes, is no JSON document without floats, or
-    /// does not have the members of a request. Fails if out of memory alone.
+    /// Reads a request; `None` if and only if the text has more than 2^24 bytes, is no JSON document without floats,
+    /// or does not have the members of a request. Fails if out of memory alone.
     #[tactic(auto, using(crate::proofs::Requests::unread))]
     pub fn read(alloc: Global, text: &[u8]) -> Result<Option<LogRequest>, OutOfMemory>
         ensures { IfOk result (IsReadFrom text.now) }

@@ -1,5 +1,5 @@
-//! Readers of the values that only requests of this program have: schemes, operations, accepted signatures, and members
-//! that have to be absent.
+//! Readers of the values that only requests of this program have: schemes, operations, accepted signatures, and
+//! members that have to be absent.
 ghost use Rattle.std.specs.Prelude.{Option};
 ghost use Rattle.sig_json.specs.Data.{Data};
 ghost use Rattle.sig_base.specs.Answers.{Answers};
@@ -64,8 +64,8 @@ impl ElementReader for AbsentReader {
     }
 }
 
-/// Reads accepted signatures: `operation`, `scheme`, `key`, `message` and `signature`, of which the last three are base64
-/// and required.
+/// Reads accepted signatures: `operation`, `scheme`, `key`, `message` and `signature`, of which the last three are
+/// base64 and required.
 pub enum RowReader {}
 
 impl ElementReader for RowReader {

@@ -1,11 +1,12 @@
-//! The program but for its words and streams: it reads a request, answers it, and writes the reply.
+//! The program but for its words and streams: it reads a request, and makes and writes the reply.
 ghost use Rattle.std.specs.Prelude.{◌≡◌, ◌⊎◌, ◌+◌, ◌<◌, ◌≤◌, IfOk, IsErrOf};
 ghost use Rattle.std.specs.Io.KnownBytes.{Appends};
 ghost use Rattle.sig_base.specs.Stream.{Rose, AppendsFront};
 ghost use Rattle.sigverify.specs.Command.{IsCommand};
 ghost use Rattle.sigverify.specs.Limit.{TookAtMost, most_bytes};
 ghost use Rattle.sigverify.specs.Reply.{IsReply};
-ghost use Rattle.sigverify.specs.Run.{RepliesTo, Answered, ReadFaulted, WriteFaulted, HandsRests, WritesRests, usage_line};
+ghost use Rattle.sigverify.specs.Run.{RepliesTo, Answered, ReadFaulted, WriteFaulted, HandsRests, WritesRests};
+ghost use Rattle.sigverify.specs.Run.{usage_line};
 ghost use Rattle.sigverify.specs.Status.{usage_status, memory_status, fault_status};
 
 use crate::command::Command;
@@ -48,20 +49,20 @@ impl From<OutOfMemory> for NoReply {
 ///
 /// A command reads a request, at most 2^24 + 1 bytes of what the source has left, and writes one line: for `log` it is
 /// `logged I N` with status 0 if every link of the request holds, else `refused NAME` for the first that fails, with
-/// status 1, or 2 for the link `request`. The reply is whole before its first byte is written, and each write is handed
-/// all that is left of it. Other statuses:
+/// status 1, or 2 for the link `request`. The reply is whole before its first byte is written, and each write is
+/// handed all that is left of it. Other statuses:
 ///
 /// - 64: the words name no command. Nothing is read, no memory is taken (no call on the way has the allocator), and
 ///   `usage` is written.
 /// - 71: out of memory; nothing is written.
-/// - 74, only if the count of faults of the source or of the sink rose: nothing is written after a fault of the source,
-///   and after one of the sink a prefix of the reply was.
+/// - 74, only if the count of faults of the source or of the sink rose: nothing is written after a fault of the
+///   source, and after one of the sink a prefix of the reply was.
 #[tactic(auto, using(crate::proofs::Runs::runs))]
 pub fn run<S: Source, K: Sink>(alloc: Global, words: &[Text], source: &mut S, sink: &mut K) -> u8
     ensures status { (result < 3) ⊎ (result ≡ usage_status) ⊎ (result ≡ memory_status) ⊎ (result ≡ fault_status) }
 
-    // The headline: what `Answered` says of the reply is that every link holds if the status is 0, and that else it shows
-    // the first that fails.
+    // The headline: what `Answered` says of the reply is that every link holds if the status is 0, and that else it
+    // shows the first that fails.
     ensures answered { result < 3 →
         Answered words.now (S.left source.old) (S.left source.new) (K.taken sink.old) (K.taken sink.new) result }
     ensures usage { result ≡ usage_status → ¬ IsCommand words.now
@@ -73,7 +74,8 @@ pub fn run<S: Source, K: Sink>(alloc: Global, words: &[Text], source: &mut S, si
         ReadFaulted words.now (S.faults source.old) (S.faults source.new) sink.old sink.new
         ⊎ WriteFaulted words.now (S.left source.old) (S.left source.new)
         (K.faults sink.old) (K.faults sink.new) (K.taken sink.old) (K.taken sink.new) }
-    ensures pieces { WritesRests words.now (S.left source.old) (S.left source.new) (K.handed sink.old) (K.handed sink.new) }
+    ensures pieces { WritesRests words.now (S.left source.old) (S.left source.new) (K.handed sink.old)
+        (K.handed sink.new) }
     ensures later { (S.faults source.old ≤ S.faults source.new) × (K.faults sink.old ≤ K.faults sink.new) }
 {
     let Some(command) = Command::named(words) else {
@@ -114,7 +116,8 @@ fn reply_of(alloc: Global, command: Command, request: &[u8]) -> Result<Reply, Ou
 /// Writes the text, and returns the status, or that of a fault where a write failed. It takes no memory.
 fn finish<K: Sink>(sink: &mut K, status: u8, text: &[u8]) -> u8
     requires { status < memory_status }
-    ensures written { result < memory_status → (result ≡ status) × Appends (K.taken sink.old) (K.taken sink.new) text.now }
+    ensures written { result < memory_status → (result ≡ status)
+        × Appends (K.taken sink.old) (K.taken sink.new) text.now }
     ensures fault { memory_status ≤ result → (result ≡ fault_status) × Rose (K.faults sink.old) (K.faults sink.new)
         × AppendsFront (K.taken sink.old) (K.taken sink.new) text.now }
     ensures pieces { HandsRests (K.handed sink.old) (K.handed sink.new) text.now }

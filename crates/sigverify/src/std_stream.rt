@@ -1,5 +1,5 @@
-//! Standard input and output as a source and a sink. They tell no bytes: what the system gives and takes is outside every
-//! proof.
+//! Standard input and output as a source and a sink. They tell no bytes: what the system gives and takes is outside
+//! every proof.
 ghost use Rattle.std.specs.Prelude.{◌≡◌, None};
 ghost use Rattle.std.specs.Io.{ReadsAtMost, WritesAtMost};
 ghost use Rattle.std.specs.Io.KnownBytes.{ReadConsumes, WriteAppends};
@@ -8,8 +8,8 @@ ghost use Rattle.sig_base.specs.Stream.{Rose};
 use sig_base::{Failed, Sink, Source};
 use std::io::{self, ErrorKind, Read, Write};
 
-/// A reader as a source. A call that a signal interrupted is made again. Its count of faults rises at each other error,
-/// and stays at the greatest `u64`, where `Failed` may come without a rise.
+/// A reader as a source. A call that a signal interrupted is made again. Its count of faults rises at each other
+/// error, and stays at the greatest `u64`, where `Failed` may come without a rise.
 #[derive(Drop)]
 pub struct StdSource<R: Read + Drop> {
     inner: R,
@@ -41,9 +41,9 @@ impl<R: Read + Drop> Source for StdSource<R> {
     }
 }
 
-/// A writer as a sink. A call that a signal interrupted is made again. Its count of faults rises at each other error, and
-/// where nothing was taken of a piece that is not empty; it stays at the greatest `u64`, where `Failed` may come without
-/// a rise.
+/// A writer as a sink. A call that a signal interrupted is made again. Its count of faults rises at each other error,
+/// and where nothing was taken of a piece that is not empty; it stays at the greatest `u64`, where `Failed` may come
+/// without a rise.
 #[derive(Drop)]
 pub struct StdSink<W: Write + Drop> {
     inner: W,

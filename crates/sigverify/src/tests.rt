@@ -7,10 +7,14 @@ use std::alloc::Global;
 use std::test::Fail;
 
 /// A log of the one entry `L123456`, whose checkpoint is accepted.
-const FIRST: &str =
-    r#"{"entry":"TDEyMzQ1Ng==","logIndex":0,"treeSize":1,"rootHash":"395aa064aa4c29f7010acfe3f25db9485bbd4b91897b6ad7ad547639252b4d56","hashes":[],"checkpoint":"log.example\n1\nOVqgZKpMKfcBCs/j8l25SFu9S5GJe2rXrVR2OSUrTVY=\n\n\u2014 log.example AAAAAXNpZw==\n","scheme":"ECDSA_P256_SHA256_ASN1","key":"a2V5","accepted":[{"operation":"message","scheme":"ECDSA_P256_SHA256_ASN1","key":"a2V5","message":"bG9nLmV4YW1wbGUKMQpPVnFnWktwTUtmY0JDcy9qOGwyNVNGdTlTNUdKZTJyWHJWUjJPU1VyVFZZPQo=","signature":"c2ln"}]}"#;
+const FIRST: &str = r#"{"entry":"TDEyMzQ1Ng==","logIndex":0,"treeSize":1,
+"rootHash":"395aa064aa4c29f7010acfe3f25db9485bbd4b91897b6ad7ad547639252b4d56","hashes":[],
+"checkpoint":"log.example\n1\nOVqgZKpMKfcBCs/j8l25SFu9S5GJe2rXrVR2OSUrTVY=\n\n\u2014 log.example AAAAAXNpZw==\n",
+"scheme":"ECDSA_P256_SHA256_ASN1","key":"a2V5","accepted":[
+{"operation":"message","scheme":"ECDSA_P256_SHA256_ASN1","key":"a2V5",
+"message":"bG9nLmV4YW1wbGUKMQpPVnFnWktwTUtmY0JDcy9qOGwyNVNGdTlTNUdKZTJyWHJWUjJPU1VyVFZZPQo=","signature":"c2ln"}]}"#;
 
-/// What a run over these bytes answers, writes and leaves unread, up to a few bytes.
+/// What a run over these bytes returns, writes and leaves unread, up to a few bytes.
 #[derive(Drop)]
 struct Ran {
     status: u8,

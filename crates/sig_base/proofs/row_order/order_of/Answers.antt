@@ -9,6 +9,8 @@ loop-index-preserved c = covers_more c.loop-index.index _ _ c.in_ok-push.ensures
 
 pub returns : goal.returns
 returns c = record {
-  covers = λ index below. Contains-permutation _ _ index c.put_in_order.ensures.moved (c.loop-index.invariant index (omega arith));
+  covers =
+      λ index below. Contains-permutation _ _ index c.put_in_order.ensures.moved
+      (c.loop-index.invariant index (omega arith));
   ascends = c.put_in_order.ensures.ascends;
 }

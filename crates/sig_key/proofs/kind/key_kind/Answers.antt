@@ -5,7 +5,8 @@ use Rattle.sig_key.proofs.kind.key_kind.Goals as goal
 
 pub returns-clause-is : goal.returns-clause-is
 returns-clause-is c =
-    subst (λ k. IsKind c.args.spki.now k) (sym c.kind_of.ensures) (key_kind_is c.args.spki.now (λ i. omega (arith, c.type_inv.spki i)))
+    subst (λ k. IsKind c.args.spki.now k) (sym c.kind_of.ensures)
+    (key_kind_is c.args.spki.now (λ i. omega (arith, c.type_inv.spki i)))
 
 pub returns-clause-only : goal.returns-clause-only
 returns-clause-only c = λ kind is.

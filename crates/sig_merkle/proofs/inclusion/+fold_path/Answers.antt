@@ -18,8 +18,10 @@ fold_path-right-requires g t c κs within = grind (arith, path_len-right)
 
 pub returns-then-index-half-clause-root : goal.returns-then-index-half-clause-root
 returns-then-index-half-clause-root g t c =
-    fold_left _ _ _ _ _ _ _ _ c.split_point-half.ensures c.if-index-half.true c.in-Some.ensures.cases.0 c.fold_path-left.ensures.root ∙ ap (λ root. Some root) (sym c.hash_step.ensures.value)
+    fold_left _ _ _ _ _ _ _ _ c.split_point-half.ensures c.if-index-half.true c.in-Some.ensures.cases.0
+    c.fold_path-left.ensures.root ∙ ap (λ root. Some root) (sym c.hash_step.ensures.value)
 
 pub returns-else-index-half-clause-root : goal.returns-else-index-half-clause-root
 returns-else-index-half-clause-root g t c =
-    fold_right _ _ _ _ _ _ _ _ c.split_point-half.ensures c.if-index-half.false c.in-Some.ensures.cases.0 c.fold_path-right.ensures.root ∙ ap (λ root. Some root) (sym c.hash_step-else-index-half.ensures.value)
+    fold_right _ _ _ _ _ _ _ _ c.split_point-half.ensures c.if-index-half.false c.in-Some.ensures.cases.0
+    c.fold_path-right.ensures.root ∙ ap (λ root. Some root) (sym c.hash_step-else-index-half.ensures.value)

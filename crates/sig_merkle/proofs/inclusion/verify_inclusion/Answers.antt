@@ -5,7 +5,8 @@ use Rattle.sig_merkle.proofs.inclusion.verify_inclusion.Goals as goal
 
 pub returns-in_err-root-clause-ok : goal.returns-in_err-root-clause-ok
 returns-in_err-root-clause-ok g c =
-    let answer : c.from_residual.result ≡ inclusion_answer c.args.index c.args.leaf_hash.now c.args.tree_size c.args.proof_hashes.now c.args.root_hash.now = grind (arith, passes_refusal) in
+    let answer : c.from_residual.result ≡ inclusion_answer c.args.index c.args.leaf_hash.now c.args.tree_size
+    c.args.proof_hashes.now c.args.root_hash.now = grind (arith, passes_refusal) in
     answer-ok _ _ _ _ _ _ answer
 
 pub returns-then-ne-clause-answer : goal.returns-then-ne-clause-answer

@@ -4,4 +4,5 @@ use Rattle.sig_rekor.proofs.cuts.trimmed.Goals as goal
 
 pub returns : goal.returns
 returns c =
-    trimmed_by_both c.args.mark c.args.text.now c.trim_start_matches.result.now c.trim_end_matches.result.now c.requires c.trim_start_matches.ensures.matches c.trim_end_matches.ensures.matches
+    trimmed_by_both c.args.mark c.args.text.now c.trim_start_matches.result.now c.trim_end_matches.result.now
+    c.requires c.trim_start_matches.ensures.matches c.trim_end_matches.ensures.matches

@@ -5,4 +5,5 @@ use Rattle.sig_rekor.proofs.note.push_contents.Given as goal
 
 -- the contents so far are written
 abbrev pub invariant-loop-content : goal.invariant-loop-content
-invariant-loop-content l = string_bytes l.text ≡ string_bytes l.fn.text ++ flat_map content_line (take l.content-index l.contents)
+invariant-loop-content l =
+    string_bytes l.text ≡ string_bytes l.fn.text ++ flat_map content_line (take l.content-index l.contents)

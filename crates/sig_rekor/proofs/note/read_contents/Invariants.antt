@@ -7,7 +7,8 @@ use Rattle.sig_rekor.proofs.note.read_contents.Given as goal
 
 -- the contents so far and those of what is left are those of the text
 abbrev pub invariant-lines : goal.invariant-lines
-invariant-lines l = (l.contents ++ contents_of (parts newline l.rest) ≡ contents_of (parts newline l.text)) × shadow (Utf8 l.rest)
+invariant-lines l =
+    (l.contents ++ contents_of (parts newline l.rest) ≡ contents_of (parts newline l.text)) × shadow (Utf8 l.rest)
 
 abbrev pub decreases-lines : goal.decreases-lines
 decreases-lines l = length l.rest

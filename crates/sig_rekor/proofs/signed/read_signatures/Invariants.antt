@@ -7,7 +7,9 @@ use Rattle.sig_rekor.proofs.signed.read_signatures.Given as goal
 
 -- the signatures so far and those of what is left are those of the text
 abbrev pub invariant-pieces : goal.invariant-pieces
-invariant-pieces l = (signatures_on l.signatures (parts empty_line l.rest) ≡ signatures_by (parts empty_line l.text)) × shadow (Utf8 l.rest)
+invariant-pieces l =
+    (signatures_on l.signatures (parts empty_line l.rest) ≡ signatures_by (parts empty_line l.text))
+    × shadow (Utf8 l.rest)
 
 abbrev pub decreases-pieces : goal.decreases-pieces
 decreases-pieces l = length l.rest

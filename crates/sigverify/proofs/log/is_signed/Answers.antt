@@ -5,10 +5,13 @@ use Rattle.sigverify.proofs.log.is_signed.Goals as goal
 
 pub returns-in-Ok-verify_signature : goal.returns-in-Ok-verify_signature
 returns-in-Ok-verify_signature c =
-    signed-yes c.args.request.now c.args.checkpoint.now c.in-Ok.key c.in-Ok.ensures.scheme (c.in-Ok.ensures.info ∙ c.as_slice-der.ensures)
+    signed-yes c.args.request.now c.args.checkpoint.now c.in-Ok.key c.in-Ok.ensures.scheme
+    (c.in-Ok.ensures.info ∙ c.as_slice-der.ensures)
     c.in-Ok-verify_signature.ensures.ok
 
 pub returns-in-Err-CheckpointSignatureVerificationError : goal.returns-in-Err-CheckpointSignatureVerificationError
 returns-in-Err-CheckpointSignatureVerificationError c =
-    signed-no c.args.request.now c.args.checkpoint.now c.in-Ok.key c.in-Ok.ensures.scheme (c.in-Ok.ensures.info ∙ c.as_slice-der.ensures)
-    (rw c.in-Err-CheckpointSignatureVerificationError.field-0-is at c.in-Err-CheckpointSignatureVerificationError.ensures.answer)
+    signed-no c.args.request.now c.args.checkpoint.now c.in-Ok.key c.in-Ok.ensures.scheme
+    (c.in-Ok.ensures.info ∙ c.as_slice-der.ensures)
+    (rw c.in-Err-CheckpointSignatureVerificationError.field-0-is at
+    c.in-Err-CheckpointSignatureVerificationError.ensures.answer)

@@ -5,7 +5,11 @@ use Rattle.sig_rekor.proofs.CheckpointLaws.{checkpoint-found, checkpoint-only}
 use Rattle.sig_rekor.proofs.checkpoint.SignedCheckpoint.decode.Goals as goal
 
 pub returns-clause-found : goal.returns-clause-found
-returns-clause-found c = reads-found (IsCheckpoint c.args.s.now) c.read_checkpoint.result (checkpoint_of c.args.s.now) c.read_checkpoint.ensures (checkpoint-found c.args.s.now)
+returns-clause-found c =
+    reads-found (IsCheckpoint c.args.s.now) c.read_checkpoint.result
+    (checkpoint_of c.args.s.now) c.read_checkpoint.ensures (checkpoint-found c.args.s.now)
 
 pub returns-clause-only : goal.returns-clause-only
-returns-clause-only c = λ x is. reads-only c.read_checkpoint.result (checkpoint_of c.args.s.now) x c.read_checkpoint.ensures (checkpoint-only c.args.s.now x is)
+returns-clause-only c =
+    λ x is. reads-only c.read_checkpoint.result (checkpoint_of c.args.s.now) x c.read_checkpoint.ensures
+    (checkpoint-only c.args.s.now x is)

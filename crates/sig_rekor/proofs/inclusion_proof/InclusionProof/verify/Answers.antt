@@ -5,8 +5,10 @@ use Rattle.sig_rekor.proofs.inclusion_proof.InclusionProof.verify.Goals as goal
 
 pub returns-clause-ok : goal.returns-clause-ok
 returns-clause-ok g c =
-    vouched_ok (key_accepts (g.C.SignatureChecker.spki_accepts c.args.checker.now) c.args.rekor_key.now) c.args.entry.now c.args.self.now c.check.result c.check.ensures
+    vouched_ok (key_accepts (g.C.SignatureChecker.spki_accepts c.args.checker.now) c.args.rekor_key.now)
+    c.args.entry.now c.args.self.now c.check.result c.check.ensures
 
 pub returns-clause-only : goal.returns-clause-only
 returns-clause-only g c =
-    accepted_only (key_accepts (g.C.SignatureChecker.spki_accepts c.args.checker.now) c.args.rekor_key.now) c.args.entry.now c.args.self.now c.check.result c.check.ensures
+    accepted_only (key_accepts (g.C.SignatureChecker.spki_accepts c.args.checker.now) c.args.rekor_key.now)
+    c.args.entry.now c.args.self.now c.check.result c.check.ensures
