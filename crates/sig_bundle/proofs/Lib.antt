@@ -18,3 +18,4 @@ pub mod Objects
 pub mod PayloadDigests
 pub mod ProofHashes
 pub mod Values
+pub mod Listed

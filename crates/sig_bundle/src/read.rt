@@ -8,8 +8,18 @@ ghost use Rattle.sig_json.specs.Tree.{tree};
 use crate::bundle::Bundle;
 use crate::read_content::read_content;
 use crate::read_material::MaterialReader;
-use sig_json::{ElementReader, Json, JsonError, MemberError, optional, read_record, read_text};
+use sig_json::{
+    ElementReader, Json, JsonError, MemberError, optional, read_record_with, read_text,
+};
 use std::alloc::Global;
+
+/// The names of the members of a bundle that are read. No tree is made of a member of another name.
+const MEMBERS: [&str; 4] = [
+    "mediaType",
+    "verificationMaterial",
+    "messageSignature",
+    "dsseEnvelope",
+];
 
 /// Reads bundles.
 enum BundleReader {}
@@ -40,5 +50,5 @@ impl ElementReader for BundleReader {
 pub fn read_bundle(alloc: Global, text: &[u8]) -> Result<Bundle, JsonError>
     ensures { Answers JsonError.OutOfMemory (λ b. b) result (bundle_in text.now) }
 {
-    read_record::<BundleReader>(alloc, text)
+    read_record_with::<BundleReader>(alloc, text, &MEMBERS)
 }
