@@ -1,4 +1,4 @@
--- The results of readers that may run out of memory are told by sig_base's `Answers`. Here is what such a reader fails with.
+-- What a reader that may run out of memory fails with; its results are told by sig_base's `Answers`.
 use Rattle.std.specs.Prelude.{Option, Some, None, Result, Ok, Err}
 use Rattle.sig_certificate.specs.declared.error.X509ReadError.{X509ReadError}
 use Rattle.sig_certificate.specs.declared.error.X509ReadError.TheVariants.{Der}

@@ -2,7 +2,7 @@
 //!
 //! ```text
 //! Certificate ::= SEQUENCE {
-//!      tbsCertificate       TBSCertificate,           -- parts.rt has its fields
+//!      tbsCertificate       TBSCertificate,           -- parts.rt reads its fields
 //!      signatureAlgorithm   AlgorithmIdentifier,
 //!      signatureValue       BIT STRING }
 //! ```
@@ -73,6 +73,7 @@ impl Certificate {
             at: list.start,
             end: list.end,
         };
+        // No `?`: what the error says of the bytes is a fact of this arm.
         match read_listed(alloc, list) {
             Err(e) => Err(e),
             Ok(extensions) => Ok(Certificate {

@@ -57,11 +57,7 @@ pub(crate) fn read_listed(alloc: Global, reader: Reader<'_>) -> Result<Listed, X
     ensures within { IfOk result (λ l. All (AreSpans reader.entry.end) l.places.items) }
     ensures recorded { IfOk result (IsRecorded reader.entry.bytes.now) }
 {
-    match read_extensions(alloc, reader) {
-        Err(e) => Err(e),
-        Ok(mut places) => {
-            let single = are_single(reader.bytes, places.as_mut_slice());
-            Ok(Listed { places, single })
-        }
-    }
+    let mut places = read_extensions(alloc, reader)?;
+    let single = are_single(reader.bytes, places.as_mut_slice());
+    Ok(Listed { places, single })
 }

@@ -1,17 +1,26 @@
-//! The parts of a certificate by their offsets in its DER: RFC 5280 section 4.1. Each reader takes at most five steps.
+//! A certificate read from its DER, field after field: RFC 5280 section 4.1, without what its extensions are. What is
+//! kept are the ranges of its parts. Beside each field is the function that reads it; those of the TBSCertificate have
+//! at most five steps each.
 //!
 //! ```text
+//! Certificate ::= SEQUENCE {                                      -- read_certificate
+//!      tbsCertificate       TBSCertificate,                       -- read_outer
+//!      signatureAlgorithm   AlgorithmIdentifier,
+//!      signatureValue       BIT STRING }
 //! TBSCertificate ::= SEQUENCE {
-//!      version         [0]  EXPLICIT Version DEFAULT v1,          -- read_head
+//!      version         [0]  EXPLICIT Version DEFAULT v1,          -- read_head, read_version
 //!      serialNumber         CertificateSerialNumber,
 //!      signature            AlgorithmIdentifier,
 //!      issuer               Name,
-//!      validity             Validity,                             -- read_body
+//!      validity             Validity,                             -- read_body, read_validity
 //!      subject              Name,
 //!      subjectPublicKeyInfo SubjectPublicKeyInfo,
 //!      issuerUniqueID  [1]  IMPLICIT UniqueIdentifier OPTIONAL,   -- skip_ids
 //!      subjectUniqueID [2]  IMPLICIT UniqueIdentifier OPTIONAL,
 //!      extensions      [3]  EXPLICIT Extensions OPTIONAL }        -- read_list
+//! Version ::= INTEGER { v1(0), v2(1), v3(2) }                     -- version_number
+//! Validity ::= SEQUENCE { notBefore Time, notAfter Time }
+//! Extensions ::= SEQUENCE SIZE (1..MAX) OF Extension              -- extensions.rt; may be empty here
 //! ```
 
 ghost use Rattle.std.specs.Prelude.{◌≡◌, length, option_map, IfSome};
@@ -64,42 +73,61 @@ pub(crate) struct Places {
     pub(crate) list: Span,
 }
 
-/// The version that an INTEGER of this content says.
-#[tactic(auto, unfolding(crate::specs::Cutting::version_number))]
-fn version_number(content: &[u8]) -> Option<u8>
-    ensures { result ≡ version_number content.now }
+/// Reads the parts of the certificate that the bytes are, but for what its extensions are. `None` if they are none.
+pub(crate) fn parts_of(der: &[u8]) -> Option<Places>
+    ensures cut { parts_at der.now ≡ option_map (parts_of der.now) result }
+    ensures within { IfSome result (ArePlaces (length der.now)) }
 {
-    match content {
-        [number @ 0..=2] => Some(*number + 1),
-        _ => None,
-    }
+    read_certificate(Reader::new(der))
 }
 
-/// The version that the content of an explicit version says: one INTEGER.
-#[tactic(auto, unfolding(crate::specs::Cutting::explicit_version))]
-fn explicit_version(reader: Reader<'_>) -> Option<u8>
-    ensures { explicit_version (left reader.entry) ≡ result }
+/// Reads the parts of the certificate that is all that is left, but for what its extensions are. `None` if it is none.
+#[tactic(auto, unfolding(crate::specs::Cutting::parts_at), using(crate::proofs::Fronts::front_is))]
+fn read_certificate(reader: Reader<'_>) -> Option<Places>
+    ensures cut { parts_at (left reader.entry) ≡ option_map (parts_of reader.entry.bytes.now) result }
+    ensures within { IfSome result (ArePlaces reader.entry.end) }
 {
-    let number = reader.whole(tag::INTEGER)?;
-    version_number(reader.content(number))
+    let outer = read_outer(reader)?;
+    let tbs = reader.inside(outer.tbs);
+    let (head, rest) = read_head(tbs)?;
+    let (body, rest) = read_body(rest)?;
+    let rest = skip_ids(rest)?;
+    let (listed, list) = read_list(rest)?;
+    let front = Span {
+        start: tbs.at,
+        end: rest.at,
+    };
+    Some(Places {
+        outer,
+        front,
+        head,
+        body,
+        listed,
+        list,
+    })
 }
 
-/// Reads the version, which is 1 if the field is absent.
-#[tactic(auto, unfolding(crate::specs::Cutting::version_at))]
-fn read_version(reader: Reader<'_>) -> Option<(u8, Reader<'_>)>
-    ensures cut { version_at (left reader.entry) ≡ option_map value_read result }
-    ensures within { IfSome result (λ x. GoesTo reader.entry x.1) }
+/// Reads the three parts of the certificate that is all that is left. `None` if it is none.
+#[tactic(auto, unfolding(crate::specs::Cutting::outer_at))]
+fn read_outer(reader: Reader<'_>) -> Option<Outer>
+    ensures cut { outer_at (left reader.entry) ≡ option_map (outer_of reader.entry.bytes.now) result }
+    ensures within { IfSome result (IsOuterWithin reader.entry.at reader.entry.end) }
 {
-    let (place, rest) = reader.optional(tag::VERSION)?;
-    match place {
-        None => Some((1, rest)),
-        Some(place) => {
-            let version = explicit_version(reader.inside(place))?;
-            Some((version, rest))
-        }
-    }
+    let whole = reader.whole(tag::SEQUENCE)?;
+    let (tbs, rest) = reader.inside(whole).tagged(tag::SEQUENCE)?;
+    let (algorithm, rest) = read_algorithm(rest)?;
+    let bits = read_bits(rest)?;
+    Some(Outer {
+        tbs,
+        algorithm: whole_of(algorithm.whole),
+        signature: Span {
+            start: bits,
+            end: whole.end,
+        },
+    })
 }
 
+/// Reads the fields of the TBSCertificate up to the issuer. `None` if they are malformed.
 #[tactic(auto, unfolding(crate::specs::Cutting::head_at))]
 fn read_head(reader: Reader<'_>) -> Option<(Head, Reader<'_>)>
     ensures cut { head_at (left reader.entry) ≡ option_map (head_read reader.entry.bytes.now) result }
@@ -120,22 +148,43 @@ fn read_head(reader: Reader<'_>) -> Option<(Head, Reader<'_>)>
     Some((head, rest))
 }
 
-/// Reads the two elements of the validity.
-#[tactic(auto, unfolding(crate::specs::Cutting::validity_at))]
-fn read_validity(reader: Reader<'_>) -> Option<((Place, Place), Reader<'_>)>
-    ensures cut { validity_at (left reader.entry) ≡ option_map (validity_read reader.entry.bytes.now) result }
-    ensures within { IfSome result (IsValidityRead reader.entry) }
+/// Reads the version, which is 1 if the field is absent. `None` if it is malformed or no known version.
+#[tactic(auto, unfolding(crate::specs::Cutting::version_at))]
+fn read_version(reader: Reader<'_>) -> Option<(u8, Reader<'_>)>
+    ensures cut { version_at (left reader.entry) ≡ option_map value_read result }
+    ensures within { IfSome result (λ x. GoesTo reader.entry x.1) }
 {
-    let (whole, rest) = reader.tagged(tag::SEQUENCE)?;
-    let (not_before, inner) = reader.inside(whole).any()?;
-    let (not_after, inner) = inner.any()?;
-    if inner.is_done() {
-        Some(((not_before, not_after), rest))
-    } else {
-        None
+    let (place, rest) = reader.optional(tag::VERSION)?;
+    match place {
+        None => Some((1, rest)),
+        Some(place) => {
+            let version = explicit_version(reader.inside(place))?;
+            Some((version, rest))
+        }
     }
 }
 
+/// Reads the INTEGER that an explicit version is. `None` if it is anything else.
+#[tactic(auto, unfolding(crate::specs::Cutting::explicit_version))]
+fn explicit_version(reader: Reader<'_>) -> Option<u8>
+    ensures { explicit_version (left reader.entry) ≡ result }
+{
+    let number = reader.whole(tag::INTEGER)?;
+    version_number(reader.content(number))
+}
+
+/// Returns the version, 1 to 3, that an INTEGER of these contents octets says. `None` if it is another number.
+#[tactic(auto, unfolding(crate::specs::Cutting::version_number))]
+fn version_number(content: &[u8]) -> Option<u8>
+    ensures { result ≡ version_number content.now }
+{
+    match content {
+        [number @ 0..=2] => Some(*number + 1),
+        _ => None,
+    }
+}
+
+/// Reads the fields of the TBSCertificate from the validity to the SubjectPublicKeyInfo. `None` if they are malformed.
 #[tactic(auto, unfolding(crate::specs::Cutting::body_at))]
 fn read_body(reader: Reader<'_>) -> Option<(Body, Reader<'_>)>
     ensures cut { body_at (left reader.entry) ≡ option_map (body_read reader.entry.bytes.now) result }
@@ -151,6 +200,22 @@ fn read_body(reader: Reader<'_>) -> Option<(Body, Reader<'_>)>
         spki: whole_of(spki.whole),
     };
     Some((body, rest))
+}
+
+/// Reads the two elements of the validity, which are not read as times yet. `None` if it is not a SEQUENCE of two.
+#[tactic(auto, unfolding(crate::specs::Cutting::validity_at))]
+fn read_validity(reader: Reader<'_>) -> Option<((Place, Place), Reader<'_>)>
+    ensures cut { validity_at (left reader.entry) ≡ option_map (validity_read reader.entry.bytes.now) result }
+    ensures within { IfSome result (IsValidityRead reader.entry) }
+{
+    let (whole, rest) = reader.tagged(tag::SEQUENCE)?;
+    let (not_before, inner) = reader.inside(whole).any()?;
+    let (not_after, inner) = inner.any()?;
+    if inner.is_done() {
+        Some(((not_before, not_after), rest))
+    } else {
+        None
+    }
 }
 
 /// Reads past the two unique identifiers, which are optional.
@@ -185,58 +250,4 @@ fn read_list(reader: Reader<'_>) -> Option<(bool, Span)>
             Some((true, content_of(sequence)))
         }
     }
-}
-
-/// The three parts of the certificate that is all that is left.
-#[tactic(auto, unfolding(crate::specs::Cutting::outer_at))]
-fn read_outer(reader: Reader<'_>) -> Option<Outer>
-    ensures cut { outer_at (left reader.entry) ≡ option_map (outer_of reader.entry.bytes.now) result }
-    ensures within { IfSome result (IsOuterWithin reader.entry.at reader.entry.end) }
-{
-    let whole = reader.whole(tag::SEQUENCE)?;
-    let (tbs, rest) = reader.inside(whole).tagged(tag::SEQUENCE)?;
-    let (algorithm, rest) = read_algorithm(rest)?;
-    let bits = read_bits(rest)?;
-    Some(Outer {
-        tbs,
-        algorithm: whole_of(algorithm.whole),
-        signature: Span {
-            start: bits,
-            end: whole.end,
-        },
-    })
-}
-
-/// Reads the parts of the certificate that is all that is left, but for what its extensions are. `None` if it is none.
-#[tactic(auto, unfolding(crate::specs::Cutting::parts_at), using(crate::proofs::Fronts::front_is))]
-fn read_parts(reader: Reader<'_>) -> Option<Places>
-    ensures cut { parts_at (left reader.entry) ≡ option_map (parts_of reader.entry.bytes.now) result }
-    ensures within { IfSome result (ArePlaces reader.entry.end) }
-{
-    let outer = read_outer(reader)?;
-    let tbs = reader.inside(outer.tbs);
-    let (head, rest) = read_head(tbs)?;
-    let (body, rest) = read_body(rest)?;
-    let rest = skip_ids(rest)?;
-    let (listed, list) = read_list(rest)?;
-    let front = Span {
-        start: tbs.at,
-        end: rest.at,
-    };
-    Some(Places {
-        outer,
-        front,
-        head,
-        body,
-        listed,
-        list,
-    })
-}
-
-/// Reads the parts of the certificate that the bytes are, but for what its extensions are. `None` if they are none.
-pub(crate) fn parts_of(der: &[u8]) -> Option<Places>
-    ensures cut { parts_at der.now ≡ option_map (parts_of der.now) result }
-    ensures within { IfSome result (ArePlaces (length der.now)) }
-{
-    read_parts(Reader::new(der))
 }

@@ -78,18 +78,14 @@ fn judge_authority(
 ) -> Result<(), CertificateValidationError>
     ensures { refusal result ≡ authority constraints usage }
 {
-    let (critical, constraints) = match constraints {
-        Err(e) => return Err(e),
-        Ok(None) => return Err(missing(PartName::BasicConstraints)),
-        Ok(Some(found)) => found,
+    let Some((critical, constraints)) = constraints? else {
+        return Err(missing(PartName::BasicConstraints));
     };
     if !critical {
         return Err(ExtensionErrorKind::NotCritical(PartName::BasicConstraints).into());
     }
-    let usage = match usage {
-        Err(e) => return Err(e),
-        Ok(None) => return Err(missing(PartName::KeyUsage)),
-        Ok(Some(found)) => found,
+    let Some(usage) = usage? else {
+        return Err(missing(PartName::KeyUsage));
     };
     match (constraints.ca, usage.key_cert_sign) {
         (true, true) => Ok(()),
@@ -119,10 +115,11 @@ pub fn is_ca(certificate: &Certificate) -> Result<(), CertificateValidationError
 pub fn is_root_ca(certificate: &Certificate) -> Result<(), CertificateValidationError>
     ensures { refusal result ≡ root_refusal certificate.now }
 {
-    match is_ca(certificate) {
-        Err(e) => Err(e),
-        Ok(()) if certificate.issuer() == certificate.subject() => Ok(()),
-        Ok(()) => Err(NotCAErrorKind::NotRootCA.into()),
+    is_ca(certificate)?;
+    if certificate.issuer() == certificate.subject() {
+        Ok(())
+    } else {
+        Err(NotCAErrorKind::NotRootCA.into())
     }
 }
 
@@ -139,19 +136,16 @@ fn judge_signer(
 ) -> Result<(), CertificateValidationError>
     ensures { refusal result ≡ signer usage code_signing }
 {
-    let usage = match usage {
-        Err(e) => return Err(e),
-        Ok(None) => return Err(missing(PartName::KeyUsage)),
-        Ok(Some(found)) => found,
+    let Some(usage) = usage? else {
+        return Err(missing(PartName::KeyUsage));
     };
     if !usage.digital_signature {
         return Err(bit_unset(PartName::KeyUsageDigitalSignature));
     }
-    match code_signing {
-        Err(e) => Err(e),
-        Ok(None) => Err(missing(PartName::ExtendedKeyUsage)),
-        Ok(Some(true)) => Ok(()),
-        Ok(Some(false)) => Err(bit_unset(PartName::ExtendedKeyUsageDigitalSignature)),
+    match code_signing? {
+        None => Err(missing(PartName::ExtendedKeyUsage)),
+        Some(true) => Ok(()),
+        Some(false) => Err(bit_unset(PartName::ExtendedKeyUsageDigitalSignature)),
     }
 }
 
