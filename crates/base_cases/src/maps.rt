@@ -35,8 +35,8 @@ fn add_text(answer: Answer, text: Option<&str>) -> Result<Answer, CaseError> {
     }
 }
 
-/// `SOUGHT`, and then texts and bytes in turn: the number of entries, the value that is sought, the entry at index 1, and
-/// all entries.
+/// `SOUGHT`, and then texts and bytes in turn: the number of entries, the value that is sought, the entry at index 1,
+/// and all entries.
 fn key_map(alloc: Global, arguments: &mut Arguments<'_>) -> Result<Answer, CaseError> {
     let sought = arguments.text(alloc)?;
     let map = read_key_map(alloc, arguments)?;

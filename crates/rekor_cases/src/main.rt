@@ -1,7 +1,9 @@
-//! Cases of sig_rekor: notes, signatures and checkpoints that are read and written, each fault, and what a checkpoint vouches for.
+//! Cases of sig_rekor: notes, signatures and checkpoints that are read and written, each fault, and what a checkpoint
+//! vouches for.
 //!
-//! The expected lines are those of `tools/rekor_cases.py`, which reads texts by the checkpoint format of transparency-dev with its own reader,
-//! and of Go's `sumdb/note`, Rekor and the Certificate Transparency reference for the checkpoints and roots that it begins with.
+//! The expected lines are those of `tools/rekor_cases.py`, which reads texts by the checkpoint format of
+//! transparency-dev with its own reader, and of Go's `sumdb/note`, Rekor and the Certificate Transparency reference
+//! for the checkpoints and roots that it begins with.
 #![tactic(auto)]
 
 mod proof;

@@ -30,7 +30,8 @@ fn read_hash(alloc: Global, arguments: &mut Arguments<'_>) -> Result<[u8; 32], C
     <[u8; 32]>::try_from(bytes.as_slice()).map_err(|_| CaseError::BadLine)
 }
 
-/// Reads a table: the notes over which a signature is accepted under ECDSA over P-256 and the key `key`, and those signatures.
+/// Reads a table: the notes over which a signature is accepted under ECDSA over P-256 and the key `key`, and those
+/// signatures.
 fn read_table(alloc: Global, arguments: &mut Arguments<'_>) -> Result<TableChecker, CaseError> {
     let messages = arguments.hex_list(alloc)?;
     let signatures = arguments.hex_list(alloc)?;
@@ -75,8 +76,8 @@ pub fn answer_of_tree(alloc: Global, arguments: &mut Arguments<'_>) -> Result<An
     answer_to(alloc, checkpoint.is_valid_for_proof(&root, size))
 }
 
-/// `proof ENTRY INDEX ROOT SIZE HASHES NOTES SIGNATURES CHECKPOINT`: what the proof of the entry is answered; without the last there is no
-/// checkpoint.
+/// `proof ENTRY INDEX ROOT SIZE HASHES NOTES SIGNATURES CHECKPOINT`: what the proof of the entry is answered; without
+/// the last there is no checkpoint.
 pub fn answer_of_proof(alloc: Global, arguments: &mut Arguments<'_>) -> Result<Answer, CaseError> {
     let entry = arguments.hex(alloc)?;
     let index = arguments.integer()?;
