@@ -15,6 +15,7 @@ import re
 
 import fixture
 from fixture import base64_of, compact
+from rekor_cases import Fault, debug, read_checkpoint
 
 HERE = os.path.dirname(os.path.abspath(__file__))
 CRATE = os.path.join(HERE, "..", "crates", "bundle_cases")
@@ -290,6 +291,115 @@ def fixture_bundle():
     case("artifact_digest " + WIDE, "ok sha512 %s %s" % (WIDE, WIDE))
 
 
+# Proofs and bodies of log entries, with one part changed or more.
+
+def changed(tree, change):
+    """Sets the part of this path to a value: JSON, `absent`, or a word for what becomes of the part that is there."""
+    path, _, value = change.partition(" ")
+    *above, last = [int(step) if step.isdigit() else step for step in path.split(".")]
+    for step in above:
+        tree = tree[step]
+    words = {"upper": str.upper, "short": lambda text: text[:-2], "again": lambda held: held + held,
+             "other-first": lambda text: ("1" if text[0] == "0" else "0") + text[1:], "more": lambda text: text + "00",
+             "after-null": lambda held: [None] + held, "before-null": lambda held: held + [None],
+             "unpadded": lambda text: text.rstrip("="), "first": lambda held: held[0]}
+    if value == "absent":
+        del tree[last]
+    else:
+        tree[last] = words[value](tree[last]) if value in words else json.loads(value)
+
+
+def proof_of(fields):
+    """The line of the proof that the members are, or the first fault (RFC 6962 section 2.1.1)."""
+    def is_hash(coded):
+        return len(base64.b64decode(coded)) == 32
+    if not is_hash(fields["rootHash"]):
+        return "RootLength"
+    for place, coded in enumerate(fields["hashes"]):
+        if not is_hash(coded):
+            return "HashLength(%d)" % place
+    if int(fields["treeSize"]) < 0:
+        return "TreeSize"
+    if fields.get("checkpoint") is None:
+        return "CheckpointMissing"
+    try:
+        note, signatures = read_checkpoint(fields["checkpoint"].get("envelope", ""))
+    except Fault as fault:
+        return "Checkpoint(%s)" % fault
+    hashes = [base64.b64decode(coded).hex() for coded in fields["hashes"]]
+    return " ".join(["ok", fields["logIndex"], base64.b64decode(fields["rootHash"]).hex(), fields["treeSize"], str(len(hashes)), *hashes,
+                     debug(note[0]), str(note[1]), note[2].hex(), str(len(signatures))])
+
+
+def proof_case(line):
+    expected, _, changes = line.partition(" ")
+    bundle = fixture.Request().bundle()
+    fields = bundle["verificationMaterial"]["tlogEntries"][0]["inclusionProof"]
+    for change in changes.split("; ") if changes else []:
+        changed(fields, change)
+    found = proof_of(fields)
+    assert found.split(" ")[0] == expected, line
+    named_case(changes or "as it is", "to_proof " + compact(bundle, canonical=True), found)
+
+
+def get(value, name):
+    """The member of an object, none where it is absent or null."""
+    ask(isinstance(value, dict) and value.get(name) is not None)
+    return value[name]
+
+
+def says(value, name, wanted):
+    found = get(value, name)
+    ask(isinstance(found, str) and found == wanted)
+
+
+def hashes_to(value, name, content):
+    part = get(value, name)
+    says(part, "algorithm", "sha256")
+    digits = get(part, "value")
+    ask(isinstance(digits, str) and re.fullmatch("[0-9a-fA-F]{64}", digits) and digits.lower() == fixture.sha256(content).hex())
+
+
+def is_body(body, request):
+    """Whether the text is Rekor's entry of kind dsse, version 0.0.1, about the request's envelope."""
+    try:
+        tree = json.loads(body, parse_float=lambda _: Float())
+        ask(not has_float(tree))
+        says(tree, "kind", "dsse")
+        says(tree, "apiVersion", "0.0.1")
+        spec = get(tree, "spec")
+        hashes_to(spec, "envelopeHash", fixture.envelope_json(request.payload, request.signature).encode())
+        hashes_to(spec, "payloadHash", request.payload)
+        listed = get(spec, "signatures")
+        ask(isinstance(listed, list) and listed)
+        says(listed[0], "signature", base64_of(request.signature))
+        says(listed[0], "verifier", base64_of(fixture.pem(request.leaf_der).encode()))
+    except (ValueError, Refused):
+        return False
+    return True
+
+
+def body_case(line):
+    """A change of the body; behind `text` the body itself, behind `bundle` a change of the bundle."""
+    expected, _, change = line.partition(" ")
+    request = fixture.Request()
+    bundle, body = request.bundle(), request.body.decode()
+    kind, _, rest = change.partition(" ")
+    if kind == "text":
+        body = rest
+    elif kind == "leaf":
+        request = fixture.Request(leaf=fixture.leaf(serial=b"\x02\x01\x09"))
+        bundle = request.bundle()
+    elif change:
+        tree = json.loads(body)
+        changed(tree, change)
+        body = compact(tree)
+    bundle["verificationMaterial"]["tlogEntries"][0]["canonicalizedBody"] = base64_of(body.encode())
+    assert is_body(body, request) == (expected == "true"), line
+    for offline in ("true", "false"):
+        named_case(change or "as it is", "tlog_entry %s %s" % (offline, compact(bundle, canonical=True)), "ok " + expected)
+
+
 # What stands for itself.
 
 def versions():
@@ -378,6 +488,9 @@ def promises():
                  "ok " + compact(promise) if fits else "IntegerTooLarge")
 
 
+ROWS = {"equal": changed_case, "checked": faulty_case, "to_proof": proof_case, "tlog_entry": body_case}
+
+
 def main():
     found = {}
     for head, rows in table():
@@ -392,7 +505,7 @@ def main():
             written_rows(rows)
         else:
             for row in rows:
-                {"equal": changed_case, "checked": faulty_case}[kind](row)
+                ROWS[kind](row)
     named_case("a bundle with every member is written as it was read", "read_bundle " + WHOLE, "ok " + WHOLE)
     group("a copy of a log entry with every member, and of one without")
     case("copied_entry " + WHOLE, "ok true")

@@ -1,7 +1,7 @@
 //! The checks of a bundle.
 
 use crate::read::{bundle, entry};
-use sig_bundle::{ArtifactDigest, Bundle, CheckedBundle, CheckedContent};
+use sig_bundle::{ArtifactDigest, Bundle, CheckedBundle, CheckedContent, TransparencyLogEntry};
 use sig_cases::{Answer, CaseError};
 use std::alloc::Global;
 
@@ -9,22 +9,28 @@ use std::alloc::Global;
 pub(crate) fn digests(alloc: Global, text: &str) -> Result<Answer, CaseError> {
     let bundle = bundle(alloc, text)?;
     match CheckedBundle::try_from_bundle(alloc, &bundle) {
-        Ok(checked) => with_digests(Answer::ok(alloc)?, &checked),
+        Ok(checked) => digests_of(alloc, checked.content()),
         Err(refusal) => Answer::error(alloc, &refusal),
     }
 }
 
-/// Adds the digests of the subjects.
-fn with_digests(answer: Answer, checked: &CheckedBundle) -> Result<Answer, CaseError> {
+/// The digests of the subjects.
+fn digests_of(alloc: Global, content: &CheckedContent) -> Result<Answer, CaseError> {
+    let answer = Answer::ok(alloc)?;
+    match content {
+        CheckedContent::Dsse {
+            subject_digests,
+            ..
+        } => with_digests(answer, subject_digests.as_slice()),
+        CheckedContent::MessageSignature => Ok(answer),
+    }
+}
+
+/// Adds digests.
+fn with_digests(answer: Answer, digests: &[ArtifactDigest]) -> Result<Answer, CaseError> {
     let mut answer = answer;
-    if let CheckedContent::Dsse {
-        subject_digests,
-        ..
-    } = checked.content()
-    {
-        for digest in subject_digests.as_slice() {
-            answer = with_digest(answer, digest)?;
-        }
+    for digest in digests {
+        answer = with_digest(answer, digest)?;
     }
     Ok(answer)
 }
@@ -34,31 +40,44 @@ pub(crate) fn with_digest(answer: Answer, digest: &ArtifactDigest) -> Result<Ans
     answer.value(&digest.algorithm())?.hex(digest.as_bytes())
 }
 
-/// `checked TEXT`: what the checked bundle lends: certificate, signature, whether the entry is the bundle's first and a copy of it is equal,
-/// the pre-authentication encoding, the payload, and the envelope's text.
+/// `checked TEXT`: what the checked bundle lends: certificate, signature, whether the entry is the bundle's first
+/// and a copy of it is equal, the pre-authentication encoding, the payload, and the envelope's text.
 pub(crate) fn lent(alloc: Global, text: &str) -> Result<Answer, CaseError> {
     let bundle = bundle(alloc, text)?;
     match CheckedBundle::try_from_bundle(alloc, &bundle) {
-        Ok(checked) => with_parts(alloc, Answer::ok(alloc)?, &checked, &bundle),
+        Ok(checked) => parts_of(alloc, &checked, &bundle),
         Err(refusal) => Answer::error(alloc, &refusal),
     }
 }
 
-/// Adds what the checked bundle lends.
-fn with_parts(
-    alloc: Global,
-    answer: Answer,
-    checked: &CheckedBundle,
-    bundle: &Bundle,
-) -> Result<Answer, CaseError> {
-    let copied = checked.entry().copy(alloc)?;
-    let is_first = entry(bundle) == Some(checked.entry());
-    let answer = answer
+/// What the checked bundle lends.
+fn parts_of(alloc: Global, checked: &CheckedBundle, bundle: &Bundle) -> Result<Answer, CaseError> {
+    let is_copied = is_copied(alloc, checked.entry())?;
+    let answer = Answer::ok(alloc)?
         .hex(checked.certificate().der())?
         .hex(checked.signature())?
-        .value(&is_first)?
-        .value(&(copied == *checked.entry()))?;
-    match checked.content() {
+        .value(&is_first(bundle, checked.entry()))?
+        .value(&is_copied)?;
+    with_content(answer, checked.content())
+}
+
+/// Whether this is the bundle's first log entry.
+fn is_first(bundle: &Bundle, own: &TransparencyLogEntry) -> bool {
+    match entry(bundle) {
+        Some(first) => *first == *own,
+        None => false,
+    }
+}
+
+/// Whether a copy of a log entry is equal to it.
+pub(crate) fn is_copied(alloc: Global, entry: &TransparencyLogEntry) -> Result<bool, CaseError> {
+    let copied = entry.copy(alloc)?;
+    Ok(copied == *entry)
+}
+
+/// Adds what the signature is over.
+fn with_content(answer: Answer, content: &CheckedContent) -> Result<Answer, CaseError> {
+    match content {
         CheckedContent::Dsse {
             pae,
             payload_bytes,
@@ -68,6 +87,6 @@ fn with_parts(
             .hex(pae.as_slice())?
             .hex(payload_bytes.as_slice())?
             .value(&envelope_json.as_str()),
-        _ => answer.value(&"-"),
+        CheckedContent::MessageSignature => answer.value(&"-"),
     }
 }

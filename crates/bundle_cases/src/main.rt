@@ -1,11 +1,12 @@
 //! Cases of bundles: read, written, compared and checked. `stdin` lists calls, and `stdout` what they return.
 //!
-//! Who made them: `tools/bundle_cases.py`, a program in another language that reads and writes bundles by the table of the format alone, over
-//! the bundle that `tools/fixture.py` makes; the refusals are stated by hand, row by row.
+//! Who made them: `tools/bundle_cases.py`, a program in another language that reads and writes bundles by the table
+//! of the format alone, over the bundle that `tools/fixture.py` makes; the refusals are stated by hand, row by row.
 #![tactic(auto)]
 
 mod checked;
 mod equal;
+mod logged;
 mod parts;
 mod read;
 mod shown;
@@ -28,6 +29,8 @@ impl Cases for BundleCases {
             "equal" => equal::answer(alloc, arguments),
             "try_from_bundle" => checked::digests(alloc, arguments.rest()?),
             "checked" => checked::lent(alloc, arguments.rest()?),
+            "to_proof" => logged::proof(alloc, arguments.rest()?),
+            "tlog_entry" => logged::logged(alloc, arguments),
             _ => parts::answer(alloc, call, arguments),
         }
     }

@@ -1,5 +1,7 @@
 //! Bundles as texts.
+ghost use Rattle.std.specs.Prelude.{IsSome};
 
+use crate::checked::is_copied;
 use sig_bundle::{Bundle, TransparencyLogEntry, bundle_text, promise_text, read_bundle};
 use sig_cases::{Answer, CaseError};
 use sig_json::JsonError;
@@ -17,9 +19,14 @@ pub(crate) fn bundle(alloc: Global, text: &str) -> Result<Bundle, CaseError> {
 /// `read_bundle TEXT`: the text that is written for the bundle.
 pub(crate) fn written(alloc: Global, text: &str) -> Result<Answer, CaseError> {
     match read_bundle(alloc, text.as_bytes()) {
-        Ok(bundle) => Answer::ok(alloc)?.value(&bundle_text(alloc, &bundle)?.as_str()),
+        Ok(bundle) => written_bundle(alloc, &bundle),
         Err(refusal) => Answer::error(alloc, &refusal),
     }
+}
+
+fn written_bundle(alloc: Global, bundle: &Bundle) -> Result<Answer, CaseError> {
+    let text = bundle_text(alloc, bundle)?;
+    Answer::ok(alloc)?.value(&text.as_str())
 }
 
 /// The first log entry of a bundle.
@@ -30,17 +37,30 @@ pub(crate) fn entry(bundle: &Bundle) -> Option<&TransparencyLogEntry> {
 /// `copied_entry TEXT`: whether a copy of the first log entry is equal to it.
 pub(crate) fn copied(alloc: Global, text: &str) -> Result<Answer, CaseError> {
     let bundle = bundle(alloc, text)?;
-    let entry = entry(&bundle).ok_or(CaseError::BadLine)?;
-    Answer::ok(alloc)?.value(&(*entry == entry.copy(alloc)?))
+    match entry(&bundle) {
+        Some(entry) => copied_entry(alloc, entry),
+        None => Err(CaseError::BadLine),
+    }
 }
 
-/// `promise_text TEXT`: the text that the log signed to promise that it includes the first log entry. `BadLine` where the entry has no log id.
+fn copied_entry(alloc: Global, entry: &TransparencyLogEntry) -> Result<Answer, CaseError> {
+    let is_copied = is_copied(alloc, entry)?;
+    Answer::ok(alloc)?.value(&is_copied)
+}
+
+/// `promise_text TEXT`: the text that the log signed to promise that it includes the first log entry. `BadLine`
+/// where the entry has no log id.
 pub(crate) fn promise(alloc: Global, text: &str) -> Result<Answer, CaseError> {
     let bundle = bundle(alloc, text)?;
-    let entry = entry(&bundle).ok_or(CaseError::BadLine)?;
-    if entry.log_id.is_none() {
-        return Err(CaseError::BadLine);
+    match entry(&bundle) {
+        Some(entry) if entry.log_id.is_some() => promised(alloc, entry),
+        _ => Err(CaseError::BadLine),
     }
+}
+
+fn promised(alloc: Global, entry: &TransparencyLogEntry) -> Result<Answer, CaseError>
+    requires { IsSome entry.now.log_id }
+{
     match promise_text(alloc, entry) {
         Ok(text) => Answer::ok(alloc)?.value(&text.as_str()),
         Err(refusal) => Answer::error(alloc, &refusal),
