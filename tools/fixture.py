@@ -174,7 +174,7 @@ def signed_by_log(issuer_key, body, time=1702446655000, more=b""):
     return b"\x00\x00" + time.to_bytes(8, "big") + b"\x00\x01" + sha256(issuer_key) + counted(body, 3) + counted(more)
 
 
-# RFC 6962 section 2.1: the log of five entries of which the third is the bundle's.
+# RFC 6962 section 2.1: the log, of five entries of which the third is the bundle's.
 
 def sha256(content):
     return hashlib.sha256(content).digest()
@@ -188,22 +188,46 @@ def node_hash(left, right):
     return sha256(b"\x01" + left + right)
 
 
-def proof_of_third(body):
-    """The audit path of the third of five entries, and the root hash."""
-    first_two = node_hash(leaf_hash(b"other 0"), leaf_hash(b"other 1"))
-    fourth, fifth = leaf_hash(b"other 3"), leaf_hash(b"other 4")
-    root = node_hash(node_hash(first_two, node_hash(leaf_hash(body), fourth)), fifth)
-    return [fourth, first_two, fifth], root
+def cut_at(size):
+    """The largest power of two below the size."""
+    return 1 << (size - 1).bit_length() - 1
 
 
-def note(root):
+def root_hash(entries):
+    """The Merkle tree hash of a list that is not empty."""
+    if len(entries) == 1:
+        return leaf_hash(entries[0])
+    cut = cut_at(len(entries))
+    return node_hash(root_hash(entries[:cut]), root_hash(entries[cut:]))
+
+
+def audit_path(index, entries):
+    """The hashes from the entry at the index up to the root, section 2.1.1."""
+    if len(entries) == 1:
+        return []
+    cut = cut_at(len(entries))
+    if index < cut:
+        return audit_path(index, entries[:cut]) + [root_hash(entries[cut:])]
+    return audit_path(index - cut, entries[cut:]) + [root_hash(entries[:cut])]
+
+
+def log_entries(index, size, body):
+    """The log's entries: the bundle's body at the index, and others."""
+    return [body if at == index else b"other %d" % at for at in range(size)]
+
+
+def note(root, size=5):
     """The checkpoint's text, C2SP tlog-checkpoint."""
-    return "fixture.log\n5\n%s\n" % base64_of(root)
+    return "fixture.log\n%d\n%s\n" % (size, base64_of(root))
+
+
+def signed_note(text, signature=b"sig-note"):
+    """The signed note, C2SP signed-note."""
+    return "%s\n\u2014 fixture.log %s\n" % (text, base64_of(b"\x00\x00\x00\x04" + signature))
 
 
 def checkpoint(root):
-    """The signed note, C2SP signed-note."""
-    return "%s\n\u2014 fixture.log %s\n" % (note(root), base64_of(b"\x00\x00\x00\x04sig-note"))
+    return signed_note(note(root))
 
 
 # Texts: JSON without blanks, its members as they come or, canonical, in the order of their names.
@@ -246,17 +270,18 @@ def pae(payload):
     return b"DSSEv1 %d %s %d %s" % (len(PAYLOAD_TYPE), PAYLOAD_TYPE.encode(), len(payload), payload)
 
 
-def envelope_json(payload, signature):
-    """The envelope as Rekor hashes it."""
+def envelope_json(payload, signature, keyid=""):
+    """The envelope as Rekor hashes it, without members that are empty."""
+    members = {"sig": base64_of(signature), "keyid": keyid}
     return compact({"payload": base64_of(payload), "payloadType": PAYLOAD_TYPE,
-                    "signatures": [{"sig": base64_of(signature)}]})
+                    "signatures": [{title: text for title, text in members.items() if text}]})
 
 
-def body_of(payload, signature, signer):
+def body_of(payload, signature, signer, keyid=""):
     """The body of Rekor's log entry of kind dsse, version 0.0.1."""
     def digest(content):
         return {"algorithm": "sha256", "value": sha256(content).hex()}
-    spec = {"envelopeHash": digest(envelope_json(payload, signature).encode()), "payloadHash": digest(payload),
+    spec = {"envelopeHash": digest(envelope_json(payload, signature, keyid).encode()), "payloadHash": digest(payload),
             "signatures": [{"signature": base64_of(signature), "verifier": base64_of(pem(signer).encode())}]}
     return compact({"apiVersion": "0.0.1", "kind": "dsse", "spec": spec}).encode()
 
@@ -277,39 +302,44 @@ def row(operation, scheme, under, message, signature):
 
 
 class Request:
-    """A request by its parts. Each argument changes one of them; `stamp` says how the leaf's SCT differs from `sct()`."""
+    """A request by its parts. Each argument changes one of them, and what is computed from it changes too: `stamp` says how the leaf's SCT
+    differs from `sct()`, `scheme` and `log_scheme` are the schemes of other keys of leaf and log, `body` is another body than the envelope's,
+    `index` and `size` are of another log, and `noted` is another note than that log's."""
 
     def __init__(self, anchor=anchor(), leaf=leaf(), stamp={}, payload=statement(), signature=b"sig-dsse", promise=b"sig-set",
                  log_index=900, integrated_time=1702446700, now=1702500000, digest="sha256:" + DIGEST,
                  media_type="application/vnd.dev.sigstore.bundle.v0.3+json",
-                 policy={"all": [{"identity": WORKFLOW, "issuer": ISSUER}]}):
+                 policy={"all": [{"identity": WORKFLOW, "issuer": ISSUER}]},
+                 scheme=SCHEME, log_key=key(LOG_KEY), log_scheme=SCHEME, log_id=LOG_ID, body=None, index=2, size=5, noted=None, keyid=""):
         self.__dict__.update(locals())
         self.leaf_der = certificate(leaf)
-        self.body = body_of(payload, signature, self.leaf_der)
-        self.hashes, self.root = proof_of_third(self.body)
+        self.body = body_of(payload, signature, self.leaf_der, keyid) if body is None else body
+        entries = log_entries(index, size, self.body)
+        self.hashes, self.root = audit_path(index, entries), root_hash(entries)
+        self.noted = note(self.root, size) if noted is None else noted
 
     def trusted_root(self):
         opened = {"start": "2023-01-01T00:00:00Z"}
         closed = {**opened, "end": "2023-12-31T23:59:59.999Z"}
 
-        def log(byte, valid_for, identifier):
-            return {"publicKey": {"rawBytes": base64_of(key(byte)), "validFor": valid_for},
+        def log(spki, valid_for, identifier):
+            return {"publicKey": {"rawBytes": base64_of(spki), "validFor": valid_for},
                     "logId": {"keyId": base64_of(identifier)}}
         chain = {"certificates": [{"rawBytes": base64_of(certificate(self.anchor))}]}
         return {"certificateAuthorities": [{"certChain": chain, "validFor": opened}],
-                "tlogs": [log(LOG_KEY, closed, LOG_ID)],
-                "ctlogs": [log(CERTIFICATE_LOG_KEY, opened, CERTIFICATE_LOG_ID)]}
+                "tlogs": [log(self.log_key, closed, self.log_id)],
+                "ctlogs": [log(key(CERTIFICATE_LOG_KEY), opened, CERTIFICATE_LOG_ID)]}
 
     def entry(self):
-        proof = {"logIndex": "2", "treeSize": "5", "rootHash": base64_of(self.root),
-                 "hashes": [base64_of(each) for each in self.hashes], "checkpoint": {"envelope": checkpoint(self.root)}}
-        return {"logIndex": str(self.log_index), "logId": {"keyId": base64_of(LOG_ID)},
+        proof = {"logIndex": str(self.index), "treeSize": str(self.size), "rootHash": base64_of(self.root),
+                 "hashes": [base64_of(each) for each in self.hashes], "checkpoint": {"envelope": signed_note(self.noted)}}
+        return {"logIndex": str(self.log_index), "logId": {"keyId": base64_of(self.log_id)},
                 "integratedTime": str(self.integrated_time),
                 "inclusionPromise": {"signedEntryTimestamp": base64_of(self.promise)},
                 "inclusionProof": proof, "canonicalizedBody": base64_of(self.body)}
 
     def bundle(self):
-        signatures = [{"sig": base64_of(self.signature), "keyid": ""}]
+        signatures = [{"sig": base64_of(self.signature), "keyid": self.keyid}]
         return {"mediaType": self.media_type,
                 "verificationMaterial": {"certificate": {"rawBytes": base64_of(self.leaf_der)}, "tlogEntries": [self.entry()]},
                 "dsseEnvelope": {"payload": base64_of(self.payload), "payloadType": PAYLOAD_TYPE, "signatures": signatures}}
@@ -317,7 +347,7 @@ class Request:
     def promised(self):
         """What the log's promise is over (RFC 8785's text of four members of the entry)."""
         return compact({"body": base64_of(self.body), "integratedTime": self.integrated_time,
-                        "logID": LOG_ID.hex(), "logIndex": self.log_index}, canonical=True).encode()
+                        "logID": self.log_id.hex(), "logIndex": self.log_index}, canonical=True).encode()
 
     def precertificate(self):
         """The leaf's TBSCertificate without its list of SCTs, RFC 6962 section 3.2."""
@@ -332,9 +362,9 @@ class Request:
         return [
             row("certificate", base64_of(self.leaf["algorithm"]), under, tbs(self.leaf), self.leaf["signature"][3:]),
             row("point", None, point(CERTIFICATE_LOG_KEY), logged, stamp["signature"]),
-            row("message", SCHEME, self.leaf["key"], pae(self.payload), self.signature),
-            row("message", SCHEME, key(LOG_KEY), self.promised(), self.promise),
-            row("message", SCHEME, key(LOG_KEY), note(self.root).encode(), b"sig-note")]
+            row("message", self.scheme, self.leaf["key"], pae(self.payload), self.signature),
+            row("message", self.log_scheme, self.log_key, self.promised(), self.promise),
+            row("message", self.log_scheme, self.log_key, self.noted.encode(), b"sig-note")]
 
     def request(self):
         return {"trustedRoot": compact(self.trusted_root()), "bundle": compact(self.bundle(), canonical=True),

@@ -1,0 +1,242 @@
+#!/usr/bin/env python3
+"""Writes a table of requests of `verify` with their replies, and the examples of `verify`.
+
+    tools/verify_cases.py                      writes tools/verify/cases.requests and cases.expected, and says how many rows each link has
+    tools/verify_cases.py REQUESTS EXPECTED    writes a longer table there, with cases that other tables have of a single reader
+    tools/verify_cases.py examples FOLDER      writes verify.json and verify-refused.json with their .expected files
+
+A row of tools/verify_rows.py says what changes of the fixture's request and, by hand, what comes of it. tools/verify_links.py, a second
+implementation of the links, has to say the same; else nothing is written. A line of the requests is a row's name, a tab, and the request; a line
+of what is expected is the name, a tab, the reply, a tab, and the error of the library call `verify_offline` (`-` where there is none, and where
+the request itself is refused, which no library call reads).
+"""
+import base64
+import collections
+import copy
+import json
+import os
+import sys
+
+sys.dont_write_bytecode = True
+
+import fixture
+import verify_links
+from fixture import BIT_STRING, OBJECT_IDENTIFIER, SEQUENCE, compact, der, leaf, leaf_extensions, oid
+
+HERE = os.path.dirname(os.path.abspath(__file__))
+ABSENT = object()
+
+
+# What a row changes. Edits of `parts` rebuild all that is computed from them, the accepted signatures too, as if the signer had signed the changed
+# thing; the others are made afterwards, in the trusted root, the bundle or the request, and nothing is signed anew.
+
+def parts(**changed):
+    return "parts", changed
+
+
+def root(path, value):
+    """The member of the trusted root at this path, as `tlogs.0.logId.keyId`; a function of the old value, or ABSENT, or the new value."""
+    return "root", (path, value)
+
+
+def bundle(path, value):
+    return "bundle", (path, value)
+
+
+def request(path, value):
+    return "request", (path, value)
+
+
+def unaccepted(place):
+    """Without this row of `accepted`: 0 the leaf's, 1 the SCT's, 2 the envelope's, 3 the promise's, 4 the checkpoint's."""
+    return "unaccepted", place
+
+
+def accepted(*words):
+    """With another row of `accepted`: operation, scheme, key, message, signature."""
+    return "accepted", fixture.row(*words)
+
+
+def of_bytes(change):
+    """A change of the bytes of a base64 member."""
+    return lambda text: fixture.base64_of(change(base64.b64decode(text)))
+
+
+# Where things are in the fixture, and other parts for it.
+
+MATERIAL = "verificationMaterial"
+CERTIFICATE = MATERIAL + ".certificate.rawBytes"
+ENTRY = MATERIAL + ".tlogEntries.0"
+PROOF = ENTRY + ".inclusionProof"
+CHECKPOINT = PROOF + ".checkpoint.envelope"
+AUTHORITY = "certificateAuthorities.0"
+ANCHOR = AUTHORITY + ".certChain.certificates.0.rawBytes"
+
+
+def held(**changes):
+    """The fixture's leaf with other extensions."""
+    return parts(leaf=leaf(leaf_extensions(**changes)))
+
+
+def elliptic(curve, bits=b"\x04" + b"\x02" * 64):
+    """A SubjectPublicKeyInfo on a curve (RFC 5480 section 2)."""
+    algorithm = der(OBJECT_IDENTIFIER, oid("1.2.840.10045.2.1")), der(OBJECT_IDENTIFIER, oid(curve))
+    return der(SEQUENCE, der(SEQUENCE, *algorithm), der(BIT_STRING, b"\x00", bits))
+
+
+UNKNOWN_CURVE = elliptic("1.3.132.0.10")
+KEYS = [("P-384", elliptic("1.3.132.0.34", b"\x04" + b"\x02" * 96), "ECDSA_P384_SHA384_ASN1"),
+        ("P-521", elliptic("1.3.132.0.35", b"\x04" + b"\x02" * 132), "ECDSA_P521_SHA512_ASN1"),
+        ("RSA", fixture.wide_key(), "RSA_PKCS1_SHA256"),
+        ("Ed25519", der(SEQUENCE, der(SEQUENCE, der(OBJECT_IDENTIFIER, oid("1.3.101.112"))), der(BIT_STRING, b"\x00", b"\x02" * 32)), "ED25519")]
+
+
+# The request that the changes make.
+
+def edited(tree, path, value):
+    if path == "":
+        return value(tree) if callable(value) else value
+    *way, last = [int(name) if name.isdigit() else name for name in path.split(".")]
+    place = tree
+    for name in way:
+        place = place[name]
+    if value is ABSENT:
+        del place[last]
+    else:
+        place[last] = value(place[last]) if callable(value) else copy.deepcopy(value)
+    return tree
+
+
+def of_kind(changes, kind):
+    return [change for each, change in changes if each == kind]
+
+
+def built(changes):
+    """The members of the request that the changes make of the fixture's."""
+    changed = {}
+    for each in of_kind(changes, "parts"):
+        assert not set(changed) & set(each), "two changes of one part"
+        changed.update(each)
+    made = fixture.Request(**changed)
+    documents = {"root": made.trusted_root(), "bundle": made.bundle()}
+    for name in documents:
+        for path, value in of_kind(changes, name):
+            documents[name] = edited(documents[name], path, value)
+    rows = [row for place, row in enumerate(made.accepted()) if place not in of_kind(changes, "unaccepted")]
+    members = {"trustedRoot": compact(documents["root"]), "bundle": compact(documents["bundle"], canonical=True), "now": made.now,
+               "digest": made.digest, "policy": made.policy, "accepted": rows + of_kind(changes, "accepted")}
+    for path, value in of_kind(changes, "request"):
+        members = edited(members, path, value)
+    return members
+
+
+# Rows and lines.
+
+Row = collections.namedtuple("Row", "name expected text")
+ROWS = []
+
+
+def judged(text):
+    return verify_links.verify(text.encode())
+
+
+def meets(said, expected):
+    """Whether reply and error are the expected line: `verified I N`, or a link and the error, of which `...` leaves the end open."""
+    reply, error = said
+    link, _, wanted = expected.partition(" ")
+    if link == "verified":
+        return said == (expected, "-")
+    same = error.startswith(wanted[:-3]) if wanted.endswith("...") else error == (wanted or "-")
+    return reply == "refused " + link and same
+
+
+def add(name, expected, text):
+    said = judged(text)
+    assert meets(said, expected), "%s: expected %s, but the second implementation says %s" % (name, expected, said)
+    assert "\t" not in name and "\n" not in text and "\t" not in text and all(name != row.name for row in ROWS), name
+    ROWS.append(Row(name, said, text))
+
+
+# What may go from a row that fails before it is asked for.
+OPTIONAL = [("bundle", path) for path in ("dsseEnvelope", MATERIAL, MATERIAL + ".tlogEntries", PROOF, ENTRY + ".inclusionPromise",
+                                          ENTRY + ".canonicalizedBody")]
+OPTIONAL += [("trustedRoot", path) for path in ("tlogs", "ctlogs")]
+
+
+def without(members, name, path):
+    """The members without what is at this path of a document, or as they are where the document has nothing there or is written otherwise."""
+    try:
+        tree = json.loads(members[name])
+        if compact(tree, canonical=name == "bundle") == members[name]:
+            return {**members, name: compact(edited(tree, path, ABSENT), canonical=name == "bundle")}
+    except (ValueError, KeyError, IndexError, TypeError):
+        pass
+    return members
+
+
+def smaller(members):
+    """The same request without what is not asked for: each thing goes that can go without another reply or error."""
+    said = judged(compact(members))
+    wanted = [lambda old: {**old, "bundle": "{}"}, lambda old: {**old, "accepted": []}]
+    wanted += [lambda old, place=place: without(old, *place) for place in OPTIONAL]
+    wanted += [lambda old, each=each: {**old, "accepted": [row for row in old["accepted"] if row is not each]} for each in members["accepted"]]
+    if not said[0].startswith("verified"):
+        for change in wanted:
+            other = change(members)
+            if other != members and judged(compact(other)) == said:
+                members = other
+    return members
+
+
+def row(name, expected, *changes):
+    add(name, expected, compact(smaller(built(changes))))
+
+
+def whole_row(name, expected, *changes):
+    """A row with all of the request, so that nothing but its changes can be what fails."""
+    add(name, expected, compact(built(changes)))
+
+
+def text_row(name, expected, text):
+    """A row whose request is this text."""
+    add(name, expected, text)
+
+
+# Files.
+
+def write(path, lines):
+    with open(path, "w", encoding="utf-8") as file:
+        file.write("".join(line + "\n" for line in lines))
+
+
+def write_table(requests, expected):
+    write(requests, ["%s\t%s" % (row.name, row.text) for row in ROWS])
+    write(expected, ["%s\t%s\t%s" % (row.name, *row.expected) for row in ROWS])
+    counts = collections.Counter(row.expected[0].removeprefix("refused ").split(" ")[0] for row in ROWS)
+    for name in ["verified", *verify_links.NAMES]:
+        print("%s: %d" % (name, counts[name]))
+    print("%d rows" % len(ROWS))
+
+
+def write_examples(folder):
+    """The fixture's request, and one whose leaf was issued for another workflow than the policy names."""
+    other = built([parts(policy={"all": [{"identity": "https://example.com/other", "issuer": fixture.ISSUER}]})])
+    for name, members, reply in [("verify", built([]), "verified 2 5"), ("verify-refused", other, "refused policy")]:
+        assert judged(compact(members))[0] == reply
+        write(os.path.join(folder, name + ".json"), [compact(members)])
+        write(os.path.join(folder, name + ".expected"), [reply, "status %d" % (reply != "verified 2 5")])
+
+
+def main(words):
+    if words[:1] == ["examples"]:
+        write_examples(words[1])
+        return
+    import verify_rows
+    for group in verify_rows.GROUPS + (verify_rows.MORE if words else []):
+        group()
+    write_table(*words or [os.path.join(HERE, "verify", name) for name in ("cases.requests", "cases.expected")])
+
+
+if __name__ == "__main__":
+    sys.modules["verify_cases"] = sys.modules["__main__"]
+    main(sys.argv[1:])

@@ -1,0 +1,424 @@
+#!/usr/bin/env python3
+"""The links of `verify` once more, in the order of docs/LINKS.md: what tools/verify_cases.py compares its table with.
+
+    tools/verify_links.py < REQUEST    writes the reply, and the error of the library call where a link after `request` fails
+
+Written from the public standards: RFC 5280 and X.690 (certificates), RFC 6962 (SCTs, trees), RFC 8785 (the promise), the DSSE protocol and
+in-toto's statement, C2SP signed-note and tlog-checkpoint, Sigstore's bundle and trusted root. JSON, base64, DER, times, checkpoints, audit paths
+and bundles are read by the second readers that the other tools have. No signature is computed: the rows of `accepted` say which are genuine.
+"""
+import base64
+import re
+import sys
+from types import SimpleNamespace
+
+sys.dont_write_bytecode = True
+sys.set_int_max_str_digits(0)
+
+import bundle_cases as bundles
+import der_cases as der
+import dsse_cases as dsse
+import json_cases as documents
+import log_requests as requests
+import rekor_cases as rekor
+import verify_certificate as certificates
+from rekor_cases import debug
+from verify_certificate import sha256
+
+
+class Fails(Exception):
+    """The link does not hold; the text is the library call's error as Rust's Debug prints it."""
+
+
+def want(holds, error):
+    if not holds:
+        raise Fails(error)
+
+
+def of_base64(text):
+    """The bytes of a text that a reader has found to be base64."""
+    return base64.b64decode(text)
+
+
+# request: the member table of the request.
+
+MOST = 2 ** 24
+RULES = {("identity", "issuer"): "Identity", ("issuer",): "OIDCIssuer", ("trigger",): "GitHubWorkflowTrigger", ("sha",): "GitHubWorkflowSHA",
+         ("name",): "GitHubWorkflowName", ("repository",): "GitHubWorkflowRepository", ("ref",): "GitHubWorkflowRef"}
+RULE_MEMBERS = ("identity", "issuer", "trigger", "sha", "name", "repository", "ref")
+
+
+def object_of(value):
+    return value if isinstance(value, dict) else requests.refuse()
+
+
+def digest_of(value):
+    """A digest as its algorithm's name and its bytes."""
+    found = re.fullmatch("sha256:([0-9a-fA-F]{64})|sha512:([0-9a-fA-F]{128})", requests.text_of(value))
+    if not found:
+        requests.refuse()
+    return ("sha256", bytes.fromhex(found[1])) if found[1] else ("sha512", bytes.fromhex(found[2]))
+
+
+def rule_of(value):
+    members = {name: requests.text_of(value[name]) for name in RULE_MEMBERS if object_of(value).get(name) is not None}
+    if tuple(members) not in RULES:
+        requests.refuse()
+    return RULES[tuple(members)], tuple(members.values())
+
+
+def policy_of(value):
+    given = [name for name in ("all", "any") if object_of(value).get(name) is not None]
+    if len(given) != 1:
+        requests.refuse()
+    rules = requests.list_of(rule_of)(value[given[0]])
+    return (given[0], rules) if rules else requests.refuse()
+
+
+def read_request(content):
+    try:
+        members = object_of(documents.tree(content) if len(content) <= MOST else requests.refuse())
+    except (documents.NotJson, documents.Float):
+        requests.refuse()
+    if members.get("entries") is not None:  # the log's own list, which is not read yet
+        requests.refuse()
+    required = lambda name, kind: requests.required(members, name, kind)
+    return SimpleNamespace(
+        trusted_root=required("trustedRoot", requests.text_of), bundle=required("bundle", requests.text_of),
+        now=required("now", requests.integer(-2 ** 63, 2 ** 63)), digest=required("digest", digest_of), policy=required("policy", policy_of),
+        accepted=set(requests.optional(members, "accepted", requests.list_of(requests.row_of)) or []))
+
+
+# root-json, bundle-json: the two documents by their member tables.
+
+def time_text(value):
+    """A time by RFC 3339 in seconds since 1970, its fraction dropped."""
+    if value is None:
+        return None
+    found = der.rfc3339(bundles.text(value))
+    bundles.ask(found != "none")
+    return int(found.removeprefix("ok "))
+
+
+def given_octets(value):
+    return None if value is None else bundles.octets(value)
+
+
+VALID_FOR = {"start": time_text, "end": time_text}
+AUTHORITY = {"certChain": bundles.optional({"certificates": bundles.objects(bundles.CERTIFICATE)}), "validFor": bundles.optional(VALID_FOR)}
+INSTANCE = {"publicKey": bundles.optional({"rawBytes": given_octets, "validFor": bundles.optional(VALID_FOR)}),
+            "logId": bundles.optional({"keyId": bundles.octets})}
+TRUSTED_ROOT = {"certificateAuthorities": bundles.objects(AUTHORITY), "tlogs": bundles.objects(INSTANCE), "ctlogs": bundles.objects(INSTANCE)}
+CONTENTS = ("messageSignature", "dsseEnvelope")
+SIGNERS = ("certificate", "x509CertificateChain", "publicKey")
+
+
+def record(part, text, table):
+    """What a text holds by its member table."""
+    try:
+        return bundles.element(documents.tree(text), table)
+    except (documents.NotJson, documents.Float) as fault:
+        raise Fails("Json(%s, %s)" % (part, type(fault).__name__)) from None
+    except bundles.Refused:
+        raise Fails("Json(%s, Member)" % part) from None
+
+
+def root_json(case):
+    case.root = record("Root", case.request.trusted_root, TRUSTED_ROOT)
+
+
+def bundle_json(case):
+    case.bundle = record("Bundle", case.request.bundle, bundles.BUNDLE)
+    case.material = case.bundle.get("verificationMaterial")
+    for oneof, parts in ((CONTENTS, case.bundle), (SIGNERS, case.material or {})):
+        want(sum(name in parts for name in oneof) < 2, "Json(Bundle, Member)")
+
+
+# fulcio, anchor, ctfe: the keys of the trusted root that are picked at the request's time.
+
+def is_within(valid_for, now, expired=False):
+    """Whether a range holds at a time: its ends are included, and one that is absent is open."""
+    start, end = (valid_for or {}).get("start"), (valid_for or {}).get("end")
+    return start is None or start <= now and (expired or end is None or now <= end)
+
+
+def picked_certificates(root, now):
+    """Of the authorities whose range has begun, expired ones included, all certificates in order."""
+    chains = [each.get("certChain", {"certificates": []}) for each in root["certificateAuthorities"] if is_within(each.get("validFor"), now, True)]
+    return [of_base64(each["rawBytes"]) for chain in chains for each in chain["certificates"]]
+
+
+def picked_keys(instances, now):
+    """The keys by the lower-case hexadecimal of their log ids; of equal ids the last whose range holds."""
+    keys = {}
+    for each in instances:
+        key = each.get("publicKey", {})
+        if "rawBytes" in key and "logId" in each and is_within(key.get("validFor"), now):
+            keys[of_base64(each["logId"]["keyId"]).hex()] = of_base64(key["rawBytes"])
+    return keys
+
+
+def fulcio(case):
+    case.picked = picked_certificates(case.root, case.request.now)
+    want(case.picked, "TrustRoot(Fulcio)")
+
+
+def anchor(case):
+    case.anchors = [certificates.read_certificate(each) for each in case.picked]
+    for place, each in enumerate(case.anchors):
+        want(each and not each.of(certificates.NAME_CONSTRAINTS), "Anchor(%d)" % place)
+
+
+def ctfe(case):
+    case.certificate_logs = picked_keys(case.root["ctlogs"], case.request.now)
+    want(case.certificate_logs, "TrustRoot(Ctfe)")
+
+
+# material to profile: the bundle alone.
+
+def material(case):
+    want(case.material is not None, "Bundle(VerificationMaterialMissing)")
+    # Chains are not read yet.
+    want("certificate" in case.material, "Bundle(VerificationMaterialContentUnsupported)")
+
+
+def certificate(case):
+    case.leaf_der = of_base64(case.material["certificate"]["rawBytes"])
+    case.leaf = certificates.read_certificate(case.leaf_der)
+    want(case.leaf, "Bundle(CertificateMalformed(0))")
+
+
+def leaf(case):
+    refusal = certificates.leaf_refusal(case.leaf)
+    want(refusal is None, "Bundle(NoLeaf(%s))" % refusal)
+
+
+def root_in_chain(case):
+    """Holds of a single certificate."""
+
+
+def content(case):
+    # Signatures over an artifact alone are not read yet.
+    want("dsseEnvelope" in case.bundle, "Bundle(SignatureMissing)")
+    case.envelope = case.bundle["dsseEnvelope"]
+
+
+DIGEST_FAULTS = {"TooManySubjects": "DsseTooManySubjects", "TooManyDigests": "DsseTooManySubjectDigests", "Malformed": "DsseSubjectDigestMalformed",
+                 "NoneRecognized": "DsseNoRecognizedSubjectDigest"}
+
+
+def envelope(case):
+    signatures = case.envelope["signatures"]
+    want(len(signatures) == 1, "Bundle(DsseInvalidSignatureCount(%d))" % len(signatures))
+    case.signature, keyid = of_base64(signatures[0]["sig"]), signatures[0]["keyid"]
+    case.payload, case.payload_type = of_base64(case.envelope["payload"]), case.envelope["payloadType"]
+    case.envelope_text = dsse.envelope_text(case.payload_type, case.payload, [(case.signature, keyid)])
+    try:
+        subjects = dsse.read(documents.compact(documents.tree(case.payload)))[1]
+    except (documents.NotJson, documents.Float, dsse.NoStatement):
+        raise Fails("Bundle(DssePayloadDecode)") from None
+    name, _, digests = dsse.digests(subjects).partition(" ")
+    cause, _, kept = name.partition("(")
+    want(name == "ok", "Bundle(%s)" % (DIGEST_FAULTS.get(cause, "") + ("(" + kept if kept else "")))
+    words = digests.split()
+    case.digests = {(algorithm, bytes.fromhex(text)) for algorithm, text in zip(words[::2], words[1::2])}
+
+
+def entry(case):
+    entries = case.material["tlogEntries"]
+    want(len(entries) == 1, "Bundle(TlogEntry(%d))" % len(entries))
+    case.entry = entries[0]
+    case.body = of_base64(case.entry["canonicalizedBody"])
+
+
+# Of bundles of the profiles 0.1 and 0.2 none is read yet.
+MEDIA_TYPES = ("application/vnd.dev.sigstore.bundle.v0.3+json", "application/vnd.dev.sigstore.bundle+json;version=0.3")
+
+
+def profile(case):
+    media_type = case.bundle["mediaType"]
+    want(media_type in MEDIA_TYPES, "Bundle(BundleProfile(Unknown(%s)))" % debug(media_type))
+    want("inclusionProof" in case.entry, "Bundle(BundleProfile(Bundle02Profile(InclusionProofMissing)))")
+    want("checkpoint" in case.entry["inclusionProof"], "Bundle(BundleProfile(Bundle02Profile(CheckpointMissing)))")
+
+
+# issuance, issuer, sct: the leaf under the trusted root.
+
+def issuance(case):
+    want(certificates.is_issuable(case.leaf), "Certificate(Malformed)")
+
+
+def issuer(case):
+    """The first trust anchor that issued the leaf: the name alone does not tell."""
+    leaf = case.leaf
+    case.issuer = next((each for each in case.anchors if each.subject == leaf.issuer and leaf.not_before <= leaf.not_after and
+                        ("certificate", leaf.algorithm, each.spki, leaf.tbs, leaf.signature) in case.request.accepted), None)
+    want(case.issuer, "Certificate(VerificationFailed)")
+
+
+def sct(case):
+    missing, malformed = "Certificate(Sct(Parsing(LeafSCTMissing)))", "Certificate(Sct(Parsing(LeafSCTMalformed)))"
+    lists = case.leaf.of(certificates.SCT_LIST)
+    want(len(lists) == 1, missing)
+    try:
+        texts = certificates.sct_texts(lists[0].value)
+        want(len(texts) == 1, missing)
+        found = certificates.read_sct(texts[0])
+    except certificates.Malformed:
+        raise Fails(malformed) from None
+    tbs = certificates.precertificate(case.leaf)
+    want(len(tbs) < 2 ** 24, "Certificate(Sct(Serialization))")
+    signed = certificates.signed_by_log(tbs, case.issuer.spki, found)
+    point = certificates.log_point(case.certificate_logs.values(), found.log_id)
+    want(point is not None, "Certificate(Sct(Verification(KeyNotFound)))")
+    want(("point", None, point, signed, found.signature) in case.request.accepted, "Certificate(Sct(Verification(VerificationFailed)))")
+
+
+# policy, key, signature, subject, body, time: what was signed, by whom, and when.
+
+def policy(case):
+    how, rules = case.request.policy
+    refusals = [refusal for refusal in (certificates.rule_refusal(case.leaf, rule) for rule in rules) if refusal]
+    if how == "all":
+        want(not refusals, "Policy(AllOf { total: %d, errors: PolicyErrors { items: [%s] } })" % (len(rules), ", ".join(refusals)))
+    else:
+        want(len(refusals) < len(rules), "Policy(AnyOf { total: %d })" % len(rules))
+
+
+def key(case):
+    case.scheme = certificates.scheme_of(case.leaf.spki)
+    want(case.scheme, "Signature(AlgoUnsupported)")
+
+
+def signature(case):
+    signed = dsse.pae(case.payload_type, case.payload)
+    want(("message", case.scheme, case.leaf.spki, signed, case.signature) in case.request.accepted, "Signature(VerificationFailed)")
+
+
+def subject(case):
+    want(case.request.digest in case.digests, "Signature(SubjectDigestMismatch)")
+
+
+def member(value, *names):
+    """The member of members, or the first item where a name is 0; None where there is none."""
+    for name in names:
+        if name == 0:
+            value = value[0] if isinstance(value, list) and value else None
+        else:
+            value = value.get(name) if isinstance(value, dict) else None
+    return value
+
+
+def is_hash(value, content):
+    """Whether a member is Rekor's object of a SHA-256 of these bytes, in digits of either case."""
+    digits = member(value, "value")
+    return member(value, "algorithm") == "sha256" and isinstance(digits, str) and digits.isascii() and digits.lower() == sha256(content).hex()
+
+
+def is_coded(value, content):
+    return isinstance(value, str) and rekor.unbase64(value) == content
+
+
+def body(case):
+    """The log's body, Rekor's kind `dsse` in version 0.0.1, is about this envelope and this certificate."""
+    try:
+        logged = documents.tree(case.body)
+    except (documents.NotJson, documents.Float):
+        raise Fails("Signature(Transparency)") from None
+    signed = member(logged, "spec", "signatures", 0)
+    want(member(logged, "kind") == "dsse" and member(logged, "apiVersion") == "0.0.1"
+         and is_hash(member(logged, "spec", "envelopeHash"), case.envelope_text.encode())
+         and is_hash(member(logged, "spec", "payloadHash"), case.payload)
+         and is_coded(member(signed, "signature"), case.signature)
+         and is_coded(member(signed, "verifier"), certificates.pem(case.leaf_der)), "Signature(Transparency)")
+
+
+def time(case):
+    want(case.leaf.not_before <= int(case.entry["integratedTime"]) <= case.leaf.not_after, "Certificate(Expired)")
+
+
+# log-key to inclusion: the log's word.
+
+def log_key(case):
+    want("logId" in case.entry, "LogIdMissing")
+    case.log_id = of_base64(case.entry["logId"]["keyId"]).hex()
+    keys = picked_keys(case.root["tlogs"], case.request.now)
+    want(case.log_id in keys, "RekorPublicKeyNotFoundError(%s)" % debug(case.log_id))
+    case.log_key = keys[case.log_id]
+    want(certificates.spki_parts(case.log_key), "KeyParsingError")
+    case.log_scheme = certificates.scheme_of(case.log_key)
+    want(case.log_scheme, "PublicKeyUnsupportedAlgorithmError")
+
+
+def promise(case):
+    want("inclusionPromise" in case.entry, "PromiseMissing")
+    members = {"body": case.entry["canonicalizedBody"], "integratedTime": int(case.entry["integratedTime"]), "logID": case.log_id,
+               "logIndex": int(case.entry["logIndex"])}
+    try:
+        signed = documents.canonical(members).encode()
+    except documents.IntegerTooLarge:
+        raise Fails("PromiseInteger") from None
+    promised = of_base64(case.entry["inclusionPromise"]["signedEntryTimestamp"])
+    want(("message", case.log_scheme, case.log_key, signed, promised) in case.request.accepted, "Promise")
+
+
+def proof(case):
+    fields = case.entry["inclusionProof"]
+    root, hashes = of_base64(fields["rootHash"]), list(map(of_base64, fields["hashes"]))
+    want(len(root) == 32, "RootLength")
+    for place, each in enumerate(hashes):
+        want(len(each) == 32, "HashLength(%d)" % place)
+    want(int(fields["treeSize"]) >= 0, "TreeSize")
+    case.proof = SimpleNamespace(index=int(fields["logIndex"]), size=int(fields["treeSize"]), root=root, hashes=hashes)
+
+
+def checkpoint(case):
+    try:
+        case.checkpoint = rekor.read_checkpoint(case.entry["inclusionProof"]["checkpoint"]["envelope"])
+    except rekor.Fault as fault:
+        raise Fails("ParseCheckpointError(%s)" % fault) from None
+
+
+def note_key(case):
+    note, signatures = case.checkpoint
+    signed = rekor.note_text(note).encode()
+    want(any(("message", case.log_scheme, case.log_key, signed, raw) in case.request.accepted for _, _, raw in signatures),
+         "CheckpointSignatureVerificationError")
+
+
+def note_match(case):
+    fault = rekor.of_tree(case.checkpoint, case.proof.root, case.proof.size)
+    want(fault is None, fault)
+
+
+def inclusion(case):
+    fault = rekor.included(case.body, case.proof.index, case.proof.root, case.proof.size, case.proof.hashes)
+    want(fault is None, fault)
+
+
+# All links in order.
+
+LINKS = {"root-json": root_json, "bundle-json": bundle_json, "fulcio": fulcio, "anchor": anchor, "ctfe": ctfe, "material": material,
+         "certificate": certificate, "leaf": leaf, "root-in-chain": root_in_chain, "content": content, "envelope": envelope, "entry": entry,
+         "profile": profile, "issuance": issuance, "issuer": issuer, "sct": sct, "policy": policy, "key": key, "signature": signature,
+         "subject": subject, "body": body, "time": time, "log-key": log_key, "promise": promise, "proof": proof, "checkpoint": checkpoint,
+         "note-key": note_key, "note-match": note_match, "inclusion": inclusion}
+NAMES = ["request", *LINKS]
+
+
+def verify(content):
+    """The reply to a request, and the error of the library call, `-` where there is none."""
+    try:
+        case = SimpleNamespace(request=read_request(content))
+    except requests.NoRequest:
+        return "refused request", "-"
+    for name, link in LINKS.items():
+        try:
+            link(case)
+        except Fails as error:
+            return "refused " + name, str(error)
+    return "verified %d %d" % (case.proof.index, case.proof.size), "-"
+
+
+if __name__ == "__main__":
+    print("\n".join(verify(sys.stdin.buffer.read())))
