@@ -157,10 +157,11 @@ def add(name, expected, text):
     ROWS.append(Row(name, said, text))
 
 
-# What may go from a row that fails before it is asked for.
-OPTIONAL = [("bundle", path) for path in ("dsseEnvelope", MATERIAL, MATERIAL + ".tlogEntries", PROOF, ENTRY + ".inclusionPromise",
-                                          ENTRY + ".canonicalizedBody")]
-OPTIONAL += [("trustedRoot", path) for path in ("tlogs", "ctlogs")]
+# The first link that asks for a part of a document, and for a row of `accepted`: a row that fails before does without it.
+ASKS = [("content", "bundle", "dsseEnvelope"), ("entry", "bundle", MATERIAL + ".tlogEntries"), ("profile", "bundle", PROOF),
+        ("promise", "bundle", ENTRY + ".inclusionPromise"), ("body", "bundle", ENTRY + ".canonicalizedBody"),
+        ("ctfe", "trustedRoot", "ctlogs"), ("log-key", "trustedRoot", "tlogs")]
+ASKS_ROWS = ["issuer", "sct", "signature", "promise", "note-key"]
 
 
 def without(members, name, path):
@@ -174,17 +175,26 @@ def without(members, name, path):
     return members
 
 
+def without_row(members, place):
+    """The members without the row of `accepted` that the fixture has in this place, whatever changes of it."""
+    kept = [row for row in members["accepted"] if row["signature"] != fixture.Request().accepted()[place]["signature"]]
+    return {**members, "accepted": kept}
+
+
 def smaller(members):
-    """The same request without what is not asked for: each thing goes that can go without another reply or error."""
+    """The same request without what only links after the first that fails would ask for."""
     said = judged(compact(members))
-    wanted = [lambda old: {**old, "bundle": "{}"}, lambda old: {**old, "accepted": []}]
-    wanted += [lambda old, place=place: without(old, *place) for place in OPTIONAL]
-    wanted += [lambda old, each=each: {**old, "accepted": [row for row in old["accepted"] if row is not each]} for each in members["accepted"]]
-    if not said[0].startswith("verified"):
-        for change in wanted:
-            other = change(members)
-            if other != members and judged(compact(other)) == said:
-                members = other
+    if said[0].startswith("verified"):
+        return members
+    order = verify_links.NAMES.index
+    failing = order(said[0].removeprefix("refused "))
+    wanted = [lambda old: {**old, "bundle": "{}"}] if failing < order("material") else []
+    wanted += [lambda old, part=part: without(old, *part) for link, *part in ASKS if failing < order(link)]
+    wanted += [lambda old, place=place: without_row(old, place) for place, link in enumerate(ASKS_ROWS) if failing < order(link)]
+    for change in wanted:
+        other = change(members)
+        if other != members and judged(compact(other)) == said:
+            members = other
     return members
 
 

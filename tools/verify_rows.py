@@ -160,10 +160,9 @@ def log_keys():
             ("the right one alone has ended", [instance(key(4), fixture.LOG_ID, **ENDED)], unknown),
             ("the last has no key", [own, no_key], "verified 2 5"), ("the last has a key without bytes", [own, {**no_key, "publicKey": {}}],
             "verified 2 5"),
-            ("the last has null for bytes", [own, {**no_key, "publicKey": {"rawBytes": None}}], "verified 2 5"),
             ("the last has a key of no bytes", [own, {**no_key, "publicKey": {"rawBytes": ""}}], "log-key KeyParsingError"),
             ("the last has no id", [own, {"publicKey": other["publicKey"]}], "verified 2 5"),
-            ("others around it", [foreign, own, foreign], "verified 2 5"), ("of no log", [], unknown), ("null", None, unknown),
+            ("of no log", [], unknown),
             ("no id", [{"publicKey": own["publicKey"]}], unknown), ("an id of no bytes", [{**own, "logId": {}}], unknown)]:
         row("log keys: %s" % name, expected, root("tlogs", listed))
     row("log keys: an id of no bytes on both sides", "verified 2 5", parts(log_id=b""), bundle(ENTRY + ".logId", {}), root("tlogs.0.logId", {}))
@@ -172,8 +171,6 @@ def log_keys():
     row("log keys: an id of no bytes in the entry", 'log-key RekorPublicKeyNotFoundError("")', bundle(ENTRY + ".logId", {}))
     row("log keys: a key that is cut", "log-key KeyParsingError", parts(log_key=key(4)[:-1]))
     row("log keys: a curve of no scheme", "log-key PublicKeyUnsupportedAlgorithmError", parts(log_key=UNKNOWN_CURVE))
-    for name, spki, scheme in KEYS:
-        row("log keys: of %s" % name, "verified 2 5", parts(log_key=spki, log_scheme=scheme))
     row("log keys: RSA, accepted under another scheme", "promise Promise", parts(log_key=fixture.wide_key()))
 
 
@@ -196,11 +193,20 @@ def certificate_log_keys():
             ("null for bytes", [{**own, "publicKey": {"rawBytes": None}}], "ctfe TrustRoot(Ctfe)"),
             ("an id of no bytes", [{**own, "logId": {}}], "verified 2 5")]:
         row("certificate log keys: %s" % name, expected, root("ctlogs", listed))
+    foreign_certificate_log(*KEYS[0][:2])
+
+
+def foreign_certificate_log(name, spki):
+    """A Certificate Transparency log's key that is of another kind than P-256, under its own id."""
+    row("certificate log keys: of %s" % name, "sct Certificate(Sct(Verification(KeyNotFound)))", root("ctlogs.0.publicKey.rawBytes", base64_of(spki)),
+        held(list=extension(fixture.SCT_LIST, sct_list(sct(log=fixture.sha256(spki))))))
+
+
+def other_keys():
     for name, spki, scheme in KEYS:
-        identifier = fixture.sha256(spki)
-        expected = unknown if scheme else None
-        row("certificate log keys: of %s" % name, expected, root("ctlogs.0.publicKey.rawBytes", base64_of(spki)),
-            parts(leaf=leaf(leaf_extensions(sct_list(sct(log=identifier))))))
+        row("log keys: of %s" % name, "verified 2 5", parts(log_key=spki, log_scheme=scheme))
+    for name, spki, _ in KEYS[1:]:
+        foreign_certificate_log(name, spki)
 
 
 # The issuer is the first trust anchor that issued the leaf; the name alone does not tell.
@@ -261,7 +267,7 @@ def promises():
     largest = 2 ** 53 - 1
     for own in (largest, -largest):
         row("promise: a log index of %d" % own, "verified 2 5", parts(log_index=own))
-    for own in (largest + 1, -largest - 1, 2 ** 63 - 1, -2 ** 63):
+    for own in (largest + 1, -largest - 1):
         row("promise: a log index of %d" % own, "promise PromiseInteger", parts(log_index=own))
     row("promise: an integer out of range, and no promise", "promise PromiseMissing", parts(log_index=2 ** 53),
         bundle(ENTRY + ".inclusionPromise", ABSENT))
@@ -280,8 +286,8 @@ def promises():
 # The entry's time is within the leaf's validity, both ends included.
 
 def times():
-    for time, expected in ((1702446655, "verified 2 5"), (1702446654, None), (1702447255, "verified 2 5"), (1702447256, None), (0, None), (-1, None),
-                           (1702500000, None), (2 ** 63 - 1, None), (-2 ** 63, None)):
+    for time, expected in ((1702446655, "verified 2 5"), (1702446654, None), (1702447255, "verified 2 5"), (1702447256, None), (-1, None),
+                           (1702500000, None)):
         row("entry's time: %d" % time, expected or "time Certificate(Expired)", parts(integrated_time=time))
     row("entry's time: absent", "time Certificate(Expired)", bundle(ENTRY + ".integratedTime", ABSENT))
     row("entry's time: as a number", "verified 2 5", bundle(ENTRY + ".integratedTime", 1702446700))
@@ -289,4 +295,4 @@ def times():
 
 GROUPS = [links, indices, ranges, log_keys, certificate_log_keys, issuers, promises, times]
 GROUPS += verify_rows_documents.GROUPS + verify_rows_content.GROUPS
-MORE = verify_rows_content.MORE
+MORE = [other_keys] + verify_rows_content.MORE
