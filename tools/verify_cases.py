@@ -3,6 +3,7 @@
 
     tools/verify_cases.py                      writes tools/verify/cases.requests and cases.expected, and says how many rows each link has
     tools/verify_cases.py REQUESTS EXPECTED    writes a longer table there, with cases that other tables have of a single reader
+    tools/verify_cases.py check PROGRAM        hands each request of tools/verify/ to `PROGRAM verify`, and compares reply and status
     tools/verify_cases.py examples FOLDER      writes verify.json and verify-refused.json with their .expected files
 
 A row of tools/verify_rows.py says what changes of the fixture's request and, by hand, what comes of it. tools/verify_links.py, a second
@@ -15,6 +16,7 @@ import collections
 import copy
 import json
 import os
+import subprocess
 import sys
 
 sys.dont_write_bytecode = True
@@ -24,6 +26,7 @@ import verify_links
 from fixture import BIT_STRING, OBJECT_IDENTIFIER, SEQUENCE, compact, der, leaf, leaf_extensions, oid
 
 HERE = os.path.dirname(os.path.abspath(__file__))
+TABLE = [os.path.join(HERE, "verify", name) for name in ("cases.requests", "cases.expected")]
 ABSENT = object()
 
 
@@ -234,17 +237,41 @@ def write_examples(folder):
     for name, members, reply in [("verify", built([]), "verified 2 5"), ("verify-refused", other, "refused policy")]:
         assert judged(compact(members))[0] == reply
         write(os.path.join(folder, name + ".json"), [compact(members)])
-        write(os.path.join(folder, name + ".expected"), [reply, "status %d" % (reply != "verified 2 5")])
+        write(os.path.join(folder, name + ".expected"), [reply, "status %d" % status_of(reply)])
+
+
+def status_of(reply):
+    return {"refused request": 2}.get(reply, 0 if reply.startswith("verified ") else 1)
+
+
+def read(path):
+    with open(path, encoding="utf-8", newline="\n") as file:
+        return [line.removesuffix("\n").split("\t") for line in file]
+
+
+def check(program):
+    """Runs the program on each row of the table, and says which replies and statuses are others."""
+    failed = 0
+    for (name, text), (_, reply, _) in zip(read(TABLE[0]), read(TABLE[1]), strict=True):
+        run = subprocess.run([program, "verify"], input=text.encode(), stdout=subprocess.PIPE, check=False)
+        said, wanted = (run.stdout, run.returncode), ((reply + "\n").encode(), status_of(reply))
+        if said != wanted:
+            failed += 1
+            print("%s: gave %s and not %s" % (name, said, wanted))
+    print("%d rows, %d failed" % (len(read(TABLE[0])), failed))
+    sys.exit(failed > 0)
 
 
 def main(words):
     if words[:1] == ["examples"]:
         write_examples(words[1])
         return
+    if words[:1] == ["check"]:
+        check(words[1])
     import verify_rows
     for group in verify_rows.GROUPS + (verify_rows.MORE if words else []):
         group()
-    write_table(*words or [os.path.join(HERE, "verify", name) for name in ("cases.requests", "cases.expected")])
+    write_table(*words or TABLE)
 
 
 if __name__ == "__main__":
