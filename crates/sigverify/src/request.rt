@@ -7,8 +7,8 @@
 //!   "treeSize": 1,
 //!   "rootHash": "395aa064aa4c29f7010acfe3f25db9485bbd4b91897b6ad7ad547639252b4d56",
 //!   "hashes": [],
-//!   "checkpoint": "log.example\n1\nOVqgZKpMKfcBCs/j8l25SFu9S5GJe2rXrVR2OSUrTVY=\n\n\u2014 log.example
-//!   AAAAAXNpZw==\n", "scheme": "ECDSA_P256_SHA256_ASN1",
+//!   "checkpoint": "log.example\n1\nOVqgZKpM..TVY=\n\n\u2014 log.example AAAAAXNpZw==\n",
+//!   "scheme": "ECDSA_P256_SHA256_ASN1",
 //!   "key": "a2V5",
 //!   "accepted": [
 //!     {
