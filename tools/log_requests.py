@@ -22,6 +22,10 @@ class NoRequest(Exception):
     """The text is no request."""
 
 
+class Fraction:
+    """A number that is a float: the text is no request, unless a later member of the same name takes its place."""
+
+
 def refuse(_=None):
     raise NoRequest
 
@@ -29,7 +33,24 @@ def refuse(_=None):
 def whole(text):
     """A JSON integer; -0 and what no 64 bits hold are floats."""
     found = int(text)
-    return found if text != "-0" and -(2**63) <= found < 2**64 else refuse()
+    return found if text != "-0" and -(2**63) <= found < 2**64 else Fraction()
+
+
+def fraction(text):
+    """A number that rounds to no finite float of 64 bits is no JSON."""
+    return Fraction() if abs(float(text)) != float("inf") else refuse()
+
+
+def tested(value, depth=0):
+    """The value, if it nests to 127 and holds no float."""
+    if isinstance(value, Fraction):
+        refuse()
+    if isinstance(value, (dict, list)):
+        if depth == 127:
+            refuse()
+        for item in value.values() if isinstance(value, dict) else value:
+            tested(item, depth + 1)
+    return value
 
 
 def text_of(value):
@@ -93,7 +114,7 @@ def row_of(value):
 
 def read_request(text):
     try:
-        members = json.loads(text, parse_int=whole, parse_float=refuse, parse_constant=refuse)
+        members = tested(json.loads(text, parse_int=whole, parse_float=fraction, parse_constant=refuse))
     except (ValueError, RecursionError):
         refuse()
     if not isinstance(members, dict) or members.get("entries") is not None:
@@ -213,6 +234,26 @@ MEMBERS = r""""logIndex":0 ~ "logIndex":"-0"
 "key":"a2V5","accepted" ~ "key":"a2V5\u0000","accepted"
 """
 
+IGNORED = r"""
+"key":"a2V5" ~ "key":"a2V5","other":[{"a":1},{"a":"\u00e9"},null]
+"key":"a2V5" ~ "key":"a2V5","Entry":1,"entry ":2,"":3
+"key":"a2V5" ~ "key":"a2V5","other":1.5
+"key":"a2V5" ~ "key":"a2V5","other":[{"a":[-0]}]
+"key":"a2V5" ~ "key":"a2V5","other":1.5,"other":1
+"key":"a2V5" ~ "key":"a2V5","other":[{"a":[-0]}],"\u006fther":null
+"key":"a2V5" ~ "key":"a2V5","other":{"a":1.5,"b":1,"a":[]}
+"key":"a2V5" ~ "key":"a2V5","other":1,"other":1.5
+"key":"a2V5" ~ "key":"a2V5","other":18446744073709551616
+"key":"a2V5" ~ "key":"a2V5","other":1e999,"other":1
+"key":"a2V5" ~ "key":"a2V5","other":[1,]
+"key":"a2V5" ~ "key":"a2V5","other":{"a"}
+"key":"a2V5" ~ "key":"a2V5","other":nul
+"key":"a2V5" ~ "key":1.5,"\u006bey":"a2V5"
+"key":"a2V5" ~ "\u006bey":"a2V5"
+"""
+
+NESTED = [FIRST[:-1] + ',"other":' + begin * depth + "1" + end * depth + "}" for begin, end in ("[]", ('{"a":', "}")) for depth in (126, 127)]
+
 TEXTS = ["{}", "[]", "null", "1", "1.5", '"log"', '{"entry":1}', "\ufeff" + FIRST, " " + FIRST + " ", FIRST[:-1], FIRST + "{}", "[" + FIRST + "]", "nul"]
 
 
@@ -261,6 +302,7 @@ def main():
 
         say("the first request, changed: each link that fails", map(changed, LINKS.splitlines()))
         say("its members: of another kind, out of range, absent, doubled, null", map(changed, MEMBERS.strip().splitlines()))
+        say("members that are ignored: floats in them, members of one name, what is no JSON, nesting", [*map(changed, IGNORED.strip().splitlines()), *NESTED])
         say("texts that are no requests", TEXTS)
         say("many signatures and rows, in the worst orders; equal rows; rows that differ in one part", (json.dumps(found, separators=(",", ":")) for found in tables()))
 
