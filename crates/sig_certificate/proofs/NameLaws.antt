@@ -3,7 +3,7 @@ use Rattle.std.proofs.Common.{◌≡◌, ℕ, zero, suc, ◌+◌, ◌-◌, ◌<�
 use Rattle.std.proofs.Common.{[], ◌∷◌, ◌++◌, length, Some, None, refl, sym, ap, subst, ◌∙◌, arith, inl, inr}
 use Rattle.std.specs.Str.{IsAscii}
 use Rattle.std.proofs.lemmas.Bool.{cases_Bool, eqb-true, eqb-false, lt-ltb, le-ltb, ltb-true, cond-true, cond-false}
-use Rattle.std.proofs.lemmas.Bool.{ne_eqb}
+use Rattle.std.proofs.lemmas.Bool.{ne_eqb, and_parts}
 use Rattle.std.proofs.lemmas.List.{append-nil}
 use Rattle.sig_base.specs.OptionSteps.{◌>>=◌}
 use Rattle.sig_base.proofs.OptionSteps.{bind_is, bind_of_some, when_is, unless_is, some_is}
@@ -24,18 +24,14 @@ use Rattle.sig_der.specs.Tag.{UNIFORM_RESOURCE_IDENTIFIER}
 
 -- ---- ASCII
 
-both : (a b : Bool) → (a && b) ≡ true → (a ≡ true) × (b ≡ true)
-both true b e = (refl, e)
-both false b e = absurd cc
-
 or_true : (b : Bool) → (b || true) ≡ true
 or_true true = refl
 or_true false = refl
 
 ascii_takes : (bytes : List ℕ) → is_ascii_text bytes ≡ true → IsAscii bytes
 ascii_takes [] e i = omega arith
-ascii_takes (b ∷ bytes) e zero = ltb-true b 128 (both (ltb b 128) (is_ascii_text bytes) e).0
-ascii_takes (b ∷ bytes) e (suc i) = ascii_takes bytes (both (ltb b 128) (is_ascii_text bytes) e).1 i
+ascii_takes (b ∷ bytes) e zero = ltb-true b 128 (and_parts (ltb b 128) (is_ascii_text bytes) e).0
+ascii_takes (b ∷ bytes) e (suc i) = ascii_takes bytes (and_parts (ltb b 128) (is_ascii_text bytes) e).1 i
 
 ascii_again : (bytes : List ℕ) → IsAscii bytes → is_ascii_text bytes ≡ true
 ascii_again [] is = refl
@@ -120,13 +116,13 @@ context_takes : (tag : ℕ) → is_context tag ≡ true → IsContext tag
 context_takes tag e =
     elim (cases_Bool (ltb 127 tag && ltb tag 137)) [
       | inl here ↦
-          let w = both (ltb 127 tag) (ltb tag 137) here in
+          let w = and_parts (ltb 127 tag) (ltb tag 137) here in
           let low = ltb-true 127 tag w.0 in
           let high = ltb-true tag 137 w.1 in
           record { number = tag - 128; known = omega (arith, low, high); is = inl (omega (arith, low, high)) }
       | inr not ↦
           let w =
-          both (ltb 159 tag) (ltb tag 169) (sym (ap (λ (b : Bool). b || (ltb 159 tag && ltb tag 169)) not) ∙ e) in
+          and_parts (ltb 159 tag) (ltb tag 169) (sym (ap (λ (b : Bool). b || (ltb 159 tag && ltb tag 169)) not) ∙ e) in
           let low = ltb-true 159 tag w.0 in
           let high = ltb-true tag 169 w.1 in
           record { number = tag - 160; known = omega (arith, low, high); is = inr (omega (arith, low, high)) }

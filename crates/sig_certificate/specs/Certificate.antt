@@ -22,9 +22,9 @@ pub record Extension : Type 0 where
 -- 1970.
 pub record Cert : Type 0 where
   pub whole : List ℕ
-  -- the part that is signed
+  -- the TBSCertificate, which is what is signed
   pub tbs : List ℕ
-  -- the elements of that part before its extensions
+  -- the elements of the TBSCertificate before its extensions
   pub front : List ℕ
   -- 1 to 3
   pub version : ℕ
@@ -68,9 +68,9 @@ pub record IsTimeText (text : List ℕ) (second : ℤ) : Type 0 where
   pub is : IsElement text tag content
   pub time : IsTimeOf tag content second
 
--- ---- the parts of the signed part
+-- ---- the fields of the TBSCertificate
 
--- Version, section 4.1.2.1: an explicit INTEGER 0, 1 or 2 stands for the versions 1 to 3
+-- Version, section 4.1.2.1: an explicit INTEGER 0, 1 or 2 is the version 1, 2 or 3
 pub record IsExplicitVersion (text : List ℕ) (version : ℕ) : Type 0 where
   pub number : ℕ
   pub inner : List ℕ
@@ -79,7 +79,7 @@ pub record IsExplicitVersion (text : List ℕ) (version : ℕ) : Type 0 where
   pub known : number < 3
   pub is : version ≡ number + 1
 
--- and where none stands, the version is 1
+-- and where the field is absent, the version is 1
 abbrev pub IsVersion : List ℕ → ℕ → Type 0
 IsVersion text version = ((text ≡ []) × (version ≡ 1)) ⊎ IsExplicitVersion text version
 
@@ -148,7 +148,7 @@ pub record IsSignedPart (c : Cert) : Type 0 where
   pub subject_id : IsOptionalElement SUBJECT_UNIQUE_ID subject_id_text
   pub extensions : AreExtensions extensions_text c.listed c.extensions
 
--- *Certificate*: one SEQUENCE of the signed part, an algorithm, and the BIT STRING of the signature
+-- *Certificate*: one SEQUENCE of the TBSCertificate, an algorithm, and the BIT STRING of the signature
 pub record IsCertificate (text : List ℕ) (c : Cert) : Type 0 where
   pub signature_text : List ℕ
   pub same : c.whole ≡ text

@@ -40,9 +40,9 @@ extension_at bytes = do
   if is_empty o.0.content then None
       else Some (record { oid = o.0.content; critical = f.0; value = v.content; whole = x.0.whole }, x.1)
 
--- ---- the signed part
+-- ---- TBSCertificate
 
--- The parts of the signed part up to the issuer.
+-- The fields of the TBSCertificate up to the issuer.
 pub record Head : Type 0 where
   pub version : ℕ
   pub algorithm : List ℕ
@@ -140,7 +140,7 @@ pub record Parts : Type 0 where
   pub listed : Bool
   pub list : List ℕ
 
--- what stands in the text before its end
+-- the bytes before the rest
 abbrev pub before : List ℕ → List ℕ → List ℕ
 before text end = take (length text - length end) text
 

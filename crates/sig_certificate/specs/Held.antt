@@ -1,4 +1,4 @@
--- What a certificate holds: its text, the places of its parts, the places of its extensions.
+-- What a certificate holds: its DER, and the ranges of its parts and of its extensions in it.
 use Rattle.std.specs.Prelude.{◌≡◌, ℕ, ℤ, List, length, map, Option, Some, None}
 use Rattle.std.specs.List.{All}
 use Rattle.sig_certificate.specs.declared.parts.Places.{Places}
@@ -9,7 +9,7 @@ use Rattle.sig_certificate.specs.Cutting.{Parts}
 use Rattle.sig_certificate.specs.Lookups.{are_single}
 use Rattle.sig_certificate.specs.Places.{parts_of, extension_of, ArePlaces, AreSpans, placed_certificate}
 
--- whether no object identifier stands twice is recorded
+-- whether there is no duplicate extension is recorded
 abbrev pub IsRecorded : List ℕ → Listed → Type 0
 IsRecorded bytes l = l.single ≡ are_single (map (extension_of bytes) l.places.items)
 
@@ -19,7 +19,7 @@ pub record HoldsCertificate (bytes : List ℕ) (p : Places) (not_before not_afte
   pub is : IsCertificate bytes (placed_certificate bytes p not_before not_after l.places.items)
   pub recorded : IsRecorded bytes l
 
--- the answer is these parts and these times
+-- the result is these parts and these times
 abbrev pub IsDatedAs : List ℕ → Parts → ℤ → ℤ → Option Dated → Type 0
 IsDatedAs bytes p not_before not_after None = ⊥
 IsDatedAs bytes p not_before not_after (Some d) =

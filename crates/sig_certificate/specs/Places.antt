@@ -1,4 +1,4 @@
--- Places of a certificate's parts in its text, and what they stand for.
+-- The ranges of a certificate's parts in its DER, and the parts that they are.
 use Rattle.std.specs.Prelude.{ℕ, ◌<◌, ◌≤◌, ℤ, List, Bool, slice_range, map}
 use Rattle.std.specs.List.{AllPairs}
 use Rattle.sig_der.specs.declared.place.Place.{Place}
@@ -18,12 +18,12 @@ use Rattle.sig_certificate.specs.Cutting.{Head, Body, Outer, Parts, certificate_
 abbrev pub part : List ℕ → Span → List ℕ
 part bytes s = slice_range bytes s.start s.end
 
--- the span lies below the number
+-- the span lies below the offset
 pub record IsSpan (end : ℕ) (s : Span) : Type 0 where
   pub ordered : s.start ≤ s.end
   pub below : s.end ≤ end
 
--- the place of an element lies below the number
+-- the element lies below the offset
 pub record IsPlace (end : ℕ) (p : Place) : Type 0 where
   pub headed : p.start ≤ p.content
   pub filled : p.content ≤ p.end
@@ -120,7 +120,7 @@ parts_of bytes p =
       list = part bytes p.list;
     }
 
--- every part lies below the number
+-- every part lies below the offset
 pub record ArePlaces (end : ℕ) (p : Places) : Type 0 where
   pub outer : IsOuterWithin 0 end p.outer
   pub front : IsSpan end p.front
@@ -128,7 +128,7 @@ pub record ArePlaces (end : ℕ) (p : Places) : Type 0 where
   pub body : IsBodyWithin end p.body
   pub list : IsSpan end p.list
 
--- the certificate at the places of its parts and of its extensions
+-- the certificate of these ranges of its parts and of its extensions
 abbrev pub placed_certificate : List ℕ → Places → ℤ → ℤ → List ExtensionPlaces → Cert
 placed_certificate bytes p not_before not_after es =
     certificate_of bytes (parts_of bytes p) not_before not_after (map (extension_of bytes) es)

@@ -22,7 +22,7 @@ use Rattle.sig_certificate.specs.Certificate.{Extension, Cert}
 use Rattle.sig_certificate.specs.Lookups.{with_oid}
 use Rattle.sig_certificate.specs.Values.{key_usage_of, purposes_of, has_purpose, basic_constraints_of}
 
--- why a call refuses, if it does
+-- the error of a call that failed
 abbrev pub refusal : {X E : Type 0} → Result X E → Option E
 refusal (Ok x) = None
 refusal (Err e) = Some e

@@ -10,7 +10,7 @@
 ghost use Rattle.std.specs.Prelude.{◌≡◌, ◌≤◌, ◌+◌, ℕ, pos, ◌≤ℤ◌, length, slice_get, option_map, Ok, Err, IfOk};
 ghost use Rattle.sig_base.specs.Answers.{Answers, ComesWhere};
 ghost use Rattle.sig_certificate.specs.Certificate.{Cert, IsCertificate};
-ghost use Rattle.sig_certificate.specs.Lookups.{lent, with_oid, are_single, Finds};
+ghost use Rattle.sig_certificate.specs.Lookups.{borrowed_extension, with_oid, are_single, Finds};
 
 use crate::error::X509ReadError;
 use crate::listed::{Listed, read_listed};
@@ -204,7 +204,7 @@ impl Certificate {
 
     /// Returns the extension at this index. `None` if and only if the index is not below the number of extensions.
     pub fn extension_at(&self, place: usize) -> Option<ExtensionRef<'_>>
-        ensures { option_map lent result ≡ slice_get self.now.extensions place }
+        ensures { option_map borrowed_extension result ≡ slice_get self.now.extensions place }
     {
         match self.extensions.places.get(place) {
             None => None,

@@ -2,7 +2,7 @@
 
 ghost use Rattle.std.specs.Prelude.{◌≡◌, length, map};
 ghost use Rattle.std.specs.List.{All};
-ghost use Rattle.sig_certificate.specs.Lookups.{lent, with_oid, Finds};
+ghost use Rattle.sig_certificate.specs.Lookups.{borrowed_extension, with_oid, Finds};
 ghost use Rattle.sig_certificate.specs.Places.{extension_of, AreSpans};
 
 use crate::extensions::ExtensionPlaces;
@@ -35,7 +35,7 @@ pub enum Lookup<'a> {
 /// Returns the extension at the offsets.
 pub(crate) fn lend<'a>(bytes: &'a [u8], places: &ExtensionPlaces) -> ExtensionRef<'a>
     requires { AreSpans (length bytes.now) places.now }
-    ensures { lent result ≡ extension_of bytes.now places.now }
+    ensures { borrowed_extension result ≡ extension_of bytes.now places.now }
 {
     ExtensionRef {
         oid: part(bytes, places.oid),

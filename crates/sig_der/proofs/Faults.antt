@@ -6,7 +6,8 @@ use Rattle.std.proofs.lemmas.Bool.{cond-true, cond-false}
 use Rattle.sig_base.specs.ResultSteps.{◌>>=◌}
 use Rattle.sig_base.specs.declared.fault.DerError.{DerError}
 use Rattle.sig_base.specs.declared.fault.DerError.TheVariants.{Length, LongTag, Truncated}
-use Rattle.sig_der.specs.Reading.{Piece, one_at, two_at, three_at, four_at, length_at, element_at, is_small_first}
+use Rattle.sig_der.specs.Reading.{Piece, one_byte, two_bytes, three_bytes, four_bytes, length_at, element_at}
+use Rattle.sig_der.specs.Reading.{is_small_first}
 use Rattle.sig_der.specs.Reading.{is_zero_first, has_bad_length, fault_of}
 
 -- a length is read only where it is not bad, and a bad one is told from a cut one
@@ -18,26 +19,26 @@ guarded : {A : Type 0} (bad : Bool) (r : Result A DerError) → Agrees r false �
 guarded true r h = refl
 guarded false r h = h
 
-one_at_agrees : (bytes : List ℕ) → Agrees (one_at bytes) (is_small_first bytes)
-unfolding one_at
+one_at_agrees : (bytes : List ℕ) → Agrees (one_byte bytes) (is_small_first bytes)
+unfolding one_byte
 one_at_agrees [] = refl
 one_at_agrees (a ∷ rest) = guarded (ltb a 128) (Ok (a, rest)) refl
 
-two_at_agrees : (bytes : List ℕ) → Agrees (two_at bytes) (is_zero_first bytes)
-unfolding two_at
+two_at_agrees : (bytes : List ℕ) → Agrees (two_bytes bytes) (is_zero_first bytes)
+unfolding two_bytes
 two_at_agrees [] = refl
 two_at_agrees (a ∷ []) = guarded {A = ℕ × List ℕ} (eqb a 0) (Err Truncated) refl
 two_at_agrees (a ∷ b ∷ rest) = guarded (eqb a 0) (Ok (a * 256 + b, rest)) refl
 
-three_at_agrees : (bytes : List ℕ) → Agrees (three_at bytes) (is_zero_first bytes)
-unfolding three_at
+three_at_agrees : (bytes : List ℕ) → Agrees (three_bytes bytes) (is_zero_first bytes)
+unfolding three_bytes
 three_at_agrees [] = refl
 three_at_agrees (a ∷ []) = guarded {A = ℕ × List ℕ} (eqb a 0) (Err Truncated) refl
 three_at_agrees (a ∷ b ∷ []) = guarded {A = ℕ × List ℕ} (eqb a 0) (Err Truncated) refl
 three_at_agrees (a ∷ b ∷ c ∷ rest) = guarded (eqb a 0) (Ok (a * 65536 + b * 256 + c, rest)) refl
 
-four_at_agrees : (bytes : List ℕ) → Agrees (four_at bytes) (is_zero_first bytes)
-unfolding four_at
+four_at_agrees : (bytes : List ℕ) → Agrees (four_bytes bytes) (is_zero_first bytes)
+unfolding four_bytes
 four_at_agrees [] = refl
 four_at_agrees (a ∷ []) = guarded {A = ℕ × List ℕ} (eqb a 0) (Err Truncated) refl
 four_at_agrees (a ∷ b ∷ []) = guarded {A = ℕ × List ℕ} (eqb a 0) (Err Truncated) refl
@@ -47,9 +48,9 @@ four_at_agrees (a ∷ b ∷ c ∷ d ∷ rest) = guarded (eqb a 0) (Ok (a * 16777
 -- the two chains of tests on the first byte, from 128 on
 abbrev reads : ℕ → List ℕ → Result (ℕ × List ℕ) DerError
 reads first rest =
-    cond (eqb first 129) (one_at rest)
-    (cond (eqb first 130) (two_at rest)
-    (cond (eqb first 131) (three_at rest) (cond (eqb first 132) (four_at rest) (Err Length))))
+    cond (eqb first 129) (one_byte rest)
+    (cond (eqb first 130) (two_bytes rest)
+    (cond (eqb first 131) (three_bytes rest) (cond (eqb first 132) (four_bytes rest) (Err Length))))
 
 abbrev is_bad : ℕ → List ℕ → Bool
 is_bad first rest =

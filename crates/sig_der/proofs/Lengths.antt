@@ -7,7 +7,7 @@ use Rattle.sig_base.specs.declared.fault.DerError.{DerError}
 use Rattle.sig_base.specs.declared.fault.DerError.TheVariants.{Length, Truncated}
 use Rattle.sig_base.proofs.ResultSteps.{guard_ok, ok_is}
 use Rattle.sig_der.specs.Element.{spelled_length}
-use Rattle.sig_der.specs.Reading.{one_at, two_at, three_at, four_at, length_at}
+use Rattle.sig_der.specs.Reading.{one_byte, two_bytes, three_bytes, four_bytes, length_at}
 use Rattle.sig_der.proofs.Bytes.{IsBytes, IsBytes-tail}
 
 -- ---- the five forms of a length
@@ -46,8 +46,9 @@ pub record TakesLength (bytes : List ℕ) (y : ℕ × List ℕ) : Type 0 where
 takes_length : (bytes : List ℕ) (x y : ℕ × List ℕ) → x ≡ y → TakesLength bytes x → TakesLength bytes y
 takes_length bytes x y e t = subst (λ (w : ℕ × List ℕ). TakesLength bytes w) e t
 
-one_at_takes : (bytes : List ℕ) → IsBytes bytes → (y : ℕ × List ℕ) → one_at bytes ≡ Ok y → TakesLength (129 ∷ bytes) y
-unfolding one_at
+one_at_takes : (bytes : List ℕ) → IsBytes bytes → (y : ℕ × List ℕ) → one_byte bytes ≡ Ok y
+    → TakesLength (129 ∷ bytes) y
+unfolding one_byte
 one_at_takes [] fits y e = absurd cc
 one_at_takes (a ∷ rest) fits y e =
     let g = guard_ok (ltb a 128) Length (Ok (a, rest)) y e in
@@ -57,8 +58,9 @@ one_at_takes (a ∷ rest) fits y e =
       short = omega arith;
     })
 
-two_at_takes : (bytes : List ℕ) → IsBytes bytes → (y : ℕ × List ℕ) → two_at bytes ≡ Ok y → TakesLength (130 ∷ bytes) y
-unfolding two_at
+two_at_takes : (bytes : List ℕ) → IsBytes bytes → (y : ℕ × List ℕ) → two_bytes bytes ≡ Ok y
+    → TakesLength (130 ∷ bytes) y
+unfolding two_bytes
 two_at_takes [] fits y e = absurd cc
 two_at_takes (a ∷ []) fits y e = absurd (let g = guard_ok (eqb a 0) Length (Err Truncated) y e in let no = g.1 in cc)
 two_at_takes (a ∷ b ∷ rest) fits y e =
@@ -74,9 +76,9 @@ two_at_takes (a ∷ b ∷ rest) fits y e =
       short = omega arith;
     })
 
-three_at_takes : (bytes : List ℕ) → IsBytes bytes → (y : ℕ × List ℕ) → three_at bytes ≡ Ok y
+three_at_takes : (bytes : List ℕ) → IsBytes bytes → (y : ℕ × List ℕ) → three_bytes bytes ≡ Ok y
     → TakesLength (131 ∷ bytes) y
-unfolding three_at
+unfolding three_bytes
 three_at_takes [] fits y e = absurd cc
 three_at_takes (a ∷ []) fits y e = absurd (let g = guard_ok (eqb a 0) Length (Err Truncated) y e in let no = g.1 in cc)
 three_at_takes (a ∷ b ∷ []) fits y e =
@@ -96,9 +98,9 @@ three_at_takes (a ∷ b ∷ c ∷ rest) fits y e =
       short = omega arith;
     })
 
-four_at_takes : (bytes : List ℕ) → IsBytes bytes → (y : ℕ × List ℕ) → four_at bytes ≡ Ok y
+four_at_takes : (bytes : List ℕ) → IsBytes bytes → (y : ℕ × List ℕ) → four_bytes bytes ≡ Ok y
     → TakesLength (132 ∷ bytes) y
-unfolding four_at
+unfolding four_bytes
 four_at_takes [] fits y e = absurd cc
 four_at_takes (a ∷ []) fits y e = absurd (let g = guard_ok (eqb a 0) Length (Err Truncated) y e in let no = g.1 in cc)
 four_at_takes (a ∷ b ∷ []) fits y e =
@@ -124,32 +126,32 @@ four_at_takes (a ∷ b ∷ c ∷ d ∷ rest) fits y e =
 
 -- which form the first byte begins
 after_first : (first : ℕ) (rest : List ℕ) → IsBytes rest → (y : ℕ × List ℕ)
-    → cond (eqb first 129) (one_at rest)
-    (cond (eqb first 130) (two_at rest)
-    (cond (eqb first 131) (three_at rest) (cond (eqb first 132) (four_at rest) (Err Length)))) ≡ Ok y
+    → cond (eqb first 129) (one_byte rest)
+    (cond (eqb first 130) (two_bytes rest)
+    (cond (eqb first 131) (three_bytes rest) (cond (eqb first 132) (four_bytes rest) (Err Length)))) ≡ Ok y
     → TakesLength (first ∷ rest) y
 after_first first rest fits y e =
     elim (cases_Bool (eqb first 129)) [
       | inl is ↦ rw (eqb-true first 129 is) (one_at_takes rest fits y (sym (cond-true (eqb first 129) _ _ is) ∙ e))
       | inr not129 ↦
-          let e2 = sym (cond-false (eqb first 129) (one_at rest) _ not129) ∙ e in
+          let e2 = sym (cond-false (eqb first 129) (one_byte rest) _ not129) ∙ e in
           elim (cases_Bool (eqb first 130)) [
             | inl is ↦
                 rw (eqb-true first 130 is) (two_at_takes rest fits y (sym (cond-true (eqb first 130) _ _ is) ∙ e2))
             | inr not130 ↦
-                let e3 = sym (cond-false (eqb first 130) (two_at rest) _ not130) ∙ e2 in
+                let e3 = sym (cond-false (eqb first 130) (two_bytes rest) _ not130) ∙ e2 in
                 elim (cases_Bool (eqb first 131)) [
                   | inl is ↦
                       rw (eqb-true first 131 is)
                       (three_at_takes rest fits y (sym (cond-true (eqb first 131) _ _ is) ∙ e3))
                   | inr not131 ↦
-                      let e4 = sym (cond-false (eqb first 131) (three_at rest) _ not131) ∙ e3 in
+                      let e4 = sym (cond-false (eqb first 131) (three_bytes rest) _ not131) ∙ e3 in
                       elim (cases_Bool (eqb first 132)) [
                         | inl is ↦
                             rw (eqb-true first 132 is)
                             (four_at_takes rest fits y (sym (cond-true (eqb first 132) _ _ is) ∙ e4))
                         | inr not132 ↦
-                            absurd (let no = sym (cond-false (eqb first 132) (four_at rest) (Err Length) not132)
+                            absurd (let no = sym (cond-false (eqb first 132) (four_bytes rest) (Err Length) not132)
                             ∙ e4 in cc)
                       ]
                 ]
@@ -179,7 +181,7 @@ abbrev read_length : ℕ → List ℕ → Result (ℕ × List ℕ) DerError
 read_length n rest = Ok (n, rest)
 
 pub length_at_again : (n : ℕ) (rest : List ℕ) → n < 2 ^ 32 → length_at (spelled_length n ++ rest) ≡ Ok (n, rest)
-unfolding length_at one_at two_at three_at four_at
+unfolding length_at one_byte two_bytes three_bytes four_bytes
 length_at_again n rest short =
     elim (cases_lt n 128) [
       | inl high ↦ rw (spelled_short n high) (cond-true (ltb n 128) _ _ (lt-ltb n 128 high))
@@ -218,26 +220,26 @@ short_two {A = A} b x y n e less =
 stays_cut : {A : Type 0} {P : Type 0} (b : Bool) (y : A) → cond b (Err Length) (Err Truncated) ≡ Ok y → P
 stays_cut b y e = absurd (let no = (guard_ok b Length (Err Truncated) y e).1 in cc)
 
-one_at_shorter : (bytes : List ℕ) (y : ℕ × List ℕ) → one_at bytes ≡ Ok y → length y.1 < length bytes
-unfolding one_at
+one_at_shorter : (bytes : List ℕ) (y : ℕ × List ℕ) → one_byte bytes ≡ Ok y → length y.1 < length bytes
+unfolding one_byte
 one_at_shorter [] y e = absurd cc
 one_at_shorter (a ∷ rest) y e = short_two (ltb a 128) (a, rest) y _ e (omega arith)
 
-two_at_shorter : (bytes : List ℕ) (y : ℕ × List ℕ) → two_at bytes ≡ Ok y → length y.1 < length bytes
-unfolding two_at
+two_at_shorter : (bytes : List ℕ) (y : ℕ × List ℕ) → two_bytes bytes ≡ Ok y → length y.1 < length bytes
+unfolding two_bytes
 two_at_shorter [] y e = absurd cc
 two_at_shorter (a ∷ []) y e = stays_cut (eqb a 0) y e
 two_at_shorter (a ∷ b ∷ rest) y e = short_two (eqb a 0) (a * 256 + b, rest) y _ e (omega arith)
 
-three_at_shorter : (bytes : List ℕ) (y : ℕ × List ℕ) → three_at bytes ≡ Ok y → length y.1 < length bytes
-unfolding three_at
+three_at_shorter : (bytes : List ℕ) (y : ℕ × List ℕ) → three_bytes bytes ≡ Ok y → length y.1 < length bytes
+unfolding three_bytes
 three_at_shorter [] y e = absurd cc
 three_at_shorter (a ∷ []) y e = stays_cut (eqb a 0) y e
 three_at_shorter (a ∷ b ∷ []) y e = stays_cut (eqb a 0) y e
 three_at_shorter (a ∷ b ∷ c ∷ rest) y e = short_two (eqb a 0) (a * 65536 + b * 256 + c, rest) y _ e (omega arith)
 
-four_at_shorter : (bytes : List ℕ) (y : ℕ × List ℕ) → four_at bytes ≡ Ok y → length y.1 < length bytes
-unfolding four_at
+four_at_shorter : (bytes : List ℕ) (y : ℕ × List ℕ) → four_bytes bytes ≡ Ok y → length y.1 < length bytes
+unfolding four_bytes
 four_at_shorter [] y e = absurd cc
 four_at_shorter (a ∷ []) y e = stays_cut (eqb a 0) y e
 four_at_shorter (a ∷ b ∷ []) y e = stays_cut (eqb a 0) y e
@@ -258,23 +260,24 @@ length_at_shorter (first ∷ rest) y e =
           elim (cases_Bool (eqb first 129)) [
             | inl is ↦ let h = one_at_shorter rest y (sym (cond-true (eqb first 129) _ _ is) ∙ e1) in omega arith
             | inr not129 ↦
-                let e2 = sym (cond-false (eqb first 129) (one_at rest) _ not129) ∙ e1 in
+                let e2 = sym (cond-false (eqb first 129) (one_byte rest) _ not129) ∙ e1 in
                 elim (cases_Bool (eqb first 130)) [
                   | inl is ↦ let h = two_at_shorter rest y (sym (cond-true (eqb first 130) _ _ is) ∙ e2) in omega arith
                   | inr not130 ↦
-                      let e3 = sym (cond-false (eqb first 130) (two_at rest) _ not130) ∙ e2 in
+                      let e3 = sym (cond-false (eqb first 130) (two_bytes rest) _ not130) ∙ e2 in
                       elim (cases_Bool (eqb first 131)) [
                         | inl is ↦
                             let h =
                             three_at_shorter rest y (sym (cond-true (eqb first 131) _ _ is) ∙ e3) in omega arith
                         | inr not131 ↦
-                            let e4 = sym (cond-false (eqb first 131) (three_at rest) _ not131) ∙ e3 in
+                            let e4 = sym (cond-false (eqb first 131) (three_bytes rest) _ not131) ∙ e3 in
                             elim (cases_Bool (eqb first 132)) [
                               | inl is ↦
                                   let h =
                                   four_at_shorter rest y (sym (cond-true (eqb first 132) _ _ is) ∙ e4) in omega arith
                               | inr not132 ↦
-                                  absurd (let no = sym (cond-false (eqb first 132) (four_at rest) (Err Length) not132)
+                                  absurd (let no = sym (cond-false (eqb first 132) (four_bytes rest)
+                                  (Err Length) not132)
                                   ∙ e4 in cc)
                             ]
                       ]

@@ -1,11 +1,11 @@
--- The elements of a content, one after another: the answers of reading at the content and then at each rest. They end
+-- The elements of a content, one after another: the results of reading at the content and then at each rest. They end
 -- where the rest is empty, and after the first fault.
 use Rattle.std.specs.Prelude.{ℕ, zero, suc, List, [], ◌∷◌, length, map, Result, Ok, Err}
 use Rattle.sig_base.specs.declared.fault.DerError.{DerError}
 use Rattle.sig_der.specs.Element.{IsElement}
 use Rattle.sig_der.specs.Reading.{Piece, element_at}
 
--- an answer, and the answers at its rest where it is no fault
+-- a result, and the results at its rest where it is no error
 abbrev pub then_rest : (List ℕ → List (Result Piece DerError)) → Result (Piece × List ℕ) DerError
     → List (Result Piece DerError)
 then_rest go (Ok x) = Ok x.0 ∷ go x.1
@@ -24,6 +24,6 @@ children_of bytes = children_within (length bytes) bytes
 abbrev pub IsPiece : Piece → Type 0
 IsPiece p = IsElement p.whole p.tag p.content
 
--- the answers that are no faults
+-- the results that are no errors
 abbrev pub all_read : List Piece → List (Result Piece DerError)
 all_read ps = map (λ p. Ok p) ps

@@ -1,5 +1,5 @@
--- Algorithms and key infos: AlgorithmIdentifier of RFC 5280 section 4.1.1.2 and SubjectPublicKeyInfo of section
--- 4.1.2.7, and the plain readers of both. That these read exactly the texts of the relations is in proofs/KeyInfos.
+-- AlgorithmIdentifier of RFC 5280 section 4.1.1.2 and SubjectPublicKeyInfo of section 4.1.2.7, and the plain readers
+-- of both. That these read exactly the encodings of the relations is in proofs/KeyInfos.
 use Rattle.std.specs.Prelude.{◌≡◌, ℕ, ◌<◌, List, [], ◌∷◌, ◌++◌, length, Bool, Option, Some, None, ◌==◌, if◌then◌else◌}
 use Rattle.sig_base.specs.OptionSteps.{◌>>=◌}
 use Rattle.sig_der.specs.Element.{IsElement}
@@ -29,7 +29,7 @@ pub record IsAlgorithm (a : Algorithm) : Type 0 where
   pub named : 0 < length a.oid
   pub parameters : IsAtMostOne parameters_text a.parameters
 
--- A key info: its whole text, its algorithm, and the bits of its key.
+-- A SubjectPublicKeyInfo: its encoding, its algorithm, and the bits of its key.
 pub record KeyInfo : Type 0 where
   pub whole : List ℕ
   pub algorithm : Algorithm
@@ -78,7 +78,7 @@ key_info_at bytes = do
   b ← bits_of a.1
   Some (record { whole = x.0.whole; algorithm = a.0; bits = b }, x.1)
 
--- the key info that is all of the text
+-- the SubjectPublicKeyInfo that the bytes are
 unfoldable pub whole_key_info : List ℕ → Option KeyInfo
 whole_key_info bytes = do
   k ← key_info_at bytes

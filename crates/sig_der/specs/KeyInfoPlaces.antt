@@ -1,4 +1,4 @@
--- Places of algorithms and key infos in one text, and what they stand for.
+-- AlgorithmIdentifier and SubjectPublicKeyInfo by their offsets in one buffer, and what is at the offsets.
 use Rattle.std.specs.Prelude.{ℕ, ◌≤◌, List, Option, Some, None, slice_range, option_map}
 use Rattle.sig_der.specs.declared.place.Place.{Place}
 use Rattle.sig_der.specs.declared.key_info.AlgorithmPlaces.{AlgorithmPlaces}
@@ -12,7 +12,7 @@ use Rattle.sig_der.specs.KeyInfo.{Algorithm, KeyInfo}
 abbrev pub placed_option : List ℕ → Option Place → Option Piece
 placed_option bytes p = option_map (piece_at bytes) p
 
--- the algorithm at the places
+-- the algorithm at the offsets
 abbrev pub algorithm_of : List ℕ → AlgorithmPlaces → Algorithm
 algorithm_of bytes a =
     record {
@@ -25,11 +25,11 @@ algorithm_of bytes a =
 abbrev pub algorithm_read : List ℕ → AlgorithmPlaces × Reader → Algorithm × List ℕ
 algorithm_read bytes x = (algorithm_of bytes x.0, left x.1)
 
--- what stands from the second number on up to the first
+-- the bytes of the buffer from the second offset up to the first
 abbrev pub part_from : List ℕ → ℕ → ℕ → List ℕ
 part_from bytes end n = slice_range bytes n end
 
--- the key info at the places
+-- the SubjectPublicKeyInfo at the offsets
 abbrev pub key_info_of : List ℕ → KeyInfoPlaces → KeyInfo
 key_info_of bytes k =
     record {
@@ -42,7 +42,7 @@ key_info_of bytes k =
 abbrev pub key_info_read : List ℕ → KeyInfoPlaces × Reader → KeyInfo × List ℕ
 key_info_read bytes x = (key_info_of bytes x.0, left x.1)
 
--- the place, if there is one, lies between the two numbers
+-- the element, if there is one, lies between the two offsets
 abbrev pub IsOneWithin : ℕ → ℕ → Option Place → Type 0
 IsOneWithin at end None = Unit {0}
 IsOneWithin at end (Some p) = IsWithin at end p

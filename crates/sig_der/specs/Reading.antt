@@ -19,37 +19,37 @@ Gives view result read = read ≡ result_map_both view (λ e. e) result
 
 -- A length in one to four octets after the first, and what follows it. One that fewer octets hold is refused at the
 -- octet that shows it.
-unfoldable pub one_at : List ℕ → Result (ℕ × List ℕ) DerError
-one_at [] = Err Truncated
-one_at (a ∷ rest) = if nat_lt a 128 then Err Length else Ok (a, rest)
+unfoldable pub one_byte : List ℕ → Result (ℕ × List ℕ) DerError
+one_byte [] = Err Truncated
+one_byte (a ∷ rest) = if nat_lt a 128 then Err Length else Ok (a, rest)
 
-unfoldable pub two_at : List ℕ → Result (ℕ × List ℕ) DerError
-two_at [] = Err Truncated
-two_at (a ∷ []) = if a == 0 then Err Length else Err Truncated
-two_at (a ∷ b ∷ rest) = if a == 0 then Err Length else Ok (a * 256 + b, rest)
+unfoldable pub two_bytes : List ℕ → Result (ℕ × List ℕ) DerError
+two_bytes [] = Err Truncated
+two_bytes (a ∷ []) = if a == 0 then Err Length else Err Truncated
+two_bytes (a ∷ b ∷ rest) = if a == 0 then Err Length else Ok (a * 256 + b, rest)
 
-unfoldable pub three_at : List ℕ → Result (ℕ × List ℕ) DerError
-three_at [] = Err Truncated
-three_at (a ∷ []) = if a == 0 then Err Length else Err Truncated
-three_at (a ∷ b ∷ []) = if a == 0 then Err Length else Err Truncated
-three_at (a ∷ b ∷ c ∷ rest) = if a == 0 then Err Length else Ok (a * 65536 + b * 256 + c, rest)
+unfoldable pub three_bytes : List ℕ → Result (ℕ × List ℕ) DerError
+three_bytes [] = Err Truncated
+three_bytes (a ∷ []) = if a == 0 then Err Length else Err Truncated
+three_bytes (a ∷ b ∷ []) = if a == 0 then Err Length else Err Truncated
+three_bytes (a ∷ b ∷ c ∷ rest) = if a == 0 then Err Length else Ok (a * 65536 + b * 256 + c, rest)
 
-unfoldable pub four_at : List ℕ → Result (ℕ × List ℕ) DerError
-four_at [] = Err Truncated
-four_at (a ∷ []) = if a == 0 then Err Length else Err Truncated
-four_at (a ∷ b ∷ []) = if a == 0 then Err Length else Err Truncated
-four_at (a ∷ b ∷ c ∷ []) = if a == 0 then Err Length else Err Truncated
-four_at (a ∷ b ∷ c ∷ d ∷ rest) = if a == 0 then Err Length else Ok (a * 16777216 + b * 65536 + c * 256 + d, rest)
+unfoldable pub four_bytes : List ℕ → Result (ℕ × List ℕ) DerError
+four_bytes [] = Err Truncated
+four_bytes (a ∷ []) = if a == 0 then Err Length else Err Truncated
+four_bytes (a ∷ b ∷ []) = if a == 0 then Err Length else Err Truncated
+four_bytes (a ∷ b ∷ c ∷ []) = if a == 0 then Err Length else Err Truncated
+four_bytes (a ∷ b ∷ c ∷ d ∷ rest) = if a == 0 then Err Length else Ok (a * 16777216 + b * 65536 + c * 256 + d, rest)
 
 -- The length of the content, and what follows it.
 unfoldable pub length_at : List ℕ → Result (ℕ × List ℕ) DerError
 length_at [] = Err Truncated
 length_at (first ∷ rest) =
     if nat_lt first 128 then Ok (first, rest)
-    else if first == 129 then one_at rest
-    else if first == 130 then two_at rest
-    else if first == 131 then three_at rest
-    else if first == 132 then four_at rest
+    else if first == 129 then one_byte rest
+    else if first == 130 then two_bytes rest
+    else if first == 131 then three_bytes rest
+    else if first == 132 then four_bytes rest
     else Err Length
 
 -- The front element, and what follows it.

@@ -1,12 +1,12 @@
 -- Readers that go on from the front of a text: an element of any tag, of one tag, an optional one, and a list of like
--- parts. Each answers what it read and what follows it, or nothing.
+-- parts. Each returns what it read and what follows it, or `None`.
 use Rattle.std.specs.Prelude.{ℕ, zero, suc, List, [], ◌∷◌, length, Bool, false, Option, Some, None, Result, Ok, Err}
 use Rattle.std.specs.Prelude.{◌==◌, if◌then◌else◌}
 use Rattle.sig_base.specs.OptionSteps.{◌>>=◌}
 use Rattle.sig_base.specs.declared.fault.DerError.{DerError}
 use Rattle.sig_der.specs.Reading.{Piece, element_at}
 
--- the answer, if there is one, whatever the fault
+-- the value, if there is one, whatever the error
 abbrev pub answered : {A : Type 0} → Result A DerError → Option A
 answered (Ok x) = Some x
 answered (Err e) = None

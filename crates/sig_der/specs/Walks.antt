@@ -1,10 +1,10 @@
--- What contracts see of an iterator over the elements of a content: the answers that it has left.
+-- What contracts see of an iterator over the elements of a content: the results that it has left.
 use Rattle.std.specs.Prelude.{List, Result, Ok, Err}
 use Rattle.sig_base.specs.declared.fault.DerError.{DerError}
 use Rattle.sig_der.specs.declared.element.Element.{Element}
 use Rattle.sig_der.specs.declared.iter.Children.{Children}
 use Rattle.sig_der.specs.Reading.{Piece}
-use Rattle.sig_der.specs.Lent.{piece_of}
+use Rattle.sig_der.specs.Borrowed.{piece_of}
 use Rattle.sig_der.specs.Children.{children_of}
 
 abbrev pub item_of : Result Element DerError → Result Piece DerError

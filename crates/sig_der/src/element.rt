@@ -10,7 +10,7 @@
 ghost use Rattle.std.specs.Prelude.{◌≡◌, ◌↔◌, ℕ, List, Ok, IfOk, IfErr, IsErrOf};
 ghost use Rattle.sig_der.specs.Element.{IsElement, StandsFirst, IsFollowed, IsOfAnother};
 ghost use Rattle.sig_der.specs.Reading.{Gives, Piece, element_at, all_at, fault_of};
-ghost use Rattle.sig_der.specs.Lent.{piece_of, front_of};
+ghost use Rattle.sig_der.specs.Borrowed.{piece_of, front_of};
 
 use crate::length::read_length;
 use sig_base::DerError;

@@ -1,7 +1,7 @@
 //! The length of an element's content: X.690 sections 8.1.3 and 10.1.
 
 ghost use Rattle.std.specs.Prelude.{◌≤◌, length, IfOk};
-ghost use Rattle.sig_der.specs.Reading.{Gives, one_at, two_at, three_at, four_at, length_at};
+ghost use Rattle.sig_der.specs.Reading.{Gives, one_byte, two_bytes, three_bytes, four_bytes, length_at};
 
 use sig_base::DerError;
 
@@ -22,9 +22,9 @@ pub(crate) fn read_length(bytes: &[u8]) -> Result<(usize, &[u8]), DerError>
     }
 }
 
-#[tactic(auto, unfolding(crate::specs::Reading::one_at))]
+#[tactic(auto, unfolding(crate::specs::Reading::one_byte))]
 fn one_byte(bytes: &[u8]) -> Result<(usize, &[u8]), DerError>
-    ensures exact { Gives (λ x. (x.0, x.1.now)) result (one_at bytes.now) }
+    ensures exact { Gives (λ x. (x.0, x.1.now)) result (one_byte bytes.now) }
     ensures shorter { IfOk result (λ x. length x.1.now ≤ length bytes.now) }
 {
     match bytes {
@@ -34,9 +34,9 @@ fn one_byte(bytes: &[u8]) -> Result<(usize, &[u8]), DerError>
     }
 }
 
-#[tactic(auto, unfolding(crate::specs::Reading::two_at))]
+#[tactic(auto, unfolding(crate::specs::Reading::two_bytes))]
 fn two_bytes(bytes: &[u8]) -> Result<(usize, &[u8]), DerError>
-    ensures exact { Gives (λ x. (x.0, x.1.now)) result (two_at bytes.now) }
+    ensures exact { Gives (λ x. (x.0, x.1.now)) result (two_bytes bytes.now) }
     ensures shorter { IfOk result (λ x. length x.1.now ≤ length bytes.now) }
 {
     match bytes {
@@ -46,9 +46,9 @@ fn two_bytes(bytes: &[u8]) -> Result<(usize, &[u8]), DerError>
     }
 }
 
-#[tactic(auto, unfolding(crate::specs::Reading::three_at))]
+#[tactic(auto, unfolding(crate::specs::Reading::three_bytes))]
 fn three_bytes(bytes: &[u8]) -> Result<(usize, &[u8]), DerError>
-    ensures exact { Gives (λ x. (x.0, x.1.now)) result (three_at bytes.now) }
+    ensures exact { Gives (λ x. (x.0, x.1.now)) result (three_bytes bytes.now) }
     ensures shorter { IfOk result (λ x. length x.1.now ≤ length bytes.now) }
 {
     match bytes {
@@ -58,9 +58,9 @@ fn three_bytes(bytes: &[u8]) -> Result<(usize, &[u8]), DerError>
     }
 }
 
-#[tactic(auto, unfolding(crate::specs::Reading::four_at))]
+#[tactic(auto, unfolding(crate::specs::Reading::four_bytes))]
 fn four_bytes(bytes: &[u8]) -> Result<(usize, &[u8]), DerError>
-    ensures exact { Gives (λ x. (x.0, x.1.now)) result (four_at bytes.now) }
+    ensures exact { Gives (λ x. (x.0, x.1.now)) result (four_bytes bytes.now) }
     ensures shorter { IfOk result (λ x. length x.1.now ≤ length bytes.now) }
 {
     match bytes {

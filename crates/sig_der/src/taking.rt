@@ -1,7 +1,7 @@
 //! Elements from the front of bytes, for readers that do not say why there is none.
 
 ghost use Rattle.std.specs.Prelude.{◌≡◌, option_map};
-ghost use Rattle.sig_der.specs.Lent.{piece_of, front_of};
+ghost use Rattle.sig_der.specs.Borrowed.{piece_of, front_of};
 ghost use Rattle.sig_der.specs.Taking.{take_any, take_tag, take_whole};
 
 use crate::element::{Element, read_element};

@@ -9,7 +9,7 @@
 //!     parameters        ANY DEFINED BY algorithm OPTIONAL }
 //! ```
 ghost use Rattle.std.specs.Prelude.{◌≡◌, length, option_map};
-ghost use Rattle.sig_der.specs.Lent.{piece_of};
+ghost use Rattle.sig_der.specs.Borrowed.{piece_of};
 ghost use Rattle.sig_der.specs.KeyInfoPlaces.{algorithm_of, IsKeyInfoWithin};
 ghost use Rattle.sig_key.specs.declared.kind.KeyKind.{KeyKind as Kind};
 ghost use Rattle.sig_key.specs.Kind.{curve_scheme, parameters_scheme, scheme_by, algorithm_scheme, key_kind, IsKind};

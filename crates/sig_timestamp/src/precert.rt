@@ -8,7 +8,7 @@
 
 ghost use Rattle.std.specs.Prelude.{◌≡◌, [], ◌∷◌, ◌++◌, IfOk, OnOk};
 ghost use Rattle.sig_certificate.specs.Certificate.{IsSignedPart};
-ghost use Rattle.sig_certificate.specs.Lookups.{lent};
+ghost use Rattle.sig_certificate.specs.Lookups.{borrowed_extension};
 ghost use Rattle.sig_timestamp.specs.Precert.{precertificate, kept_extensions, kept_of, ders_of, tbs_with};
 ghost use Rattle.sig_timestamp.specs.Precert.{HaveSpelling, IsWithoutScts};
 
@@ -71,7 +71,7 @@ fn kept_extensions(alloc: Global, leaf: &Certificate) -> Result<Vec<u8>, OutOfMe
 
 /// Appends the extension, if it lists no SCTs.
 fn push_kept(kept: &mut Vec<u8>, extension: ExtensionRef<'_>) -> Result<(), AllocError>
-    ensures { OnOk result (kept.new.items ≡ kept.old.items ++ kept_of (lent extension.entry)) }
+    ensures { OnOk result (kept.new.items ≡ kept.old.items ++ kept_of (borrowed_extension extension.entry)) }
 {
     if extension.oid == SCT_LIST {
         return Ok(());

@@ -1,7 +1,7 @@
 //! Which certificates may be issued, and by which anchor: RFC 5280 sections 4.2 and 6.1, in the profile of Sigstore.
 
 ghost use Rattle.std.specs.Prelude.{◌≡◌};
-ghost use Rattle.sig_certificate.specs.Lookups.{lent, with_oid};
+ghost use Rattle.sig_certificate.specs.Lookups.{borrowed_extension, with_oid};
 ghost use Rattle.sig_certificate.specs.Profile.{constraints, code_signing};
 ghost use Rattle.sig_certificate.specs.Trust.{may_sign_code};
 ghost use Rattle.sig_x509.specs.Issuance.{may_be_critical, is_understood, are_understood, is_unconstrained, is_fit};
@@ -25,7 +25,7 @@ fn may_be_critical(oid: &[u8]) -> bool
 /// Whether a certificate with the extension may be accepted: whether it is not critical, or is one that may be
 /// critical.
 fn is_understood(extension: &ExtensionRef<'_>) -> bool
-    ensures { result ≡ is_understood (lent extension.now) }
+    ensures { result ≡ is_understood (borrowed_extension extension.now) }
 {
     !extension.critical || may_be_critical(extension.oid)
 }
