@@ -37,7 +37,7 @@ fn compared(bytes: &[u8], first: &ExtensionPlaces, second: &ExtensionPlaces) -> 
 }
 
 /// Whether no two have one object identifier. The list is sorted by them, so that equal ones are neighbours, and then
-/// back into the order of the text, both in place: this takes no memory, and the time of a sort, since whoever makes a
+/// back into the order of the DER, both in place: this takes no memory, and the time of a sort, since whoever makes a
 /// certificate chooses how many extensions it has.
 fn are_single(bytes: &[u8], extensions: &mut [ExtensionPlaces]) -> bool
     requires { Ascend extensions.old }

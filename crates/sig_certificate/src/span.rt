@@ -1,4 +1,4 @@
-//! A part of a text by its ends.
+//! A range of a buffer.
 
 ghost use Rattle.std.specs.Prelude.{◌≡◌, ◌≤◌, length};
 ghost use Rattle.sig_certificate.specs.Places.{part};
@@ -14,7 +14,7 @@ pub(crate) struct Span {
     pub(crate) end: usize,
 }
 
-/// The whole element at the place.
+/// The range of the whole element.
 pub(crate) fn whole_of(place: Place) -> Span
     ensures { result ≡ record { start = place.start; end = place.end } }
 {
@@ -24,7 +24,7 @@ pub(crate) fn whole_of(place: Place) -> Span
     }
 }
 
-/// The contents octets at the place.
+/// The range of its contents octets.
 pub(crate) fn content_of(place: Place) -> Span
     ensures { result ≡ record { start = place.content; end = place.end } }
 {
@@ -43,7 +43,7 @@ pub(crate) fn part(bytes: &[u8], span: Span) -> &[u8]
     &bytes[span.start..span.end]
 }
 
-/// The part of the text as far as the text goes: `part` at a span that may lie anywhere.
+/// Returns the part of the buffer, as far as the buffer goes: `part` of a range that may be anywhere.
 pub(crate) fn clipped(bytes: &[u8], span: Span) -> &[u8]
     ensures { result.now ≡ part bytes.now span }
 {

@@ -3,7 +3,7 @@
 ghost use Rattle.std.specs.Prelude.{◌≡◌, ◌<◌, option_map, IfSome};
 ghost use Rattle.sig_der.specs.Digits.{two_at, four_at, skip, day_at, clock_at};
 
-/// The number of the two digits at the front, and what follows them.
+/// Returns the number of the two digits at the front, and what follows them.
 #[tactic(auto, unfolding(crate::specs::Digits::two_at))]
 pub(crate) fn read_two(text: &[u8]) -> Option<(u8, &[u8])>
     ensures exact { option_map (λ x. (x.0, x.1.now)) result ≡ two_at text.now }
@@ -18,7 +18,7 @@ pub(crate) fn read_two(text: &[u8]) -> Option<(u8, &[u8])>
     }
 }
 
-/// The number of the four digits at the front, and what follows them.
+/// Returns the number of the four digits at the front, and what follows them.
 #[tactic(auto, unfolding(crate::specs::Digits::four_at))]
 pub(crate) fn read_four(text: &[u8]) -> Option<(u16, &[u8])>
     ensures exact { option_map (λ x. (x.0, x.1.now)) result ≡ four_at text.now }
@@ -29,7 +29,7 @@ pub(crate) fn read_four(text: &[u8]) -> Option<(u16, &[u8])>
     Some((high as u16 * 100 + low as u16, rest))
 }
 
-/// What follows the mark, or the text where no mark is wanted.
+/// Returns what follows the mark, or the whole text if no mark is wanted.
 #[tactic(auto, unfolding(crate::specs::Digits::skip))]
 pub(crate) fn skip_mark(text: &[u8], mark: Option<u8>) -> Option<&[u8]>
     ensures { option_map (λ x. x.now) result ≡ skip mark text.now }
@@ -43,7 +43,7 @@ pub(crate) fn skip_mark(text: &[u8], mark: Option<u8>) -> Option<&[u8]>
     }
 }
 
-/// Month and day with the mark between them, and what follows.
+/// Reads month and day with the mark between them, and what follows.
 #[tactic(auto, unfolding(crate::specs::Digits::day_at))]
 pub(crate) fn read_day(text: &[u8], mark: Option<u8>) -> Option<((u8, u8), &[u8])>
     ensures exact { option_map (λ x. (x.0, x.1.now)) result ≡ day_at mark text.now }
@@ -56,7 +56,7 @@ pub(crate) fn read_day(text: &[u8], mark: Option<u8>) -> Option<((u8, u8), &[u8]
     Some(((month, day), rest))
 }
 
-/// Hour, minute and second with the mark between them, and what follows.
+/// Reads hour, minute and second with the mark between them, and what follows.
 #[tactic(auto, unfolding(crate::specs::Digits::clock_at))]
 pub(crate) fn read_clock(text: &[u8], mark: Option<u8>) -> Option<((u8, u8, u8), &[u8])>
     ensures exact { option_map (λ x. (x.0, x.1.now)) result ≡ clock_at mark text.now }

@@ -5,7 +5,7 @@ ghost use Rattle.sig_der.specs.Reading.{Gives, one_byte, two_bytes, three_bytes,
 
 use sig_base::DerError;
 
-/// A length and the bytes after it.
+/// Reads a length, and returns it with the bytes after it.
 #[tactic(auto, unfolding(crate::specs::Reading::length_at))]
 pub(crate) fn read_length(bytes: &[u8]) -> Result<(usize, &[u8]), DerError>
     ensures exact { Gives (λ x. (x.0, x.1.now)) result (length_at bytes.now) }

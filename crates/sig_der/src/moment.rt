@@ -6,8 +6,8 @@ ghost use Rattle.sig_der.specs.Moment.{IsReal, IsDecimal, second_of};
 
 use jiff_core::civil::Date;
 
-/// A second of the calendar by its six numbers, which may name no real one. Each number has the digits that texts give
-/// it: the year four, the others two.
+/// A date and a time of day, which the calendar may not have. Each number has as many digits as a text gives it: the
+/// year four, the others two.
 #[derive(Clone, Copy, Debug)]
 pub(crate) struct Moment {
     pub(crate) year: u16,

@@ -9,7 +9,7 @@ ghost use Rattle.sig_der.specs.Stamp.{zone_at, stamp_at, starts_with_digit};
 use crate::digits::{read_clock, read_day, read_four, read_two, skip_mark};
 use crate::moment::{Moment, second_at};
 
-/// YYYY-MM-DDTHH:MM:SS at the front, and what follows it.
+/// Reads YYYY-MM-DDTHH:MM:SS at the front, and returns it with what follows it.
 #[tactic(auto, unfolding(crate::specs::Stamp::front_at))]
 fn read_front(text: &[u8]) -> Option<(Moment, &[u8])>
     ensures exact { option_map (λ x. (x.0, x.1.now)) result ≡ front_at text.now }
@@ -33,7 +33,7 @@ fn read_front(text: &[u8]) -> Option<(Moment, &[u8])>
     ))
 }
 
-/// What follows a digit at the front, or the text where there is none.
+/// Returns what follows a digit at the front, or the whole text if there is none.
 fn skip_digit(text: &[u8]) -> &[u8]
     ensures { result.now ≡ after_digit text.now }
 {
@@ -43,7 +43,7 @@ fn skip_digit(text: &[u8]) -> &[u8]
     }
 }
 
-/// What follows the digits at the front, of which at most nine are skipped.
+/// Returns what follows the digits at the front, of which at most nine are skipped.
 #[tactic(auto, using(crate::proofs::DigitRuns::after_digits_more, crate::proofs::DigitRuns::after_digits_none))]
 fn skip_digits(text: &[u8]) -> &[u8]
     ensures { result.now ≡ after_digits 9 text.now }
@@ -55,7 +55,7 @@ fn skip_digits(text: &[u8]) -> &[u8]
     rest
 }
 
-/// What follows the fraction: nothing or a point and one to nine digits.
+/// Returns what follows the fraction: nothing or a point and one to nine digits.
 #[tactic(auto, unfolding(crate::specs::Stamp::fraction_at))]
 fn skip_fraction(text: &[u8]) -> Option<&[u8]>
     ensures { option_map (λ x. x.now) result ≡ fraction_at text.now }
@@ -69,7 +69,7 @@ fn skip_fraction(text: &[u8]) -> Option<&[u8]>
     }
 }
 
-/// The seconds of HH:MM, which is all of the text.
+/// Returns the seconds of HH:MM, which is all of the text.
 #[tactic(auto, unfolding(crate::specs::Stamp::offset_at))]
 fn read_offset(text: &[u8]) -> Option<u32>
     ensures exact { result ≡ offset_at text.now }
@@ -85,7 +85,7 @@ fn read_offset(text: &[u8]) -> Option<u32>
     }
 }
 
-/// The seconds that a clock of the zone is ahead of Greenwich's.
+/// Returns the seconds that a clock of the zone is ahead of UTC.
 #[tactic(auto, unfolding(crate::specs::Stamp::zone_at))]
 fn read_zone(text: &[u8]) -> Option<i64>
     ensures exact { result ≡ zone_at text.now }
@@ -115,7 +115,7 @@ fn read_stamp(text: &[u8]) -> Option<(Moment, i64)>
     }
 }
 
-/// The second that is so many seconds before the moment.
+/// Returns the second that is so many seconds before the moment.
 fn second_before(moment: Moment, offset: i64) -> Option<i64>
     requires digits { IsDecimal moment }
     requires day { IsWithin 86400 offset }
@@ -138,9 +138,9 @@ fn read_instant(text: &[u8]) -> Option<i64>
     }
 }
 
-/// The second since 1970 in which the instant of the text lies.
+/// Returns the second since 1970 of a time of RFC 3339 section 5.6, its fraction dropped.
 ///
-/// None where the text is not YYYY-MM-DDTHH:MM:SS of a real date and time of the years 1 to 9999, then nothing or a
+/// `None` if the text is not YYYY-MM-DDTHH:MM:SS of a real date and time of the years 1 to 9999, then nothing or a
 /// point and one to nine digits, then `Z` or the offset +HH:MM or -HH:MM with hours to 23 and minutes to 59.
 pub fn rfc3339_second(text: &str) -> Option<i64>
     ensures found { IfSome result (IsInstantOf text.now) }

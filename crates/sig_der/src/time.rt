@@ -11,7 +11,7 @@ use crate::moment::{Moment, second_at};
 use crate::tag;
 use sig_base::DerError;
 
-/// MMDDHHMMSSZ.
+/// Reads MMDDHHMMSSZ.
 #[tactic(auto, unfolding(crate::specs::DerTime::rest_at))]
 fn read_rest(year: u16, text: &[u8]) -> Option<Moment>
     requires { year < 10000 }
@@ -33,7 +33,7 @@ fn read_rest(year: u16, text: &[u8]) -> Option<Moment>
     })
 }
 
-/// The year of two digits: 70 to 99 are 1970 to 1999, 00 to 49 are 2000 to 2049.
+/// Returns the year of two digits: 70 to 99 are 1970 to 1999, 00 to 49 are 2000 to 2049.
 fn year_of(short: u8) -> Option<u16>
     requires { short < 100 }
     ensures exact { result ≡ full_year short }
@@ -46,7 +46,7 @@ fn year_of(short: u8) -> Option<u16>
     }
 }
 
-/// YYMMDDHHMMSSZ.
+/// Reads YYMMDDHHMMSSZ.
 #[tactic(auto, unfolding(crate::specs::DerTime::utc_at))]
 fn read_utc(text: &[u8]) -> Option<Moment>
     ensures exact { result ≡ utc_at text.now }
@@ -56,7 +56,7 @@ fn read_utc(text: &[u8]) -> Option<Moment>
     read_rest(year_of(short)?, text)
 }
 
-/// YYYYMMDDHHMMSSZ, from 1970 on.
+/// Reads YYYYMMDDHHMMSSZ, from 1970 on.
 #[tactic(auto, unfolding(crate::specs::DerTime::generalized_at))]
 fn read_generalized(text: &[u8]) -> Option<Moment>
     ensures exact { result ≡ generalized_at text.now }
@@ -69,7 +69,7 @@ fn read_generalized(text: &[u8]) -> Option<Moment>
     read_rest(year, text)
 }
 
-/// The second of a UTCTime.
+/// Returns the second since 1970 of a UTCTime.
 fn utc_second(text: &[u8]) -> Option<i64>
     ensures found { IfSome result (IsSecondOf (IsUtcTime text.now)) }
     ensures only { (s : ℤ) → IsSecondOf (IsUtcTime text.now) s → result ≡ Some s }
@@ -80,7 +80,7 @@ fn utc_second(text: &[u8]) -> Option<i64>
     }
 }
 
-/// The second of a GeneralizedTime.
+/// Returns the second since 1970 of a GeneralizedTime.
 fn generalized_second(text: &[u8]) -> Option<i64>
     ensures found { IfSome result (IsSecondOf (IsGeneralizedTime text.now)) }
     ensures only { (s : ℤ) → IsSecondOf (IsGeneralizedTime text.now) s → result ≡ Some s }
@@ -91,10 +91,12 @@ fn generalized_second(text: &[u8]) -> Option<i64>
     }
 }
 
-/// The second since 1970 of a UTCTime or a GeneralizedTime.
+/// Returns the second since 1970 of a UTCTime or a GeneralizedTime (RFC 5280 section 4.1.2.5).
 ///
-/// `WrongTag` where the element is neither; `Value` where its content is no time of its kind: YYMMDDHHMMSSZ, where 70
-/// to 99 are 1970 to 1999 and 00 to 49 are 2000 to 2049, or YYYYMMDDHHMMSSZ of the years 1970 to 9999.
+/// Fails with
+/// - `WrongTag` if the element is neither;
+/// - `Value` if its content is no time of its kind: YYMMDDHHMMSSZ, where 70 to 99 are 1970 to 1999 and 00 to 49 are
+///   2000 to 2049, or YYYYMMDDHHMMSSZ of the years 1970 to 9999.
 pub fn time_of(element: &Element<'_>) -> Result<i64, DerError>
     ensures found { IfOk result (IsTimeOf element.now.tag element.now.content.now) }
     ensures only { (s : ℤ) → IsTimeOf element.now.tag element.now.content.now s → result ≡ Ok s }

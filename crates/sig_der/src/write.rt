@@ -11,7 +11,7 @@ use thiserror::Error;
 /// Why an element was not written.
 #[derive(Clone, Copy, Debug, PartialEq, Eq, Error)]
 pub enum DerWriteError {
-    /// The content has 2^32 bytes or more, so that its length has no spelling.
+    /// The content has 2^32 bytes or more, which no length of four octets holds.
     #[error("TooLong")]
     TooLong,
     /// Memory ran out.
@@ -27,11 +27,11 @@ impl From<OutOfMemory> for DerWriteError {
     }
 }
 
-/// The number of bytes from which on a content has no spelled length.
+/// The least number of bytes that has no length of four octets.
 const CONTENT_LIMIT: usize = 4_294_967_296;
 
-/// Writes the element of this tag and of this content, whose length is known to have a spelling. Fails only if memory
-/// runs out.
+/// Writes the element of this tag and of this content, which is known to be short enough. Fails only if memory runs
+/// out.
 ///
 /// The low five bits of the tag are not all ones.
 pub fn write_short(alloc: Global, tag: u8, content: &[u8]) -> Result<Bytes, OutOfMemory>
