@@ -1,5 +1,5 @@
 -- What a reader of the checkpoint format returns: the value, or the first rule that is broken.
-use Rattle.std.specs.Prelude.{◌≡◌, ℕ, Result, Ok, Err, List, [], ◌∷◌}
+use Rattle.std.specs.Prelude.{ℕ, Result, Ok, Err, List, [], ◌∷◌}
 use Rattle.std.specs.Option.{ok_or}
 use Rattle.sig_base.specs.Answers.{Answers}
 use Rattle.sig_base.specs.ResultSteps.{◌>>=◌}

@@ -1,6 +1,6 @@
 -- The search finds an index if and only if the table has the row.
-use Rattle.std.proofs.Common.{rules, ◌≡◌, ◌↔◌, ◌∙◌, sym, subst, true, List, ℕ}
-use Rattle.std.specs.Prelude.{Contains, IsTrue, is_ok}
+use Rattle.std.proofs.Common.{rules, ◌≡◌, ◌↔◌, sym, subst, true, List, ℕ}
+use Rattle.std.specs.Prelude.{Contains, is_ok}
 use Rattle.std.proofs.lemmas.Fn.{always_returns_same}
 use Rattle.sig_base.specs.declared.checker.AcceptedRow.{AcceptedRow}
 use Rattle.sig_base.specs.RowOrder.{IsOrderOf}
