@@ -2,7 +2,7 @@ mod CheckedLaws
 mod Equality
 mod PassedLaws
 mod PlainTexts
-mod PromiseLaws
+pub mod PromiseLaws
 mod ProofLaws
 mod RefusalCauses
 mod SigningCertificateLaws

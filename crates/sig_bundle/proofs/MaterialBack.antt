@@ -8,7 +8,7 @@ use Rattle.sig_bundle.specs.BundleRecord.{signature_of, material_content_of}
 use Rattle.sig_bundle.specs.BundleTree.{bundle_rows, bundle_tree, certificate_rows, certificate_tree, chain_rows}
 use Rattle.sig_bundle.specs.BundleTree.{chain_tree, content_row, digest_rows, digest_tree, entry_tree, envelope_rows}
 use Rattle.sig_bundle.specs.BundleTree.{envelope_tree, material_rows, material_tree, message_signature_rows}
-use Rattle.sig_bundle.specs.BundleTree.{message_signature_tree, signature_rows, signature_tree, material_content_row}
+use Rattle.sig_bundle.specs.BundleTree.{message_tree, signature_rows, signature_tree, material_content_row}
 use Rattle.sig_bundle.specs.ReadBack.{MaterialContentIsRead, ContentIsRead}
 use Rattle.sig_bundle.specs.Written.{object_of, bytes_tree, list_tree, IsReadAs, OptionIsRead}
 use Rattle.sig_bundle.specs.declared.bundle.Bundle.{Bundle}
@@ -113,8 +113,8 @@ material_back m signer entries = (
 -- ---- the content
 
 pub message_signature_back : (m : MessageSignature) → IsReadAs bytes_of (bytes_tree m.signature) m.signature
-    → OptionIsRead digest_of digest_tree m.message_digest → IsReadAs message_signature_of (message_signature_tree m) m
-unfolding message_signature_tree message_signature_of
+    → OptionIsRead digest_of digest_tree m.message_digest → IsReadAs message_signature_of (message_tree m) m
+unfolding message_tree message_signature_of
 message_signature_back m signature digest = (
   rw (
     found [] bytes_of (codes "signature") (message_signature_rows m) _ m.signature refl signature,
@@ -155,19 +155,19 @@ unfolding content_of one_content
 content_back media_type o None back =
     let rows = bundle_rows media_type (option_map material_tree o) (content_row None) in
     rw (
-      found_option message_signature_of message_signature_tree (codes "messageSignature") rows None refl tt,
+      found_option message_signature_of message_tree (codes "messageSignature") rows None refl tt,
       found_option envelope_of envelope_tree (codes "dsseEnvelope") rows None refl tt,
     ) refl
 content_back media_type o (Some (content.MessageSignature m)) back =
     let rows = bundle_rows media_type (option_map material_tree o) (content_row (Some (content.MessageSignature m))) in
     rw (
-      found_option message_signature_of message_signature_tree (codes "messageSignature") rows (Some m) refl back,
+      found_option message_signature_of message_tree (codes "messageSignature") rows (Some m) refl back,
       found_option envelope_of envelope_tree (codes "dsseEnvelope") rows None refl tt,
     ) refl
 content_back media_type o (Some (content.DsseEnvelope e)) back =
     let rows = bundle_rows media_type (option_map material_tree o) (content_row (Some (content.DsseEnvelope e))) in
     rw (
-      found_option message_signature_of message_signature_tree (codes "messageSignature") rows None refl tt,
+      found_option message_signature_of message_tree (codes "messageSignature") rows None refl tt,
       found_option envelope_of envelope_tree (codes "dsseEnvelope") rows (Some e) refl back,
     ) refl
 

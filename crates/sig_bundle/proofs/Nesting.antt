@@ -12,7 +12,7 @@ use Rattle.sig_bundle.specs.BundleTree.{bundle_rows, bundle_tree, certificate_ro
 use Rattle.sig_bundle.specs.BundleTree.{chain_tree, checkpoint_rows, checkpoint_tree, content_row, digest_rows}
 use Rattle.sig_bundle.specs.BundleTree.{digest_tree, entry_rows, entry_tree, envelope_rows, envelope_tree}
 use Rattle.sig_bundle.specs.BundleTree.{kind_version_rows, kind_version_tree, log_id_rows, log_id_tree, material_rows}
-use Rattle.sig_bundle.specs.BundleTree.{material_tree, message_signature_rows, message_signature_tree, promise_rows}
+use Rattle.sig_bundle.specs.BundleTree.{material_tree, message_signature_rows, message_tree, promise_rows}
 use Rattle.sig_bundle.specs.BundleTree.{promise_tree, proof_rows, proof_tree, signature_rows, signature_tree}
 use Rattle.sig_bundle.specs.BundleTree.{material_content_row}
 use Rattle.sig_bundle.specs.Written.{Row, put_some, rows_into, object_of, integer_tree, bytes_tree, items_of}
@@ -180,8 +180,8 @@ material_shallow m =
     object_shallow 4 (material_rows (material_content_row m.content) (list_tree entry_tree m.tlog_entries))
     (signer_shallow m.content, (list_shallow 3 entry_tree m.tlog_entries entry_shallow, tt))
 
-message_shallow : (m : MessageSignature) → depth (message_signature_tree m) ≤ 2
-unfolding message_signature_tree
+message_shallow : (m : MessageSignature) → depth (message_tree m) ≤ 2
+unfolding message_tree
 message_shallow m =
     object_shallow 1 (message_signature_rows m)
     (bytes_shallow 1 m.signature, (option_shallow 1 digest_tree m.message_digest digest_shallow, tt))

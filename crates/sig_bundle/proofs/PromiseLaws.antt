@@ -1,18 +1,22 @@
 -- The canonical text of a promise's object.
-use Rattle.std.proofs.Common.{◌≡◌, ℕ, ℤ, pos, negsuc, ◌^◌, Bool, true, false, nat_lt, List, [], ◌∷◌, ◌++◌}
-use Rattle.std.proofs.Common.{Some, None, Ok, Err, unwrap_or, refl, ap, append_assoc}
+use Rattle.std.proofs.Common.{◌≡◌, ◌⊎◌, inl, inr, ℕ, suc, ◌<◌, ℤ, pos, negsuc, ◌^◌, Bool, true, false, nat_lt}
+use Rattle.std.proofs.Common.{List, [], ◌∷◌, ◌++◌, slice_index, Some, None, Result, Ok, Err, IfOk, unwrap_or}
+use Rattle.std.proofs.Common.{refl, sym, ap, ◌∙◌, append_assoc}
 use Rattle.std.proofs.lemmas.Bool.{lt-ltb, ltb-true}
 use Rattle.std.specs.Fmt.{signed_decimal}
 use Rattle.std.specs.List.{join_by}
 use Rattle.std.specs.Prelude.{codes, unsigned_abs}
 use Rattle.std.specs.Str.{chars}
 use Rattle.hex.specs.Hex.{encode_lower}
+use Rattle.sig_base.proofs.ResultSteps.{ok_is}
+use Rattle.sig_base.specs.Answers.{Answers, ComesWhere}
 use Rattle.sig_base.specs.Base64.{base64_text}
 use Rattle.sig_base.specs.OptionSteps.{◌>>=◌}
 use Rattle.sig_json.specs.Canonical.{canon, canon_integer, canon_string, canonical_of, utf16_units, with_text}
 use Rattle.sig_json.specs.Data.{Data, Num, string, number, object, no_members, member}
 use Rattle.sig_json.specs.Find.{as_integer, of_integer}
-use Rattle.sig_json.specs.declared.error.CanonicalError.TheVariants.{IntegerTooLarge}
+use Rattle.sig_json.specs.declared.error.CanonicalError.{CanonicalError}
+use Rattle.sig_json.specs.declared.error.CanonicalError.TheVariants.{IntegerTooLarge, OutOfMemory}
 use Rattle.sig_bundle.specs.Promise.{promise_tree_of, AreBytes, IsExact, IsExactEntry, promise_of_entry}
 use Rattle.sig_bundle.specs.declared.material.TransparencyLogEntry.{TransparencyLogEntry}
 use Rattle.sig_bundle.proofs.PlainTexts.{base64-plain, hex-plain}
@@ -32,8 +36,8 @@ text_of body time id index =
 -- the members one after another, each name with what is before and behind it
 glued : (opened comma colon closed a b c d body time id index : List ℕ)
     → opened ++ (join_by (λ text. text) comma
-    ((a ++ (colon ++ body)) ∷ (b ++ (colon ++ time)) ∷ (c ++ (colon ++ id)) ∷ (d ++ (colon ++ index)) ∷ []) ++ closed) ≡
-    (opened ++ (a ++ colon)) ++ (body ++ ((comma ++ (b ++ colon)) ++ (time ++ ((comma ++ (c ++ colon)) ++ (id
+    ((a ++ (colon ++ body)) ∷ (b ++ (colon ++ time)) ∷ (c ++ (colon ++ id)) ∷ (d ++ (colon ++ index)) ∷ []) ++ closed)
+    ≡ (opened ++ (a ++ colon)) ++ (body ++ ((comma ++ (b ++ colon)) ++ (time ++ ((comma ++ (c ++ colon)) ++ (id
     ++ ((comma ++ (d ++ colon)) ++ (index ++ closed)))))))
 glued opened comma colon closed a b c d body time id index = simp append_assoc
 
@@ -117,3 +121,52 @@ by_time e false t wide =
 pub wide-promise : (e : TransparencyLogEntry) → ¬ IsExactEntry e
     → canonical_of (promise_tree_of e) ≡ Err IntegerTooLarge
 wide-promise e wide = by_time e (nat_lt (unsigned_abs e.integrated_time) (2 ^ 53)) refl wide
+
+-- ---- a call's result
+
+exact_or_wide : (z : ℤ) (b : Bool) → nat_lt (unsigned_abs z) (2 ^ 53) ≡ b → IsExact z ⊎ (¬ IsExact z)
+exact_or_wide z true t = inl (ltb-true (unsigned_abs z) (2 ^ 53) t)
+exact_or_wide z false t = inr (λ small. let f = lt-ltb (unsigned_abs z) (2 ^ 53) small in cc)
+
+both_or_wide : (e : TransparencyLogEntry) → IsExact e.integrated_time ⊎ (¬ IsExact e.integrated_time)
+    → IsExact e.log_index ⊎ (¬ IsExact e.log_index) → IsExactEntry e ⊎ (¬ IsExactEntry e)
+both_or_wide e (inl time) (inl index) = inl (time, index)
+both_or_wide e (inl time) (inr wide) = inr (λ exact. wide exact.1)
+both_or_wide e (inr wide) index = inr (λ exact. wide exact.0)
+
+told_or_wide : (e : TransparencyLogEntry) → IsExactEntry e ⊎ (¬ IsExactEntry e)
+told_or_wide e =
+    both_or_wide e (exact_or_wide e.integrated_time (nat_lt (unsigned_abs e.integrated_time) (2 ^ 53)) refl)
+    (exact_or_wide e.log_index (nat_lt (unsigned_abs e.log_index) (2 ^ 53)) refl)
+
+found_text : (e : TransparencyLogEntry) (text : List ℕ) → AreBytes e.canonicalized_body
+    → AreBytes (unwrap_or e.log_id []) → canonical_of (promise_tree_of e) ≡ Ok text
+    → IsExactEntry e ⊎ (¬ IsExactEntry e) → (text ≡ promise_of_entry e) × IsExactEntry e
+found_text e text body id is (inl exact) =
+    let law = exact-promise e body id exact in
+    let same : text ≡ promise_of_entry e = ok_is text (promise_of_entry e) (sym is ∙ law) in (same, exact)
+found_text e text body id is (inr wide) = absurd (let law = sym is ∙ wide-promise e wide in cc)
+
+pub promise_text-found : (e : TransparencyLogEntry) (result : Result (List ℕ) CanonicalError)
+    → AreBytes e.canonicalized_body → AreBytes (unwrap_or e.log_id [])
+    → Answers OutOfMemory (λ text. text) result (canonical_of (promise_tree_of e))
+    → IfOk result (λ text. (text ≡ promise_of_entry e) × IsExactEntry e)
+promise_text-found e (Ok text) body id is = found_text e text body id is (told_or_wide e)
+promise_text-found e (Err d) body id is = tt
+
+pub promise_text-wide : (e : TransparencyLogEntry) (result : Result (List ℕ) CanonicalError)
+    → AreBytes e.canonicalized_body → AreBytes (unwrap_or e.log_id [])
+    → Answers OutOfMemory (λ text. text) result (canonical_of (promise_tree_of e))
+    → ComesWhere OutOfMemory result (Err IntegerTooLarge) (¬ IsExactEntry e)
+promise_text-wide e (Ok text) body id is =
+    (λ same. absurd cc, λ wide. absurd (let law = sym is ∙ wide-promise e wide in cc))
+promise_text-wide e (Err d) body id (inl memory) =
+    (λ same. absurd (let other : OutOfMemory ≡ IntegerTooLarge = cc in cc), λ wide. inl (ap Err memory))
+promise_text-wide e (Err d) body id (inr is) = (
+  λ same exact. let law = sym (exact-promise e body id exact) ∙ is in cc,
+  λ wide. inr (sym is ∙ wide-promise e wide),
+)
+
+pub each_byte : (m : List ℕ) → ((i : ℕ) → slice_index m i < 256) → AreBytes m
+each_byte [] all = tt
+each_byte (b ∷ m) all = (all 0, each_byte m (λ i. all (suc i)))

@@ -1,11 +1,10 @@
 -- The members of an inclusion proof: what is computed of them is the proof that they are, or the first rule that does
 -- not hold.
-use Rattle.std.proofs.Common.{◌≡◌, ◌⊎◌, inl, inr, ℕ, zero, suc, ◌+◌, ◌==◌, ℤ, pos, negsuc, Bool, true, false, cond}
+use Rattle.std.proofs.Common.{◌≡◌, ◌⊎◌, inl, inr, ℕ, suc, ◌+◌, ◌==◌, ℤ, pos, negsuc, Bool, true, false, cond}
 use Rattle.std.proofs.Common.{List, [], ◌∷◌, ◌++◌, length, Option, Some, None, Result, Ok, Err}
 use Rattle.std.proofs.Common.{refl, sym, ap, subst, ◌∙◌, arith}
 use Rattle.std.proofs.lemmas.Bool.{eq-eqb, eqb-true}
 use Rattle.std.specs.List.{AllByRecursion}
-use Rattle.std.specs.Prelude.{◌↔◌}
 use Rattle.sig_base.proofs.ResultSteps.{ok_is, bind_ok, when_ok}
 use Rattle.sig_base.specs.Answers.{Answers, AnswersOnly}
 use Rattle.sig_base.specs.ResultSteps.{◌>>=◌}
@@ -13,10 +12,9 @@ use Rattle.sig_base.specs.declared.fault.CheckpointFault.{CheckpointFault}
 use Rattle.sig_rekor.proofs.CheckpointFaults.{checkpoint-fails, checkpoint-only_fails}
 use Rattle.sig_rekor.proofs.CheckpointLaws.{checkpoint-found, checkpoint-only}
 use Rattle.sig_rekor.specs.CheckpointText.{IsCheckpoint, checkpoint_of}
-use Rattle.sig_rekor.specs.Faults.{IsCheckpointFault}
 use Rattle.sig_rekor.specs.declared.checkpoint.SignedCheckpoint.{SignedCheckpoint}
 use Rattle.sig_rekor.specs.declared.inclusion_proof.InclusionProof.{InclusionProof}
-use Rattle.sig_bundle.specs.Proof.{IsHash, HasRoot, HasHashes, HasSize, OfText, IsFirstOther, IsProof, IsProofFault}
+use Rattle.sig_bundle.specs.Proof.{IsHash, HasRoot, HasHashes, HasSize, IsFirstOther, IsProof, IsProofFault}
 use Rattle.sig_bundle.specs.Proof.{IsProofOrFault, hash_or, hashes_from, size_or_fault, checkpoint_or_fault}
 use Rattle.sig_bundle.specs.Proof.{under_proof_name, proof_or_fault}
 use Rattle.sig_bundle.specs.declared.material.ProofFields.{ProofFields}
@@ -229,7 +227,8 @@ proof-only fields proof is =
 -- ---- the first rule that does not hold
 
 checkpoint_or-fails : (fields : ProofFields) (e : ProofFieldsError) → HasRoot fields → HasHashes fields
-    → HasSize fields → (held : Option (List ℕ)) → fields.checkpoint ≡ held → checkpoint_or_fault held ≡ Err e → IsProofFault fields e
+    → HasSize fields → (held : Option (List ℕ)) → fields.checkpoint ≡ held → checkpoint_or_fault held ≡ Err e
+    → IsProofFault fields e
 checkpoint_or-fails fields e root hashes size None held is =
     let named : CheckpointMissing ≡ e = cc in subst (IsProofFault fields) named (root, hashes, size, held)
 checkpoint_or-fails fields e root hashes size (Some text) held is =

@@ -1,14 +1,12 @@
 -- Each refusal of a bundle's own checks comes if and only if it has its cause.
 use Rattle.std.proofs.Common.{◌≡◌, ◌≢◌, ◌⊎◌, inl, inr, ℕ, List, [], ◌∷◌, length, Option, Some, None, Result, Ok, Err}
 use Rattle.std.proofs.Common.{refl, sym, ap, subst, ◌∙◌, arith}
-use Rattle.std.specs.Prelude.{◌↔◌}
-use Rattle.sig_base.proofs.ResultSteps.{bind_ok, bind_of_ok}
+use Rattle.sig_base.proofs.ResultSteps.{bind_of_ok}
 use Rattle.sig_base.specs.ResultSteps.{◌>>=◌}
-use Rattle.sig_certificate.specs.Certificate.{Cert, IsCertificate}
+use Rattle.sig_certificate.specs.Certificate.{Cert}
 use Rattle.sig_certificate.specs.Profile.{leaf_refusal}
 use Rattle.sig_certificate.specs.declared.profile_error.CertificateValidationError.{CertificateValidationError}
 use Rattle.sig_dsse.proofs.FaultCauses.{faults_have_their_cause}
-use Rattle.sig_dsse.proofs.NamedDigests.{takes_the_named}
 use Rattle.sig_dsse.specs.EnvelopeText.{envelope_text}
 use Rattle.sig_dsse.specs.Faults.{IsCauseOf}
 use Rattle.sig_dsse.specs.Pae.{pae}
@@ -24,7 +22,8 @@ use Rattle.sig_bundle.specs.Content.{ContentWithSignature, signature_among, stat
 use Rattle.sig_bundle.specs.Content.{under_bundle_names, digests_in, envelope_content, content_with_signature}
 use Rattle.sig_bundle.specs.Profile.{entry_among, lacks, lacks_checkpoint, lacks_proof, meets_profile, unless_lacking}
 use Rattle.sig_bundle.specs.Refusals.{HasMaterial, HasEncoding, HasCertificate, HasLeaf, HasEnvelope, HasSignature}
-use Rattle.sig_bundle.specs.Refusals.{HasStatement, HasDigests, HasEntry, HasVersion, material_of, IsProfileCauseOf}
+use Rattle.sig_bundle.specs.Refusals.{HasStatement, HasDigests, HasEntry, HasVersion, material_under}
+use Rattle.sig_bundle.specs.Refusals.{IsProfileCauseOf}
 use Rattle.sig_bundle.specs.Refusals.{IsCause, RefusalsHaveTheirCause}
 use Rattle.sig_bundle.specs.SigningCertificate.{AreReadings, IsSigningCertificate, leaf_or_refusal}
 use Rattle.sig_bundle.specs.SigningCertificate.{signing_certificate_among}
@@ -207,7 +206,7 @@ content-caused b h kind (Some (DsseEnvelope envelope)) is told =
 -- ---- the log entry, and what the version demands of it
 
 entry-caused : (b : Bundle) (h : HasDigests b) (kind : BundleErrorKind) (entries : List TransparencyLogEntry)
-    → (material_of h).tlog_entries ≡ entries
+    → (material_under h).tlog_entries ≡ entries
     → entry_among entries ≡ Err kind → IsCause kind b
 entry-caused b h kind [] is told =
     under b (TlogEntry 0) kind (err_is (TlogEntry 0) kind told) (h, ap (λ l. length l) is, λ one. absurd (omega arith))
@@ -379,7 +378,7 @@ behind_content b material certificate content =
 
 from_digests : (b : Bundle) (h : HasDigests b) (kind : BundleErrorKind)
     → ((content : ContentWithSignature) → behind_content b
-    (material_of h) h.before.before.before.before.before.certificate content ≡ Err kind) → IsChecked b (Err kind)
+    (material_under h) h.before.before.before.before.before.certificate content ≡ Err kind) → IsChecked b (Err kind)
 from_digests b h kind told =
     let s = h.before.before.signature in
     let e = h.before.before.before.envelope in
@@ -403,7 +402,7 @@ from_digests b h kind told =
 from_entry : (b : Bundle) (h : HasEntry b) (kind : BundleErrorKind) → meets_profile b.media_type h.entry ≡ Err kind
     → IsChecked b (Err kind)
 from_entry b h kind told =
-    from_digests b h.before kind (λ content. bind_of_ok (entry_among (material_of h.before).tlog_entries) _ h.entry
+    from_digests b h.before kind (λ content. bind_of_ok (entry_among (material_under h.before).tlog_entries) _ h.entry
     (rw h.only refl) ∙ rw told refl)
 
 no-entry : (entries : List TransparencyLogEntry) (count : ℕ) → length entries ≡ count → count ≢ 1
@@ -482,7 +481,7 @@ told b (DsseSubjectDigestMalformed name) cause = from_statement b cause.0 (fault
 told b DsseNoRecognizedSubjectDigest cause = from_statement b cause.0 fault.NoneRecognized cause.1
 told b (TlogEntry count) cause =
     from_digests b cause.0 (TlogEntry count) (λ content. rw
-    (no-entry (material_of cause.0).tlog_entries count cause.1 cause.2) refl)
+    (no-entry (material_under cause.0).tlog_entries count cause.1 cause.2) refl)
 told b (BundleProfile kind) cause = profile-told b kind cause
 told b _ cause = absurd cause
 

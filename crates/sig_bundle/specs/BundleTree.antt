@@ -118,8 +118,8 @@ message_signature_rows m =
     ∷ (codes "messageDigest", option_map digest_tree m.message_digest)
     ∷ []
 
-unfoldable pub message_signature_tree : MessageSignature → Data
-message_signature_tree m = object_of (message_signature_rows m)
+unfoldable pub message_tree : MessageSignature → Data
+message_tree m = object_of (message_signature_rows m)
 
 abbrev pub signature_rows : DsseSignature → List Row
 signature_rows s =
@@ -143,7 +143,7 @@ envelope_tree e = object_of (envelope_rows e)
 -- the member of the content's kind
 abbrev pub content_row : Option Content → Row
 content_row None = (codes "dsseEnvelope", None)
-content_row (Some (content.MessageSignature m)) = (codes "messageSignature", Some (message_signature_tree m))
+content_row (Some (content.MessageSignature m)) = (codes "messageSignature", Some (message_tree m))
 content_row (Some (content.DsseEnvelope e)) = (codes "dsseEnvelope", Some (envelope_tree e))
 
 -- ---- the bundle

@@ -1,7 +1,7 @@
 -- For private clauses: the part of an object of which only one member is there is read back.
 use Rattle.std.specs.Prelude.{Option, Some, None, ⊤}
 use Rattle.sig_bundle.specs.BundleRecord.{certificate_of, chain_of, envelope_of, message_signature_of}
-use Rattle.sig_bundle.specs.BundleTree.{certificate_tree, chain_tree, envelope_tree, message_signature_tree}
+use Rattle.sig_bundle.specs.BundleTree.{certificate_tree, chain_tree, envelope_tree, message_tree}
 use Rattle.sig_bundle.specs.Written.{IsReadAs}
 use Rattle.sig_bundle.specs.declared.bundle.Content.{Content}
 use Rattle.sig_bundle.specs.declared.bundle.Content.TheVariants as content
@@ -18,5 +18,5 @@ MaterialContentIsRead (Some material.PublicKey) = ⊤
 -- the content is read back
 abbrev pub ContentIsRead : Option Content → Type 0
 ContentIsRead None = ⊤
-ContentIsRead (Some (content.MessageSignature m)) = IsReadAs message_signature_of (message_signature_tree m) m
+ContentIsRead (Some (content.MessageSignature m)) = IsReadAs message_signature_of (message_tree m) m
 ContentIsRead (Some (content.DsseEnvelope e)) = IsReadAs envelope_of (envelope_tree e) e

@@ -1,4 +1,4 @@
--- *Causes of the refusals*: each refusal of a bundle's own checks in the words of the bundle: the rules before it
+-- *Causes of the refusals*: each error of a bundle's own checks in the words of the bundle: the rules before it
 -- hold, and this one does not.
 use Rattle.std.specs.Prelude.{◌≡◌, ◌≢◌, ◌↔◌, ℕ, List, [], ◌∷◌, length, Some, None, Err}
 use Rattle.sig_certificate.specs.Certificate.{Cert, IsCertificate}
@@ -75,21 +75,22 @@ pub record HasDigests (b : Bundle) : Type 0 where
   pub digests : List ArtifactDigest
   pub taken : AreTaken before.statement digests
 
-abbrev pub material_of : {b : Bundle} → HasDigests b → VerificationMaterial
-material_of h = h.before.before.before.before.before.before.before.material
+-- the material of a bundle whose rules hold so far
+abbrev pub material_under : {b : Bundle} → HasDigests b → VerificationMaterial
+material_under h = h.before.before.before.before.before.before.before.material
 
 -- there is one log entry
 pub record HasEntry (b : Bundle) : Type 0 where
   pub before : HasDigests b
   pub entry : TransparencyLogEntry
-  pub only : (material_of before).tlog_entries ≡ entry ∷ []
+  pub only : (material_under before).tlog_entries ≡ entry ∷ []
 
 -- the media type is that of version 0.3
 pub record HasVersion (b : Bundle) : Type 0 where
   pub before : HasEntry b
   pub version : IsMediaType b.media_type Bundle0_3
 
--- ---- each refusal, by the first rule that does not hold
+-- ---- each error, by the first rule that does not hold
 
 abbrev pub IsProfileCauseOf : BundleProfileErrorKind → Bundle → Type 0
 IsProfileCauseOf (Unknown text) b = HasEntry b × (text ≡ b.media_type) × ¬ IsMediaType b.media_type Bundle0_3
@@ -100,13 +101,13 @@ IsProfileCauseOf (Bundle02Profile CheckpointMissing) b =
     (proof.checkpoint ≡ None)
 IsProfileCauseOf (Bundle01Profile _) b = ⊥
 
--- chains are not read yet, so no refusal is that one is empty or holds a root
+-- chains are not read yet, so no error is that one is empty or holds a root
 abbrev pub IsCause : BundleErrorKind → Bundle → Type 0
 IsCause refusal.VerificationMaterialMissing b = b.verification_material ≡ None
 IsCause refusal.VerificationMaterialContentUnsupported b =
     (h : HasMaterial b) × ((der : List ℕ) → h.material.content ≢ Some (Certificate der))
-IsCause (refusal.CertificateMalformed place) b =
-    (place ≡ 0) × (h : HasEncoding b) × ((c : Cert) → ¬ IsCertificate h.der c)
+IsCause (refusal.CertificateMalformed index) b =
+    (index ≡ 0) × (h : HasEncoding b) × ((c : Cert) → ¬ IsCertificate h.der c)
 IsCause refusal.CertificatesMissing b = ⊥
 IsCause (refusal.NoLeaf e) b = (h : HasCertificate b) × (leaf_refusal h.certificate ≡ Some e)
 IsCause refusal.RootInChain b = ⊥
@@ -122,10 +123,11 @@ IsCause (refusal.DsseTooManySubjectDigests count) b =
 IsCause (refusal.DsseSubjectDigestMalformed name) b =
     (h : HasStatement b) × IsCauseOf (fault.Malformed name) h.statement
 IsCause refusal.DsseNoRecognizedSubjectDigest b = (h : HasStatement b) × IsCauseOf fault.NoneRecognized h.statement
-IsCause (refusal.TlogEntry count) b = (h : HasDigests b) × (length (material_of h).tlog_entries ≡ count) × (count ≢ 1)
+IsCause (refusal.TlogEntry count) b =
+    (h : HasDigests b) × (length (material_under h).tlog_entries ≡ count) × (count ≢ 1)
 IsCause (refusal.BundleProfile kind) b = IsProfileCauseOf kind b
 IsCause refusal.OutOfMemory b = ⊥
 
--- each refusal comes if and only if it has its cause
+-- each error comes if and only if it has its cause
 abbrev pub RefusalsHaveTheirCause : Type 0
 RefusalsHaveTheirCause = (bundle : Bundle) (kind : BundleErrorKind) → IsChecked bundle (Err kind) ↔ IsCause kind bundle

@@ -41,7 +41,7 @@ pub(crate) struct ContentWithSignature {
     pub(crate) content: CheckedContent,
 }
 
-/// The one signature. `DsseInvalidSignatureCount` with their number if and only if there is not one.
+/// The one signature. Fails with `DsseInvalidSignatureCount` and their number if and only if there is not one.
 fn only_signature(signatures: &DsseSignatures) -> Result<&DsseSignature, BundleErrorKind>
     ensures { lent_now result ≡ signature_among signatures.now }
 {
@@ -51,8 +51,8 @@ fn only_signature(signatures: &DsseSignatures) -> Result<&DsseSignature, BundleE
     }
 }
 
-/// The digests of the statement's subjects. `DssePayloadDecode` where the payload is no statement, then the refusals
-/// of [`recognized_digests`](sig_dsse::recognized_digests) under the names of a bundle.
+/// The digests of the statement's subjects. Fails with `DssePayloadDecode` if the payload is no statement, then as
+/// [`recognized_digests`](sig_dsse::recognized_digests), under the names of a bundle.
 #[tactic(auto, using(crate::proofs::PayloadDigests::payload_digests))]
 fn subject_digests(alloc: Global, payload: &[u8]) -> Result<Digests, BundleErrorKind>
     ensures { Answers BundleErrorKind.OutOfMemory (λ digests. digests) result (digests_in payload.now) }
@@ -65,8 +65,8 @@ fn subject_digests(alloc: Global, payload: &[u8]) -> Result<Digests, BundleError
     }
 }
 
-/// The content of an envelope. `DsseInvalidSignatureCount` where it has not one signature, then the refusals of its
-/// payload.
+/// The content of an envelope. Fails with `DsseInvalidSignatureCount` if it has not one signature, then with the error
+/// of its payload.
 fn checked_envelope(
     alloc: Global,
     envelope: &DsseEnvelope,
@@ -91,8 +91,8 @@ fn checked_envelope(
     })
 }
 
-/// The content. `SignatureMissing` if and only if there is no content, or a signature over an artifact alone, which is
-/// not read yet; then the refusals of the envelope.
+/// The content. Fails with `SignatureMissing` if and only if there is no content, or a signature over an artifact
+/// alone, which is not read yet; then with the error of the envelope.
 pub(crate) fn checked_content(
     alloc: Global,
     content: &Option<Content>,

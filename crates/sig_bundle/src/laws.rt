@@ -24,7 +24,7 @@ pub fn passed_bundles()
     ensures { (bundle : Bundle) (c : Checked) → IsChecked bundle (Ok c) ↔ IsPassed bundle c }
 {}
 
-/// Each refusal of a bundle's own checks comes if and only if it has its cause in the words of the bundle: the rules
+/// Each error of a bundle's own checks comes if and only if it has its cause in the words of the bundle: the rules
 /// before it hold, and this one does not. It has no code.
 pub fn causes_of_refusals()
     ensures { RefusalsHaveTheirCause }

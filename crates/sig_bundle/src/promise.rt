@@ -3,10 +3,10 @@
 //! ```text
 //! {"body":"eyJhcGlWZXJzaW9uIjoiMC4wLjEifQ==","integratedTime":1702446656,"logID":"dd3d306a","logIndex":56111}
 //! ```
-ghost use Rattle.std.specs.Prelude.{◌≡◌, [], IsSome, IfOk, unwrap_or};
+ghost use Rattle.std.specs.Prelude.{◌≡◌, [], IsSome, IfOk, Err, unwrap_or};
 ghost use Rattle.hex.specs.Hex.{encode_lower};
-ghost use Rattle.sig_base.specs.Answers.{Answers};
-ghost use Rattle.sig_bundle.specs.Promise.{promise_tree_of};
+ghost use Rattle.sig_base.specs.Answers.{Answers, ComesWhere};
+ghost use Rattle.sig_bundle.specs.Promise.{AreBytes, IsExactEntry, promise_of_entry, promise_tree_of};
 ghost use Rattle.sig_json.specs.Canonical.{canonical_of};
 ghost use Rattle.sig_json.specs.Data.{string};
 ghost use Rattle.sig_json.specs.Tree.{document_tree};
@@ -24,11 +24,45 @@ use std::alloc::Global;
 /// Fails with `IntegerTooLarge` if and only if the integrated time or the log index is beyond plus or minus 2^53 - 1.
 pub fn promise_text(alloc: Global, entry: &TransparencyLogEntry) -> Result<Text, CanonicalError>
     requires { IsSome entry.now.log_id }
+    // The text is the one with these four members, letter by letter, and both integers are within the bounds.
+    ensures text { IfOk result (λ text. (text ≡ promise_of_entry entry.now) × IsExactEntry entry.now) }
+    // `IntegerTooLarge` comes if and only if one is beyond.
+    ensures too_large { ComesWhere CanonicalError.OutOfMemory result (Err CanonicalError.IntegerTooLarge)
+        (¬ IsExactEntry entry.now) }
+    // The same in one equation, by RFC 8785.
+    ensures answer { Answers CanonicalError.OutOfMemory (λ text. text) result
+        (canonical_of (promise_tree_of entry.now)) }
+{
+    are_bytes(entry.canonicalized_body.as_slice());
+    is_bytes(&entry.log_id);
+    write_promise(alloc, entry)
+}
+
+/// The text of a promise.
+fn write_promise(alloc: Global, entry: &TransparencyLogEntry) -> Result<Text, CanonicalError>
     ensures { Answers CanonicalError.OutOfMemory (λ text. text) result
         (canonical_of (promise_tree_of entry.now)) }
 {
     let object = promise_object(alloc, entry)?;
     canonical(alloc, object.view())
+}
+
+/// What contracts see of bytes are numbers below 256: a law, for the proof above. It does nothing.
+#[tactic(auto, using(crate::proofs::PromiseLaws::each_byte))]
+fn are_bytes(bytes: &[u8])
+    ensures { AreBytes bytes.now }
+{
+    let _ = bytes;
+}
+
+/// The same of bytes that may be absent.
+fn is_bytes(bytes: &Option<Bytes>)
+    ensures { AreBytes (unwrap_or bytes.now []) }
+{
+    match bytes {
+        Some(bytes) => are_bytes(bytes.as_slice()),
+        None => (),
+    }
 }
 
 /// The object of a promise. Fails only if memory runs out.

@@ -13,8 +13,8 @@ use sig_base::Bytes;
 use sig_certificate::{Certificate, X509ReadError, is_leaf};
 use std::alloc::Global;
 
-/// The text of the certificate. `VerificationMaterialContentUnsupported` if and only if there is none to read: no
-/// content, a hint at a key, or a chain, which is not read yet.
+/// The DER of the certificate. Fails with `VerificationMaterialContentUnsupported` if and only if there is none to
+/// read: no content, a hint at a key, or a chain, which is not read yet.
 fn certificate_text(content: &Option<MaterialContent>) -> Result<&Bytes, BundleErrorKind>
     ensures { texts_now result ≡ certificate_texts content.now }
 {
@@ -26,8 +26,8 @@ fn certificate_text(content: &Option<MaterialContent>) -> Result<&Bytes, BundleE
     }
 }
 
-/// The one certificate of a bundle, which has to be a leaf. `CertificateMalformed` where the text is none, `NoLeaf`
-/// where it is no leaf.
+/// The one certificate of a bundle, which has to be a leaf. Fails with `CertificateMalformed` if the bytes are none,
+/// and with `NoLeaf` if it is no leaf.
 fn sole_certificate(alloc: Global, text: &[u8]) -> Result<Certificate, BundleErrorKind>
     ensures { AnswersOnly BundleErrorKind.OutOfMemory (IsSigningCertificateAmong (Ok (text.now ∷ []))) result }
 {
@@ -44,9 +44,9 @@ fn sole_certificate(alloc: Global, text: &[u8]) -> Result<Certificate, BundleErr
 
 /// Returns the signing certificate.
 ///
-/// `VerificationMaterialContentUnsupported` if and only if the material holds no certificate: no content, a hint at a
-/// key, or a chain, which is not read yet. Then `CertificateMalformed` where the text is no certificate, and `NoLeaf`
-/// where it is no leaf.
+/// Fails with `VerificationMaterialContentUnsupported` if and only if the material holds no certificate: no content, a
+/// hint at a key, or a chain, which is not read yet; then with `CertificateMalformed` if the bytes are no certificate,
+/// and with `NoLeaf` if it is no leaf.
 pub(crate) fn signing_certificate(
     alloc: Global,
     content: &Option<MaterialContent>,

@@ -2,7 +2,7 @@
 ghost use Rattle.std.specs.Prelude.{◌≡◌, IfOk, Option, Some};
 ghost use Rattle.sig_json.specs.Data.{Data};
 ghost use Rattle.sig_bundle.specs.BundleRecord.{digest_of, envelope_of, message_signature_of, signature_of};
-ghost use Rattle.sig_bundle.specs.BundleTree.{content_row, digest_tree, envelope_tree, message_signature_tree};
+ghost use Rattle.sig_bundle.specs.BundleTree.{content_row, digest_tree, envelope_tree, message_tree};
 ghost use Rattle.sig_bundle.specs.BundleTree.{signature_tree};
 ghost use Rattle.sig_bundle.specs.ReadBack.{ContentIsRead};
 ghost use Rattle.sig_bundle.specs.Written.{IsReadAs, members, put_some};
@@ -40,11 +40,11 @@ enum MessageSignatureWriter {}
 impl ElementWriter for MessageSignatureWriter {
     type Item = MessageSignature;
 
-    ghost written = { message_signature_tree };
+    ghost written = { message_tree };
 
     ghost meaning = { message_signature_of };
 
-    #[tactic(auto, using(crate::proofs::MaterialBack::back), unfolding(crate::specs::BundleTree::message_signature_tree))]
+    #[tactic(auto, using(crate::proofs::MaterialBack::back), unfolding(crate::specs::BundleTree::message_tree))]
     fn write(alloc: Global, item: &MessageSignature) -> Result<Document, OutOfMemory> {
         let signature = write_bytes(alloc, item.signature.as_slice())?;
         let digest = write_option::<DigestWriter>(alloc, &item.message_digest)?;

@@ -14,7 +14,7 @@ abbrev pub listed : Option ArtifactDigest → List ArtifactDigest
 listed None = []
 listed (Some digest) = digest ∷ []
 
--- the same answer, as a list
+-- the same result, as a list
 abbrev pub listing : Result (Option ArtifactDigest) SubjectFault → Result (List ArtifactDigest) SubjectFault
 listing (Ok digest) = Ok (listed digest)
 listing (Err e) = Err e

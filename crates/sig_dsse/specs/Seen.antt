@@ -1,4 +1,4 @@
--- The statement that a value of the code stands for.
+-- The statement that a value of the code is.
 use Rattle.std.specs.Prelude.{map, option_map}
 use Rattle.sig_json.specs.Tree.{document_tree}
 use Rattle.sig_dsse.specs.Statement.{Subject, Statement}

@@ -33,7 +33,7 @@ impl ElementReader for DigestMapReader {
 
     ghost meaning = { digest_map_in };
 
-    // `annotations` may be anything, so no object is refused for them.
+    // `annotations` may be anything, so no object is rejected for them.
     #[tactic(auto, using(crate::proofs::DigestsAlone::of_subject))]
     fn read(alloc: Global, json: Json<'_>) -> Result<TextMap, MemberError> {
         optional::<TextTest>(alloc, json, "name")?;
@@ -49,7 +49,7 @@ impl ElementReader for DigestMapsReader {
 
     ghost meaning = { digest_maps_in };
 
-    // `predicate` may be anything, so no object is refused for it.
+    // `predicate` may be anything, so no object is rejected for it.
     #[tactic(auto, using(crate::proofs::DigestsAlone::of_statement))]
     fn read(alloc: Global, json: Json<'_>) -> Result<Register<TextMap>, MemberError> {
         required::<TextTest>(alloc, json, "_type")?;

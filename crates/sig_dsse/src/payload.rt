@@ -47,8 +47,8 @@ impl From<SubjectFault> for PayloadFault {
 /// The digests of the statement that a payload is, as [`recognized_digests`](crate::recognized_digests) takes them. Of
 /// the statement nothing but its subjects' digests is copied.
 ///
-/// Fails with `NoStatement` if and only if [`InTotoStatementV1::from_json`](crate::InTotoStatementV1::from_json)
-/// refuses the payload, then with `Subjects` and the fault that `recognized_digests` has.
+/// Fails with `NoStatement` if and only if [`InTotoStatementV1::from_json`](crate::InTotoStatementV1::from_json) fails
+/// on the payload, then with `Subjects` and the fault that `recognized_digests` has.
 #[tactic(auto, using(crate::proofs::DigestsAlone::of_payload))]
 pub fn payload_digests(alloc: Global, payload: &[u8]) -> Result<Digests, PayloadFault>
     ensures { Answers PayloadFault.OutOfMemory (λ digests. digests) result (digests_of_payload payload.now) }

@@ -48,7 +48,7 @@ const STATEMENT_V1: &str = "https://in-toto.io/Statement/v1";
 /// The predicate of a signature by `cosign`.
 const COSIGN_SIGN_V1: &str = "https://sigstore.dev/cosign/sign/v1";
 
-/// The refusal of a statement that is not of the form that is wanted.
+/// The error for a statement that is not of the form that is wanted.
 fn unexpected(kind: UnexpectedKind) -> SigstoreError
     ensures { result ≡ UnexpectedError kind }
 {

@@ -58,7 +58,7 @@ impl InTotoStatementV1 {
     /// The statement that a payload is. Fails with `UnexpectedError` of `Statement` if and only if the bytes are no
     /// JSON document without floats, or a member is not as it has to be: `_type` and `predicateType` texts, `subject`
     /// a list, `predicate` anything or absent; in a subject `digest` an object of texts, `name` a text or absent,
-    /// `annotations` anything or absent. Null stands for absent, but not inside a list or a digest; other members are
+    /// `annotations` anything or absent. Null means absent, but not inside a list or a digest; other members are
     /// ignored.
     #[tactic(auto, unfolding(crate::specs::Statement::statement_of))]
     pub fn from_json(alloc: Global, bytes: &[u8]) -> Answer<InTotoStatementV1>
