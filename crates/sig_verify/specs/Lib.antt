@@ -1,0 +1,5 @@
+pub mod ContentCheck
+pub mod Errors
+pub mod IssuerCheck
+pub mod Link
+pub mod Verifier

@@ -1,0 +1,80 @@
+//! `Verifier`: what bundles are verified against.
+ghost use Rattle.std.specs.Prelude.{◌≡◌, IfOk, IfErr};
+ghost use Rattle.sig_x509.specs.Issuance.{AreAnchors};
+ghost use Rattle.sig_verify.specs.Verifier.{HasKeys, IsRefusedPool, IsRefusedRoot, IsVerifierOf, values_of};
+
+use sig_base::{Entries, KeyMap, OutOfMemory, PoolError, SigstoreError};
+use sig_root::TrustRoot;
+use sig_x509::{CertificatePool, Keyring};
+use std::alloc::Global;
+use std::marker::Model;
+
+/// The trust anchors and the keys of Certificate Transparency logs that bundles are verified against. Contracts see
+/// both.
+#[derive(Drop)]
+pub struct Verifier {
+    pub(crate) pool: CertificatePool,
+    pub(crate) keyring: Keyring,
+}
+
+impl Model for Verifier {
+    ghost use Rattle.sig_verify.specs.Verifier.{Trusted};
+
+    ghost Value = { Trusted };
+
+    ghost view = { λ v. record { anchors = v.pool; ring = v.keyring } };
+}
+
+impl Verifier {
+    /// Returns a verifier that trusts what a trust root trusts at this time, in whole seconds since 1970. Errors, the
+    /// first that applies:
+    ///
+    /// - the error of the trust root's `fulcio_certs`;
+    /// - `CertificatePoolError(Anchor)` with the index of the first of these certificates that is no trust anchor;
+    /// - the error of its `ctfe_keys`;
+    /// - `OutOfMemory`.
+    pub fn new<R: TrustRoot>(alloc: Global, trust_repo: &R, now: i64) -> sig_base::Result<Verifier>
+        ensures made { IfOk result (IsVerifierOf (R.authorities_at trust_repo.now now) (R.ct_keys_at trust_repo.now now)) }
+        ensures refused { IfErr result (IsRefusedRoot (R.authorities_at trust_repo.now now) (R.ct_keys_at trust_repo.now now)) }
+    {
+        let certs = trust_repo.fulcio_certs(alloc, now)?;
+        let pool = pool_of(alloc, &certs)?;
+        let keys = trust_repo.ctfe_keys(alloc, now)?;
+        let keyring = keyring_of(alloc, &keys)?;
+        Ok(Verifier { pool, keyring })
+    }
+}
+
+/// Returns the pool of these trust anchors.
+fn pool_of(alloc: Global, certs: &Entries) -> sig_base::Result<CertificatePool>
+    ensures made { IfOk result (AreAnchors certs.now) }
+    ensures refused { IfErr result (IsRefusedPool certs.now) }
+{
+    match CertificatePool::from_certificates(alloc, certs) {
+        Ok(pool) => Ok(pool),
+        Err(PoolError::OutOfMemory) => Err(SigstoreError::OutOfMemory),
+        Err(error) => Err(SigstoreError::CertificatePoolError(error)),
+    }
+}
+
+/// Returns the keyring of the keys of a map. Fails if out of memory alone.
+fn keyring_of(alloc: Global, keys: &KeyMap) -> Result<Keyring, OutOfMemory>
+    ensures { IfOk result (HasKeys keys.now) }
+{
+    let values = values_of(alloc, keys)?;
+    match Keyring::new(alloc, &values) {
+        Ok(keyring) => Ok(keyring),
+        Err(_) => Err(OutOfMemory),
+    }
+}
+
+/// Returns the values of a map in order. Fails if out of memory alone.
+fn values_of(alloc: Global, keys: &KeyMap) -> Result<Entries, OutOfMemory>
+    ensures { IfOk result (λ values. values ≡ values_of keys.now) }
+{
+    let mut values = Entries::new(alloc);
+    'entries: for (_, value) in keys.iter() {
+        values.push(value)?;
+    }
+    Ok(values)
+}
