@@ -1,2 +1,4 @@
+pub mod Chains
 pub mod Issuers
 pub mod Scts
+pub mod Verdicts

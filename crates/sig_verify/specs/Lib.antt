@@ -2,4 +2,8 @@ pub mod ContentCheck
 pub mod Errors
 pub mod IssuerCheck
 pub mod Link
+pub mod LogEntry
+pub mod OfflineErrors
+pub mod OfflineVerdict
+pub mod Verdict
 pub mod Verifier

@@ -1,19 +1,29 @@
 //! The chain of trust of a signed bundle: which links it has, and whether each holds.
 //!
-//! The layer above uses three facts. A [`Verifier`] is made if and only if its trust root has authorities, each
-//! certificate of them is a trust anchor, and it has keys of Certificate Transparency logs. Each check returns `Ok` if
-//! and only if its links hold, and else the error of the first that fails. Signatures are genuine if the handed
+//! The layer above uses one fact. [`verify_offline`] returns what the five groups of links make of the two texts, one
+//! behind the other: the error of the first that fails, or the entry that a log vouches for, with its proof. Each group
+//! is a call with a contract of its own: the two readers, [`Verifier::new`], the bundle's own checks and
+//! [`Verifier::verify_digest_with`], [`verify_log_entry`]. Signatures are genuine if the handed
 //! [`SignatureChecker`](sig_base::SignatureChecker) says so, and every fact here is relative to it.
 #![tactic(auto)]
 
+mod chain;
 mod content_check;
 mod error;
 mod issuer_check;
 mod link;
+mod log_entry;
+mod offline;
+mod offline_error;
 mod verifier;
+mod verify;
 
+pub use chain::verify_offline;
 pub use error::{CertificateErrorKind, SignatureErrorKind, VerificationError, VerificationResult};
 pub use link::Link;
+pub use log_entry::verify_log_entry;
+pub use offline::Offline;
+pub use offline_error::{OfflineError, Part};
 pub use sig_root::{
     CertificateAuthority, ManualTrustRoot, PublicKey, SigstoreTrustRoot, TimeRange,
     TransparencyLogInstance, TrustRoot, TrustedRoot, read_trusted_root,

@@ -1,0 +1,77 @@
+-- The links `material` to `time` of a bundle, as one answer: the first of them that fails, or none. The steps before the
+-- policy, behind it, and behind the log's body are each an answer of their own.
+use Rattle.std.specs.Prelude.{◌≡◌, ◌⊎◌, Bool, true, false, Result, Ok, Err}
+use Rattle.sig_bundle.specs.Checked.{Checked, IsChecked}
+use Rattle.sig_bundle.specs.LogBody.{IsLogBody, NeedsNoFetch}
+use Rattle.sig_bundle.specs.declared.bundle.Bundle.{Bundle as BundleType}
+use Rattle.sig_bundle.specs.declared.bundle_error.BundleErrorKind.{BundleErrorKind}
+use Rattle.sig_certificate.specs.Certificate.{Cert}
+use Rattle.sig_dsse.specs.declared.artifact_digest.ArtifactDigest.{ArtifactDigest}
+use Rattle.sig_policy.specs.Refusals.{Refusal, IsRefusal}
+use Rattle.sig_policy.specs.declared.failure.PolicyError.{PolicyError}
+use Rattle.sig_x509.specs.Issuance.{Accepts}
+use Rattle.sig_verify.specs.ContentCheck.{AcceptsSpki, content_answer, time_answer}
+use Rattle.sig_verify.specs.IssuerCheck.{AcceptsPoint, issued_answer}
+use Rattle.sig_verify.specs.Verifier.{Trusted}
+use Rattle.sig_verify.specs.declared.error.SignatureErrorKind.TheVariants.{Transparency}
+use Rattle.sig_verify.specs.declared.error.VerificationError.{VerificationError}
+use Rattle.sig_verify.specs.declared.error.VerificationError.TheVariants.{Bundle, Policy, Signature}
+
+-- what a checker accepts: signatures over messages and over digests under a key, under a point, and of certificates
+pub record Checker : Type 0 where
+  pub spki : AcceptsSpki
+  pub prehash : AcceptsSpki
+  pub point : AcceptsPoint
+  pub cert : Accepts
+
+-- of which certificates a policy holds, and its refusal of each other
+pub record PolicyOf : Type 0 where
+  pub holds : Cert → Bool
+  pub refusal : Cert → Refusal
+
+abbrev pub Answer : Type 0
+Answer = Result (Unit {0}) VerificationError
+
+-- ---- what comes behind a step, which ends the steps where it fails
+
+abbrev pub After : Answer → (Answer → Type 0) → Answer → Type 0
+After (Ok _) Next result = Next result
+After (Err error) Next result = result ≡ Err error
+
+abbrev pub AfterPolicy : Bool → Refusal → (Answer → Type 0) → Answer → Type 0
+AfterPolicy true refusal Next result = Next result
+AfterPolicy false refusal Next result = (why : PolicyError) × (result ≡ Err (Policy why)) × IsRefusal refusal why
+
+-- the log's body is about the bundle, and nothing has to be fetched
+abbrev pub HasBody : Checked → Bool → Type 0
+HasBody c offline = IsLogBody c × NeedsNoFetch offline c.entry
+
+abbrev pub AfterBody : Checked → Bool → (Answer → Type 0) → Answer → Type 0
+AfterBody c offline Next result =
+    (HasBody c offline × Next result) ⊎ (¬ HasBody c offline × (result ≡ Err (Signature Transparency)))
+
+-- ---- the steps
+
+-- `body` and `time`
+abbrev pub IsLogged : Bool → Checked → Answer → Type 0
+IsLogged offline c = AfterBody c offline (λ last. last ≡ time_answer c)
+
+-- `key`, `signature` and `subject`, and those
+abbrev pub IsSigned : Checker → ArtifactDigest → Bool → Checked → Answer → Type 0
+IsSigned k d offline c = After (content_answer k.spki k.prehash d c) (IsLogged offline c)
+
+-- `policy`, and those
+abbrev pub IsAllowed : Checker → PolicyOf → ArtifactDigest → Bool → Checked → Answer → Type 0
+IsAllowed k policy d offline c =
+    AfterPolicy (policy.holds c.certificate) (policy.refusal c.certificate) (IsSigned k d offline c)
+
+-- `issuance`, `issuer` and `sct`, and those
+abbrev pub IsTrusted : Checker → Trusted → PolicyOf → ArtifactDigest → Bool → Checked → Answer → Type 0
+IsTrusted k trusted policy d offline c =
+    After (issued_answer k.cert k.point trusted c.certificate) (IsAllowed k policy d offline c)
+
+-- `material` to `profile`, and those
+abbrev pub IsVerdict : Checker → Trusted → PolicyOf → ArtifactDigest → Bool → BundleType → Answer → Type 0
+IsVerdict k trusted policy d offline bundle result =
+    ((kind : BundleErrorKind) × IsChecked bundle (Err kind) × (result ≡ Err (Bundle kind)))
+    ⊎ ((c : Checked) × IsChecked bundle (Ok c) × IsTrusted k trusted policy d offline c result)

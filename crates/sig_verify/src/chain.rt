@@ -1,0 +1,140 @@
+//! Whether a signed bundle is trusted, without a network.
+ghost use Rattle.std.specs.Prelude.{◌≡◌};
+ghost use Rattle.sig_base.specs.Answers.{UnlessMemory};
+ghost use Rattle.sig_verify.specs.OfflineVerdict.{entry_of, IsOffline, IsOfflineIn, IsOfflineOf, IsOfflineUnder, IsVouchedIn};
+ghost use Rattle.sig_verify.specs.OfflineVerdict.{lent_entry};
+
+use crate::log_entry::verify_log_entry;
+use crate::offline::Offline;
+use crate::offline_error::{OfflineError, Part, json_error, root_error};
+use crate::verifier::Verifier;
+use sig_base::SignatureChecker;
+use sig_bundle::{ArtifactDigest, Bundle, TransparencyLogEntry, read_bundle};
+use sig_root::{SigstoreTrustRoot, TrustRoot, read_trusted_root};
+use sig_x509::VerificationPolicy;
+use std::alloc::Global;
+
+/// Checks every link of the chain of trust of a bundle for an artifact of this digest, at a time in whole seconds since
+/// 1970, and returns the log entry with its proof. The error is that of the first link that fails, in the order of
+/// [`Link`](crate::Link): those of the two texts, of [`Verifier::new`], of [`Verifier::verify_digest_with`] with
+/// `offline`, and of [`verify_log_entry`] under the keys of the root's logs at that time; or `OutOfMemory`.
+pub fn verify_offline<P: VerificationPolicy, C: SignatureChecker>(
+    alloc: Global,
+    trusted_root: &[u8],
+    now: i64,
+    digest: &ArtifactDigest,
+    bundle: &[u8],
+    policy: &P,
+    checker: &C,
+) -> Result<Offline, OfflineError>
+    ensures { UnlessMemory OfflineError.OutOfMemory result (IsOffline
+        (record { spki = C.spki_accepts checker.now; prehash = C.prehash_accepts checker.now; point = C.point_accepts checker.now; cert = C.cert_accepts checker.now })
+        (record { holds = P.holds policy.now; refusal = P.refusal policy.now })
+        trusted_root.now now digest.now bundle.now result) }
+{
+    match read_trusted_root(alloc, trusted_root) {
+        Ok(root) => {
+            let root = SigstoreTrustRoot::of(root);
+            verify_text(alloc, &root, now, digest, bundle, policy, checker)
+        }
+        Err(error) => Err(json_error(Part::Root, error)),
+    }
+}
+
+/// The links behind `root-json`.
+fn verify_text<P: VerificationPolicy, C: SignatureChecker>(
+    alloc: Global,
+    root: &SigstoreTrustRoot,
+    now: i64,
+    digest: &ArtifactDigest,
+    bundle: &[u8],
+    policy: &P,
+    checker: &C,
+) -> Result<Offline, OfflineError>
+    ensures { UnlessMemory OfflineError.OutOfMemory result (IsOfflineIn
+        (record { spki = C.spki_accepts checker.now; prehash = C.prehash_accepts checker.now; point = C.point_accepts checker.now; cert = C.cert_accepts checker.now })
+        (record { holds = P.holds policy.now; refusal = P.refusal policy.now })
+        root.now now digest.now bundle.now result) }
+{
+    match read_bundle(alloc, bundle) {
+        Ok(bundle) => verify_read(alloc, root, now, digest, &bundle, policy, checker),
+        Err(error) => Err(json_error(Part::Bundle, error)),
+    }
+}
+
+/// The links behind `bundle-json`.
+fn verify_read<P: VerificationPolicy, C: SignatureChecker>(
+    alloc: Global,
+    root: &SigstoreTrustRoot,
+    now: i64,
+    digest: &ArtifactDigest,
+    bundle: &Bundle,
+    policy: &P,
+    checker: &C,
+) -> Result<Offline, OfflineError>
+    ensures { UnlessMemory OfflineError.OutOfMemory result (IsOfflineOf
+        (record { spki = C.spki_accepts checker.now; prehash = C.prehash_accepts checker.now; point = C.point_accepts checker.now; cert = C.cert_accepts checker.now })
+        (record { holds = P.holds policy.now; refusal = P.refusal policy.now })
+        root.now now digest.now bundle.now result) }
+{
+    match Verifier::new(alloc, root, now) {
+        Ok(verifier) => verify_under(alloc, &verifier, root, now, digest, bundle, policy, checker),
+        Err(error) => Err(root_error(error)),
+    }
+}
+
+/// The links behind `ctfe`.
+fn verify_under<P: VerificationPolicy, C: SignatureChecker>(
+    alloc: Global,
+    verifier: &Verifier,
+    root: &SigstoreTrustRoot,
+    now: i64,
+    digest: &ArtifactDigest,
+    bundle: &Bundle,
+    policy: &P,
+    checker: &C,
+) -> Result<Offline, OfflineError>
+    ensures { UnlessMemory OfflineError.OutOfMemory result (IsOfflineUnder
+        (record { spki = C.spki_accepts checker.now; prehash = C.prehash_accepts checker.now; point = C.point_accepts checker.now; cert = C.cert_accepts checker.now })
+        (record { holds = P.holds policy.now; refusal = P.refusal policy.now })
+        root.now now digest.now bundle.now verifier.now result) }
+{
+    match verifier.verify_digest_with(alloc, digest, bundle, policy, true, checker) {
+        Ok(()) => verify_entry(alloc, root, now, bundle, checker),
+        Err(error) => Err(OfflineError::from(error)),
+    }
+}
+
+/// The links behind `time`.
+fn verify_entry<C: SignatureChecker>(
+    alloc: Global,
+    root: &SigstoreTrustRoot,
+    now: i64,
+    bundle: &Bundle,
+    checker: &C,
+) -> Result<Offline, OfflineError>
+    ensures { UnlessMemory OfflineError.OutOfMemory result (IsVouchedIn
+        (C.spki_accepts checker.now) root.now now bundle.now result) }
+{
+    // Both give up only if memory runs out: a bundle that passed its own checks has one entry.
+    let Some(entry) = entry_of(bundle) else {
+        return Err(OfflineError::OutOfMemory);
+    };
+    match root.rekor_keys(alloc, now) {
+        Ok(keys) => verify_log_entry(alloc, entry, &keys, checker),
+        Err(_) => Err(OfflineError::OutOfMemory),
+    }
+}
+
+/// The only log entry of a bundle.
+fn entry_of(bundle: &Bundle) -> Option<&TransparencyLogEntry>
+    ensures { lent_entry result ≡ entry_of bundle.now }
+{
+    match &bundle.verification_material {
+        Some(material) => match material.tlog_entries.as_slice() {
+            [entry] => Some(entry),
+            _ => None,
+        },
+        None => None,
+    }
+}

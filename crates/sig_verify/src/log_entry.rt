@@ -1,0 +1,166 @@
+//! Whether a log vouches for an entry.
+ghost use Rattle.std.specs.Prelude.{◌≡◌, IsSome, OnOk};
+ghost use Rattle.sig_base.specs.Answers.{Answers};
+ghost use Rattle.sig_key.specs.Key.{key_accepts};
+ghost use Rattle.sig_key.specs.Kind.{key_parts};
+ghost use Rattle.sig_verify.specs.LogEntry.{entry_answer, fields_answer, id_answer, included, inclusion_answer, key_answer};
+ghost use Rattle.sig_verify.specs.LogEntry.{lent_id, promise_answer, read_key, vouched};
+
+use crate::offline::Offline;
+use crate::offline_error::{OfflineError, proof_error};
+use sig_base::{Bytes, KeyMap, SignatureChecker, SigstoreError, Text};
+use sig_bundle::{ProofFields, TransparencyLogEntry, promise_text};
+use sig_key::CosignVerificationKey;
+use sig_rekor::InclusionProof;
+use std::alloc::Global;
+
+/// Checks that a log vouches for an entry, by a promise and by a proof, under the key of its log id among these.
+/// Returns the entry's body and its proof with the decoded checkpoint. Errors, the first that applies:
+///
+/// - `LogIdMissing`: the entry names no log;
+/// - `RekorPublicKeyNotFoundError` with the log id in lower-case hexadecimal: there is no key of it;
+/// - `KeyParsingError`: the key is no SubjectPublicKeyInfo (RFC 5280 section 4.1.2.7);
+/// - `PublicKeyUnsupportedAlgorithmError`: it is of a kind that no signature is checked with;
+/// - `PromiseMissing`: the entry has no promise;
+/// - `PromiseInteger`: its time or its index is beyond plus or minus 2^53 - 1;
+/// - `Promise`: the key did not sign the promise;
+/// - `ProofMissing`: the entry has no inclusion proof;
+/// - `RootLength`, `HashLength`, `TreeSize`, `CheckpointMissing`, `ParseCheckpointError`: the proof cannot be read, as
+///   [`ProofFields::to_proof`] says;
+/// - `CheckpointSignatureVerificationError`: the key did not sign the checkpoint;
+/// - `ConsistencyProofError`: the checkpoint is of another tree;
+/// - `InclusionProofError`: the audit path does not lead from the entry to the root (RFC 6962 section 2.1.1);
+/// - `OutOfMemory`.
+pub fn verify_log_entry<C: SignatureChecker>(
+    alloc: Global,
+    entry: &TransparencyLogEntry,
+    log_keys: &KeyMap,
+    checker: &C,
+) -> Result<Offline, OfflineError>
+    ensures { Answers OfflineError.OutOfMemory (λ offline. offline) result
+        (entry_answer (C.spki_accepts checker.now) log_keys.now entry.now) }
+{
+    let key = log_key(alloc, entry, log_keys)?;
+    vouched(alloc, entry, &key, checker)
+}
+
+/// The links behind `log-key`.
+fn vouched<C: SignatureChecker>(
+    alloc: Global,
+    entry: &TransparencyLogEntry,
+    key: &CosignVerificationKey,
+    checker: &C,
+) -> Result<Offline, OfflineError>
+    requires { IsSome entry.now.log_id }
+    ensures { Answers OfflineError.OutOfMemory (λ offline. offline) result
+        (vouched (key_accepts (C.spki_accepts checker.now) key.now) entry.now) }
+{
+    check_promise(alloc, entry, key, checker)?;
+    let proof = proof_of(alloc, &entry.inclusion_proof)?;
+    included(alloc, entry, proof, key, checker)
+}
+
+/// The links behind `checkpoint`.
+fn included<C: SignatureChecker>(
+    alloc: Global,
+    entry: &TransparencyLogEntry,
+    proof: InclusionProof,
+    key: &CosignVerificationKey,
+    checker: &C,
+) -> Result<Offline, OfflineError>
+    ensures { Answers OfflineError.OutOfMemory (λ offline. offline) result
+        (included (key_accepts (C.spki_accepts checker.now) key.now) entry.now proof) }
+{
+    check_proof(alloc, entry, &proof, key, checker)?;
+    let body = entry.canonicalized_body.copy(alloc)?;
+    Ok(Offline { body, proof })
+}
+
+/// The link `log-key`: the key of the entry's log.
+fn log_key(
+    alloc: Global,
+    entry: &TransparencyLogEntry,
+    log_keys: &KeyMap,
+) -> Result<CosignVerificationKey, OfflineError>
+    ensures key { Answers OfflineError.OutOfMemory key_parts result (key_answer log_keys.now entry.now.log_id) }
+    ensures named { OnOk result (IsSome entry.now.log_id) }
+{
+    let id = id_of(&entry.log_id)?;
+    let name = Text::from(hex::encode(alloc, id.as_slice())?);
+    match log_keys.get(name.as_str()) {
+        Some(der) => key_of(alloc, der),
+        None => Err(OfflineError::RekorPublicKeyNotFoundError(name)),
+    }
+}
+
+/// The id of the entry's log.
+fn id_of(id: &Option<Bytes>) -> Result<&Bytes, OfflineError>
+    ensures { lent_id result ≡ id_answer id.now }
+{
+    match id {
+        Some(id) => Ok(id),
+        None => Err(OfflineError::LogIdMissing),
+    }
+}
+
+/// The key that these bytes are.
+fn key_of(alloc: Global, der: &[u8]) -> Result<CosignVerificationKey, OfflineError>
+    ensures { Answers OfflineError.OutOfMemory key_parts result (read_key der.now) }
+{
+    match CosignVerificationKey::try_from_der(alloc, der) {
+        Ok(key) => Ok(key),
+        Err(SigstoreError::OutOfMemory) => Err(OfflineError::OutOfMemory),
+        Err(SigstoreError::KeyParsingError) => Err(OfflineError::KeyParsingError),
+        Err(_) => Err(OfflineError::PublicKeyUnsupportedAlgorithmError),
+    }
+}
+
+/// The link `promise`: whether the key signed a promise to include the entry.
+fn check_promise<C: SignatureChecker>(
+    alloc: Global,
+    entry: &TransparencyLogEntry,
+    key: &CosignVerificationKey,
+    checker: &C,
+) -> Result<(), OfflineError>
+    requires { IsSome entry.now.log_id }
+    ensures { Answers OfflineError.OutOfMemory (λ done. done) result
+        (promise_answer (key_accepts (C.spki_accepts checker.now) key.now) entry.now) }
+{
+    let Some(promise) = &entry.inclusion_promise else {
+        return Err(OfflineError::PromiseMissing);
+    };
+    let text = promise_text(alloc, entry)?;
+    if key.accepts(promise.as_slice(), text.as_str().as_bytes(), checker) {
+        Ok(())
+    } else {
+        Err(OfflineError::Promise)
+    }
+}
+
+/// The links `proof` and `checkpoint`: the entry's proof.
+fn proof_of(alloc: Global, fields: &Option<ProofFields>) -> Result<InclusionProof, OfflineError>
+    ensures { Answers OfflineError.OutOfMemory (λ proof. proof) result (fields_answer fields.now) }
+{
+    match fields {
+        Some(fields) => Ok(fields.to_proof(alloc)?),
+        None => Err(OfflineError::ProofMissing),
+    }
+}
+
+/// The links `note-key`, `note-match` and `inclusion`: whether the key signed the proof's checkpoint, which is of the
+/// proof's tree, and the audit path leads from the entry's body to its root. The index is the proof's own.
+fn check_proof<C: SignatureChecker>(
+    alloc: Global,
+    entry: &TransparencyLogEntry,
+    proof: &InclusionProof,
+    key: &CosignVerificationKey,
+    checker: &C,
+) -> Result<(), OfflineError>
+    ensures { Answers OfflineError.OutOfMemory (λ done. done) result
+        (inclusion_answer (key_accepts (C.spki_accepts checker.now) key.now) entry.now.canonicalized_body proof.now) }
+{
+    match proof.verify(alloc, entry.canonicalized_body.as_slice(), key, checker) {
+        Ok(()) => Ok(()),
+        Err(error) => Err(proof_error(error)),
+    }
+}

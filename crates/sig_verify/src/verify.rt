@@ -1,0 +1,128 @@
+//! Whether a bundle verifies against a verifier.
+ghost use Rattle.std.specs.Prelude.{◌≡◌};
+ghost use Rattle.sig_base.specs.Answers.{UnlessMemory};
+ghost use Rattle.sig_verify.specs.Verdict.{IsAllowed, IsLogged, IsSigned, IsTrusted, IsVerdict};
+
+use crate::content_check::{check_content, check_time};
+use crate::error::{SignatureErrorKind, VerificationError, VerificationResult};
+use crate::verifier::Verifier;
+use sig_base::SignatureChecker;
+use sig_bundle::{ArtifactDigest, Bundle, CheckedBundle};
+use sig_x509::VerificationPolicy;
+use std::alloc::Global;
+
+impl Verifier {
+    /// Checks that a bundle is one of an artifact of this digest, whose certificate is trusted and meets the policy,
+    /// and that a log's entry is about it. If not `offline`, an entry without an inclusion proof is about nothing.
+    /// Neither the log's promise nor its proof is checked; `verify_log_entry` does both. Errors, the first that
+    /// applies:
+    ///
+    /// - `Bundle`, as of [`CheckedBundle::try_from_bundle`];
+    /// - `Certificate` of `Malformed`: the certificate has not the profile of one that a trust anchor may issue;
+    /// - `Certificate` of `VerificationFailed`: no trust anchor issued it at the first second of its validity;
+    /// - `Certificate` of `Sct`: no Certificate Transparency log vouches for it;
+    /// - `Policy` of the policy's refusal;
+    /// - `Signature` of `AlgoUnsupported`: its key is of a kind that no signature is checked with;
+    /// - `Signature` of `DigestAlgorithmUnsupported`: a signature over an artifact, and the digest is not SHA-256;
+    /// - `Signature` of `VerificationFailed`: the checker does not accept the signature;
+    /// - `Signature` of `SubjectDigestMismatch`: no subject of the statement has the digest;
+    /// - `Signature` of `Transparency`: the log's entry is not about the bundle;
+    /// - `Certificate` of `Expired`: the log took the entry while the certificate was not valid, both ends included;
+    /// - `OutOfMemory`.
+    pub fn verify_digest_with<P: VerificationPolicy, C: SignatureChecker>(
+        &self,
+        alloc: Global,
+        input_digest: &ArtifactDigest,
+        bundle: &Bundle,
+        policy: &P,
+        offline: bool,
+        checker: &C,
+    ) -> VerificationResult
+        ensures { UnlessMemory VerificationError.OutOfMemory result (IsVerdict
+            (record { spki = C.spki_accepts checker.now; prehash = C.prehash_accepts checker.now; point = C.point_accepts checker.now; cert = C.cert_accepts checker.now })
+            self.now (record { holds = P.holds policy.now; refusal = P.refusal policy.now })
+            input_digest.now offline bundle.now result) }
+    {
+        match CheckedBundle::try_from_bundle(alloc, bundle) {
+            Ok(checked) => {
+                self.verify_checked(alloc, input_digest, &checked, policy, offline, checker)
+            }
+            Err(kind) => Err(VerificationError::from(kind)),
+        }
+    }
+
+    /// The links `issuance`, `issuer` and `sct`, and those behind them.
+    fn verify_checked<P: VerificationPolicy, C: SignatureChecker>(
+        &self,
+        alloc: Global,
+        digest: &ArtifactDigest,
+        bundle: &CheckedBundle,
+        policy: &P,
+        offline: bool,
+        checker: &C,
+    ) -> VerificationResult
+        ensures { UnlessMemory VerificationError.OutOfMemory result (IsTrusted
+            (record { spki = C.spki_accepts checker.now; prehash = C.prehash_accepts checker.now; point = C.point_accepts checker.now; cert = C.cert_accepts checker.now })
+            self.now (record { holds = P.holds policy.now; refusal = P.refusal policy.now })
+            digest.now offline bundle.now result) }
+    {
+        match self.check_issuer(alloc, bundle.certificate(), checker) {
+            Ok(()) => verify_allowed(alloc, digest, bundle, policy, offline, checker),
+            Err(error) => Err(error),
+        }
+    }
+}
+
+/// The link `policy`, and those behind it.
+fn verify_allowed<P: VerificationPolicy, C: SignatureChecker>(
+    alloc: Global,
+    digest: &ArtifactDigest,
+    bundle: &CheckedBundle,
+    policy: &P,
+    offline: bool,
+    checker: &C,
+) -> VerificationResult
+    ensures { UnlessMemory VerificationError.OutOfMemory result (IsAllowed
+        (record { spki = C.spki_accepts checker.now; prehash = C.prehash_accepts checker.now; point = C.point_accepts checker.now; cert = C.cert_accepts checker.now })
+        (record { holds = P.holds policy.now; refusal = P.refusal policy.now })
+        digest.now offline bundle.now result) }
+{
+    match policy.verify(alloc, bundle.certificate()) {
+        Ok(()) => verify_signed(alloc, digest, bundle, offline, checker),
+        Err(refusal) => Err(VerificationError::from(refusal)),
+    }
+}
+
+/// The links `key`, `signature` and `subject`, and those behind them.
+fn verify_signed<C: SignatureChecker>(
+    alloc: Global,
+    digest: &ArtifactDigest,
+    bundle: &CheckedBundle,
+    offline: bool,
+    checker: &C,
+) -> VerificationResult
+    ensures { UnlessMemory VerificationError.OutOfMemory result (IsSigned
+        (record { spki = C.spki_accepts checker.now; prehash = C.prehash_accepts checker.now; point = C.point_accepts checker.now; cert = C.cert_accepts checker.now })
+        digest.now offline bundle.now result) }
+{
+    match check_content(alloc, bundle, digest, checker) {
+        Ok(()) => verify_logged(alloc, digest, bundle, offline),
+        Err(error) => Err(error),
+    }
+}
+
+/// The links `body` and `time`.
+fn verify_logged(
+    alloc: Global,
+    digest: &ArtifactDigest,
+    bundle: &CheckedBundle,
+    offline: bool,
+) -> VerificationResult
+    ensures { UnlessMemory VerificationError.OutOfMemory result (IsLogged offline bundle.now result) }
+{
+    match bundle.tlog_entry(alloc, offline, digest.as_bytes()) {
+        Ok(Some(_)) => check_time(bundle),
+        Ok(None) => Err(VerificationError::Signature(SignatureErrorKind::Transparency)),
+        Err(_) => Err(VerificationError::OutOfMemory),
+    }
+}
