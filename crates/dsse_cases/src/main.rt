@@ -1,8 +1,10 @@
-//! Cases of sig_dsse: encodings and envelopes, the statements that payloads are, and the digests that are taken of them.
+//! Cases of sig_dsse: encodings and envelopes, the statements that payloads are, and the digests that are taken of
+//! them.
 //!
-//! The encoding and the first envelope are the examples of the DSSE protocol, the digests those of FIPS 180-4's examples. Every other line is
-//! written by tools/dsse_cases.py, which has its own reader of statements and its own writer of envelopes, by the DSSE envelope format and the
-//! in-toto attestation framework, over Python's `json`, `base64` and `hashlib`.
+//! The encoding and the first envelope are the examples of the DSSE protocol, the digests those of FIPS 180-4's
+//! examples. Every other line is written by tools/dsse_cases.py, which has its own reader of statements and its own
+//! writer of envelopes, by the DSSE envelope format and the in-toto attestation framework, over Python's `json`,
+//! `base64` and `hashlib`.
 #![tactic(auto)]
 
 mod digests;

@@ -7,8 +7,8 @@ use sig_dsse::{
 use sig_json::{Document, compact};
 use std::alloc::Global;
 
-/// `statement PAYLOAD`: the statement that the payload is: its two types, its predicate, and for each subject the name, the digests and the
-/// annotations; `-` stands for what is absent.
+/// `statement PAYLOAD`: the statement that the payload is: its two types, its predicate, and for each subject the
+/// name, the digests and the annotations; `-` stands for what is absent.
 pub(crate) fn statement(alloc: Global, payload: &str) -> Result<Answer, CaseError> {
     match InTotoStatementV1::from_json(alloc, payload.as_bytes()) {
         Ok(statement) => statement_answer(alloc, &statement),
