@@ -48,7 +48,8 @@ certificates_at now authority = if has_begun now authority.valid_for then unwrap
 -- all certificates of all of them, in order
 abbrev pub authority_certificates : ℤ → List CertificateAuthority → List (List ℕ)
 authority_certificates now [] = []
-authority_certificates now (authority ∷ authorities) = certificates_at now authority ++ authority_certificates now authorities
+authority_certificates now (authority ∷ authorities) = certificates_at now authority ++ authority_certificates now
+    authorities
 
 -- ---- the logs
 

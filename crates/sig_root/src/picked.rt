@@ -1,6 +1,7 @@
 //! What a trusted root has at a time.
 ghost use Rattle.std.specs.Prelude.{◌≡◌, ◌++◌, OnOk, IfOk};
-ghost use Rattle.sig_root.specs.Picked.{authority_certificates, certificates_at, has_begun, holds, keys_of, put_instance};
+ghost use Rattle.sig_root.specs.Picked.{authority_certificates, certificates_at, has_begun, holds, keys_of};
+ghost use Rattle.sig_root.specs.Picked.{put_instance};
 
 use crate::record::{CertificateAuthority, TimeRange, TransparencyLogInstance};
 use sig_base::{Entries, KeyMap, OutOfMemory};

@@ -3,7 +3,8 @@ ghost use Rattle.std.specs.Prelude.{◌≡◌, Option};
 ghost use Rattle.sig_base.specs.Answers.{Answers};
 ghost use Rattle.sig_json.specs.Data.{Data};
 ghost use Rattle.sig_json.specs.Tree.{tree};
-ghost use Rattle.sig_root.specs.RootRecord.{authority_of, certificate_of, chain_of, instance_of, log_id_of, public_key_of};
+ghost use Rattle.sig_root.specs.RootRecord.{authority_of, certificate_of, chain_of, instance_of, log_id_of};
+ghost use Rattle.sig_root.specs.RootRecord.{public_key_of};
 ghost use Rattle.sig_root.specs.TimeText.{second_in};
 ghost use Rattle.sig_root.specs.RootRecord.{range_of, time_of, trusted_root_in, trusted_root_of};
 

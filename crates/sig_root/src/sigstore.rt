@@ -53,7 +53,8 @@ impl SigstoreTrustRoot {
 }
 
 impl TrustRoot for SigstoreTrustRoot {
-    ghost authorities_at = { λ root now. unless_empty Fulcio (authority_certificates now root.certificate_authorities) };
+    ghost authorities_at = { λ root now. unless_empty Fulcio
+        (authority_certificates now root.certificate_authorities) };
 
     ghost log_keys_at = { λ root now. Ok (keys_of now root.tlogs) };
 

@@ -10,7 +10,8 @@ use Rattle.sig_verify.specs.Verdict.{Answer, Checker, IsTrusted, IsVerdict, Poli
 use Rattle.sig_verify.specs.Verifier.{Trusted}
 use Rattle.sig_verify.specs.declared.error.VerificationError.TheVariants.{OutOfMemory}
 
-pub passed_verdict : (k : Checker) (trusted : Trusted) (policy : PolicyOf) (d : ArtifactDigest) (offline : Bool) (b : Bundle) (c : Checked) (result : Answer)
+pub passed_verdict : (k : Checker) (trusted : Trusted) (policy : PolicyOf) (d : ArtifactDigest) (offline : Bool)
+    (b : Bundle) (c : Checked) (result : Answer)
     → (let passed : Result Checked BundleErrorKind = Ok c in (passed ≡ Err bundle.OutOfMemory) ⊎ IsChecked b passed)
     → (result ≡ Err OutOfMemory) ⊎ IsTrusted k trusted policy d offline c result
     → (result ≡ Err OutOfMemory) ⊎ IsVerdict k trusted policy d offline b result

@@ -1,4 +1,5 @@
--- *Signature and subject*, and the time of the log entry: the links `key`, `signature`, `subject` and `time` as one answer.
+-- *Signature and subject*, and the time of the log entry: the links `key`, `signature`, `subject` and `time` as one
+-- answer.
 use Rattle.std.specs.Prelude.{ℕ, int_le, Bool, true, false, ◌&&◌, if◌then◌else◌, List, Result, Ok, Err}
 use Rattle.std.specs.List.{list_any}
 use Rattle.std.specs.Str.{bytes_eq}
@@ -13,7 +14,8 @@ use Rattle.sig_dsse.specs.declared.artifact_digest.ArtifactDigest.TheVariants.{S
 use Rattle.sig_key.specs.Kind.{key_kind, kind_answer}
 use Rattle.sig_verify.specs.declared.error.CertificateErrorKind.TheVariants.{Expired}
 use Rattle.sig_verify.specs.declared.error.SignatureErrorKind.TheVariants.{AlgoUnsupported, VerificationFailed}
-use Rattle.sig_verify.specs.declared.error.SignatureErrorKind.TheVariants.{SubjectDigestMismatch, DigestAlgorithmUnsupported}
+use Rattle.sig_verify.specs.declared.error.SignatureErrorKind.TheVariants.{SubjectDigestMismatch}
+use Rattle.sig_verify.specs.declared.error.SignatureErrorKind.TheVariants.{DigestAlgorithmUnsupported}
 use Rattle.sig_verify.specs.declared.error.VerificationError.{VerificationError}
 use Rattle.sig_verify.specs.declared.error.VerificationError.TheVariants.{Certificate, Signature}
 
@@ -27,7 +29,8 @@ AcceptsUnder = List ℕ → List ℕ → Bool
 
 -- ---- the key
 
-abbrev pub or_unsupported : Result (VerifyScheme × List ℕ) SigstoreError → Result (VerifyScheme × List ℕ) VerificationError
+abbrev pub or_unsupported : Result (VerifyScheme × List ℕ) SigstoreError
+    → Result (VerifyScheme × List ℕ) VerificationError
 or_unsupported (Ok key) = Ok key
 or_unsupported (Err error) = Err (Signature AlgoUnsupported)
 
@@ -42,7 +45,8 @@ if_accepted true = Ok tt
 if_accepted false = Err (Signature VerificationFailed)
 
 -- over the encoding of an envelope, or over the artifact by its SHA-256 digest
-abbrev pub signature_answer : AcceptsUnder → AcceptsUnder → ArtifactDigest → CheckedContent → List ℕ → Result (Unit {0}) VerificationError
+abbrev pub signature_answer : AcceptsUnder → AcceptsUnder → ArtifactDigest → CheckedContent → List ℕ
+    → Result (Unit {0}) VerificationError
 signature_answer message digest d (Dsse pae digests text payload) signature = if_accepted (message pae signature)
 signature_answer message digest (Sha256 bytes) MessageSignature signature = if_accepted (digest bytes signature)
 signature_answer message digest (Sha512 bytes) MessageSignature signature = Err (Signature DigestAlgorithmUnsupported)

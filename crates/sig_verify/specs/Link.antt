@@ -1,8 +1,10 @@
 -- The links of the chain of trust, in their order, and their names.
 use Rattle.std.specs.Prelude.{ℕ, List, codes}
 use Rattle.sig_verify.specs.declared.link.Link.{Link}
-use Rattle.sig_verify.specs.declared.link.Link.TheVariants.{Request, RootJson, BundleJson, Fulcio, Anchor, Ctfe, Material, Certificate}
-use Rattle.sig_verify.specs.declared.link.Link.TheVariants.{Leaf, RootInChain, Content, Envelope, Entry, Profile, Issuance, Issuer}
+use Rattle.sig_verify.specs.declared.link.Link.TheVariants.{Request, RootJson, BundleJson, Fulcio, Anchor, Ctfe}
+use Rattle.sig_verify.specs.declared.link.Link.TheVariants.{Material, Certificate}
+use Rattle.sig_verify.specs.declared.link.Link.TheVariants.{Leaf, RootInChain, Content, Envelope, Entry, Profile}
+use Rattle.sig_verify.specs.declared.link.Link.TheVariants.{Issuance, Issuer}
 use Rattle.sig_verify.specs.declared.link.Link.TheVariants.{Sct, Policy, Key, Signature, Subject, Body, Time, LogKey}
 use Rattle.sig_verify.specs.declared.link.Link.TheVariants.{Promise, Proof, Checkpoint, NoteKey, NoteMatch, Inclusion}
 

@@ -1,4 +1,5 @@
--- *Offline verification*: every link of the chain of trust of a bundle, from its texts on, as one answer: the first link
+-- *Offline verification*: every link of the chain of trust of a bundle, from its texts on, as one answer: the first
+-- link
 -- that fails, or the entry that the log vouches for. The five groups of links come one behind the other.
 use Rattle.std.specs.Prelude.{◌≡◌, ◌⊎◌, ℕ, ℤ, true, List, [], ◌∷◌, Option, Some, None, option_map, Result, Ok, Err}
 use Rattle.std.specs.Borrow.{Bor}
@@ -69,10 +70,12 @@ lent_entry found = option_map (λ entry. entry.now) found
 -- `log-key` to `inclusion`
 abbrev pub IsVouchedIn : AcceptsSpki → TrustedRoot → ℤ → BundleType → Outcome → Type 0
 IsVouchedIn spki root now bundle result =
-    (entry : TransparencyLogEntry) × (entry_of bundle ≡ Some entry) × (result ≡ entry_answer spki (keys_of now root.tlogs) entry)
+    (entry : TransparencyLogEntry) × (entry_of bundle ≡ Some entry)
+    × (result ≡ entry_answer spki (keys_of now root.tlogs) entry)
 
 -- `material` to `time`, and those
-abbrev pub IsOfflineUnder : Checker → PolicyOf → TrustedRoot → ℤ → ArtifactDigest → BundleType → Trusted → Outcome → Type 0
+abbrev pub IsOfflineUnder : Checker → PolicyOf → TrustedRoot → ℤ → ArtifactDigest → BundleType → Trusted → Outcome
+    → Type 0
 IsOfflineUnder k policy root now d bundle trusted result =
     (answer : Answer) × IsVerdict k trusted policy d true bundle answer
     × AfterAnswer answer (IsVouchedIn k.spki root now bundle) result
@@ -80,7 +83,8 @@ IsOfflineUnder k policy root now d bundle trusted result =
 -- `fulcio`, `anchor` and `ctfe`, and those
 abbrev pub IsOfflineOf : Checker → PolicyOf → TrustedRoot → ℤ → ArtifactDigest → BundleType → Outcome → Type 0
 IsOfflineOf k policy root now d bundle result =
-    ((error : SigstoreError) × IsRefusedRoot (authorities_of root now) (ct_keys_of root now) error × (result ≡ Err (of_root error)))
+    ((error : SigstoreError) × IsRefusedRoot (authorities_of root now) (ct_keys_of root now) error ×
+    (result ≡ Err (of_root error)))
     ⊎ ((trusted : Trusted) × IsVerifierOf (authorities_of root now) (ct_keys_of root now) trusted
     × IsOfflineUnder k policy root now d bundle trusted result)
 

@@ -1,4 +1,5 @@
--- The links `material` to `time` of a bundle, as one answer: the first of them that fails, or none. The steps before the
+-- The links `material` to `time` of a bundle, as one answer: the first of them that fails, or none. The steps before
+-- the
 -- policy, behind it, and behind the log's body are each an answer of their own.
 use Rattle.std.specs.Prelude.{◌≡◌, ◌⊎◌, Bool, true, false, Result, Ok, Err}
 use Rattle.sig_bundle.specs.Checked.{Checked, IsChecked}

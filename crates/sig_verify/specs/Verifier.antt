@@ -38,16 +38,19 @@ pub record IsVerifierOf (authorities : Authorities) (ct_keys : CtKeys) (trusted 
 -- why there is no pool of these certificates
 abbrev pub IsRefusedPool : List (List ℕ) → SigstoreError → Type 0
 IsRefusedPool certificates error =
-    (error ≡ OutOfMemory) ⊎ ((place : ℕ) × (error ≡ CertificatePoolError (Anchor place)) × IsFirstNoAnchor certificates place)
+    (error ≡ OutOfMemory)
+    ⊎ ((place : ℕ) × (error ≡ CertificatePoolError (Anchor place)) × IsFirstNoAnchor certificates place)
 
 -- the first of the certificates that is no anchor has this index
 abbrev pub HasOther : Authorities → ℕ → Type 0
-HasOther authorities place = (certificates : List (List ℕ)) × (authorities ≡ Ok certificates) × IsFirstNoAnchor certificates place
+HasOther authorities place = (certificates : List (List ℕ)) × (authorities ≡ Ok certificates)
+    × IsFirstNoAnchor certificates place
 
 -- all certificates are anchors
 abbrev pub HasAnchors : Authorities → Type 0
 HasAnchors authorities =
-    (certificates : List (List ℕ)) × (anchors : List Cert) × (authorities ≡ Ok certificates) × AreAnchors certificates anchors
+    (certificates : List (List ℕ)) × (anchors : List Cert) × (authorities ≡ Ok certificates)
+    × AreAnchors certificates anchors
 
 -- the first of the three that fails, with its error, unless memory ran out
 abbrev pub IsRefusedRoot : Authorities → CtKeys → SigstoreError → Type 0

@@ -1,7 +1,8 @@
 //! Whether a signed bundle is trusted, without a network.
 ghost use Rattle.std.specs.Prelude.{◌≡◌};
 ghost use Rattle.sig_base.specs.Answers.{UnlessMemory};
-ghost use Rattle.sig_verify.specs.OfflineVerdict.{entry_of, IsOffline, IsOfflineIn, IsOfflineOf, IsOfflineUnder, IsVouchedIn};
+ghost use Rattle.sig_verify.specs.OfflineVerdict.{entry_of, IsOffline, IsOfflineIn, IsOfflineOf, IsOfflineUnder};
+ghost use Rattle.sig_verify.specs.OfflineVerdict.{IsVouchedIn};
 ghost use Rattle.sig_verify.specs.OfflineVerdict.{lent_entry};
 
 use crate::log_entry::verify_log_entry;
@@ -28,7 +29,12 @@ pub fn verify_offline<P: VerificationPolicy, C: SignatureChecker>(
     checker: &C,
 ) -> Result<Offline, OfflineError>
     ensures { UnlessMemory OfflineError.OutOfMemory result (IsOffline
-        (record { spki = C.spki_accepts checker.now; prehash = C.prehash_accepts checker.now; point = C.point_accepts checker.now; cert = C.cert_accepts checker.now })
+        (record {
+          spki = C.spki_accepts checker.now;
+          prehash = C.prehash_accepts checker.now;
+          point = C.point_accepts checker.now;
+          cert = C.cert_accepts checker.now;
+        })
         (record { holds = P.holds policy.now; refusal = P.refusal policy.now })
         trusted_root.now now digest.now bundle.now result) }
 {
@@ -52,7 +58,12 @@ fn verify_text<P: VerificationPolicy, C: SignatureChecker>(
     checker: &C,
 ) -> Result<Offline, OfflineError>
     ensures { UnlessMemory OfflineError.OutOfMemory result (IsOfflineIn
-        (record { spki = C.spki_accepts checker.now; prehash = C.prehash_accepts checker.now; point = C.point_accepts checker.now; cert = C.cert_accepts checker.now })
+        (record {
+          spki = C.spki_accepts checker.now;
+          prehash = C.prehash_accepts checker.now;
+          point = C.point_accepts checker.now;
+          cert = C.cert_accepts checker.now;
+        })
         (record { holds = P.holds policy.now; refusal = P.refusal policy.now })
         root.now now digest.now bundle.now result) }
 {
@@ -73,7 +84,12 @@ fn verify_read<P: VerificationPolicy, C: SignatureChecker>(
     checker: &C,
 ) -> Result<Offline, OfflineError>
     ensures { UnlessMemory OfflineError.OutOfMemory result (IsOfflineOf
-        (record { spki = C.spki_accepts checker.now; prehash = C.prehash_accepts checker.now; point = C.point_accepts checker.now; cert = C.cert_accepts checker.now })
+        (record {
+          spki = C.spki_accepts checker.now;
+          prehash = C.prehash_accepts checker.now;
+          point = C.point_accepts checker.now;
+          cert = C.cert_accepts checker.now;
+        })
         (record { holds = P.holds policy.now; refusal = P.refusal policy.now })
         root.now now digest.now bundle.now result) }
 {
@@ -95,7 +111,12 @@ fn verify_under<P: VerificationPolicy, C: SignatureChecker>(
     checker: &C,
 ) -> Result<Offline, OfflineError>
     ensures { UnlessMemory OfflineError.OutOfMemory result (IsOfflineUnder
-        (record { spki = C.spki_accepts checker.now; prehash = C.prehash_accepts checker.now; point = C.point_accepts checker.now; cert = C.cert_accepts checker.now })
+        (record {
+          spki = C.spki_accepts checker.now;
+          prehash = C.prehash_accepts checker.now;
+          point = C.point_accepts checker.now;
+          cert = C.cert_accepts checker.now;
+        })
         (record { holds = P.holds policy.now; refusal = P.refusal policy.now })
         root.now now digest.now bundle.now verifier.now result) }
 {

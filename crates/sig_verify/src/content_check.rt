@@ -4,7 +4,8 @@ ghost use Rattle.std.specs.List.{list_any};
 ghost use Rattle.sig_base.specs.Answers.{Answers};
 ghost use Rattle.sig_key.specs.Key.{key_accepts};
 ghost use Rattle.sig_key.specs.Kind.{key_parts};
-ghost use Rattle.sig_verify.specs.ContentCheck.{content_answer, is_about, is_same, key_answer, signature_answer, time_answer};
+ghost use Rattle.sig_verify.specs.ContentCheck.{content_answer, is_about, is_same, key_answer, signature_answer};
+ghost use Rattle.sig_verify.specs.ContentCheck.{time_answer};
 
 use crate::error::{CertificateErrorKind, SignatureErrorKind, VerificationError};
 use sig_base::{SignatureChecker, SigstoreError};

@@ -1,7 +1,8 @@
 //! Whether a certificate was issued by a trust anchor, and whether a Certificate Transparency log vouches for it.
 ghost use Rattle.std.specs.Prelude.{◌≡◌, Ok, Err};
 ghost use Rattle.sig_base.specs.Answers.{Answers};
-ghost use Rattle.sig_verify.specs.IssuerCheck.{issued_answer, issuer_place, issuer_spki, lent_spki, sct_answer, spki_at};
+ghost use Rattle.sig_verify.specs.IssuerCheck.{issued_answer, issuer_place, issuer_spki, lent_spki, sct_answer};
+ghost use Rattle.sig_verify.specs.IssuerCheck.{spki_at};
 
 use crate::error::{CertificateErrorKind, VerificationError};
 use crate::verifier::Verifier;

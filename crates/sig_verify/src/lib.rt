@@ -15,6 +15,8 @@ mod link;
 mod log_entry;
 mod offline;
 mod offline_error;
+#[cfg(test)]
+mod tests;
 mod verifier;
 mod verify;
 

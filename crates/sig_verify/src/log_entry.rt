@@ -3,7 +3,8 @@ ghost use Rattle.std.specs.Prelude.{◌≡◌, IsSome, OnOk};
 ghost use Rattle.sig_base.specs.Answers.{Answers};
 ghost use Rattle.sig_key.specs.Key.{key_accepts};
 ghost use Rattle.sig_key.specs.Kind.{key_parts};
-ghost use Rattle.sig_verify.specs.LogEntry.{entry_answer, fields_answer, id_answer, included, inclusion_answer, key_answer};
+ghost use Rattle.sig_verify.specs.LogEntry.{entry_answer, fields_answer, id_answer, included, inclusion_answer};
+ghost use Rattle.sig_verify.specs.LogEntry.{key_answer};
 ghost use Rattle.sig_verify.specs.LogEntry.{lent_id, promise_answer, read_key, vouched};
 
 use crate::offline::Offline;

@@ -1,6 +1,7 @@
 //! `OfflineError`: the first link of the chain of trust that does not hold.
 ghost use Rattle.std.specs.Prelude.{◌≡◌};
-ghost use Rattle.sig_verify.specs.OfflineErrors.{bundle_link, certificate_link, link_of, of_canonical, of_fields, of_json};
+ghost use Rattle.sig_verify.specs.OfflineErrors.{bundle_link, certificate_link, link_of, of_canonical, of_fields};
+ghost use Rattle.sig_verify.specs.OfflineErrors.{of_json};
 ghost use Rattle.sig_verify.specs.OfflineErrors.{of_proof, of_root, of_verification, signature_link};
 ghost use Rattle.sig_verify.specs.declared.offline_error.OfflineError.TheVariants.{OutOfMemory as Memory};
 

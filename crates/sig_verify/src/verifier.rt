@@ -34,8 +34,10 @@ impl Verifier {
     /// - the error of its `ctfe_keys`;
     /// - `OutOfMemory`.
     pub fn new<R: TrustRoot>(alloc: Global, trust_repo: &R, now: i64) -> sig_base::Result<Verifier>
-        ensures made { IfOk result (IsVerifierOf (R.authorities_at trust_repo.now now) (R.ct_keys_at trust_repo.now now)) }
-        ensures refused { IfErr result (IsRefusedRoot (R.authorities_at trust_repo.now now) (R.ct_keys_at trust_repo.now now)) }
+        ensures made { IfOk result (IsVerifierOf
+            (R.authorities_at trust_repo.now now) (R.ct_keys_at trust_repo.now now)) }
+        ensures refused { IfErr result (IsRefusedRoot
+            (R.authorities_at trust_repo.now now) (R.ct_keys_at trust_repo.now now)) }
     {
         let certs = trust_repo.fulcio_certs(alloc, now)?;
         let pool = pool_of(alloc, &certs)?;

@@ -39,7 +39,12 @@ impl Verifier {
         checker: &C,
     ) -> VerificationResult
         ensures { UnlessMemory VerificationError.OutOfMemory result (IsVerdict
-            (record { spki = C.spki_accepts checker.now; prehash = C.prehash_accepts checker.now; point = C.point_accepts checker.now; cert = C.cert_accepts checker.now })
+            (record {
+              spki = C.spki_accepts checker.now;
+              prehash = C.prehash_accepts checker.now;
+              point = C.point_accepts checker.now;
+              cert = C.cert_accepts checker.now;
+            })
             self.now (record { holds = P.holds policy.now; refusal = P.refusal policy.now })
             input_digest.now offline bundle.now result) }
     {
@@ -62,7 +67,12 @@ impl Verifier {
         checker: &C,
     ) -> VerificationResult
         ensures { UnlessMemory VerificationError.OutOfMemory result (IsTrusted
-            (record { spki = C.spki_accepts checker.now; prehash = C.prehash_accepts checker.now; point = C.point_accepts checker.now; cert = C.cert_accepts checker.now })
+            (record {
+              spki = C.spki_accepts checker.now;
+              prehash = C.prehash_accepts checker.now;
+              point = C.point_accepts checker.now;
+              cert = C.cert_accepts checker.now;
+            })
             self.now (record { holds = P.holds policy.now; refusal = P.refusal policy.now })
             digest.now offline bundle.now result) }
     {
@@ -83,7 +93,12 @@ fn verify_allowed<P: VerificationPolicy, C: SignatureChecker>(
     checker: &C,
 ) -> VerificationResult
     ensures { UnlessMemory VerificationError.OutOfMemory result (IsAllowed
-        (record { spki = C.spki_accepts checker.now; prehash = C.prehash_accepts checker.now; point = C.point_accepts checker.now; cert = C.cert_accepts checker.now })
+        (record {
+          spki = C.spki_accepts checker.now;
+          prehash = C.prehash_accepts checker.now;
+          point = C.point_accepts checker.now;
+          cert = C.cert_accepts checker.now;
+        })
         (record { holds = P.holds policy.now; refusal = P.refusal policy.now })
         digest.now offline bundle.now result) }
 {
@@ -102,7 +117,12 @@ fn verify_signed<C: SignatureChecker>(
     checker: &C,
 ) -> VerificationResult
     ensures { UnlessMemory VerificationError.OutOfMemory result (IsSigned
-        (record { spki = C.spki_accepts checker.now; prehash = C.prehash_accepts checker.now; point = C.point_accepts checker.now; cert = C.cert_accepts checker.now })
+        (record {
+          spki = C.spki_accepts checker.now;
+          prehash = C.prehash_accepts checker.now;
+          point = C.point_accepts checker.now;
+          cert = C.cert_accepts checker.now;
+        })
         digest.now offline bundle.now result) }
 {
     match check_content(alloc, bundle, digest, checker) {

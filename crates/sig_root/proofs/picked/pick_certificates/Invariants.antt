@@ -5,4 +5,5 @@ use Rattle.sig_root.proofs.picked.pick_certificates.Given as goal
 
 abbrev pub invariant-authorities : goal.invariant-authorities
 invariant-authorities l =
-    l.list ++ authority_certificates l.now (drop l.authority-index l.authorities) ≡ authority_certificates l.now l.authorities
+    l.list ++ authority_certificates l.now (drop l.authority-index l.authorities) ≡ authority_certificates l.now
+    l.authorities

@@ -11,6 +11,10 @@ returns-in-Err g c =
       point = g.C.SignatureChecker.point_accepts c.args.checker.now;
       cert = g.C.SignatureChecker.cert_accepts c.args.checker.now;
     })
-    (record { holds = g.P.VerificationPolicy.holds c.args.policy.now; refusal = g.P.VerificationPolicy.refusal c.args.policy.now })
+    (record {
+      holds = g.P.VerificationPolicy.holds c.args.policy.now;
+      refusal = g.P.VerificationPolicy.refusal
+          c.args.policy.now;
+    })
     c.args.root.now c.args.now _ c.args.digest.now c.args.bundle.now c.in-Err.error c.root_error.result
     (to_z-of_z c.ranges.now) c.in-Err.ensures.refused c.root_error.ensures

@@ -11,5 +11,10 @@ returns-in-Ok g c =
       cert = g.C.SignatureChecker.cert_accepts c.args.checker.now;
     })
     c.args.self.now
-    (record { holds = g.P.VerificationPolicy.holds c.args.policy.now; refusal = g.P.VerificationPolicy.refusal c.args.policy.now })
-    c.args.input_digest.now c.args.offline c.args.bundle.now c.in-Ok.checked c.verify_checked.result c.in-Ok.ensures.0 c.verify_checked.ensures
+    (record {
+      holds = g.P.VerificationPolicy.holds c.args.policy.now;
+      refusal = g.P.VerificationPolicy.refusal
+          c.args.policy.now;
+    })
+    c.args.input_digest.now c.args.offline c.args.bundle.now c.in-Ok.checked c.verify_checked.result
+    c.in-Ok.ensures.0 c.verify_checked.ensures
