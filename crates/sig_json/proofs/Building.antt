@@ -1,5 +1,5 @@
 -- What the builders make of a tree.
-use Rattle.std.proofs.Common.{String, Vec, BTreeMap, Global, ◌≡◌, ℕ, List, [], ◌∷◌, ◌++◌, Some, None, false, ◌||◌}
+use Rattle.std.proofs.Common.{String, Vec, Global, ◌≡◌, ℕ, List, [], ◌∷◌, ◌++◌, Some, None, false, ◌||◌}
 use Rattle.std.proofs.Common.{refl, sym, ap, ◌∙◌}
 use Rattle.std.proofs.lemmas.Bool.{or_parts, or_from}
 use Rattle.std.specs.Cmp.Lexicographic.{slice_cmp}

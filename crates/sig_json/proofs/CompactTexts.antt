@@ -1,8 +1,7 @@
 -- The compact text of a tree, token by token, and how it is read back.
 use Rattle.std.proofs.Common.{◌≡◌, ◌<◌, ◌≤◌, ◌+◌, ◌^◌, ℕ, ℤ, pos, negsuc, suc, false, List, [], ◌∷◌, ◌++◌, length}
-use Rattle.std.proofs.Common.{drop, get_or, Some, None, Ok, String, Vec, Global, IsUtf8, string_bytes, option_map}
+use Rattle.std.proofs.Common.{drop, get_or, Some, None, Ok, IsUtf8, string_bytes, option_map}
 use Rattle.std.proofs.Common.{option_and_then, max, refl, sym, ap, ap₂, subst, ◌∙◌, append_assoc, append-nil, arith}
-use Rattle.std.proofs.Math.Seq.{drop-length}
 use Rattle.std.proofs.lemmas.Cmp.{nat_list_cmp_total}
 use Rattle.std.specs.Cmp.Lexicographic.{slice_cmp}
 use Rattle.std.specs.Fmt.{signed_decimal}
@@ -26,9 +25,8 @@ use Rattle.serde_json.specs.Data.{Num, unsigned, negative, float, Data, null, bo
 use Rattle.serde_json.specs.Data.{Items, no_items, item, Members, no_members, member, put, depth, items_depth}
 use Rattle.serde_json.specs.Data.{members_depth}
 use Rattle.serde_json.specs.Find.{as_u64, as_i64, is_float}
-use Rattle.serde_json.specs.Read.{of_json, of_items, of_members, converted, max_depth, number_of}
-use Rattle.serde_json.specs.Written.{compact_text, number_text, outline, items_outline, members_outline, has_float}
-use Rattle.serde_json.specs.Written.{items_have_float, members_have_float}
+use Rattle.serde_json.specs.Read.{of_json, of_items, of_members, converted, max_depth}
+use Rattle.serde_json.specs.Written.{compact_text, outline, items_outline, members_outline, has_float}
 use Rattle.sig_base.specs.ByText.{KeysAscend}
 use Rattle.sig_json.proofs.Converted.{whole_read}
 use Rattle.sig_json.proofs.Lists.{items_from, members_from, none_left}
@@ -39,8 +37,8 @@ use Rattle.sig_json.proofs.Trees.{view-Null, view-Bool, view-Number, view-Text, 
 use Rattle.sig_json.specs.Document.{document_of}
 use Rattle.sig_json.specs.Gathered.{Entry}
 use Rattle.sig_json.specs.Members.{members_list}
-use Rattle.sig_json.specs.Named.{IsNamed, AreNamed, NamesAscend, HasNamedValues}
-use Rattle.sig_json.specs.Range.{Fits, InRange, AreInRange, HasValuesInRange}
+use Rattle.sig_json.specs.Named.{IsNamed, AreNamed, HasNamedValues}
+use Rattle.sig_json.specs.Range.{InRange, AreInRange, HasValuesInRange}
 use Rattle.sig_json.specs.View.{view, items_view, members_view}
 use Rattle.sig_json.specs.declared.tree.Tree.{Tree}
 

@@ -1,10 +1,9 @@
 -- The names of the objects of a tree ascend in byte order, at every depth: as a walk finds it, as a look inside keeps
 -- it, as the builders keep it.
-use Rattle.std.proofs.Common.{◌≡◌, ◌≢◌, ℕ, zero, suc, ◌+◌, ◌<◌, List, [], ◌∷◌, ◌++◌, length, drop, get_or, Option}
-use Rattle.std.proofs.Common.{Some, option_map, String, Vec, BTreeMap, Global, sym, subst, refl, ap, ◌∙◌}
+use Rattle.std.proofs.Common.{◌≡◌, ◌≢◌, ℕ, zero, suc, List, [], ◌∷◌, ◌++◌, Option}
+use Rattle.std.proofs.Common.{Some, option_map, String, Vec, Global, sym, subst, refl, ap, ◌∙◌}
 use Rattle.std.proofs.lemmas.Cmp.{nat_list_cmp_total, tied_itself}
 use Rattle.std.proofs.lemmas.Iterator.Adapters.{option_map_id}
-use Rattle.std.proofs.lemmas.Str.{IsUtf8-string_bytes}
 use Rattle.std.specs.BTreeMap.{insert_entry}
 use Rattle.std.specs.Cmp.Lexicographic.{slice_cmp}
 use Rattle.std.specs.List.{AllByRecursion}
@@ -12,22 +11,19 @@ use Rattle.std.specs.List.Sorted.{IsStrictlySortedBy}
 use Rattle.std.specs.Map.{keys_of}
 use Rattle.std.specs.Ordering.{nat_cmp}
 use Rattle.std.specs.Str.{IsUtf8}
-use Rattle.std.specs.String.{string_bytes, string_cmp}
 use Rattle.std.specs.declared.cmp.Ordering.TheVariants.{Less, Equal}
 use Rattle.sig_base.proofs.Ascending.{all_keys, ascend-insert_entry}
 use Rattle.sig_base.proofs.OptionSteps.{bind_is, some_is}
-use Rattle.sig_base.proofs.Texts.{ascend-entries}
-use Rattle.sig_base.specs.ByText.{KeysAscend, text_entries}
-use Rattle.sig_json.proofs.Trees.{view-Array, view-Object}
+use Rattle.sig_base.specs.ByText.{KeysAscend}
+use Rattle.sig_json.proofs.Trees.{view-Object}
 use Rattle.serde_json.specs.Data.{Num, Data, null, boolean, number, string, array, object, Items, no_items, item}
 use Rattle.serde_json.specs.Data.{Members, no_members, member, put}
-use Rattle.serde_json.specs.Find.{get, at, get_member, get_item, as_object, as_array}
-use Rattle.sig_json.specs.View.{view, items_view, members_view}
+use Rattle.serde_json.specs.Find.{get, at, get_member, get_item, as_object}
+use Rattle.sig_json.specs.View.{view, members_view}
 use Rattle.sig_json.specs.declared.tree.Tree.{Tree, Array, Object}
 use Rattle.sig_json.proofs.Building.{put_in, object_unchanged, pushed_in, list_unchanged, building}
 use Rattle.sig_json.proofs.ByKind.{as_object_is}
 use Rattle.sig_json.proofs.ByOrdering.{choice_of_each, holds_of_choice}
-use Rattle.sig_json.proofs.Lists.{items_from}
 use Rattle.sig_json.proofs.MemberOrder.{object_exact}
 use Rattle.sig_json.specs.Builders.{with_member, with_last, items_with_last}
 use Rattle.sig_json.specs.Canonical.{Sorted, canon, canon_items, in_brackets}

@@ -4,7 +4,7 @@ use Rattle.std.proofs.Common.{Some, None, string_bytes, refl, sym, ap, ◌∙◌
 use Rattle.std.proofs.Math.Seq.{drop-length}
 use Rattle.std.proofs.lemmas.Bool.{or_parts}
 use Rattle.serde_json.specs.Written.{has_float, items_have_float, members_have_float}
-use Rattle.serde_json.specs.Data.{Num, unsigned, negative, float, Data, member, depth, items_depth, members_depth}
+use Rattle.serde_json.specs.Data.{Num, unsigned, negative, float, depth, items_depth, members_depth}
 use Rattle.serde_json.specs.Find.{as_u64, as_i64, is_float}
 use Rattle.sig_json.specs.Gathered.{Entry}
 use Rattle.sig_json.specs.View.{view, items_view, members_view}

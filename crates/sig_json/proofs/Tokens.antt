@@ -1,7 +1,7 @@
 -- The grammar of JSON over tokens, a step at a time, as the reader takes it: what a value, a list so far and an object
 -- so far mean.
 use Rattle.std.proofs.Common.{◌≡◌, ℕ, ◌-◌, ◌<◌, ◌≤◌, Bool, List, [], ◌∷◌, ◌++◌, length, map, Option, Some, None}
-use Rattle.std.proofs.Common.{option_map, String, Vec, Global, string_bytes, refl, sym, ap, ap₂, ◌∙◌, subst, arith}
+use Rattle.std.proofs.Common.{String, Vec, Global, string_bytes, refl, sym, ap, ◌∙◌, subst, arith}
 use Rattle.std.proofs.lemmas.Str.{IsUtf8-string_bytes}
 use Rattle.std.specs.List.Sorted.{IsStrictlySortedBy}
 use Rattle.std.specs.Str.{IsUtf8}
@@ -11,7 +11,7 @@ use Rattle.json.specs.Json.{value, items, members, parse_map, after_end_array, r
 use Rattle.json.specs.Lex.{tokens}
 use Rattle.json.specs.Token.{Token}
 use Rattle.serde_json.proofs.Nesting.{depth-read}
-use Rattle.serde_json.specs.Data.{Data, null, boolean, number, string, array, object, Items, no_items, item, Members}
+use Rattle.serde_json.specs.Data.{Data, array, object, Items, no_items, item, Members}
 use Rattle.serde_json.specs.Data.{no_members, put, depth}
 use Rattle.serde_json.specs.Read.{of_json, of_items, of_members, converted, max_depth, number_of, read}
 use Rattle.serde_json.specs.View.{number_view, items_of}
@@ -22,7 +22,7 @@ use Rattle.sig_json.proofs.Converted.{whole_and_more, whole_refused}
 use Rattle.sig_json.proofs.Named.{ascend-put, values-put}
 use Rattle.sig_json.proofs.Ordered.{gathered_more}
 use Rattle.sig_json.proofs.Trees.{view-Null, view-Bool, view-Number, view-Text, view-Array, view-Object}
-use Rattle.sig_json.specs.Gathered.{Entry, put_each, gathered}
+use Rattle.sig_json.specs.Gathered.{Entry, gathered}
 use Rattle.sig_json.specs.Named.{IsNamed, AreNamed, NamesAscend, HasNamedValues}
 use Rattle.sig_json.specs.View.{view, items_view, members_view}
 use Rattle.sig_json.specs.declared.tree.Tree.{Tree, Null, Bool as Truth, Number as Numeral, Text, Array, Object}

@@ -1,5 +1,5 @@
 -- A tree beside its data, level by level.
-use Rattle.std.proofs.Common.{◌≡◌, String, Vec, Global, Bool, List, string_bytes, rules}
+use Rattle.std.proofs.Common.{◌≡◌, String, Vec, Global, Bool, string_bytes, rules}
 use Rattle.serde_json.specs.Data.{null, boolean, number, string, array, object}
 use Rattle.serde_json.specs.View.{number_view}
 use Rattle.serde_json.specs.declared.number.Number.{Number}

@@ -1,8 +1,7 @@
-use Rattle.std.proofs.Common.{◌≡◌, ◌∷◌, [], Some, None, length, string_bytes, sym, ap, ◌∙◌, arith, rules}
+use Rattle.std.proofs.Common.{◌≡◌, ◌∷◌, Some, None, ap, ◌∙◌, arith, rules}
 use Rattle.json.proofs.Grammar.{value_is}
 use Rattle.json.specs.Json.{value, after_end_array, read_key}
 use Rattle.json.specs.Reads.{token_of}
-use Rattle.json.specs.Token.{Token}
 use Rattle.serde_json.specs.Read.{of_json, converted}
 use Rattle.sig_json.proofs.Tokens.{null_means, number_means, number_refused, text_means, array_too_deep}
 use Rattle.sig_json.proofs.Tokens.{object_too_deep, list_refused, object_step, object_refused_at_key}

@@ -1,4 +1,4 @@
-use Rattle.std.proofs.Common.{ℕ, ◌+◌, ◌*◌, length}
+use Rattle.std.proofs.Common.{◌+◌, ◌*◌, length}
 use Rattle.sig_json.proofs.Tokens.{ListSoFar, ObjectSoFar}
 use Rattle.sig_json.proofs.read.+read.Given as goal
 
