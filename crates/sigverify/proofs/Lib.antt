@@ -1,3 +1,4 @@
+pub mod DigestTexts
 pub mod Logged
 pub mod Reading
 pub mod Replies
@@ -5,4 +6,5 @@ pub mod Requests
 pub mod Runs
 pub mod Signed
 pub mod Verdicts
+pub mod VerifyRequests
 pub mod Writing

@@ -1,8 +1,11 @@
 pub mod Command
+pub mod DigestText
 pub mod Limit
 pub mod Link
+pub mod Policy
 pub mod Reply
 pub mod Request
 pub mod Row
 pub mod Run
 pub mod Status
+pub mod VerifyRequest

@@ -5,9 +5,11 @@
 #![tactic(auto)]
 
 mod command;
+mod digest_text;
 mod help;
 mod link;
 mod log;
+mod policy_rule;
 mod read;
 mod reply;
 mod request;
@@ -16,6 +18,7 @@ mod run;
 mod std_stream;
 #[cfg(test)]
 mod tests;
+mod verify_request;
 mod words;
 mod write;
 
