@@ -7,3 +7,11 @@ pub mod OfflineErrors
 pub mod OfflineVerdict
 pub mod Verdict
 pub mod Verifier
+pub mod BundleLinks
+pub mod CertificateLinks
+pub mod EntryLinks
+pub mod Judged
+pub mod Links
+pub mod RootLinks
+pub mod TrustChain
+pub mod LinkLaws

@@ -1,0 +1,65 @@
+-- What the results of the checks say of the links, group by group.
+use Rattle.std.specs.Prelude.{◌≡◌, Bool, [], ◌∷◌, Result, Ok, Err}
+use Rattle.std.specs.List.{AllByRecursion}
+use Rattle.sig_bundle.specs.Checked.{Checked, IsChecked}
+use Rattle.sig_bundle.specs.Promise.{AreBytes}
+use Rattle.sig_bundle.specs.Proof.{IsProof}
+use Rattle.sig_bundle.specs.declared.bundle.Bundle.{Bundle}
+use Rattle.sig_bundle.specs.declared.bundle_error.BundleErrorKind.{BundleErrorKind}
+use Rattle.sig_bundle.specs.declared.material.TransparencyLogEntry.{TransparencyLogEntry}
+use Rattle.sig_dsse.specs.declared.artifact_digest.ArtifactDigest.{ArtifactDigest}
+use Rattle.sig_verify.specs.BundleLinks.{HoldsOfBundle, bundle_links}
+use Rattle.sig_verify.specs.CertificateLinks.{HoldsOfChecked, Trust}
+use Rattle.sig_verify.specs.ContentCheck.{AcceptsSpki, content_answer, time_answer}
+use Rattle.sig_verify.specs.EntryLinks.{HoldsOfEntry, IsOfBytes, LogKeys, OfProof, entry_links}
+use Rattle.sig_verify.specs.Judged.{IsOfFirst, Tells}
+use Rattle.sig_verify.specs.LogEntry.{entry_answer}
+use Rattle.sig_verify.specs.OfflineErrors.{of_verification}
+use Rattle.sig_verify.specs.Verdict.{Checker, PolicyOf}
+use Rattle.sig_verify.specs.declared.error.VerificationError.{VerificationError}
+use Rattle.sig_verify.specs.declared.link.Link.TheVariants.{Key, Signature, Subject, Time}
+use Rattle.sig_verify.specs.declared.offline.Offline.{Offline}
+use Rattle.sig_verify.specs.declared.offline_error.OfflineError.{OfflineError}
+use Rattle.sig_verify.specs.declared.offline_error.OfflineError.TheVariants.{Bundle as Refused}
+
+-- of a log's entry: there is a value if and only if the links `log-key` to `inclusion` hold, and an error is that of
+-- the first that does not
+abbrev pub EntriesAreJudged : Type 0
+EntriesAreJudged = (spki : AcceptsSpki) (keys : LogKeys) (e : TransparencyLogEntry) → IsOfBytes keys e
+    → Tells (HoldsOfEntry spki keys e) entry_links (entry_answer spki keys e)
+
+-- the value is the entry's body, with the proof that its members are
+pub record IsKept (e : TransparencyLogEntry) (offline : Offline) : Type 0 where
+  pub body : offline.body ≡ e.canonicalized_body
+  pub proof : OfProof e (λ p. IsProof p offline.proof)
+
+abbrev pub EntriesAreKept : Type 0
+EntriesAreKept = (spki : AcceptsSpki) (keys : LogKeys) (e : TransparencyLogEntry) (offline : Offline)
+    → entry_answer spki keys e ≡ Ok offline → IsKept e offline
+
+-- of a bundle: its own checks pass if and only if the links `material` to `profile` hold, and an error is that of the
+-- first that does not
+pub record BundlesAreJudged : Type 0 where
+  pub passed : (b : Bundle) (c : Checked) → IsChecked b (Ok c) → AllByRecursion (HoldsOfBundle b) bundle_links
+  pub passes : (b : Bundle) → AllByRecursion (HoldsOfBundle b) bundle_links → (c : Checked) × IsChecked b (Ok c)
+  pub refused : (b : Bundle) (kind : BundleErrorKind) → IsChecked b (Err kind)
+      → IsOfFirst (HoldsOfBundle b) bundle_links (Refused kind)
+
+-- ---- the checks of a verifier
+
+-- the errors of a verifier as those of the chain of trust
+abbrev pub renamed : {A : Type 0} → Result A VerificationError → Result A OfflineError
+renamed (Ok x) = Ok x
+renamed (Err error) = Err (of_verification error)
+
+-- of a certificate's key: the result is that of the first of the links `key`, `signature` and `subject` that fails
+abbrev pub ContentsAreJudged : Type 0
+ContentsAreJudged = (k : Checker) (policy : PolicyOf) (trust : Trust) (d : ArtifactDigest) (offline : Bool) (c : Checked)
+    → AreBytes c.certificate.spki
+    → Tells (HoldsOfChecked k policy trust d offline c) (Key ∷ Signature ∷ Subject ∷ [])
+    (renamed (content_answer k.spki k.prehash d c))
+
+-- of the time of the log entry
+abbrev pub TimesAreJudged : Type 0
+TimesAreJudged = (k : Checker) (policy : PolicyOf) (trust : Trust) (d : ArtifactDigest) (offline : Bool) (c : Checked)
+    → Tells (HoldsOfChecked k policy trust d offline c) (Time ∷ []) (renamed (time_answer c))

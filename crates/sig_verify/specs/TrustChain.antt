@@ -1,0 +1,70 @@
+-- *Trust chain*, its ten items, and all else that the links ask.
+use Rattle.std.specs.Prelude.{◌≡◌, ◌≢◌, ◌↔◌, true, [], None}
+use Rattle.std.specs.List.{AllByRecursion}
+use Rattle.sig_bundle.specs.Passed.{HasProof}
+use Rattle.sig_bundle.specs.Version.{IsMediaType}
+use Rattle.sig_bundle.specs.declared.version.Version.TheVariants.{Bundle0_3}
+use Rattle.sig_certificate.specs.Profile.{leaf_refusal}
+use Rattle.sig_x509.specs.Issued.{HasProfile}
+use Rattle.sig_verify.specs.BundleLinks.{IsEnvelopeRead, OfCertificate, OfEncoding, OfEntry, OfEnvelope}
+use Rattle.sig_verify.specs.CertificateLinks.{HasIssuer, HasSignedBytes, IsAbout, IsSignedContent, IsTimely}
+use Rattle.sig_verify.specs.CertificateLinks.{IsVouchedFor}
+use Rattle.sig_verify.specs.CertificateLinks.{OfScheme}
+use Rattle.sig_verify.specs.EntryLinks.{HasPromise, IsLed, IsNoteOf, IsNoteSignedBy, IsPlaced, IsPromisedBy}
+use Rattle.sig_verify.specs.EntryLinks.{IsProofRead}
+use Rattle.sig_verify.specs.EntryLinks.{OfCheckpoint, OfLogKey, OfProof}
+use Rattle.sig_verify.specs.Links.{EveryLinkHolds, Inputs, OfBundle, OfChecked, OfLogged, OfRoot, Outside}
+use Rattle.sig_verify.specs.RootLinks.{IsSomeAnchor, authorities, ct_keys}
+use Rattle.sig_verify.specs.Verdict.{HasBody}
+
+-- The bundle's certificate c, its log entry e, the inclusion proof p of e with the checkpoint n, and the key of the log
+-- of e are meant. Signatures are genuine if the checker says so.
+pub record TrustChain (o : Outside) (i : Inputs) : Type 0 where
+  -- some trust anchor issued c, at the first second of its validity
+  pub issuer : OfChecked i (λ trust c. HasIssuer o.checker trust c.certificate)
+  -- c has one SCT, whose log signed it for c as the first such anchor issued it
+  pub sct : OfChecked i (λ trust c. IsVouchedFor o.checker trust c.certificate)
+  -- the policy holds of c
+  pub policy : OfChecked i (λ trust c. o.policy.holds c.certificate ≡ true)
+  -- the key of c signed the content, which is about the artifact
+  pub signature : OfChecked i (λ trust c. IsSignedContent o.checker i.digest c)
+      × OfChecked i (λ trust c. IsAbout c.content i.digest)
+  -- the body of e is about the content, its signature and c
+  pub body : OfChecked i (λ trust c. HasBody c true)
+  -- the log took e while c was valid
+  pub time : OfChecked i (λ trust c. IsTimely c)
+  -- the log signed its promise to include e
+  pub promise : OfLogged i (λ keys e. IsPromisedBy o.checker.spki keys e)
+  -- the log signed the note of n
+  pub note_key : OfLogged i (λ keys e. IsNoteSignedBy o.checker.spki keys e)
+  -- the note's size and hash are the size and the root of p
+  pub note_match : OfLogged i (λ keys e. OfCheckpoint e IsNoteOf)
+  -- the audit path of p leads from the body of e to the root of p
+  pub inclusion : OfLogged i (λ keys e. OfProof e (IsLed e))
+
+-- all else that the links ask: each text, list and member is what its format demands
+pub record IsValid (o : Outside) (i : Inputs) : Type 0 where
+  pub root_json : OfRoot i (λ root. Unit {0})
+  pub bundle_json : OfBundle i (λ b. Unit {0})
+  pub fulcio : OfRoot i (λ root. authorities root i.now ≢ [])
+  pub anchor : OfRoot i (λ root. AllByRecursion IsSomeAnchor (authorities root i.now))
+  pub ctfe : OfRoot i (λ root. ct_keys root i.now ≢ [])
+  pub material : OfBundle i (λ b. OfEncoding b (λ der. Unit {0}))
+  pub certificate : OfBundle i (λ b. OfCertificate b (λ c. Unit {0}))
+  pub leaf : OfBundle i (λ b. OfCertificate b (λ c. leaf_refusal c ≡ None))
+  pub content : OfBundle i (λ b. OfEnvelope b (λ envelope. Unit {0}))
+  pub envelope : OfBundle i (λ b. OfEnvelope b IsEnvelopeRead)
+  pub entry : OfBundle i (λ b. OfEntry b (λ e. Unit {0}))
+  pub profile : OfBundle i (λ b. IsMediaType b.media_type Bundle0_3 × OfEntry b HasProof)
+  pub issuance : OfChecked i (λ trust c. HasProfile c.certificate)
+  pub sct : OfChecked i (λ trust c. HasSignedBytes c.certificate)
+  pub key : OfChecked i (λ trust c. OfScheme c.certificate (λ scheme. Unit {0}))
+  pub log_key : OfLogged i (λ keys e. OfLogKey keys e (λ key. Unit {0}))
+  pub promise : OfLogged i (λ keys e. HasPromise e)
+  pub proof : OfLogged i (λ keys e. OfProof e IsProofRead)
+  pub checkpoint : OfLogged i (λ keys e. OfCheckpoint e (λ p n. Unit {0}))
+  pub inclusion : OfLogged i (λ keys e. OfProof e IsPlaced)
+
+-- every link holds if and only if the inputs are valid and the chain of trust holds
+abbrev pub AllLinksAreTheTrustChain : Type 0
+AllLinksAreTheTrustChain = (o : Outside) (i : Inputs) → EveryLinkHolds o i ↔ (IsValid o i × TrustChain o i)
