@@ -1,4 +1,13 @@
+pub mod BundleVerdicts
+pub mod ChainLaws
 pub mod Chains
+pub mod ContentVerdicts
+pub mod EntryKeys
+pub mod EntryLaws
+pub mod EntryPaths
+pub mod EntryPromises
+pub mod EntryProofs
 pub mod Issuers
+pub mod JudgedLaws
 pub mod Scts
 pub mod Verdicts

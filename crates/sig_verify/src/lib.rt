@@ -11,6 +11,7 @@ mod chain;
 mod content_check;
 mod error;
 mod issuer_check;
+pub mod laws;
 mod link;
 mod log_entry;
 mod offline;

@@ -1,0 +1,63 @@
+-- The links `log-key` to `inclusion`: the result says which of them fails first.
+use Rattle.std.proofs.Common.{◌≡◌, ℕ, List, [], ◌∷◌, Result, Ok, refl, subst}
+use Rattle.sig_base.proofs.ResultSteps.{bind_ok, ok_is}
+use Rattle.sig_base.specs.declared.scheme.VerifyScheme.{VerifyScheme}
+use Rattle.sig_bundle.specs.declared.material.TransparencyLogEntry.{TransparencyLogEntry}
+use Rattle.sig_rekor.specs.declared.inclusion_proof.InclusionProof.{InclusionProof}
+use Rattle.sig_verify.proofs.EntryKeys.{judged_key, key_has}
+use Rattle.sig_verify.proofs.EntryPaths.{judged_path}
+use Rattle.sig_verify.proofs.EntryPromises.{PromiseLaws, judged_promise}
+use Rattle.sig_verify.proofs.EntryProofs.{ProofLaws, judged_proof, proof_taken}
+use Rattle.sig_verify.proofs.JudgedLaws.{judged_bind, judged_map, judged_tells}
+use Rattle.sig_verify.specs.ContentCheck.{AcceptsSpki}
+use Rattle.sig_verify.specs.EntryLinks.{HasLogKey, HoldsOfEntry, IsOfBytes, LogKeys, entry_links}
+use Rattle.sig_verify.specs.LinkLaws.{IsKept}
+use Rattle.sig_verify.specs.Judged.{Judged, Tells}
+use Rattle.sig_verify.specs.LogEntry.{entry_answer, fields_answer, included, inclusion_answer, key_answer}
+use Rattle.sig_verify.specs.LogEntry.{promise_answer, vouched}
+use Rattle.sig_verify.specs.declared.link.Link.TheVariants.{LogKey, Promise, Proof, Checkpoint, NoteKey, NoteMatch}
+use Rattle.sig_verify.specs.declared.link.Link.TheVariants.{Inclusion}
+use Rattle.sig_verify.specs.declared.offline.Offline.{Offline}
+
+module _ (promises : PromiseLaws) (proofs : ProofLaws) (spki : AcceptsSpki) (keys : LogKeys) (e : TransparencyLogEntry)
+    (bytes : IsOfBytes keys e) where
+  judged_included : (key : VerifyScheme × List ℕ) → HasLogKey keys e key → (proof : InclusionProof)
+      → fields_answer e.inclusion_proof ≡ Ok proof
+      → Judged (HoldsOfEntry spki keys e) (NoteKey ∷ NoteMatch ∷ Inclusion ∷ []) (included (spki key.0 key.1) e proof)
+  judged_included key has proof answer =
+      let of = proof_taken proofs e e.inclusion_proof proof refl answer in
+      judged_map (HoldsOfEntry spki keys e) (NoteKey ∷ NoteMatch ∷ Inclusion ∷ [])
+      (inclusion_answer (spki key.0 key.1) e.canonicalized_body proof)
+      (λ (done : Unit {0}). record { body = e.canonicalized_body; proof = proof })
+      (judged_path spki keys e bytes key has of.0 of.1 proof of.2)
+
+  judged_vouched : (key : VerifyScheme × List ℕ) → HasLogKey keys e key
+      → Judged (HoldsOfEntry spki keys e) (Promise ∷ Proof ∷ Checkpoint ∷ NoteKey ∷ NoteMatch ∷ Inclusion ∷ [])
+      (vouched (spki key.0 key.1) e)
+  judged_vouched key has =
+      judged_bind (HoldsOfEntry spki keys e) (Promise ∷ []) (Proof ∷ Checkpoint ∷ NoteKey ∷ NoteMatch ∷ Inclusion ∷ [])
+      (promise_answer (spki key.0 key.1) e) _ (judged_promise spki keys e bytes key has promises)
+      (λ done promised. judged_bind (HoldsOfEntry spki keys e) (Proof ∷ Checkpoint ∷ []) (NoteKey ∷ NoteMatch ∷ Inclusion ∷ [])
+      (fields_answer e.inclusion_proof) _ (judged_proof spki keys e proofs)
+      (λ proof answer. judged_included key has proof answer))
+
+  pub judged_entry : Judged (HoldsOfEntry spki keys e) entry_links (entry_answer spki keys e)
+  judged_entry =
+      judged_bind (HoldsOfEntry spki keys e) (LogKey ∷ []) (Promise ∷ Proof ∷ Checkpoint ∷ NoteKey ∷ NoteMatch ∷ Inclusion ∷ [])
+      (key_answer keys e.log_id) _ (judged_key spki keys e bytes)
+      (λ key answer. judged_vouched key (key_has keys e bytes key answer))
+
+  pub entry_told : Tells (HoldsOfEntry spki keys e) entry_links (entry_answer spki keys e)
+  entry_told = judged_tells (HoldsOfEntry spki keys e) entry_links (entry_answer spki keys e) judged_entry
+
+-- what the last step keeps
+pub entry_kept : ProofLaws → (spki : AcceptsSpki) (keys : LogKeys) (e : TransparencyLogEntry) (offline : Offline)
+    → entry_answer spki keys e ≡ Ok offline → IsKept e offline
+entry_kept proofs spki keys e offline answer =
+    let a = bind_ok (key_answer keys e.log_id) _ offline answer in
+    let b = bind_ok (promise_answer (spki a.0.0 a.0.1) e) _ offline a.2 in
+    let c = bind_ok (fields_answer e.inclusion_proof) _ offline b.2 in
+    let d = bind_ok (inclusion_answer (spki a.0.0 a.0.1) e.canonicalized_body c.0) _ offline c.2 in
+    let is : ◌≡◌ {A = Offline} (record { body = e.canonicalized_body; proof = c.0 }) offline = ok_is _ offline d.2 in
+    subst (λ (o : Offline). IsKept e o) is
+    (record { body = refl; proof = proof_taken proofs e e.inclusion_proof c.0 refl c.1 })

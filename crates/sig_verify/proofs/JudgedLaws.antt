@@ -1,0 +1,85 @@
+-- Results that say which rule fails first, one after another.
+use Rattle.std.proofs.Common.{◌≡◌, List, [], ◌∷◌, ◌++◌, Option, Some, Result, Ok, Err, inl, inr, refl, sym, ap}
+use Rattle.std.proofs.Common.{subst, ◌∙◌}
+use Rattle.std.specs.List.{AllByRecursion}
+use Rattle.sig_base.specs.ResultSteps.{◌>>=◌}
+use Rattle.sig_rekor.proofs.RuleLaws.{none_fails, one_fails}
+use Rattle.sig_rekor.specs.Rules.{FailsFirst}
+use Rattle.sig_verify.specs.Judged.{IsOfFirst, Judged, Tells}
+use Rattle.sig_verify.specs.OfflineErrors.{link_of}
+use Rattle.sig_verify.specs.declared.link.Link.{Link}
+use Rattle.sig_verify.specs.declared.offline_error.OfflineError.{OfflineError}
+
+all_joined : (Holds : Link → Type 0) (xs ys : List Link) → AllByRecursion Holds xs → AllByRecursion Holds ys
+    → AllByRecursion Holds (xs ++ ys)
+all_joined Holds [] ys front behind = behind
+all_joined Holds (x ∷ xs) ys front behind = (front.0, all_joined Holds xs ys front.1 behind)
+
+fails_front : (Holds : Link → Type 0) (xs ys : List Link) (link : Link) → FailsFirst Holds xs link
+    → FailsFirst Holds (xs ++ ys) link
+fails_front Holds [] ys link fails = absurd fails
+fails_front Holds (x ∷ xs) ys link (inl fails) = inl fails
+fails_front Holds (x ∷ xs) ys link (inr later) = inr (later.0, fails_front Holds xs ys link later.1)
+
+fails_behind : (Holds : Link → Type 0) (xs ys : List Link) (link : Link) → AllByRecursion Holds xs
+    → FailsFirst Holds ys link → FailsFirst Holds (xs ++ ys) link
+fails_behind Holds [] ys link front fails = fails
+fails_behind Holds (x ∷ xs) ys link front fails = inr (front.0, fails_behind Holds xs ys link front.1 fails)
+
+behind : {A : Type 0} (Holds : Link → Type 0) (xs ys : List Link) (r : Result A OfflineError)
+    → AllByRecursion Holds xs
+    → Judged Holds ys r → Judged Holds (xs ++ ys) r
+behind Holds xs ys (Ok x) front judged = all_joined Holds xs ys front judged
+behind Holds xs ys (Err error) front judged = (judged.0, judged.1, fails_behind Holds xs ys judged.0 front judged.2)
+
+-- one step behind another
+pub judged_bind : {A B : Type 0} (Holds : Link → Type 0) (xs ys : List Link) (r : Result A OfflineError)
+    (f : A → Result B OfflineError) → Judged Holds xs r → ((x : A) → r ≡ Ok x → Judged Holds ys (f x))
+    → Judged Holds (xs ++ ys) (r >>= f)
+judged_bind Holds xs ys (Ok x) f judged next = behind Holds xs ys (f x) judged (next x refl)
+judged_bind Holds xs ys (Err error) f judged next =
+    (judged.0, judged.1, fails_front Holds xs ys judged.0 judged.2)
+
+-- what is made of a result
+pub judged_map : {A B : Type 0} (Holds : Link → Type 0) (xs : List Link) (r : Result A OfflineError) (f : A → B)
+    → Judged Holds xs r → Judged Holds xs (r >>= λ x. Ok (f x))
+judged_map Holds xs (Ok x) f judged = judged
+judged_map Holds xs (Err error) f judged = judged
+
+-- one rule alone
+pub judged_one : {A : Type 0} (Holds : Link → Type 0) (link : Link) (r : Result A OfflineError)
+    → ((x : A) → r ≡ Ok x → Holds link) → ((error : OfflineError) → r ≡ Err error
+    → ¬ Holds link × (link_of error ≡ Some link))
+    → Judged Holds (link ∷ []) r
+judged_one Holds link (Ok x) held failed = (held x refl, tt)
+judged_one Holds link (Err error) held failed =
+    let is = failed error refl in (link, is.1, inl (is.0, refl))
+
+pub not_first : (Holds : Link → Type 0) (link : Link) (links : List Link) (error : OfflineError) → ¬ Holds link
+    → link_of error ≡ Some link → IsOfFirst Holds (link ∷ links) error
+not_first Holds link links error fails is = (link, is, inl (fails, refl))
+
+-- ---- the same in full
+
+same_error : {A : Type 0} (a b : OfflineError) → ◌≡◌ {A = Result A OfflineError} (Err a) (Err b) → a ≡ b
+same_error a b e = cc
+
+same_link : (a b : Link) → ◌≡◌ {A = Option Link} (Some a) (Some b) → a ≡ b
+same_link a b e = cc
+
+pub judged_tells : {A : Type 0} (Holds : Link → Type 0) (links : List Link) (r : Result A OfflineError)
+    → Judged Holds links r → Tells Holds links r
+judged_tells Holds links (Ok x) judged = record {
+  all = ((λ _. judged), (λ _. refl));
+  first = λ link. ((λ fails. absurd (none_fails Holds links link judged fails)), (λ said. let wrong = said.1 in absurd cc));
+}
+judged_tells {A = A} Holds links (Err error) judged = record {
+  all = ((λ ok. absurd cc), (λ all. absurd (none_fails Holds links judged.0 all judged.2)));
+  first = λ link. (
+    (λ fails. (error, refl, judged.1 ∙ ap (λ (l : Link). Some l) (one_fails Holds links judged.0 link judged.2 fails))),
+    (λ said.
+        let same : said.0 ≡ error = sym (same_error {A = A} error said.0 said.1) in
+        let is : judged.0 ≡ link = same_link judged.0 link (sym judged.1 ∙ ap link_of (sym same) ∙ said.2) in
+        subst (λ (l : Link). FailsFirst Holds links l) is judged.2),
+  );
+}
