@@ -19,6 +19,8 @@ mod std_stream;
 #[cfg(test)]
 mod tests;
 mod verify_request;
+#[cfg(test)]
+mod verify_tests;
 mod words;
 mod write;
 
