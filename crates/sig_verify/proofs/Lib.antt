@@ -7,6 +7,7 @@ pub mod EntryLaws
 pub mod EntryPaths
 pub mod EntryPromises
 pub mod EntryProofs
+pub mod IssuerVerdicts
 pub mod Issuers
 pub mod JudgedLaws
 pub mod Scts

@@ -8,16 +8,21 @@ use Rattle.sig_bundle.specs.declared.bundle.Bundle.{Bundle}
 use Rattle.sig_bundle.specs.declared.bundle_error.BundleErrorKind.{BundleErrorKind}
 use Rattle.sig_bundle.specs.declared.material.TransparencyLogEntry.{TransparencyLogEntry}
 use Rattle.sig_dsse.specs.declared.artifact_digest.ArtifactDigest.{ArtifactDigest}
+use Rattle.sig_timestamp.specs.Embedded.{IsSaidOf}
+use Rattle.sig_timestamp.specs.RingKey.{point_at}
+use Rattle.sig_timestamp.specs.Timestamps.{sct_of}
 use Rattle.sig_verify.specs.BundleLinks.{HoldsOfBundle, bundle_links}
 use Rattle.sig_verify.specs.CertificateLinks.{HoldsOfChecked, Trust}
 use Rattle.sig_verify.specs.ContentCheck.{AcceptsSpki, content_answer, time_answer}
 use Rattle.sig_verify.specs.EntryLinks.{HoldsOfEntry, IsOfBytes, LogKeys, OfProof, entry_links}
+use Rattle.sig_verify.specs.IssuerCheck.{issued_answer}
 use Rattle.sig_verify.specs.Judged.{IsOfFirst, Tells}
 use Rattle.sig_verify.specs.LogEntry.{entry_answer}
 use Rattle.sig_verify.specs.OfflineErrors.{of_verification}
 use Rattle.sig_verify.specs.Verdict.{Checker, PolicyOf}
+use Rattle.sig_verify.specs.Verifier.{Trusted}
 use Rattle.sig_verify.specs.declared.error.VerificationError.{VerificationError}
-use Rattle.sig_verify.specs.declared.link.Link.TheVariants.{Key, Signature, Subject, Time}
+use Rattle.sig_verify.specs.declared.link.Link.TheVariants.{Issuance, Issuer, Sct, Key, Signature, Subject, Time}
 use Rattle.sig_verify.specs.declared.offline.Offline.{Offline}
 use Rattle.sig_verify.specs.declared.offline_error.OfflineError.{OfflineError}
 use Rattle.sig_verify.specs.declared.offline_error.OfflineError.TheVariants.{Bundle as Refused}
@@ -63,3 +68,16 @@ ContentsAreJudged = (k : Checker) (policy : PolicyOf) (trust : Trust) (d : Artif
 abbrev pub TimesAreJudged : Type 0
 TimesAreJudged = (k : Checker) (policy : PolicyOf) (trust : Trust) (d : ArtifactDigest) (offline : Bool) (c : Checked)
     → Tells (HoldsOfChecked k policy trust d offline c) (Time ∷ []) (renamed (time_answer c))
+
+-- the anchors, and the points of the ring
+abbrev pub trust_of : Trusted → Trust
+trust_of trusted = record { anchors = trusted.anchors; points = point_at trusted.ring }
+
+-- of a certificate of which the reader of SCTs says what it has: the result is that of the first of the links
+-- `issuance`, `issuer` and `sct` that fails
+abbrev pub IssuersAreJudged : Type 0
+IssuersAreJudged =
+    (k : Checker) (policy : PolicyOf) (trusted : Trusted) (d : ArtifactDigest) (offline : Bool) (c : Checked)
+    → IsSaidOf c.certificate (sct_of c.certificate)
+    → Tells (HoldsOfChecked k policy (trust_of trusted) d offline c) (Issuance ∷ Issuer ∷ Sct ∷ [])
+    (renamed (issued_answer k.cert k.point trusted c.certificate))

@@ -1,5 +1,6 @@
 //! What the definitions mean.
-ghost use Rattle.sig_verify.specs.LinkLaws.{BundlesAreJudged, ContentsAreJudged, EntriesAreJudged, EntriesAreKept, TimesAreJudged};
+ghost use Rattle.sig_verify.specs.LinkLaws.{BundlesAreJudged, ContentsAreJudged, EntriesAreJudged, EntriesAreKept};
+ghost use Rattle.sig_verify.specs.LinkLaws.{IssuersAreJudged, TimesAreJudged};
 ghost use Rattle.sig_verify.specs.TrustChain.{AllLinksAreTheTrustChain};
 
 use sig_bundle::laws::{causes_of_refusals, passed_bundles, promises, proof_faults, proofs};
@@ -37,4 +38,10 @@ pub fn bundles()
 pub fn contents()
     ensures signed { ContentsAreJudged }
     ensures timely { TimesAreJudged }
+{}
+
+/// The check of a certificate's issuer and SCT returns `Ok` if and only if the links `issuance`, `issuer` and `sct` hold,
+/// and else the error of the first that does not, unless memory runs out. It has no code.
+pub fn issuers()
+    ensures { IssuersAreJudged }
 {}
