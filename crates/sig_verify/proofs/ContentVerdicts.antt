@@ -174,3 +174,6 @@ module _ (k : Checker) (policy : PolicyOf) (trust : Trust) (d : ArtifactDigest) 
 
   pub time_told : Tells Holds (Time ∷ []) (renamed (time_answer c))
   time_told = judged_tells Holds (Time ∷ []) (renamed (time_answer c)) (judged_last (time_answer c) (time_said c))
+
+  pub judged_time : Judged Holds (Time ∷ []) (renamed (time_answer c))
+  judged_time = judged_last (time_answer c) (time_said c)

@@ -15,7 +15,7 @@ all_joined : (Holds : Link → Type 0) (xs ys : List Link) → AllByRecursion Ho
 all_joined Holds [] ys front behind = behind
 all_joined Holds (x ∷ xs) ys front behind = (front.0, all_joined Holds xs ys front.1 behind)
 
-fails_front : (Holds : Link → Type 0) (xs ys : List Link) (link : Link) → FailsFirst Holds xs link
+pub fails_front : (Holds : Link → Type 0) (xs ys : List Link) (link : Link) → FailsFirst Holds xs link
     → FailsFirst Holds (xs ++ ys) link
 fails_front Holds [] ys link fails = absurd fails
 fails_front Holds (x ∷ xs) ys link (inl fails) = inl fails
@@ -26,7 +26,7 @@ fails_behind : (Holds : Link → Type 0) (xs ys : List Link) (link : Link) → A
 fails_behind Holds [] ys link front fails = fails
 fails_behind Holds (x ∷ xs) ys link front fails = inr (front.0, fails_behind Holds xs ys link front.1 fails)
 
-behind : {A : Type 0} (Holds : Link → Type 0) (xs ys : List Link) (r : Result A OfflineError)
+pub behind : {A : Type 0} (Holds : Link → Type 0) (xs ys : List Link) (r : Result A OfflineError)
     → AllByRecursion Holds xs
     → Judged Holds ys r → Judged Holds (xs ++ ys) r
 behind Holds xs ys (Ok x) front judged = all_joined Holds xs ys front judged

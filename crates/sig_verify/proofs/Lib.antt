@@ -1,6 +1,7 @@
 pub mod BundleVerdicts
 pub mod ChainLaws
 pub mod Chains
+pub mod CheckedVerdicts
 pub mod ContentVerdicts
 pub mod EntryKeys
 pub mod EntryLaws

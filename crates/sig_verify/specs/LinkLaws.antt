@@ -12,14 +12,14 @@ use Rattle.sig_timestamp.specs.Embedded.{IsSaidOf}
 use Rattle.sig_timestamp.specs.RingKey.{point_at}
 use Rattle.sig_timestamp.specs.Timestamps.{sct_of}
 use Rattle.sig_verify.specs.BundleLinks.{HoldsOfBundle, bundle_links}
-use Rattle.sig_verify.specs.CertificateLinks.{HoldsOfChecked, Trust}
+use Rattle.sig_verify.specs.CertificateLinks.{HoldsOfChecked, Trust, certificate_links}
 use Rattle.sig_verify.specs.ContentCheck.{AcceptsSpki, content_answer, time_answer}
 use Rattle.sig_verify.specs.EntryLinks.{HoldsOfEntry, IsOfBytes, LogKeys, OfProof, entry_links}
 use Rattle.sig_verify.specs.IssuerCheck.{issued_answer}
 use Rattle.sig_verify.specs.Judged.{IsOfFirst, Tells}
 use Rattle.sig_verify.specs.LogEntry.{entry_answer}
 use Rattle.sig_verify.specs.OfflineErrors.{of_verification}
-use Rattle.sig_verify.specs.Verdict.{Checker, PolicyOf}
+use Rattle.sig_verify.specs.Verdict.{Answer, Checker, IsTrusted, PolicyOf}
 use Rattle.sig_verify.specs.Verifier.{Trusted}
 use Rattle.sig_verify.specs.declared.error.VerificationError.{VerificationError}
 use Rattle.sig_verify.specs.declared.link.Link.TheVariants.{Issuance, Issuer, Sct, Key, Signature, Subject, Time}
@@ -81,3 +81,15 @@ IssuersAreJudged =
     → IsSaidOf c.certificate (sct_of c.certificate)
     → Tells (HoldsOfChecked k policy (trust_of trusted) d offline c) (Issuance ∷ Issuer ∷ Sct ∷ [])
     (renamed (issued_answer k.cert k.point trusted c.certificate))
+
+-- the certificate's key is bytes, and the reader of SCTs says what the certificate has
+pub record IsReadAs (c : Checked) : Type 0 where
+  pub spki : AreBytes c.certificate.spki
+  pub sct : IsSaidOf c.certificate (sct_of c.certificate)
+
+-- of a bundle that passed its own checks: the result is that of the first of the links `issuance` to `time` that fails
+abbrev pub CheckedAreJudged : Type 0
+CheckedAreJudged =
+    (k : Checker) (policy : PolicyOf) (trusted : Trusted) (d : ArtifactDigest) (offline : Bool) (c : Checked) → IsReadAs c
+    → (result : Answer) → IsTrusted k trusted policy d offline c result
+    → Tells (HoldsOfChecked k policy (trust_of trusted) d offline c) certificate_links (renamed result)

@@ -1,5 +1,5 @@
 //! What the definitions mean.
-ghost use Rattle.sig_verify.specs.LinkLaws.{BundlesAreJudged, ContentsAreJudged, EntriesAreJudged, EntriesAreKept};
+ghost use Rattle.sig_verify.specs.LinkLaws.{BundlesAreJudged, CheckedAreJudged, ContentsAreJudged, EntriesAreJudged, EntriesAreKept};
 ghost use Rattle.sig_verify.specs.LinkLaws.{IssuersAreJudged, TimesAreJudged};
 ghost use Rattle.sig_verify.specs.TrustChain.{AllLinksAreTheTrustChain};
 
@@ -44,4 +44,10 @@ pub fn contents()
 /// and else the error of the first that does not, unless memory runs out. It has no code.
 pub fn issuers()
     ensures { IssuersAreJudged }
+{}
+
+/// What a verifier returns of a bundle that passed its own checks is `Ok` if and only if the links `issuance` to `time`
+/// hold, and else the error of the first that does not, unless memory runs out. It has no code.
+pub fn checked_bundles()
+    ensures { CheckedAreJudged }
 {}
