@@ -56,16 +56,16 @@ OneCertificate = (text : List ℕ) (c d : Cert) → IsCertificate text c → IsC
 
 -- ---- equal parts
 
-some_same : {A : Type 0} (a b : A) → ◌≡◌ {A = Option A} (Some a) (Some b) → a ≡ b
+pub some_same : {A : Type 0} (a b : A) → ◌≡◌ {A = Option A} (Some a) (Some b) → a ≡ b
 some_same a b e = cc
 
-encoded_same : (a b : List ℕ) → ◌≡◌ {A = Option MaterialContent} (Some (Encoded a)) (Some (Encoded b)) → a ≡ b
+pub encoded_same : (a b : List ℕ) → ◌≡◌ {A = Option MaterialContent} (Some (Encoded a)) (Some (Encoded b)) → a ≡ b
 encoded_same a b e = cc
 
-enveloped_same : (a b : DsseEnvelope) → ◌≡◌ {A = Option Content} (Some (Enveloped a)) (Some (Enveloped b)) → a ≡ b
+pub enveloped_same : (a b : DsseEnvelope) → ◌≡◌ {A = Option Content} (Some (Enveloped a)) (Some (Enveloped b)) → a ≡ b
 enveloped_same a b e = cc
 
-sole_same : {A : Type 0} (a b : A) → a ∷ [] ≡ b ∷ [] → a ≡ b
+pub sole_same : {A : Type 0} (a b : A) → a ∷ [] ≡ b ∷ [] → a ≡ b
 sole_same a b e = cc
 
 module _ (b : Bundle) where

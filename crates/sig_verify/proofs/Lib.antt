@@ -13,3 +13,4 @@ pub mod Issuers
 pub mod JudgedLaws
 pub mod Scts
 pub mod Verdicts
+pub mod WholeVerdicts

@@ -1,7 +1,8 @@
 -- What the results of the checks say of the links, group by group.
-use Rattle.std.specs.Prelude.{◌≡◌, Bool, [], ◌∷◌, Result, Ok, Err}
+use Rattle.std.specs.Prelude.{◌≡◌, Bool, [], ◌∷◌, ◌++◌, Result, Ok, Err}
 use Rattle.std.specs.List.{AllByRecursion}
 use Rattle.sig_bundle.specs.Checked.{Checked, IsChecked}
+use Rattle.sig_bundle.specs.Passed.{IsPassed}
 use Rattle.sig_bundle.specs.Promise.{AreBytes}
 use Rattle.sig_bundle.specs.Proof.{IsProof}
 use Rattle.sig_bundle.specs.declared.bundle.Bundle.{Bundle}
@@ -19,10 +20,11 @@ use Rattle.sig_verify.specs.IssuerCheck.{issued_answer}
 use Rattle.sig_verify.specs.Judged.{IsOfFirst, Tells}
 use Rattle.sig_verify.specs.LogEntry.{entry_answer}
 use Rattle.sig_verify.specs.OfflineErrors.{of_verification}
-use Rattle.sig_verify.specs.Verdict.{Answer, Checker, IsTrusted, PolicyOf}
+use Rattle.sig_verify.specs.Verdict.{Answer, Checker, IsTrusted, IsVerdict, PolicyOf}
 use Rattle.sig_verify.specs.Verifier.{Trusted}
 use Rattle.sig_verify.specs.declared.error.VerificationError.{VerificationError}
-use Rattle.sig_verify.specs.declared.link.Link.TheVariants.{Issuance, Issuer, Sct, Key, Signature, Subject, Time}
+use Rattle.sig_verify.specs.declared.link.Link.{Link}
+use Rattle.sig_verify.specs.declared.link.Link.TheVariants.{Issuance, Issuer, Sct, Policy, Key, Signature, Subject, Body, Time}
 use Rattle.sig_verify.specs.declared.offline.Offline.{Offline}
 use Rattle.sig_verify.specs.declared.offline_error.OfflineError.{OfflineError}
 use Rattle.sig_verify.specs.declared.offline_error.OfflineError.TheVariants.{Bundle as Refused}
@@ -93,3 +95,28 @@ CheckedAreJudged =
     (k : Checker) (policy : PolicyOf) (trusted : Trusted) (d : ArtifactDigest) (offline : Bool) (c : Checked) → IsReadAs c
     → (result : Answer) → IsTrusted k trusted policy d offline c result
     → Tells (HoldsOfChecked k policy (trust_of trusted) d offline c) certificate_links (renamed result)
+
+-- the bundle passes its own checks, and of what they leave the link holds
+abbrev pub OfPassedBundle : Checker → PolicyOf → Trust → ArtifactDigest → Bool → Bundle → Link → Type 0
+OfPassedBundle k policy trust d offline b link =
+    (c : Checked) × IsPassed b c × HoldsOfChecked k policy trust d offline c link
+
+-- what the links `material` to `time` ask of a bundle
+abbrev pub HoldsOfVerified : Checker → PolicyOf → Trust → ArtifactDigest → Bool → Bundle → Link → Type 0
+HoldsOfVerified k policy trust d offline b Issuance = OfPassedBundle k policy trust d offline b Issuance
+HoldsOfVerified k policy trust d offline b Issuer = OfPassedBundle k policy trust d offline b Issuer
+HoldsOfVerified k policy trust d offline b Sct = OfPassedBundle k policy trust d offline b Sct
+HoldsOfVerified k policy trust d offline b Policy = OfPassedBundle k policy trust d offline b Policy
+HoldsOfVerified k policy trust d offline b Key = OfPassedBundle k policy trust d offline b Key
+HoldsOfVerified k policy trust d offline b Signature = OfPassedBundle k policy trust d offline b Signature
+HoldsOfVerified k policy trust d offline b Subject = OfPassedBundle k policy trust d offline b Subject
+HoldsOfVerified k policy trust d offline b Body = OfPassedBundle k policy trust d offline b Body
+HoldsOfVerified k policy trust d offline b Time = OfPassedBundle k policy trust d offline b Time
+HoldsOfVerified k policy trust d offline b link = HoldsOfBundle b link
+
+-- of a bundle: the result of a verifier is that of the first of the links `material` to `time` that fails
+abbrev pub VerdictsAreJudged : Type 0
+VerdictsAreJudged =
+    (k : Checker) (policy : PolicyOf) (trusted : Trusted) (d : ArtifactDigest) (offline : Bool) (b : Bundle)
+    → ((c : Checked) → IsPassed b c → IsReadAs c) → (result : Answer) → IsVerdict k trusted policy d offline b result
+    → Tells (HoldsOfVerified k policy (trust_of trusted) d offline b) (bundle_links ++ certificate_links) (renamed result)

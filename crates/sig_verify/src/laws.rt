@@ -1,6 +1,6 @@
 //! What the definitions mean.
 ghost use Rattle.sig_verify.specs.LinkLaws.{BundlesAreJudged, CheckedAreJudged, ContentsAreJudged, EntriesAreJudged, EntriesAreKept};
-ghost use Rattle.sig_verify.specs.LinkLaws.{IssuersAreJudged, TimesAreJudged};
+ghost use Rattle.sig_verify.specs.LinkLaws.{IssuersAreJudged, TimesAreJudged, VerdictsAreJudged};
 ghost use Rattle.sig_verify.specs.TrustChain.{AllLinksAreTheTrustChain};
 
 use sig_bundle::laws::{causes_of_refusals, passed_bundles, promises, proof_faults, proofs};
@@ -51,3 +51,13 @@ pub fn issuers()
 pub fn checked_bundles()
     ensures { CheckedAreJudged }
 {}
+
+/// What a verifier returns of a bundle is `Ok` if and only if the links `material` to `time` hold, and else the error of
+/// the first that does not, unless memory runs out. Its calls are laws.
+pub fn verified_bundles()
+    ensures { VerdictsAreJudged }
+{
+    certificates();
+    passed_bundles();
+    bundles();
+}
