@@ -1,7 +1,13 @@
 use Rattle.std.proofs.Common.{refl}
+use Rattle.sig_json.proofs.OrMember.{is_read}
 use Rattle.sig_bundle.specs.LogBody.{dsse_spec_of}
 use Rattle.sig_bundle.proofs.log_body.DsseSpecReaderElementReader.read.Goals as goal
 
 pub returns : goal.returns
 unfolding dsse_spec_of
-returns c = rw (c.in_ok-required.ensures, c.in_ok-required-2.ensures, c.in_ok-required-3.ensures) refl
+returns c =
+    rw (
+      is_read c.in_ok-required.ensures,
+      is_read c.in_ok-required-2.ensures,
+      is_read c.in_ok-required-3.ensures,
+    ) refl
