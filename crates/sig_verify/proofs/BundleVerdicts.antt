@@ -7,7 +7,7 @@ use Rattle.sig_bundle.specs.Passed.{HasProof, IsPassed}
 use Rattle.sig_bundle.specs.Refusals.{HasCertificate, HasDigests, HasEncoding, HasEntry, HasEnvelope, HasLeaf}
 use Rattle.sig_bundle.specs.Refusals.{HasMaterial}
 use Rattle.sig_bundle.specs.Refusals.{HasSignature, HasStatement, HasVersion, IsCause, IsProfileCauseOf}
-use Rattle.sig_bundle.specs.Refusals.{RefusalsHaveTheirCause, material_of}
+use Rattle.sig_bundle.specs.Refusals.{RefusalsHaveTheirCause, material_under}
 use Rattle.sig_bundle.specs.declared.bundle.Bundle.{Bundle}
 use Rattle.sig_bundle.specs.declared.bundle.Content.{Content}
 use Rattle.sig_bundle.specs.declared.bundle.Content.TheVariants.{DsseEnvelope as Enveloped}
@@ -96,8 +96,11 @@ module _ (b : Bundle) where
 
   leaf_holds : HasLeaf b → OfCertificate b (λ c. leaf_refusal c ≡ None)
   leaf_holds h =
-      let c = h.before in
-      (c.before.before.material, c.before.before.brought, (c.before.der, c.before.held, (c.certificate, c.read, h.may_sign)))
+      let c = h.before in (
+        c.before.before.material,
+        c.before.before.brought,
+        (c.before.der, c.before.held, (c.certificate, c.read, h.may_sign)),
+      )
 
   envelope_holds : HasDigests b → OfEnvelope b IsEnvelopeRead
   envelope_holds h =
@@ -116,7 +119,7 @@ module _ (b : Bundle) where
 
   entry_holds : HasEntry b → OfEntry b (λ e. Unit {0})
   entry_holds h =
-      (material_of h.before, h.before.before.before.before.before.before.before.before.brought, (h.entry, h.only, tt))
+      (material_under h.before, h.before.before.before.before.before.before.before.before.brought, (h.entry, h.only, tt))
 
   -- ---- the first that fails
 
@@ -129,7 +132,11 @@ module _ (b : Bundle) where
 
   first_content : HasLeaf b → ¬ HoldsOfBundle b ContentLink → FailsFirst (HoldsOfBundle b) bundle_links ContentLink
   first_content h fails =
-      inr (material_holds h.before.before, inr (certificate_holds h.before, inr (leaf_holds h, inr (tt, inl (fails, refl)))))
+      inr (
+        material_holds h.before.before,
+        inr
+            (certificate_holds h.before, inr (leaf_holds h, inr (tt, inl (fails, refl)))),
+      )
 
   first_envelope : HasEnvelope b → ¬ HoldsOfBundle b Envelope → FailsFirst (HoldsOfBundle b) bundle_links Envelope
   first_envelope h fails =
@@ -189,7 +196,8 @@ module _ (b : Bundle) where
       let read : IsEnvelopeRead h.before.before.envelope = at_envelope h.before.before IsEnvelopeRead holds in
       let same : read.statement ≡ h.statement = some_same read.statement h.statement (sym read.stated ∙ h.stated) in
       let ok : digests_or_fault h.statement ≡ Ok read.digests =
-      subst (λ (s : Statement). digests_or_fault s ≡ Ok read.digests) same ((takes_the_named read.statement read.digests).1 read.taken) in
+      subst (λ (s : Statement). digests_or_fault s ≡ Ok read.digests) same
+      ((takes_the_named read.statement read.digests).1 read.taken) in
       let both : ◌≡◌ {A = Result (List ArtifactDigest) SubjectFault} (Ok read.digests) (Err f) =
       sym ok ∙ (faults_have_their_cause h.statement f).1 cause in absurd cc
 
@@ -242,14 +250,16 @@ module _ (b : Bundle) where
     Certificate,
     refl,
     first_certificate cause.1 (λ holds.
-        let there = at_encoding cause.1 (λ der. (c : Cert) × IsCertificate der c × Unit {0}) holds in cause.2 there.0 there.1),
+        let there = at_encoding cause.1 (λ der. (c : Cert) × IsCertificate der c × Unit {0}) holds in cause.2
+        there.0 there.1),
   )
   told one refusal.CertificatesMissing cause = absurd cause
   told one (refusal.NoLeaf e) cause = (
     Leaf,
     refl,
     first_leaf cause.0 (λ holds.
-        let may : leaf_refusal cause.0.certificate ≡ None = at_certificate one cause.0 (λ c. leaf_refusal c ≡ None) holds in
+        let may : leaf_refusal cause.0.certificate ≡ None = at_certificate one cause.0 (λ c. leaf_refusal c ≡ None)
+        holds in
         let wrong : ◌≡◌ {A = Option CertificateValidationError} None (Some e) = sym may ∙ cause.1 in absurd cc),
   )
   told one refusal.RootInChain cause = absurd cause

@@ -11,11 +11,13 @@ use Rattle.sig_verify.specs.ContentCheck.{content_answer, time_answer}
 use Rattle.sig_verify.specs.IssuerCheck.{issued_answer}
 use Rattle.sig_verify.specs.Judged.{Judged, Tells}
 use Rattle.sig_verify.specs.LinkLaws.{IsReadAs, renamed, trust_of}
-use Rattle.sig_verify.specs.Verdict.{After, AfterBody, AfterPolicy, Answer, Checker, IsAllowed, IsLogged, IsSigned, IsTrusted, PolicyOf}
+use Rattle.sig_verify.specs.Verdict.{After, AfterBody, AfterPolicy, Answer, Checker, IsAllowed, IsLogged, IsSigned}
+use Rattle.sig_verify.specs.Verdict.{IsTrusted, PolicyOf}
 use Rattle.sig_verify.specs.Verifier.{Trusted}
 use Rattle.sig_verify.specs.declared.error.SignatureErrorKind.TheVariants.{Transparency}
 use Rattle.sig_verify.specs.declared.link.Link.{Link}
-use Rattle.sig_verify.specs.declared.link.Link.TheVariants.{Issuance, Issuer, Sct, Policy, Key, Signature, Subject, Body, Time}
+use Rattle.sig_verify.specs.declared.link.Link.TheVariants.{Issuance, Issuer, Sct, Policy, Key, Signature, Subject}
+use Rattle.sig_verify.specs.declared.link.Link.TheVariants.{Body, Time}
 use Rattle.sig_verify.specs.declared.offline_error.OfflineError.TheVariants as error
 
 module _ (k : Checker) (policy : PolicyOf) (trusted : Trusted) (d : ArtifactDigest) (offline : Bool) (c : Checked)
@@ -54,7 +56,8 @@ module _ (k : Checker) (policy : PolicyOf) (trusted : Trusted) (d : ArtifactDige
       behind Holds (Policy ∷ []) (Key ∷ Signature ∷ Subject ∷ Body ∷ Time ∷ []) (renamed result) (holds, tt)
       (judged_signed result is)
   by_policy false refusal result holds is =
-      subst (λ (r : Answer). Judged Holds (Policy ∷ Key ∷ Signature ∷ Subject ∷ Body ∷ Time ∷ []) (renamed r)) (sym is.1)
+      subst (λ (r : Answer). Judged Holds (Policy ∷ Key ∷ Signature ∷ Subject ∷ Body ∷ Time ∷ []) (renamed r))
+      (sym is.1)
       (not_first Holds Policy (Key ∷ Signature ∷ Subject ∷ Body ∷ Time ∷ []) (error.Policy is.0)
       (λ other. let wrong : true ≡ false = sym other ∙ holds in absurd cc) refl)
 

@@ -51,7 +51,8 @@ accepted_says true x is = is
 accepted_says false x is = ((λ e. let wrong : true ≡ false = sym e ∙ is in absurd cc), refl)
 
 signature_says : (message prehash : AcceptsUnder) (d : ArtifactDigest) (content : CheckedContent) (signature : List ℕ)
-    → SaysOf (IsSignedUnder message prehash d content signature) Signature (signature_answer message prehash d content signature)
+    → SaysOf (IsSignedUnder message prehash d content signature) Signature
+    (signature_answer message prehash d content signature)
 signature_says message prehash d (Dsse pae digests envelope payload) signature =
     accepted_says (message pae signature) (message pae signature) refl
 signature_says message prehash (Sha256 bytes) MessageSignature signature =
@@ -70,7 +71,8 @@ same_itself : (a : ArtifactDigest) → is_same a a ≡ true
 same_itself (Sha256 a) = (bytes_decides a a).1 refl
 same_itself (Sha512 a) = (bytes_decides a a).1 refl
 
-contains_from : (ds : List ArtifactDigest) (d : ArtifactDigest) → list_any (λ s. is_same s d) ds ≡ true → Contains ds d
+contains_from : (ds : List ArtifactDigest) (d : ArtifactDigest) → list_any (λ s. is_same s d) ds ≡ true
+    → Contains ds d
 contains_from ds d e =
     let any = Any-from_list_any (λ s. is_same s d) ds e in
     (any.0, any.2, subst (λ (y : ArtifactDigest). slice_index_or ds any.0 y ≡ y) (same_from any.1 d any.4) any.3)
@@ -82,7 +84,8 @@ about_says_by : (b x : Bool) → x ≡ b → SaysOf (x ≡ true) Subject (if_abo
 about_says_by true x is = is
 about_says_by false x is = ((λ e. let wrong : true ≡ false = sym e ∙ is in absurd cc), refl)
 
-about_says : (content : CheckedContent) (d : ArtifactDigest) → SaysOf (IsAbout content d) Subject (if_about (is_about content d))
+about_says : (content : CheckedContent) (d : ArtifactDigest)
+    → SaysOf (IsAbout content d) Subject (if_about (is_about content d))
 about_says MessageSignature d = tt
 about_says (Dsse pae digests envelope payload) d =
     says_map (list_any (λ s. is_same s d) digests ≡ true) (Contains digests d) Subject
@@ -135,12 +138,15 @@ module _ (k : Checker) (policy : PolicyOf) (trust : Trust) (d : ArtifactDigest) 
   judged_two (Ok done) (Ok last) key one two = (key, (one, (two, tt)))
 
   module _ (fits : AreBytes c.certificate.spki) where
-    no_scheme : (kind : KeyKind) → kind ≡ key_kind c.certificate.spki → ((s : VerifyScheme) → ¬ (kind ≡ Scheme s)) → ¬ Holds Key
+    no_scheme : (kind : KeyKind) → kind ≡ key_kind c.certificate.spki → ((s : VerifyScheme) → ¬ (kind ≡ Scheme s))
+        → ¬ Holds Key
     no_scheme kind is other holds =
-        other holds.0 (is ∙ sym (key_kind_only c.certificate.spki (bytes_at c.certificate.spki fits) (Scheme holds.0) holds.1))
+        other holds.0 (is ∙ sym (key_kind_only c.certificate.spki (bytes_at c.certificate.spki fits)
+        (Scheme holds.0) holds.1))
 
     by_kind : (kind : KeyKind) → IsKind c.certificate.spki kind → kind ≡ key_kind c.certificate.spki
-        → Judged Holds (Key ∷ Signature ∷ Subject ∷ []) (renamed (or_unsupported (kind_answer c.certificate.spki kind) >>= λ key.
+        → Judged Holds (Key ∷ Signature ∷ Subject ∷ [])
+        (renamed (or_unsupported (kind_answer c.certificate.spki kind) >>= λ key.
         signature_answer (k.spki key.0 key.1) (k.prehash key.0 key.1) d c.content c.signature >>= λ done.
         if_about (is_about c.content d)))
     by_kind NoKeyInfo is same =
@@ -150,8 +156,11 @@ module _ (k : Checker) (policy : PolicyOf) (trust : Trust) (d : ArtifactDigest) 
         not_first Holds Key (Signature ∷ Subject ∷ []) (error.Signature AlgoUnsupported)
         (no_scheme Unsupported same (λ s e. absurd cc)) refl
     by_kind (Scheme s) is same =
-        let P : VerifyScheme → Type 0 = λ x. IsSignedUnder (k.spki x c.certificate.spki) (k.prehash x c.certificate.spki) d c.content c.signature in
-        judged_two (signature_answer (k.spki s c.certificate.spki) (k.prehash s c.certificate.spki) d c.content c.signature)
+        let P : VerifyScheme
+        → Type 0 =
+        λ x. IsSignedUnder (k.spki x c.certificate.spki) (k.prehash x c.certificate.spki) d c.content c.signature in
+        judged_two (signature_answer (k.spki s c.certificate.spki) (k.prehash s c.certificate.spki) d c.content
+        c.signature)
         (if_about (is_about c.content d)) (s, is, tt)
         (says_map (P s) (OfScheme c.certificate P) Signature
         (signature_answer (k.spki s c.certificate.spki) (k.prehash s c.certificate.spki) d c.content c.signature)
@@ -166,7 +175,8 @@ module _ (k : Checker) (policy : PolicyOf) (trust : Trust) (d : ArtifactDigest) 
         by_kind (key_kind c.certificate.spki) (key_kind_is c.certificate.spki (bytes_at c.certificate.spki fits)) refl
 
     pub content_told : Tells Holds (Key ∷ Signature ∷ Subject ∷ []) (renamed (content_answer k.spki k.prehash d c))
-    content_told = judged_tells Holds (Key ∷ Signature ∷ Subject ∷ []) (renamed (content_answer k.spki k.prehash d c)) judged_content
+    content_told = judged_tells Holds (Key ∷ Signature ∷ Subject ∷ [])
+        (renamed (content_answer k.spki k.prehash d c)) judged_content
 
   judged_last : (r : Answer) → SaysOf (Holds Time) Time r → Judged Holds (Time ∷ []) (renamed r)
   judged_last (Ok done) said = (said, tt)

@@ -47,7 +47,8 @@ by_der : (keys : LogKeys) (e : TransparencyLogEntry) → IsOfBytes keys e → (i
     → read_found (encode_lower id) found ≡ Ok key → HasLogKey keys e key
 by_der keys e bytes id key None named is answer = absurd cc
 by_der keys e bytes id key (Some der) named is answer =
-    by_kind keys e id der key (key_kind der) named is (key_kind_is der (bytes_at der (bytes.key id der named is))) answer
+    by_kind keys e id der key (key_kind der) named is (key_kind_is der (bytes_at der (bytes.key id der named is)))
+    answer
 
 by_id : (keys : LogKeys) (e : TransparencyLogEntry) → IsOfBytes keys e → (key : VerifyScheme × List ℕ)
     (id : Option (List ℕ)) → e.log_id ≡ id → key_answer keys id ≡ Ok key → HasLogKey keys e key

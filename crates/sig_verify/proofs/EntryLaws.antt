@@ -37,13 +37,15 @@ module _ (promises : PromiseLaws) (proofs : ProofLaws) (spki : AcceptsSpki) (key
   judged_vouched key has =
       judged_bind (HoldsOfEntry spki keys e) (Promise ∷ []) (Proof ∷ Checkpoint ∷ NoteKey ∷ NoteMatch ∷ Inclusion ∷ [])
       (promise_answer (spki key.0 key.1) e) _ (judged_promise spki keys e bytes key has promises)
-      (λ done promised. judged_bind (HoldsOfEntry spki keys e) (Proof ∷ Checkpoint ∷ []) (NoteKey ∷ NoteMatch ∷ Inclusion ∷ [])
+      (λ done promised. judged_bind (HoldsOfEntry spki keys e) (Proof ∷ Checkpoint ∷ [])
+      (NoteKey ∷ NoteMatch ∷ Inclusion ∷ [])
       (fields_answer e.inclusion_proof) _ (judged_proof spki keys e proofs)
       (λ proof answer. judged_included key has proof answer))
 
   pub judged_entry : Judged (HoldsOfEntry spki keys e) entry_links (entry_answer spki keys e)
   judged_entry =
-      judged_bind (HoldsOfEntry spki keys e) (LogKey ∷ []) (Promise ∷ Proof ∷ Checkpoint ∷ NoteKey ∷ NoteMatch ∷ Inclusion ∷ [])
+      judged_bind (HoldsOfEntry spki keys e) (LogKey ∷ [])
+      (Promise ∷ Proof ∷ Checkpoint ∷ NoteKey ∷ NoteMatch ∷ Inclusion ∷ [])
       (key_answer keys e.log_id) _ (judged_key spki keys e bytes)
       (λ key answer. judged_vouched key (key_has keys e bytes key answer))
 

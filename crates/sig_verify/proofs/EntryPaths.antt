@@ -116,8 +116,14 @@ module _ (spki : AcceptsSpki) (keys : LogKeys) (e : TransparencyLogEntry) (bytes
   )
   says_tree false false true larger smaller equal =
       let size : proof.tree_size ≡ of.checkpoint.note.size =
-      omega (arith, ltb-false proof.tree_size of.checkpoint.note.size larger, ltb-false of.checkpoint.note.size proof.tree_size smaller) in
-      let hash : of.checkpoint.note.hash ≡ proof.root_hash = (bytes_decides of.checkpoint.note.hash proof.root_hash).0 equal in
+      omega (
+        arith,
+        ltb-false proof.tree_size of.checkpoint.note.size larger,
+        ltb-false of.checkpoint.note.size
+            proof.tree_size smaller,
+      ) in
+      let hash : of.checkpoint.note.hash ≡ proof.root_hash =
+      (bytes_decides of.checkpoint.note.hash proof.root_hash).0 equal in
       (p, is, (of.checkpoint, of.decoded, (of.size ∙ ap (λ (n : ℕ). pos n) size, hash ∙ of.root.0)))
   says_tree false false false larger smaller equal = (
     (λ holds.
@@ -149,17 +155,22 @@ module _ (spki : AcceptsSpki) (keys : LogKeys) (e : TransparencyLogEntry) (bytes
       → Says (HoldsOfEntry spki keys e) Inclusion (as_inclusion r)
   says_result index place (Ok done) said =
       let included : IsIncluded index (leaf_of e.canonicalized_body) proof.tree_size proof.hashes proof.root_hash =
-      (inclusion_answers index proof.tree_size (leaf_of e.canonicalized_body) proof.root_hash proof.hashes (Ok done)).0 said in
-      ((p, is, (index, proof.tree_size, place, of.size, included.0)), (p, is, (index, proof.tree_size, place, of.size, led index included.1)))
+      (inclusion_answers index proof.tree_size (leaf_of e.canonicalized_body) proof.root_hash proof.hashes
+      (Ok done)).0 said in (
+        (p, is, (index, proof.tree_size, place, of.size, included.0)),
+        (p, is, (index, proof.tree_size, place, of.size, led index included.1)),
+      )
   says_result index place (Err refusal) said = (
     (λ holds.
         let within : index < proof.tree_size =
         at_place p index proof.tree_size (λ m n. m < n) place of.size (at_proof e p IsPlaced is holds.0) in
         let path : path_root index (leaf_of e.canonicalized_body) proof.tree_size p.hashes ≡ Some p.root_hash =
-        at_place p index proof.tree_size (λ m n. path_root m (leaf_of e.canonicalized_body) n p.hashes ≡ Some p.root_hash) place of.size
+        at_place p index proof.tree_size (λ m n. path_root m (leaf_of e.canonicalized_body) n p.hashes ≡ Some
+        p.root_hash) place of.size
         (at_proof e p (IsLed e) is holds.1) in
         let both : ◌≡◌ {A = Result (Unit {0}) MerkleProofError} (Ok tt) (Err refusal) =
-        sym ((inclusion_answers index proof.tree_size (leaf_of e.canonicalized_body) proof.root_hash proof.hashes (Ok tt)).1
+        sym ((inclusion_answers index proof.tree_size (leaf_of e.canonicalized_body) proof.root_hash proof.hashes
+        (Ok tt)).1
         (within, led_back index path)) ∙ said in absurd cc),
     refl,
   )
@@ -183,7 +194,8 @@ module _ (spki : AcceptsSpki) (keys : LogKeys) (e : TransparencyLogEntry) (bytes
   unfolding proof_answer
   judged_path =
       subst (λ (o : Option SignedCheckpoint). Judged (HoldsOfEntry spki keys e) (NoteKey ∷ NoteMatch ∷ Inclusion ∷ [])
-      (from_proof (and_then (checkpoint_answer (spki key.0 key.1) proof o) (inclusion_at proof.log_index e.canonicalized_body proof))))
+      (from_proof (and_then (checkpoint_answer (spki key.0 key.1) proof o)
+      (inclusion_at proof.log_index e.canonicalized_body proof))))
       (sym of.carried)
       (judged_three (HoldsOfEntry spki keys e)
       (signed_answer (spki key.0 key.1) of.checkpoint) (tree_answer of.checkpoint proof.root_hash proof.tree_size)

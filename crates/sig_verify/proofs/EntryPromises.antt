@@ -66,11 +66,13 @@ module _ (spki : AcceptsSpki) (keys : LogKeys) (e : TransparencyLogEntry) (bytes
   by_text : PromiseLaws → (promise : List ℕ) → e.inclusion_promise ≡ Some promise → IsExactEntry e ⊎ ¬ IsExactEntry e
       → Judged (HoldsOfEntry spki keys e) (Promise ∷ []) (with_text promise (canonical_of (promise_tree_of e)))
   by_text laws promise is (inl exact) =
-      subst (λ (found : Result (List ℕ) CanonicalError). Judged (HoldsOfEntry spki keys e) (Promise ∷ []) (with_text promise found))
+      subst (λ (found : Result (List ℕ) CanonicalError). Judged (HoldsOfEntry spki keys e) (Promise ∷ [])
+      (with_text promise found))
       (sym (laws.text e bytes.body bytes.id exact))
       (by_checker promise is exact (spki key.0 key.1 (promise_of_entry e) promise) refl)
   by_text laws promise is (inr wide) =
-      subst (λ (found : Result (List ℕ) CanonicalError). Judged (HoldsOfEntry spki keys e) (Promise ∷ []) (with_text promise found))
+      subst (λ (found : Result (List ℕ) CanonicalError). Judged (HoldsOfEntry spki keys e) (Promise ∷ [])
+      (with_text promise found))
       (sym (laws.too_large e wide))
       (not_first (HoldsOfEntry spki keys e) Promise [] error.PromiseInteger (λ holds. wide holds.0.1) refl)
 

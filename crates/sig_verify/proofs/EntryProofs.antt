@@ -68,7 +68,8 @@ not_all (hash ∷ before) after other are = not_all before after other are.1
 
 other_hash : (hashes : List (List ℕ)) (index : ℕ) → IsFirstOther hashes index → ¬ AllByRecursion IsHash hashes
 other_hash hashes index is are =
-    is.wrong (not_all is.before is.after is.other (subst (λ (hs : List (List ℕ)). AllByRecursion IsHash hs) is.split are))
+    is.wrong (not_all is.before is.after is.other
+    (subst (λ (hs : List (List ℕ)). AllByRecursion IsHash hs) is.split are))
 
 module _ (spki : AcceptsSpki) (keys : LogKeys) (e : TransparencyLogEntry) where
   -- the proof is as it was read
@@ -78,12 +79,14 @@ module _ (spki : AcceptsSpki) (keys : LogKeys) (e : TransparencyLogEntry) where
   by_fault : (p : ProofFields) → e.inclusion_proof ≡ Some p → (f : ProofFieldsError) → IsProofFault p f
       → Judged {A = InclusionProof} (HoldsOfEntry spki keys e) (Proof ∷ Checkpoint ∷ []) (Err (of_fields f))
   by_fault p is fault.RootLength cause =
-      not_first (HoldsOfEntry spki keys e) Proof (Checkpoint ∷ []) error.RootLength (λ holds. cause (read_of p is holds).root) refl
+      not_first (HoldsOfEntry spki keys e) Proof (Checkpoint ∷ []) error.RootLength
+      (λ holds. cause (read_of p is holds).root) refl
   by_fault p is (fault.HashLength index) cause =
       not_first (HoldsOfEntry spki keys e) Proof (Checkpoint ∷ []) (error.HashLength index)
       (λ holds. other_hash p.hashes index cause.1 (read_of p is holds).hashes) refl
   by_fault p is fault.TreeSize cause =
-      not_first (HoldsOfEntry spki keys e) Proof (Checkpoint ∷ []) error.TreeSize (λ holds. cause.2 (read_of p is holds).size) refl
+      not_first (HoldsOfEntry spki keys e) Proof (Checkpoint ∷ []) error.TreeSize
+      (λ holds. cause.2 (read_of p is holds).size) refl
   by_fault p is fault.CheckpointMissing cause =
       not_first (HoldsOfEntry spki keys e) Proof (Checkpoint ∷ []) error.CheckpointMissing
       (λ holds. let wrong : true ≡ false = sym (read_of p is holds).checkpoint ∙ ap is_some cause.3 in absurd cc) refl
@@ -114,7 +117,13 @@ module _ (spki : AcceptsSpki) (keys : LogKeys) (e : TransparencyLogEntry) where
   by_read laws p is (Ok proof) said =
       let of = (laws.proofs p proof).0 said in
       let read : IsProofRead p =
-      record { root = of.root.1; hashes = of.hashes.1; size = (proof.tree_size, of.size); checkpoint = ap is_some of.decoded.1 } in
+      record {
+        root = of.root.1;
+        hashes = of.hashes.1;
+        size = (proof.tree_size, of.size);
+        checkpoint = ap is_some
+            of.decoded.1;
+      } in
       ((p, is, read), ((p, is, (of.checkpoint, of.decoded, tt)), tt))
   by_read laws p is (Err f) said = by_fault p is f ((laws.faults p f).0 said)
 

@@ -83,7 +83,8 @@ has_told c spki s t is told =
 has_none : (c : Cert) (spki : List ℕ) (t : SctType) (kind : CertificateErrorKind) → sct_of c ≡ Err kind
     → Answers OutOfMemory (λ (x : DigitallySigned). x) (ready c spki (sct_of c)) (Ok (signed_of c spki t)) → ⊥
 has_none c spki t kind is told =
-    by (subst (λ r. Answers OutOfMemory (λ (x : DigitallySigned). x) (ready c spki r) (Ok (signed_of c spki t))) is told)
+    by (subst (λ r. Answers OutOfMemory (λ (x : DigitallySigned). x) (ready c spki r) (Ok (signed_of c spki t))) is
+    told)
   where
     by : Answers OutOfMemory (λ (x : DigitallySigned). x) (Err (Parsing kind)) (Ok (signed_of c spki t)) → ⊥
     by (inl memory) = cc
@@ -118,9 +119,11 @@ module _ (k : Checker) (policy : PolicyOf) (trusted : Trusted) (d : ArtifactDige
     one_issuer : (P : Cert → Type 0) → OfIssuer k.cert trusted.anchors c P → P first.anchor
     one_issuer P of =
         let profile : HasProfile c =
-        ((answers_issued k.cert trusted.anchors c c.not_before (issuer_of k.cert trusted.anchors c c.not_before) refl place).0 at_pool).0 in
+        ((answers_issued k.cert trusted.anchors c c.not_before (issuer_of k.cert trusted.anchors c c.not_before)
+        refl place).0 at_pool).0 in
         let other : issuer_of k.cert trusted.anchors c c.not_before ≡ Ok of.index =
-        (answers_issued k.cert trusted.anchors c c.not_before (issuer_of k.cert trusted.anchors c c.not_before) refl of.index).1 (profile, of.first) in
+        (answers_issued k.cert trusted.anchors c c.not_before (issuer_of k.cert trusted.anchors c c.not_before) refl
+        of.index).1 (profile, of.first) in
         let same : of.index ≡ place = same_place of.index place (sym other ∙ at_pool) in
         subst P (same_anchor of.first.anchor first.anchor
         (sym of.first.there ∙ ap (λ (n : ℕ). slice_get trusted.anchors n) same ∙ first.there)) of.holds
@@ -199,7 +202,8 @@ module _ (k : Checker) (policy : PolicyOf) (trusted : Trusted) (d : ArtifactDige
     says_sct : (r : Result SctType CertificateErrorKind) → sct_of c ≡ r → IsSaidOf c r
         → SaysSct (ready c spki r >>= λ signed. judged k.point signed trusted.ring)
     says_sct (Ok s) is of =
-        says_lengths s of is (nat_lt (2 ^ 24 - 1) (length (precertificate c))) (nat_lt (2 ^ 16 - 1) (length s.extensions)) refl refl
+        says_lengths s of is (nat_lt (2 ^ 24 - 1) (length (precertificate c)))
+        (nat_lt (2 ^ 16 - 1) (length s.extensions)) refl refl
     says_sct (Err kind) is of =
         ((λ holds. has_none c spki holds.0.0 kind is (has_read spki holds.0.0 holds.0.1)), refl)
 
@@ -229,13 +233,16 @@ module _ (k : Checker) (policy : PolicyOf) (trusted : Trusted) (d : ArtifactDige
       → Judged Holds (Issuance ∷ Issuer ∷ Sct ∷ []) (renamed (from_pool r >>= (λ place. spki_at trusted.anchors place)
       >>= λ found. from_sct (sct_answer k.point trusted.ring c found)))
   by_pool (Ok place) is =
-      let both = (answers_issued k.cert trusted.anchors c c.not_before (issuer_of k.cert trusted.anchors c c.not_before) refl place).0 is in
+      let both = (answers_issued k.cert trusted.anchors c c.not_before
+      (issuer_of k.cert trusted.anchors c c.not_before) refl place).0 is in
       judged_behind place both.1 is both.0
   by_pool (Err pool.Malformed) is =
       not_first Holds Issuance (Issuer ∷ Sct ∷ []) (error.Certificate certificate.Malformed)
-      ((answers_malformed k.cert trusted.anchors c c.not_before (issuer_of k.cert trusted.anchors c c.not_before) refl).0 is) refl
+      ((answers_malformed k.cert trusted.anchors c c.not_before (issuer_of k.cert trusted.anchors c c.not_before)
+      refl).0 is) refl
   by_pool (Err pool.VerificationFailed) is =
-      let both = (answers_none k.cert trusted.anchors c c.not_before (issuer_of k.cert trusted.anchors c c.not_before) refl).0 is in
+      let both = (answers_none k.cert trusted.anchors c c.not_before
+      (issuer_of k.cert trusted.anchors c c.not_before) refl).0 is in
       (Issuer, refl, inr (both.0, inl ((λ of. both.1 of.index of.first.anchor of.first.there of.first.issued), refl)))
   by_pool (Err (pool.Anchor n)) is =
       absurd (no_anchor (is_profiled c) (position (is_issued k.cert c c.not_before) trusted.anchors) n is)

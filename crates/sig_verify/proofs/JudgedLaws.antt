@@ -71,7 +71,10 @@ pub judged_tells : {A : Type 0} (Holds : Link → Type 0) (links : List Link) (r
     → Judged Holds links r → Tells Holds links r
 judged_tells Holds links (Ok x) judged = record {
   all = ((λ _. judged), (λ _. refl));
-  first = λ link. ((λ fails. absurd (none_fails Holds links link judged fails)), (λ said. let wrong = said.1 in absurd cc));
+  first = λ link. (
+    (λ fails. absurd (none_fails Holds links link judged fails)),
+    (λ said. let wrong = said.1 in absurd cc),
+  );
 }
 judged_tells {A = A} Holds links (Err error) judged = record {
   all = ((λ ok. absurd cc), (λ all. absurd (none_fails Holds links judged.0 all judged.2)));

@@ -11,6 +11,7 @@ pub mod EntryProofs
 pub mod IssuerVerdicts
 pub mod Issuers
 pub mod JudgedLaws
+pub mod RootVerdicts
 pub mod Scts
 pub mod Verdicts
 pub mod WholeVerdicts

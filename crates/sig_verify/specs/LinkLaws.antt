@@ -1,6 +1,8 @@
 -- What the results of the checks say of the links, group by group.
-use Rattle.std.specs.Prelude.{◌≡◌, Bool, [], ◌∷◌, ◌++◌, Result, Ok, Err}
+use Rattle.std.specs.Prelude.{◌≡◌, ◌≢◌, ℤ, Bool, [], ◌∷◌, ◌++◌, Result, Ok, Err}
 use Rattle.std.specs.List.{AllByRecursion}
+use Rattle.sig_base.specs.declared.error.SigstoreError.{SigstoreError}
+use Rattle.sig_base.specs.declared.error.SigstoreError.TheVariants.{OutOfMemory}
 use Rattle.sig_bundle.specs.Checked.{Checked, IsChecked}
 use Rattle.sig_bundle.specs.Passed.{IsPassed}
 use Rattle.sig_bundle.specs.Promise.{AreBytes}
@@ -9,6 +11,7 @@ use Rattle.sig_bundle.specs.declared.bundle.Bundle.{Bundle}
 use Rattle.sig_bundle.specs.declared.bundle_error.BundleErrorKind.{BundleErrorKind}
 use Rattle.sig_bundle.specs.declared.material.TransparencyLogEntry.{TransparencyLogEntry}
 use Rattle.sig_dsse.specs.declared.artifact_digest.ArtifactDigest.{ArtifactDigest}
+use Rattle.sig_root.specs.declared.record.TrustedRoot.{TrustedRoot}
 use Rattle.sig_timestamp.specs.Embedded.{IsSaidOf}
 use Rattle.sig_timestamp.specs.RingKey.{point_at}
 use Rattle.sig_timestamp.specs.Timestamps.{sct_of}
@@ -19,12 +22,15 @@ use Rattle.sig_verify.specs.EntryLinks.{HoldsOfEntry, IsOfBytes, LogKeys, OfProo
 use Rattle.sig_verify.specs.IssuerCheck.{issued_answer}
 use Rattle.sig_verify.specs.Judged.{IsOfFirst, Tells}
 use Rattle.sig_verify.specs.LogEntry.{entry_answer}
-use Rattle.sig_verify.specs.OfflineErrors.{of_verification}
+use Rattle.sig_verify.specs.OfflineErrors.{of_root, of_verification}
+use Rattle.sig_verify.specs.OfflineVerdict.{authorities_of, ct_keys_of}
+use Rattle.sig_verify.specs.RootLinks.{HoldsOfRoot, root_links}
 use Rattle.sig_verify.specs.Verdict.{Answer, Checker, IsTrusted, IsVerdict, PolicyOf}
-use Rattle.sig_verify.specs.Verifier.{Trusted}
+use Rattle.sig_verify.specs.Verifier.{IsRefusedRoot, IsVerifierOf, Trusted}
 use Rattle.sig_verify.specs.declared.error.VerificationError.{VerificationError}
 use Rattle.sig_verify.specs.declared.link.Link.{Link}
-use Rattle.sig_verify.specs.declared.link.Link.TheVariants.{Issuance, Issuer, Sct, Policy, Key, Signature, Subject, Body, Time}
+use Rattle.sig_verify.specs.declared.link.Link.TheVariants.{Issuance, Issuer, Sct, Policy, Key, Signature, Subject}
+use Rattle.sig_verify.specs.declared.link.Link.TheVariants.{Body, Time}
 use Rattle.sig_verify.specs.declared.offline.Offline.{Offline}
 use Rattle.sig_verify.specs.declared.offline_error.OfflineError.{OfflineError}
 use Rattle.sig_verify.specs.declared.offline_error.OfflineError.TheVariants.{Bundle as Refused}
@@ -61,7 +67,8 @@ renamed (Err error) = Err (of_verification error)
 
 -- of a certificate's key: the result is that of the first of the links `key`, `signature` and `subject` that fails
 abbrev pub ContentsAreJudged : Type 0
-ContentsAreJudged = (k : Checker) (policy : PolicyOf) (trust : Trust) (d : ArtifactDigest) (offline : Bool) (c : Checked)
+ContentsAreJudged =
+    (k : Checker) (policy : PolicyOf) (trust : Trust) (d : ArtifactDigest) (offline : Bool) (c : Checked)
     → AreBytes c.certificate.spki
     → Tells (HoldsOfChecked k policy trust d offline c) (Key ∷ Signature ∷ Subject ∷ [])
     (renamed (content_answer k.spki k.prehash d c))
@@ -92,7 +99,8 @@ pub record IsReadAs (c : Checked) : Type 0 where
 -- of a bundle that passed its own checks: the result is that of the first of the links `issuance` to `time` that fails
 abbrev pub CheckedAreJudged : Type 0
 CheckedAreJudged =
-    (k : Checker) (policy : PolicyOf) (trusted : Trusted) (d : ArtifactDigest) (offline : Bool) (c : Checked) → IsReadAs c
+    (k : Checker) (policy : PolicyOf) (trusted : Trusted) (d : ArtifactDigest) (offline : Bool) (c : Checked)
+    → IsReadAs c
     → (result : Answer) → IsTrusted k trusted policy d offline c result
     → Tells (HoldsOfChecked k policy (trust_of trusted) d offline c) certificate_links (renamed result)
 
@@ -119,4 +127,15 @@ abbrev pub VerdictsAreJudged : Type 0
 VerdictsAreJudged =
     (k : Checker) (policy : PolicyOf) (trusted : Trusted) (d : ArtifactDigest) (offline : Bool) (b : Bundle)
     → ((c : Checked) → IsPassed b c → IsReadAs c) → (result : Answer) → IsVerdict k trusted policy d offline b result
-    → Tells (HoldsOfVerified k policy (trust_of trusted) d offline b) (bundle_links ++ certificate_links) (renamed result)
+    → Tells (HoldsOfVerified k policy (trust_of trusted) d offline b) (bundle_links ++ certificate_links)
+    (renamed result)
+
+-- of a trusted root at a time: there is a verifier only if the links `fulcio`, `anchor` and `ctfe` hold, and an error
+-- is that of the first that does not, unless memory ran out
+pub record RootsAreJudged : Type 0 where
+  pub made : (root : TrustedRoot) (now : ℤ) (trusted : Trusted)
+      → IsVerifierOf (authorities_of root now) (ct_keys_of root now) trusted
+      → AllByRecursion (HoldsOfRoot root now) root_links
+  pub refused : (root : TrustedRoot) (now : ℤ) (error : SigstoreError)
+      → IsRefusedRoot (authorities_of root now) (ct_keys_of root now) error → error ≢ OutOfMemory
+      → IsOfFirst (HoldsOfRoot root now) root_links (of_root error)

@@ -1,18 +1,20 @@
-//! What the definitions mean.
-ghost use Rattle.sig_verify.specs.LinkLaws.{BundlesAreJudged, CheckedAreJudged, ContentsAreJudged, EntriesAreJudged, EntriesAreKept};
-ghost use Rattle.sig_verify.specs.LinkLaws.{IssuersAreJudged, TimesAreJudged, VerdictsAreJudged};
+//! What the definitions mean: the chain of trust, and what the result of each check says of its links. Each law holds
+//! unless memory runs out, and its calls, where it has any, are laws.
+ghost use Rattle.sig_verify.specs.LinkLaws.{BundlesAreJudged, CheckedAreJudged, ContentsAreJudged};
+ghost use Rattle.sig_verify.specs.LinkLaws.{EntriesAreJudged, EntriesAreKept, IssuersAreJudged, TimesAreJudged};
+ghost use Rattle.sig_verify.specs.LinkLaws.{RootsAreJudged, VerdictsAreJudged};
 ghost use Rattle.sig_verify.specs.TrustChain.{AllLinksAreTheTrustChain};
 
 use sig_bundle::laws::{causes_of_refusals, passed_bundles, promises, proof_faults, proofs};
 use sig_certificate::laws::certificates;
 
-/// Every link holds if and only if the inputs are valid and the chain of trust holds. It has no code.
+/// Every link holds if and only if the inputs are valid and the chain of trust holds.
 pub fn trust_chain()
     ensures { AllLinksAreTheTrustChain }
 {}
 
-/// What `verify_log_entry` returns is a value if and only if the links `log-key` to `inclusion` hold, and else the error
-/// of the first that does not, unless memory runs out; the value is the entry's body with its proof. Its calls are laws.
+/// What `verify_log_entry` returns is a value if and only if the links `log-key` to `inclusion` hold, and else the
+/// error of the first that does not. The value is the entry's body with its proof.
 pub fn entries()
     ensures links { EntriesAreJudged }
     ensures kept { EntriesAreKept }
@@ -23,7 +25,7 @@ pub fn entries()
 }
 
 /// A bundle's own checks pass if and only if the links `material` to `profile` hold, and else return the error of the
-/// first that does not, unless memory runs out. Its calls are laws.
+/// first that does not.
 pub fn bundles()
     ensures { BundlesAreJudged }
 {
@@ -32,28 +34,27 @@ pub fn bundles()
     causes_of_refusals();
 }
 
-/// The check of a certificate's key returns `Ok` if and only if the links `key`, `signature` and `subject` hold, and the
-/// check of the time if and only if the link `time` does; else each returns the error of the first that does not. It has
-/// no code.
+/// The check of a certificate's key returns `Ok` if and only if the links `key`, `signature` and `subject` hold, and
+/// that of the time if and only if the link `time` does. Else each returns the error of the first that does not.
 pub fn contents()
     ensures signed { ContentsAreJudged }
     ensures timely { TimesAreJudged }
 {}
 
-/// The check of a certificate's issuer and SCT returns `Ok` if and only if the links `issuance`, `issuer` and `sct` hold,
-/// and else the error of the first that does not, unless memory runs out. It has no code.
+/// The check of a certificate's issuer and SCT returns `Ok` if and only if the links `issuance`, `issuer` and `sct`
+/// hold, and else the error of the first that does not.
 pub fn issuers()
     ensures { IssuersAreJudged }
 {}
 
 /// What a verifier returns of a bundle that passed its own checks is `Ok` if and only if the links `issuance` to `time`
-/// hold, and else the error of the first that does not, unless memory runs out. It has no code.
+/// hold, and else the error of the first that does not.
 pub fn checked_bundles()
     ensures { CheckedAreJudged }
 {}
 
-/// What a verifier returns of a bundle is `Ok` if and only if the links `material` to `time` hold, and else the error of
-/// the first that does not, unless memory runs out. Its calls are laws.
+/// What a verifier returns of a bundle is `Ok` if and only if the links `material` to `time` hold, and else the error
+/// of the first that does not.
 pub fn verified_bundles()
     ensures { VerdictsAreJudged }
 {
@@ -61,3 +62,9 @@ pub fn verified_bundles()
     passed_bundles();
     bundles();
 }
+
+/// A trusted root gives a verifier only if the links `fulcio`, `anchor` and `ctfe` hold, and an error is that of the
+/// first that does not.
+pub fn roots()
+    ensures { RootsAreJudged }
+{}

@@ -1,0 +1,112 @@
+-- The links `fulcio`, `anchor` and `ctfe`: what a trusted root means says which of them fails first.
+use Rattle.std.proofs.Common.{◌≡◌, ◌≢◌, ◌⊎◌, ℕ, ℤ, List, [], ◌∷◌, Result, Ok, Err, inl, inr, refl, sym, ap, subst}
+use Rattle.std.proofs.Common.{◌∙◌}
+use Rattle.std.specs.List.{AllByRecursion}
+use Rattle.sig_base.specs.declared.error.SigstoreError.{SigstoreError}
+use Rattle.sig_base.specs.declared.error.SigstoreError.TheVariants.{CertificatePoolError, OutOfMemory}
+use Rattle.sig_base.specs.declared.error.SigstoreError.TheVariants.{TufMetadataError}
+use Rattle.sig_base.specs.declared.fault.PoolError.{PoolError}
+use Rattle.sig_base.specs.declared.fault.PoolError.TheVariants as pool
+use Rattle.sig_base.specs.declared.fault.TrustPart.{TrustPart}
+use Rattle.sig_certificate.specs.Certificate.{Cert}
+use Rattle.sig_root.specs.Picked.{unless_empty}
+use Rattle.sig_root.specs.declared.record.TrustedRoot.{TrustedRoot}
+use Rattle.sig_base.specs.declared.fault.TrustPart.TheVariants as part
+use Rattle.sig_x509.proofs.AnchorLaws.{first_refused}
+use Rattle.sig_x509.specs.Issuance.{AreAnchors, IsFirstNoAnchor}
+use Rattle.sig_verify.specs.Judged.{IsOfFirst}
+use Rattle.sig_verify.specs.LinkLaws.{RootsAreJudged}
+use Rattle.sig_verify.specs.OfflineErrors.{link_of, of_root}
+use Rattle.sig_verify.specs.OfflineVerdict.{authorities_of, ct_keys_of}
+use Rattle.sig_verify.specs.RootLinks.{HoldsOfRoot, IsSomeAnchor, authorities, ct_keys, root_links}
+use Rattle.sig_verify.specs.Verifier.{IsRefusedRoot, IsVerifierOf, Trusted}
+use Rattle.sig_verify.specs.declared.link.Link.{Link}
+use Rattle.sig_verify.specs.declared.link.Link.TheVariants.{Fulcio, Anchor, Ctfe}
+
+-- ---- a list that has something
+
+some_given : {A : Type 0} (p : TrustPart) (xs ys : List A) → unless_empty p xs ≡ Ok ys → (xs ≢ []) × (xs ≡ ys)
+some_given p [] ys e = absurd cc
+some_given p (x ∷ xs) ys e = ((λ none. absurd cc), (let same : x ∷ xs ≡ ys = cc in same))
+
+none_given : {A : Type 0} (p : TrustPart) (xs : List A) (error : SigstoreError) → unless_empty p xs ≡ Err error
+    → (xs ≡ []) × (error ≡ TufMetadataError p)
+none_given p [] error e = (refl, (let same : TufMetadataError p ≡ error = cc in sym same))
+none_given p (x ∷ xs) error e = absurd cc
+
+-- ---- anchors, one by one
+
+some_anchors : (ders : List (List ℕ)) (cs : List Cert) → AreAnchors ders cs → AllByRecursion IsSomeAnchor ders
+some_anchors [] [] are = tt
+some_anchors (t ∷ ts) (c ∷ cs) are = ((c, are.0), some_anchors ts cs are.1)
+some_anchors [] (c ∷ cs) are = absurd are
+some_anchors (t ∷ ts) [] are = absurd are
+
+anchors_of : (ders : List (List ℕ)) → AllByRecursion IsSomeAnchor ders → (cs : List Cert) × AreAnchors ders cs
+anchors_of [] all = ([], tt)
+anchors_of (t ∷ ts) all = let rest = anchors_of ts all.1 in (all.0.0 ∷ rest.0, (all.0.1, rest.1))
+
+not_all_anchors : (ders : List (List ℕ)) (place : ℕ) → IsFirstNoAnchor ders place → ¬ AllByRecursion IsSomeAnchor ders
+not_all_anchors ders place is all =
+    let found = anchors_of ders all in
+    wrong found.0 ((first_refused ders (Ok found.0) found.1 tt place).1 is)
+  where
+    wrong : (cs : List Cert) → ◌≡◌ {A = Result (List Cert) PoolError} (Ok cs) (Err pool.OutOfMemory)
+        ⊎ ◌≡◌ {A = Result (List Cert) PoolError} (Ok cs) (Err (pool.Anchor place)) → ⊥
+    wrong cs (inl e) = cc
+    wrong cs (inr e) = cc
+
+module _ (root : TrustedRoot) (now : ℤ) where
+  all_hold : (trusted : Trusted) → IsVerifierOf (authorities_of root now) (ct_keys_of root now) trusted
+      → AllByRecursion (HoldsOfRoot root now) root_links
+  all_hold trusted is =
+      let given = some_given part.Fulcio (authorities root now) is.certificates is.given in
+      let logs = some_given part.Ctfe (ct_keys root now) is.keys is.logs in (
+        given.0,
+        (
+          subst (λ (ders : List (List ℕ)). AllByRecursion IsSomeAnchor ders) (sym given.1)
+              (some_anchors is.certificates trusted.anchors is.anchors),
+          (logs.0, tt),
+        ),
+      )
+
+  told : (error : SigstoreError) → IsRefusedRoot (authorities_of root now) (ct_keys_of root now) error
+      → error ≢ OutOfMemory
+      → IsOfFirst (HoldsOfRoot root now) root_links (of_root error)
+  told error (inl memory) other = absurd (other memory)
+  told error (inr (inl refused)) other =
+      let none = none_given part.Fulcio (authorities root now) error refused in
+      (Fulcio, ap (λ (e : SigstoreError). link_of (of_root e)) none.1, inl ((λ some. some none.0), refl))
+  told error (inr (inr (inl refused))) other =
+      let has = refused.2 in
+      let given = some_given part.Fulcio (authorities root now) has.0 has.1 in (
+        Anchor,
+        ap (λ (e : SigstoreError). link_of (of_root e)) refused.1,
+        inr (
+          given.0,
+          inl (
+            (λ all.
+                not_all_anchors has.0 refused.0 has.2
+                (subst (λ (ders : List (List ℕ)). AllByRecursion IsSomeAnchor ders) given.1 all)),
+            refl,
+          ),
+        ),
+      )
+  told error (inr (inr (inr refused))) other =
+      let has = refused.0 in
+      let given = some_given part.Fulcio (authorities root now) has.0 has.2 in
+      let none = none_given part.Ctfe (ct_keys root now) error refused.1 in (
+        Ctfe,
+        ap (λ (e : SigstoreError). link_of (of_root e)) none.1,
+        inr (
+          given.0,
+          inr (
+            subst (λ (ders : List (List ℕ)). AllByRecursion IsSomeAnchor ders) (sym given.1)
+                (some_anchors has.0 has.1 has.3),
+            inl ((λ some. some none.0), refl),
+          ),
+        ),
+      )
+
+pub roots_are_judged : RootsAreJudged
+roots_are_judged = record { made = all_hold; refused = told }
