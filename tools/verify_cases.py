@@ -1,7 +1,8 @@
 #!/usr/bin/env python3
 """Writes a table of requests of `verify` with their replies, and the examples of `verify`.
 
-    tools/verify_cases.py                      writes tools/verify/cases.requests and cases.expected, and says how many rows each link has
+    tools/verify_cases.py                      writes tools/verify/cases.requests and cases.expected, and says how many rows each link has;
+                                               and the calls of the library with what they return, crates/verify_cases/stdin and stdout
     tools/verify_cases.py REQUESTS EXPECTED    writes a longer table there, with cases that other tables have of a single reader
     tools/verify_cases.py check PROGRAM        hands each request of tools/verify/ to `PROGRAM verify`, and compares reply and status
     tools/verify_cases.py examples FOLDER      writes verify.json and verify-refused.json with their .expected files
@@ -9,7 +10,7 @@
 A row of tools/verify_rows.py says what changes of the fixture's request and, by hand, what comes of it. tools/verify_links.py, a second
 implementation of the links, has to say the same; else nothing is written. A line of the requests is a row's name, a tab, and the request; a line
 of what is expected is the name, a tab, the reply, a tab, and the error of the library call `verify_offline` (`-` where there is none, and where
-the request itself is refused, which no library call reads).
+the request itself is refused, which no library call reads). Such rows are no calls; each other row is one, under a `#` line of its name.
 """
 import base64
 import collections
@@ -18,15 +19,18 @@ import json
 import os
 import subprocess
 import sys
+from urllib.parse import quote
 
 sys.dont_write_bytecode = True
 
 import fixture
+import request_cases
 import verify_links
 from fixture import BIT_STRING, OBJECT_IDENTIFIER, SEQUENCE, compact, der, leaf, leaf_extensions, oid
 
 HERE = os.path.dirname(os.path.abspath(__file__))
 TABLE = [os.path.join(HERE, "verify", name) for name in ("cases.requests", "cases.expected")]
+CALLS = os.path.join(HERE, "..", "crates", "verify_cases")
 ABSENT = object()
 
 
@@ -231,6 +235,57 @@ def write_table(requests, expected):
     print("%d rows" % len(ROWS))
 
 
+# The same rows as calls of the library.
+
+PLAIN = "".join(map(chr, range(0x21, 0x7F))).replace("%", "")
+
+
+def text_word(text):
+    """A text as one argument of a call; `-` is the empty one."""
+    return quote(text, safe=PLAIN) if text not in ("", "-") else "%2D" if text else "-"
+
+
+def policy_words(policy):
+    quantifier, rules = verify_links.policy_of(policy)
+    return [quantifier, str(len(rules)), *[word for name, texts in rules for word in (name, *map(text_word, texts))]]
+
+
+def call(text):
+    """The call of `verify_offline` that a request stands for."""
+    members = verify_links.documents.tree(text.encode())
+    return " ".join(["verify_offline", str(int(members["now"])), members["digest"], *policy_words(members["policy"]),
+                     text_word(members["trustedRoot"]), text_word(members["bundle"]), *map(request_cases.words_of, members.get("accepted") or [])])
+
+
+def returned(reply, error):
+    """The line that is written for a call: `ok` and two numbers, or the link and the error."""
+    kind, _, rest = reply.partition(" ")
+    return "ok " + rest if kind == "verified" else "%s %s" % (rest, error)
+
+
+# The rows that are no calls too, since the table would be too long: rows like them are in the tables of the readers that they are about, or
+# stay beside them.
+NO_CALLS = ("index: the entry's own", "range of a log's key: null", "range of a log's key: without", "range of a log's key: begun",
+            "range of a log's key: no start", "policy: ", "subject: a", "subject: in upper", "subject: of", "subject: with", "subject: the second",
+            "proof: ", "checkpoint: ", "promise: null", "promise: of no bytes", "promise: of another", "body: another part: the kind",
+            "body: another part: the version", "body: another part: the envelope's alg", "body: another part: the payload's alg",
+            "body: another part: no", "issuer: a trust anchor without", "issuer: a trust anchor of version", "issuer: itself twice",
+            "certificate log keys: others", "certificate log keys: no key beside", "certificate log keys: an RSA", "certificate log keys: under",
+            "bundle: null for a content", "bundle: a doubled", "trusted root: the 29th")
+CALLED = ("policy: any of one", "policy: all seven", "policy: the errors", "body: another part: no certificate", "subject: asked")
+
+
+def is_call(row):
+    return row.expected[0] != "refused request" and (row.name.startswith(CALLED) or not row.name.startswith(NO_CALLS))
+
+
+def write_calls():
+    rows = [row for row in ROWS if is_call(row)]
+    titles = ["# " + row.name for row in rows]
+    for name, lines in [("stdin", [call(row.text) for row in rows]), ("stdout", [returned(*row.expected) for row in rows])]:
+        write(os.path.join(CALLS, name), [line for pair in zip(titles, lines) for line in pair])
+
+
 def write_examples(folder):
     """The fixture's request, and one whose leaf was issued for another workflow than the policy names."""
     other = built([parts(policy={"all": [{"identity": "https://example.com/other", "issuer": fixture.ISSUER}]})])
@@ -272,6 +327,8 @@ def main(words):
     for group in verify_rows.GROUPS + (verify_rows.MORE if words else []):
         group()
     write_table(*words or TABLE)
+    if not words:
+        write_calls()
 
 
 if __name__ == "__main__":

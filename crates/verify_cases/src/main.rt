@@ -1,0 +1,31 @@
+//! Cases of bundles that are verified offline: `stdin` lists calls, and `stdout` what they return.
+//!
+//! Who made them: `tools/verify_cases.py` over `tools/fixture.py`, programs in another language that were written
+//! from the standards. What changes of the fixture's request and what comes of it is stated by hand, row by row, in
+//! `tools/verify_rows.py` and beside it, and `tools/verify_links.py`, which checks the links on its own, says the same.
+#![tactic(auto)]
+
+mod policy;
+mod verified;
+
+use sig_cases::{Answer, Arguments, CaseError, Cases, run};
+use std::alloc::Global;
+
+struct VerifyCases;
+
+impl Cases for VerifyCases {
+    fn answer(
+        alloc: Global,
+        call: &str,
+        arguments: &mut Arguments<'_>,
+    ) -> Result<Answer, CaseError> {
+        match call {
+            "verify_offline" => verified::answer(alloc, arguments),
+            _ => Err(CaseError::BadLine),
+        }
+    }
+}
+
+fn main(rt: HostRuntime) -> anyhow::Result<()> {
+    run::<VerifyCases>(&rt)
+}
