@@ -1,10 +1,11 @@
 #!/usr/bin/env python3
 """Writes a table of requests of `verify` with their replies, and the examples of `verify`.
 
-    tools/verify_cases.py                      writes tools/verify/cases.requests and cases.expected, and says how many rows each link has;
-                                               and the calls of the library with what they return, crates/verify_cases/stdin and stdout
-    tools/verify_cases.py REQUESTS EXPECTED    writes a longer table there, with cases that other tables have of a single reader
-    tools/verify_cases.py check PROGRAM        hands each request of tools/verify/ to `PROGRAM verify`, and compares reply and status
+    tools/verify_cases.py                      writes the calls of the library with what they return, crates/verify_cases/stdin and stdout, and
+                                               says how many rows each link has
+    tools/verify_cases.py REQUESTS EXPECTED    writes the requests and their replies there, and a longer table, with cases that other tables
+                                               have of a single reader
+    tools/verify_cases.py check PROGRAM        hands the request of each row to `PROGRAM verify`, and compares reply and status
     tools/verify_cases.py examples FOLDER      writes verify.json and verify-refused.json with their .expected files
 
 A row of tools/verify_rows.py says what changes of the fixture's request and, by hand, what comes of it. tools/verify_links.py, a second
@@ -29,7 +30,6 @@ import verify_links
 from fixture import BIT_STRING, OBJECT_IDENTIFIER, SEQUENCE, compact, der, leaf, leaf_extensions, oid
 
 HERE = os.path.dirname(os.path.abspath(__file__))
-TABLE = [os.path.join(HERE, "verify", name) for name in ("cases.requests", "cases.expected")]
 CALLS = os.path.join(HERE, "..", "crates", "verify_cases")
 ABSENT = object()
 
@@ -229,6 +229,10 @@ def write(path, lines):
 def write_table(requests, expected):
     write(requests, ["%s\t%s" % (row.name, row.text) for row in ROWS])
     write(expected, ["%s\t%s\t%s" % (row.name, *row.expected) for row in ROWS])
+
+
+def count():
+    """Says how many rows fail first at each link."""
     counts = collections.Counter(row.expected[0].removeprefix("refused ").split(" ")[0] for row in ROWS)
     for name in ["verified", *verify_links.NAMES]:
         print("%s: %d" % (name, counts[name]))
@@ -299,21 +303,17 @@ def status_of(reply):
     return {"refused request": 2}.get(reply, 0 if reply.startswith("verified ") else 1)
 
 
-def read(path):
-    with open(path, encoding="utf-8", newline="\n") as file:
-        return [line.removesuffix("\n").split("\t") for line in file]
-
-
 def check(program):
     """Runs the program on each row of the table, and says which replies and statuses are others."""
     failed = 0
-    for (name, text), (_, reply, _) in zip(read(TABLE[0]), read(TABLE[1]), strict=True):
-        run = subprocess.run([program, "verify"], input=text.encode(), stdout=subprocess.PIPE, check=False)
+    for row in ROWS:
+        name, reply = row.name, row.expected[0]
+        run = subprocess.run([program, "verify"], input=row.text.encode(), stdout=subprocess.PIPE, check=False)
         said, wanted = (run.stdout, run.returncode), ((reply + "\n").encode(), status_of(reply))
         if said != wanted:
             failed += 1
             print("%s: gave %s and not %s" % (name, said, wanted))
-    print("%d rows, %d failed" % (len(read(TABLE[0])), failed))
+    print("%d rows, %d failed" % (len(ROWS), failed))
     sys.exit(failed > 0)
 
 
@@ -321,14 +321,17 @@ def main(words):
     if words[:1] == ["examples"]:
         write_examples(words[1])
         return
-    if words[:1] == ["check"]:
-        check(words[1])
     import verify_rows
-    for group in verify_rows.GROUPS + (verify_rows.MORE if words else []):
+    longer = len(words) == 2 and words[0] != "check"
+    for group in verify_rows.GROUPS + (verify_rows.MORE if longer else []):
         group()
-    write_table(*words or TABLE)
-    if not words:
+    if longer:
+        write_table(*words)
+    elif words:
+        check(words[1])
+    else:
         write_calls()
+    count()
 
 
 if __name__ == "__main__":
