@@ -6,7 +6,9 @@ use Rattle.std.specs.Bool.{Decides}
 use Rattle.std.specs.Cmp.Lexicographic.{pointwise}
 use Rattle.std.specs.Option.{option_eq}
 use Rattle.std.specs.Prelude.{nat_eq}
-use Rattle.sig_dsse.proofs.Equality.{both, told, bytes_eq-tells, envelope_eq-tells}
+use Rattle.std.proofs.lemmas.Bool.Decides.{Decides-and}
+use Rattle.sig_base.proofs.Decisions.{decides_same, decides_bytes}
+use Rattle.sig_dsse.proofs.Equality.{envelope_eq-tells}
 use Rattle.sig_bundle.specs.contracts.bundle.BundlePartialEq.TheImpl as whole_eq
 use Rattle.sig_bundle.specs.contracts.bundle.ContentPartialEq.TheImpl as content_eq
 use Rattle.sig_bundle.specs.contracts.bundle.MessageSignaturePartialEq.TheImpl as message_eq
@@ -30,7 +32,7 @@ use Rattle.sig_bundle.specs.declared.material.VerificationMaterial.{Verification
 -- ---- parts
 
 texts_eq-tells : (a b : List (List ℕ)) → Decides (pointwise (pointwise nat_eq) a b) (a ≡ b)
-texts_eq-tells a b = slice_eq-Decides bytes_eq-tells a b (pointwise (pointwise nat_eq) a b) refl
+texts_eq-tells a b = slice_eq-Decides decides_bytes a b (pointwise (pointwise nat_eq) a b) refl
 
 option_eq-tells : {A : Type 0} → (E : A → A → Bool) → ((a b : A) → Decides (E a b) (a ≡ b)) → (x y : Option A)
     → Decides (option_eq E x y) (x ≡ y)
@@ -47,9 +49,9 @@ kind-of_parts k l v w e = rw (e.0, e.1) refl
 
 pub kind_eq-tells : (a b : KindVersion) → Decides ((kind_eq.ghosts).eq a b) (a ≡ b)
 kind_eq-tells a b =
-    told _ (kind-of_parts a.kind b.kind a.version b.version)
+    decides_same _ (kind-of_parts a.kind b.kind a.version b.version)
     (λ e. (ap (λ (k : KindVersion). k.kind) e, ap (λ (k : KindVersion). k.version) e))
-    (both _ _ (bytes_eq-tells a.kind b.kind) (bytes_eq-tells a.version b.version))
+    (Decides-and _ _ (decides_bytes a.kind b.kind) (decides_bytes a.version b.version))
 
 proof-of_parts : (i j s t : ℤ) → (r q : List ℕ) → (h g : List (List ℕ)) → (c d : Option (List ℕ))
     → (i ≡ j) × ((r ≡ q) × ((s ≡ t) × ((h ≡ g) × (c ≡ d))))
@@ -59,7 +61,7 @@ proof-of_parts i j s t r q h g c d e = rw (e.0, e.1.0, e.1.1.0, e.1.1.1.0, e.1.1
 
 pub proof_eq-tells : (a b : ProofFields) → Decides ((proof_eq.ghosts).eq a b) (a ≡ b)
 proof_eq-tells a b =
-    told _ (proof-of_parts a.log_index b.log_index a.tree_size b.tree_size a.root_hash b.root_hash a.hashes b.hashes
+    decides_same _ (proof-of_parts a.log_index b.log_index a.tree_size b.tree_size a.root_hash b.root_hash a.hashes b.hashes
     a.checkpoint b.checkpoint)
     (λ e. (
       ap (λ (p : ProofFields). p.log_index) e,
@@ -71,9 +73,9 @@ proof_eq-tells a b =
         ),
       ),
     ))
-    (both _ _ (Decides-int_eq a.log_index b.log_index)
-    (both _ _ (bytes_eq-tells a.root_hash b.root_hash) (both _ _ (Decides-int_eq a.tree_size b.tree_size)
-    (both _ _ (texts_eq-tells a.hashes b.hashes) (option_eq-tells _ bytes_eq-tells a.checkpoint b.checkpoint)))))
+    (Decides-and _ _ (Decides-int_eq a.log_index b.log_index)
+    (Decides-and _ _ (decides_bytes a.root_hash b.root_hash) (Decides-and _ _ (Decides-int_eq a.tree_size b.tree_size)
+    (Decides-and _ _ (texts_eq-tells a.hashes b.hashes) (option_eq-tells _ decides_bytes a.checkpoint b.checkpoint)))))
 
 entry-of_parts : (i j s t : ℤ) → (l m p q : Option (List ℕ)) → (k v : Option KindVersion)
     → (f g : Option ProofFields) → (b c : List ℕ)
@@ -102,7 +104,7 @@ entry-of_parts i j s t l m p q k v f g b c e =
 
 pub entry_eq-tells : (a b : TransparencyLogEntry) → Decides ((entry_eq.ghosts).eq a b) (a ≡ b)
 entry_eq-tells a b =
-    told _ (entry-of_parts a.log_index b.log_index a.integrated_time b.integrated_time a.log_id b.log_id
+    decides_same _ (entry-of_parts a.log_index b.log_index a.integrated_time b.integrated_time a.log_id b.log_id
     a.inclusion_promise b.inclusion_promise
     a.kind_version b.kind_version a.inclusion_proof b.inclusion_proof a.canonicalized_body b.canonicalized_body)
     (λ e. (
@@ -125,21 +127,21 @@ entry_eq-tells a b =
         ),
       ),
     ))
-    (both _ _ (Decides-int_eq a.log_index b.log_index) (both _ _ (option_eq-tells _ bytes_eq-tells a.log_id b.log_id)
-    (both _ _ (option_eq-tells _ kind_eq-tells a.kind_version b.kind_version)
-    (both _ _ (Decides-int_eq a.integrated_time b.integrated_time)
-    (both _ _ (option_eq-tells _ bytes_eq-tells a.inclusion_promise b.inclusion_promise)
-    (both _ _ (option_eq-tells _ proof_eq-tells a.inclusion_proof b.inclusion_proof)
-    (bytes_eq-tells a.canonicalized_body b.canonicalized_body)))))))
+    (Decides-and _ _ (Decides-int_eq a.log_index b.log_index) (Decides-and _ _ (option_eq-tells _ decides_bytes a.log_id b.log_id)
+    (Decides-and _ _ (option_eq-tells _ kind_eq-tells a.kind_version b.kind_version)
+    (Decides-and _ _ (Decides-int_eq a.integrated_time b.integrated_time)
+    (Decides-and _ _ (option_eq-tells _ decides_bytes a.inclusion_promise b.inclusion_promise)
+    (Decides-and _ _ (option_eq-tells _ proof_eq-tells a.inclusion_proof b.inclusion_proof)
+    (decides_bytes a.canonicalized_body b.canonicalized_body)))))))
 
 -- ---- what a bundle brings
 
 pub signer_eq-tells : (a b : MaterialContent) → Decides ((signer_eq.ghosts).eq a b) (a ≡ b)
-signer_eq-tells (Certificate x) (Certificate y) = told _ (λ e. ap Certificate e) (λ e. cc) (bytes_eq-tells x y)
+signer_eq-tells (Certificate x) (Certificate y) = decides_same _ (λ e. ap Certificate e) (λ e. cc) (decides_bytes x y)
 signer_eq-tells (Certificate x) (X509CertificateChain y) = (λ e. absurd cc, λ e. absurd cc)
 signer_eq-tells (Certificate x) PublicKey = (λ e. absurd cc, λ e. absurd cc)
 signer_eq-tells (X509CertificateChain x) (X509CertificateChain y) =
-    told _ (λ e. ap X509CertificateChain e) (λ e. cc) (texts_eq-tells x y)
+    decides_same _ (λ e. ap X509CertificateChain e) (λ e. cc) (texts_eq-tells x y)
 signer_eq-tells (X509CertificateChain x) (Certificate y) = (λ e. absurd cc, λ e. absurd cc)
 signer_eq-tells (X509CertificateChain x) PublicKey = (λ e. absurd cc, λ e. absurd cc)
 signer_eq-tells PublicKey PublicKey = (λ e. refl, λ e. refl)
@@ -153,9 +155,9 @@ material-of_parts c d es fs e = rw (e.0, e.1) refl
 
 pub material_eq-tells : (a b : VerificationMaterial) → Decides ((material_eq.ghosts).eq a b) (a ≡ b)
 material_eq-tells a b =
-    told _ (material-of_parts a.content b.content a.tlog_entries b.tlog_entries)
+    decides_same _ (material-of_parts a.content b.content a.tlog_entries b.tlog_entries)
     (λ e. (ap (λ (m : VerificationMaterial). m.content) e, ap (λ (m : VerificationMaterial). m.tlog_entries) e))
-    (both _ _ (option_eq-tells _ signer_eq-tells a.content b.content)
+    (Decides-and _ _ (option_eq-tells _ signer_eq-tells a.content b.content)
     (slice_eq-Decides entry_eq-tells a.tlog_entries b.tlog_entries _ refl))
 
 -- ---- the content
@@ -167,18 +169,18 @@ message-of_parts s t d f e = rw (e.0, e.1) refl
 
 pub message_eq-tells : (a b : MessageSignature) → Decides ((message_eq.ghosts).eq a b) (a ≡ b)
 message_eq-tells a b =
-    told _ (message-of_parts a.signature b.signature a.message_digest b.message_digest)
+    decides_same _ (message-of_parts a.signature b.signature a.message_digest b.message_digest)
     (λ e. (ap (λ (m : MessageSignature). m.signature) e, ap (λ (m : MessageSignature). m.message_digest) e))
-    (both _ _ (bytes_eq-tells a.signature b.signature)
-    (option_eq-tells _ bytes_eq-tells a.message_digest b.message_digest))
+    (Decides-and _ _ (decides_bytes a.signature b.signature)
+    (option_eq-tells _ decides_bytes a.message_digest b.message_digest))
 
 pub content_eq-tells : (a b : Content) → Decides ((content_eq.ghosts).eq a b) (a ≡ b)
 content_eq-tells (content.MessageSignature x) (content.MessageSignature y) =
-    told _ (λ e. ap content.MessageSignature e) (λ e. cc) (message_eq-tells x y)
+    decides_same _ (λ e. ap content.MessageSignature e) (λ e. cc) (message_eq-tells x y)
 content_eq-tells (content.MessageSignature x) (content.DsseEnvelope y) = (λ e. absurd cc, λ e. absurd cc)
 content_eq-tells (content.DsseEnvelope x) (content.MessageSignature y) = (λ e. absurd cc, λ e. absurd cc)
 content_eq-tells (content.DsseEnvelope x) (content.DsseEnvelope y) =
-    told _ (λ e. ap content.DsseEnvelope e) (λ e. cc) (envelope_eq-tells x y)
+    decides_same _ (λ e. ap content.DsseEnvelope e) (λ e. cc) (envelope_eq-tells x y)
 
 -- ---- the bundle
 
@@ -190,12 +192,12 @@ bundle-of_parts s t m n c d e = rw (e.0, e.1.0, e.1.1) refl
 
 pub bundle_eq-tells : (a b : Bundle) → Decides ((whole_eq.ghosts).eq a b) (a ≡ b)
 bundle_eq-tells a b =
-    told _ (bundle-of_parts a.media_type b.media_type a.verification_material b.verification_material a.content
+    decides_same _ (bundle-of_parts a.media_type b.media_type a.verification_material b.verification_material a.content
     b.content)
     (λ e. (
       ap (λ (x : Bundle). x.media_type) e,
       (ap (λ (x : Bundle). x.verification_material) e, ap (λ (x : Bundle). x.content) e),
     ))
-    (both _ _ (bytes_eq-tells a.media_type b.media_type)
-    (both _ _ (option_eq-tells _ material_eq-tells a.verification_material b.verification_material)
+    (Decides-and _ _ (decides_bytes a.media_type b.media_type)
+    (Decides-and _ _ (option_eq-tells _ material_eq-tells a.verification_material b.verification_material)
     (option_eq-tells _ content_eq-tells a.content b.content)))

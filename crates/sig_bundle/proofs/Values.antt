@@ -3,24 +3,21 @@ use Rattle.std.proofs.Common.{◌≡◌, ℕ, suc, ◌<◌, ◌^◌, ℤ, pos, n
 use Rattle.std.proofs.Common.{Some, true, refl, arith, rules}
 use Rattle.std.proofs.lemmas.Bool.{lt-ltb, ne_eqb, cases_eq}
 use Rattle.std.proofs.lemmas.Fmt.{digits_decimal, digits_value-decimal, decimal_nonempty}
-use Rattle.std.proofs.lemmas.Str.Parse.{IsNumeralModel, numerals_by_fold}
 use Rattle.std.specs.Char.{is_ascii_digit}
 use Rattle.std.specs.Fmt.{decimal}
 use Rattle.std.specs.List.{list_all}
 use Rattle.sig_base.specs.Base64.{base64_bytes, base64_text}
+use Rattle.sig_json.proofs.Numerals.{digits_model}
 use Rattle.sig_bundle.specs.Written.{IsReadAs, bytes_tree, integer_tree}
 use Rattle.sig_json.specs.Integer.{value_after, natural_text, integer_text}
 use Rattle.sig_json.specs.Kinds.{bytes_of, i64_of}
 
 -- ---- integers
 
-own : IsNumeralModel (λ ds. list_all is_ascii_digit ds ≡ true) (value_after 0)
-own = numerals_by_fold _ (search rules) value_after (search rules)
-
 natural_text-decimal : (n : ℕ) → n < 2 ^ 64 → natural_text (decimal n) ≡ Some n
 unfolding natural_text
 natural_text-decimal n h =
-    rw (digits_decimal own n h, lt-ltb 0 (length (decimal n)) (decimal_nonempty n h), digits_value-decimal own n h)
+    rw (digits_decimal digits_model n h, lt-ltb 0 (length (decimal n)) (decimal_nonempty n h), digits_value-decimal digits_model n h)
     refl
 
 integer_text-natural : (text : List ℕ) (n : ℕ) → natural_text text ≡ Some n → integer_text text ≡ Some (pos n)

@@ -64,10 +64,7 @@ fn hashes_of(alloc: Global, entries: &Entries) -> Result<Hashes, ProofFieldsErro
 {
     let mut hashes = Hashes::new(alloc);
     'hashes: for (place, bytes) in entries.as_slice().iter().enumerate() {
-        let hash = match hash_of(bytes.as_slice(), ProofFieldsError::HashLength(place)) {
-            Ok(hash) => hash,
-            Err(error) => return Err(error),
-        };
+        let hash = hash_of(bytes.as_slice(), ProofFieldsError::HashLength(place))?;
         hashes.push(hash)?;
     }
     Ok(hashes)

@@ -103,7 +103,8 @@ kept_same names depth start left inner next found k so_far key other passed less
       turns = so_far.turns - 1;
       enough = omega (arith, so_far.enough);
       meant = so_far.meant
-          ∙ member_read (value depth) all so_far.turns k left inner next d (omega (arith, so_far.enough)) key passed.is;
+          ∙ member_read (value depth) all so_far.turns k left inner next d (omega (arith, so_far.enough)) key
+          passed.is;
       below = omega (arith, so_far.below);
       part = record {
         ascend = keys-put k d all so_far.part.ascend;

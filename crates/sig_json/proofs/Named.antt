@@ -143,8 +143,10 @@ members_list-put k d no_members = refl
 members_list-put k d (member l e ms) =
     choice_of_each members_list (slice_cmp nat_cmp k l) _ _ _ ∙ rw (members_list-put k d ms) refl
 
-pub keys-put : (k : List ℕ) (d : Data) (ms : Members) → KeysAscend (members_list ms) → KeysAscend (members_list (put k d ms))
-keys-put k d ms up = rw (members_list-put k d ms) (ascend-insert_entry (slice_cmp nat_cmp) nat_list_cmp_total (members_list ms) k d up)
+pub keys-put : (k : List ℕ) (d : Data) (ms : Members) → KeysAscend (members_list ms)
+    → KeysAscend (members_list (put k d ms))
+keys-put k d ms up =
+    rw (members_list-put k d ms) (ascend-insert_entry (slice_cmp nat_cmp) nat_list_cmp_total (members_list ms) k d up)
 
 pub ascend-put : (k : List ℕ) (d : Data) (ms : Members) → IsUtf8 k → NamesAscend ms → NamesAscend (put k d ms)
 ascend-put k d ms utf8 up =

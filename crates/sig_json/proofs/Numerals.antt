@@ -23,7 +23,7 @@ use Rattle.sig_json.specs.Numerals.{below_word}
 abbrev IsDigits : List ℕ → Type 0
 IsDigits ds = list_all is_ascii_digit ds ≡ true
 
-digits_model : IsNumeralModel (λ ds. list_all is_ascii_digit ds ≡ true) (value_after 0)
+pub digits_model : IsNumeralModel (λ ds. list_all is_ascii_digit ds ≡ true) (value_after 0)
 digits_model = numerals_by_fold _ (search rules) value_after (search rules)
 
 -- one digit or more, or nothing: the two cases of a text

@@ -249,7 +249,8 @@ named-only names (boolean b) named = tt
 named-only names (number n) named = tt
 named-only names (string s) named = tt
 named-only names (array ds) named = named
-named-only names (object ms) named = (names-where (is_among names) ms named.0, values-where (is_among names) ms named.1)
+named-only names (object ms) named =
+    (names-where (is_among names) ms named.0, values-where (is_among names) ms named.1)
 
 pub floatless-only : (names : List (List ℕ)) (d : Data) → has_float d ≡ false → has_float (only names d) ≡ false
 unfolding only
@@ -276,7 +277,8 @@ member_of-only names name (object ms) listed = ap (λ found. Some (found >>= not
 pub required-only : {A : Type 0} (kind : Data → Option A) (names : List (List ℕ)) (name : List ℕ) (d : Data)
     → is_among names name ≡ true → required kind name (only names d) ≡ required kind name d
 unfolding required
-required-only kind names name d listed = ap (λ found. found >>= there_or None kind) (member_of-only names name d listed)
+required-only kind names name d listed =
+    ap (λ found. found >>= there_or None kind) (member_of-only names name d listed)
 
 pub optional_or-only : {A : Type 0} (absent : A) (kind : Data
     → Option A) (names : List (List ℕ)) (name : List ℕ) (d : Data) → is_among names name ≡ true

@@ -69,8 +69,8 @@ pub fn members_are_set()
         → get other (with_member name value tree) ≡ get other tree }
 {}
 
-/// Of an object that is read for the members of some names, each member of these names is found as in the whole object,
-/// and none of another name. A value that is no object is read whole.
+/// Of an object that is read for the members of some names, each member of these names is found as in the whole
+/// object, and none of another name. A value that is no object is read whole.
 pub fn members_are_kept()
     ensures listed { (names : List (List ℕ)) (name : List ℕ) (tree : Data) → IsTrue (is_among names name)
         → get name (only names tree) ≡ get name tree }

@@ -20,8 +20,8 @@ pub fn read_record<T: ElementReader>(alloc: Global, text: &[u8]) -> Result<T::It
     Ok(record)
 }
 
-/// The record of a text whose table has these names: of an object the reader is shown the members of these names alone,
-/// as `Document::read_members` keeps them. Fails as `read_record` does.
+/// The record of a text whose table has these names: of an object the reader is shown the members of these names
+/// alone, as `Document::read_members` keeps them. Fails as `read_record` does.
 #[tactic(auto, unfolding(crate::specs::Record::record_with))]
 pub fn read_record_with<T: ElementReader>(
     alloc: Global,

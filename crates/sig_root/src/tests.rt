@@ -10,7 +10,12 @@ use std::test::Fail;
 /// The certificates `one` and `two` from 2023 to 2024; the keys `old` to the end of 2023 and `new` from 2024 on, both
 /// of the log id 44 44; no Certificate Transparency log.
 const ROOT: &str =
-    r#"{"certificateAuthorities":[{"certChain":{"certificates":[{"rawBytes":"b25l"},{"rawBytes":"dHdv"}]},"validFor":{"start":"2023-01-01T00:00:00Z","end":"2024-01-01T00:00:00Z"}}],"tlogs":[{"publicKey":{"rawBytes":"b2xk","validFor":{"start":"2023-01-01T00:00:00Z","end":"2023-12-31T23:59:59.999Z"}},"logId":{"keyId":"REQ="}},{"publicKey":{"rawBytes":"bmV3","validFor":{"start":"2024-01-01T00:00:00+00:00"}},"logId":{"keyId":"REQ="}}],"ctlogs":[]}"#;
+    r#"{"certificateAuthorities":[{"certChain":{"certificates":[{"rawBytes":"b25l"},{"rawBytes":"dHdv"}]},
+  "validFor":{"start":"2023-01-01T00:00:00Z","end":"2024-01-01T00:00:00Z"}}],
+"tlogs":[{"publicKey":{"rawBytes":"b2xk",
+  "validFor":{"start":"2023-01-01T00:00:00Z","end":"2023-12-31T23:59:59.999Z"}},"logId":{"keyId":"REQ="}},
+ {"publicKey":{"rawBytes":"bmV3","validFor":{"start":"2024-01-01T00:00:00+00:00"}},"logId":{"keyId":"REQ="}}],
+"ctlogs":[]}"#;
 
 /// The key of the log at this second.
 fn has_key(alloc: Global, root: &SigstoreTrustRoot, now: i64, key: &str) -> Result<bool> {

@@ -118,8 +118,11 @@ module _ (b : Bundle) where
       )
 
   entry_holds : HasEntry b → OfEntry b (λ e. Unit {0})
-  entry_holds h =
-      (material_under h.before, h.before.before.before.before.before.before.before.before.brought, (h.entry, h.only, tt))
+  entry_holds h = (
+    material_under h.before,
+    h.before.before.before.before.before.before.before.before.brought,
+    (h.entry, h.only, tt),
+  )
 
   -- ---- the first that fails
 
@@ -343,7 +346,8 @@ module _ (b : Bundle) where
   passes_all : AllByRecursion (HoldsOfBundle b) bundle_links → (c : Checked) × IsPassed b c
   passes_all (material, (certificate, (leaf, (chain, (content, (envelope, (entry, (profile, end)))))))) =
       let m : HasMaterial b = record { material = leaf.0; brought = leaf.1 } in
-      let logged = at_material m (λ w. (e : TransparencyLogEntry) × (w.tlog_entries ≡ e ∷ []) × HasProof e) profile.1 in
+      let logged =
+      at_material m (λ w. (e : TransparencyLogEntry) × (w.tlog_entries ≡ e ∷ []) × HasProof e) profile.1 in
       let sealed = envelope.0 in
       let read = envelope.2 in
       let c : Checked = record {

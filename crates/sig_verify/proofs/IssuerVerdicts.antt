@@ -92,7 +92,8 @@ has_none c spki t kind is told =
 
 -- ---- the three
 
-module _ (k : Checker) (policy : PolicyOf) (trusted : Trusted) (d : ArtifactDigest) (offline : Bool) (checked : Checked)
+module _ (k : Checker) (policy : PolicyOf) (trusted : Trusted) (d : ArtifactDigest) (offline : Bool)
+    (checked : Checked)
     (said : IsSaidOf checked.certificate (sct_of checked.certificate)) where
   abbrev Holds : Link → Type 0
   Holds = HoldsOfChecked k policy (trust_of trusted) d offline checked
@@ -254,4 +255,5 @@ module _ (k : Checker) (policy : PolicyOf) (trusted : Trusted) (d : ArtifactDige
 
   pub issued_told : Tells Holds (Issuance ∷ Issuer ∷ Sct ∷ []) (renamed (issued_answer k.cert k.point trusted c))
   issued_told =
-      judged_tells Holds (Issuance ∷ Issuer ∷ Sct ∷ []) (renamed (issued_answer k.cert k.point trusted c)) judged_issued
+      judged_tells Holds (Issuance ∷ Issuer ∷ Sct ∷ []) (renamed (issued_answer k.cert k.point trusted c))
+      judged_issued

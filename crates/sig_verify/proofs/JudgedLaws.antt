@@ -79,7 +79,11 @@ judged_tells Holds links (Ok x) judged = record {
 judged_tells {A = A} Holds links (Err error) judged = record {
   all = ((λ ok. absurd cc), (λ all. absurd (none_fails Holds links judged.0 all judged.2)));
   first = λ link. (
-    (λ fails. (error, refl, judged.1 ∙ ap (λ (l : Link). Some l) (one_fails Holds links judged.0 link judged.2 fails))),
+    (λ fails. (
+      error,
+      refl,
+      judged.1 ∙ ap (λ (l : Link). Some l) (one_fails Holds links judged.0 link judged.2 fails),
+    )),
     (λ said.
         let same : said.0 ≡ error = sym (same_error {A = A} error said.0 said.1) in
         let is : judged.0 ≡ link = same_link judged.0 link (sym judged.1 ∙ ap link_of (sym same) ∙ said.2) in

@@ -1,5 +1,5 @@
--- The links `material` to `profile`, each in its own words: what a bundle needs to pass its own checks (Sigstore bundle
--- format; RFC 5280 section 4.1; DSSE protocol; in-toto attestation framework).
+-- The links `material` to `profile`, each in its own words: what a bundle needs to pass its own checks (Sigstore
+-- bundle format; RFC 5280 section 4.1; DSSE protocol; in-toto attestation framework).
 use Rattle.std.specs.Prelude.{◌≡◌, ℕ, List, [], ◌∷◌, Some, None}
 use Rattle.sig_bundle.specs.Passed.{HasProof}
 use Rattle.sig_bundle.specs.Version.{IsMediaType}

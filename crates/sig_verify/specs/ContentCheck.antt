@@ -82,5 +82,6 @@ content_answer spki prehash d c = do
 -- the log took the entry while the certificate was valid, both ends included
 abbrev pub time_answer : Checked → Result (Unit {0}) VerificationError
 time_answer c =
-    if int_le c.certificate.not_before c.entry.integrated_time && int_le c.entry.integrated_time c.certificate.not_after
+    if int_le c.certificate.not_before c.entry.integrated_time
+    && int_le c.entry.integrated_time c.certificate.not_after
     then Ok tt else Err (Certificate Expired)

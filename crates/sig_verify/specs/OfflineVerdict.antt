@@ -90,7 +90,8 @@ IsOfflineOf k policy root now d bundle result =
 
 -- `bundle-json`, and those
 abbrev pub IsOfflineIn : Checker → PolicyOf → TrustedRoot → ℤ → ArtifactDigest → List ℕ → Outcome → Type 0
-IsOfflineIn k policy root now d text result = AfterRead Bundle (bundle_in text) (IsOfflineOf k policy root now d) result
+IsOfflineIn k policy root now d text result =
+    AfterRead Bundle (bundle_in text) (IsOfflineOf k policy root now d) result
 
 -- `root-json`, and those
 abbrev pub IsOffline : Checker → PolicyOf → List ℕ → ℤ → ArtifactDigest → List ℕ → Outcome → Type 0

@@ -1,5 +1,5 @@
--- The links `fulcio`, `anchor` and `ctfe`, each in its own words: what a trusted root needs at a time, in whole seconds
--- since 1970 (Sigstore trusted root format; RFC 5280 section 6.1).
+-- The links `fulcio`, `anchor` and `ctfe`, each in its own words: what a trusted root needs at a time, in whole
+-- seconds since 1970 (Sigstore trusted root format; RFC 5280 section 6.1).
 use Rattle.std.specs.Prelude.{◌≢◌, ℕ, ℤ, List, [], ◌∷◌}
 use Rattle.std.specs.List.{AllByRecursion}
 use Rattle.sig_certificate.specs.Certificate.{Cert}

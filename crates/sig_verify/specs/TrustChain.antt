@@ -17,8 +17,8 @@ use Rattle.sig_verify.specs.Links.{EveryLinkHolds, Inputs, OfBundle, OfChecked, 
 use Rattle.sig_verify.specs.RootLinks.{IsSomeAnchor, authorities, ct_keys}
 use Rattle.sig_verify.specs.Verdict.{HasBody}
 
--- The bundle's certificate c, its log entry e, the inclusion proof p of e with the checkpoint n, and the key of the log
--- of e are meant. Signatures are genuine if the checker says so.
+-- The bundle's certificate c, its log entry e, the inclusion proof p of e with the checkpoint n, and the key of the
+-- log of e are meant. Signatures are genuine if the checker says so.
 pub record TrustChain (o : Outside) (i : Inputs) : Type 0 where
   -- some trust anchor issued c, at the first second of its validity
   pub issuer : OfChecked i (λ trust c. HasIssuer o.checker trust c.certificate)

@@ -15,9 +15,9 @@ use sig_root::{SigstoreTrustRoot, TrustRoot, read_trusted_root};
 use sig_x509::VerificationPolicy;
 use std::alloc::Global;
 
-/// Checks every link of the chain of trust of a bundle for an artifact of this digest, at a time in whole seconds since
-/// 1970, and returns the log entry with its proof. The error is that of the first link that fails, in the order of
-/// [`Link`](crate::Link): those of the two texts, of [`Verifier::new`], of [`Verifier::verify_digest_with`] with
+/// Checks every link of the chain of trust of a bundle for an artifact of this digest, at a time in whole seconds
+/// since 1970, and returns the log entry with its proof. The error is that of the first link that fails, in the order
+/// of [`Link`](crate::Link): those of the two texts, of [`Verifier::new`], of [`Verifier::verify_digest_with`] with
 /// `offline`, and of [`verify_log_entry`] under the keys of the root's logs at that time; or `OutOfMemory`.
 pub fn verify_offline<P: VerificationPolicy, C: SignatureChecker>(
     alloc: Global,

@@ -14,8 +14,8 @@ use sig_x509::{
 use std::alloc::Global;
 
 impl Verifier {
-    /// The links `issuance`, `issuer` and `sct`: whether the certificate has the profile of one that is issued, a trust
-    /// anchor issued it, and a Certificate Transparency log vouches for it under the first anchor that did.
+    /// The links `issuance`, `issuer` and `sct`: whether the certificate has the profile of one that is issued, a
+    /// trust anchor issued it, and a Certificate Transparency log vouches for it under the first anchor that did.
     pub(crate) fn check_issuer<C: SignatureChecker>(
         &self,
         alloc: Global,
@@ -31,7 +31,8 @@ impl Verifier {
     }
 }
 
-/// The SubjectPublicKeyInfo of the first trust anchor that issued the certificate, at the first second of its validity.
+/// The SubjectPublicKeyInfo of the first trust anchor that issued the certificate, at the first second of its
+/// validity.
 fn issuer_spki<'a, C: SignatureChecker>(
     pool: &'a CertificatePool,
     leaf: &Certificate,
@@ -39,10 +40,8 @@ fn issuer_spki<'a, C: SignatureChecker>(
 ) -> Result<&'a [u8], VerificationError>
     ensures { lent_spki result ≡ issuer_spki (C.cert_accepts checker.now) pool.now leaf.now }
 {
-    match issuer_place(pool, leaf, checker) {
-        Ok(place) => spki_at(pool, place),
-        Err(error) => Err(error),
-    }
+    let place = issuer_place(pool, leaf, checker)?;
+    spki_at(pool, place)
 }
 
 /// The index of the first trust anchor that issued the certificate.

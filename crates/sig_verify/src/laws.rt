@@ -47,8 +47,8 @@ pub fn issuers()
     ensures { IssuersAreJudged }
 {}
 
-/// What a verifier returns of a bundle that passed its own checks is `Ok` if and only if the links `issuance` to `time`
-/// hold, and else the error of the first that does not.
+/// What a verifier returns of a bundle that passed its own checks is `Ok` if and only if the links `issuance` to
+/// `time` hold, and else the error of the first that does not.
 pub fn checked_bundles()
     ensures { CheckedAreJudged }
 {}

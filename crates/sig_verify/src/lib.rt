@@ -1,8 +1,8 @@
 //! The chain of trust of a signed bundle: which links it has, and whether each holds.
 //!
 //! The layer above uses one fact. [`verify_offline`] returns what the five groups of links make of the two texts, one
-//! behind the other: the error of the first that fails, or the entry that a log vouches for, with its proof. Each group
-//! is a call with a contract of its own: the two readers, [`Verifier::new`], the bundle's own checks and
+//! behind the other: the error of the first that fails, or the entry that a log vouches for, with its proof. Each
+//! group is a call with a contract of its own: the two readers, [`Verifier::new`], the bundle's own checks and
 //! [`Verifier::verify_digest_with`], [`verify_log_entry`]. Signatures are genuine if the handed
 //! [`SignatureChecker`](sig_base::SignatureChecker) says so, and every fact here is relative to it.
 #![tactic(auto)]

@@ -76,10 +76,8 @@ impl Verifier {
             self.now (record { holds = P.holds policy.now; refusal = P.refusal policy.now })
             digest.now offline bundle.now result) }
     {
-        match self.check_issuer(alloc, bundle.certificate(), checker) {
-            Ok(()) => verify_allowed(alloc, digest, bundle, policy, offline, checker),
-            Err(error) => Err(error),
-        }
+        self.check_issuer(alloc, bundle.certificate(), checker)?;
+        verify_allowed(alloc, digest, bundle, policy, offline, checker)
     }
 }
 
@@ -125,10 +123,8 @@ fn verify_signed<C: SignatureChecker>(
         })
         digest.now offline bundle.now result) }
 {
-    match check_content(alloc, bundle, digest, checker) {
-        Ok(()) => verify_logged(alloc, digest, bundle, offline),
-        Err(error) => Err(error),
-    }
+    check_content(alloc, bundle, digest, checker)?;
+    verify_logged(alloc, digest, bundle, offline)
 }
 
 /// The links `body` and `time`.

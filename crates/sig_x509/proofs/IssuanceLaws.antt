@@ -83,7 +83,8 @@ no_anchor c d b same answer is un =
     let wrong : true ≡ false = sym un ∙ ap (λ (x : Cert). is_unconstrained x) (read_same c d same) ∙ sym is ∙ answer in
     absurd cc
 
-pub der_only : (text : List ℕ) (e : X509ReadError) → e ≡ Der → ComesWhere NoMemory (not_read e) (not_read Der) (IsNone text)
+pub der_only : (text : List ℕ) (e : X509ReadError) → e ≡ Der
+    → ComesWhere NoMemory (not_read e) (not_read Der) (IsNone text)
     → (d : Cert) → IsCertificate text d → ⊥
 der_only text e is comes = comes.0 (ap not_read is)
 

@@ -1,8 +1,9 @@
 //! Cases of bundles that are verified offline: `stdin` lists calls, and `stdout` what they return.
 //!
-//! Who made them: `tools/verify_cases.py` over `tools/fixture.py`, programs in another language that were written
-//! from the standards. What changes of the fixture's request and what comes of it is stated by hand, row by row, in
-//! `tools/verify_rows.py` and beside it, and `tools/verify_links.py`, which checks the links on its own, says the same.
+//! Who made them: `tools/verify_cases.py` over `tools/fixture.py`, programs in another language that were written from
+//! the standards. What changes of the fixture's request and what comes of it is stated by hand, row by row, in
+//! `tools/verify_rows.py` and beside it, and `tools/verify_links.py`, which checks the links on its own, says the
+//! same.
 #![tactic(auto)]
 
 mod policy;

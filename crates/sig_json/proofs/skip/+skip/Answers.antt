@@ -47,7 +47,8 @@ skip_value-returns-in-Null-clause-ok t c =
       ]
     ]
 
-pub skip_value-returns-in_err-skip_number-in-Number-clause-err : goal.skip_value-returns-in_err-skip_number-in-Number-clause-err
+pub skip_value-returns-in_err-skip_number-in-Number-clause-err
+    : goal.skip_value-returns-in_err-skip_number-in-Number-clause-err
 skip_value-returns-in_err-skip_number-in-Number-clause-err t c refused =
     let first : c.args.reader.now ≡ token_of c.in_ok-token.token ∷ c.next.new.self = grind arith in
     number_none _ _ _ _ (first ∙ ap (λ k. token_of k ∷ c.next.new.self) c.in-Number.is)

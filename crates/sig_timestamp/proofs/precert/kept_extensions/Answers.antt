@@ -11,7 +11,8 @@ loop-index-preserved c =
       | in-Some+in_ok-push_kept w ↦
           rw w.kept-is
           (kept_more c.args.leaf.now.extensions c.loop-index.index (borrowed_extension w.in-Some.extension)
-          c.loop-index.kept.items w.push_kept.new.kept.items (sym w.in-Some.ensures) w.in_ok-push_kept.ensures c.loop-index.invariant)
+          c.loop-index.kept.items w.push_kept.new.kept.items (sym w.in-Some.ensures) w.in_ok-push_kept.ensures
+          c.loop-index.invariant)
       | in_default w ↦
           let lt : c.loop-index.index < length c.args.leaf.now.extensions = omega arith in
           let none = rw w.in_default.is at c.extension_at.ensures in

@@ -2,4 +2,5 @@ use Rattle.sig_verify.proofs.CheckedVerdicts.{trusted_told}
 use Rattle.sig_verify.proofs.laws.checked_bundles.Goals as goal
 
 pub returns : goal.returns
-returns c k policy trusted d offline checked read result is = trusted_told k policy trusted d offline checked read result is
+returns c k policy trusted d offline checked read result is =
+    trusted_told k policy trusted d offline checked read result is
