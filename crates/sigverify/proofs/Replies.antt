@@ -7,8 +7,8 @@ use Rattle.sig_rekor.proofs.RuleLaws.{one_fails, none_fails}
 use Rattle.sig_rekor.specs.Rules.{FailsFirst}
 use Rattle.sigverify.specs.declared.command.Command.{Command}
 use Rattle.sigverify.specs.declared.command.Command.TheVariants.{Log}
-use Rattle.sigverify.specs.declared.link.Link.{Link}
-use Rattle.sigverify.specs.declared.link.Link.TheVariants.{Request, Checkpoint, NoteKey, NoteMatch, Inclusion}
+use Rattle.sig_verify.specs.declared.link.Link.{Link}
+use Rattle.sig_verify.specs.declared.link.Link.TheVariants.{Request}
 use Rattle.sigverify.specs.declared.reply.Reply.{Reply}
 use Rattle.sigverify.specs.declared.request.LogRequest.{LogRequest}
 use Rattle.sigverify.specs.Limit.{most_bytes}
@@ -23,10 +23,7 @@ one_request text a b p q = let e = p.members in let f = q.members in cc
 -- a refusal has no status 0
 refused-status : (link : Link) → status_of link ≡ 0 → ⊥
 refused-status Request e = cc
-refused-status Checkpoint e = cc
-refused-status NoteKey e = cc
-refused-status NoteMatch e = cc
-refused-status Inclusion e = cc
+refused-status other e = cc
 
 -- the reply where every link holds
 every-reply : (command : Command) (text : List ℕ) (reply : Reply) → reply.status ≡ 0 → Succeeds command text reply

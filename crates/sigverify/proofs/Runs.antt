@@ -6,8 +6,8 @@ use Rattle.std.proofs.Math.Seq.{drop-append_seam}
 use Rattle.std.proofs.lemmas.Slice.Eq.{bytes_eq-Decides}
 use Rattle.std.specs.Str.{bytes_eq}
 use Rattle.sig_base.specs.Stream.{HandsOver, TookCount, TakesUpTo, Rose, AppendsFront}
-use Rattle.sigverify.specs.declared.link.Link.{Link}
-use Rattle.sigverify.specs.declared.link.Link.TheVariants.{Request, Checkpoint, NoteKey, NoteMatch, Inclusion}
+use Rattle.sig_verify.specs.declared.link.Link.{Link}
+use Rattle.sig_verify.specs.declared.link.Link.TheVariants.{Request}
 use Rattle.sigverify.specs.declared.reply.Reply.{Reply}
 use Rattle.sigverify.specs.Reply.{IsReply, refusal, status_of}
 use Rattle.sigverify.specs.declared.command.Command.{Command}
@@ -57,10 +57,7 @@ RepliesTo-long command old new reply took refused =
 -- the status of a refusal, and of every reply
 status_of-small : (link : Link) → status_of link < 3
 status_of-small Request = lit< tt
-status_of-small Checkpoint = lit< tt
-status_of-small NoteKey = lit< tt
-status_of-small NoteMatch = lit< tt
-status_of-small Inclusion = lit< tt
+status_of-small other = lit< tt
 
 IsReply-small : (command : Command) (text : List ℕ) (reply : Reply) → IsReply command text reply → reply.status < 3
 IsReply-small command text reply meant =

@@ -6,8 +6,8 @@ use Rattle.sig_rekor.specs.declared.checkpoint.SignedCheckpoint.{SignedCheckpoin
 use Rattle.sig_rekor.specs.declared.fault.ParseCheckpointError.{ParseCheckpointError}
 use Rattle.sig_rekor.specs.declared.fault.ParseCheckpointError.TheVariants.{DecodeError, OutOfMemory as Memory}
 use Rattle.sig_rekor.specs.CheckpointText.{IsCheckpoint}
-use Rattle.sigverify.specs.declared.link.Link.{Link}
-use Rattle.sigverify.specs.declared.link.Link.TheVariants.{Request, Checkpoint, NoteKey, NoteMatch, Inclusion}
+use Rattle.sig_verify.specs.declared.link.Link.{Link}
+use Rattle.sig_verify.specs.declared.link.Link.TheVariants.{Request, Checkpoint, NoteKey, NoteMatch, Inclusion}
 use Rattle.sigverify.specs.declared.request.LogRequest.{LogRequest}
 use Rattle.sigverify.specs.Link.{IsVerdict, IsVerdictUnder, OfCheckpoint, IsSigned, IsMatched}
 
@@ -30,8 +30,6 @@ pub under-verdict : (request : LogRequest) (checkpoint : SignedCheckpoint) (verd
     → IsVerdictUnder request checkpoint verdict → IsVerdict request verdict
 under-verdict request checkpoint None is only under =
     (tt, ((checkpoint, is, tt), ((checkpoint, is, under.0), ((checkpoint, is, under.1), (under.2, tt)))))
-under-verdict request checkpoint (Some Request) is only under = absurd under
-under-verdict request checkpoint (Some Checkpoint) is only under = absurd under
 under-verdict request checkpoint (Some NoteKey) is only under =
     inr (tt, inr ((checkpoint, is, tt), inl (other-reading request checkpoint (IsSigned request) only under, refl)))
 under-verdict request checkpoint (Some NoteMatch) is only under =
@@ -58,6 +56,7 @@ under-verdict request checkpoint (Some Inclusion) is only under =
         ),
       ),
     )
+under-verdict request checkpoint (Some other) is only under = absurd under
 
 -- a fault is neither want of memory nor a value
 no_fault : (checkpoint : SignedCheckpoint) (fault : CheckpointFault)

@@ -1,5 +1,5 @@
 -- The links of each command, in their order.
-use Rattle.std.specs.Prelude.{◌≡◌, ℕ, ◌<◌, pos, List, [], ◌∷◌, Any, Contains, codes, Option, Some, None}
+use Rattle.std.specs.Prelude.{◌≡◌, ℕ, ◌<◌, pos, List, [], ◌∷◌, Any, Contains, Option, Some, None}
 use Rattle.std.specs.List.{AllByRecursion}
 use Rattle.sig_base.specs.declared.checker.AcceptedRow.{AcceptedRow}
 use Rattle.sig_base.specs.declared.checker.Operation.TheVariants.{Message}
@@ -13,18 +13,10 @@ use Rattle.sig_rekor.specs.NoteText.{note_text}
 use Rattle.sig_rekor.specs.Rules.{FailsFirst}
 use Rattle.sigverify.specs.declared.command.Command.{Command}
 use Rattle.sigverify.specs.declared.command.Command.TheVariants.{Log}
-use Rattle.sigverify.specs.declared.link.Link.{Link}
-use Rattle.sigverify.specs.declared.link.Link.TheVariants.{Request, Checkpoint, NoteKey, NoteMatch, Inclusion}
+use Rattle.sig_verify.specs.declared.link.Link.{Link}
+use Rattle.sig_verify.specs.declared.link.Link.TheVariants.{Request, Checkpoint, NoteKey, NoteMatch, Inclusion}
 use Rattle.sigverify.specs.declared.request.LogRequest.{LogRequest}
 use Rattle.sigverify.specs.Request.{IsRequest}
-
--- a link's name
-abbrev pub link_name : Link → List ℕ
-link_name Request = codes "request"
-link_name Checkpoint = codes "checkpoint"
-link_name NoteKey = codes "note-key"
-link_name NoteMatch = codes "note-match"
-link_name Inclusion = codes "inclusion"
 
 -- the links of `log`
 abbrev pub log_links : List Link
@@ -63,13 +55,13 @@ pub record IsLogged (request : LogRequest) : Type 0 where
 abbrev pub OfCheckpoint : LogRequest → (SignedCheckpoint → Type 0) → Type 0
 OfCheckpoint request P = (checkpoint : SignedCheckpoint) × IsCheckpoint request.checkpoint checkpoint × P checkpoint
 
--- what a link asks of a request of `log`
+-- what a link asks of a request of `log`, of which all links before it hold
 abbrev pub HoldsOf : LogRequest → Link → Type 0
-HoldsOf request Request = Unit {0}
 HoldsOf request Checkpoint = OfCheckpoint request (λ _. Unit {0})
 HoldsOf request NoteKey = OfCheckpoint request (IsSigned request)
 HoldsOf request NoteMatch = OfCheckpoint request (IsMatched request)
 HoldsOf request Inclusion = IsLogged request
+HoldsOf request other = Unit {0}
 
 -- a link holds of a text: the text is a request of the command, and the link holds of it
 abbrev pub Holds : Command → List ℕ → Link → Type 0
@@ -91,9 +83,8 @@ IsVerdict request (Some link) = FailsFirst (HoldsOf request) log_links link
 -- the first failing link behind the checkpoint, or none, where this is the checkpoint's reading
 abbrev pub IsVerdictUnder : LogRequest → SignedCheckpoint → Option Link → Type 0
 IsVerdictUnder request checkpoint None = IsSigned request checkpoint × IsMatched request checkpoint × IsLogged request
-IsVerdictUnder request checkpoint (Some Request) = ⊥
-IsVerdictUnder request checkpoint (Some Checkpoint) = ⊥
 IsVerdictUnder request checkpoint (Some NoteKey) = ¬ IsSigned request checkpoint
 IsVerdictUnder request checkpoint (Some NoteMatch) = IsSigned request checkpoint × ¬ IsMatched request checkpoint
 IsVerdictUnder request checkpoint (Some Inclusion) =
     IsSigned request checkpoint × IsMatched request checkpoint × ¬ IsLogged request
+IsVerdictUnder request checkpoint (Some other) = ⊥

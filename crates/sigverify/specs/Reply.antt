@@ -3,20 +3,18 @@ use Rattle.std.specs.Prelude.{◌≡◌, ℕ, ◌⊎◌, ◌↔◌, List, ◌++�
 use Rattle.std.specs.Fmt.{signed_decimal}
 use Rattle.sigverify.specs.declared.command.Command.{Command}
 use Rattle.sigverify.specs.declared.command.Command.TheVariants.{Log}
-use Rattle.sigverify.specs.declared.link.Link.{Link}
-use Rattle.sigverify.specs.declared.link.Link.TheVariants.{Request, Checkpoint, NoteKey, NoteMatch, Inclusion}
+use Rattle.sig_verify.specs.Link.{link_name}
+use Rattle.sig_verify.specs.declared.link.Link.{Link}
+use Rattle.sig_verify.specs.declared.link.Link.TheVariants.{Request}
 use Rattle.sigverify.specs.declared.request.LogRequest.{LogRequest}
 use Rattle.sigverify.specs.declared.reply.Reply.{Reply}
 use Rattle.sigverify.specs.Request.{IsRequest}
-use Rattle.sigverify.specs.Link.{link_name, EveryLinkHolds, IsFirstFailing}
+use Rattle.sigverify.specs.Link.{EveryLinkHolds, IsFirstFailing}
 
 -- status 2 for the link `request`, 1 for every other
 abbrev pub status_of : Link → ℕ
 status_of Request = 2
-status_of Checkpoint = 1
-status_of NoteKey = 1
-status_of NoteMatch = 1
-status_of Inclusion = 1
+status_of other = 1
 
 -- the reply where this link is the first that fails
 abbrev pub refusal : Link → Reply

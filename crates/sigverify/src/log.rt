@@ -4,7 +4,6 @@ ghost use Rattle.sigverify.specs.Link.{IsLogged, IsMatched, IsSigned, IsVerdict,
 ghost use Rattle.sigverify.specs.Reply.{IsReply};
 ghost use Rattle.sigverify.specs.declared.command.Command.TheVariants.{Log};
 
-use crate::link::Link;
 use crate::reply::Reply;
 use crate::request::LogRequest;
 use sig_base::{OutOfMemory, SigstoreError};
@@ -12,6 +11,7 @@ use sig_key::CosignVerificationKey;
 use sig_merkle::hash_leaf;
 use sig_merkle::uncounted::verify_inclusion;
 use sig_rekor::{ParseCheckpointError, SignedCheckpoint};
+use sig_verify::Link;
 use std::alloc::Global;
 
 /// Returns the reply to a request's text: `logged I N` with status 0 if every link holds, else `refused NAME` for the

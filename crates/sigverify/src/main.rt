@@ -7,7 +7,6 @@
 mod command;
 mod digest_text;
 mod help;
-mod link;
 mod log;
 mod policy_rule;
 mod read;

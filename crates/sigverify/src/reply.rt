@@ -1,9 +1,9 @@
 //! The texts of replies, all of them.
 ghost use Rattle.std.specs.Prelude.{◌≡◌, IfOk};
 
-use crate::link::Link;
 use crate::request::LogRequest;
 use sig_base::{OutOfMemory, Text};
+use sig_verify::Link;
 use std::alloc::Global;
 
 /// The line for words that are no command.
@@ -26,7 +26,7 @@ impl Reply {
     {
         let status = match link {
             Link::Request => 2,
-            Link::Checkpoint | Link::NoteKey | Link::NoteMatch | Link::Inclusion => 1,
+            _ => 1,
         };
         let name = link.name();
         let text = Text::from(format!(in alloc; "refused {name}\n")?);

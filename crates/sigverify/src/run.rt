@@ -10,12 +10,12 @@ ghost use Rattle.sigverify.specs.Run.{usage_line};
 ghost use Rattle.sigverify.specs.Status.{usage_status, memory_status, fault_status};
 
 use crate::command::Command;
-use crate::link::Link;
 use crate::log::log_reply;
 use crate::read::{ReadFault, read_request};
 use crate::reply::{Reply, USAGE_LINE};
 use crate::write::write_reply;
 use sig_base::{OutOfMemory, Sink, Source, Text};
+use sig_verify::Link;
 use std::alloc::Global;
 
 /// The status for words that are no command (EX_USAGE of sysexits.h).
