@@ -6,5 +6,6 @@ pub mod Requests
 pub mod Runs
 pub mod Signed
 pub mod Verdicts
+pub mod VerifyChains
 pub mod VerifyRequests
 pub mod Writing

@@ -26,7 +26,7 @@ refused-status Request e = cc
 refused-status other e = cc
 
 -- the reply where every link holds
-every-reply : (command : Command) (text : List ℕ) (reply : Reply) → reply.status ≡ 0 → Succeeds command text reply
+pub every-reply : (command : Command) (text : List ℕ) (reply : Reply) → reply.status ≡ 0 → Succeeds command text reply
     → EveryLinkHolds command text → IsReply command text reply
 every-reply command text reply zero succeeds every = record {
   decided = inl every;
@@ -36,7 +36,7 @@ every-reply command text reply zero succeeds every = record {
 }
 
 -- the reply where a link is the first that fails
-first-reply : (command : Command) (text : List ℕ) (link : Link) → IsFirstFailing command text link
+pub first-reply : (command : Command) (text : List ℕ) (link : Link) → IsFirstFailing command text link
     → IsReply command text (refusal link)
 first-reply command text link first = record {
   decided = inr (link, first);
@@ -50,28 +50,29 @@ first-reply command text link first = record {
       λ other other_first. ap refusal (one_fails (Holds command text) (links command) link other first other_first);
 }
 
--- what holds of the request, and what fails first of it, does so of its text
-every-of_text : (text : List ℕ) (request : LogRequest) (ls : List Link) → IsRequest text request
-    → AllByRecursion (HoldsOf request) ls → AllByRecursion (Holds Log text) ls
-every-of_text text request [] is every = tt
-every-of_text text request (link ∷ ls) is every = ((request, is, every.0), every-of_text text request ls is every.1)
+-- what holds of the one request that a text is, and what fails first of it, does so of the text
+pub every-of_text : {R : Type 0} (IsIt : R → Type 0) (Of : R → Link → Type 0) (request : R) (ls : List Link)
+    → IsIt request → AllByRecursion (Of request) ls → AllByRecursion (λ link. (r : R) × IsIt r × Of r link) ls
+every-of_text IsIt Of request [] is every = tt
+every-of_text IsIt Of request (link ∷ ls) is every =
+    ((request, is, every.0), every-of_text IsIt Of request ls is every.1)
 
-first-of_text : (text : List ℕ) (request : LogRequest) (ls : List Link) (link : Link) → IsRequest text request
-    → FailsFirst (HoldsOf request) ls link → FailsFirst (Holds Log text) ls link
-first-of_text text request [] link is first = first
-first-of_text text request (l ∷ ls) link is (inl here) = inl (
-  λ holds. here.0 (let P : LogRequest → Type 0 = λ r. HoldsOf r l in
-      subst P (one_request text holds.0 request holds.1 is) holds.2),
+pub first-of_text : {R : Type 0} (IsIt : R → Type 0) (Of : R → Link → Type 0)
+    (one : (a b : R) → IsIt a → IsIt b → a ≡ b) (request : R) (ls : List Link) (link : Link)
+    → IsIt request → FailsFirst (Of request) ls link → FailsFirst (λ l. (r : R) × IsIt r × Of r l) ls link
+first-of_text IsIt Of one request [] link is first = first
+first-of_text {R = R} IsIt Of one request (l ∷ ls) link is (inl here) = inl (
+  λ holds. here.0 (let P : R → Type 0 = λ r. Of r l in subst P (one holds.0 request holds.1 is) holds.2),
   here.1,
 )
-first-of_text text request (l ∷ ls) link is (inr later) =
-    inr ((request, is, later.0), first-of_text text request ls link is later.1)
+first-of_text IsIt Of one request (l ∷ ls) link is (inr later) =
+    inr ((request, is, later.0), first-of_text IsIt Of one request ls link is later.1)
 
--- no text that is no request has the link `request`
+-- of no text that is no request the link `request` holds
 pub unread-reply : (text : List ℕ) → IsReadFrom text None → IsReply Log text (refusal Request)
 unread-reply text none = first-reply Log text Request (inl (λ holds. none holds.0 holds.1, refl))
 
--- nor has one that is too long
+-- nor of one that is too long
 pub long-reply : (command : Command) (text : List ℕ) → most_bytes < length text
     → IsReply command text (refusal Request)
 long-reply Log text long = unread-reply text (λ request is. absurd (omega (arith, is.short, long)))
@@ -80,13 +81,14 @@ pub vouched-reply : (text : List ℕ) (request : LogRequest) → IsReadFrom text
     → IsReply Log text (success request)
 vouched-reply text request is every =
     every-reply Log text (success request) refl (λ other other_is. ap success
-    (one_request text request other is other_is)) (every-of_text text request log_links is every)
+    (one_request text request other is other_is)) (every-of_text (IsRequest text) HoldsOf request log_links is every)
 
 pub refused-reply : (text : List ℕ) (request : LogRequest) (link : Link) → IsReadFrom text (Some request)
     → IsVerdict request (Some link)
     → IsReply Log text (refusal link)
 refused-reply text request link is first =
-    first-reply Log text link (first-of_text text request log_links link is first)
+    first-reply Log text link
+    (first-of_text (IsRequest text) HoldsOf (one_request text) request log_links link is first)
 
 -- the replies of a call
 unread-replied_by : (text : List ℕ) (r : Result Reply OutOfMemory) → IfOk r (λ reply. reply ≡ refusal Request)

@@ -1,10 +1,8 @@
 -- What a run owes, from what it read and what it replied.
 use Rattle.std.proofs.Common.{◌≡◌, ◌<◌, ◌≤◌, ℕ, inl, inr, List, [], ◌∷◌, ◌++◌, Option, Some, None, length, drop, ap}
-use Rattle.std.proofs.Common.{sym, ◌∙◌, ◌↔◌, true, refl, subst, arith, get_or, lit<, length-append}
+use Rattle.std.proofs.Common.{sym, ◌∙◌, refl, subst, arith, get_or, lit<, length-append}
 use Rattle.std.proofs.lemmas.List.{append-nil, drop_all}
 use Rattle.std.proofs.Math.Seq.{drop-append_seam}
-use Rattle.std.proofs.lemmas.Slice.Eq.{bytes_eq-Decides}
-use Rattle.std.specs.Str.{bytes_eq}
 use Rattle.sig_base.specs.Stream.{HandsOver, TookCount, TakesUpTo, Rose, AppendsFront}
 use Rattle.sig_verify.specs.declared.link.Link.{Link}
 use Rattle.sig_verify.specs.declared.link.Link.TheVariants.{Request}

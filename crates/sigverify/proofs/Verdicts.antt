@@ -7,7 +7,7 @@ use Rattle.sig_rekor.specs.declared.fault.ParseCheckpointError.{ParseCheckpointE
 use Rattle.sig_rekor.specs.declared.fault.ParseCheckpointError.TheVariants.{DecodeError, OutOfMemory as Memory}
 use Rattle.sig_rekor.specs.CheckpointText.{IsCheckpoint}
 use Rattle.sig_verify.specs.declared.link.Link.{Link}
-use Rattle.sig_verify.specs.declared.link.Link.TheVariants.{Request, Checkpoint, NoteKey, NoteMatch, Inclusion}
+use Rattle.sig_verify.specs.declared.link.Link.TheVariants.{Checkpoint, NoteKey, NoteMatch, Inclusion}
 use Rattle.sigverify.specs.declared.request.LogRequest.{LogRequest}
 use Rattle.sigverify.specs.Link.{IsVerdict, IsVerdictUnder, OfCheckpoint, IsSigned, IsMatched}
 

@@ -8,4 +8,5 @@ pub mod Request
 pub mod Row
 pub mod Run
 pub mod Status
+pub mod VerifyLink
 pub mod VerifyRequest

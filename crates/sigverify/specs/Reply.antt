@@ -1,6 +1,7 @@
 -- The reply to a request.
 use Rattle.std.specs.Prelude.{◌≡◌, ℕ, ◌⊎◌, ◌↔◌, List, ◌++◌, codes, decimal}
 use Rattle.std.specs.Fmt.{signed_decimal}
+use Rattle.sig_rekor.specs.declared.inclusion_proof.InclusionProof.{InclusionProof}
 use Rattle.sigverify.specs.declared.command.Command.{Command}
 use Rattle.sigverify.specs.declared.command.Command.TheVariants.{Log}
 use Rattle.sig_verify.specs.Link.{link_name}
@@ -27,6 +28,15 @@ success request = record {
   text =
       codes "logged " ++ (signed_decimal request.log_index ++
       (codes " " ++ (decimal request.tree_size ++ codes "\n")));
+}
+
+-- the reply of `verify` where every link holds: the index and the size of the inclusion proof
+abbrev pub verified : InclusionProof → Reply
+verified proof = record {
+  status = 0;
+  text =
+      codes "verified " ++ (signed_decimal proof.log_index ++
+      (codes " " ++ (decimal proof.tree_size ++ codes "\n")));
 }
 
 -- the reply of a command to a text of which every link holds: `log` shows the proof of the one request that the text

@@ -7,6 +7,7 @@
 mod command;
 mod digest_text;
 mod help;
+mod laws;
 mod log;
 mod policy_rule;
 mod read;

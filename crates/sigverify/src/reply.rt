@@ -3,6 +3,7 @@ ghost use Rattle.std.specs.Prelude.{◌≡◌, IfOk};
 
 use crate::request::LogRequest;
 use sig_base::{OutOfMemory, Text};
+use sig_rekor::InclusionProof;
 use sig_verify::Link;
 use std::alloc::Global;
 
@@ -17,7 +18,7 @@ pub struct Reply {
 }
 
 impl Reply {
-    ghost use Rattle.sigverify.specs.Reply.{refusal, success};
+    ghost use Rattle.sigverify.specs.Reply.{refusal, success, verified};
 
     /// Returns `refused NAME`, for the first link that fails, with status 2 for the link `request`, else 1. Fails if
     /// out of memory alone.
@@ -41,6 +42,17 @@ impl Reply {
         let index = request.log_index;
         let size = request.tree_size;
         let text = Text::from(format!(in alloc; "logged {index} {size}\n")?);
+        Ok(Reply { status: 0, text })
+    }
+
+    /// Returns `verified I N`, the index and the size of the inclusion proof, with status 0. Fails if out of memory
+    /// alone.
+    pub fn verified(alloc: Global, proof: &InclusionProof) -> Result<Reply, OutOfMemory>
+        ensures { IfOk result (λ reply. reply ≡ verified proof.now) }
+    {
+        let index = proof.log_index;
+        let size = proof.tree_size;
+        let text = Text::from(format!(in alloc; "verified {index} {size}\n")?);
         Ok(Reply { status: 0, text })
     }
 }

@@ -1,5 +1,5 @@
 -- A write of the reply that failed.
-use Rattle.std.proofs.Common.{ℕ, ◌∙◌, ◌≡◌, inr, arith}
+use Rattle.std.proofs.Common.{◌∙◌, inr, arith}
 use Rattle.sigverify.proofs.Runs.{faulted-reply}
 use Rattle.sigverify.proofs.run.run.Goals as goal
 
