@@ -1,15 +1,13 @@
 -- Values that are read back: integers, bytes, lists.
 use Rattle.std.proofs.Common.{◌≡◌, ℕ, suc, ◌<◌, ◌^◌, ℤ, pos, negsuc, FitsSigned, w64, inl, inr, List, [], ◌∷◌, length}
-use Rattle.std.proofs.Common.{Some, true, refl, arith, rules}
+use Rattle.std.proofs.Common.{Some, refl, arith}
 use Rattle.std.proofs.lemmas.Bool.{lt-ltb, ne_eqb, cases_eq}
 use Rattle.std.proofs.lemmas.Fmt.{digits_decimal, digits_value-decimal, decimal_nonempty}
-use Rattle.std.specs.Char.{is_ascii_digit}
 use Rattle.std.specs.Fmt.{decimal}
-use Rattle.std.specs.List.{list_all}
 use Rattle.sig_base.specs.Base64.{base64_bytes, base64_text}
 use Rattle.sig_json.proofs.Numerals.{digits_model}
 use Rattle.sig_bundle.specs.Written.{IsReadAs, bytes_tree, integer_tree}
-use Rattle.sig_json.specs.Integer.{value_after, natural_text, integer_text}
+use Rattle.sig_json.specs.Integer.{natural_text, integer_text}
 use Rattle.sig_json.specs.Kinds.{bytes_of, i64_of}
 
 -- ---- integers

@@ -1,17 +1,17 @@
 -- Each fault of a statement comes if and only if it has its cause.
 use Rattle.std.proofs.Common.{◌≡◌, ◌≢◌, ◌≤◌, ◌<◌, ◌⊎◌, inl, inr, ℕ, Bool, true, false, cond, nat_lt, List, [], ◌∷◌}
-use Rattle.std.proofs.Common.{◌++◌, length, Option, Some, None, Result, Ok, Err, refl, sym, ap, subst, ◌∙◌, arith}
-use Rattle.std.proofs.lemmas.Bool.{cases_Bool, ltb-false, ltb-true, le-ltb, lt-ltb}
+use Rattle.std.proofs.Common.{◌++◌, length, Result, Ok, Err, refl, sym, ap, subst, ◌∙◌, arith}
+use Rattle.std.proofs.lemmas.Bool.{ltb-false, ltb-true, le-ltb, lt-ltb}
 use Rattle.std.proofs.lemmas.Slice.Eq.{bytes_eq-Decides}
 use Rattle.std.specs.Bool.{Decides}
-use Rattle.std.specs.List.{AllByRecursion, AllPass}
+use Rattle.std.specs.List.{AllByRecursion}
 use Rattle.std.specs.Prelude.{codes, bytes_eq, IsOk, ◌↔◌}
 use Rattle.sha2.proofs.Facts256.{length-sha256}
 use Rattle.sha2.proofs.Facts512.{length-sha512}
 use Rattle.sig_base.proofs.ResultSteps.{bind_ok, guard_ok}
 use Rattle.sig_base.specs.ResultSteps.{◌>>=◌}
 use Rattle.hex.proofs.HexLemmas.{IsOk-decode_sized}
-use Rattle.hex.specs.Hex.{decode_sized, is_hex_digit}
+use Rattle.hex.specs.Hex.{decode_sized}
 use Rattle.sig_dsse.specs.declared.artifact_digest.ArtifactDigest.{ArtifactDigest}
 use Rattle.sig_dsse.specs.declared.artifact_digest.ArtifactDigest.TheVariants.{Sha256, Sha512}
 use Rattle.sig_dsse.specs.declared.recognized.DigestName.{DigestName}
@@ -21,7 +21,7 @@ use Rattle.sig_dsse.specs.declared.recognized.SubjectFault.TheVariants.{TooManyS
 use Rattle.sig_dsse.specs.declared.recognized.SubjectFault.TheVariants.{NoneRecognized, OutOfMemory}
 use Rattle.sig_dsse.specs.Faults.{IsFirst, spelling, IsDigestText, IsMalformed, IsWellFormed, IsSound, HasTooMany}
 use Rattle.sig_dsse.specs.Faults.{HasMalformed, IsCauseOf, DigitsAreOfTheHash, FaultsHaveTheirCause}
-use Rattle.sig_dsse.specs.Named.{named, IsWithinLimits}
+use Rattle.sig_dsse.specs.Named.{named}
 use Rattle.sig_dsse.specs.Recognized.{digest_or_malformed, digests_of_each, entry_digest, map_digests, not_none}
 use Rattle.sig_dsse.specs.Recognized.{digests_of_maps, digests_or_fault, most_digests}
 use Rattle.sig_dsse.specs.Statement.{DigestTexts, Statement, digest_maps}

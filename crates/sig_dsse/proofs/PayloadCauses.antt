@@ -1,9 +1,9 @@
 -- Each fault of a payload, and of a statement as `cosign` asks for it, comes if and only if it has its cause.
-use Rattle.std.proofs.Common.{◌≡◌, ◌≢◌, inl, inr, ℕ, Bool, true, false, cond, List, [], ◌∷◌, Option, Some, None}
-use Rattle.std.proofs.Common.{Result, Ok, Err, refl, sym, ap, subst, ◌∙◌}
+use Rattle.std.proofs.Common.{◌≡◌, ◌≢◌, ℕ, Bool, true, false, List, [], ◌∷◌, Option, Some, None}
+use Rattle.std.proofs.Common.{Err, refl, sym, subst, ◌∙◌}
 use Rattle.std.proofs.lemmas.Slice.Eq.{bytes_eq-Decides}
 use Rattle.std.specs.Bool.{Decides}
-use Rattle.std.specs.Prelude.{codes, bytes_eq, is_some, if◌then◌else◌, ◌↔◌}
+use Rattle.std.specs.Prelude.{codes, bytes_eq, is_some, if◌then◌else◌}
 use Rattle.sig_base.specs.ByText.{text_lookup}
 use Rattle.sig_base.specs.declared.unexpected.UnexpectedKind.{UnexpectedKind}
 use Rattle.sig_base.specs.declared.unexpected.UnexpectedKind.TheVariants.{StatementType, PredicateType, NoSubjects}
@@ -14,9 +14,8 @@ use Rattle.sig_dsse.specs.declared.recognized.SubjectFault.TheVariants.{TooManyS
 use Rattle.sig_dsse.specs.declared.recognized.SubjectFault.TheVariants.{NoneRecognized, OutOfMemory}
 use Rattle.sig_dsse.specs.CosignStatement.{cosign_fault, fault_of_subjects}
 use Rattle.sig_dsse.specs.Faults.{IsCauseOf, PayloadFaultsHaveTheirCause, IsStatementV1, IsCosignSign}
-use Rattle.sig_dsse.specs.Faults.{FirstLacksSha256, IsCosignCauseOf, CosignFaultsHaveTheirCause}
+use Rattle.sig_dsse.specs.Faults.{IsCosignCauseOf, CosignFaultsHaveTheirCause}
 use Rattle.sig_dsse.specs.Payload.{payload_fault, digests_of_payload}
-use Rattle.sig_dsse.specs.Recognized.{digests_or_fault}
 use Rattle.sig_dsse.specs.Statement.{Subject, Statement, statement_of}
 use Rattle.sig_dsse.proofs.FaultCauses.{faults_have_their_cause}
 use Rattle.sig_dsse.proofs.Payloads.{payload_told-fault, payload_told-none}

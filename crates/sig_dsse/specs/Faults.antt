@@ -1,6 +1,6 @@
 -- *Causes of the faults*: each fault of a statement in the words of its subjects: the rules before it hold, and this
 -- one does not.
-use Rattle.std.specs.Prelude.{⊤, ◌≡◌, ◌≢◌, ◌≤◌, ◌<◌, ◌↔◌, ℕ, ◌*◌, List, [], ◌∷◌, ◌++◌, length, codes, Option, Some}
+use Rattle.std.specs.Prelude.{◌≡◌, ◌≢◌, ◌≤◌, ◌<◌, ◌↔◌, ℕ, ◌*◌, List, [], ◌∷◌, ◌++◌, length, codes, Some}
 use Rattle.std.specs.Prelude.{None, Err}
 use Rattle.std.specs.List.{AllByRecursion, AllPass}
 use Rattle.hex.specs.Hex.{is_hex_digit}

@@ -1,12 +1,12 @@
 -- The links `material` to `profile`: a bundle's own checks say which of them fails first.
-use Rattle.std.proofs.Common.{◌≡◌, ◌≢◌, ◌↔◌, ℕ, true, false, List, [], ◌∷◌, length, Option, Some, None, Result, Ok}
+use Rattle.std.proofs.Common.{◌≡◌, ◌↔◌, ℕ, List, [], ◌∷◌, length, Option, Some, None, Result, Ok}
 use Rattle.std.proofs.Common.{Err, inl, inr, refl, sym, ap, subst, ◌∙◌}
 use Rattle.std.specs.List.{AllByRecursion}
 use Rattle.sig_bundle.specs.Checked.{Checked, IsChecked}
 use Rattle.sig_bundle.specs.Passed.{HasProof, IsPassed}
 use Rattle.sig_bundle.specs.Refusals.{HasCertificate, HasDigests, HasEncoding, HasEntry, HasEnvelope, HasLeaf}
 use Rattle.sig_bundle.specs.Refusals.{HasMaterial}
-use Rattle.sig_bundle.specs.Refusals.{HasSignature, HasStatement, HasVersion, IsCause, IsProfileCauseOf}
+use Rattle.sig_bundle.specs.Refusals.{HasStatement, IsCause, IsProfileCauseOf}
 use Rattle.sig_bundle.specs.Refusals.{RefusalsHaveTheirCause, material_under}
 use Rattle.sig_bundle.specs.declared.bundle.Bundle.{Bundle}
 use Rattle.sig_bundle.specs.declared.bundle.Content.{Content}
@@ -31,10 +31,9 @@ use Rattle.sig_dsse.proofs.FaultCauses.{faults_have_their_cause}
 use Rattle.sig_dsse.proofs.NamedDigests.{takes_the_named}
 use Rattle.sig_dsse.specs.EnvelopeText.{envelope_text}
 use Rattle.sig_dsse.specs.Faults.{IsCauseOf}
-use Rattle.sig_dsse.specs.Named.{AreTaken}
 use Rattle.sig_dsse.specs.Pae.{pae}
 use Rattle.sig_dsse.specs.Recognized.{digests_or_fault}
-use Rattle.sig_dsse.specs.Statement.{Statement, statement_of}
+use Rattle.sig_dsse.specs.Statement.{Statement}
 use Rattle.sig_dsse.specs.declared.artifact_digest.ArtifactDigest.{ArtifactDigest}
 use Rattle.sig_dsse.specs.declared.envelope.DsseEnvelope.{DsseEnvelope}
 use Rattle.sig_dsse.specs.declared.envelope.DsseSignature.{DsseSignature}
@@ -45,8 +44,7 @@ use Rattle.sig_verify.specs.BundleLinks.{HoldsOfBundle, IsEnvelopeRead, OfCertif
 use Rattle.sig_verify.specs.BundleLinks.{OfEnvelope, OfMaterial, bundle_links}
 use Rattle.sig_verify.specs.Judged.{IsOfFirst}
 use Rattle.sig_verify.specs.LinkLaws.{BundlesAreJudged}
-use Rattle.sig_verify.specs.declared.link.Link.{Link}
-use Rattle.sig_verify.specs.declared.link.Link.TheVariants.{Material, Certificate, Leaf, RootInChain}
+use Rattle.sig_verify.specs.declared.link.Link.TheVariants.{Material, Certificate, Leaf}
 use Rattle.sig_verify.specs.declared.link.Link.TheVariants.{Content as ContentLink, Envelope, Entry, Profile}
 use Rattle.sig_verify.specs.declared.offline_error.OfflineError.TheVariants.{Bundle as Refused}
 

@@ -11,7 +11,7 @@ use Rattle.sig_verify.specs.ContentCheck.{content_answer, time_answer}
 use Rattle.sig_verify.specs.IssuerCheck.{issued_answer}
 use Rattle.sig_verify.specs.Judged.{Judged, Tells}
 use Rattle.sig_verify.specs.LinkLaws.{IsReadAs, renamed, trust_of}
-use Rattle.sig_verify.specs.Verdict.{After, AfterBody, AfterPolicy, Answer, Checker, IsAllowed, IsLogged, IsSigned}
+use Rattle.sig_verify.specs.Verdict.{After, AfterPolicy, Answer, Checker, IsAllowed, IsLogged, IsSigned}
 use Rattle.sig_verify.specs.Verdict.{IsTrusted, PolicyOf}
 use Rattle.sig_verify.specs.Verifier.{Trusted}
 use Rattle.sig_verify.specs.declared.error.SignatureErrorKind.TheVariants.{Transparency}

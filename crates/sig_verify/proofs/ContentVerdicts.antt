@@ -1,5 +1,5 @@
 -- The links `key`, `signature`, `subject` and `time`: the results say which of them fails first.
-use Rattle.std.proofs.Common.{◌≡◌, ◌⊎◌, ℕ, ℤ, ◌≤ℤ◌, Bool, true, false, cond, List, [], ◌∷◌, Some, Result, Ok, Err}
+use Rattle.std.proofs.Common.{◌≡◌, ℕ, ℤ, ◌≤ℤ◌, Bool, true, false, cond, List, [], ◌∷◌, Some, Ok, Err}
 use Rattle.std.proofs.Common.{inl, inr, refl, sym, ap, subst, ◌∙◌}
 use Rattle.std.specs.Prelude.{T, int_le, ◌&&◌, Contains}
 use Rattle.std.specs.List.{list_any}
@@ -30,7 +30,6 @@ use Rattle.sig_verify.specs.Verdict.{Answer, Checker, PolicyOf}
 use Rattle.sig_verify.specs.declared.link.Link.{Link}
 use Rattle.sig_verify.specs.declared.link.Link.TheVariants.{Key, Signature, Subject, Time}
 use Rattle.sig_verify.specs.declared.error.CertificateErrorKind.TheVariants.{Expired}
-use Rattle.sig_verify.specs.declared.error.VerificationError.{VerificationError}
 use Rattle.sig_verify.specs.declared.error.VerificationError.TheVariants.{Certificate}
 use Rattle.sig_verify.specs.declared.error.SignatureErrorKind.TheVariants.{AlgoUnsupported}
 use Rattle.sig_verify.specs.declared.offline_error.OfflineError.TheVariants as error

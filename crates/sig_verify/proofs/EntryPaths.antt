@@ -28,7 +28,7 @@ use Rattle.sig_verify.proofs.EntryProofs.{at_checkpoint, at_proof}
 use Rattle.sig_verify.specs.ContentCheck.{AcceptsSpki}
 use Rattle.sig_verify.specs.EntryLinks.{HasLogKey, HoldsOfEntry, IsLed, IsNoteOf, IsNoteSigned, IsOfBytes, IsPlaced}
 use Rattle.sig_verify.specs.EntryLinks.{LogKeys}
-use Rattle.sig_verify.specs.EntryLinks.{OfCheckpoint, OfPlace, OfProof}
+use Rattle.sig_verify.specs.EntryLinks.{OfCheckpoint, OfPlace}
 use Rattle.sig_verify.specs.Judged.{Judged}
 use Rattle.sig_verify.specs.LogEntry.{from_proof}
 use Rattle.sig_verify.specs.LogEntry.{inclusion_answer as entry_inclusion_answer}

@@ -4,7 +4,7 @@ use Rattle.std.proofs.Common.{inl, inr, refl, sym, ap, subst, ◌∙◌}
 use Rattle.std.specs.Prelude.{is_some}
 use Rattle.std.specs.List.{AllByRecursion}
 use Rattle.sig_base.specs.declared.fault.CheckpointFault.{CheckpointFault}
-use Rattle.sig_bundle.specs.Proof.{HasHashes, IsFirstOther, IsHash, IsProof, IsProofFault, OfText, proof_or_fault}
+use Rattle.sig_bundle.specs.Proof.{IsFirstOther, IsHash, IsProof, IsProofFault, OfText, proof_or_fault}
 use Rattle.sig_bundle.specs.declared.material.ProofFields.{ProofFields}
 use Rattle.sig_bundle.specs.declared.material.TransparencyLogEntry.{TransparencyLogEntry}
 use Rattle.sig_bundle.specs.declared.proof_error.ProofFieldsError.{ProofFieldsError}
@@ -21,7 +21,6 @@ use Rattle.sig_verify.specs.Judged.{Judged}
 use Rattle.sig_verify.specs.LogEntry.{fields_answer, from_fields}
 use Rattle.sig_verify.specs.OfflineErrors.{of_fields}
 use Rattle.sig_verify.specs.declared.link.Link.TheVariants.{Proof, Checkpoint}
-use Rattle.sig_verify.specs.declared.offline_error.OfflineError.{OfflineError}
 use Rattle.sig_verify.specs.declared.offline_error.OfflineError.TheVariants as error
 
 -- a proof is taken if and only if it is one, and each fault comes if and only if it has its cause

@@ -1,5 +1,5 @@
 -- The links `issuance`, `issuer` and `sct`: the result says which of them fails first.
-use Rattle.std.proofs.Common.{◌≡◌, ◌⊎◌, ℕ, ◌<◌, ◌-◌, ◌^◌, Bool, true, false, cond, nat_lt, List, [], ◌∷◌, length}
+use Rattle.std.proofs.Common.{◌≡◌, ℕ, ◌<◌, ◌-◌, ◌^◌, Bool, true, false, cond, nat_lt, List, [], ◌∷◌, length}
 use Rattle.std.proofs.Common.{Option, Some, None, Result, Ok, Err, inl, inr, refl, sym, ap, subst, arith, ◌∙◌}
 use Rattle.std.specs.Prelude.{position, slice_get, option_map}
 use Rattle.std.proofs.lemmas.Bool.{ltb-false, le-ltb}
@@ -11,7 +11,7 @@ use Rattle.sig_bundle.specs.Checked.{Checked}
 use Rattle.sig_certificate.specs.Certificate.{Cert}
 use Rattle.sig_dsse.specs.declared.artifact_digest.ArtifactDigest.{ArtifactDigest}
 use Rattle.sig_timestamp.proofs.EmbeddedLaws.{embedded}
-use Rattle.sig_timestamp.specs.Embedded.{IsEmbedded, IsSaidOf, ready}
+use Rattle.sig_timestamp.specs.Embedded.{IsSaidOf, ready}
 use Rattle.sig_timestamp.specs.Keyring.{vouch}
 use Rattle.sig_timestamp.specs.Precert.{precertificate}
 use Rattle.sig_timestamp.specs.RingKey.{point_at}
@@ -24,7 +24,7 @@ use Rattle.sig_timestamp.specs.declared.sct_error.SCTError.{SCTError}
 use Rattle.sig_timestamp.specs.declared.sct_error.SCTError.TheVariants.{OutOfMemory, Parsing, Serialization}
 use Rattle.sig_timestamp.specs.declared.signed.DigitallySigned.{DigitallySigned}
 use Rattle.sig_x509.proofs.IssuedLaws.{answers_issued, answers_malformed, answers_none}
-use Rattle.sig_x509.specs.Issuance.{Accepts, is_issued, is_profiled, issuer_of, placed}
+use Rattle.sig_x509.specs.Issuance.{is_issued, is_profiled, issuer_of, placed}
 use Rattle.sig_x509.specs.Issued.{HasProfile, IsFirstIssuer}
 use Rattle.sig_verify.proofs.JudgedLaws.{not_first, judged_tells}
 use Rattle.sig_verify.specs.CertificateLinks.{HoldsOfChecked, OfIssuer}

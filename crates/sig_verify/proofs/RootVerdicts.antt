@@ -1,9 +1,8 @@
 -- The links `fulcio`, `anchor` and `ctfe`: what a trusted root means says which of them fails first.
 use Rattle.std.proofs.Common.{◌≡◌, ◌≢◌, ◌⊎◌, ℕ, ℤ, List, [], ◌∷◌, Result, Ok, Err, inl, inr, refl, sym, ap, subst}
-use Rattle.std.proofs.Common.{◌∙◌}
 use Rattle.std.specs.List.{AllByRecursion}
 use Rattle.sig_base.specs.declared.error.SigstoreError.{SigstoreError}
-use Rattle.sig_base.specs.declared.error.SigstoreError.TheVariants.{CertificatePoolError, OutOfMemory}
+use Rattle.sig_base.specs.declared.error.SigstoreError.TheVariants.{OutOfMemory}
 use Rattle.sig_base.specs.declared.error.SigstoreError.TheVariants.{TufMetadataError}
 use Rattle.sig_base.specs.declared.fault.PoolError.{PoolError}
 use Rattle.sig_base.specs.declared.fault.PoolError.TheVariants as pool
@@ -20,7 +19,6 @@ use Rattle.sig_verify.specs.OfflineErrors.{link_of, of_root}
 use Rattle.sig_verify.specs.OfflineVerdict.{authorities_of, ct_keys_of}
 use Rattle.sig_verify.specs.RootLinks.{HoldsOfRoot, IsSomeAnchor, authorities, ct_keys, root_links}
 use Rattle.sig_verify.specs.Verifier.{IsRefusedRoot, IsVerifierOf, Trusted}
-use Rattle.sig_verify.specs.declared.link.Link.{Link}
 use Rattle.sig_verify.specs.declared.link.Link.TheVariants.{Fulcio, Anchor, Ctfe}
 
 -- ---- a list that has something

@@ -1,5 +1,5 @@
 -- The links `material` to `time`: the result of a verifier says which of them fails first.
-use Rattle.std.proofs.Common.{◌≡◌, ◌↔◌, ℕ, Bool, List, [], ◌∷◌, ◌++◌, Result, Ok, Err, inl, inr, refl, sym, ap}
+use Rattle.std.proofs.Common.{◌≡◌, ◌↔◌, ℕ, Bool, List, [], ◌∷◌, ◌++◌, Result, Ok, Err, inl, inr, sym, ap}
 use Rattle.std.proofs.Common.{subst, ◌∙◌}
 use Rattle.std.specs.List.{AllByRecursion}
 use Rattle.sig_bundle.specs.Checked.{Checked, IsChecked}
@@ -13,7 +13,7 @@ use Rattle.sig_dsse.proofs.NamedDigests.{takes_the_named}
 use Rattle.sig_dsse.specs.EnvelopeText.{envelope_text}
 use Rattle.sig_dsse.specs.Pae.{pae}
 use Rattle.sig_dsse.specs.Recognized.{digests_or_fault}
-use Rattle.sig_dsse.specs.Statement.{Statement, statement_of}
+use Rattle.sig_dsse.specs.Statement.{statement_of}
 use Rattle.sig_dsse.specs.declared.artifact_digest.ArtifactDigest.{ArtifactDigest}
 use Rattle.sig_dsse.specs.declared.envelope.DsseEnvelope.{DsseEnvelope}
 use Rattle.sig_dsse.specs.declared.envelope.DsseSignature.{DsseSignature}

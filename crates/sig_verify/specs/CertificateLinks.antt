@@ -1,6 +1,6 @@
 -- The links `issuance` to `time`, each in its own words: what the certificate, the signature, the content and the log
 -- entry of a bundle that passed its own checks need (RFC 5280; RFC 6962 sections 3.2 and 3.3; DSSE protocol).
-use Rattle.std.specs.Prelude.{◌≡◌, ℕ, ◌≤ℤ◌, Bool, true, List, [], ◌∷◌, Contains, Option, Some, slice_get}
+use Rattle.std.specs.Prelude.{◌≡◌, ℕ, ◌≤ℤ◌, Bool, true, List, [], ◌∷◌, Contains, Option, Some}
 use Rattle.sig_base.specs.declared.scheme.VerifyScheme.{VerifyScheme}
 use Rattle.sig_bundle.specs.Checked.{Checked}
 use Rattle.sig_bundle.specs.declared.content_check.CheckedContent.{CheckedContent}

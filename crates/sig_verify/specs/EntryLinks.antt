@@ -1,6 +1,6 @@
 -- The links `log-key` to `inclusion`, each in its own words: what a log's entry needs to be vouched for (Rekor's
 -- signed entry timestamp; the checkpoint format of transparency-dev; RFC 6962 section 2.1.1).
-use Rattle.std.specs.Prelude.{◌≡◌, ℕ, ℤ, ◌<◌, pos, true, List, [], ◌∷◌, Some, IsSome, unwrap_or}
+use Rattle.std.specs.Prelude.{◌≡◌, ℕ, ◌<◌, pos, true, List, [], ◌∷◌, Some, IsSome, unwrap_or}
 use Rattle.hex.specs.Hex.{encode_lower}
 use Rattle.sig_base.specs.ByText.{text_lookup}
 use Rattle.sig_base.specs.declared.scheme.VerifyScheme.{VerifyScheme}
