@@ -1,19 +1,23 @@
 -- What a group of links says of the chain, at the time that was handed in.
-use Rattle.std.proofs.Common.{◌≡◌, ℕ, ℤ, List, Result, Ok, Err, inl, inr, ap, sym, subst}
+use Rattle.std.proofs.Common.{◌≡◌, ℕ, ℤ, true, List, Result, Ok, Err, inl, inr, ap, sym, subst, ◌∙◌}
 use Rattle.std.specs.Prelude.{◌⊎◌}
 use Rattle.sig_bundle.specs.BundleRecord.{bundle_in}
 use Rattle.sig_bundle.specs.declared.bundle.Bundle.{Bundle as BundleType}
 use Rattle.sig_base.specs.declared.error.SigstoreError.{SigstoreError}
 use Rattle.sig_dsse.specs.declared.artifact_digest.ArtifactDigest.{ArtifactDigest}
 use Rattle.sig_json.specs.declared.error.JsonError.{JsonError}
+use Rattle.sig_root.specs.RootRecord.{trusted_root_in}
 use Rattle.sig_root.specs.declared.record.TrustedRoot.{TrustedRoot}
 use Rattle.sig_verify.specs.OfflineErrors.{of_root}
 use Rattle.sig_verify.specs.OfflineVerdict.{AfterRead, authorities_of, ct_keys_of, IsOfflineIn, IsOfflineOf, Outcome}
-use Rattle.sig_verify.specs.Verdict.{Checker, PolicyOf}
-use Rattle.sig_verify.specs.Verifier.{IsRefusedRoot}
+use Rattle.sig_verify.specs.OfflineVerdict.{IsOfflineUnder, IsVouchedIn}
+use Rattle.sig_verify.specs.OfflineVerdict.{IsOffline}
+use Rattle.sig_verify.specs.Verdict.{Answer, Checker, IsVerdict, PolicyOf}
+use Rattle.sig_verify.specs.Verifier.{IsRefusedRoot, Trusted}
+use Rattle.sig_verify.specs.declared.error.VerificationError.TheVariants as verification
 use Rattle.sig_verify.specs.declared.offline_error.OfflineError.{OfflineError}
 use Rattle.sig_verify.specs.declared.offline_error.OfflineError.TheVariants.{OutOfMemory}
-use Rattle.sig_verify.specs.declared.offline_error.Part.TheVariants.{Bundle}
+use Rattle.sig_verify.specs.declared.offline_error.Part.TheVariants.{Bundle, Root}
 
 -- no verifier could be made
 pub root_refused : (k : Checker) (policy : PolicyOf) (root : TrustedRoot) (now time : ℤ) (d : ArtifactDigest)
@@ -38,3 +42,34 @@ bundle_read k policy root now time d text b result same read (inr holds) =
     same holds in
     inr (subst (λ (found : Result BundleType JsonError). AfterRead Bundle found (IsOfflineOf k policy root now d)
     result) (sym read) at_now)
+
+-- the bundle passed
+pub verdict_passed : (k : Checker) (policy : PolicyOf) (root : TrustedRoot) (now time : ℤ) (d : ArtifactDigest)
+    (b : BundleType) (trusted : Trusted) (answer : Answer) (result : Outcome) → time ≡ now → answer ≡ Ok tt
+    → (answer ≡ Err verification.OutOfMemory) ⊎ IsVerdict k trusted policy d true b answer
+    → (result ≡ Err OutOfMemory) ⊎ IsVouchedIn k.spki root time b result
+    → (result ≡ Err OutOfMemory) ⊎ IsOfflineUnder k policy root now d b trusted result
+verdict_passed k policy root now time d b trusted answer result same passed (inl memory) vouched =
+    absurd (let wrong = sym passed ∙ memory in cc)
+verdict_passed k policy root now time d b trusted answer result same passed (inr is) (inl memory) = inl memory
+verdict_passed k policy root now time d b trusted answer result same passed (inr is) (inr vouched) =
+    inr (
+      Ok tt,
+      subst (λ (a : Answer). IsVerdict k trusted policy d true b a) passed is,
+      subst (λ (t : ℤ). IsVouchedIn k.spki root t b result) same vouched,
+    )
+
+-- the root was read
+pub root_read : (k : Checker) (policy : PolicyOf) (root_text : List ℕ) (root given : TrustedRoot) (now time : ℤ)
+    (d : ArtifactDigest) (text : List ℕ) (result : Outcome)
+    → time ≡ now → given ≡ root → trusted_root_in root_text ≡ Ok root
+    → (result ≡ Err OutOfMemory) ⊎ IsOfflineIn k policy given time d text result
+    → (result ≡ Err OutOfMemory) ⊎ IsOffline k policy root_text now d text result
+root_read k policy root_text root given now time d text result same is read (inl memory) = inl memory
+root_read k policy root_text root given now time d text result same is read (inr holds) =
+    let at_now : IsOfflineIn k policy given now d text result = subst (λ (t : ℤ). IsOfflineIn k policy given t d text
+    result) same holds in
+    let of_root : IsOfflineIn k policy root now d text result = subst (λ (r : TrustedRoot). IsOfflineIn k policy r now d
+    text result) is at_now in
+    inr (subst (λ (found : Result TrustedRoot JsonError). AfterRead Root found (λ r. IsOfflineIn k policy r now d text)
+    result) (sym read) of_root)

@@ -1,16 +1,19 @@
 -- The links `log-key` to `inclusion`: the result says which of them fails first.
-use Rattle.std.proofs.Common.{◌≡◌, ℕ, List, [], ◌∷◌, Ok, refl, subst}
+use Rattle.std.proofs.Common.{◌≡◌, ℕ, List, [], ◌∷◌, Result, Ok, Err, inl, inr, refl, subst}
+use Rattle.std.specs.Prelude.{IfOk, unwrap_or}
 use Rattle.sig_base.proofs.ResultSteps.{bind_ok, ok_is}
+use Rattle.sig_base.specs.Answers.{Answers, UnlessMemory}
 use Rattle.sig_base.specs.declared.scheme.VerifyScheme.{VerifyScheme}
+use Rattle.sig_bundle.specs.Promise.{AreBytes}
 use Rattle.sig_bundle.specs.declared.material.TransparencyLogEntry.{TransparencyLogEntry}
 use Rattle.sig_rekor.specs.declared.inclusion_proof.InclusionProof.{InclusionProof}
 use Rattle.sig_verify.proofs.EntryKeys.{judged_key, key_has}
 use Rattle.sig_verify.proofs.EntryPaths.{judged_path}
 use Rattle.sig_verify.proofs.EntryPromises.{PromiseLaws, judged_promise}
 use Rattle.sig_verify.proofs.EntryProofs.{ProofLaws, judged_proof, proof_taken}
-use Rattle.sig_verify.proofs.JudgedLaws.{judged_bind, judged_map, judged_tells}
+use Rattle.sig_verify.proofs.JudgedLaws.{judged_answer, judged_bind, judged_map, judged_tells}
 use Rattle.sig_verify.specs.ContentCheck.{AcceptsSpki}
-use Rattle.sig_verify.specs.EntryLinks.{HasLogKey, HoldsOfEntry, IsOfBytes, LogKeys, entry_links}
+use Rattle.sig_verify.specs.EntryLinks.{HasKeyOfBytes, HasLogKey, HoldsOfEntry, IsOfBytes, LogKeys, entry_links}
 use Rattle.sig_verify.specs.LinkLaws.{IsKept}
 use Rattle.sig_verify.specs.Judged.{Judged, Tells}
 use Rattle.sig_verify.specs.LogEntry.{entry_answer, fields_answer, included, inclusion_answer, key_answer}
@@ -18,6 +21,8 @@ use Rattle.sig_verify.specs.LogEntry.{promise_answer, vouched}
 use Rattle.sig_verify.specs.declared.link.Link.TheVariants.{LogKey, Promise, Proof, Checkpoint, NoteKey, NoteMatch}
 use Rattle.sig_verify.specs.declared.link.Link.TheVariants.{Inclusion}
 use Rattle.sig_verify.specs.declared.offline.Offline.{Offline}
+use Rattle.sig_verify.specs.declared.offline_error.OfflineError.{OfflineError}
+use Rattle.sig_verify.specs.declared.offline_error.OfflineError.TheVariants.{OutOfMemory}
 
 module _ (promises : PromiseLaws) (proofs : ProofLaws) (spki : AcceptsSpki) (keys : LogKeys) (e : TransparencyLogEntry)
     (bytes : IsOfBytes keys e) where
@@ -63,3 +68,19 @@ entry_kept proofs spki keys e offline answer =
     let is : ◌≡◌ {A = Offline} (record { body = e.canonicalized_body; proof = c.0 }) offline = ok_is _ offline d.2 in
     subst (λ (o : Offline). IsKept e o) is
     (record { body = refl; proof = proof_taken proofs e e.inclusion_proof c.0 refl c.1 })
+
+-- what the call returns, whose arguments are bytes
+pub entry_linked : PromiseLaws → ProofLaws → (spki : AcceptsSpki) (keys : LogKeys) (e : TransparencyLogEntry)
+    (r : Result Offline OfflineError) → Answers OutOfMemory (λ (o : Offline). o) r (entry_answer spki keys e)
+    → UnlessMemory OutOfMemory r (HasKeyOfBytes keys e) → AreBytes e.canonicalized_body
+    → AreBytes (unwrap_or e.log_id []) → UnlessMemory OutOfMemory r (Judged (HoldsOfEntry spki keys e) entry_links r)
+entry_linked promises proofs spki keys e r is (inl memory) body id = inl memory
+entry_linked promises proofs spki keys e r is (inr key) body id =
+    judged_answer OutOfMemory (HoldsOfEntry spki keys e) entry_links r (entry_answer spki keys e) is
+    (judged_entry promises proofs spki keys e (record { body = body; id = id; key = key }))
+
+pub entry_kept_of : ProofLaws → (spki : AcceptsSpki) (keys : LogKeys) (e : TransparencyLogEntry)
+    (r : Result Offline OfflineError) → Answers OutOfMemory (λ (o : Offline). o) r (entry_answer spki keys e)
+    → IfOk r (IsKept e)
+entry_kept_of proofs spki keys e (Ok offline) is = entry_kept proofs spki keys e offline is
+entry_kept_of proofs spki keys e (Err error) is = tt

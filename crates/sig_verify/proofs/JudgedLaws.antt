@@ -1,7 +1,8 @@
 -- Results that say which rule fails first, one after another.
-use Rattle.std.proofs.Common.{◌≡◌, List, [], ◌∷◌, ◌++◌, Option, Some, Result, Ok, Err, inl, inr, refl, sym, ap}
+use Rattle.std.proofs.Common.{◌≡◌, ◌↔◌, List, [], ◌∷◌, ◌++◌, Option, Some, Result, Ok, Err, inl, inr, refl, sym, ap}
 use Rattle.std.proofs.Common.{subst, ◌∙◌}
 use Rattle.std.specs.List.{AllByRecursion}
+use Rattle.sig_base.specs.Answers.{Answers, UnlessMemory}
 use Rattle.sig_base.specs.ResultSteps.{◌>>=◌}
 use Rattle.sig_rekor.proofs.RuleLaws.{none_fails, one_fails}
 use Rattle.sig_rekor.specs.Rules.{FailsFirst}
@@ -58,6 +59,48 @@ judged_one Holds link (Err error) held failed =
 pub not_first : (Holds : Link → Type 0) (link : Link) (links : List Link) (error : OfflineError) → ¬ Holds link
     → link_of error ≡ Some link → IsOfFirst Holds (link ∷ links) error
 not_first Holds link links error fails is = (link, is, inl (fails, refl))
+
+-- ---- rules that hold alike
+
+abbrev pub Alike : (Link → Type 0) → (Link → Type 0) → List Link → Type 0
+Alike P Q links = AllByRecursion (λ l. P l ↔ Q l) links
+
+pub alike_each : (P Q : Link → Type 0) (links : List Link) → ((l : Link) → P l ↔ Q l) → Alike P Q links
+alike_each P Q [] each = tt
+alike_each P Q (l ∷ links) each = (each l, alike_each P Q links each)
+
+pub all_as : (P Q : Link → Type 0) (links : List Link) → Alike P Q links → AllByRecursion P links
+    → AllByRecursion Q links
+all_as P Q [] alike all = all
+all_as P Q (l ∷ links) alike all = (alike.0.0 all.0, all_as P Q links alike.1 all.1)
+
+pub fails_as : (P Q : Link → Type 0) (links : List Link) (link : Link) → Alike P Q links → FailsFirst P links link
+    → FailsFirst Q links link
+fails_as P Q [] link alike fails = fails
+fails_as P Q (l ∷ links) link alike (inl now) = inl ((λ q. now.0 (alike.0.1 q)), now.1)
+fails_as P Q (l ∷ links) link alike (inr later) = inr (alike.0.0 later.0, fails_as P Q links link alike.1 later.1)
+
+pub judged_as : {A : Type 0} (P Q : Link → Type 0) (links : List Link) (r : Result A OfflineError) → Alike P Q links
+    → Judged P links r → Judged Q links r
+judged_as P Q links (Ok x) alike judged = all_as P Q links alike judged
+judged_as P Q links (Err e) alike judged =
+    (judged.0, judged.1, fails_as P Q links judged.0 alike judged.2)
+
+pub alike_joined : (P Q : Link → Type 0) (xs ys : List Link) → Alike P Q xs → Alike P Q ys → Alike P Q (xs ++ ys)
+alike_joined P Q xs ys front behind = all_joined (λ l. P l ↔ Q l) xs ys front behind
+
+pub both_alike : {A B C D : Type 0} → (A ↔ B) → (C ↔ D) → (A × C) ↔ (B × D)
+both_alike ab cd = ((λ x. (ab.0 x.0, cd.0 x.1)), (λ y. (ab.1 y.0, cd.1 y.1)))
+
+-- what a call returns is judged as what is meant, unless memory ran out
+pub judged_answer : {A : Type 0} (memory : OfflineError) (Holds : Link → Type 0) (links : List Link)
+    (r meant : Result A OfflineError) → Answers memory (λ (x : A). x) r meant → Judged Holds links meant
+    → UnlessMemory memory r (Judged Holds links r)
+judged_answer {A = A} memory Holds links (Ok x) meant is judged =
+    inr (subst (λ (m : Result A OfflineError). Judged Holds links m) is judged)
+judged_answer memory Holds links (Err error) meant (inl out) judged = inl (ap Err out)
+judged_answer {A = A} memory Holds links (Err error) meant (inr is) judged =
+    inr (subst (λ (m : Result A OfflineError). Judged Holds links m) is judged)
 
 -- ---- the same in full
 

@@ -1,4 +1,5 @@
 pub mod BundleVerdicts
+pub mod CertificateBytes
 pub mod ChainLaws
 pub mod Chains
 pub mod CheckedVerdicts
@@ -11,6 +12,9 @@ pub mod EntryProofs
 pub mod IssuerVerdicts
 pub mod Issuers
 pub mod JudgedLaws
+pub mod LinkGroups
+pub mod OfflineBytes
+pub mod OfflineLaws
 pub mod RootVerdicts
 pub mod Scts
 pub mod Verdicts

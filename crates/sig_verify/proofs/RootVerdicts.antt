@@ -1,8 +1,9 @@
 -- The links `fulcio`, `anchor` and `ctfe`: what a trusted root means says which of them fails first.
 use Rattle.std.proofs.Common.{◌≡◌, ◌≢◌, ◌⊎◌, ℕ, ℤ, List, [], ◌∷◌, Result, Ok, Err, inl, inr, refl, sym, ap, subst}
+use Rattle.std.proofs.Common.{◌∙◌}
 use Rattle.std.specs.List.{AllByRecursion}
 use Rattle.sig_base.specs.declared.error.SigstoreError.{SigstoreError}
-use Rattle.sig_base.specs.declared.error.SigstoreError.TheVariants.{OutOfMemory}
+use Rattle.sig_base.specs.declared.error.SigstoreError.TheVariants.{CertificatePoolError, OutOfMemory}
 use Rattle.sig_base.specs.declared.error.SigstoreError.TheVariants.{TufMetadataError}
 use Rattle.sig_base.specs.declared.fault.PoolError.{PoolError}
 use Rattle.sig_base.specs.declared.fault.PoolError.TheVariants as pool
@@ -23,7 +24,7 @@ use Rattle.sig_verify.specs.declared.link.Link.TheVariants.{Fulcio, Anchor, Ctfe
 
 -- ---- a list that has something
 
-some_given : {A : Type 0} (p : TrustPart) (xs ys : List A) → unless_empty p xs ≡ Ok ys → (xs ≢ []) × (xs ≡ ys)
+pub some_given : {A : Type 0} (p : TrustPart) (xs ys : List A) → unless_empty p xs ≡ Ok ys → (xs ≢ []) × (xs ≡ ys)
 some_given p [] ys e = absurd cc
 some_given p (x ∷ xs) ys e = ((λ none. absurd cc), (let same : x ∷ xs ≡ ys = cc in same))
 
@@ -105,6 +106,23 @@ module _ (root : TrustedRoot) (now : ℤ) where
           ),
         ),
       )
+
+-- unless memory ran out
+apart : (error named : SigstoreError) → error ≡ named → named ≢ OutOfMemory → error ≢ OutOfMemory
+apart error named is other memory = other (sym is ∙ memory)
+
+pub memory_or_other : (root : TrustedRoot) (now : ℤ) (error : SigstoreError)
+    → IsRefusedRoot (authorities_of root now) (ct_keys_of root now) error
+    → (error ≡ OutOfMemory) ⊎ (error ≢ OutOfMemory)
+memory_or_other root now error (inl memory) = inl memory
+memory_or_other root now error (inr (inl refused)) =
+    let none = none_given part.Fulcio (authorities root now) error refused in
+    inr (apart error (TufMetadataError part.Fulcio) none.1 (λ e. absurd cc))
+memory_or_other root now error (inr (inr (inl refused))) =
+    inr (apart error (CertificatePoolError (pool.Anchor refused.0)) refused.1 (λ e. absurd cc))
+memory_or_other root now error (inr (inr (inr refused))) =
+    let none = none_given part.Ctfe (ct_keys root now) error refused.1 in
+    inr (apart error (TufMetadataError part.Ctfe) none.1 (λ e. absurd cc))
 
 pub roots_are_judged : RootsAreJudged
 roots_are_judged = record { made = all_hold; refused = told }

@@ -1,7 +1,6 @@
 -- The links `material` to `time`: the result of a verifier says which of them fails first.
-use Rattle.std.proofs.Common.{◌≡◌, ◌↔◌, ℕ, Bool, List, [], ◌∷◌, ◌++◌, Result, Ok, Err, inl, inr, sym, ap}
+use Rattle.std.proofs.Common.{◌≡◌, ◌↔◌, ℕ, Bool, List, ◌++◌, Result, Ok, inl, inr, sym, ap}
 use Rattle.std.proofs.Common.{subst, ◌∙◌}
-use Rattle.std.specs.List.{AllByRecursion}
 use Rattle.sig_bundle.specs.Checked.{Checked, IsChecked}
 use Rattle.sig_bundle.specs.Passed.{IsPassed}
 use Rattle.sig_bundle.specs.declared.bundle.Bundle.{Bundle}
@@ -18,10 +17,9 @@ use Rattle.sig_dsse.specs.declared.artifact_digest.ArtifactDigest.{ArtifactDiges
 use Rattle.sig_dsse.specs.declared.envelope.DsseEnvelope.{DsseEnvelope}
 use Rattle.sig_dsse.specs.declared.envelope.DsseSignature.{DsseSignature}
 use Rattle.sig_dsse.specs.declared.recognized.SubjectFault.{SubjectFault}
-use Rattle.sig_rekor.specs.Rules.{FailsFirst}
 use Rattle.sig_verify.proofs.BundleVerdicts.{OneCertificate, encoded_same, enveloped_same, sole_same, some_same}
 use Rattle.sig_verify.proofs.CheckedVerdicts.{judged_trusted}
-use Rattle.sig_verify.proofs.JudgedLaws.{behind, fails_front, judged_tells}
+use Rattle.sig_verify.proofs.JudgedLaws.{alike_each, behind, fails_front, judged_as, judged_tells}
 use Rattle.sig_verify.specs.BundleLinks.{bundle_links}
 use Rattle.sig_verify.specs.CertificateLinks.{HoldsOfChecked, certificate_links}
 use Rattle.sig_verify.specs.Judged.{Judged, Tells}
@@ -29,13 +27,12 @@ use Rattle.sig_verify.specs.LinkLaws.{BundlesAreJudged, HoldsOfVerified, IsReadA
 use Rattle.sig_verify.specs.Verdict.{Answer, Checker, IsVerdict, PolicyOf}
 use Rattle.sig_verify.specs.Verifier.{Trusted}
 use Rattle.sig_verify.specs.declared.link.Link.{Link}
-use Rattle.sig_verify.specs.declared.offline_error.OfflineError.{OfflineError}
 
 digests_same : (a b : List ArtifactDigest) → ◌≡◌ {A = Result (List ArtifactDigest) SubjectFault} (Ok a) (Ok b) → a ≡ b
 digests_same a b e = cc
 
 -- a bundle is checked in one way
-one_checked : OneCertificate → (b : Bundle) (c o : Checked) → IsPassed b c → IsPassed b o → o ≡ c
+pub one_checked : OneCertificate → (b : Bundle) (c o : Checked) → IsPassed b c → IsPassed b o → o ≡ c
 one_checked one b c o is other =
     let material : other.material ≡ is.material = some_same other.material is.material
     (sym other.brought ∙ is.brought) in
@@ -96,25 +93,6 @@ one_checked one b c o is other =
       entry = x;
     }) entry
 
--- rules that hold alike
-all_alike : (P Q : Link → Type 0) (links : List Link) → ((l : Link) → P l → Q l) → AllByRecursion P links
-    → AllByRecursion Q links
-all_alike P Q [] to all = all
-all_alike P Q (l ∷ links) to all = (to l all.0, all_alike P Q links to all.1)
-
-fails_alike : (P Q : Link → Type 0) (links : List Link) (link : Link) → ((l : Link) → P l → Q l) → ((l : Link) → Q l
-    → P l)
-    → FailsFirst P links link → FailsFirst Q links link
-fails_alike P Q [] link to from fails = fails
-fails_alike P Q (l ∷ links) link to from (inl now) = inl ((λ q. now.0 (from l q)), now.1)
-fails_alike P Q (l ∷ links) link to from (inr later) = inr (to l later.0, fails_alike P Q links link to from later.1)
-
-judged_alike : (P Q : Link → Type 0) (links : List Link) (r : Result (Unit {0}) OfflineError) → ((l : Link) → P l
-    → Q l)
-    → ((l : Link) → Q l → P l) → Judged P links r → Judged Q links r
-judged_alike P Q links (Ok done) to from judged = all_alike P Q links to judged
-judged_alike P Q links (Err e) to from judged = (judged.0, judged.1, fails_alike P Q links judged.0 to from judged.2)
-
 module _ (one : OneCertificate) (passed : (b : Bundle) (c : Checked)
     → IsChecked b (Ok c) ↔ IsPassed b c) (bundles : BundlesAreJudged)
     (k : Checker) (policy : PolicyOf) (trusted : Trusted) (d : ArtifactDigest) (offline : Bool) (b : Bundle)
@@ -122,7 +100,7 @@ module _ (one : OneCertificate) (passed : (b : Bundle) (c : Checked)
   abbrev Holds : Link → Type 0
   Holds = HoldsOfVerified k policy (trust_of trusted) d offline b
 
-  judged_verdict : (result : Answer) → IsVerdict k trusted policy d offline b result
+  pub judged_verdict : (result : Answer) → IsVerdict k trusted policy d offline b result
       → Judged Holds (bundle_links ++ certificate_links) (renamed result)
   judged_verdict result (inl refused) =
       let first = bundles.refused b refused.0 refused.1 in
@@ -132,11 +110,14 @@ module _ (one : OneCertificate) (passed : (b : Bundle) (c : Checked)
       let c = checked.0 in
       let is : IsPassed b c = (passed b c).0 checked.1 in
       behind Holds bundle_links certificate_links (renamed result) (bundles.passed b c checked.1)
-      (judged_alike (HoldsOfChecked k policy (trust_of trusted) d offline c)
-      (OfPassedBundle k policy (trust_of trusted) d offline b)
-      certificate_links (renamed result) (λ l holds. (c, is, holds))
-      (λ l holds. subst (λ (x : Checked). HoldsOfChecked k policy (trust_of trusted) d offline x l)
-      (one_checked one b c holds.0 is holds.1) holds.2)
+      (judged_as (HoldsOfChecked k policy (trust_of trusted) d offline c)
+      (OfPassedBundle k policy (trust_of trusted) d offline b) certificate_links (renamed result)
+      (alike_each (HoldsOfChecked k policy (trust_of trusted) d offline c)
+      (OfPassedBundle k policy (trust_of trusted) d offline b) certificate_links (λ l. (
+        (λ holds. (c, is, holds)),
+        (λ holds. subst (λ (x : Checked). HoldsOfChecked k policy (trust_of trusted) d offline x l)
+            (one_checked one b c holds.0 is holds.1) holds.2),
+      )))
       (judged_trusted k policy trusted d offline c (read c is) result checked.2))
 
   pub verdict_told : (result : Answer) → IsVerdict k trusted policy d offline b result

@@ -93,11 +93,16 @@ IsLed e p = OfPlace p (λ index size. path_root index (leaf_of e.canonicalized_b
 
 -- ---- bytes
 
+-- the key of the entry's log is bytes
+abbrev pub HasKeyOfBytes : LogKeys → TransparencyLogEntry → Type 0
+HasKeyOfBytes keys e =
+    (id key : List ℕ) → e.log_id ≡ Some id → text_lookup (encode_lower id) keys ≡ Some key → AreBytes key
+
 -- the parts that a link reads as bytes are such
 pub record IsOfBytes (keys : LogKeys) (e : TransparencyLogEntry) : Type 0 where
   pub body : AreBytes e.canonicalized_body
   pub id : AreBytes (unwrap_or e.log_id [])
-  pub key : (id key : List ℕ) → e.log_id ≡ Some id → text_lookup (encode_lower id) keys ≡ Some key → AreBytes key
+  pub key : HasKeyOfBytes keys e
 
 -- ---- the links
 

@@ -15,3 +15,4 @@ pub mod Links
 pub mod RootLinks
 pub mod TrustChain
 pub mod LinkLaws
+pub mod OfflineLaws

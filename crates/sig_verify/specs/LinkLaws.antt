@@ -1,5 +1,5 @@
 -- What the results of the checks say of the links, group by group.
-use Rattle.std.specs.Prelude.{◌≡◌, ◌≢◌, ℤ, Bool, [], ◌∷◌, ◌++◌, Result, Ok, Err}
+use Rattle.std.specs.Prelude.{◌≡◌, ◌≢◌, ℕ, ℤ, Bool, List, [], ◌∷◌, ◌++◌, Some, Result, Ok, Err}
 use Rattle.std.specs.List.{AllByRecursion}
 use Rattle.sig_base.specs.declared.error.SigstoreError.{SigstoreError}
 use Rattle.sig_base.specs.declared.error.SigstoreError.TheVariants.{OutOfMemory}
@@ -9,6 +9,8 @@ use Rattle.sig_bundle.specs.Promise.{AreBytes}
 use Rattle.sig_bundle.specs.Proof.{IsProof}
 use Rattle.sig_bundle.specs.declared.bundle.Bundle.{Bundle}
 use Rattle.sig_bundle.specs.declared.bundle_error.BundleErrorKind.{BundleErrorKind}
+use Rattle.sig_bundle.specs.declared.material.MaterialContent.TheVariants.{Certificate as Encoded}
+use Rattle.sig_bundle.specs.declared.material.VerificationMaterial.{VerificationMaterial}
 use Rattle.sig_bundle.specs.declared.material.TransparencyLogEntry.{TransparencyLogEntry}
 use Rattle.sig_dsse.specs.declared.artifact_digest.ArtifactDigest.{ArtifactDigest}
 use Rattle.sig_root.specs.declared.record.TrustedRoot.{TrustedRoot}
@@ -95,6 +97,12 @@ IssuersAreJudged =
 pub record IsReadAs (c : Checked) : Type 0 where
   pub spki : AreBytes c.certificate.spki
   pub sct : IsSaidOf c.certificate (sct_of c.certificate)
+
+-- the DER of a bundle's certificate is bytes
+abbrev pub HasCertificateOfBytes : Bundle → Type 0
+HasCertificateOfBytes b =
+    (material : VerificationMaterial) (der : List ℕ) → b.verification_material ≡ Some material
+    → material.content ≡ Some (Encoded der) → AreBytes der
 
 -- of a bundle that passed its own checks: the result is that of the first of the links `issuance` to `time` that fails
 abbrev pub CheckedAreJudged : Type 0

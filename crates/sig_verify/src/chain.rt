@@ -1,10 +1,17 @@
 //! Whether a signed bundle is trusted, without a network.
-ghost use Rattle.std.specs.Prelude.{◌≡◌};
+ghost use Rattle.std.specs.Prelude.{◌≡◌, IfOk};
 ghost use Rattle.sig_base.specs.Answers.{UnlessMemory};
+ghost use Rattle.sig_bundle.specs.Proof.{IsProof};
+ghost use Rattle.sig_verify.specs.EntryLinks.{OfProof};
+ghost use Rattle.sig_verify.specs.Judged.{Judged};
+ghost use Rattle.sig_verify.specs.Links.{HoldsOf, OfPassed, links};
+ghost use Rattle.sig_verify.specs.OfflineLaws.{AreRead, HasEntryOfBytes, IsOfBundleOfBytes};
 ghost use Rattle.sig_verify.specs.OfflineVerdict.{entry_of, IsOffline, IsOfflineIn, IsOfflineOf, IsOfflineUnder};
 ghost use Rattle.sig_verify.specs.OfflineVerdict.{IsVouchedIn};
 ghost use Rattle.sig_verify.specs.OfflineVerdict.{lent_entry};
 
+use crate::bytes::{are_log_key_bytes, are_optional_bytes, are_owned_bytes, is_certificate_bytes};
+use crate::laws::outcomes;
 use crate::log_entry::verify_log_entry;
 use crate::offline::Offline;
 use crate::offline_error::{OfflineError, Part, json_error, root_error};
@@ -28,7 +35,50 @@ pub fn verify_offline<P: VerificationPolicy, C: SignatureChecker>(
     policy: &P,
     checker: &C,
 ) -> Result<Offline, OfflineError>
-    ensures { UnlessMemory OfflineError.OutOfMemory result (IsOffline
+    // There is a value if and only if every link holds, and an error is that of the first that does not.
+    ensures links { UnlessMemory OfflineError.OutOfMemory result (Judged (HoldsOf
+        (record {
+          checker = record {
+            spki = C.spki_accepts checker.now;
+            prehash = C.prehash_accepts checker.now;
+            point = C.point_accepts checker.now;
+            cert = C.cert_accepts checker.now;
+          };
+          policy = record { holds = P.holds policy.now; refusal = P.refusal policy.now };
+        })
+        (record { root = trusted_root.now; now = now; digest = digest.now; bundle = bundle.now })) links result) }
+    // The value's proof is that of the members of the bundle's log entry.
+    ensures kept { IfOk result (λ offline. OfPassed
+        (record { root = trusted_root.now; now = now; digest = digest.now; bundle = bundle.now })
+        (λ c. OfProof c.entry (λ p. IsProof p offline.proof))) }
+    // The same by the steps.
+    ensures steps { UnlessMemory OfflineError.OutOfMemory result (IsOffline
+        (record {
+          spki = C.spki_accepts checker.now;
+          prehash = C.prehash_accepts checker.now;
+          point = C.point_accepts checker.now;
+          cert = C.cert_accepts checker.now;
+        })
+        (record { holds = P.holds policy.now; refusal = P.refusal policy.now })
+        trusted_root.now now digest.now bundle.now result) }
+{
+    outcomes();
+    verify_root(alloc, trusted_root, now, digest, bundle, policy, checker)
+}
+
+/// All links.
+fn verify_root<P: VerificationPolicy, C: SignatureChecker>(
+    alloc: Global,
+    trusted_root: &[u8],
+    now: i64,
+    digest: &ArtifactDigest,
+    bundle: &[u8],
+    policy: &P,
+    checker: &C,
+) -> Result<Offline, OfflineError>
+    ensures read { UnlessMemory OfflineError.OutOfMemory result (AreRead
+        (record { root = trusted_root.now; now = now; digest = digest.now; bundle = bundle.now })) }
+    ensures steps { UnlessMemory OfflineError.OutOfMemory result (IsOffline
         (record {
           spki = C.spki_accepts checker.now;
           prehash = C.prehash_accepts checker.now;
@@ -40,6 +90,7 @@ pub fn verify_offline<P: VerificationPolicy, C: SignatureChecker>(
 {
     match read_trusted_root(alloc, trusted_root) {
         Ok(root) => {
+            are_log_key_bytes(root.tlogs.as_slice());
             let root = SigstoreTrustRoot::of(root);
             verify_text(alloc, &root, now, digest, bundle, policy, checker)
         }
@@ -57,7 +108,8 @@ fn verify_text<P: VerificationPolicy, C: SignatureChecker>(
     policy: &P,
     checker: &C,
 ) -> Result<Offline, OfflineError>
-    ensures { UnlessMemory OfflineError.OutOfMemory result (IsOfflineIn
+    ensures read { UnlessMemory OfflineError.OutOfMemory result (IsOfBundleOfBytes bundle.now) }
+    ensures steps { UnlessMemory OfflineError.OutOfMemory result (IsOfflineIn
         (record {
           spki = C.spki_accepts checker.now;
           prehash = C.prehash_accepts checker.now;
@@ -68,7 +120,11 @@ fn verify_text<P: VerificationPolicy, C: SignatureChecker>(
         root.now now digest.now bundle.now result) }
 {
     match read_bundle(alloc, bundle) {
-        Ok(bundle) => verify_read(alloc, root, now, digest, &bundle, policy, checker),
+        Ok(bundle) => {
+            is_certificate_bytes(&bundle);
+            is_entry_bytes(&bundle);
+            verify_read(alloc, root, now, digest, &bundle, policy, checker)
+        }
         Err(error) => Err(json_error(Part::Bundle, error)),
     }
 }
@@ -144,6 +200,19 @@ fn verify_entry<C: SignatureChecker>(
     match root.rekor_keys(alloc, now) {
         Ok(keys) => verify_log_entry(alloc, entry, &keys, checker),
         Err(_) => Err(OfflineError::OutOfMemory),
+    }
+}
+
+/// Body and log id of a bundle's only log entry are bytes. Its call does nothing.
+fn is_entry_bytes(bundle: &Bundle)
+    ensures { HasEntryOfBytes bundle.now }
+{
+    match entry_of(bundle) {
+        Some(entry) => {
+            are_owned_bytes(&entry.canonicalized_body);
+            are_optional_bytes(&entry.log_id);
+        }
+        None => (),
     }
 }
 

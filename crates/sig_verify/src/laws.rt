@@ -3,6 +3,7 @@
 ghost use Rattle.sig_verify.specs.LinkLaws.{BundlesAreJudged, CheckedAreJudged, ContentsAreJudged};
 ghost use Rattle.sig_verify.specs.LinkLaws.{EntriesAreJudged, EntriesAreKept, IssuersAreJudged, TimesAreJudged};
 ghost use Rattle.sig_verify.specs.LinkLaws.{RootsAreJudged, VerdictsAreJudged};
+ghost use Rattle.sig_verify.specs.OfflineLaws.{OutcomesAreJudged};
 ghost use Rattle.sig_verify.specs.TrustChain.{AllLinksAreTheTrustChain};
 
 use sig_bundle::laws::{causes_of_refusals, passed_bundles, promises, proof_faults, proofs};
@@ -68,3 +69,17 @@ pub fn verified_bundles()
 pub fn roots()
     ensures { RootsAreJudged }
 {}
+
+/// What `verify_offline` returns is a value if and only if every link holds, and else the error of the first that
+/// does not, unless memory runs out. The value is the body of the bundle's log entry with its proof.
+pub fn outcomes()
+    ensures { OutcomesAreJudged }
+{
+    certificates();
+    passed_bundles();
+    bundles();
+    roots();
+    promises();
+    proofs();
+    proof_faults();
+}

@@ -7,6 +7,7 @@
 //! [`SignatureChecker`](sig_base::SignatureChecker) says so, and every fact here is relative to it.
 #![tactic(auto)]
 
+mod bytes;
 mod chain;
 mod content_check;
 mod error;

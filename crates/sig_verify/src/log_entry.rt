@@ -1,15 +1,20 @@
 //! Whether a log vouches for an entry.
-ghost use Rattle.std.specs.Prelude.{◌≡◌, IsSome, OnOk};
-ghost use Rattle.sig_base.specs.Answers.{Answers};
+ghost use Rattle.std.specs.Prelude.{◌≡◌, IfOk, IsSome, OnOk};
+ghost use Rattle.sig_base.specs.Answers.{Answers, UnlessMemory};
 ghost use Rattle.sig_key.specs.Key.{key_accepts};
 ghost use Rattle.sig_key.specs.Kind.{key_parts};
+ghost use Rattle.sig_verify.specs.EntryLinks.{HasKeyOfBytes, HoldsOfEntry, entry_links};
+ghost use Rattle.sig_verify.specs.Judged.{Judged};
+ghost use Rattle.sig_verify.specs.LinkLaws.{IsKept};
 ghost use Rattle.sig_verify.specs.LogEntry.{entry_answer, fields_answer, id_answer, included, inclusion_answer};
 ghost use Rattle.sig_verify.specs.LogEntry.{key_answer};
 ghost use Rattle.sig_verify.specs.LogEntry.{lent_id, promise_answer, read_key, vouched};
 
+use crate::bytes::{are_bytes, are_optional_bytes, are_owned_bytes};
 use crate::offline::Offline;
 use crate::offline_error::{OfflineError, proof_error};
 use sig_base::{Bytes, KeyMap, SignatureChecker, SigstoreError, Text};
+use sig_bundle::laws::{promises, proof_faults, proofs};
 use sig_bundle::{ProofFields, TransparencyLogEntry, promise_text};
 use sig_key::CosignVerificationKey;
 use sig_rekor::InclusionProof;
@@ -38,8 +43,33 @@ pub fn verify_log_entry<C: SignatureChecker>(
     log_keys: &KeyMap,
     checker: &C,
 ) -> Result<Offline, OfflineError>
-    ensures { Answers OfflineError.OutOfMemory (λ offline. offline) result
+    // There is a value only if the links `log-key` to `inclusion` hold, and an error is that of the first that does not.
+    ensures links { UnlessMemory OfflineError.OutOfMemory result
+        (Judged (HoldsOfEntry (C.spki_accepts checker.now) log_keys.now entry.now) entry_links result) }
+    // The value is the entry's body, with the proof that its members are.
+    ensures kept { IfOk result (IsKept entry.now) }
+    // The same in one equation.
+    ensures answer { Answers OfflineError.OutOfMemory (λ offline. offline) result
         (entry_answer (C.spki_accepts checker.now) log_keys.now entry.now) }
+{
+    promises();
+    proofs();
+    proof_faults();
+    are_owned_bytes(&entry.canonicalized_body);
+    are_optional_bytes(&entry.log_id);
+    judge_entry(alloc, entry, log_keys, checker)
+}
+
+/// The links `log-key` to `inclusion`.
+fn judge_entry<C: SignatureChecker>(
+    alloc: Global,
+    entry: &TransparencyLogEntry,
+    log_keys: &KeyMap,
+    checker: &C,
+) -> Result<Offline, OfflineError>
+    ensures answer { Answers OfflineError.OutOfMemory (λ offline. offline) result
+        (entry_answer (C.spki_accepts checker.now) log_keys.now entry.now) }
+    ensures bytes { UnlessMemory OfflineError.OutOfMemory result (HasKeyOfBytes log_keys.now entry.now) }
 {
     let key = log_key(alloc, entry, log_keys)?;
     vouched(alloc, entry, &key, checker)
@@ -85,11 +115,15 @@ fn log_key(
 ) -> Result<CosignVerificationKey, OfflineError>
     ensures key { Answers OfflineError.OutOfMemory key_parts result (key_answer log_keys.now entry.now.log_id) }
     ensures named { OnOk result (IsSome entry.now.log_id) }
+    ensures bytes { UnlessMemory OfflineError.OutOfMemory result (HasKeyOfBytes log_keys.now entry.now) }
 {
     let id = id_of(&entry.log_id)?;
     let name = Text::from(hex::encode(alloc, id.as_slice())?);
     match log_keys.get(name.as_str()) {
-        Some(der) => key_of(alloc, der),
+        Some(der) => {
+            are_bytes(der);
+            key_of(alloc, der)
+        }
         None => Err(OfflineError::RekorPublicKeyNotFoundError(name)),
     }
 }

@@ -1,13 +1,21 @@
 //! Whether a bundle verifies against a verifier.
-ghost use Rattle.std.specs.Prelude.{◌≡◌};
+ghost use Rattle.std.specs.Prelude.{◌≡◌, ◌++◌};
 ghost use Rattle.sig_base.specs.Answers.{UnlessMemory};
+ghost use Rattle.sig_verify.specs.BundleLinks.{bundle_links};
+ghost use Rattle.sig_verify.specs.CertificateLinks.{certificate_links};
+ghost use Rattle.sig_verify.specs.Judged.{Judged};
+ghost use Rattle.sig_verify.specs.LinkLaws.{HoldsOfVerified, renamed, trust_of};
 ghost use Rattle.sig_verify.specs.Verdict.{IsAllowed, IsLogged, IsSigned, IsTrusted, IsVerdict};
 
+use crate::bytes::is_certificate_bytes;
 use crate::content_check::{check_content, check_time};
 use crate::error::{SignatureErrorKind, VerificationError, VerificationResult};
+use crate::laws::bundles;
 use crate::verifier::Verifier;
 use sig_base::SignatureChecker;
+use sig_bundle::laws::passed_bundles;
 use sig_bundle::{ArtifactDigest, Bundle, CheckedBundle};
+use sig_certificate::laws::certificates;
 use sig_x509::VerificationPolicy;
 use std::alloc::Global;
 
@@ -30,6 +38,45 @@ impl Verifier {
     /// - `Certificate` of `Expired`: the log took the entry while the certificate was not valid, both ends included;
     /// - `OutOfMemory`.
     pub fn verify_digest_with<P: VerificationPolicy, C: SignatureChecker>(
+        &self,
+        alloc: Global,
+        input_digest: &ArtifactDigest,
+        bundle: &Bundle,
+        policy: &P,
+        offline: bool,
+        checker: &C,
+    ) -> VerificationResult
+        // It is `Ok` only if the links `material` to `time` hold, and an error is that of the first that does not.
+        ensures links { UnlessMemory VerificationError.OutOfMemory result (Judged (HoldsOfVerified
+            (record {
+              spki = C.spki_accepts checker.now;
+              prehash = C.prehash_accepts checker.now;
+              point = C.point_accepts checker.now;
+              cert = C.cert_accepts checker.now;
+            })
+            (record { holds = P.holds policy.now; refusal = P.refusal policy.now })
+            (trust_of self.now) input_digest.now offline bundle.now) (bundle_links ++ certificate_links)
+            (renamed result)) }
+        // The same by the steps.
+        ensures steps { UnlessMemory VerificationError.OutOfMemory result (IsVerdict
+            (record {
+              spki = C.spki_accepts checker.now;
+              prehash = C.prehash_accepts checker.now;
+              point = C.point_accepts checker.now;
+              cert = C.cert_accepts checker.now;
+            })
+            self.now (record { holds = P.holds policy.now; refusal = P.refusal policy.now })
+            input_digest.now offline bundle.now result) }
+    {
+        certificates();
+        passed_bundles();
+        bundles();
+        is_certificate_bytes(bundle);
+        self.judge_bundle(alloc, input_digest, bundle, policy, offline, checker)
+    }
+
+    /// The links `material` to `time`.
+    fn judge_bundle<P: VerificationPolicy, C: SignatureChecker>(
         &self,
         alloc: Global,
         input_digest: &ArtifactDigest,

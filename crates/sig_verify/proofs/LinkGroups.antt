@@ -1,0 +1,231 @@
+-- What a link asks of the inputs is what it asks of the root, of the bundle and of the log entry that these are.
+use Rattle.std.proofs.Common.{◌≡◌, ◌↔◌, ◌≢◌, ℕ, true, List, [], ◌∷◌, ◌++◌, Option, None, Ok, refl, sym, ap, subst, ◌∙◌}
+use Rattle.std.proofs.Math.Path.{fun_ext}
+use Rattle.std.specs.List.{AllByRecursion}
+use Rattle.sig_base.proofs.ResultSteps.{ok_is}
+use Rattle.sig_base.specs.declared.fault.TrustPart.TheVariants as part
+use Rattle.sig_bundle.specs.BundleRecord.{bundle_in}
+use Rattle.sig_bundle.specs.Checked.{Checked}
+use Rattle.sig_bundle.specs.Passed.{HasProof, IsPassed}
+use Rattle.sig_bundle.specs.Version.{IsMediaType}
+use Rattle.sig_bundle.specs.declared.bundle.Bundle.{Bundle}
+use Rattle.sig_bundle.specs.declared.material.TransparencyLogEntry.{TransparencyLogEntry}
+use Rattle.sig_bundle.specs.declared.version.Version.TheVariants.{Bundle0_3}
+use Rattle.sig_certificate.specs.Certificate.{Cert}
+use Rattle.sig_certificate.specs.Profile.{leaf_refusal}
+use Rattle.sig_root.specs.RootRecord.{trusted_root_in}
+use Rattle.sig_root.specs.declared.record.TrustedRoot.{TrustedRoot}
+use Rattle.sig_timestamp.specs.Keyring.{key_of}
+use Rattle.sig_timestamp.specs.RingKey.{point_at}
+use Rattle.sig_x509.specs.Issuance.{AreAnchors}
+use Rattle.sig_x509.specs.Issued.{HasProfile}
+use Rattle.sig_verify.proofs.BundleVerdicts.{OneCertificate}
+use Rattle.sig_verify.proofs.JudgedLaws.{Alike, alike_joined, both_alike}
+use Rattle.sig_verify.proofs.RootVerdicts.{some_given}
+use Rattle.sig_verify.proofs.WholeVerdicts.{one_checked}
+use Rattle.sig_verify.specs.BundleLinks.{IsEnvelopeRead, OfCertificate, OfEncoding, OfEntry, OfEnvelope, bundle_links}
+use Rattle.sig_verify.specs.CertificateLinks.{HasIssuer, HasSignedBytes, IsAbout, IsSignedContent, IsTimely}
+use Rattle.sig_verify.specs.CertificateLinks.{IsVouchedFor, OfScheme, Trust, certificate_links}
+use Rattle.sig_verify.specs.EntryLinks.{HasPromise, HoldsOfEntry, IsLed, IsNoteOf, IsNoteSignedBy, IsPlaced}
+use Rattle.sig_verify.specs.EntryLinks.{IsPromisedBy, IsProofRead, LogKeys, OfCheckpoint, OfLogKey, OfProof, entry_links}
+use Rattle.sig_verify.specs.LinkLaws.{HoldsOfVerified, trust_of}
+use Rattle.sig_verify.specs.Links.{HoldsOf, Inputs, OfBundle, OfChecked, OfLogged, OfPassed, OfRoot, Outside}
+use Rattle.sig_verify.specs.OfflineVerdict.{authorities_of, ct_keys_of}
+use Rattle.sig_verify.specs.RootLinks.{HoldsOfRoot, IsSomeAnchor, OfTrust, authorities, ct_keys, log_keys, root_links}
+use Rattle.sig_verify.specs.Verdict.{HasBody}
+use Rattle.sig_verify.specs.Verifier.{IsVerifierOf, Trusted, values_of}
+use Rattle.sig_verify.specs.declared.link.Link.{Link}
+
+-- the anchors of bytes are the only ones
+one_list : OneCertificate → (ders : List (List ℕ)) (cs ds : List Cert) → AreAnchors ders cs → AreAnchors ders ds
+    → cs ≡ ds
+one_list one [] [] [] are other = refl
+one_list one [] (c ∷ cs) ds are other = absurd are
+one_list one [] [] (d ∷ ds) are other = absurd other
+one_list one (t ∷ ts) [] ds are other = absurd are
+one_list one (t ∷ ts) (c ∷ cs) [] are other = absurd other
+one_list one (t ∷ ts) (c ∷ cs) (d ∷ ds) are other =
+    ap (λ (x : Cert). x ∷ cs) (one t c d are.0.certificate other.0.certificate)
+    ∙ ap (λ (xs : List Cert). d ∷ xs) (one_list one ts cs ds are.1 other.1)
+
+module _ (o : Outside) (i : Inputs) (root : TrustedRoot) (root_is : trusted_root_in i.root ≡ Ok root) where
+  root_as : (P : TrustedRoot → Type 0) → P root ↔ OfRoot i P
+  root_as P = (
+    (λ p. (root, root_is, p)),
+    (λ has. subst P (ok_is has.0 root (sym has.1 ∙ root_is)) has.2),
+  )
+
+  pub roots_alike : Alike (HoldsOfRoot root i.now) (HoldsOf o i) root_links
+  roots_alike = (
+    root_as (λ r. authorities r i.now ≢ []),
+    (
+      root_as (λ r. AllByRecursion IsSomeAnchor (authorities r i.now)),
+      (root_as (λ r. ct_keys r i.now ≢ []), tt),
+    ),
+  )
+
+  module _ (b : Bundle) (bundle_is : bundle_in i.bundle ≡ Ok b) where
+    bundle_as : (P : Bundle → Type 0) → P b ↔ OfBundle i P
+    bundle_as P = (
+      (λ p. (b, bundle_is, p)),
+      (λ has. subst P (ok_is has.0 b (sym has.1 ∙ bundle_is)) has.2),
+    )
+
+    -- ---- the log entry
+
+    module _ (one : OneCertificate) (c : Checked) (is : IsPassed b c) where
+      entry_from : (X : LogKeys → TransparencyLogEntry → Type 0) (x : Checked) → IsPassed b x
+          → X (log_keys root i.now) x.entry → X (log_keys root i.now) c.entry
+      entry_from X x other holds =
+          subst (λ (y : Checked). X (log_keys root i.now) y.entry) (one_checked one b c x is other) holds
+
+      logged_as : (X : LogKeys → TransparencyLogEntry → Type 0) → X (log_keys root i.now) c.entry ↔ OfLogged i X
+      logged_as X = (
+        (λ x. (root_as (λ r. OfPassed i (λ y. X (log_keys r i.now) y.entry))).0 (b, bundle_is, (c, is, x))),
+        (λ has.
+            let passed = (root_as (λ r. OfPassed i (λ y. X (log_keys r i.now) y.entry))).1 has in
+            let found = (bundle_as (λ x. (y : Checked) × IsPassed x y × X (log_keys root i.now) y.entry)).1 passed in
+            entry_from X found.0 found.1 found.2),
+      )
+
+      pub entries_alike : Alike (HoldsOfEntry o.checker.spki (log_keys root i.now) c.entry) (HoldsOf o i) entry_links
+      entries_alike = (
+        logged_as (λ keys e. OfLogKey keys e (λ key. Unit {0})),
+        (
+          both_alike (logged_as (λ keys e. HasPromise e))
+              (logged_as (λ keys e. IsPromisedBy o.checker.spki keys e)),
+          (
+            logged_as (λ keys e. OfProof e IsProofRead),
+            (
+              logged_as (λ keys e. OfCheckpoint e (λ p n. Unit {0})),
+              (
+                logged_as (λ keys e. IsNoteSignedBy o.checker.spki keys e),
+                (
+                  logged_as (λ keys e. OfCheckpoint e IsNoteOf),
+                  (
+                    both_alike (logged_as (λ keys e. OfProof e IsPlaced))
+                        (logged_as (λ keys e. OfProof e (IsLed e))),
+                    tt,
+                  ),
+                ),
+              ),
+            ),
+          ),
+        ),
+      )
+
+    -- ---- the bundle and its certificate
+
+    module _ (one : OneCertificate) (trusted : Trusted)
+        (is : IsVerifierOf (authorities_of root i.now) (ct_keys_of root i.now) trusted) where
+      abbrev Verified : Link → Type 0
+      Verified = HoldsOfVerified o.checker o.policy (trust_of trusted) i.digest true b
+
+      abbrev trust_with : List Cert → Trust
+      trust_with anchors = record { anchors = anchors; points = key_of (values_of (ct_keys root i.now)) }
+
+      are_anchors : AreAnchors (authorities root i.now) trusted.anchors
+      are_anchors =
+          subst (λ (ders : List (List ℕ)). AreAnchors ders trusted.anchors)
+          (sym (some_given part.Fulcio (authorities root i.now) is.certificates is.given).1) is.anchors
+
+      same_points : key_of (values_of (ct_keys root i.now)) ≡ point_at trusted.ring
+      same_points = fun_ext (λ id. sym (is.ring id ∙ ap (λ (keys : LogKeys). key_of (values_of keys) id)
+          (sym (some_given part.Ctfe (ct_keys root i.now) is.keys is.logs).1)))
+
+      same_trust : (anchors : List Cert) → AreAnchors (authorities root i.now) anchors
+          → trust_with anchors ≡ trust_of trusted
+      same_trust anchors are =
+          ap trust_with (one_list one (authorities root i.now) anchors trusted.anchors are are_anchors)
+          ∙ ap (λ (points : List ℕ → Option (List ℕ)). record { anchors = trusted.anchors; points = points })
+          same_points
+
+      abbrev Found : (Trust → Checked → Type 0) → Type 0
+      Found X = (c : Checked) × IsPassed b c × X (trust_of trusted) c
+
+      checked_to : (X : Trust → Checked → Type 0) → Found X → OfTrust root i.now (λ trust. OfPassed i (X trust))
+      checked_to X (c, passed, x) =
+          let moved = subst (λ (t : Trust). X t c) (sym (same_trust trusted.anchors are_anchors)) x in
+          (trusted.anchors, are_anchors, (b, bundle_is, (c, passed, moved)))
+
+      checked_from : (X : Trust → Checked → Type 0) → OfTrust root i.now (λ trust. OfPassed i (X trust)) → Found X
+      checked_from X (anchors, are, passed) =
+          let found = (bundle_as (λ x. (c : Checked) × IsPassed x c × X (trust_with anchors) c)).1 passed in
+          (found.0, found.1, subst (λ (t : Trust). X t found.0) (same_trust anchors are) found.2)
+
+      checked_as : (X : Trust → Checked → Type 0) → Found X ↔ OfChecked i X
+      checked_as X = (
+        (λ x. (root_as (λ r. OfTrust r i.now (λ trust. OfPassed i (X trust)))).0 (checked_to X x)),
+        (λ has. checked_from X ((root_as (λ r. OfTrust r i.now (λ trust. OfPassed i (X trust)))).1 has)),
+      )
+
+      -- two that hold of one bundle hold of one checked bundle
+      both_from : (X Y : Trust → Checked → Type 0) → Found X → Found Y → Found (λ trust c. X trust c × Y trust c)
+      both_from X Y (c, passed, x) (e, other, y) = (
+        c,
+        passed,
+        (x, subst (λ (z : Checked). Y (trust_of trusted) z) (one_checked one b c e passed other) y),
+      )
+
+      both_as : (X Y : Trust → Checked → Type 0)
+          → Found (λ trust c. X trust c × Y trust c) ↔ (OfChecked i X × OfChecked i Y)
+      both_as X Y = (
+        (λ (c, passed, (x, y)). ((checked_as X).0 (c, passed, x), (checked_as Y).0 (c, passed, y))),
+        (λ both. both_from X Y ((checked_as X).1 both.0) ((checked_as Y).1 both.1)),
+      )
+
+      bundles_alike : Alike Verified (HoldsOf o i) bundle_links
+      bundles_alike = (
+        bundle_as (λ x. OfEncoding x (λ der. Unit {0})),
+        (
+          bundle_as (λ x. OfCertificate x (λ c. Unit {0})),
+          (
+            bundle_as (λ x. OfCertificate x (λ c. leaf_refusal c ≡ None)),
+            (
+              ((λ u. u), (λ u. u)),
+              (
+                bundle_as (λ x. OfEnvelope x (λ envelope. Unit {0})),
+                (
+                  bundle_as (λ x. OfEnvelope x IsEnvelopeRead),
+                  (
+                    bundle_as (λ x. OfEntry x (λ e. Unit {0})),
+                    (bundle_as (λ x. IsMediaType x.media_type Bundle0_3 × OfEntry x HasProof), tt),
+                  ),
+                ),
+              ),
+            ),
+          ),
+        ),
+      )
+
+      certificates_alike : Alike Verified (HoldsOf o i) certificate_links
+      certificates_alike = (
+        checked_as (λ trust c. HasProfile c.certificate),
+        (
+          checked_as (λ trust c. HasIssuer o.checker trust c.certificate),
+          (
+            both_as (λ trust c. HasSignedBytes c.certificate)
+                (λ trust c. IsVouchedFor o.checker trust c.certificate),
+            (
+              checked_as (λ trust c. o.policy.holds c.certificate ≡ true),
+              (
+                checked_as (λ trust c. OfScheme c.certificate (λ scheme. Unit {0})),
+                (
+                  checked_as (λ trust c. IsSignedContent o.checker i.digest c),
+                  (
+                    checked_as (λ trust c. IsAbout c.content i.digest),
+                    (
+                      checked_as (λ trust c. HasBody c true),
+                      (checked_as (λ trust c. IsTimely c), tt),
+                    ),
+                  ),
+                ),
+              ),
+            ),
+          ),
+        ),
+      )
+
+      pub verified_alike : Alike Verified (HoldsOf o i) (bundle_links ++ certificate_links)
+      verified_alike = alike_joined Verified (HoldsOf o i) bundle_links certificate_links bundles_alike
+          certificates_alike

@@ -1,0 +1,143 @@
+-- What was read is bytes, where the law of the outcomes asks for it.
+use Rattle.std.proofs.Common.{◌≡◌, ℕ, zero, suc, ◌+◌, ◌<◌, ℤ, Bool, true, false, List, [], ◌∷◌, Option, Some, None}
+use Rattle.std.proofs.Common.{Ok, Err, IfOk, inl, inr, drop, get_or, length, refl, sym, ap, subst, arith, ◌∙◌}
+use Rattle.std.specs.Prelude.{slice_get, if◌then◌else◌}
+use Rattle.std.specs.List.{AllByRecursion}
+use Rattle.std.proofs.Math.Seq.{drop-cons}
+use Rattle.hex.specs.Hex.{encode_lower}
+use Rattle.sig_base.proofs.OptionSteps.{bind_is, some_is}
+use Rattle.sig_base.proofs.ResultSteps.{ok_is}
+use Rattle.sig_base.specs.Answers.{UnlessMemory}
+use Rattle.sig_base.specs.OptionSteps.{◌>>=◌}
+use Rattle.sig_bundle.specs.BundleRecord.{bundle_in}
+use Rattle.sig_bundle.specs.Checked.{Checked}
+use Rattle.sig_bundle.specs.Proof.{IsProof}
+use Rattle.sig_bundle.specs.declared.bundle.Bundle.{Bundle}
+use Rattle.sig_dsse.specs.declared.artifact_digest.ArtifactDigest.{ArtifactDigest}
+use Rattle.sig_root.proofs.LastKeys.{only_last}
+use Rattle.sig_root.specs.Picked.{bytes_at, holds, key_at}
+use Rattle.sig_root.specs.RootRecord.{trusted_root_in}
+use Rattle.sig_root.specs.declared.record.PublicKey.{PublicKey}
+use Rattle.sig_root.specs.declared.record.TransparencyLogInstance.{TransparencyLogInstance}
+use Rattle.sig_root.specs.declared.record.TrustedRoot.{TrustedRoot}
+use Rattle.sig_verify.proofs.CertificateBytes.{read_of_bundle}
+use Rattle.sig_verify.specs.EntryLinks.{HasKeyOfBytes, OfProof}
+use Rattle.sig_verify.specs.Judged.{Judged}
+use Rattle.sig_verify.specs.Links.{HoldsOf, Inputs, OfPassed, Outside, links}
+use Rattle.sig_verify.specs.LinkLaws.{HasCertificateOfBytes}
+use Rattle.sig_verify.specs.OfflineLaws.{AreRead, HasEntryOfBytes, HasRawBytes, IsOfBundleOfBytes, IsToldOf}
+use Rattle.sig_verify.specs.OfflineLaws.{OutcomesAreJudged}
+use Rattle.sig_verify.specs.OfflineVerdict.{IsOffline, Outcome, entry_among, only_entry}
+use Rattle.sig_verify.specs.RootLinks.{log_keys}
+use Rattle.sig_verify.specs.declared.offline_error.OfflineError.TheVariants.{OutOfMemory}
+
+abbrev Instance : Type 0
+Instance = TransparencyLogInstance
+
+-- ---- the instances of a log
+
+-- one more of them
+pub further : (is : List Instance) (n : ℕ) (i : Instance) → n < length is → i ≡ get_or is n i → HasRawBytes i
+    → AllByRecursion HasRawBytes (drop (n + 1) is) → AllByRecursion HasRawBytes (drop n is)
+further is n i within found has rest =
+    let next : n + 1 ≡ suc n = omega arith in
+    subst (λ (l : List Instance). AllByRecursion HasRawBytes l)
+    (sym (drop-cons is n i within ∙ ap (λ (h : Instance). h ∷ drop (suc n) is) (sym found)))
+    (has, subst (λ (k : ℕ). AllByRecursion HasRawBytes (drop k is)) next rest)
+
+at : (is : List Instance) (n : ℕ) (i : Instance) → AllByRecursion HasRawBytes is → slice_get is n ≡ Some i
+    → HasRawBytes i
+at [] n i all found = absurd cc
+at (j ∷ is) zero i all found = subst HasRawBytes (some_is j i found) all.0
+at (j ∷ is) (suc n) i all found = at is n i all.1 found
+
+held : (b : Bool) (raw : Option (List ℕ)) (key : List ℕ) → (if b then raw else None) ≡ Some key → raw ≡ Some key
+held true raw key is = is
+held false raw key is = absurd cc
+
+same_key : (a b c d : List ℕ) → ◌≡◌ {A = Option (List ℕ × List ℕ)} (Some (a, b)) (Some (c, d)) → b ≡ d
+same_key a b c d is = ap (λ (p : List ℕ × List ℕ). p.1) (some_is (a, b) (c, d) is)
+
+-- the key that an instance gives is its own
+raw_of : (now : ℤ) (i : Instance) (id key : List ℕ) → key_at now i ≡ Some (id, key)
+    → (k : PublicKey) × (i.public_key ≡ Some k) × (k.raw_bytes ≡ Some key)
+unfolding key_at
+raw_of now i id key is =
+    let first = bind_is i.public_key
+    (λ (k : PublicKey). bytes_at now k >>= (λ raw. i.log_id >>= (λ log. Some (encode_lower log, raw)))) (id, key) is in
+    let second = bind_is (bytes_at now first.0) (λ (raw : List ℕ). i.log_id >>= (λ log. Some (encode_lower log, raw)))
+    (id, key) first.2 in
+    let third = bind_is i.log_id (λ (log : List ℕ). Some (encode_lower log, second.0)) (id, key) second.2 in
+    let same : second.0 ≡ key = same_key (encode_lower third.0) second.0 id key third.2 in (
+      first.0,
+      first.1,
+      held (holds now first.0.valid_for) first.0.raw_bytes key (second.1 ∙ ap (λ (k : List ℕ). Some k) same),
+    )
+
+keys_are_bytes : (root : TrustedRoot) (now : ℤ) (c : Checked) → AllByRecursion HasRawBytes root.tlogs
+    → HasKeyOfBytes (log_keys root now) c.entry
+keys_are_bytes root now c all id key named found =
+    let last = only_last now root.tlogs (encode_lower id) key found in
+    let raw = raw_of now last.gives.0 (encode_lower id) key last.gives.2 in
+    at root.tlogs last.index last.gives.0 all last.gives.1 raw.0 key raw.1 raw.2
+
+-- ---- root and bundle
+
+pub bundle_bytes : (text : List ℕ) (b : Bundle) → bundle_in text ≡ Ok b → HasCertificateOfBytes b → HasEntryOfBytes b
+    → IsOfBundleOfBytes text
+bundle_bytes text b is certificate entry other other_is =
+    subst (λ (x : Bundle). HasCertificateOfBytes x × HasEntryOfBytes x) (ok_is b other (sym is ∙ other_is))
+    (certificate, entry)
+
+pub are_read : (i : Inputs) (root : TrustedRoot) → trusted_root_in i.root ≡ Ok root
+    → AllByRecursion HasRawBytes root.tlogs → IsOfBundleOfBytes i.bundle → AreRead i
+are_read i root root_is all bytes = record {
+  checked = λ other b c other_is bundle_is is. read_of_bundle b (bytes b bundle_is).0 c is;
+  logged = λ other b c other_is bundle_is is.
+      (let entry = (bytes b bundle_is).1 c.entry (ap entry_among is.brought ∙ ap only_entry is.logged) in
+      record {
+        body = entry.0;
+        id = entry.1;
+        key = keys_are_bytes other i.now c
+            (subst (λ (r : TrustedRoot). AllByRecursion HasRawBytes r.tlogs)
+            (ok_is root other (sym root_is ∙ other_is)) all);
+      });
+}
+
+-- ---- the outcome, at the time that was handed in
+
+abbrev pub inputs : List ℕ → ℤ → ArtifactDigest → List ℕ → Inputs
+inputs root now d bundle = record { root = root; now = now; digest = d; bundle = bundle }
+
+module _ (law : OutcomesAreJudged) (o : Outside) (root : List ℕ) (now time : ℤ) (d : ArtifactDigest)
+    (bundle : List ℕ) where
+  abbrev AreReadIn : Outcome → Type 0
+  AreReadIn result = UnlessMemory OutOfMemory result (AreRead (inputs root time d bundle))
+
+  abbrev IsBySteps : Outcome → Type 0
+  IsBySteps result = UnlessMemory OutOfMemory result (IsOffline o.checker o.policy root time d bundle result)
+
+  told : (result : Outcome) → time ≡ now → AreReadIn result → IsBySteps result
+      → UnlessMemory OutOfMemory result (IsToldOf o (inputs root now d bundle) result)
+  told result same (inl memory) is = inl memory
+  told result same (inr read) (inl memory) = inl memory
+  told result same (inr read) (inr is) =
+      subst (λ (t : ℤ). UnlessMemory OutOfMemory result (IsToldOf o (inputs root t d bundle) result)) same
+      (law o (inputs root time d bundle) read result is)
+
+  pub links_told : (result : Outcome) → time ≡ now → AreReadIn result → IsBySteps result
+      → UnlessMemory OutOfMemory result (Judged (HoldsOf o (inputs root now d bundle)) links result)
+  links_told result same read is =
+      elim (told result same read is) [ inl memory ↦ inl memory | inr all ↦ inr all.judged ]
+
+  pub kept_told : (result : Outcome) → time ≡ now → AreReadIn result → IsBySteps result
+      → IfOk result (λ offline. OfPassed (inputs root now d bundle)
+      (λ c. OfProof c.entry (λ p. IsProof p offline.proof)))
+  kept_told (Err error) same read is = tt
+  kept_told (Ok offline) same read is =
+      elim (told (Ok offline) same read is) [
+        | inl memory ↦ absurd cc
+        | inr all ↦
+            let kept = all.kept offline refl in
+            (kept.0, kept.1, (kept.2.0, kept.2.1, kept.2.2.proof))
+      ]
