@@ -7,5 +7,6 @@ pub mod Runs
 pub mod Signed
 pub mod Verdicts
 pub mod VerifyChains
+pub mod VerifyReplies
 pub mod VerifyRequests
 pub mod Writing

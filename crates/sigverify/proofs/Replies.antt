@@ -6,13 +6,14 @@ use Rattle.sig_base.specs.declared.memory.OutOfMemory.{OutOfMemory}
 use Rattle.sig_rekor.proofs.RuleLaws.{one_fails, none_fails}
 use Rattle.sig_rekor.specs.Rules.{FailsFirst}
 use Rattle.sigverify.specs.declared.command.Command.{Command}
-use Rattle.sigverify.specs.declared.command.Command.TheVariants.{Log}
+use Rattle.sigverify.specs.declared.command.Command.TheVariants.{Log, Verify}
 use Rattle.sig_verify.specs.declared.link.Link.{Link}
 use Rattle.sig_verify.specs.declared.link.Link.TheVariants.{Request}
 use Rattle.sigverify.specs.declared.reply.Reply.{Reply}
 use Rattle.sigverify.specs.declared.request.LogRequest.{LogRequest}
 use Rattle.sigverify.specs.Limit.{most_bytes}
 use Rattle.sigverify.specs.Request.{IsRequest, IsReadFrom}
+use Rattle.sigverify.specs.VerifyRequest.{IsVerifyReadFrom}
 use Rattle.sigverify.specs.Link.{log_links, links, HoldsOf, Holds, EveryLinkHolds, IsFirstFailing, IsVerdict}
 use Rattle.sigverify.specs.Reply.{IsReply, Succeeds, success, refusal, status_of}
 
@@ -72,10 +73,14 @@ first-of_text IsIt Of one request (l ∷ ls) link is (inr later) =
 pub unread-reply : (text : List ℕ) → IsReadFrom text None → IsReply Log text (refusal Request)
 unread-reply text none = first-reply Log text Request (inl (λ holds. none holds.0 holds.1, refl))
 
+pub unread-verify : (text : List ℕ) → IsVerifyReadFrom text None → IsReply Verify text (refusal Request)
+unread-verify text none = first-reply Verify text Request (inl (λ holds. none holds.0 holds.1, refl))
+
 -- nor of one that is too long
 pub long-reply : (command : Command) (text : List ℕ) → most_bytes < length text
     → IsReply command text (refusal Request)
 long-reply Log text long = unread-reply text (λ request is. absurd (omega (arith, is.short, long)))
+long-reply Verify text long = unread-verify text (λ request is. absurd (omega (arith, is.short, long)))
 
 pub vouched-reply : (text : List ℕ) (request : LogRequest) → IsReadFrom text (Some request) → IsVerdict request None
     → IsReply Log text (success request)

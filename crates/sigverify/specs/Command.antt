@@ -1,10 +1,11 @@
 -- The commands, by their words.
 use Rattle.std.specs.Prelude.{◌≡◌, ℕ, List, [], ◌∷◌, codes}
 use Rattle.sigverify.specs.declared.command.Command.{Command}
-use Rattle.sigverify.specs.declared.command.Command.TheVariants.{Log}
+use Rattle.sigverify.specs.declared.command.Command.TheVariants.{Log, Verify}
 
 abbrev pub word_of : Command → List ℕ
 word_of Log = codes "log"
+word_of Verify = codes "verify"
 
 -- the words are the command's one word
 abbrev pub Names : List (List ℕ) → Command → Type 0

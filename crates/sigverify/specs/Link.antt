@@ -12,11 +12,12 @@ use Rattle.sig_rekor.specs.CheckpointText.{IsCheckpoint}
 use Rattle.sig_rekor.specs.NoteText.{note_text}
 use Rattle.sig_rekor.specs.Rules.{FailsFirst}
 use Rattle.sigverify.specs.declared.command.Command.{Command}
-use Rattle.sigverify.specs.declared.command.Command.TheVariants.{Log}
+use Rattle.sigverify.specs.declared.command.Command.TheVariants.{Log, Verify}
 use Rattle.sig_verify.specs.declared.link.Link.{Link}
 use Rattle.sig_verify.specs.declared.link.Link.TheVariants.{Request, Checkpoint, NoteKey, NoteMatch, Inclusion}
 use Rattle.sigverify.specs.declared.request.LogRequest.{LogRequest}
 use Rattle.sigverify.specs.Request.{IsRequest}
+use Rattle.sigverify.specs.VerifyLink.{HoldsVerify, verify_links}
 
 -- the links of `log`
 abbrev pub log_links : List Link
@@ -24,6 +25,7 @@ log_links = Request ∷ Checkpoint ∷ NoteKey ∷ NoteMatch ∷ Inclusion ∷ [
 
 abbrev pub links : Command → List Link
 links Log = log_links
+links Verify = verify_links
 
 -- the row that says that the log's key signed the note
 abbrev pub note_row : LogRequest → SignedCheckpoint → CheckpointSignature → AcceptedRow
@@ -66,6 +68,7 @@ HoldsOf request other = Unit {0}
 -- a link holds of a text: the text is a request of the command, and the link holds of it
 abbrev pub Holds : Command → List ℕ → Link → Type 0
 Holds Log text link = (request : LogRequest) × IsRequest text request × HoldsOf request link
+Holds Verify text link = HoldsVerify text link
 
 -- every link of the command holds of a text
 abbrev pub EveryLinkHolds : Command → List ℕ → Type 0

@@ -9,6 +9,8 @@ use sig_base::Text;
 pub enum Command {
     /// `log`: is this entry in the log, and does the log vouch for it?
     Log,
+    /// `verify`: may this artifact be trusted, by this bundle?
+    Verify,
 }
 
 impl Command {
@@ -20,6 +22,7 @@ impl Command {
         match words {
             [word] => match word.as_str() {
                 "log" => Some(Command::Log),
+                "verify" => Some(Command::Verify),
                 _ => None,
             },
             _ => None,

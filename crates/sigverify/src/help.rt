@@ -8,6 +8,7 @@ const HELP: &str = "\
 sigverify - decides without a network whether a signed artifact may be trusted
 
 usage: sigverify log < REQUEST
+       sigverify verify < REQUEST
        sigverify --help | --version
 
 commands:
@@ -29,6 +30,22 @@ commands:
            logged INDEX SIZE   every link of the chain holds
            refused LINK        the first that fails: request, checkpoint,
                                note-key, note-match or inclusion
+  verify May an artifact be trusted, by its Sigstore bundle? The request on
+         standard input is a JSON object with the members
+           trustedRoot  text, the trusted root
+           bundle       text, the bundle
+           now          the time, in seconds since 1970
+           digest       sha256: and 64 hex digits, or sha512: and 128, of the
+                        artifact
+           policy       {\"all\": [RULE, ..]} or {\"any\": [RULE, ..]}; a rule has
+                        identity and issuer, or one of issuer, trigger, sha,
+                        name, repository and ref
+           accepted     as of log
+         The reply is one line on standard output:
+           verified INDEX SIZE   every link of the chain of trust holds
+           refused LINK          the first that fails
+
+docs/LINKS.md says of each link what was tested, and what to look at first.
 
 status:
   0   every link holds

@@ -7,7 +7,6 @@
 mod command;
 mod digest_text;
 mod help;
-mod laws;
 mod log;
 mod policy_rule;
 mod read;
@@ -18,6 +17,7 @@ mod run;
 mod std_stream;
 #[cfg(test)]
 mod tests;
+mod verify;
 mod verify_request;
 #[cfg(test)]
 mod verify_tests;

@@ -13,6 +13,7 @@ use crate::command::Command;
 use crate::log::log_reply;
 use crate::read::{ReadFault, read_request};
 use crate::reply::{Reply, USAGE_LINE};
+use crate::verify::verify_reply;
 use crate::write::write_reply;
 use sig_base::{OutOfMemory, Sink, Source, Text};
 use sig_verify::Link;
@@ -47,9 +48,9 @@ impl From<OutOfMemory> for NoReply {
 
 /// Runs the command that the words name, and returns the program's status.
 ///
-/// A command reads a request, at most 2^24 + 1 bytes of what the source has left, and writes one line: for `log` it is
-/// `logged I N` with status 0 if every link of the request holds, else `refused NAME` for the first that fails, with
-/// status 1, or 2 for the link `request`. The reply is whole before its first byte is written, and each write is
+/// A command reads a request, at most 2^24 + 1 bytes of what the source has left, and writes one line: `logged I N` for
+/// `log` and `verified I N` for `verify`, with status 0, if every link of the command holds, else `refused NAME` for the
+/// first that fails, with status 1, or 2 for the link `request`. The reply is whole before its first byte is written, and each write is
 /// handed all that is left of it. Other statuses:
 ///
 /// - 64: the words name no command. Nothing is read, no memory is taken (no call on the way has the allocator), and
@@ -110,6 +111,7 @@ fn reply_of(alloc: Global, command: Command, request: &[u8]) -> Result<Reply, Ou
 {
     match command {
         Command::Log => log_reply(alloc, request),
+        Command::Verify => verify_reply(alloc, request),
     }
 }
 

@@ -104,7 +104,7 @@ fn no_byte_past_the_limit_is_read(rt: HostRuntime) -> Result<(), Fail> {
 #[test]
 fn other_words_are_a_usage_error(rt: HostRuntime) -> Result<(), Fail> {
     let alloc = rt.alloc();
-    for words in ",log x,verify,LOG,--help".split(',') {
+    for words in ",log x,log verify,LOG,--help".split(',') {
         let held = Bytes::copy_of(alloc, b"12345")?;
         assert!(rt; run_over(alloc, words, held, STEADY)?.is(64, "usage\n", 5));
     }

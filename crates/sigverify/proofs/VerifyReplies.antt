@@ -1,0 +1,102 @@
+-- The reply of `verify`, from what the chain of trust is.
+use Rattle.std.proofs.Common.{◌≡◌, ◌≢◌, ◌⊎◌, ℕ, inl, inr, List, [], ◌∷◌, Option, Some, None, Result, Ok, Err, IfOk}
+use Rattle.std.proofs.Common.{ap, refl, sym, subst, ◌∙◌}
+use Rattle.sig_base.specs.Answers.{UnlessMemory}
+use Rattle.sig_base.specs.declared.memory.OutOfMemory.{OutOfMemory}
+use Rattle.sig_rekor.specs.declared.inclusion_proof.InclusionProof.{InclusionProof}
+use Rattle.sig_verify.specs.Judged.{Judged}
+use Rattle.sig_verify.specs.Links.{links as chain_links}
+use Rattle.sig_verify.specs.OfflineErrors.{link_of}
+use Rattle.sig_verify.specs.declared.link.Link.{Link}
+use Rattle.sig_verify.specs.declared.link.Link.TheVariants.{Request}
+use Rattle.sig_verify.specs.declared.offline.Offline.{Offline}
+use Rattle.sig_verify.specs.declared.offline_error.OfflineError.{OfflineError}
+use Rattle.sig_verify.specs.declared.offline_error.OfflineError.TheVariants.{OutOfMemory as Memory}
+use Rattle.sigverify.proofs.Replies.{every-of_text, every-reply, first-of_text, first-reply, unread-verify}
+use Rattle.sigverify.proofs.VerifyChains.{one_verify_request}
+use Rattle.sigverify.specs.Reply.{IsProofIn, IsReply, refusal, verified}
+use Rattle.sigverify.specs.VerifyLink.{HoldsOfVerify, verify_links}
+use Rattle.sigverify.specs.VerifyRequest.{IsVerifyReadFrom, IsVerifyRequest}
+use Rattle.sigverify.specs.declared.command.Command.TheVariants.{Verify}
+use Rattle.sigverify.specs.declared.reply.Reply.{Reply}
+use Rattle.sigverify.specs.declared.verify_request.VerifyRequest.{VerifyRequest}
+
+-- every link of the chain holds
+pub verified-reply : (text : List ℕ) (request : VerifyRequest) (offline : Offline) → IsVerifyRequest text request
+    → Judged {A = Offline} (HoldsOfVerify request) chain_links (Ok offline) → IsProofIn request offline.proof
+    → IsReply Verify text (verified offline.proof)
+verified-reply text request offline is judged proof =
+    every-reply Verify text (verified offline.proof) refl
+    (λ other other_is. (
+      offline.proof,
+      subst (λ (r : VerifyRequest). IsProofIn r offline.proof) (one_verify_request text request other is other_is) proof,
+      refl,
+    ))
+    (every-of_text (IsVerifyRequest text) HoldsOfVerify request verify_links is (tt, judged))
+
+same_link : (a b : Link) → ◌≡◌ {A = Option Link} (Some a) (Some b) → a ≡ b
+same_link a b e = cc
+
+-- the link of the error is the first that fails
+pub refused-verify : (text : List ℕ) (request : VerifyRequest) (error : OfflineError) (link : Link)
+    → IsVerifyRequest text request → link_of error ≡ Some link
+    → Judged {A = Offline} (HoldsOfVerify request) chain_links (Err error) → IsReply Verify text (refusal link)
+refused-verify text request error link is named judged =
+    let same : judged.0 ≡ link = same_link judged.0 link (sym judged.1 ∙ named) in
+    subst (λ (l : Link). IsReply Verify text (refusal l)) same
+    (first-reply Verify text judged.0 (first-of_text (IsVerifyRequest text) HoldsOfVerify (one_verify_request text) request
+    verify_links judged.0 is (inr (tt, judged.2))))
+
+-- ---- the replies of a call
+
+-- a reply that is made as this one
+replied : (text : List ℕ) (wanted : Reply) (r : Result Reply OutOfMemory) → IfOk r (λ reply. reply ≡ wanted)
+    → IsReply Verify text wanted → IfOk r (IsReply Verify text)
+replied text wanted (Ok reply) is meant = subst (IsReply Verify text) (sym is) meant
+replied text wanted (Err memory) is meant = tt
+
+pub unread-verify-replied : (text : List ℕ) (found : Option VerifyRequest) (r : Result Reply OutOfMemory)
+    → IfOk r (λ reply. reply ≡ refusal Request) → found ≡ None → IsVerifyReadFrom text found
+    → IfOk r (IsReply Verify text)
+unread-verify-replied text found r is none read =
+    replied text (refusal Request) r is (unread-verify text (subst (IsVerifyReadFrom text) none read))
+
+-- what the chain of trust says of a request
+abbrev pub IsChainOf : VerifyRequest → Result Offline OfflineError → Type 0
+IsChainOf request r = UnlessMemory Memory r (Judged (HoldsOfVerify request) chain_links r)
+
+no_memory : (offline : Offline) → ◌≡◌ {A = Result Offline OfflineError} (Ok offline) (Err Memory) → ⊥
+no_memory offline e = cc
+
+chain_held : (request : VerifyRequest) (offline : Offline) → IsChainOf request (Ok offline)
+    → Judged {A = Offline} (HoldsOfVerify request) chain_links (Ok offline)
+chain_held request offline (inl memory) = absurd (no_memory offline memory)
+chain_held request offline (inr judged) = judged
+
+same_error : (a b : OfflineError) → ◌≡◌ {A = Result Offline OfflineError} (Err a) (Err b) → a ≡ b
+same_error a b e = cc
+
+no_link : (link : Link) → ◌≡◌ {A = Option Link} None (Some link) → ⊥
+no_link link e = cc
+
+chain_failed : (request : VerifyRequest) (error : OfflineError) (link : Link) → link_of error ≡ Some link
+    → IsChainOf request (Err error) → Judged {A = Offline} (HoldsOfVerify request) chain_links (Err error)
+chain_failed request error link named (inl memory) =
+    absurd (no_link link (subst (λ (e : OfflineError). link_of e ≡ Some link) (same_error error Memory memory) named))
+chain_failed request error link named (inr judged) = judged
+
+pub verified-replied : (text : List ℕ) (found : Option VerifyRequest) (request : VerifyRequest) (offline : Offline)
+    (r : Result Reply OutOfMemory)
+    → IfOk r (λ reply. reply ≡ verified offline.proof) → found ≡ Some request → IsVerifyReadFrom text found
+    → IsChainOf request (Ok offline) → IsProofIn request offline.proof → IfOk r (IsReply Verify text)
+verified-replied text found request offline r is some read chain proof =
+    replied text (verified offline.proof) r is (verified-reply text request offline
+    (subst (IsVerifyReadFrom text) some read) (chain_held request offline chain) proof)
+
+pub refused-verify-replied : (text : List ℕ) (found : Option VerifyRequest) (request : VerifyRequest)
+    (error : OfflineError) (link : Link) (r : Result Reply OutOfMemory)
+    → IfOk r (λ reply. reply ≡ refusal link) → found ≡ Some request → IsVerifyReadFrom text found
+    → link_of error ≡ Some link → IsChainOf request (Err error) → IfOk r (IsReply Verify text)
+refused-verify-replied text found request error link r is some read named chain =
+    replied text (refusal link) r is (refused-verify text request error link
+    (subst (IsVerifyReadFrom text) some read) named (chain_failed request error link named chain))

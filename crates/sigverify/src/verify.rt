@@ -1,0 +1,67 @@
+//! The command `verify`: may this artifact be trusted, by this bundle?
+ghost use Rattle.std.specs.Prelude.{◌≡◌, ◌↔◌, IfOk};
+ghost use Rattle.sig_base.specs.Answers.{UnlessMemory};
+ghost use Rattle.sig_verify.specs.Judged.{Judged};
+ghost use Rattle.sig_verify.specs.Links.{links as chain_links};
+ghost use Rattle.sigverify.specs.Link.{EveryLinkHolds};
+ghost use Rattle.sigverify.specs.Reply.{IsProofIn, IsReply};
+ghost use Rattle.sigverify.specs.VerifyLink.{HoldsOfVerify, IsTrusted};
+ghost use Rattle.sigverify.specs.declared.command.Command.TheVariants.{Verify};
+
+use crate::reply::Reply;
+use crate::verify_request::VerifyRequest;
+use sig_base::OutOfMemory;
+use sig_verify::{Link, Offline, OfflineError, verify_offline};
+use std::alloc::Global;
+
+/// Returns the reply to a request's text: `verified I N` with status 0 if every link holds, with the index and the
+/// size of the inclusion proof of the bundle's log entry, else `refused NAME` for the first that fails, with status 2
+/// for the link `request` and 1 for every other. All links hold if and only if the text is a request with valid inputs,
+/// and the trust chain of its bundle holds. Fails if out of memory alone.
+pub fn verify_reply(alloc: Global, request: &[u8]) -> Result<Reply, OutOfMemory>
+    ensures reply { IfOk result (IsReply Verify request.now) }
+    ensures chain { EveryLinkHolds Verify request.now ↔ IsTrusted request.now }
+{
+    reply_to_text(alloc, request)
+}
+
+/// The reply to a request's text.
+fn reply_to_text(alloc: Global, request: &[u8]) -> Result<Reply, OutOfMemory>
+    ensures { IfOk result (IsReply Verify request.now) }
+{
+    let Some(request) = VerifyRequest::read(alloc, request)? else {
+        return Reply::refused(alloc, Link::Request);
+    };
+    match verify_chain(alloc, &request) {
+        Ok(offline) => Reply::verified(alloc, &offline.proof),
+        Err(error) => match error.link() {
+            Some(link) => Reply::refused(alloc, link),
+            None => Err(OutOfMemory),
+        },
+    }
+}
+
+/// The log entry of the request's bundle, or the error of the first link of the chain of trust that fails.
+fn verify_chain(alloc: Global, request: &VerifyRequest) -> Result<Offline, OfflineError>
+    ensures links { UnlessMemory OfflineError.OutOfMemory result
+        (Judged (HoldsOfVerify request.entry.now) chain_links result) }
+    ensures kept { IfOk result (λ offline. IsProofIn request.entry.now offline.proof) }
+{
+    let now = time_of(request);
+    verify_offline(
+        alloc,
+        request.trusted_root.as_str().as_bytes(),
+        now,
+        &request.digest,
+        request.bundle.as_str().as_bytes(),
+        &request.policy,
+        &request.accepted,
+    )
+}
+
+/// The time of the request, in whole seconds since 1970.
+fn time_of(request: &VerifyRequest) -> i64
+    ensures { result ≡ request.entry.now.now }
+{
+    request.now
+}
