@@ -6,7 +6,6 @@ import shutil
 import subprocess
 import sys
 import tempfile
-import time
 
 TOP = pathlib.Path(__file__).resolve().parent.parent
 SMALL = 2**20  # the time over a file of fewer bytes is the best of ten times as many runs
@@ -22,6 +21,7 @@ class Bench:
         self.runs = runs
         self.most = most  # how many bytes the largest input has
         self.missed = []
+        self.tables = []
         self._folder = tempfile.TemporaryDirectory()
         self._paths = 0
 
@@ -32,22 +32,60 @@ class Bench:
         path.write_bytes(text)
         return path
 
+    def table(self, made_by, *columns):
+        """Begins a table of these columns, of which the function that makes it says what they are, and prints them."""
+        self.tables.append(Table(" ".join(made_by.__doc__.split()), columns))
+        return self.tables[-1]
+
     def goal(self, what, value, most):
         """Notes that a value is above the most that it is to be."""
         if value > most:
             self.missed.append(f"{what}: {value:.2f}, and not {most}")
 
     def seconds(self, path, *commands, status=0):
-        """The best wall-clock time of each command over a file, in turns; each has to end with this status."""
+        """The least processor time of each command over a file, in turns; each has to end with this status."""
         best = [float("inf")] * len(commands)
         for _ in range(self.runs if path.stat().st_size > SMALL else self.runs * 10):
             for place, words in enumerate(commands):
-                with open(path, "rb") as given:
-                    begun = time.perf_counter()
-                    ran = subprocess.run(words, stdin=given, stdout=subprocess.DEVNULL)
-                    best[place] = min(best[place], time.perf_counter() - begun)
-                expect(words, path, ran.returncode, status)
+                best[place] = min(best[place], processor_seconds(words, path, status))
         return best
+
+
+class Table:
+    """A table whose rows are printed as they come, and kept for Markdown: a name, and numbers or words."""
+
+    NAME, CELL = 44, 9  # the widths in which they are printed, at least
+    WIDE = {"reply": 17}
+
+    def __init__(self, about, columns):
+        self.about = about
+        self.rows = []
+        self._columns = columns
+        print(about)
+        self._print(columns)
+
+    def _print(self, cells):
+        widths = (max(self.WIDE.get(column, self.CELL), len(column)) for column in self._columns[1:])
+        print(f"{cells[0]:{self.NAME}}", *(f"{cell:>{width}}" for cell, width in zip(cells[1:], widths)), flush=True)
+
+    def row(self, name, *numbers):
+        """Prints a row; a number has three digits or more, and `None` is an empty cell."""
+        cells = [name, *map(shown, numbers)]
+        self.rows.append(cells)
+        self._print(cells)
+
+    def markdown(self):
+        lines = [self._columns, ["---"] * len(self._columns), *self.rows]
+        return self.about + "\n\n" + "".join("| " + " | ".join(cells) + " |\n" for cells in lines)
+
+
+def shown(number):
+    """A cell of a table: whole numbers whole, others with three digits at least."""
+    if number is None:
+        return ""
+    if isinstance(number, (int, str)):
+        return f"{number:,}" if isinstance(number, int) else number
+    return f"{number:,.0f}" if number >= 100 else f"{number:.1f}" if number >= 10 else f"{number:.2f}"
 
 
 def fail(said):
@@ -67,6 +105,16 @@ def written(words, path, status=0):
         ran = subprocess.run(words, stdin=given, stdout=subprocess.PIPE)
     expect(words, path, ran.returncode, status)
     return ran.stdout.decode().strip()
+
+
+def processor_seconds(words, path, status):
+    """The processor's time, in user and system, of a command over a file, from the start of its process to its end."""
+    with open(path, "rb") as given:
+        process = subprocess.Popen(words, stdin=given, stdout=subprocess.DEVNULL)
+    _, ended, used = os.wait4(process.pid, 0)
+    process.returncode = os.waitstatus_to_exitcode(ended)
+    expect(words, path, process.returncode, status)
+    return used.ru_utime + used.ru_stime
 
 
 # The shell makes a process that waits for the end of the shell's input, and then becomes the command over the file.
@@ -114,7 +162,7 @@ def built(crate, named=None):
     """The program of a crate, or the one that was named in its place. Ends this program where it is not there, or where
     a source is newer than it, or than the stamp that ./sigverify made before the build; of a named one, which may be
     another tree's, the latter is only said."""
-    program = named or TOP / "crates" / crate / "out" / crate
+    program = named.absolute() if named else TOP / "crates" / crate / "out" / crate
     if not program.is_file():
         fail(f"{program} is not there: .ci/run builds it")
     stamp = program.parent / "sources.stamp"

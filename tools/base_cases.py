@@ -1,7 +1,7 @@
 #!/usr/bin/env python3
 """Writes the table of base_cases: `stdin`, the calls, and `stdout`, what they return.
 
-Trees and paths are computed by the recursion of RFC 6962 sections 2.1 and 2.1.1, digests by Python's hashlib, texts by its base64. The reference
+Trees and paths are computed by the recursion of RFC 6962 sections 2.1 and 2.1.1, and walks by RFC 9162 sections 2.1.3.2 and 2.1.4.2, digests by Python's hashlib, texts by its base64. The reference
 tree and its roots are those that Certificate Transparency's implementations publish. The keys are OpenSSL's, in `tools/base_cases.txt`.
 
     tools/base_cases.py
@@ -9,6 +9,8 @@ tree and its roots are those that Certificate Transparency's implementations pub
 import base64
 import hashlib
 import os
+
+import consistency_cases
 
 HERE = os.path.dirname(os.path.abspath(__file__))
 CRATE = os.path.join(HERE, "..", "crates", "base_cases")
@@ -317,6 +319,155 @@ def merkle():
     case(f"counted 0 {leaf_hash(b'').hex()} 1 -", "ok " + ROOTS[1])
 
 
+# one leaf; inner hashes alone and border hashes alone; the most of either
+DECOMPOSED = [(0, 1), (0, 8), (2, 5), (6, 7), (1227, 14358), (0, 2 ** 63 + 1), (2 ** 63 - 1, 2 ** 64 - 1), (2 ** 64 - 2, 2 ** 64 - 1)]
+
+
+def decomposed(index, size):
+    """The hashes of a path below the level where it meets the tree's right border, and those along it: a node that is not the last
+    of its level has a sibling, and one that is has one if it is a right child."""
+    inner = border = 0
+    node, last = index, size - 1
+    while last:
+        if node != last:
+            inner += 1
+        elif node % 2:
+            border += 1
+        node, last = node // 2, last // 2
+    return inner, border
+
+
+def walked(index, leaf, size, path):
+    """The root that a path leads to, by the algorithm of RFC 9162 section 2.1.3.2."""
+    fn, sn, r = index, size - 1, leaf
+    for p in path:
+        if sn == 0:
+            return None
+        if fn & 1 or fn == sn:
+            r = node_hash(p, r)
+            while not fn & 1 and fn:
+                fn, sn = fn >> 1, sn >> 1
+        else:
+            r = node_hash(r, p)
+        fn, sn = fn >> 1, sn >> 1
+    return r if sn == 0 else None
+
+
+def both_ways(size, first, count):
+    leaf, roots = bytes([255] * 32), b""
+    for index in range(first, first + count):
+        path = [bytes([place] * 32) for place in range(path_len(index, size))]
+        root = root_of(index, leaf, size, path)
+        assert root == walked(index, leaf, size, path) and sum(decomposed(index, size)) == len(path)
+        roots += root
+    digest = hashlib.sha256(roots).hexdigest()
+    case(f"both_ways {size} {first} {count}", f"ok {digest} {digest}")
+
+
+def growth_len(m, n, known):
+    """The number of hashes of SUBPROOF (section 2.1.2)."""
+    if m == n:
+        return 0 if known else 1
+    k = cut(n)
+    return 1 + (growth_len(m, k, known) if m <= k else growth_len(m - k, n - k, False))
+
+
+def grown(m, n, known, old, path):
+    """The old and the new root that a proof leads to, by the recursion of SUBPROOF."""
+    if m == n:
+        return (old, old) if known else (path[0], path[0])
+    k = cut(n)
+    if m <= k:
+        first, second = grown(m, k, known, old, path[:-1])
+        return first, node_hash(second, path[-1])
+    first, second = grown(m - k, n - k, False, old, path[:-1])
+    return node_hash(path[-1], first), node_hash(path[-1], second)
+
+
+def grown_by_walk(first, second, old, path):
+    """The same, by the algorithm of RFC 9162 section 2.1.4.2."""
+    if first & (first - 1) == 0:
+        path = [old] + path
+    fn, sn = first - 1, second - 1
+    while fn & 1:
+        fn, sn = fn >> 1, sn >> 1
+    fr = sr = path[0]
+    for c in path[1:]:
+        assert sn != 0
+        if fn & 1 or fn == sn:
+            fr, sr = node_hash(c, fr), node_hash(c, sr)
+            while not fn & 1 and fn:
+                fn, sn = fn >> 1, sn >> 1
+        else:
+            sr = node_hash(sr, c)
+        fn, sn = fn >> 1, sn >> 1
+    assert sn == 0
+    return fr, sr
+
+
+def both_growths(size, first, count):
+    old, roots = bytes([255] * 32), b""
+    for old_size in range(first, first + count):
+        path = [bytes([place] * 32) for place in range(growth_len(old_size, size, True))]
+        led = grown(old_size, size, True, old, path)
+        assert led == grown_by_walk(old_size, size, old, path)
+        roots += led[0] + led[1]
+    case(f"both_growths {size} {first} {count}", f"ok {hashlib.sha256(roots).hexdigest()}")
+
+
+EDGES = [2 ** 63 - 1, 2 ** 63, 2 ** 63 + 1, 2 ** 64 - 1]
+
+
+def walks():
+    note("decomposed INDEX SIZE: how many hashes of a path are inner ones, and how many are of the right border")
+    for index, size in DECOMPOSED:
+        inner, border = decomposed(index, size)
+        case(f"decomposed {index} {size}", f"ok {inner} {border}")
+    note("both_ways SIZE FIRST COUNT: the digests of the roots of made-up paths for so many indices, by the walk and by the recursion")
+    for size in range(1, 66):
+        both_ways(size, 0, size)
+    for size in EDGES:
+        for first in [0, 2 ** 62 - 2, 2 ** 63 - 5, size - 4]:
+            both_ways(size, first, 4)
+        both_ways(size, 0x5555555555555554, 3)
+    note("both_growths SIZE FIRST COUNT: the digest of the roots of made-up consistency proofs for so many old sizes, by the recursion; the walk checks each")
+    for size in range(2, 66):
+        both_growths(size, 1, size - 1)
+    for size in EDGES:
+        for first in [1, 2 ** 62 - 2, 2 ** 63 - 6, size - 4]:
+            both_growths(size, first, 4)
+        both_growths(size, 0x5555555555555554, 3)
+
+
+def listed(entries):
+    return ",".join(entry.hex() for entry in entries) if entries else "-"
+
+
+def paths(index, entries, path):
+    shown = "".join(" " + digest.hex() for digest in path)
+    case(f"path_of {index} {listed(entries)}", "ok" + shown)
+
+
+def trees():
+    note("root_of COUNT ENTRIES: the published roots of the first 0 to 8 entries")
+    for size, root in enumerate(ROOTS):
+        case(f"root_of {size} {listed(REFERENCE)}", "ok " + root)
+    note("path_of INDEX ENTRIES: the example of RFC 6962 section 2.1.3, whose tree of seven entries has these nodes")
+    entries = [bytes([number]) for number in range(7)]
+    a, b, c, d, e, f, j = map(leaf_hash, entries)
+    g, h, i = node_hash(a, b), node_hash(c, d), node_hash(e, f)
+    k, l = node_hash(g, h), node_hash(i, j)
+    case(f"root_of 7 {listed(entries)}", "ok " + node_hash(k, l).hex())
+    for index, path in ((0, [b, h, l]), (3, [c, g, l]), (4, [f, j, k]), (6, [i, k])):
+        paths(index, entries, path)
+    note("trees of 0 to 33 entries: the root, and the path of each index")
+    for size in range(34):
+        entries = [bytes([size, number]) for number in range(size)]
+        case(f"root_of {size} {listed(entries)}", "ok " + tree_hash(entries).hex())
+        for index in range(size):
+            paths(index, entries, audit_path(index, entries))
+
+
 # ---- sig_key
 
 def keys(path):
@@ -424,6 +575,12 @@ def checks():
 def main():
     base()
     merkle()
+    walks()
+    trees()
+    for text, rows in consistency_cases.notes_and_rows():
+        note(text)
+        for call, result in rows:
+            case(call, result)
     keys(os.path.join(HERE, "base_cases.txt"))
     for name, lines in [("stdin", CALLS), ("stdout", RETURNS)]:
         with open(os.path.join(CRATE, name), "w") as out:

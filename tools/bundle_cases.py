@@ -189,6 +189,8 @@ def changed_case(line):
 # Bundles with faults.
 
 MEDIA_TYPE = "application/vnd.dev.sigstore.bundle.v0.3+json"
+OLDER = "application/vnd.dev.sigstore.bundle+json;version="
+PROFILES = {"0.1": OLDER + "0.1", "0.2": OLDER + "0.2", "0.3": MEDIA_TYPE, "older-0.3": OLDER + "0.3"}
 NARROW, WIDE = "a" * 64, "b" * 128
 OTHERS = {"%d" % number: "zz" for number in range(31)}
 DIGESTS = {
@@ -221,6 +223,8 @@ def entries(names, entry):
             del each["inclusionPromise"]
         elif name == "no-proof":
             del each["inclusionProof"]
+        elif name == "nothing":
+            del each["inclusionPromise"], each["inclusionProof"]
         elif name == "no-checkpoint":
             del each["inclusionProof"]["checkpoint"]
         else:
@@ -230,6 +234,18 @@ def entries(names, entry):
     return found
 
 
+CERTIFICATES = {
+    "leaf": fixture.certificate(fixture.leaf()), "malformed": b"\x30\x00", "anchor": fixture.certificate(fixture.anchor()),
+    "issuer": fixture.certificate(fixture.anchor(subject=fixture.name("fixture issuer"))),
+    "self-issued": fixture.certificate(fixture.leaf(subject=fixture.name("fixture root"))),
+    "cut-anchor": fixture.certificate(fixture.anchor())[:-1]}
+
+
+def certificates(names):
+    """The DER of certificates: an issuer is an authority, and an anchor a root."""
+    return [{"rawBytes": base64_of(CERTIFICATES[name])} for name in names.split("+") if name]
+
+
 def spoil(bundle, fault):
     material, envelope = bundle.get("verificationMaterial"), bundle.get("dsseEnvelope")
     kind, _, name = fault.partition(":")
@@ -237,16 +253,22 @@ def spoil(bundle, fault):
         del bundle["verificationMaterial"]
     elif fault == "no-content":
         del bundle["dsseEnvelope"]
-    elif fault == "content:message":
+    elif kind == "content":
         del bundle["dsseEnvelope"]
-        bundle["messageSignature"] = {"signature": base64_of(b"sig-msg")}
+        digest = {"messageDigest": {"digest": base64_of(b"another digest")}} if name == "message-with-digest" else {}
+        bundle["messageSignature"] = {"signature": base64_of(b"sig-msg"), **digest}
     elif kind == "media":
         bundle["mediaType"] = name
+    elif kind == "profile":
+        bundle["mediaType"] = PROFILES[name]
     elif kind == "signer":
-        leaf = material.pop("certificate")
-        material.update({"none": {}, "key": {"publicKey": {}}, "chain": {"x509CertificateChain": {"certificates": [leaf]}},
-                         "no-certificate": {"certificate": {"rawBytes": base64_of(b"\x30\x00")}},
-                         "authority": {"certificate": {"rawBytes": base64_of(fixture.certificate(fixture.anchor()))}}}[name])
+        del material["certificate"]
+        material.update({"publicKey": {}} if name == "key" else {})
+    elif kind == "certificate":
+        material["certificate"], = certificates(name)
+    elif kind == "chain":
+        del material["certificate"]
+        material["x509CertificateChain"] = {"certificates": certificates(name)}
     elif kind == "entries":
         material["tlogEntries"] = entries(name, material["tlogEntries"][0])
     elif kind == "signatures":
@@ -285,6 +307,15 @@ def fixture_bundle():
         named_case(title, "try_from_bundle " + compact(many, canonical=True), expected)
     spoiled = fixture.Request(payload=fixture.statement(first="zz")).bundle()
     named_case("a digest of other letters", "try_from_bundle " + compact(spoiled, canonical=True), "DsseSubjectDigestMalformed(Sha256)")
+    message = fixture.MessageRequest(later=(CERTIFICATES["issuer"],))
+    bundle = compact(message.bundle(), canonical=True)
+    group("the fixture's bundle of a signature over an artifact, with a chain, does the same")
+    case("read_bundle " + bundle, "ok " + bundle)
+    case("try_from_bundle " + bundle, digests([]))
+    case("checked " + bundle, " ".join(["ok", message.leaf_der.hex(), message.signature.hex(), "true", "true", "-"]))
+    group("without an inclusion proof, which profile 0.1 does not ask for")
+    fetched(message, NARROW)
+    fetched(request, "-")
     group("a statement's first SHA-256 digest, and digests as text")
     case("subject_sha256_digest " + request.payload.decode(), "ok " + NARROW)
     case("artifact_digest " + NARROW, "ok sha256 %s %s" % (NARROW, NARROW))
@@ -379,32 +410,84 @@ def is_body(body, request):
     return True
 
 
-def body_case(line):
-    """A change of the body; behind `text` the body itself, behind `bundle` a change of the bundle."""
-    expected, _, change = line.partition(" ")
-    request = fixture.Request()
-    bundle, body = request.bundle(), request.body.decode()
-    kind, _, rest = change.partition(" ")
+def is_hashedrekord(body, request, digest):
+    """Whether the text is Rekor's entry of kind hashedrekord, version 0.0.1, about an artifact of this digest, and nothing else."""
+    hashed = {"algorithm": "sha256", "value": digest.hex()}
+    key = {"content": base64_of(fixture.pem(request.leaf_der).encode())}
+    signed = {"content": base64_of(request.signature), "publicKey": key}
+    entry = {"apiVersion": "0.0.1", "kind": "hashedrekord", "spec": {"data": {"hash": hashed}, "signature": signed}}
+    try:
+        return json.loads(body, parse_float=lambda _: Float()) == entry
+    except ValueError:
+        return False
+
+
+def turned(tree):
+    """The members of each object in the other order."""
+    return {name: turned(tree[name]) for name in reversed(tree)} if isinstance(tree, dict) else tree
+
+
+def changed_body(body, kind, rest, change):
+    """The body with a change; behind `text` it is that text, and `blanks`, `turned` and `escaped` are other texts of the same tree."""
     if kind == "text":
-        body = rest
-    elif kind == "leaf":
-        request = fixture.Request(leaf=fixture.leaf(serial=b"\x02\x01\x09"))
-        bundle = request.bundle()
-    elif change:
-        tree = json.loads(body)
-        changed(tree, change)
-        body = compact(tree)
+        return rest
+    if kind == "blanks":
+        return " " + json.dumps(json.loads(body), indent=1) + "\n"
+    if kind == "turned":
+        return compact(turned(json.loads(body)))
+    if kind == "escaped":
+        return body.replace("sha256", "\\u0073ha256").replace("/", "\\/")
+    if kind == "doubled":
+        return body.replace('{"apiVersion"', '{"kind":"dsse","apiVersion"', 1)
+    if not change:
+        return body
+    tree = json.loads(body)
+    changed(tree, change)
+    return compact(tree)
+
+
+def body_lines(request, is_body, digest, line):
+    """A change of the body, or of the leaf, or behind `digest` another digest of the artifact."""
+    expected, _, change = line.partition(" ")
+    kind, _, rest = change.partition(" ")
+    made = request()
+    bundle, body = made.bundle(), made.body.decode()
+    if kind == "leaf":
+        made = request(leaf=fixture.leaf(serial=b"\x02\x01\x09"))
+        bundle = made.bundle()
+    elif kind == "digest":
+        digest = bytes.fromhex(rest)
+    else:
+        body = changed_body(body, kind, rest, change)
     bundle["verificationMaterial"]["tlogEntries"][0]["canonicalizedBody"] = base64_of(body.encode())
-    assert is_body(body, request) == (expected == "true"), line
+    assert is_body(body, made, digest) == (expected == "true"), line
     for offline in ("true", "false"):
-        named_case(change or "as it is", "tlog_entry %s %s" % (offline, compact(bundle, canonical=True)), "ok " + expected)
+        call = "tlog_entry %s %s %s" % (offline, digest.hex() or "-", compact(bundle, canonical=True))
+        named_case(change or "as it is", call, "ok " + expected)
+
+
+def body_case(line):
+    body_lines(fixture.Request, lambda body, request, _: is_body(body, request), b"", line)
+
+
+def message_case(line):
+    body_lines(fixture.MessageRequest, is_hashedrekord, bytes.fromhex(NARROW), line)
+
+
+def fetched(request, digest):
+    """Without an inclusion proof the entry is handed out only where none has to be fetched."""
+    bundle = request.bundle()
+    bundle["mediaType"] = PROFILES["0.1"]
+    del bundle["verificationMaterial"]["tlogEntries"][0]["inclusionProof"]
+    for offline in ("true", "false"):
+        case("tlog_entry %s %s %s" % (offline, digest, compact(bundle, canonical=True)), "ok " + offline)
 
 
 # What stands for itself.
 
 def versions():
     group("media types that name a version, and how the version is shown")
-    older = "application/vnd.dev.sigstore.bundle+json;version="
+    older = OLDER
     for media_type, version, shown in [
             (older + "0.1", "Bundle0_1", older + "0.1"), (older + "0.2", "Bundle0_2", older + "0.2"),
             (MEDIA_TYPE, "Bundle0_3", MEDIA_TYPE), (older + "0.3", "Bundle0_3", MEDIA_TYPE)]:
@@ -441,9 +524,8 @@ def members(rows, values):
 
 
 def errors():
-    group("errors that no bundle of this version meets, and errors inside errors, show the names of their variants")
-    for name, shown in [("CertificatesMissing", ""), ("RootInChain", ""), ("InclusionPromiseMissing", ""), ("InclusionProofMissing", ""),
-                        ("CheckpointMissing", ""), ("Bundle01Profile", "(InclusionPromiseMissing)"),
+    group("errors inside errors, and out of memory, show the names of their variants")
+    for name, shown in [("InclusionPromiseMissing", ""), ("InclusionProofMissing", ""), ("CheckpointMissing", ""), ("Bundle01Profile", "(InclusionPromiseMissing)"),
                         ("Bundle02Profile", "(CheckpointMissing)"), ("Unknown", '("text/plain")')]:
         case("shown " + name, name + shown)
     case("shown OutOfMemory", "ok OutOfMemory")
@@ -488,7 +570,7 @@ def promises():
                  "ok " + compact(promise) if fits else "IntegerTooLarge")
 
 
-ROWS = {"equal": changed_case, "checked": faulty_case, "to_proof": proof_case, "tlog_entry": body_case}
+ROWS = {"equal": changed_case, "checked": faulty_case, "to_proof": proof_case, "tlog_entry": body_case, "tlog_message": message_case}
 
 
 def main():

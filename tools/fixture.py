@@ -286,6 +286,13 @@ def body_of(payload, signature, signer, keyid=""):
     return compact({"apiVersion": "0.0.1", "kind": "dsse", "spec": spec}).encode()
 
 
+def hashedrekord(digest, signature, signer):
+    """The body of Rekor's log entry of kind hashedrekord, version 0.0.1."""
+    spec = {"data": {"hash": {"algorithm": "sha256", "value": digest.hex()}},
+            "signature": {"content": base64_of(signature), "publicKey": {"content": base64_of(pem(signer).encode())}}}
+    return compact({"apiVersion": "0.0.1", "kind": "hashedrekord", "spec": spec}).encode()
+
+
 # The request of `verify`.
 
 SCHEME = "ECDSA_P256_SHA256_ASN1"
@@ -371,16 +378,39 @@ class Request:
                 "now": self.now, "digest": self.digest, "policy": self.policy, "accepted": self.accepted()}
 
 
+class MessageRequest(Request):
+    """A request over a signature of the artifact itself: the certificate is the first of a chain, which these follow, and the profile is
+    0.2. `signed` is the SHA-256 digest that the signature and the log entry are over."""
+
+    def __init__(self, later=(), signed=bytes.fromhex(DIGEST), leaf=leaf(), signature=b"sig-msg", body=None,
+                 media_type="application/vnd.dev.sigstore.bundle+json;version=0.2", **changes):
+        body = hashedrekord(signed, signature, certificate(leaf)) if body is None else body
+        super().__init__(leaf=leaf, signature=signature, body=body, media_type=media_type, **changes)
+        self.later, self.signed = later, signed
+
+    def bundle(self):
+        chain = [{"rawBytes": base64_of(each)} for each in (self.leaf_der, *self.later)]
+        return {"mediaType": self.media_type,
+                "verificationMaterial": {"x509CertificateChain": {"certificates": chain}, "tlogEntries": [self.entry()]},
+                "messageSignature": {"signature": base64_of(self.signature)}}
+
+    def accepted(self):
+        rows = super().accepted()
+        rows[2] = row("prehash", self.scheme, self.leaf["key"], self.signed, self.signature)
+        return rows
+
+
 def pieces(content):
     """The elements that stand one after another."""
-    found = []
-    while content:
-        size, used = content[1], 2
+    found, at = [], 0
+    while at < len(content):
+        size, used = content[at + 1], at + 2
         if size >= 0x80:
-            used = 2 + (size & 0x7F)
-            size = int.from_bytes(content[2:used], "big")
-        found.append((content[0], content[used:used + size], content[:used + size]))
-        content = content[used + size:]
+            used = at + 2 + (size & 0x7F)
+            size = int.from_bytes(content[at + 2:used], "big")
+        end = used + size
+        found.append((content[at], content[used:end], content[at:end]))
+        at = end
     return found
 
 

@@ -1,13 +1,17 @@
 #!/usr/bin/env python3
-"""Writes examples/log.requests: requests of `log`, one a line, and below each the reply and the status. Run by hand: tools/log_requests.py
+"""Writes examples/log.requests: requests of `log`, one a line, and below each the reply and the status; and examples/log-entries.json, a request
+with the log's entries, with its reply. Run by hand: tools/log_requests.py
 
 The replies are this program's own: it reads a request by the member tables of README.md and docs/DECISIONS.md, a checkpoint by
-tools/rekor_cases.py, and follows an audit path by RFC 6962."""
+tools/rekor_cases.py, follows an audit path by RFC 6962, and hashes a list of entries from its leaves up. That no list has another entry
+than the proof's under the same root it takes for granted."""
 import base64
+import hashlib
 import importlib.util
 import json
 import pathlib
 import sys
+import types
 
 TOP = pathlib.Path(__file__).resolve().parent.parent
 sys.dont_write_bytecode = True
@@ -117,7 +121,7 @@ def read_request(text):
         members = tested(json.loads(text, parse_int=whole, parse_float=fraction, parse_constant=refuse))
     except (ValueError, RecursionError):
         refuse()
-    if not isinstance(members, dict) or members.get("entries") is not None:
+    if not isinstance(members, dict):
         refuse()
     return {
         "entry": required(members, "entry", bytes_of),
@@ -129,7 +133,35 @@ def read_request(text):
         "scheme": required(members, "scheme", one_of(SCHEMES)),
         "key": required(members, "key", bytes_of),
         "accepted": optional(members, "accepted", list_of(row_of)) or [],
+        "entries": optional(members, "entries", list_of(bytes_of)),
     }
+
+
+def root_of(entries):
+    """The root of a list of entries, from the leaves up: complete trees, the smallest last, each of them with its number of leaves."""
+    complete = []
+    for entry in entries:
+        complete.append((1, hashlib.sha256(b"\0" + entry).digest()))
+        while len(complete) > 1 and complete[-1][0] == complete[-2][0]:
+            join(complete)
+    while len(complete) > 1:
+        join(complete)
+    return complete[0][1] if complete else hashlib.sha256(b"").digest()
+
+
+def join(complete):
+    (right_count, right), (left_count, left) = complete.pop(), complete.pop()
+    complete.append((left_count + right_count, hashlib.sha256(b"\1" + left + right).digest()))
+
+
+def second_line(entries, body, proof):
+    """What the log's own entries say of the logged body, where a request gives them."""
+    if entries is None:
+        return ""
+    if len(entries) != proof.size or root_of(entries) != proof.root:
+        return "other list"
+    assert entries[proof.index] == body, "a collision of SHA-256"
+    return f"entry {proof.index}"
 
 
 def reply(text):
@@ -149,7 +181,8 @@ def reply(text):
         return "refused note-match", 1
     if rekor.included(request["entry"], request["index"], request["root"], request["size"], request["hashes"]):
         return "refused inclusion", 1
-    return f"logged {request['index']} {request['size']}", 0
+    second = second_line(request["entries"], request["entry"], types.SimpleNamespace(**request))
+    return f"logged {request['index']} {request['size']}{second and ' ' + second}", 0
 
 
 FIRST = (TOP / "crates/sigverify/stdin").read_text().strip()
@@ -252,6 +285,25 @@ IGNORED = r"""
 "key":"a2V5" ~ "\u006bey":"a2V5"
 """
 
+# The log's own entries, of the first request: the list, other lists, what is no list of base64.
+ENTRIES = r"""
+"scheme" ~ "entries":["TDEyMzQ1Ng=="],"scheme"
+"scheme" ~ "entries":[],"scheme"
+"scheme" ~ "entries":["TDEyMzQ1Nw=="],"scheme"
+"scheme" ~ "entries":["TDEyMzQ1Ng==","TDEyMzQ1Ng=="],"scheme"
+"scheme" ~ "entries":[""],"scheme"
+"scheme" ~ "entries":null,"scheme"
+"scheme" ~ "entries":["TDEyMzQ1Ng=="],"entries":null,"scheme"
+"scheme" ~ "entries":["TDEyMzQ1Ng"],"scheme"
+"scheme" ~ "entries":["TDEyMzQ1Nh=="],"scheme"
+"scheme" ~ "entries":[null],"scheme"
+"scheme" ~ "entries":[7],"scheme"
+"scheme" ~ "entries":"TDEyMzQ1Ng==","scheme"
+"scheme" ~ "entries":{},"scheme"
+"scheme" ~ "entries":["TDEyMzQ1Ng=="],"scheme" ; "logIndex":0 ~ "logIndex":1
+"scheme" ~ "entries":[],"scheme" ; "signature":"c2ln" ~ "signature":"c2lo"
+"""
+
 NESTED = [FIRST[:-1] + ',"other":' + begin * depth + "1" + end * depth + "}" for begin, end in ("[]", ('{"a":', "}")) for depth in (126, 127)]
 
 TEXTS = ["{}", "[]", "null", "1", "1.5", '"log"', '{"entry":1}', "\ufeff" + FIRST, " " + FIRST + " ", FIRST[:-1], FIRST + "{}", "[" + FIRST + "]", "nul"]
@@ -292,6 +344,41 @@ def tables():
         yield {**first, "checkpoint": signed, "accepted": accepted}
 
 
+def logs():
+    """Requests of logs of several sizes with their entries; and with another entry, with two of them exchanged, with one less and one more."""
+    first = json.loads(FIRST)
+    for size in (2, 3, 4, 5, 7, 8, 9):
+        entries = [b"L%d" % (123456 + number) for number in range(size)]
+        for index in sorted({0, size // 2, size - 1}):
+            yield of_log(first, index, entries, entries)
+        yield of_log(first, size - 1, entries, [b"other", *entries[1:]])
+        yield of_log(first, 0, entries, [entries[1], entries[0], *entries[2:]])
+        yield of_log(first, 0, entries, entries[:-1])
+        yield of_log(first, 0, entries, [*entries, b""])
+    same = [b"same"] * 6
+    yield of_log(first, 4, same, same)
+    yield of_log(first, 4, same, same[:5])
+
+
+def audit_path(index, entries):
+    """The roots of the halves that the entry is not in, the smallest first."""
+    if len(entries) == 1:
+        return []
+    half = 1 << (len(entries) - 1).bit_length() - 1
+    left, right = entries[:half], entries[half:]
+    return audit_path(index, left) + [root_of(right)] if index < half else audit_path(index - half, right) + [root_of(left)]
+
+
+def of_log(first, index, entries, handed):
+    """A request for an entry of a log of these entries, with other entries in their place."""
+    root = root_of(entries)
+    note = f"log.example\n{len(entries)}\n{in_base64(root)}\n"
+    accepted = [{**first["accepted"][0], "message": in_base64(note.encode())}]
+    return {**first, "entry": in_base64(entries[index]), "logIndex": index, "treeSize": len(entries), "rootHash": root.hex(),
+            "hashes": [each.hex() for each in audit_path(index, entries)], "checkpoint": note + "\n\u2014 log.example AAAAAXNpZw==\n",
+            "accepted": accepted, "entries": [in_base64(entry) for entry in handed]}
+
+
 def main():
     with open(TOP / "examples/log.requests", "w", encoding="utf-8") as made:
         def say(words, texts):
@@ -303,8 +390,15 @@ def main():
         say("the first request, changed: each link that fails", map(changed, LINKS.splitlines()))
         say("its members: of another kind, out of range, absent, doubled, null", map(changed, MEMBERS.strip().splitlines()))
         say("members that are ignored: floats in them, members of one name, what is no JSON, nesting", [*map(changed, IGNORED.strip().splitlines()), *NESTED])
+        say("the log's own entries: the list, another list, what is no list of base64", map(changed, ENTRIES.strip().splitlines()))
+        say("logs of several sizes and their entries", (json.dumps(found, separators=(",", ":")) for found in logs()))
         say("texts that are no requests", TEXTS)
         say("many signatures and rows, in the worst orders; equal rows; rows that differ in one part", (json.dumps(found, separators=(",", ":")) for found in tables()))
+    entries = [b"L%d" % (123456 + number) for number in range(5)]
+    example = json.dumps(of_log(json.loads(FIRST), 2, entries, entries), indent=2)
+    line, status = reply(example)
+    (TOP / "examples/log-entries.json").write_text(example + "\n", encoding="utf-8")
+    (TOP / "examples/log-entries.expected").write_text(line.replace(" entry", "\nentry") + f"\nstatus {status}\n", encoding="utf-8")
 
 
 if __name__ == "__main__":

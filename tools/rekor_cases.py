@@ -359,5 +359,8 @@ for index, path in itertools.product(range(4), PATHS):
     proof(b"abcd"[index : index + 1], index, TOP, 3, path, [(THREE.encode(), b"sig")], THREE + "\n" + LINE)
 
 if __name__ == "__main__":
+    import rekor_model_rows
+
+    TABLE += rekor_model_rows.TABLE
     (FOLDER / "stdin").write_text("".join(given + "\n" for given, _ in TABLE[1:]))
     (FOLDER / "stdout").write_text("".join(wanted + "\n" for _, wanted in TABLE[1:]))

@@ -11,11 +11,13 @@
 A row of tools/verify_rows.py says what changes of the fixture's request and, by hand, what comes of it. tools/verify_links.py, a second
 implementation of the links, has to say the same; else nothing is written. A line of the requests is a row's name, a tab, and the request; a line
 of what is expected is the name, a tab, the reply, a tab, and the error of the library call `verify_offline` (`-` where there is none, and where
-the request itself is refused, which no library call reads). Such rows are no calls; each other row is one, under a `#` line of its name.
+the request itself is refused, which no library call reads). Such rows are no calls; each other row is one, under a `#` line of its name. A few
+calls of the parts of `verify_offline` follow.
 """
 import base64
 import collections
 import copy
+import hashlib
 import json
 import os
 import subprocess
@@ -27,7 +29,7 @@ sys.dont_write_bytecode = True
 import fixture
 import request_cases
 import verify_links
-from fixture import BIT_STRING, OBJECT_IDENTIFIER, SEQUENCE, compact, der, leaf, leaf_extensions, oid
+from fixture import BIT_STRING, OBJECT_IDENTIFIER, SEQUENCE, compact, der, leaf, leaf_extensions, oid, spelled
 
 HERE = os.path.dirname(os.path.abspath(__file__))
 CALLS = os.path.join(HERE, "..", "crates", "verify_cases")
@@ -39,6 +41,11 @@ ABSENT = object()
 
 def parts(**changed):
     return "parts", changed
+
+
+def message(**changed):
+    """As `parts`, of the request over a signature of the artifact itself."""
+    return "message", changed
 
 
 def root(path, value):
@@ -120,11 +127,11 @@ def of_kind(changes, kind):
 
 def built(changes):
     """The members of the request that the changes make of the fixture's."""
-    changed = {}
-    for each in of_kind(changes, "parts"):
+    changed, messages = {}, of_kind(changes, "message")
+    for each in of_kind(changes, "parts") + messages:
         assert not set(changed) & set(each), "two changes of one part"
         changed.update(each)
-    made = fixture.Request(**changed)
+    made = (fixture.MessageRequest if messages else fixture.Request)(**changed)
     documents = {"root": made.trusted_root(), "bundle": made.bundle()}
     for name in documents:
         for path, value in of_kind(changes, name):
@@ -148,7 +155,7 @@ def judged(text):
 
 
 def meets(said, expected):
-    """Whether reply and error are the expected line: `verified I N`, or a link and the error, of which `...` leaves the end open."""
+    """Whether reply and error are the expected lines: `verified I N`, with a second line of entries, or a link and the error, of which `...` leaves the end open."""
     reply, error = said
     link, _, wanted = expected.partition(" ")
     if link == "verified":
@@ -275,7 +282,7 @@ NO_CALLS = ("index: the entry's own", "range of a log's key: null", "range of a 
             "body: another part: the version", "body: another part: the envelope's alg", "body: another part: the payload's alg",
             "body: another part: no", "issuer: a trust anchor without", "issuer: a trust anchor of version", "issuer: itself twice",
             "certificate log keys: others", "certificate log keys: no key beside", "certificate log keys: an RSA", "certificate log keys: under",
-            "bundle: null for a content", "bundle: a doubled", "trusted root: the 29th")
+            "bundle: null for a content", "bundle: a doubled", "trusted root: the 29th", "entries: ", "request: entries")
 CALLED = ("policy: any of one", "policy: all seven", "policy: the errors", "body: another part: no certificate", "subject: asked")
 
 
@@ -283,11 +290,58 @@ def is_call(row):
     return row.expected[0] != "refused request" and (row.name.startswith(CALLED) or not row.name.startswith(NO_CALLS))
 
 
+def keys_words(keys):
+    """Keys by their ids, as arguments of a call."""
+    return " ".join([str(len(keys)), *["%s %s" % (identifier.hex(), spelled(der)) for identifier, der in keys]])
+
+
+def rooted_calls():
+    """Calls of the fixture's bundle and log entry under a trust root that is handed in: titles, calls, and what they return."""
+    made = fixture.Request()
+    bundle_text = text_word(compact(made.bundle(), canonical=True))
+    rows = " ".join(map(request_cases.words_of, made.accepted()))
+    log_keys, ct_keys = [(fixture.LOG_ID, made.log_key)], [(fixture.CERTIFICATE_LOG_ID, fixture.key(fixture.CERTIFICATE_LOG_KEY))]
+
+    def of_bundle(title, expected, anchor=fixture.certificate(made.anchor), ct_keys=ct_keys, digest=made.digest):
+        root = " ".join([spelled(anchor), keys_words(log_keys), keys_words(ct_keys)])
+        words = ["verify_digest_with", str(made.now), digest, *policy_words(made.policy), root, bundle_text, rows]
+        return "a trust root that is handed in: " + title, " ".join(words), expected
+
+    def of_entry(title, expected, log_keys):
+        return "the fixture's log entry: " + title, " ".join(["verify_log_entry", keys_words(log_keys), bundle_text, rows]), expected
+
+    def of_artifact(title, expected, *words, signed=None):
+        sealed = fixture.MessageRequest(**({} if signed is None else {"signed": signed}))
+        root = " ".join([spelled(fixture.certificate(sealed.anchor)), keys_words(log_keys), keys_words(ct_keys)])
+        rows = " ".join(map(request_cases.words_of, sealed.accepted()))
+        words = [words[0], str(sealed.now), *words[1:], *policy_words(sealed.policy), root, text_word(compact(sealed.bundle(), canonical=True)), rows]
+        return "an artifact: " + title, " ".join(words), expected
+
+    never, text = "9", b"hello world"
+    signed = hashlib.sha256(text).digest()
+    return [
+        of_artifact("by its digest", "ok", "verify_digest", fixture.DIGEST),
+        of_artifact("by another digest", "Signature(VerificationFailed)", "verify_digest", "b" * 64),
+        of_artifact("a source that fails at once", "Input(Fault)", "verify", "-", "1", "0"),
+        of_artifact("a source that fails in the middle", "Input(Fault)", "verify", text.hex(), "4", "2", signed=signed),
+        of_artifact("an empty source", "Signature(VerificationFailed)", "verify", "-", "1", never),
+        of_artifact("a source of its bytes", "ok", "verify", text.hex(), "100", never, signed=signed),
+        of_artifact("a source that gives them in pieces", "ok", "verify", text.hex(), "4", never, signed=signed),
+        of_artifact("a source of more than a buffer", "ok", "verify", spelled(bytes(70000)), "100000", never, signed=hashlib.sha256(bytes(70000)).digest()),
+        of_artifact("a source of other bytes", "Signature(VerificationFailed)", "verify", text[1:].hex(), "100", never, signed=signed),
+        of_bundle("the fixture's bundle", "ok 1"),
+        of_bundle("the trust anchor is no certificate", "CertificatePoolError(Anchor(0))", anchor=b"\x30\x00"),
+        of_bundle("no key of a Certificate Transparency log", "Certificate(Sct(Verification(KeyNotFound)))", ct_keys=[]),
+        of_bundle("another artifact", "Signature(SubjectDigestMismatch)", digest="sha256:" + "c" * 64),
+        of_entry("under its log's key", "ok 2 5", log_keys),
+        of_entry("under no key", 'log-key RekorPublicKeyNotFoundError("%s")' % fixture.LOG_ID.hex(), []),
+        of_entry("under another log's key", 'log-key RekorPublicKeyNotFoundError("%s")' % fixture.LOG_ID.hex(), ct_keys)]
+
+
 def write_calls():
-    rows = [row for row in ROWS if is_call(row)]
-    titles = ["# " + row.name for row in rows]
-    for name, lines in [("stdin", [call(row.text) for row in rows]), ("stdout", [returned(*row.expected) for row in rows])]:
-        write(os.path.join(CALLS, name), [line for pair in zip(titles, lines) for line in pair])
+    calls = [(row.name, call(row.text), returned(*row.expected)) for row in ROWS if is_call(row)] + rooted_calls()
+    for name, column in [("stdin", 1), ("stdout", 2)]:
+        write(os.path.join(CALLS, name), [line for each in calls for line in ("# " + each[0], each[column])])
 
 
 def write_examples(folder):
@@ -299,8 +353,12 @@ def write_examples(folder):
         write(os.path.join(folder, name + ".expected"), [reply, "status %d" % status_of(reply)])
 
 
+def is_verified(reply):
+    return reply.startswith("verified ")
+
+
 def status_of(reply):
-    return {"refused request": 2}.get(reply, 0 if reply.startswith("verified ") else 1)
+    return {"refused request": 2}.get(reply, 0 if is_verified(reply) else 1)
 
 
 def check(program):

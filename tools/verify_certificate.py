@@ -141,6 +141,11 @@ def authority_refusal(certificate):
     return "NotCA(Invalid { ca: %s, key_cert_sign: %s })" % (str(authority).lower(), str(signs).lower())
 
 
+def is_root(certificate):
+    """Whether it is of a certification authority, and by its names its own issuer."""
+    return authority_refusal(certificate) is None and certificate.issuer == certificate.subject
+
+
 def leaf_refusal(certificate):
     """Why the certificate is no leaf that signs code; None where it is."""
     if certificate.version != 3:

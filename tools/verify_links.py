@@ -80,13 +80,12 @@ def read_request(content):
         members = object_of(documents.tree(content) if len(content) <= MOST else requests.refuse())
     except (documents.NotJson, documents.Float):
         requests.refuse()
-    if members.get("entries") is not None:  # the log's own list, which is not read yet
-        requests.refuse()
     required = lambda name, kind: requests.required(members, name, kind)
     return SimpleNamespace(
         trusted_root=required("trustedRoot", requests.text_of), bundle=required("bundle", requests.text_of),
         now=required("now", requests.integer(-2 ** 63, 2 ** 63)), digest=required("digest", digest_of), policy=required("policy", policy_of),
-        accepted=set(requests.optional(members, "accepted", requests.list_of(requests.row_of)) or []))
+        accepted=set(requests.optional(members, "accepted", requests.list_of(requests.row_of)) or []),
+        entries=requests.optional(members, "entries", requests.list_of(requests.bytes_of)))
 
 
 # root-json, bundle-json: the two documents by their member tables.
@@ -178,14 +177,17 @@ def ctfe(case):
 
 def material(case):
     want(case.material is not None, "Bundle(VerificationMaterialMissing)")
-    # Chains are not read yet.
-    want("certificate" in case.material, "Bundle(VerificationMaterialContentUnsupported)")
+    alone, chain = case.material.get("certificate"), case.material.get("x509CertificateChain")
+    want(alone is not None or chain is not None, "Bundle(VerificationMaterialContentUnsupported)")
+    case.encodings = [of_base64(each["rawBytes"]) for each in ([alone] if chain is None else chain["certificates"])]
 
 
 def certificate(case):
-    case.leaf_der = of_base64(case.material["certificate"]["rawBytes"])
-    case.leaf = certificates.read_certificate(case.leaf_der)
-    want(case.leaf, "Bundle(CertificateMalformed(0))")
+    read = [certificates.read_certificate(each) for each in case.encodings]
+    for place, each in enumerate(read):
+        want(each, "Bundle(CertificateMalformed(%d))" % place)
+    want(read, "Bundle(CertificatesMissing)")
+    case.leaf_der, case.leaf, case.later = case.encodings[0], read[0], read[1:]
 
 
 def leaf(case):
@@ -194,13 +196,12 @@ def leaf(case):
 
 
 def root_in_chain(case):
-    """Holds of a single certificate."""
+    want(not any(map(certificates.is_root, case.later)), "Bundle(RootInChain)")
 
 
 def content(case):
-    # Signatures over an artifact alone are not read yet.
-    want("dsseEnvelope" in case.bundle, "Bundle(SignatureMissing)")
-    case.envelope = case.bundle["dsseEnvelope"]
+    case.envelope, case.message = map(case.bundle.get, ("dsseEnvelope", "messageSignature"))
+    want(case.envelope is not None or case.message is not None, "Bundle(SignatureMissing)")
 
 
 DIGEST_FAULTS = {"TooManySubjects": "DsseTooManySubjects", "TooManyDigests": "DsseTooManySubjectDigests", "Malformed": "DsseSubjectDigestMalformed",
@@ -208,6 +209,9 @@ DIGEST_FAULTS = {"TooManySubjects": "DsseTooManySubjects", "TooManyDigests": "Ds
 
 
 def envelope(case):
+    if case.envelope is None:
+        case.signature = of_base64(case.message["signature"])
+        return
     signatures = case.envelope["signatures"]
     want(len(signatures) == 1, "Bundle(DsseInvalidSignatureCount(%d))" % len(signatures))
     case.signature, keyid = of_base64(signatures[0]["sig"]), signatures[0]["keyid"]
@@ -231,13 +235,17 @@ def entry(case):
     case.body = of_base64(case.entry["canonicalizedBody"])
 
 
-# Of bundles of the profiles 0.1 and 0.2 none is read yet.
-MEDIA_TYPES = ("application/vnd.dev.sigstore.bundle.v0.3+json", "application/vnd.dev.sigstore.bundle+json;version=0.3")
+# The media types, by the profile that each names.
+PROFILES = {"application/vnd.dev.sigstore.bundle+json;version=0.1": "0.1", "application/vnd.dev.sigstore.bundle+json;version=0.2": "0.2",
+            "application/vnd.dev.sigstore.bundle.v0.3+json": "0.3", "application/vnd.dev.sigstore.bundle+json;version=0.3": "0.3"}
 
 
 def profile(case):
     media_type = case.bundle["mediaType"]
-    want(media_type in MEDIA_TYPES, "Bundle(BundleProfile(Unknown(%s)))" % debug(media_type))
+    want(media_type in PROFILES, "Bundle(BundleProfile(Unknown(%s)))" % debug(media_type))
+    if PROFILES[media_type] == "0.1":
+        want("inclusionPromise" in case.entry, "Bundle(BundleProfile(Bundle01Profile(InclusionPromiseMissing)))")
+        return
     want("inclusionProof" in case.entry, "Bundle(BundleProfile(Bundle02Profile(InclusionProofMissing)))")
     want("checkpoint" in case.entry["inclusionProof"], "Bundle(BundleProfile(Bundle02Profile(CheckpointMissing)))")
 
@@ -291,12 +299,17 @@ def key(case):
 
 
 def signature(case):
-    signed = dsse.pae(case.payload_type, case.payload)
-    want(("message", case.scheme, case.leaf.spki, signed, case.signature) in case.request.accepted, "Signature(VerificationFailed)")
+    if case.envelope is None:
+        algorithm, signed = case.request.digest
+        want(algorithm == "sha256", "Signature(DigestAlgorithmUnsupported)")
+        operation = "prehash"
+    else:
+        operation, signed = "message", dsse.pae(case.payload_type, case.payload)
+    want((operation, case.scheme, case.leaf.spki, signed, case.signature) in case.request.accepted, "Signature(VerificationFailed)")
 
 
 def subject(case):
-    want(case.request.digest in case.digests, "Signature(SubjectDigestMismatch)")
+    want(case.envelope is None or case.request.digest in case.digests, "Signature(SubjectDigestMismatch)")
 
 
 def member(value, *names):
@@ -319,18 +332,31 @@ def is_coded(value, content):
     return isinstance(value, str) and rekor.unbase64(value) == content
 
 
+def is_about_envelope(case, logged):
+    """Whether a body, Rekor's kind `dsse` in version 0.0.1, is about this envelope and this certificate, by the members that count."""
+    signed = member(logged, "spec", "signatures", 0)
+    return (member(logged, "kind") == "dsse" and member(logged, "apiVersion") == "0.0.1"
+            and is_hash(member(logged, "spec", "envelopeHash"), case.envelope_text.encode())
+            and is_hash(member(logged, "spec", "payloadHash"), case.payload)
+            and is_coded(member(signed, "signature"), case.signature)
+            and is_coded(member(signed, "verifier"), certificates.pem(case.leaf_der)))
+
+
+def is_about_artifact(case, logged):
+    """Whether a body, Rekor's kind `hashedrekord` in version 0.0.1, is that of this digest, signature and certificate, as a whole."""
+    coded = lambda content: base64.b64encode(content).decode()
+    spec = {"data": {"hash": {"algorithm": "sha256", "value": case.request.digest[1].hex()}},
+            "signature": {"content": coded(case.signature), "publicKey": {"content": coded(certificates.pem(case.leaf_der))}}}
+    return logged == {"apiVersion": "0.0.1", "kind": "hashedrekord", "spec": spec}
+
+
 def body(case):
-    """The log's body, Rekor's kind `dsse` in version 0.0.1, is about this envelope and this certificate."""
     try:
         logged = documents.tree(case.body)
     except (documents.NotJson, documents.Float):
         raise Fails("Signature(Transparency)") from None
-    signed = member(logged, "spec", "signatures", 0)
-    want(member(logged, "kind") == "dsse" and member(logged, "apiVersion") == "0.0.1"
-         and is_hash(member(logged, "spec", "envelopeHash"), case.envelope_text.encode())
-         and is_hash(member(logged, "spec", "payloadHash"), case.payload)
-         and is_coded(member(signed, "signature"), case.signature)
-         and is_coded(member(signed, "verifier"), certificates.pem(case.leaf_der)), "Signature(Transparency)")
+    is_about = is_about_artifact if case.envelope is None else is_about_envelope
+    want(is_about(case, logged), "Signature(Transparency)")
 
 
 def time(case):
@@ -363,12 +389,14 @@ def promise(case):
 
 
 def proof(case):
+    want("inclusionProof" in case.entry, "ProofMissing")
     fields = case.entry["inclusionProof"]
     root, hashes = of_base64(fields["rootHash"]), list(map(of_base64, fields["hashes"]))
     want(len(root) == 32, "RootLength")
     for place, each in enumerate(hashes):
         want(len(each) == 32, "HashLength(%d)" % place)
     want(int(fields["treeSize"]) >= 0, "TreeSize")
+    want("checkpoint" in fields, "CheckpointMissing")
     case.proof = SimpleNamespace(index=int(fields["logIndex"]), size=int(fields["treeSize"]), root=root, hashes=hashes)
 
 
@@ -407,7 +435,7 @@ NAMES = ["request", *LINKS]
 
 
 def verify(content):
-    """The reply to a request, and the error of the library call, `-` where there is none."""
+    """The reply to a request, of one line or two, and the error of the library call, `-` where there is none."""
     try:
         case = SimpleNamespace(request=read_request(content))
     except requests.NoRequest:
@@ -417,7 +445,8 @@ def verify(content):
             link(case)
         except Fails as error:
             return "refused " + name, str(error)
-    return "verified %d %d" % (case.proof.index, case.proof.size), "-"
+    second = requests.second_line(case.request.entries, case.body, case.proof)
+    return "verified %d %d%s" % (case.proof.index, case.proof.size, second and "\n" + second), "-"
 
 
 if __name__ == "__main__":

@@ -1,17 +1,18 @@
 """The rows of the table of `verify`: what changes of the fixture's request, and what comes of it, stated by hand. tools/verify_cases.py writes them.
 
-Of `root-in-chain` there is no row: it fails only of a chain of certificates, and a bundle with a chain fails the link `material` until chains are
-read. So are its two pairs missing, and that of `content` and `envelope`, since `envelope` is about an envelope and `content` fails where none is.
+The pair of `content` and `envelope` is missing, since `envelope` is about an envelope and `content` fails where none is.
 """
 import json
 
 import fixture
 import verify_rows_content
 import verify_rows_documents
+import verify_rows_message
 from fixture import (FULCIO, OBJECT_IDENTIFIER, SEQUENCE, anchor, base64_of, compact, der, extension, key, leaf, leaf_extensions, note, sct,
                      sct_list)
 from verify_cases import (ABSENT, ANCHOR, AUTHORITY, CERTIFICATE, CHECKPOINT, ENTRY, KEYS, MATERIAL, PROOF, UNKNOWN_CURVE, accepted, bundle, held,
                           of_bytes, parts, request, root, row, unaccepted, whole_row)
+from verify_rows_message import in_chain
 
 NO_WORKFLOW = {"all": [{"sha": "x"}]}
 NOT_FOUND = "Policy(AllOf { total: 1, errors: PolicyErrors { items: [ExtensionNotFound] } })"
@@ -41,6 +42,7 @@ FIRST = {
     "material": ("no certificate", "Bundle(VerificationMaterialContentUnsupported)", [bundle(MATERIAL + ".certificate", ABSENT)]),
     "certificate": ("a certificate and a byte", "Bundle(CertificateMalformed(0))", [bundle(CERTIFICATE, of_bytes(append))]),
     "leaf": ("a leaf without key usage", "Bundle(NoLeaf(Extension(Missing(KeyUsage))))", [held(usage=b"")]),
+    "root-in-chain": ("the trust anchor behind the leaf", "Bundle(RootInChain)", [in_chain(fixture.certificate(anchor()))]),
     "content": ("no envelope", "Bundle(SignatureMissing)", [bundle("dsseEnvelope", ABSENT)]),
     "envelope": ("no signature", "Bundle(DsseInvalidSignatureCount(0))", [bundle("dsseEnvelope.signatures", [])]),
     "entry": ("two log entries", "Bundle(TlogEntry(2))", [bundle(MATERIAL + ".tlogEntries", lambda entries: entries * 2)]),
@@ -65,9 +67,8 @@ FIRST = {
 }
 
 # Where two changes cannot both be made, the pair has changes of its own.
-CHAIN = {"certificates": [{"rawBytes": base64_of(b"\x30\x00")}]}
 PAIRS = {("fulcio", "anchor"): [root(AUTHORITY + ".validFor.start", "2024-01-01T00:00:00Z"), *FIRST["anchor"][2]],
-         ("material", "certificate"): [bundle(MATERIAL + ".certificate", ABSENT), bundle(MATERIAL + ".x509CertificateChain", CHAIN)]}
+         ("material", "certificate"): [bundle(MATERIAL + ".certificate", ABSENT), bundle(MATERIAL + ".publicKey", {"hint": "x"})]}
 
 
 def links():
@@ -96,6 +97,30 @@ def indices():
     row("index: the entry's own is the true one, the proof's is not", "inclusion InclusionProofError(MismatchedRoot...", parts(log_index=2),
         bundle(PROOF + ".logIndex", "3"))
     row("index: with leading zeros", "verified 2 5", bundle(PROOF + ".logIndex", "002"), bundle(PROOF + ".treeSize", "05"))
+
+
+# The log's own entries: the list that the proof is of, and others.
+
+def entries():
+    def among(size, index=2):
+        return fixture.log_entries(index, size, fixture.Request(index=index, size=size).body)
+
+    def given(listed):
+        return request("entries", [base64_of(entry) for entry in listed])
+
+    log = among(5)
+    for name, listed, second in [
+            ("the log's", log, "entry 2"), ("without the last", log[:-1], "other list"), ("with one more", log + [b""], "other list"),
+            ("none", [], "other list"), ("another at the index", log[:2] + [b"other"] + log[3:], "other list"),
+            ("another at another index", [b"other"] + log[1:], "other list"), ("in another order", log[::-1], "other list"),
+            ("the hashes of the path", [leaf[:32] for leaf in log], "other list")]:
+        whole_row("entries: " + name, "verified 2 5\n" + second, given(listed))
+    for index, size in ((0, 1), (0, 2), (1, 2), (6, 7), (3, 8), (8, 9)):
+        whole_row("entries: index %d of a log of %d" % (index, size), "verified %d %d\nentry %d" % (index, size, index),
+                  parts(index=index, size=size), given(among(size, index)))
+    whole_row("entries: the index is the proof's, not the entry's own", "verified 2 5\nentry 2", parts(log_index=0), given(log))
+    whole_row("entries: null", "verified 2 5", request("entries", None))
+    whole_row("entries: another list changes no link", "inclusion InclusionProofError(IndexGtTreeSize)", given(log), bundle(PROOF + ".logIndex", "5"))
 
 
 # Keys are picked at the request's time: both ends included, absent ends open, expired authorities allowed.
@@ -293,6 +318,6 @@ def times():
     row("entry's time: as a number", "verified 2 5", bundle(ENTRY + ".integratedTime", 1702446700))
 
 
-GROUPS = [links, indices, ranges, log_keys, certificate_log_keys, issuers, promises, times]
-GROUPS += verify_rows_documents.GROUPS + verify_rows_content.GROUPS
+GROUPS = [links, indices, entries, ranges, log_keys, certificate_log_keys, issuers, promises, times]
+GROUPS += verify_rows_documents.GROUPS + verify_rows_content.GROUPS + verify_rows_message.GROUPS
 MORE = [other_keys] + verify_rows_content.MORE

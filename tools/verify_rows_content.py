@@ -9,24 +9,19 @@ from rekor_cases import debug
 from verify_cases import (ABSENT, CERTIFICATE, CHECKPOINT, ENTRY, KEYS, MATERIAL, PROOF, accepted, bundle, held, of_bytes, parts, row, unaccepted)
 
 
-# material to profile: the bundle's parts. Chains, signatures over an artifact alone, and the profiles 0.1 and 0.2 are not read yet.
+# material to profile: the bundle's parts. Those of chains, of signatures over an artifact and of profiles are in verify_rows_message.py.
 
 def materials():
-    own = fixture.Request().bundle()["verificationMaterial"]["certificate"]
     for name, path, value, error in [
             ("absent", MATERIAL, ABSENT, "VerificationMaterialMissing"), ("null", MATERIAL, None, "VerificationMaterialMissing"),
             ("empty", MATERIAL, {}, "VerificationMaterialContentUnsupported"), ("null for the certificate", MATERIAL + ".certificate", None,
             "VerificationMaterialContentUnsupported"),
-            ("a key hint", MATERIAL, {"publicKey": {"hint": "x"}}, "VerificationMaterialContentUnsupported"),
-            ("a chain of the certificate", MATERIAL, {"x509CertificateChain": {"certificates": [own]}}, "VerificationMaterialContentUnsupported"),
-            ("a chain of none", MATERIAL, {"x509CertificateChain": {}}, "VerificationMaterialContentUnsupported")]:
+            ("a key hint", MATERIAL, {"publicKey": {"hint": "x"}}, "VerificationMaterialContentUnsupported")]:
         row("material: " + name, "material Bundle(%s)" % error, bundle(path, value))
     for name, value in [("no bytes", {}), ("an empty sequence", {"rawBytes": base64_of(b"\x30\x00")})]:
         row("certificate: " + name, "certificate Bundle(CertificateMalformed(0))", bundle(MATERIAL + ".certificate", value))
     row("certificate: cut", "certificate Bundle(CertificateMalformed(0))", bundle(CERTIFICATE, of_bytes(lambda content: content[:-1])))
     row("content: null", "content Bundle(SignatureMissing)", bundle("dsseEnvelope", None))
-    row("content: a signature over an artifact", "content Bundle(SignatureMissing)", bundle("dsseEnvelope", ABSENT),
-        bundle("messageSignature", {"signature": base64_of(b"sig-msg")}))
 
 
 def leaves():
@@ -50,7 +45,7 @@ def leaves():
 def profiles():
     older = "application/vnd.dev.sigstore.bundle+json;version="
     row("profile: 0.3 in the older form", "verified 2 5", parts(media_type=older + "0.3"))
-    for media_type in (older + "0.1", older + "0.2", older + "0.4", "", "application/vnd.dev.sigstore.bundle.v0.3+json ",
+    for media_type in (older + "0.4", "", "application/vnd.dev.sigstore.bundle.v0.3+json ",
     "APPLICATION/vnd.dev.sigstore.bundle.v0.3+json"):
         row("profile: the media type %s" % compact(media_type), "profile Bundle(BundleProfile(Unknown(%s)))" % debug(media_type),
             parts(media_type=media_type))

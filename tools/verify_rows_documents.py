@@ -44,8 +44,10 @@ def requests():
         small("an object for %s" % member, UNREAD, **{member: {}})
     small("a number for digest", UNREAD, digest=0)
     small("another member", READ, other={})
-    small("entries", UNREAD, entries=[])
     small("null for entries", READ, entries=None)
+    for value, expected in (([], READ), (["", "AA=="], READ), ({}, UNREAD), ("AA==", UNREAD), (["AA"], UNREAD), (["AB=="], UNREAD),
+                            ([None], UNREAD), ([0], UNREAD), ([["AA=="]], UNREAD)):
+        small("entries are %s" % compact(value), expected, entries=value)
     for value, expected in (("0", READ), ("-0", READ), ("007", READ), (2 ** 63 - 1, READ), (str(2 ** 63 - 1), READ), (-2 ** 63, READ),
     (2 ** 63, UNREAD),
                             (str(2 ** 63), UNREAD), (-2 ** 63 - 1, UNREAD), ("", UNREAD), ("+1", UNREAD), (" 1", UNREAD), ("1.0", UNREAD),

@@ -1,5 +1,5 @@
 //! Calls of sig_base on bytes, texts, schemes and tables.
-use crate::{errors, keys, maps, merkle};
+use crate::{consistency, errors, keys, maps, merkle, trees, walks};
 use sig_base::{Bytes, Operation, RootHex, SigningScheme, Text, sha256};
 use sig_cases::{Answer, Arguments, CaseError};
 use std::alloc::Global;
@@ -24,6 +24,9 @@ pub fn answer(
         ),
         "empty_root" | "hash_leaf" | "hash_children" | "verify_inclusion" | "counted" =>
             merkle::answer(alloc, call, arguments),
+        "decomposed" | "both_ways" | "both_growths" => walks::answer(alloc, call, arguments),
+        "root_of" | "path_of" => trees::answer(alloc, call, arguments),
+        "verify_consistency" | "proof_of" | "sweep" => consistency::answer(alloc, call, arguments),
         _ => keys::answer(alloc, call, arguments),
     }
 }

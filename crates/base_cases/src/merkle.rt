@@ -33,7 +33,7 @@ fn children(alloc: Global, arguments: &mut Arguments<'_>) -> Result<Answer, Case
 }
 
 /// Reads a list of hashes.
-fn path(alloc: Global, arguments: &mut Arguments<'_>) -> Result<Vec<[u8; 32]>, CaseError> {
+pub fn path(alloc: Global, arguments: &mut Arguments<'_>) -> Result<Vec<[u8; 32]>, CaseError> {
     let mut path = Vec::new(alloc);
     for hash in &arguments.hex_list(alloc)? {
         path.push(hash.as_slice().try_into().map_err(|_| CaseError::BadLine)?)?;

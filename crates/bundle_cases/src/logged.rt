@@ -56,20 +56,26 @@ fn with_checkpoint(answer: Answer, checkpoint: &SignedCheckpoint) -> Result<Answ
         .value(&checkpoint.signatures.len())
 }
 
-/// `tlog_entry OFFLINE TEXT`: whether the checked bundle hands out its log entry. `BadLine` where the bundle does
-/// not pass its checks.
+/// `tlog_entry OFFLINE DIGEST TEXT`: whether the checked bundle hands out its log entry, for an artifact of this
+/// SHA-256 digest. `BadLine` where the bundle does not pass its checks.
 pub(crate) fn logged(alloc: Global, arguments: &mut Arguments<'_>) -> Result<Answer, CaseError> {
     let offline = arguments.word()? == "true";
+    let digest = arguments.hex(alloc)?;
     let bundle = bundle(alloc, arguments.rest()?)?;
     match CheckedBundle::try_from_bundle(alloc, &bundle) {
-        Ok(checked) => entry_of(alloc, &checked, offline),
+        Ok(checked) => entry_of(alloc, &checked, offline, &digest),
         Err(_) => Err(CaseError::BadLine),
     }
 }
 
-fn entry_of(alloc: Global, checked: &CheckedBundle, offline: bool) -> Result<Answer, CaseError> {
+fn entry_of(
+    alloc: Global,
+    checked: &CheckedBundle,
+    offline: bool,
+    digest: &[u8],
+) -> Result<Answer, CaseError> {
     let answer = Answer::ok(alloc)?;
-    match checked.tlog_entry(alloc, offline, &[])? {
+    match checked.tlog_entry(alloc, offline, digest)? {
         Some(entry) => answer.value(&(*entry == *checked.entry())),
         None => answer.value(&false),
     }

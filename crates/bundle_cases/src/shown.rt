@@ -1,4 +1,4 @@
-//! Errors that no text of this version's bundles meets, and errors inside errors: each shows the name of its variant.
+//! Errors inside errors, and out of memory: each shows the name of its variant.
 
 use sig_base::Text;
 use sig_bundle::{
@@ -10,8 +10,6 @@ use std::alloc::Global;
 /// `shown NAME`: the error of this name; out of memory stands behind `ok`, since by itself it would end the program.
 pub(crate) fn answer(alloc: Global, name: &str) -> Result<Answer, CaseError> {
     match name {
-        "CertificatesMissing" => Answer::error(alloc, &BundleErrorKind::CertificatesMissing),
-        "RootInChain" => Answer::error(alloc, &BundleErrorKind::RootInChain),
         "InclusionPromiseMissing" => {
             Answer::error(alloc, &Bundle01ProfileErrorKind::InclusionPromiseMissing)
         }

@@ -1,14 +1,18 @@
-//! Cases of sig_rekor: notes, signatures and checkpoints that are read and written, each fault, and what a checkpoint
-//! vouches for.
+//! Cases of sig_rekor and sig_rekor_models: notes, signatures and checkpoints that are read and written, each fault,
+//! what a checkpoint vouches for, and the models of Rekor's API.
 //!
 //! The expected lines are those of `tools/rekor_cases.py`, which reads texts by the checkpoint format of
 //! transparency-dev with its own reader, and of Go's `sumdb/note`, Rekor and the Certificate Transparency reference
 //! for the checkpoints and roots that it begins with.
 #![tactic(auto)]
 
+mod models;
 mod proof;
 mod shown;
 
+use models::{
+    entry, entry_inclusion, hashedrekord, log_info, proof_from_rekor, proposed, public_key,
+};
 use proof::{answer_of_proof, answer_of_signature, answer_of_tree};
 use shown::{add_note, add_signature, add_signatures};
 use sig_cases::{Answer, Arguments, CaseError, Cases, run};
@@ -34,6 +38,13 @@ impl Cases for RekorCases {
             "signed" => answer_of_signature(alloc, arguments),
             "tree" => answer_of_tree(alloc, arguments),
             "proof" => answer_of_proof(alloc, arguments),
+            "from_rekor" => proof_from_rekor(alloc, arguments),
+            "log_info" => log_info(alloc, arguments),
+            "entry" => entry(alloc, arguments),
+            "entry_inclusion" => entry_inclusion(alloc, arguments),
+            "public_key" => public_key(alloc, arguments),
+            "hashedrekord" => hashedrekord(alloc, arguments),
+            "proposed" => proposed(alloc, arguments),
             _ => Err(CaseError::BadLine),
         }
     }

@@ -8,7 +8,7 @@ use sig_rekor::{InclusionProof, SignedCheckpoint};
 use std::alloc::Global;
 
 /// The line for a check that passed or failed.
-fn answer_to(alloc: Global, answer: Result<(), SigstoreError>) -> Result<Answer, CaseError> {
+pub fn answer_to(alloc: Global, answer: Result<(), SigstoreError>) -> Result<Answer, CaseError> {
     match answer {
         Ok(()) => Answer::ok(alloc),
         Err(error) => Answer::error(alloc, &error),
@@ -30,9 +30,16 @@ fn read_hash(alloc: Global, arguments: &mut Arguments<'_>) -> Result<[u8; 32], C
     <[u8; 32]>::try_from(bytes.as_slice()).map_err(|_| CaseError::BadLine)
 }
 
-/// Reads a table: the notes over which a signature is accepted under ECDSA over P-256 and the key `key`, and those
+/// The key of the cases that name none.
+const KEY: &[u8] = b"key";
+
+/// Reads a table: the notes over which a signature is accepted under ECDSA over P-256 and this key, and those
 /// signatures.
-fn read_table(alloc: Global, arguments: &mut Arguments<'_>) -> Result<TableChecker, CaseError> {
+pub fn read_table(
+    alloc: Global,
+    arguments: &mut Arguments<'_>,
+    key: &[u8],
+) -> Result<TableChecker, CaseError> {
     let messages = arguments.hex_list(alloc)?;
     let signatures = arguments.hex_list(alloc)?;
     let mut rows = Register::new(alloc);
@@ -40,7 +47,7 @@ fn read_table(alloc: Global, arguments: &mut Arguments<'_>) -> Result<TableCheck
         rows.push(AcceptedRow {
             operation: Operation::Message,
             scheme: Bytes::copy_of(alloc, b"ECDSA_P256_SHA256_ASN1")?,
-            key: Bytes::copy_of(alloc, b"key")?,
+            key: Bytes::copy_of(alloc, key)?,
             message: Bytes::from(message),
             signature: Bytes::from(signature),
         })?;
@@ -48,9 +55,9 @@ fn read_table(alloc: Global, arguments: &mut Arguments<'_>) -> Result<TableCheck
     Ok(TableChecker::from_rows(alloc, rows)?)
 }
 
-/// The key `key`, whose scheme is ECDSA over P-256.
-fn read_key(alloc: Global) -> Result<CosignVerificationKey, CaseError> {
-    CosignVerificationKey::from_der(alloc, b"key", &SigningScheme::default()).map_err(
+/// The key of these bytes, whose scheme is ECDSA over P-256.
+pub fn make_key(alloc: Global, key: &[u8]) -> Result<CosignVerificationKey, CaseError> {
+    CosignVerificationKey::from_der(alloc, key, &SigningScheme::default()).map_err(
         |_| CaseError::OutOfMemory,
     )
 }
@@ -61,10 +68,10 @@ pub fn answer_of_signature(
     arguments: &mut Arguments<'_>,
 ) -> Result<Answer, CaseError> {
     let checkpoint = read_checkpoint(alloc, arguments)?;
-    let table = read_table(alloc, arguments)?;
+    let table = read_table(alloc, arguments, KEY)?;
     answer_to(
         alloc,
-        checkpoint.verify_signature(alloc, &read_key(alloc)?, &table),
+        checkpoint.verify_signature(alloc, &make_key(alloc, KEY)?, &table),
     )
 }
 
@@ -84,7 +91,7 @@ pub fn answer_of_proof(alloc: Global, arguments: &mut Arguments<'_>) -> Result<A
     let root = read_hash(alloc, arguments)?;
     let size = arguments.natural()?;
     let hashes = read_hashes(alloc, arguments)?;
-    let table = read_table(alloc, arguments)?;
+    let table = read_table(alloc, arguments, KEY)?;
     let checkpoint = match arguments.is_empty() {
         true => None,
         false => Some(read_checkpoint(alloc, arguments)?),
@@ -92,7 +99,7 @@ pub fn answer_of_proof(alloc: Global, arguments: &mut Arguments<'_>) -> Result<A
     let proof = InclusionProof::new(index, root, size, hashes, checkpoint);
     answer_to(
         alloc,
-        proof.verify(alloc, entry.as_slice(), &read_key(alloc)?, &table),
+        proof.verify(alloc, entry.as_slice(), &make_key(alloc, KEY)?, &table),
     )
 }
 

@@ -77,12 +77,3 @@ accepted-rows rows operation scheme key message signature =
             signature,
       ),
     )
-
-module _ (a b : Bool) (P : Type 0) where
-  -- two tests of the same fact are equal
-  pub same_test : (a ≡ true) ↔ P → (b ≡ true) ↔ P → a ≡ b
-  same_test first second = by a b refl refl where
-    by : (x y : Bool) → a ≡ x → b ≡ y → a ≡ b
-    by true y is other = is ∙ sym (second.1 (first.0 is))
-    by false true is other = first.1 (second.0 other) ∙ sym other
-    by false false is other = is ∙ sym other

@@ -8,3 +8,6 @@ pub mod OptionSteps
 pub mod ResultSteps
 pub mod TextEntries
 pub mod Decisions
+pub mod SeenTexts
+pub mod ComesLaws
+pub mod RuleLaws

@@ -10,3 +10,5 @@ pub mod Stream
 pub mod Hex
 pub mod Base64
 pub mod ByText
+pub mod Rules
+pub mod Collision

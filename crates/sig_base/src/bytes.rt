@@ -1,8 +1,9 @@
 //! `Bytes`: bytes that own their memory.
-ghost use Rattle.std.specs.Prelude.{◌≡◌, IfOk};
+ghost use Rattle.std.specs.Prelude.{◌≡◌, ◌∷◌, ◌++◌, IfOk};
 
 use crate::memory::OutOfMemory;
 use std::alloc::Global;
+use std::fmt;
 use std::marker::Model;
 
 /// Bytes that own their memory. Contracts see the list of them.
@@ -28,6 +29,17 @@ impl Bytes {
         Ok(Bytes { held })
     }
 
+    /// Returns one byte, and behind it the bytes of both slices. Fails if out of memory alone.
+    pub fn join(alloc: Global, first: u8, left: &[u8], right: &[u8]) -> Result<Bytes, OutOfMemory>
+        ensures { IfOk result (λ b. b ≡ first ∷ left.now ++ right.now) }
+    {
+        let mut held = Vec::new(alloc);
+        held.push(first)?;
+        held.extend_from_slice(left)?;
+        held.extend_from_slice(right)?;
+        Ok(Bytes { held })
+    }
+
     /// The bytes.
     pub fn as_slice(&self) -> &[u8]
         ensures { result.now ≡ self.now }
@@ -50,5 +62,11 @@ impl From<Vec<u8>> for Bytes {
         ensures { result ≡ held.items }
     {
         Bytes { held }
+    }
+}
+
+impl fmt::Debug for Bytes {
+    fn fmt<W: fmt::Write>(&self, f: &mut fmt::Formatter<W>) -> fmt::Result {
+        fmt::Debug::fmt(self.as_slice(), f)
     }
 }

@@ -6,11 +6,14 @@
 //! - `compact` and `canonical` read one, write it so, and print how many bytes were written;
 //! - `bundle` reads a bundle, and prints 0;
 //! - `statement` reads a payload as a statement, `digests` as the checks of a bundle do, and both print how many
-//!   digests were taken.
+//!   digests were taken;
+//! - `hash N` hashes N zero bytes, and prints the first byte of SHA-256; `artifact N` reads a bundle, verifies it of an
+//!   artifact of N zero bytes, where nothing is trusted, and prints 0.
 //!
 //! It promises nothing.
 #![tactic(auto)]
 
+mod artifact;
 mod bundle;
 mod certificate;
 mod document;
@@ -29,9 +32,7 @@ fn main(rt: HostRuntime) -> Result<()> {
     rt.stdin().read_to_end(&mut input)?;
     let count = match what.as_str() {
         "certificate" => {
-            let times = words.next().context("how often")?;
-            let times = times.as_str().parse::<u32>().context("how often")?;
-            certificate::extensions_of(alloc, input.as_slice(), times)
+            certificate::extensions_of(alloc, input.as_slice(), number(words.next())?)
         }
         "read" => document::read(alloc, input.as_slice()),
         "compact" => document::written_compact(alloc, input.as_slice()),
@@ -39,6 +40,8 @@ fn main(rt: HostRuntime) -> Result<()> {
         "bundle" => bundle::read(alloc, input.as_slice()),
         "statement" => statement::digests_of(alloc, input.as_slice()),
         "digests" => statement::digests_alone(alloc, input.as_slice()),
+        "hash" => Some(artifact::hashed(number(words.next())?)),
+        "artifact" => artifact::verified(alloc, input.as_slice(), number(words.next())?),
         _ => None,
     };
     let Some(count) = count else {
@@ -46,4 +49,10 @@ fn main(rt: HostRuntime) -> Result<()> {
     };
     println!(rt; "{count}")?;
     Ok(())
+}
+
+/// The number that a word of the command line is.
+fn number(word: Option<String>) -> Result<u64> {
+    let word = word.context("how many")?;
+    word.as_str().parse::<u64>().context("how many")
 }

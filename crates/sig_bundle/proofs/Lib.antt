@@ -1,17 +1,25 @@
+pub mod Certificates
+mod Caused
 mod CheckedLaws
+pub mod ContentLaws
 mod Equality
+pub mod Hashedrekords
+mod LeafLaws
 mod PassedLaws
 mod PlainTexts
 pub mod PromiseLaws
+mod ProfileLaws
 mod ProofLaws
 mod RefusalCauses
-mod SigningCertificateLaws
-mod VersionLaws
+mod Refusing
+pub mod SigningCertificateLaws
+mod Told
+pub mod VersionLaws
 pub mod EntriesBack
 pub mod EntryTrees
 pub mod Found
 pub mod Lists
-pub mod LogBodies
+pub mod DsseBodies
 pub mod MaterialBack
 pub mod Nesting
 pub mod Objects

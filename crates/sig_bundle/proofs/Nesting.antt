@@ -13,7 +13,7 @@ use Rattle.sig_bundle.specs.BundleTree.{chain_tree, checkpoint_rows, checkpoint_
 use Rattle.sig_bundle.specs.BundleTree.{digest_tree, entry_rows, entry_tree, envelope_rows, envelope_tree}
 use Rattle.sig_bundle.specs.BundleTree.{kind_version_rows, kind_version_tree, log_id_rows, log_id_tree, material_rows}
 use Rattle.sig_bundle.specs.BundleTree.{material_tree, message_signature_rows, message_tree, promise_rows}
-use Rattle.sig_bundle.specs.BundleTree.{promise_tree, proof_rows, proof_tree, signature_rows, signature_tree}
+use Rattle.sig_bundle.specs.BundleTree.{inclusion_promise_tree, proof_rows, proof_tree, signature_rows, signature_tree}
 use Rattle.sig_bundle.specs.BundleTree.{material_content_row}
 use Rattle.sig_bundle.specs.Written.{Row, put_some, rows_into, object_of, integer_tree, bytes_tree, items_of}
 use Rattle.sig_bundle.specs.Written.{list_tree}
@@ -102,8 +102,8 @@ log_id_shallow : (id : List ℕ) → depth (log_id_tree id) ≤ 1
 unfolding log_id_tree
 log_id_shallow id = object_shallow 0 (log_id_rows id) (bytes_shallow 0 id, tt)
 
-promise_shallow : (signature : List ℕ) → depth (promise_tree signature) ≤ 1
-unfolding promise_tree
+promise_shallow : (signature : List ℕ) → depth (inclusion_promise_tree signature) ≤ 1
+unfolding inclusion_promise_tree
 promise_shallow signature = object_shallow 0 (promise_rows signature) (bytes_shallow 0 signature, tt)
 
 digest_shallow : (digest : List ℕ) → depth (digest_tree digest) ≤ 1
@@ -156,8 +156,8 @@ entry_shallow e =
           (
             integer_shallow 2 e.integrated_time,
             (
-              option_shallow 2 promise_tree e.inclusion_promise
-                  (λ x. at_most_two (depth (promise_tree x)) (promise_shallow x)),
+              option_shallow 2 inclusion_promise_tree e.inclusion_promise
+                  (λ x. at_most_two (depth (inclusion_promise_tree x)) (promise_shallow x)),
               (
                 option_shallow 2 proof_tree e.inclusion_proof proof_shallow,
                 (bytes_shallow 2 e.canonicalized_body, tt),

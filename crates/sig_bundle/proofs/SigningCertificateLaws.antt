@@ -1,103 +1,166 @@
--- The signing certificate among the certificates of one text.
-use Rattle.std.proofs.Common.{◌≡◌, inr, ℕ, List, [], ◌∷◌, Option, Some, None, Result, Ok, Err, refl, sym, ap, subst}
-use Rattle.sig_certificate.specs.declared.error.X509ReadError.{X509ReadError}
-use Rattle.sig_certificate.specs.declared.error.X509ReadError.TheVariants.{Der, OutOfMemory as NoMemory}
-use Rattle.sig_certificate.specs.declared.profile_error.CertificateValidationError.{CertificateValidationError}
-use Rattle.sig_base.specs.Answers.{ComesWhere}
-use Rattle.sig_base.proofs.ResultSteps.{ok_is}
+-- The signing certificate among the certificates of a bundle.
+use Rattle.std.proofs.Common.{◌≡◌, inl, inr, ℕ, zero, suc, ◌+◌, ◌<◌, List, [], ◌∷◌, ◌++◌, take, length, get_or}
+use Rattle.std.proofs.Common.{true, false, Option, Some, None, Result, Ok, Err, refl, sym, ap, subst, ◌∙◌, arith}
+use Rattle.std.proofs.Common.{add-one}
+use Rattle.std.proofs.lemmas.List.{take_more}
+use Rattle.std.specs.List.{list_any}
+use Rattle.std.specs.Prelude.{IfErr}
+use Rattle.sig_base.specs.Answers.{AnswersOnly, ComesWhere}
+use Rattle.sig_base.specs.ResultSteps.{◌>>=◌}
 use Rattle.sig_certificate.specs.Certificate.{Cert, IsCertificate}
 use Rattle.sig_certificate.specs.Profile.{leaf_refusal}
-use Rattle.sig_base.specs.Answers.{AnswersOnly}
-use Rattle.sig_bundle.specs.SigningCertificate.{AreReadings, IsSigningCertificateAmong, signing_certificate_among}
-use Rattle.sig_bundle.specs.SigningCertificate.{leaf_or_refusal}
+use Rattle.sig_certificate.specs.declared.error.X509ReadError.{X509ReadError}
+use Rattle.sig_certificate.specs.declared.error.X509ReadError.TheVariants.{Der, OutOfMemory as NoMemory}
+use Rattle.sig_bundle.specs.Lent.{AreUnreadBehind, IsUnreadAt}
+use Rattle.sig_bundle.specs.SigningCertificate.{AreCertificates, AreRead, IsFirstMalformed, IsLeafAmong}
+use Rattle.sig_bundle.specs.SigningCertificate.{IsNoCertificate, is_root, leaf_among}
 use Rattle.sig_bundle.specs.declared.bundle_error.BundleErrorKind.{BundleErrorKind}
 use Rattle.sig_bundle.specs.declared.bundle_error.BundleErrorKind.TheVariants.{OutOfMemory, CertificateMalformed}
-use Rattle.sig_bundle.specs.declared.bundle_error.BundleErrorKind.TheVariants.{NoLeaf}
+use Rattle.sig_bundle.specs.declared.bundle_error.BundleErrorKind.TheVariants.{CertificatesMissing, RootInChain}
+use Rattle.sig_bundle.specs.declared.bundle_error.BundleErrorKind.TheVariants.{VerificationMaterialContentUnsupported}
+use Rattle.sig_bundle.proofs.Certificates.{OneCertificate, read_one}
 
--- the certificate is a leaf
-pub leads : (c : Cert) → None ≡ leaf_refusal c → Ok c ≡ signing_certificate_among (Some c ∷ [])
-leads c e = let P : Option CertificateValidationError → Type 0 = λ o. Ok c ≡ leaf_or_refusal c [] o in subst P e refl
+-- ---- one certificate more
 
--- it is none
-pub refuses : (c : Cert) → (e : CertificateValidationError) → Some e ≡ leaf_refusal c
-    → Err (NoLeaf e) ≡ signing_certificate_among (Some c ∷ [])
-refuses c e is =
-    let P : Option CertificateValidationError → Type 0 = λ o. Err (NoLeaf e) ≡ leaf_or_refusal c [] o in subst
-    P is refl
+certificates_push : (ders : List (List ℕ)) (cs : List Cert) (der : List ℕ) (c : Cert) → AreCertificates ders cs
+    → IsCertificate der c
+    → AreCertificates (ders ++ der ∷ []) (cs ++ c ∷ [])
+certificates_push [] [] der c are is = (is, tt)
+certificates_push (d ∷ ders) (b ∷ cs) der c are is = (are.0, certificates_push ders cs der c are.1 is)
+certificates_push [] (b ∷ cs) der c are is = absurd are
+certificates_push (d ∷ ders) [] der c are is = absurd are
 
--- what reading a certificate returns
-abbrev pub read : Cert → Result Cert X509ReadError
-read c = Ok c
+-- the element of the loop, as bytes, is the encoding at the index
+pub certificates_more : (ders : List (List ℕ)) (index : ℕ) (der item : List ℕ) (c : Cert) (before after : List Cert)
+    → index < length ders → item ≡ get_or ders index item → der ≡ item → IsCertificate der c
+    → after ≡ before ++ c ∷ [] → AreCertificates (take index ders) before
+    → AreCertificates (take (index + 1) ders) after
+certificates_more ders index der item c before after below there seen is grown are =
+    let got : der ≡ get_or ders index der = rw seen there in
+    rw (grown, take_more ders index der below, sym got) (certificates_push (take index ders) before der c are is)
 
-abbrev pub not_read : X509ReadError → Result Cert X509ReadError
+-- ---- the first that is none
+
+abbrev not_read : X509ReadError → Result Cert X509ReadError
 not_read e = Err e
 
--- no other certificate is the text's
-abbrev pub IsOnly : List ℕ → Cert → Type 0
-IsOnly text c = (d : Cert) → IsCertificate text d → read d ≡ read c
+-- `Der` says that the bytes are no certificate
+pub malformed_told : (index : ℕ) (der : List ℕ) (e : X509ReadError) → e ≡ Der
+    → ComesWhere NoMemory (not_read e) (not_read Der) (IsNoCertificate der)
+    → IsUnreadAt index der (CertificateMalformed index)
+malformed_told index der e is comes = inr (refl, comes.0 (ap not_read is))
 
--- so there are no other readings
-same : (text : List ℕ) → (c : Cert) → IsCertificate text c → IsOnly text c
-    → (readings : List (Option Cert)) → AreReadings (text ∷ []) readings → readings ≡ Some c ∷ []
-same text c is only [] r = absurd r
-same text c is only (None ∷ rest) r = absurd (r.0 c is)
-same text c is only (Some d ∷ []) r =
-    let P : Cert → Type 0 = λ x. Some x ∷ [] ≡ Some c ∷ [] in subst P (sym (ok_is d c (only d r.0))) refl
-same text c is only (Some d ∷ e ∷ rest) r = absurd r.1
+malformed_there : (ders : List (List ℕ)) (index : ℕ) (der : List ℕ) (cs : List Cert) → index < length ders
+    → der ≡ get_or ders index der → IsNoCertificate der → AreCertificates (take index ders) cs
+    → IsFirstMalformed ders index
+malformed_there [] index der cs below there none are = absurd (omega (arith, below))
+malformed_there (d ∷ ders) zero der cs below there none are =
+    subst (λ (t : List ℕ). IsNoCertificate t) there none
+malformed_there (d ∷ ders) (suc index) der [] below there none are = absurd are
+malformed_there (d ∷ ders) (suc index) der (c ∷ cs) below there none are =
+    (c, are.0, malformed_there ders index der cs (omega (arith, below)) there none are.1)
 
-nothing : (text : List ℕ) → ((c : Cert) → ¬ IsCertificate text c)
-    → (readings : List (Option Cert)) → AreReadings (text ∷ []) readings → readings ≡ None ∷ []
-nothing text none [] r = absurd r
-nothing text none (Some c ∷ rest) r = absurd (none c r.0)
-nothing text none (None ∷ []) r = refl
-nothing text none (None ∷ e ∷ rest) r = absurd r.1
+unread_behind : (ders : List (List ℕ)) (index : ℕ) (der item : List ℕ) (cs : List Cert) (e : BundleErrorKind)
+    → index < length ders → item ≡ get_or ders index item → der ≡ item → AreCertificates (take index ders) cs
+    → IsUnreadAt (index + 1) der e
+    → AreUnreadBehind ders e
+unread_behind ders index der item cs e below there seen are (inl memory) = inl memory
+unread_behind ders index der item cs e below there seen are (inr why) =
+    let got : der ≡ get_or ders index der = rw seen there in
+    inr (index, why.0, malformed_there ders index der cs below got why.1 are)
 
--- what an answer equals under the one reading, it equals under every reading
-under : (one readings : List (Option Cert)) → (answer other : Result Cert BundleErrorKind) → readings ≡ one
-    → answer ≡ signing_certificate_among one → other ≡ signing_certificate_among readings → answer ≡ other
-under one readings answer other same_readings e of =
-    let P : List (Option Cert) → Type 0 = λ r. other ≡ signing_certificate_among r in
-    let Q : Result Cert BundleErrorKind → Type 0 = λ r. answer ≡ r in
-    subst Q (sym (subst P same_readings of)) e
+pub behind_refused : (ders : List (List ℕ)) (index : ℕ) (der item : List ℕ) (cs : List Cert) (e : BundleErrorKind)
+    (answer : Result (List Cert) BundleErrorKind) → answer ≡ Err e
+    → index < length ders → item ≡ get_or ders index item → der ≡ item → AreCertificates (take index ders) cs
+    → IsUnreadAt (index + 1) der e
+    → IfErr answer (AreUnreadBehind ders)
+behind_refused ders index der item cs e answer is below there seen are why =
+    rw is (unread_behind ders index der item cs e below there seen are why)
 
--- the answer that the one certificate has
-pub sole : (text : List ℕ) → (c : Cert) → (answer : Result Cert BundleErrorKind) → IsCertificate text c → IsOnly text c
-    → answer ≡ signing_certificate_among (Some c ∷ [])
-    → AnswersOnly OutOfMemory (IsSigningCertificateAmong (Ok (text ∷ []))) answer
-sole text c answer is unique e = (
-  inr (Some c ∷ [], (is, tt), e),
-  λ other of. inr (under (Some c ∷ []) of.0 answer other (same text c is unique of.0 of.1) e of.2),
+-- ---- what the certificates' reading returns
+
+-- the result that the certificates give
+pub read_answers : OneCertificate → (ders : List (List ℕ)) (read : Result (List Cert) BundleErrorKind)
+    (answer : Result Cert BundleErrorKind)
+    → AreRead ders read → answer ≡ (read >>= leaf_among) → AnswersOnly OutOfMemory (IsLeafAmong (Some ders)) answer
+read_answers one ders read answer are is = (
+  inr (read, are, is),
+  λ other of.
+      inr (is ∙ ap (λ (r : Result (List Cert) BundleErrorKind). r >>= leaf_among) (read_one one ders read of.0 are of.1)
+      ∙ sym of.2),
 )
 
-pub no_certificate : (text : List ℕ) → ((c : Cert) → ¬ IsCertificate text c)
-    → AnswersOnly OutOfMemory (IsSigningCertificateAmong (Ok (text ∷ []))) (Err (CertificateMalformed 0))
-no_certificate text none = (
-  inr (None ∷ [], (none, tt), refl),
-  λ other of. inr (under (None ∷ []) of.0 _ other (nothing text none of.0 of.1) refl of.2),
-)
+memory_answers : (ders : Option (List (List ℕ))) (e : BundleErrorKind) → e ≡ OutOfMemory
+    → AnswersOnly {X = Cert} OutOfMemory (IsLeafAmong ders) (Err e)
+memory_answers ders e is = (inl (ap Err is), λ other of. inl (ap Err is))
 
--- `Der` says that the text is no certificate
-pub none_of : (text : List ℕ) → (e : X509ReadError) → e ≡ Der
-    → ComesWhere NoMemory (not_read e) (not_read Der) ((c : Cert) → ¬ IsCertificate text c)
-    → (c : Cert) → ¬ IsCertificate text c
-none_of text e is comes = comes.0 (ap not_read is)
+-- there is none
+pub missing_answers : OneCertificate → (ders : List (List ℕ)) → length ders ≡ 0
+    → AnswersOnly {X = Cert} OutOfMemory (IsLeafAmong (Some ders)) (Err CertificatesMissing)
+missing_answers one [] is = read_answers one [] (Ok []) (Err CertificatesMissing) tt refl
+missing_answers one (der ∷ ders) is = absurd (omega (arith, is))
 
--- the texts are those of the material's content
-pub of_texts : (texts : Result (List (List ℕ)) BundleErrorKind) → (certificate text : List ℕ)
-    → (answer : Result Cert BundleErrorKind)
-    → Ok (certificate ∷ []) ≡ texts → text ≡ certificate
-    → AnswersOnly OutOfMemory (IsSigningCertificateAmong (Ok (text ∷ []))) answer
-    → AnswersOnly OutOfMemory (IsSigningCertificateAmong texts) answer
-of_texts texts certificate text answer is is_text sole =
-    let P : List ℕ → Type 0 = λ t. AnswersOnly OutOfMemory (IsSigningCertificateAmong (Ok (t ∷ []))) answer in
-    let Q : Result (List (List ℕ)) BundleErrorKind → Type 0 =
-    λ t. AnswersOnly OutOfMemory (IsSigningCertificateAmong t) answer in
-    subst Q is (subst P is_text sole)
+module _ (one : OneCertificate) (ders : List (List ℕ)) (item : List ℕ) (later : List (List ℕ))
+    (parts : ders ≡ item ∷ later)
+    (first : List ℕ) (seen : first ≡ item) where
+  whole : ders ≡ first ∷ later
+  whole = rw seen parts
 
--- or there are none
-pub no_texts : (texts : Result (List (List ℕ)) BundleErrorKind) → (e : BundleErrorKind) → Err e ≡ texts
-    → AnswersOnly OutOfMemory (IsSigningCertificateAmong texts) (Err e)
-no_texts texts e is =
-    let Q : Result (List (List ℕ)) BundleErrorKind → Type 0 =
-    λ t. AnswersOnly OutOfMemory (IsSigningCertificateAmong t) (Err e) in
-    subst Q is (inr refl, λ other of. inr (sym of))
+  -- the first is none
+  unread_first : (e : BundleErrorKind) → IsUnreadAt 0 first e
+      → AnswersOnly {X = Cert} OutOfMemory (IsLeafAmong (Some ders)) (Err e)
+  unread_first e (inl memory) = memory_answers (Some ders) e memory
+  unread_first e (inr why) =
+      rw whole (read_answers one (first ∷ later) (Err e) (Err e) (0, why.0, why.1) refl)
+
+  -- a later one is none
+  unread_later : (c : Cert) (e : BundleErrorKind) → IsCertificate first c → AreUnreadBehind later e
+      → AnswersOnly {X = Cert} OutOfMemory (IsLeafAmong (Some ders)) (Err e)
+  unread_later c e is (inl memory) = memory_answers (Some ders) e memory
+  unread_later c e is (inr why) =
+      rw whole (read_answers one (first ∷ later) (Err e) (Err e)
+      (suc why.0, why.1 ∙ ap CertificateMalformed (add-one why.0), (c, is, why.2)) refl)
+
+  pub first_answers : (e : BundleErrorKind) (answer : Result Cert BundleErrorKind) → answer ≡ Err e
+      → IsUnreadAt 0 first e
+      → AnswersOnly OutOfMemory (IsLeafAmong (Some ders)) answer
+  first_answers e answer is why = rw is (unread_first e why)
+
+  pub later_answers : (e : BundleErrorKind) (answer : Result Cert BundleErrorKind) → answer ≡ Err e → (c : Cert)
+      → IsCertificate first c → AreUnreadBehind later e
+      → AnswersOnly OutOfMemory (IsLeafAmong (Some ders)) answer
+  later_answers e answer is c read why = rw is (unread_later c e read why)
+
+  -- all are certificates
+  pub judged_answers : (c : Cert) (cs held : List Cert) (answer : Result Cert BundleErrorKind)
+      → IsCertificate first c → AreCertificates later cs → held ≡ cs → answer ≡ leaf_among (c ∷ held)
+      → AnswersOnly OutOfMemory (IsLeafAmong (Some ders)) answer
+  judged_answers c cs held answer is are same judged =
+      rw whole (read_answers one (first ∷ later) (Ok (c ∷ cs)) answer (is, are)
+      (judged ∙ ap (λ (l : List Cert). leaf_among (c ∷ l)) same))
+
+-- ---- the judgement of the certificates
+
+pub rooted : (c : Cert) (later : List Cert) → None ≡ leaf_refusal c → list_any is_root later ≡ true
+    → Err RootInChain ≡ leaf_among (c ∷ later)
+rooted c later may_sign found = rw (sym may_sign, found) refl
+
+pub rootless : (c : Cert) (later : List Cert) → None ≡ leaf_refusal c → list_any is_root later ≡ false
+    → Ok c ≡ leaf_among (c ∷ later)
+rootless c later may_sign none = rw (sym may_sign, none) refl
+
+pub ruleset judgements = (rooted, rootless)
+
+-- ---- the encodings are those of the material's content
+
+pub encodings_answer : (ders : List (List ℕ)) (held : Option (List (List ℕ))) (answer : Result Cert BundleErrorKind)
+    → Some ders ≡ held
+    → AnswersOnly OutOfMemory (IsLeafAmong (Some ders)) answer → AnswersOnly OutOfMemory (IsLeafAmong held) answer
+encodings_answer ders held answer is answers =
+    subst (λ (o : Option (List (List ℕ))). AnswersOnly OutOfMemory (IsLeafAmong o) answer) is answers
+
+pub nothing_answers : (held : Option (List (List ℕ))) → None ≡ held
+    → AnswersOnly {X = Cert} OutOfMemory (IsLeafAmong held) (Err VerificationMaterialContentUnsupported)
+nothing_answers held is =
+    subst (λ (o : Option (List (List ℕ))). AnswersOnly {X = Cert} OutOfMemory (IsLeafAmong o)
+    (Err VerificationMaterialContentUnsupported)) is (inr refl, λ other of. inr (sym of))

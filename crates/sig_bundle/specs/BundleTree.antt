@@ -33,8 +33,8 @@ log_id_tree id = object_of (log_id_rows id)
 abbrev pub promise_rows : List ℕ → List Row
 promise_rows signature = (codes "signedEntryTimestamp", Some (bytes_tree signature)) ∷ []
 
-unfoldable pub promise_tree : List ℕ → Data
-promise_tree signature = object_of (promise_rows signature)
+unfoldable pub inclusion_promise_tree : List ℕ → Data
+inclusion_promise_tree signature = object_of (promise_rows signature)
 
 abbrev pub digest_rows : List ℕ → List Row
 digest_rows digest = (codes "digest", Some (bytes_tree digest)) ∷ []
@@ -83,7 +83,7 @@ entry_rows e =
     ∷ (codes "logId", option_map log_id_tree e.log_id)
     ∷ (codes "kindVersion", option_map kind_version_tree e.kind_version)
     ∷ (codes "integratedTime", Some (integer_tree e.integrated_time))
-    ∷ (codes "inclusionPromise", option_map promise_tree e.inclusion_promise)
+    ∷ (codes "inclusionPromise", option_map inclusion_promise_tree e.inclusion_promise)
     ∷ (codes "inclusionProof", option_map proof_tree e.inclusion_proof)
     ∷ (codes "canonicalizedBody", Some (bytes_tree e.canonicalized_body))
     ∷ []

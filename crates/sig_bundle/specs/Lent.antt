@@ -1,7 +1,10 @@
 -- For private clauses: what is seen of values of the code.
-use Rattle.std.specs.Prelude.{ℕ, List, [], ◌∷◌, Result, Ok, Err}
+use Rattle.std.specs.Prelude.{◌≡◌, ◌⊎◌, ℕ, ◌+◌, List, Result, Ok, Err}
 use Rattle.std.specs.Borrow.{Bor}
 use Rattle.sig_bundle.specs.Content.{ContentWithSignature}
+use Rattle.sig_bundle.specs.SigningCertificate.{IsFirstMalformed, IsNoCertificate}
+use Rattle.sig_bundle.specs.declared.bundle_error.BundleErrorKind.{BundleErrorKind}
+use Rattle.sig_bundle.specs.declared.bundle_error.BundleErrorKind.TheVariants.{CertificateMalformed, OutOfMemory}
 use Rattle.sig_bundle.specs.declared.content_check.ContentWithSignature.{ContentWithSignature as Held}
 
 -- what is lent, or why it is not
@@ -9,11 +12,15 @@ abbrev pub lent_now : {A E : Type 0} → Result (Bor A) E → Result A E
 lent_now (Ok lent) = Ok lent.now
 lent_now (Err e) = Err e
 
--- the one text that is lent, or why it is not
-abbrev pub texts_now : {E : Type 0} → Result (Bor (List ℕ)) E → Result (List (List ℕ)) E
-texts_now (Ok text) = Ok (text.now ∷ [])
-texts_now (Err e) = Err e
-
 -- the signature and what it is over
 abbrev pub seen_content : Held → ContentWithSignature
 seen_content s = record { signature = s.signature; content = s.content }
+
+-- why bytes are not read as the certificate at this index
+abbrev pub IsUnreadAt : ℕ → List ℕ → BundleErrorKind → Type 0
+IsUnreadAt index der e = (e ≡ OutOfMemory) ⊎ ((e ≡ CertificateMalformed index) × IsNoCertificate der)
+
+-- why the encodings behind the first are not read
+abbrev pub AreUnreadBehind : List (List ℕ) → BundleErrorKind → Type 0
+AreUnreadBehind ders e =
+    (e ≡ OutOfMemory) ⊎ ((index : ℕ) × (e ≡ CertificateMalformed (index + 1)) × IsFirstMalformed ders index)

@@ -1,6 +1,8 @@
 pub mod BundleRecord
 pub mod Checked
 pub mod Content
+pub mod DsseBody
+pub mod Hashedrekord
 pub mod Lent
 pub mod LogBody
 pub mod Passed

@@ -1,87 +1,27 @@
--- *Log body*: what a log's entry about a signed envelope says (Rekor's entry of kind `dsse`, version 0.0.1), and that
--- it is about this one. Hashes are SHA-256 (FIPS 180-4 section 6.2), and a certificate is its PEM (RFC 7468 section
--- 5.1).
-use Rattle.std.specs.Prelude.{◌≡◌, ◌⊎◌, ℕ, List, [], ◌∷◌, Bool, codes, Option, Some, None, Ok, IsTrue, IsSome}
-use Rattle.sig_base.specs.OptionSteps.{◌>>=◌}
-use Rattle.sig_base.specs.Sha256.{sha256}
+-- *Log body*: what a log's entry about a signature says, and that it is about this one. A certificate is its PEM (RFC
+-- 7468 section 5.1).
+use Rattle.std.specs.Prelude.{◌≡◌, ◌⊎◌, ℕ, List, Bool, Ok, IsTrue, IsSome}
 use Rattle.sig_certificate.specs.Pem.{pem_of}
-use Rattle.sig_json.specs.Data.{Data}
-use Rattle.sig_json.specs.List.{list_of}
-use Rattle.sig_json.specs.Member.{required, required_bytes, required_hash, required_text}
+use Rattle.sig_json.specs.Document.{document_of}
 use Rattle.sig_json.specs.Record.{record_in}
 use Rattle.sig_bundle.specs.Checked.{Checked}
+use Rattle.sig_bundle.specs.DsseBody.{body_about, dsse_body_of}
+use Rattle.sig_bundle.specs.Hashedrekord.{hashedrekord_tree}
 use Rattle.sig_bundle.specs.declared.content_check.CheckedContent.{CheckedContent}
 use Rattle.sig_bundle.specs.declared.content_check.CheckedContent.TheVariants.{MessageSignature, Dsse}
-use Rattle.sig_bundle.specs.declared.log_body.BodySignature.{BodySignature}
-use Rattle.sig_bundle.specs.declared.log_body.DsseBody.{DsseBody}
-use Rattle.sig_bundle.specs.declared.log_body.DsseSpec.{DsseSpec}
-use Rattle.sig_bundle.specs.declared.log_body.HashedPart.{HashedPart}
 use Rattle.sig_bundle.specs.declared.material.TransparencyLogEntry.{TransparencyLogEntry}
 
--- ---- the members, each of them required; any others are ignored
-
--- a hash: 64 hexadecimal digits in either case
-unfoldable pub hashed_part_of : Data → Option HashedPart
-hashed_part_of d = do
-  algorithm ← required_text (codes "algorithm") d
-  value ← required_hash (codes "value") d
-  Some (record { algorithm = algorithm; value = value })
-
-unfoldable pub body_signature_of : Data → Option BodySignature
-body_signature_of d = do
-  signature ← required_bytes (codes "signature") d
-  verifier ← required_bytes (codes "verifier") d
-  Some (record { signature = signature; verifier = verifier })
-
--- the first element; those behind it may be anything
-abbrev pub first_of : List Data → Option BodySignature
-first_of [] = None
-first_of (first ∷ others) = body_signature_of first
-
-unfoldable pub first_signature_of : Data → Option BodySignature
-first_signature_of d = list_of d >>= first_of
-
-unfoldable pub dsse_spec_of : Data → Option DsseSpec
-dsse_spec_of d = do
-  envelope_hash ← required hashed_part_of (codes "envelopeHash") d
-  payload_hash ← required hashed_part_of (codes "payloadHash") d
-  signature ← required first_signature_of (codes "signatures") d
-  Some (record { envelope_hash = envelope_hash; payload_hash = payload_hash; signature = signature })
-
-unfoldable pub dsse_body_of : Data → Option DsseBody
-dsse_body_of d = do
-  kind ← required_text (codes "kind") d
-  api_version ← required_text (codes "apiVersion") d
-  spec ← required dsse_spec_of (codes "spec") d
-  Some (record { kind = kind; api_version = api_version; spec = spec })
-
--- ---- the entry that a log has to have of a signed envelope
-
-abbrev pub sha256_of : List ℕ → HashedPart
-sha256_of bytes = record { algorithm = codes "sha256"; value = sha256 bytes }
-
--- about an envelope of this text and payload, with this signature, which the certificate of this PEM verifies
-abbrev pub body_about : List ℕ → List ℕ → List ℕ → List ℕ → DsseBody
-body_about envelope payload signature pem = record {
-  kind = codes "dsse";
-  api_version = codes "0.0.1";
-  spec = record {
-    envelope_hash = sha256_of envelope;
-    payload_hash = sha256_of payload;
-    signature = record { signature = signature; verifier = pem };
-  };
-}
-
--- The body says this of the content. No entry about a signature over an artifact alone is read yet, and no bundle of
--- one passes its checks.
-abbrev pub IsBodyAbout : CheckedContent → List ℕ → List ℕ → List ℕ → Type 0
-IsBodyAbout MessageSignature signature certificate body = ⊥
-IsBodyAbout (Dsse pae digests envelope payload) signature certificate body =
+-- The body says this of the content, of an artifact of this SHA-256 digest: of a signature over the artifact it is the
+-- whole tree, and of an envelope it has these members.
+abbrev pub IsBodyAbout : CheckedContent → List ℕ → List ℕ → List ℕ → List ℕ → Type 0
+IsBodyAbout MessageSignature digest signature certificate body =
+    document_of body ≡ Ok (hashedrekord_tree digest signature (pem_of certificate))
+IsBodyAbout (Dsse pae digests envelope payload) digest signature certificate body =
     record_in dsse_body_of body ≡ Ok (body_about envelope payload signature (pem_of certificate))
 
--- the log entry of a checked bundle is about what the bundle holds
-abbrev pub IsLogBody : Checked → Type 0
-IsLogBody c = IsBodyAbout c.content c.signature c.certificate.whole c.entry.canonicalized_body
+-- the log entry of a checked bundle is about what the bundle holds, and about an artifact of this digest
+abbrev pub IsLogBody : Checked → List ℕ → Type 0
+IsLogBody c digest = IsBodyAbout c.content digest c.signature c.certificate.whole c.entry.canonicalized_body
 
 -- without a network, or with a proof at hand: nothing has to be fetched
 abbrev pub NeedsNoFetch : Bool → TransparencyLogEntry → Type 0

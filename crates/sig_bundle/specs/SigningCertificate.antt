@@ -1,7 +1,7 @@
 -- The signing certificate of a bundle: the first of its certificates (sigstore_bundle.proto, the comments on
 -- verification_material).
-use Rattle.std.specs.Prelude.{⊤, ◌≡◌, ℕ, ◌+◌, List, [], ◌∷◌, Bool, Option, Some, None, is_none, Result, Ok, Err}
-use Rattle.std.specs.Prelude.{if◌then◌else◌}
+use Rattle.std.specs.Prelude.{⊤, ◌≡◌, ◌≢◌, ℕ, zero, suc, List, [], ◌∷◌, Bool, Option, Some, None, is_none, Result}
+use Rattle.std.specs.Prelude.{Ok, Err, if◌then◌else◌}
 use Rattle.std.specs.List.{list_any}
 use Rattle.sig_base.specs.ResultSteps.{◌>>=◌}
 use Rattle.sig_certificate.specs.Certificate.{Cert, IsCertificate}
@@ -16,41 +16,46 @@ use Rattle.sig_bundle.specs.declared.material.MaterialContent.{MaterialContent}
 use Rattle.sig_bundle.specs.declared.material.MaterialContent.TheVariants.{Certificate, X509CertificateChain}
 use Rattle.sig_bundle.specs.declared.material.MaterialContent.TheVariants.{PublicKey}
 
--- The texts of the certificates, the signing one first. A hint at a key has none. A chain is not read yet.
-abbrev pub certificate_texts : Option MaterialContent → Result (List (List ℕ)) BundleErrorKind
-certificate_texts None = Err VerificationMaterialContentUnsupported
-certificate_texts (Some PublicKey) = Err VerificationMaterialContentUnsupported
-certificate_texts (Some (X509CertificateChain texts)) = Err VerificationMaterialContentUnsupported
-certificate_texts (Some (Certificate text)) = Ok (text ∷ [])
+-- the encodings (DER) of the certificates, the signing one first; a hint at a key has none
+abbrev pub encodings_in : Option MaterialContent → Option (List (List ℕ))
+encodings_in None = None
+encodings_in (Some PublicKey) = None
+encodings_in (Some (Certificate der)) = Some (der ∷ [])
+encodings_in (Some (X509CertificateChain ders)) = Some ders
 
--- ---- what the texts are
+-- ---- what the encodings are
 
--- a text is this certificate, or it is none
-abbrev pub IsReading : List ℕ → Option Cert → Type 0
-IsReading text (Some c) = IsCertificate text c
-IsReading text None = (c : Cert) → ¬ IsCertificate text c
+-- one by one, the encodings of these certificates
+abbrev pub AreCertificates : List (List ℕ) → List Cert → Type 0
+AreCertificates [] [] = ⊤
+AreCertificates (der ∷ ders) (c ∷ cs) = IsCertificate der c × AreCertificates ders cs
+AreCertificates [] (c ∷ cs) = ⊥
+AreCertificates (der ∷ ders) [] = ⊥
 
--- text by text
-abbrev pub AreReadings : List (List ℕ) → List (Option Cert) → Type 0
-AreReadings [] [] = ⊤
-AreReadings (text ∷ texts) (reading ∷ readings) = IsReading text reading × AreReadings texts readings
-AreReadings [] (reading ∷ readings) = ⊥
-AreReadings (text ∷ texts) [] = ⊥
+abbrev pub IsNoCertificate : List ℕ → Type 0
+IsNoCertificate der = (c : Cert) → ¬ IsCertificate der c
 
--- ---- what is made of them
+-- the encoding at this index, counted from 0, is no certificate, and all before it are
+abbrev pub IsFirstMalformed : List (List ℕ) → ℕ → Type 0
+IsFirstMalformed [] index = ⊥
+IsFirstMalformed (der ∷ ders) zero = IsNoCertificate der
+IsFirstMalformed (der ∷ ders) (suc index) = (c : Cert) × IsCertificate der c × IsFirstMalformed ders index
 
-abbrev pub prepended : Cert → Result (List Cert) BundleErrorKind → Result (List Cert) BundleErrorKind
-prepended c (Err e) = Err e
-prepended c (Ok cs) = Ok (c ∷ cs)
+-- the certificates, or the index of the first encoding that is none
+abbrev pub AreRead : List (List ℕ) → Result (List Cert) BundleErrorKind → Type 0
+AreRead ders (Ok certificates) = AreCertificates ders certificates
+AreRead ders (Err e) = (index : ℕ) × (e ≡ CertificateMalformed index) × IsFirstMalformed ders index
 
--- the certificates, or the place of the first text that is none, counted from this one on
-abbrev pub certificates_from : ℕ → List (Option Cert) → Result (List Cert) BundleErrorKind
-certificates_from place [] = Ok []
-certificates_from place (None ∷ readings) = Err (CertificateMalformed place)
-certificates_from place (Some c ∷ readings) = prepended c (certificates_from (place + 1) readings)
+-- ---- which of them signs
 
 abbrev pub is_root : Cert → Bool
 is_root c = is_none (root_refusal c)
+
+abbrev pub IsRoot : Cert → Type 0
+IsRoot c = root_refusal c ≡ None
+
+abbrev pub IsNoRoot : Cert → Type 0
+IsNoRoot c = root_refusal c ≢ None
 
 abbrev pub leaf_or_refusal : Cert → List Cert → Option CertificateValidationError → Result Cert BundleErrorKind
 leaf_or_refusal c later (Some e) = Err (NoLeaf e)
@@ -61,14 +66,11 @@ abbrev pub leaf_among : List Cert → Result Cert BundleErrorKind
 leaf_among [] = Err CertificatesMissing
 leaf_among (c ∷ later) = leaf_or_refusal c later (leaf_refusal c)
 
-abbrev pub signing_certificate_among : List (Option Cert) → Result Cert BundleErrorKind
-signing_certificate_among readings = certificates_from 0 readings >>= leaf_among
-
-abbrev pub IsSigningCertificateAmong : Result (List (List ℕ)) BundleErrorKind → Result Cert BundleErrorKind → Type 0
-IsSigningCertificateAmong (Err e) answer = answer ≡ Err e
-IsSigningCertificateAmong (Ok texts) answer =
-    (readings : List (Option Cert)) × AreReadings texts readings × (answer ≡ signing_certificate_among readings)
+abbrev pub IsLeafAmong : Option (List (List ℕ)) → Result Cert BundleErrorKind → Type 0
+IsLeafAmong None answer = answer ≡ Err VerificationMaterialContentUnsupported
+IsLeafAmong (Some ders) answer =
+    (read : Result (List Cert) BundleErrorKind) × AreRead ders read × (answer ≡ (read >>= leaf_among))
 
 -- the signing certificate, or the first cause against the certificates
 abbrev pub IsSigningCertificate : Option MaterialContent → Result Cert BundleErrorKind → Type 0
-IsSigningCertificate content answer = IsSigningCertificateAmong (certificate_texts content) answer
+IsSigningCertificate content answer = IsLeafAmong (encodings_in content) answer

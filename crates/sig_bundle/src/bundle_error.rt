@@ -18,7 +18,7 @@ pub enum BundleErrorKind {
     /// There is no verification material.
     #[error("VerificationMaterialMissing")]
     VerificationMaterialMissing,
-    /// The material has no content, or one that is not read: a hint at a key, and for now a chain.
+    /// The material has no content, or a hint at a key, which is not read.
     #[error("VerificationMaterialContentUnsupported")]
     VerificationMaterialContentUnsupported,
     /// The certificate at this index, counted from 0, is none.
@@ -33,7 +33,7 @@ pub enum BundleErrorKind {
     /// A later certificate is a root.
     #[error("RootInChain")]
     RootInChain,
-    /// There is no content, or one that is not read: for now a signature over an artifact alone.
+    /// There is no content.
     #[error("SignatureMissing")]
     SignatureMissing,
     /// An envelope has this number of signatures, and not one.

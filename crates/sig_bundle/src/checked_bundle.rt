@@ -78,18 +78,20 @@ impl CheckedBundle {
     /// that has its cause:
     ///
     /// 1. `VerificationMaterialMissing`: there is no verification material.
-    /// 2. `VerificationMaterialContentUnsupported`: the material has no content, or a hint at a key, or a chain, which
-    ///    is not read yet.
-    /// 3. `CertificateMalformed` of index 0: the certificate is none (RFC 5280 section 4.1).
-    /// 4. `NoLeaf`: the certificate may not sign, with the error of [`sig_certificate::is_leaf`].
-    /// 5. `SignatureMissing`: there is no content, or a signature over an artifact alone, which is not read yet.
-    /// 6. `DsseInvalidSignatureCount`: the envelope has not one signature.
-    /// 7. `DssePayloadDecode`: its payload is no statement.
-    /// 8. `DsseTooManySubjects` above 1024, `DsseTooManySubjectDigests` above 32, `DsseSubjectDigestMalformed`, and
-    ///    `DsseNoRecognizedSubjectDigest`, as [`sig_dsse::recognized_digests`].
-    /// 9. `TlogEntry`: there is not one log entry.
-    /// 10. `BundleProfile`: `Unknown` for a media type that names no version, or one whose profile is not read yet,
-    ///     0.1 or 0.2; under 0.3 `InclusionProofMissing`, then `CheckpointMissing`.
+    /// 2. `VerificationMaterialContentUnsupported`: the material has no content, or a hint at a key.
+    /// 3. `CertificateMalformed` with the index of the first that is no certificate (RFC 5280 section 4.1); a
+    ///    certificate alone has index 0.
+    /// 4. `CertificatesMissing`: the chain is empty.
+    /// 5. `NoLeaf`: the first certificate may not sign, with the error of [`sig_certificate::is_leaf`].
+    /// 6. `RootInChain`: a later certificate of the chain is a root, as [`sig_certificate::is_root_ca`] says.
+    /// 7. `SignatureMissing`: there is no content.
+    /// 8. `DsseInvalidSignatureCount`: an envelope has not one signature.
+    /// 9. `DssePayloadDecode`: its payload is no statement.
+    /// 10. `DsseTooManySubjects` above 1024, `DsseTooManySubjectDigests` above 32, `DsseSubjectDigestMalformed`, and
+    ///     `DsseNoRecognizedSubjectDigest`, as [`sig_dsse::recognized_digests`].
+    /// 11. `TlogEntry`: there is not one log entry.
+    /// 12. `BundleProfile`: `Unknown` for a media type that names no version; under 0.1 `InclusionPromiseMissing`;
+    ///     under 0.2 and 0.3 `InclusionProofMissing`, then `CheckpointMissing`.
     pub fn try_from_bundle(alloc: Global, input: &Bundle) -> Result<CheckedBundle, BundleErrorKind>
         // What is returned is the result of the checks, of which there is one, unless memory ran out.
         ensures { AnswersOnly BundleErrorKind.OutOfMemory (IsChecked input.now) result }
@@ -132,10 +134,11 @@ impl CheckedBundle {
     /// with `offline`, or with an inclusion proof at hand. Returns `None` if and only if one of both does not hold.
     /// Fails only if memory runs out.
     ///
-    /// The body of an envelope's entry is one of kind `dsse`, version 0.0.1 (Rekor): its hashes are the SHA-256 of the
-    /// envelope's text and of the payload, its first signature is the envelope's, and the verifier of that is the PEM
-    /// of the signing certificate (RFC 7468 section 5.1). `input_digest`, the artifact's SHA-256, is for signatures
-    /// over an artifact alone, which are not read yet.
+    /// The body of an entry about a signature over an artifact is the document of kind `hashedrekord`, version 0.0.1
+    /// (Rekor), that has `input_digest`, the artifact's SHA-256, in lower-case hexadecimal, the signature, and the PEM
+    /// of the signing certificate (RFC 7468 section 5.1), and no other member. The body of an envelope's entry is one
+    /// of kind `dsse`, version 0.0.1: its hashes are the SHA-256 of the envelope's text and of the payload, its first
+    /// signature is the envelope's, and the verifier of that is that PEM; `input_digest` is not looked at.
     pub fn tlog_entry(
         &self,
         alloc: Global,
@@ -144,15 +147,15 @@ impl CheckedBundle {
     ) -> Result<Option<&TransparencyLogEntry>, OutOfMemory>
         ensures entry { IfOk result (λ found. IfSome found (λ entry. entry.now ≡ self.now.entry)) }
         ensures exact { IfOk result (λ found. IsSome found
-            ↔ (IsLogBody self.now × NeedsNoFetch offline self.now.entry)) }
+            ↔ (IsLogBody self.now input_digest.now × NeedsNoFetch offline self.now.entry)) }
     {
-        let _ = input_digest;
         if !offline && self.entry.inclusion_proof.is_none() {
             return Ok(None);
         }
         let is_about = is_body_about(
             alloc,
             &self.content,
+            input_digest,
             self.signature.as_slice(),
             self.certificate.der(),
             self.entry.canonicalized_body.as_slice(),

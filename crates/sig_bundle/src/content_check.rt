@@ -1,13 +1,14 @@
 //! A bundle's content, as far as the bundle alone can tell. No signature is checked here.
 
-ghost use Rattle.std.specs.Prelude.{◌≡◌};
+ghost use Rattle.std.specs.Prelude.{◌≡◌, IfOk};
 ghost use Rattle.sig_base.specs.Answers.{Answers};
-ghost use Rattle.sig_bundle.specs.Content.{signature_among, digests_in, envelope_content, content_with_signature};
+ghost use Rattle.sig_bundle.specs.Content.{signature_among, digests_in, envelope_content, message_content};
+ghost use Rattle.sig_bundle.specs.Content.{content_with_signature};
 ghost use Rattle.sig_bundle.specs.Lent.{lent_now, seen_content};
 
-use crate::bundle::Content;
+use crate::bundle::{Content, MessageSignature};
 use crate::bundle_error::BundleErrorKind;
-use sig_base::{Bytes, Text};
+use sig_base::{Bytes, OutOfMemory, Text};
 use sig_dsse::{
     Digests, DsseEnvelope, DsseSignature, DsseSignatures, PayloadFault, compute_pae, envelope_json,
     payload_digests,
@@ -17,7 +18,7 @@ use std::alloc::Global;
 /// What the signature of a bundle has to be over.
 #[derive(Drop)]
 pub enum CheckedContent {
-    /// An artifact itself, by its digest.
+    /// An artifact itself, by its SHA-256 digest. The digest that the bundle says it has is not looked at.
     MessageSignature,
     /// A statement about artifacts, in an envelope.
     Dsse {
@@ -91,8 +92,20 @@ fn checked_envelope(
     })
 }
 
-/// The content. Fails with `SignatureMissing` if and only if there is no content, or a signature over an artifact
-/// alone, which is not read yet; then with the error of the envelope.
+/// The content of a signature over an artifact. Fails only if memory runs out.
+fn checked_message(
+    alloc: Global,
+    message: &MessageSignature,
+) -> Result<ContentWithSignature, OutOfMemory>
+    ensures { IfOk result (λ made. seen_content made ≡ message_content message.now) }
+{
+    Ok(ContentWithSignature {
+        signature: message.signature.copy(alloc)?,
+        content: CheckedContent::MessageSignature,
+    })
+}
+
+/// The content. Fails with `SignatureMissing` if and only if there is none; then with the error of the envelope.
 pub(crate) fn checked_content(
     alloc: Global,
     content: &Option<Content>,
@@ -100,7 +113,8 @@ pub(crate) fn checked_content(
     ensures { Answers BundleErrorKind.OutOfMemory seen_content result (content_with_signature content.now) }
 {
     match content {
+        Some(Content::MessageSignature(message)) => Ok(checked_message(alloc, message)?),
         Some(Content::DsseEnvelope(envelope)) => checked_envelope(alloc, envelope),
-        Some(Content::MessageSignature(_)) | None => Err(BundleErrorKind::SignatureMissing),
+        None => Err(BundleErrorKind::SignatureMissing),
     }
 }

@@ -18,8 +18,8 @@ use crate::material::{
 };
 use sig_json::CanonicalError;
 
-/// A bundle passes its own checks if and only if it has all that the format demands of a statement with one
-/// certificate, one signature and one log entry, under version 0.3. It has no code.
+/// A bundle passes its own checks if and only if it has all that the format demands of a signature, over an artifact or
+/// a statement, with certificates and one log entry, under its version. It has no code.
 pub fn passed_bundles()
     ensures { (bundle : Bundle) (c : Checked) → IsChecked bundle (Ok c) ↔ IsPassed bundle c }
 {}

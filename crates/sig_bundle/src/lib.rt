@@ -2,11 +2,10 @@
 //!
 //! The layer above uses five facts. A text is read as the bundle that its members are, if and only if they fit the
 //! table of the format. The text of a bundle is read back as that bundle. A bundle passes its own checks if and only
-//! if no error has its cause, and else fails with the first: chains, signatures over an artifact alone and the
-//! profiles 0.1 and 0.2 are rejected until they are read. A checked bundle hands out its log entry if and only if the
-//! entry is about what the bundle holds. The members of an inclusion proof are taken for a proof if and only if they
-//! are one, and else the first that is wrong is told. What a bundle holds that passes, and what equality of bundles
-//! and of their parts is, say `laws`.
+//! if no error has its cause, and else fails with the first. A checked bundle hands out its log entry if and only if
+//! the entry is about what the bundle holds. The members of an inclusion proof are taken for a proof if and only if
+//! they are one, and else the first that is wrong is told. What a bundle holds that passes, and what equality of
+//! bundles and of their parts is, say `laws`.
 #![tactic(auto)]
 
 mod bundle;
@@ -14,6 +13,8 @@ mod bundle_error;
 mod checked_bundle;
 mod content_check;
 mod copy;
+mod dsse_body;
+mod hashedrekord;
 pub mod laws;
 mod log_body;
 mod material;

@@ -3,12 +3,14 @@
 ghost use Rattle.std.specs.Prelude.{◌≡◌, ◌⊎◌};
 ghost use Rattle.sig_base.specs.Answers.{Answers};
 ghost use Rattle.sig_bundle.specs.Lent.{lent_now};
-ghost use Rattle.sig_bundle.specs.Profile.{entry_among, lacks_proof, lacks, meets_profile};
+ghost use Rattle.sig_bundle.specs.Profile.{entry_among, lacks_proof, lacks_promise, lacks, meets_profile};
 
-use crate::bundle_error::{Bundle02ProfileErrorKind, BundleErrorKind, BundleProfileErrorKind};
+use crate::bundle_error::{
+    Bundle01ProfileErrorKind, Bundle02ProfileErrorKind, BundleErrorKind, BundleProfileErrorKind,
+};
 use crate::material::{LogEntries, ProofFields, TransparencyLogEntry};
 use crate::version::Version;
-use sig_base::Text;
+use sig_base::{Bytes, Text};
 use std::alloc::Global;
 use std::str::FromStr;
 
@@ -35,7 +37,27 @@ fn lacks_proof(proof: &Option<ProofFields>) -> Option<BundleProfileErrorKind>
     }
 }
 
-/// The error for a media type whose profile is not known: `Unknown` with its text, unless memory runs out.
+/// What a log entry with this promise lacks of the log's promise to include it.
+fn lacks_promise(promise: &Option<Bytes>) -> Option<BundleProfileErrorKind>
+    ensures { result ≡ lacks_promise promise.now }
+{
+    match promise {
+        None => Some(Bundle01ProfileErrorKind::InclusionPromiseMissing.into()),
+        Some(_) => None,
+    }
+}
+
+/// The first that a log entry lacks of what the version demands.
+fn lacks(version: Version, entry: &TransparencyLogEntry) -> Option<BundleProfileErrorKind>
+    ensures { result ≡ lacks version entry.now }
+{
+    match version {
+        Version::Bundle0_1 => lacks_promise(&entry.inclusion_promise),
+        Version::Bundle0_2 | Version::Bundle0_3 => lacks_proof(&entry.inclusion_proof),
+    }
+}
+
+/// The error for a media type that names no version: `Unknown` with its text, unless memory runs out.
 fn unknown(alloc: Global, media_type: &Text) -> BundleErrorKind
     ensures { (result ≡ BundleErrorKind.OutOfMemory)
         ⊎ (result ≡ BundleErrorKind.BundleProfile (BundleProfileErrorKind.Unknown media_type.now)) }
@@ -46,10 +68,11 @@ fn unknown(alloc: Global, media_type: &Text) -> BundleErrorKind
     }
 }
 
-/// Whether the entry has what the media type demands: under version 0.3 an inclusion proof with a checkpoint.
+/// Whether the entry has what the media type demands: under version 0.1 the log's promise to include it, under 0.2 and
+/// 0.3 an inclusion proof with a checkpoint.
 ///
-/// Fails with `BundleProfile` of `Unknown` if and only if the media type names no version, or one whose profile is not
-/// read yet, 0.1 or 0.2; then, under 0.3, with that of `Bundle02Profile` of the first that is missing.
+/// Fails with `BundleProfile` of `Unknown` if and only if the media type names no version; then with that of
+/// `Bundle01Profile` or `Bundle02Profile` of the first that is missing.
 pub(crate) fn meets_profile(
     alloc: Global,
     media_type: &Text,
@@ -58,10 +81,10 @@ pub(crate) fn meets_profile(
     ensures { Answers BundleErrorKind.OutOfMemory (λ met. met) result (meets_profile media_type.now entry.now) }
 {
     match Version::from_str(media_type.as_str()) {
-        Ok(Version::Bundle0_3) => match lacks_proof(&entry.inclusion_proof) {
+        Ok(version) => match lacks(version, entry) {
             None => Ok(()),
             Some(lacking) => Err(BundleErrorKind::from(lacking)),
         },
-        Ok(Version::Bundle0_1 | Version::Bundle0_2) | Err(()) => Err(unknown(alloc, media_type)),
+        Err(()) => Err(unknown(alloc, media_type)),
     }
 }

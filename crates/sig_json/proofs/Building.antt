@@ -1,6 +1,6 @@
 -- What the builders make of a tree.
 use Rattle.std.proofs.Common.{String, Vec, Global, ◌≡◌, ℕ, List, [], ◌∷◌, ◌++◌, Some, None, false, ◌||◌}
-use Rattle.std.proofs.Common.{refl, sym, ap, ◌∙◌}
+use Rattle.std.proofs.Common.{refl, ap}
 use Rattle.std.proofs.lemmas.Bool.{or_parts, or_from}
 use Rattle.std.specs.Cmp.Lexicographic.{slice_cmp}
 use Rattle.std.specs.Ordering.{nat_cmp}
@@ -11,7 +11,7 @@ use Rattle.sig_json.proofs.Trees.{view-Array, view-Object}
 use Rattle.sig_json.specs.View.{view, items_view, members_view}
 use Rattle.serde_json.specs.Written.{has_float, items_have_float, members_have_float}
 use Rattle.sig_json.specs.declared.tree.Tree.{Tree, Array, Object}
-use Rattle.sig_json.proofs.ByKind.{as_array_is, as_object_is}
+use Rattle.sig_json.proofs.ByKind.{as_object_is}
 use Rattle.sig_json.proofs.ByOrdering.{holds_of_choice}
 use Rattle.sig_json.specs.Builders.{with_member, with_last, items_with_last}
 
@@ -68,12 +68,6 @@ items_view-append : (values : List Tree) (last : Tree)
     → items_view (values ++ last ∷ []) ≡ items_with_last (items_view values) (view last)
 items_view-append [] last = refl
 items_view-append (v ∷ vs) last = ap (λ rest. item (view v) rest) (items_view-append vs last)
-
-with_last-array : (tree : Data) (values : List Tree) (last : Tree) → Some (items_view values) ≡ as_array tree
-    → with_last (view last) tree ≡ array (items_view (values ++ last ∷ []))
-with_last-array tree values last e =
-    ap (with_last (view last)) (as_array_is tree (items_view values) e)
-    ∙ ap array (sym (items_view-append values last))
 
 pub with_last-other : (value tree : Data) → None ≡ as_array tree → with_last value tree ≡ tree
 with_last-other value null e = refl

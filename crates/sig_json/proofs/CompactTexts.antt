@@ -274,13 +274,6 @@ read_back d text named fits utf8 none is same shallow =
     ap (converted of_json) parsed ∙ rw (means d fits named) refl in
     document_of-read text d utf8 (whole_read (json.value max_depth (tokens text)) d meant) none
 
-pub tokens_of_text : (d : Data) (start end : Written) → start.tokens ≡ []
-    → end.tokens ≡ start.tokens ++ json_tokens (outline d) → tokens (print end.tokens) ≡ end.tokens
-    → tokens (compact_text d) ≡ json_tokens (outline d)
-tokens_of_text d start end empty are same =
-    let all : end.tokens ≡ json_tokens (outline d) = rw (are, empty) refl in
-    ap tokens (sym (print-outline d)) ∙ subst (λ ts. tokens (print ts) ≡ ts) all same
-
 pub ruleset numbers = (natural_tokens, negative_tokens, natural_fits)
 
 pub ruleset values = (view-Null, view-Bool, view-Number, view-Text, view-Array, view-Object, leaf_tokens)

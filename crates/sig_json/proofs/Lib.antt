@@ -31,3 +31,4 @@ pub mod MemberTexts
 pub mod Large
 -- what is found in a tree that members were put into
 pub use Rattle.serde_json.proofs.Views
+mod ClosedObjects

@@ -1,10 +1,10 @@
 -- Members of some names: how they are found and how more of them go in.
-use Rattle.std.proofs.Common.{◌≡◌, ◌||◌, ℕ, Bool, true, false, not, true≢false, List, [], ◌∷◌, map, Option, Some}
+use Rattle.std.proofs.Common.{◌≡◌, ◌||◌, ℕ, Bool, true, false, not, true≢false, List, [], ◌∷◌, Option, Some}
 use Rattle.std.proofs.Common.{None, refl, sym, ap, subst, ◌∙◌}
 use Rattle.std.proofs.lemmas.Cmp.{nat_list_cmp_total}
 use Rattle.std.proofs.lemmas.Bool.{not_from_false, not_from_true, or_parts, or_from}
 use Rattle.std.specs.Cmp.Lexicographic.{slice_cmp}
-use Rattle.std.specs.List.{AllByRecursion, list_any}
+use Rattle.std.specs.List.{AllByRecursion}
 use Rattle.std.specs.List.Sorted.{IsStrictlySortedBy}
 use Rattle.std.specs.Map.{keys_of}
 use Rattle.std.specs.Ordering.{nat_cmp, match_ordering}
@@ -286,9 +286,3 @@ pub optional_or-only : {A : Type 0} (absent : A) (kind : Data
 unfolding optional_or
 optional_or-only absent kind names name d listed = ap (λ found. found >>= there_or (Some absent) kind)
     (member_of-only names name d listed)
-
--- names that are seen through references
-pub list_any_seen : {A : Type 0} (test : List ℕ → Bool) (seen : A → List ℕ) (xs : List A)
-    → list_any test (map seen xs) ≡ list_any (λ x. test (seen x)) xs
-list_any_seen test seen [] = refl
-list_any_seen test seen (x ∷ xs) = ap (λ (b : Bool). test (seen x) || b) (list_any_seen test seen xs)

@@ -57,9 +57,6 @@ ascend_by_place (e ∷ es) (suc i) (suc j) d up below within = ascend_by_place e
 
 -- ---- what a binary search finds
 
-rank : List ℕ → Entry → ℕ
-rank name e = ordering_index (compare (string_bytes e.0) name)
-
 -- the answer at a later name is no lower than at a name below it
 rise : (name lower higher : List ℕ) → compare lower higher ≡ Less
     → ordering_index (compare lower name) ≤ ordering_index (compare higher name)

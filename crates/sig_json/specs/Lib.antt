@@ -6,6 +6,7 @@ pub mod Document
 pub mod Gathered
 pub mod Integer
 pub mod Kinds
+pub mod NumberKinds
 pub mod Large
 pub mod List
 pub mod Member
@@ -14,6 +15,7 @@ pub mod Named
 pub mod NamedProofs
 pub mod Numerals
 pub mod Only
+pub mod Closed
 pub mod OrMember
 pub mod Order
 pub mod Range

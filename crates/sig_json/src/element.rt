@@ -31,7 +31,7 @@ pub trait ElementReader {
 
 /// Reads every element of a list. Fails with `Member` if the value is no list or an element is not of the kind.
 #[tactic(auto, using(crate::proofs::Elements::elements))]
-fn read_list<T: ElementReader>(
+pub fn read_list<T: ElementReader>(
     alloc: Global,
     list: Json<'_>,
 ) -> Result<Register<T::Item>, MemberError>

@@ -149,7 +149,7 @@ fn read_kept_members(
     Ok(ordered)
 }
 
-#[tactic(auto, using(crate::proofs::Only::list_any_seen))]
+#[tactic(auto, using(sig_base::proofs::SeenTexts::list_any_seen))]
 pub(crate) fn is_among(names: &[&str], name: &str) -> bool
     ensures { result ≡ is_among (names_of names.now) name.now }
 {

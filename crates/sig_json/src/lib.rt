@@ -36,6 +36,7 @@ mod any;
 mod build;
 mod canonical_form;
 mod change;
+mod closed;
 mod compact_form;
 mod copy;
 mod document;
@@ -51,6 +52,7 @@ mod member;
 mod members;
 mod named_member;
 mod number;
+mod number_kind;
 mod order;
 mod read;
 mod record;
@@ -62,7 +64,7 @@ pub use any::AnyReader;
 pub use canonical_form::{canonical, quoted};
 pub use compact_form::compact;
 pub use document::Document;
-pub use element::{ElementReader, optional, optional_list, required, required_list};
+pub use element::{ElementReader, optional, optional_list, read_list, required, required_list};
 pub use error::{CanonicalError, DocumentError, JsonError, MemberError};
 pub use kind::{BytesReader, HashReader, TextMapReader, TextReader};
 pub use member::{
@@ -70,5 +72,6 @@ pub use member::{
     required_text, required_u64,
 };
 pub use members::Members;
+pub use number_kind::{I64NumberReader, U64NumberReader};
 pub use record::{read_record, read_record_with};
 pub use view::Json;

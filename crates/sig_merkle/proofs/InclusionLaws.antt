@@ -87,15 +87,15 @@ root_answers index size leaf hashes answer = (
 
 -- the comparison with the given root
 
-match_root-same : (computed root : List ℕ) → computed ≡ root → match_root (Ok computed) root ≡ Ok tt
+pub match_root-same : (computed root : List ℕ) → computed ≡ root → match_root (Ok computed) root ≡ Ok tt
 match_root-same computed root same = rw ((bytes_eq-Decides computed root).1 same) refl
 
-bytes_eq-apart : (computed root : List ℕ) (b : Bool) → bytes_eq computed root ≡ b → computed ≢ root
+pub bytes_eq-apart : (computed root : List ℕ) (b : Bool) → bytes_eq computed root ≡ b → computed ≢ root
     → bytes_eq computed root ≡ false
 bytes_eq-apart computed root true is apart = absurd (apart ((bytes_eq-Decides computed root).0 is))
 bytes_eq-apart computed root false is apart = is
 
-match_root-apart : (computed root : List ℕ) → computed ≢ root
+pub match_root-apart : (computed root : List ℕ) → computed ≢ root
     → match_root (Ok computed) root ≡ Err (MismatchedRoot (record { root = computed }) (record { root = root }))
 match_root-apart computed root apart = rw (bytes_eq-apart computed root (bytes_eq computed root) refl apart) refl
 
@@ -179,7 +179,7 @@ inclusion_answers index size leaf root hashes answer = (
   answer-by_cause index leaf size hashes root answer,
 )
 
-Ok-from_IsOk : (answer : Result (Unit {0}) MerkleProofError) → IsOk answer → answer ≡ Ok tt
+pub Ok-from_IsOk : (answer : Result (Unit {0}) MerkleProofError) → IsOk answer → answer ≡ Ok tt
 Ok-from_IsOk (Ok done) ok = refl
 Ok-from_IsOk (Err refusal) ok = absurd (false≢true ok)
 

@@ -46,7 +46,7 @@ pub split_of : (n : ℕ) → 1 < n → (k : ℕ) × IsSplit n k
 split_of n more = split_below n n (within_pow n) more
 
 -- a power below n is at most one whose double is not
-exponent_le : (n d e : ℕ) → 2 ^ d < n → n ≤ 2 * 2 ^ e → d ≤ e
+pub exponent_le : (n d e : ℕ) → 2 ^ d < n → n ≤ 2 * 2 ^ e → d ≤ e
 exponent_le n d e below largest =
     elim (cases_lt e d) [
       | inl e_lt ↦ absurd (let grown : 2 ^ suc e ≤ 2 ^ d = pow-le-pow_right (omega arith) (omega arith) in
@@ -65,3 +65,23 @@ split_unique n j k s t =
     let down = exponent_le n t.exponent s.exponent t_below s_largest in
     let same : s.exponent ≡ t.exponent = omega arith in
     s.power ∙ ap (λ e. 2 ^ e) same ∙ sym t.power
+
+-- what holds of no leaf and of one, and of a tree where it holds of the halves at its cut, holds of every tree
+pub by_power : (P : ℕ → Type 0) → P 0 → P 1
+    → ((n e : ℕ) → 2 ^ e < n → n ≤ 2 * 2 ^ e → P (2 ^ e) → P (n - 2 ^ e) → P n) → (n : ℕ) → P n
+by_power P none one halves n = by_level n n (within_pow n)
+  where
+    cut : (e m : ℕ) → 2 ^ e < m → m ≤ 2 ^ suc e → ((k : ℕ) → k ≤ 2 ^ e → P k) → P m
+    cut e m below fits smaller =
+        let double = pow-suc 2 e in
+        halves m e below (omega arith) (smaller (2 ^ e) (omega arith)) (smaller (m - 2 ^ e) (omega arith))
+
+    by_level : (e m : ℕ) → m ≤ 2 ^ e → P m
+    by_level zero zero fits = none
+    by_level zero (suc zero) fits = one
+    by_level zero (suc (suc m)) fits = absurd (omega arith)
+    by_level (suc e) m fits =
+        elim (cases_lt (2 ^ e) m) [
+          | inl below ↦ cut e m below fits (by_level e)
+          | inr within ↦ by_level e m within
+        ]

@@ -142,6 +142,13 @@ path_len_at-within (suc e) index size =
 pub path_len-within : (index size : ℕ) → size ≤ 2 ^ 64 → path_len index size ≤ 64
 path_len-within index size fits = rw (path_len_is index size 64 fits) (path_len_at-within 64 index size)
 
+-- the tree of RFC 6962 section 2.1.3
+pub path_len-seven : (path_len 0 7 ≡ 3) × (path_len 3 7 ≡ 3) × (path_len 4 7 ≡ 3) × (path_len 6 7 ≡ 2)
+unfolding path_len_at
+path_len-seven =
+    let three : 7 ≤ 2 ^ 3 = omega arith in
+    (path_len_is 0 7 3 three, path_len_is 3 7 3 three, path_len_is 4 7 3 three, path_len_is 6 7 3 three)
+
 -- a path leads to a root exactly where the number of its hashes fits
 
 -- there is a root where the count is the wanted one, and none elsewhere

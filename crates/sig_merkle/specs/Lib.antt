@@ -2,3 +2,10 @@ pub mod Split
 pub mod Root
 pub mod Path
 pub mod Inclusion
+pub mod AuditPath
+pub mod Consistency
+pub mod ConsistencyAnswer
+pub mod ConsistencyProof
+pub mod Walk
+pub mod Meeting
+pub mod GrowthWalk

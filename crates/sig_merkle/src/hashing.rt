@@ -8,11 +8,11 @@ use sig_base::Steps;
 use std::sync::ledger::Ledger;
 
 /// The byte before a leaf's entry in the hash of the leaf (RFC 6962 section 2.1).
-const LEAF_HASH_PREFIX: u8 = 0x00;
+pub(crate) const LEAF_HASH_PREFIX: u8 = 0x00;
 
 /// The byte before the children's hashes in the hash of a node, so that no node is hashed as a leaf (RFC 6962 section
 /// 2.1).
-const NODE_HASH_PREFIX: u8 = 0x01;
+pub(crate) const NODE_HASH_PREFIX: u8 = 0x01;
 
 /// Returns the root of a tree without entries: SHA-256 of nothing (RFC 6962 section 2.1).
 pub fn empty_root() -> [u8; 32]

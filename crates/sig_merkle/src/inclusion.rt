@@ -1,11 +1,11 @@
 //! The check that a leaf is in a tree (RFC 6962 section 2.1.1).
 ghost use Rattle.std.specs.Prelude.{◌≡◌, ◌+◌, ◌<◌, ◌≤◌, ◌↔◌, length, Some, IsOk, OnOk, OnErr};
 ghost use Rattle.sig_merkle.specs.Path.{path_root, path_len};
+ghost use Rattle.sig_merkle.specs.Walk.{inner_len};
 ghost use Rattle.sig_merkle.specs.Inclusion.{IsIncluded, inclusion_root, inclusion_answer, IsRootAnswer};
 ghost use Rattle.sig_merkle.specs.Inclusion.{IsInclusionAnswer, inclusion_steps};
 
-use crate::hashing::hash_step;
-use crate::split::split_point;
+use crate::walk::{chain_border_right, chain_inner, decomp_inclusion_proof};
 use sig_base::{MerkleProofError, RootHex, Steps};
 use std::sync::ledger::Ledger;
 
@@ -32,11 +32,19 @@ pub fn root_from_inclusion_proof<L: Ledger>(
         return Err(MerkleProofError::IndexGtTreeSize);
     }
     let got = proof_hashes.len() as u64;
-    let want = proof_len(index, tree_size);
+    let (inner, border) = decomp_inclusion_proof(index, tree_size);
+    let want = inner + border;
     if got != want {
         return Err(MerkleProofError::WrongProofSize { got, want });
     }
-    Ok(fold_path(index, leaf_hash, tree_size, proof_hashes, steps))
+    Ok(walk(
+        index,
+        leaf_hash,
+        tree_size,
+        inner as usize,
+        proof_hashes,
+        steps,
+    ))
 }
 
 /// Checks that the leaf of this hash is at the index of the tree of this size and root
@@ -73,46 +81,24 @@ pub fn verify_inclusion<L: Ledger>(
     Ok(())
 }
 
-/// Returns the number of hashes of the audit path of the leaf at the index, at most 64.
-#[tactic(auto, using(crate::proofs::PathSteps::counts_path))]
-fn proof_len(index: u64, size: u64) -> u64
-    requires { index < size }
-    ensures value { result ≡ path_len index size }
-    ensures bound { result ≤ 64 }
-{
-    if size == 1 {
-        return 0;
-    }
-    let half = split_point(size);
-    if index < half {
-        proof_len(index, half) + 1
-    } else {
-        proof_len(index - half, size - half) + 1
-    }
-}
-
-/// Returns the root of an audit path of the right number of hashes, from the root's children downward.
-fn fold_path<L: Ledger>(
+/// Returns the root that an audit path of the right number of hashes leads to, by its inner hashes and then by those of
+/// the right border.
+#[tactic(auto, using(crate::proofs::WalkSteps::ends_walk))]
+fn walk<L: Ledger>(
     index: u64,
     leaf_hash: &[u8; 32],
-    size: u64,
+    tree_size: u64,
+    inner: usize,
     proof_hashes: &[[u8; 32]],
     steps: &mut Steps<L>,
 ) -> [u8; 32]
-    requires index { index < size }
-    requires count { length proof_hashes.now ≡ path_len index size }
-    ensures root { path_root index leaf_hash.now size proof_hashes.now ≡ Some result }
+    requires index { index < tree_size }
+    requires inner { inner ≡ inner_len index tree_size }
+    requires count { length proof_hashes.now ≡ path_len index tree_size }
+    ensures root { path_root index leaf_hash.now tree_size proof_hashes.now ≡ Some result }
     ensures steps { steps.new ≡ steps.old + length proof_hashes.now }
 {
-    let Some((last, rest)) = proof_hashes.split_last() else {
-        return *leaf_hash;
-    };
-    let half = split_point(size);
-    if index < half {
-        let left = fold_path(index, leaf_hash, half, rest, steps);
-        hash_step(&left, last, steps)
-    } else {
-        let right = fold_path(index - half, leaf_hash, size - half, rest, steps);
-        hash_step(last, &right, steps)
-    }
+    let (inner_hashes, border_hashes) = proof_hashes.split_at(inner);
+    let below = chain_inner(leaf_hash, inner_hashes, index, steps);
+    chain_border_right(&below, border_hashes, steps)
 }

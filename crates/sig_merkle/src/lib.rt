@@ -1,18 +1,44 @@
-//! A log's Merkle tree, as RFC 6962 section 2.1 defines it: its hashes, and the check that a leaf
-//! is in it.
+//! A log's Merkle tree, as RFC 6962 section 2.1 defines it: its hashes, its root and paths, the checks
+//! that a leaf is in it and that an older tree is its first leaves, and what a proof shows beside the
+//! list of all entries.
 //!
 //! - `hashing`: the hash of nothing, of a leaf and of a node.
 //! - `inclusion`: the root that an audit path leads to, and the check against a root. The result
 //!   is the definition `inclusion_answer`; it is Ok if and only if `IsIncluded` holds.
-//! - `uncounted`: the same check for a caller that counts no steps. The crates above call this.
+//! - `consistency`: the check that one tree grew from another. The result is the definition
+//!   `consistency_answer`; it is Ok if and only if `IsConsistent` holds.
+//! - `tree`: the root of a list of entries, and the audit path of one of them: the definitions `root`
+//!   and `audit_path`, which are the standard's MTH and PATH. `subproof`: the standard's PROOF.
+//! - `collision`: an accepted proof of an entry that the list does not have at the index gives two
+//!   byte strings of equal SHA-256, `IsCollision`.
+//! - `walk`, `growth_walk`: how the checks follow a proof: from the leaf, or the last node that the
+//!   older tree fills, up by bits, without a recursion. The laws `inclusion_walks` and
+//!   `consistency_walks` say that the walks lead where the standard's recursions do.
+//! - `recursion`: those recursions as plain programs, line by line beside the standard. No check
+//!   calls them: they stay so that a test can run both and see that the faster body kept the meaning.
+//! - `uncounted`: the same checks, by the same bodies, for a caller that counts no steps. There are
+//!   two since a counter needs a ledger, which the crates above would have to hand down for nothing.
 //! - `laws`: what the definitions mean, in the standard's own words. It has no code.
 #![tactic(auto)]
 
+mod collision;
+mod consistency;
+mod growth_walk;
 mod hashing;
 mod inclusion;
 pub mod laws;
+pub mod recursion;
 mod split;
+mod subproof;
+mod tree;
 pub mod uncounted;
+mod walk;
 
+pub use collision::inclusion_collision;
+pub use consistency::verify_consistency;
+pub use growth_walk::{Roots, chain_inner_right};
 pub use hashing::{empty_root, hash_children, hash_leaf};
 pub use inclusion::{root_from_inclusion_proof, verify_inclusion};
+pub use subproof::proof_of;
+pub use tree::{path_of, root_of};
+pub use walk::{chain_border_right, chain_inner, decomp_inclusion_proof};

@@ -1,6 +1,7 @@
-//! The check of an inclusion proof for a caller that counts no steps.
+//! The checks of proofs for a caller that counts no steps.
 ghost use Rattle.std.specs.Prelude.{◌≡◌, ◌<◌, ◌↔◌, IsOk};
 ghost use Rattle.sig_merkle.specs.Inclusion.{IsIncluded, inclusion_answer, IsInclusionAnswer};
+ghost use Rattle.sig_merkle.specs.ConsistencyAnswer.{IsConsistent, consistency_answer, IsConsistencyAnswer};
 
 use sig_base::{MerkleProofError, Steps};
 use std::marker::Brand;
@@ -26,7 +27,7 @@ pub fn verify_inclusion(
     verify_on::<Brand>(blank, index, leaf_hash, tree_size, proof_hashes, root_hash)
 }
 
-/// The check over a ledger of its own.
+/// The check of an inclusion proof over a ledger of its own.
 fn verify_on<L: Ledger>(
     blank: Blank,
     index: u64,
@@ -52,6 +53,56 @@ fn verify_on<L: Ledger>(
         tree_size,
         proof_hashes,
         root_hash,
+        &mut steps,
+    )
+}
+
+/// Checks that the tree of the new size and root has the tree of the old size and root as its first
+/// leaves, as `verify_consistency` of this crate does, with the same errors.
+pub fn verify_consistency(
+    old_size: u64,
+    new_size: u64,
+    proof_hashes: &[[u8; 32]],
+    old_root: &[u8; 32],
+    new_root: &[u8; 32],
+) -> Result<(), MerkleProofError>
+    ensures answer { result
+        ≡ consistency_answer old_size new_size proof_hashes.now old_root.now new_root.now }
+    ensures ok { IsOk result
+        ↔ IsConsistent old_size new_size proof_hashes.now old_root.now new_root.now }
+    ensures causes { IsConsistencyAnswer
+        old_size new_size proof_hashes.now old_root.now new_root.now result }
+{
+    let blank = Blank::new(1);
+    verify_consistency_on::<Brand>(blank, old_size, new_size, proof_hashes, old_root, new_root)
+}
+
+/// The check of a consistency proof over a ledger of its own.
+fn verify_consistency_on<L: Ledger>(
+    blank: Blank,
+    old_size: u64,
+    new_size: u64,
+    proof_hashes: &[[u8; 32]],
+    old_root: &[u8; 32],
+    new_root: &[u8; 32],
+) -> Result<(), MerkleProofError>
+    requires name { blank.name ≡ L.name }
+    requires parts { blank.parts ≡ L.parts }
+    requires some { 0 < blank.parts }
+    ensures answer { result
+        ≡ consistency_answer old_size new_size proof_hashes.now old_root.now new_root.now }
+    ensures ok { IsOk result
+        ↔ IsConsistent old_size new_size proof_hashes.now old_root.now new_root.now }
+    ensures causes { IsConsistencyAnswer
+        old_size new_size proof_hashes.now old_root.now new_root.now result }
+{
+    let mut steps = Steps::<L>::new(blank);
+    crate::consistency::verify_consistency(
+        old_size,
+        new_size,
+        proof_hashes,
+        old_root,
+        new_root,
         &mut steps,
     )
 }

@@ -1,7 +1,7 @@
 -- A walk over names that keeps the identity of each, and texts that are seen through references.
-use Rattle.std.proofs.Common.{◌≡◌, ℕ, List, [], ◌∷◌, ◌++◌, Option, Some, None, refl, sym, ap, ◌∙◌, append_assoc, ◌||◌}
-use Rattle.std.specs.Prelude.{Bool, map}
-use Rattle.std.specs.List.{cons_option, filter_map, flat_map, list_any, join_by}
+use Rattle.std.proofs.Common.{◌≡◌, ℕ, List, [], ◌∷◌, ◌++◌, Option, Some, None, refl, sym, ap, ◌∙◌}
+use Rattle.std.specs.Prelude.{map}
+use Rattle.std.specs.List.{cons_option, filter_map, flat_map, join_by}
 use Rattle.std.proofs.lemmas.List.{append-nil}
 
 -- what was kept, and then what is kept of what is left, is all
@@ -12,22 +12,10 @@ module _ {X Y : Type 0} (keep : X → Option Y) (front all : List Y) (left : Lis
       sym (ap (λ (w : List X). front ++ filter_map keep w) first
       ∙ ap (λ (o : Option Y). front ++ cons_option o (filter_map keep rest)) none) ∙ is
 
-  pub kept_takes : (x : X) (rest : List X) (y : Y) → left ≡ x ∷ rest → keep x ≡ Some y
-      → (front ++ y ∷ []) ++ filter_map keep rest ≡ all
-  kept_takes x rest y first some =
-      append_assoc front (y ∷ []) (filter_map keep rest)
-      ∙ sym (ap (λ (w : List X). front ++ filter_map keep w) first
-      ∙ ap (λ (o : Option Y). front ++ cons_option o (filter_map keep rest)) some) ∙ is
-
   pub kept_ends : left ≡ [] → front ≡ all
   kept_ends none = sym (append-nil front) ∙ sym (ap (λ (w : List X). front ++ filter_map keep w) none) ∙ is
 
 -- ---- texts that are seen through references
-
-pub list_any_seen : {A : Type 0} (test : List ℕ → Bool) (seen : A → List ℕ) (xs : List A)
-    → list_any test (map seen xs) ≡ list_any (λ x. test (seen x)) xs
-list_any_seen test seen [] = refl
-list_any_seen test seen (x ∷ xs) = ap (λ (b : Bool). test (seen x) || b) (list_any_seen test seen xs)
 
 flat_map_seen : {A : Type 0} (separator : List ℕ) (seen : A → List ℕ) (xs : List A)
     → flat_map (λ x. separator ++ seen x) xs ≡ flat_map (λ t. separator ++ t) (map seen xs)

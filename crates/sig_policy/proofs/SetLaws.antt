@@ -6,13 +6,13 @@ use Rattle.std.specs.Str.{bytes_eq}
 use Rattle.std.specs.List.{list_any}
 use Rattle.std.proofs.Common.{Ordering, Less, Equal, Greater}
 use Rattle.std.specs.Ordering.{nat_cmp, is_eq, match_ordering}
-use Rattle.std.specs.Bool.{one_answer}
 use Rattle.std.specs.Cmp.Lexicographic.{slice_cmp}
 use Rattle.std.specs.BTreeMap.{is_at}
 use Rattle.std.specs.BTreeSet.{insert_key}
 use Rattle.std.proofs.lemmas.List.Folds.{list_any_more}
 use Rattle.std.proofs.lemmas.Map.Text.{is_eq-slice_cmp}
 use Rattle.std.proofs.lemmas.Slice.Eq.{bytes_eq-Decides}
+use Rattle.sig_base.proofs.Decisions.{bytes_eq_flip}
 use Rattle.sig_policy.specs.IdentitySet.{has_text}
 
 or_comm : (a b : Bool) → (a || b) ≡ (b || a)
@@ -31,11 +31,6 @@ or_twice : (a b : Bool) → (a || b) ≡ (a || (a || b))
 or_twice true b = refl
 or_twice false b = refl
 
-flipped : (xs ys : List ℕ) → bytes_eq xs ys ≡ bytes_eq ys xs
-flipped xs ys =
-    one_answer (bytes_eq xs ys) (bytes_eq ys xs) (bytes_eq-Decides xs ys)
-    ((λ e. sym ((bytes_eq-Decides ys xs).0 e)), (λ e. (bytes_eq-Decides ys xs).1 (sym e)))
-
 -- ---- a look-up
 
 pub found_by_order : (q : List ℕ) (ks : List (Bor (List ℕ)))
@@ -43,7 +38,7 @@ pub found_by_order : (q : List ℕ) (ks : List (Bor (List ℕ)))
 found_by_order q [] = refl
 found_by_order q (k ∷ ks) =
     ap (λ (b : Bool). b || list_any (is_at (λ k. slice_cmp nat_cmp q k.now)) ks)
-    (is_eq-slice_cmp q k.now ∙ flipped q k.now)
+    (is_eq-slice_cmp q k.now ∙ bytes_eq_flip q k.now)
     ∙ ap (λ (b : Bool). bytes_eq k.now q || b) (found_by_order q ks)
 
 -- ---- one text more

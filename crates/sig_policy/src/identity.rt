@@ -111,7 +111,7 @@ fn verify_among(alloc: Global, identity: &str, texts: &[&str]) -> PolicyResult
     Err(check_failed(alloc, "SubjectAltName", identity, actual.as_str())?)
 }
 
-#[tactic(auto, using(crate::proofs::IdentityLaws::list_any_seen))]
+#[tactic(auto, using(sig_base::proofs::SeenTexts::list_any_seen))]
 fn contains(texts: &[&str], text: &str) -> bool
     ensures { result ≡ list_any (λ t. bytes_eq t text.now) (map (λ t. t.now) texts.now) }
 {

@@ -13,12 +13,14 @@ use Rattle.sig_rekor.specs.contracts.checkpoint.CheckpointSignaturePartialEq.The
 use Rattle.sig_rekor.specs.contracts.checkpoint.OtherContentPartialEq.TheImpl as content_eq
 use Rattle.sig_rekor.specs.contracts.checkpoint.SignedCheckpointPartialEq.TheImpl as checkpoint_eq
 use Rattle.sig_rekor.specs.contracts.inclusion_proof.InclusionProofPartialEq.TheImpl as proof_eq
+use Rattle.sig_rekor.specs.contracts.rekor_proof.RekorInclusionProofPartialEq.TheImpl as api_proof_eq
 use Rattle.sig_rekor.specs.declared.checkpoint.Checkpoint.{Checkpoint}
 use Rattle.sig_rekor.specs.declared.checkpoint.CheckpointSignature.{CheckpointSignature}
 use Rattle.sig_rekor.specs.declared.checkpoint.OtherContent.{OtherContent}
 use Rattle.sig_rekor.specs.declared.checkpoint.OtherContent.TheVariants.{KeyValue, Value}
 use Rattle.sig_rekor.specs.declared.checkpoint.SignedCheckpoint.{SignedCheckpoint}
 use Rattle.sig_rekor.specs.declared.inclusion_proof.InclusionProof.{InclusionProof}
+use Rattle.sig_rekor.specs.declared.rekor_proof.RekorInclusionProof.{RekorInclusionProof}
 
 -- ---- parts
 
@@ -125,3 +127,29 @@ proof_eq-tells a b =
     (Decides-and _ _ (unsigned_Decides a.tree_size b.tree_size)
     (Decides-and _ _ (texts_eq-tells a.hashes b.hashes)
     (option_eq-tells _ checkpoint_eq-tells a.checkpoint b.checkpoint)))))
+
+api_proof-of_parts : (h g : List (List ℕ)) → (i j : ℤ) → (r q : List ℕ) → (s t : ℕ) → (c d : List ℕ)
+    → (h ≡ g) × ((i ≡ j) × ((r ≡ q) × ((s ≡ t) × (c ≡ d))))
+    → ◌≡◌ {A = RekorInclusionProof}
+    (record { hashes = h; log_index = i; root_hash = r; tree_size = s; checkpoint = c })
+    (record { hashes = g; log_index = j; root_hash = q; tree_size = t; checkpoint = d })
+api_proof-of_parts h g i j r q s t c d e = rw (e.0, e.1.0, e.1.1.0, e.1.1.1.0, e.1.1.1.1) refl
+
+pub api_proof_eq-tells : (a b : RekorInclusionProof) → Decides ((api_proof_eq.ghosts).eq a b) (a ≡ b)
+api_proof_eq-tells a b =
+    decides_same _ (api_proof-of_parts a.hashes b.hashes a.log_index b.log_index a.root_hash b.root_hash a.tree_size
+    b.tree_size a.checkpoint b.checkpoint)
+    (λ e. (
+      ap (λ (p : RekorInclusionProof). p.hashes) e,
+      (
+        ap (λ (p : RekorInclusionProof). p.log_index) e,
+        (
+          ap (λ (p : RekorInclusionProof). p.root_hash) e,
+          (ap (λ (p : RekorInclusionProof). p.tree_size) e, ap (λ (p : RekorInclusionProof). p.checkpoint) e),
+        ),
+      ),
+    ))
+    (Decides-and _ _ (texts_eq-tells a.hashes b.hashes)
+    (Decides-and _ _ (Decides-int_eq a.log_index b.log_index)
+    (Decides-and _ _ (decides_bytes a.root_hash b.root_hash)
+    (Decides-and _ _ (unsigned_Decides a.tree_size b.tree_size) (decides_bytes a.checkpoint b.checkpoint)))))

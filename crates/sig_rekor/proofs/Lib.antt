@@ -11,8 +11,8 @@ pub mod Graphic
 pub mod WrittenCuts
 pub mod ReadBackLaws
 pub mod Equality
-pub mod RuleLaws
 pub mod NoteFaults
 pub mod SignatureFaults
 pub mod CheckpointFaults
 pub mod WhiteSpace
+mod HashTexts

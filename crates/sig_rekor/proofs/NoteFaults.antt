@@ -14,11 +14,11 @@ use Rattle.sig_rekor.specs.Cut.{IsParts, parts}
 use Rattle.sig_rekor.specs.Reading.{base64_of}
 use Rattle.sig_rekor.specs.NoteText.{newline, is_blank, is_not_empty, IsSize, IsNote, origin_of, size_of, hash_by}
 use Rattle.sig_rekor.specs.NoteText.{hash_of, note_by, note_of}
-use Rattle.sig_rekor.specs.Rules.{FailsFirst}
+use Rattle.sig_base.specs.Rules.{FailsFirst}
 use Rattle.sig_rekor.specs.Faults.{OfLines, OfBytes, NoteKeeps, note_rules, IsNoteFault}
 use Rattle.sig_rekor.proofs.Cutting.{parts-found, parts-only}
 use Rattle.sig_rekor.proofs.NoteLaws.{note-found, origin-only, size-found, size-only, hash-only}
-use Rattle.sig_rekor.proofs.RuleLaws.{one_fails, none_fails}
+use Rattle.sig_base.proofs.RuleLaws.{one_fails, none_fails}
 use Rattle.sig_rekor.proofs.Steps.{chosen}
 
 -- the lines of a text are the ones that were found

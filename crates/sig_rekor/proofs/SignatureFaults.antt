@@ -14,11 +14,11 @@ use Rattle.sig_rekor.specs.Cut.{IsTrimmed, IsParts, trimmed, parts}
 use Rattle.sig_rekor.specs.Reading.{base64_of}
 use Rattle.sig_rekor.specs.SignatureText.{em_dash, space, signed_bytes, IsSignature, line_of, signature_by}
 use Rattle.sig_rekor.specs.SignatureText.{signature_of}
-use Rattle.sig_rekor.specs.Rules.{FailsFirst}
+use Rattle.sig_base.specs.Rules.{FailsFirst}
 use Rattle.sig_rekor.specs.Faults.{OfThird, OfBytes, SignatureKeeps, signature_rules, IsSignatureFault}
 use Rattle.sig_rekor.proofs.Cutting.{parts-found, parts-only, trimmed-only}
 use Rattle.sig_rekor.proofs.SignatureLaws.{line-found, line-only, signature-found}
-use Rattle.sig_rekor.proofs.RuleLaws.{one_fails, none_fails}
+use Rattle.sig_base.proofs.RuleLaws.{one_fails, none_fails}
 use Rattle.sig_rekor.proofs.Steps.{chosen}
 
 -- the third part of a line is the one that was found

@@ -10,7 +10,7 @@ use Rattle.sig_base.specs.declared.fault.CheckpointFault.TheVariants.{SignatureL
 use Rattle.sig_base.specs.declared.fault.CheckpointFault.TheVariants.{HashBase64, HashLength}
 use Rattle.sig_rekor.specs.declared.checkpoint.CheckpointSignature.{CheckpointSignature}
 use Rattle.sig_rekor.specs.Cut.{IsTrimmed, IsCut, IsParts, Lacks}
-use Rattle.sig_rekor.specs.Rules.{FailsFirst}
+use Rattle.sig_base.specs.Rules.{FailsFirst}
 use Rattle.sig_rekor.specs.NoteText.{line_feed, newline, hash_len, is_blank, IsSize}
 use Rattle.sig_rekor.specs.SignatureText.{em_dash, space, fingerprint_len, IsSignature}
 use Rattle.sig_rekor.specs.CheckpointText.{quotation_mark, empty_line, is_written}

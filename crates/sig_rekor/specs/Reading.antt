@@ -4,6 +4,8 @@ use Rattle.std.specs.Option.{ok_or}
 use Rattle.sig_base.specs.Answers.{Answers}
 use Rattle.sig_base.specs.ResultSteps.{◌>>=◌}
 use Rattle.sig_base.specs.Base64.{base64_bytes}
+use Rattle.sig_base.specs.declared.error.SigstoreError.{SigstoreError}
+use Rattle.sig_base.specs.declared.error.SigstoreError.TheVariants as sigstore
 use Rattle.sig_base.specs.declared.fault.CheckpointFault.{CheckpointFault}
 use Rattle.sig_rekor.specs.declared.fault.ParseCheckpointError.{ParseCheckpointError}
 use Rattle.sig_rekor.specs.declared.fault.ParseCheckpointError.TheVariants.{DecodeError, OutOfMemory}
@@ -28,3 +30,8 @@ as_error (Err fault) = Err (DecodeError fault)
 -- a result is the value or the fault that reading gives, unless memory ran out
 abbrev pub Reads : {X Y : Type 0} → (X → Y) → Result X ParseCheckpointError → Result Y CheckpointFault → Type 0
 Reads view result read = Answers OutOfMemory view result (as_error read)
+
+-- the same error where a call has the crate's own
+abbrev pub of_parsing : ParseCheckpointError → SigstoreError
+of_parsing (DecodeError fault) = sigstore.ParseCheckpointError fault
+of_parsing OutOfMemory = sigstore.OutOfMemory

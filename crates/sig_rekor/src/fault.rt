@@ -1,5 +1,5 @@
 //! `ParseCheckpointError`: why a text is no checkpoint.
-use sig_base::{CheckpointFault, OutOfMemory};
+use sig_base::{CheckpointFault, OutOfMemory, SigstoreError};
 use thiserror::Error;
 
 /// Why a text could not be read as a checkpoint, a note or a signature.
@@ -32,5 +32,19 @@ impl From<OutOfMemory> for ParseCheckpointError {
 
     fn from(_error: OutOfMemory) -> ParseCheckpointError {
         ParseCheckpointError::OutOfMemory
+    }
+}
+
+impl From<ParseCheckpointError> for SigstoreError {
+    ghost use Rattle.std.specs.Prelude.{◌≡◌};
+    ghost use Rattle.sig_rekor.specs.Reading.{of_parsing};
+
+    ghost from_gives = { λ error e. e ≡ of_parsing error };
+
+    fn from(error: ParseCheckpointError) -> SigstoreError {
+        match error {
+            ParseCheckpointError::DecodeError(fault) => SigstoreError::ParseCheckpointError(fault),
+            ParseCheckpointError::OutOfMemory => SigstoreError::OutOfMemory,
+        }
     }
 }

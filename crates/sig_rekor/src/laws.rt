@@ -13,6 +13,7 @@ ghost use Rattle.sig_rekor.specs.SignatureText.{signature_of};
 use crate::checkpoint::{Checkpoint, CheckpointSignature, OtherContent, SignedCheckpoint};
 use crate::fault::ParseCheckpointError;
 use crate::inclusion_proof::InclusionProof;
+use crate::rekor_proof::RekorInclusionProof;
 
 /// The characters that the format names are those of Unicode's code points, and its fixed lengths those of the
 /// standards. It has no code.
@@ -59,6 +60,13 @@ pub fn equal_contents(one: &OtherContent, other: &OtherContent) -> bool
 
 /// Whether two inclusion proofs are equal: if and only if all their parts are.
 pub fn equal_proofs(one: &InclusionProof, other: &InclusionProof) -> bool
+    ensures { IsTrue result ↔ (one.now ≡ other.now) }
+{
+    one == other
+}
+
+/// Whether two inclusion proofs of Rekor's API are equal: if and only if all their parts are.
+pub fn equal_api_proofs(one: &RekorInclusionProof, other: &RekorInclusionProof) -> bool
     ensures { IsTrue result ↔ (one.now ≡ other.now) }
 {
     one == other

@@ -21,9 +21,11 @@ mod coding;
 mod cuts;
 mod different;
 mod fault;
+mod hash_text;
 mod inclusion_proof;
 pub mod laws;
 mod note;
+mod rekor_proof;
 mod signature;
 mod signed;
 mod verify;
@@ -33,4 +35,6 @@ pub use checkpoint::{
     SignedCheckpoint,
 };
 pub use fault::ParseCheckpointError;
+pub use hash_text::{decode_hash, decode_hashes};
 pub use inclusion_proof::InclusionProof;
+pub use rekor_proof::RekorInclusionProof;

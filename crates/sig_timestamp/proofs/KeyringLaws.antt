@@ -7,12 +7,11 @@ use Rattle.std.specs.Borrow.{Bor}
 use Rattle.sig_base.specs.Sha256.{sha256}
 use Rattle.std.specs.Ordering.{nat_cmp, is_eq}
 use Rattle.std.specs.Cmp.Lexicographic.{slice_cmp}
-use Rattle.std.specs.Bool.{one_answer}
 use Rattle.std.specs.Map.{lookup}
 use Rattle.std.specs.Option.{option_or, option_copied}
 use Rattle.std.proofs.lemmas.List.{take_more}
 use Rattle.std.proofs.lemmas.Map.Text.{is_eq-slice_cmp}
-use Rattle.std.proofs.lemmas.Slice.Eq.{bytes_eq-Decides}
+use Rattle.sig_base.proofs.Decisions.{bytes_eq_flip}
 use Rattle.sig_timestamp.specs.RingKey.{RingKey, point_at}
 use Rattle.sig_timestamp.specs.Keyring.{point_if, point_of, key_of}
 
@@ -50,11 +49,6 @@ pub lent_is : (id : List ℕ) (ring : Ring) (r : Option (Bor RingKey))
 lent_is id ring r e = lent_points r _ e ∙ lookup_points id ring
 
 -- ---- a key added
-
-bytes_eq_flip : (xs ys : List ℕ) → bytes_eq xs ys ≡ bytes_eq ys xs
-bytes_eq_flip xs ys =
-    one_answer (bytes_eq xs ys) (bytes_eq ys xs) (bytes_eq-Decides xs ys)
-    ((λ e. sym ((bytes_eq-Decides ys xs).0 e)), (λ e. (bytes_eq-Decides ys xs).1 (sym e)))
 
 pub added : (id spki name : List ℕ) (k : RingKey) (before after : Ring) → point_of spki ≡ Ok k.point
     → name ≡ sha256 spki

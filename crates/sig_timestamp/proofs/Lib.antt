@@ -1,7 +1,6 @@
 pub mod KeyLaws
 pub mod KeyFaults
 pub mod KeyringLaws
-pub mod ComesLaws
 pub mod VouchedLaws
 pub mod VectorLaws
 pub mod SctLaws

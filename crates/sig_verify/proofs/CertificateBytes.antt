@@ -6,6 +6,7 @@ use Rattle.std.specs.Str.{bytes_eq}
 use Rattle.sig_bundle.specs.Checked.{Checked}
 use Rattle.sig_bundle.specs.Passed.{IsPassed}
 use Rattle.sig_bundle.specs.Promise.{AreBytes}
+use Rattle.sig_bundle.specs.SigningCertificate.{AreCertificates}
 use Rattle.sig_bundle.specs.declared.bundle.Bundle.{Bundle}
 use Rattle.sig_certificate.specs.Certificate.{AreExtensions, Cert, Extension, IsCertificate, IsExtension}
 use Rattle.sig_der.proofs.Bytes.{IsBytes, IsBytes-left, IsBytes-right}
@@ -21,7 +22,7 @@ use Rattle.sig_timestamp.specs.declared.sct_error.CertificateErrorKind.{Certific
 use Rattle.sig_timestamp.specs.declared.sct_error.CertificateErrorKind.TheVariants.{LeafSCTMissing, LeafSCTMalformed}
 use Rattle.sig_timestamp.specs.declared.sct_error.CertificateErrorKind.TheVariants.{IssuerMissing}
 use Rattle.sig_verify.proofs.EntryKeys.{bytes_at}
-use Rattle.sig_verify.specs.LinkLaws.{HasCertificateOfBytes, IsReadAs}
+use Rattle.sig_verify.specs.LinkLaws.{HasCertificateOfBytes, IsFirstOfBytes, IsReadAs}
 
 are_bytes : (bytes : List ℕ) → IsBytes bytes → AreBytes bytes
 are_bytes [] fits = tt
@@ -124,5 +125,10 @@ read_as text c is are =
 -- of a bundle whose certificate is bytes
 pub read_of_bundle : (b : Bundle) → HasCertificateOfBytes b → (c : Checked) → IsPassed b c → IsReadAs c
 read_of_bundle b bytes c is =
-    read_as is.certificate.der c is.certificate.read
-    (bytes is.material is.certificate.der is.brought is.certificate.held)
+    read_first is.certificate.encodings is.certificate.later is.certificate.read
+    (bytes is.material is.certificate.encodings is.brought is.certificate.held)
+  where
+    read_first : (ders : List (List ℕ)) (later : List Cert) → AreCertificates ders (c.certificate ∷ later)
+        → IsFirstOfBytes ders → IsReadAs c
+    read_first [] later are first = absurd are
+    read_first (der ∷ ders) later are first = read_as der c are.0 first

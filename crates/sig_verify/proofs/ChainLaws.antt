@@ -3,8 +3,8 @@ use Rattle.sig_verify.specs.Links.{EveryLinkHolds, Inputs, Outside}
 use Rattle.sig_verify.specs.TrustChain.{AllLinksAreTheTrustChain, IsValid, TrustChain}
 
 -- the links in their order, group by group
-valid_from : (o : Outside) (i : Inputs) → EveryLinkHolds o i → IsValid o i
-valid_from o i (
+parts_from : (o : Outside) (i : Inputs) → EveryLinkHolds o i → IsValid o i × TrustChain o i
+parts_from o i (
   root_json,
   (
     bundle_json,
@@ -79,119 +79,43 @@ valid_from o i (
       ),
     ),
   ),
-) =
-    record {
-      root_json = root_json;
-      bundle_json = bundle_json;
-      fulcio = fulcio;
-      anchor = anchor;
-      ctfe = ctfe;
-      material = material;
-      certificate = certificate;
-      leaf = leaf;
-      content = content;
-      envelope = envelope;
-      entry = entry;
-      profile = profile;
-      issuance = issuance;
-      sct = sct.0;
-      key = key;
-      log_key = log_key;
-      promise = promise.0;
-      proof = proof;
-      checkpoint = checkpoint;
-      inclusion = inclusion.0;
-    }
-
-chain_from : (o : Outside) (i : Inputs) → EveryLinkHolds o i → TrustChain o i
-chain_from o i (
-  root_json,
-  (
-    bundle_json,
-    (
-      fulcio,
-      (
-        anchor,
-        (
-          ctfe,
-          (
-            material,
-            (
-              certificate,
-              (
-                leaf,
-                (
-                  chain,
-                  (
-                    content,
-                    (
-                      envelope,
-                      (
-                        entry,
-                        (
-                          profile,
-                          (
-                            issuance,
-                            (
-                              issuer,
-                              (
-                                sct,
-                                (
-                                  policy,
-                                  (
-                                    key,
-                                    (
-                                      signature,
-                                      (
-                                        subject,
-                                        (
-                                          body,
-                                          (
-                                            time,
-                                            (
-                                              log_key,
-                                              (
-                                                promise,
-                                                (
-                                                  proof,
-                                                  (checkpoint, (note_key, (note_match, (inclusion, end)))),
-                                                ),
-                                              ),
-                                            ),
-                                          ),
-                                        ),
-                                      ),
-                                    ),
-                                  ),
-                                ),
-                              ),
-                            ),
-                          ),
-                        ),
-                      ),
-                    ),
-                  ),
-                ),
-              ),
-            ),
-          ),
-        ),
-      ),
-    ),
-  ),
-) =
-    record {
-      issuer = issuer;
-      sct = sct.1;
-      policy = policy;
-      signature = (signature, subject);
-      body = body;
-      time = time;
-      promise = promise.1;
-      note_key = note_key;
-      note_match = note_match;
-      inclusion = inclusion.1;
-    }
+) = (
+  record {
+    root_json = root_json;
+    bundle_json = bundle_json;
+    fulcio = fulcio;
+    anchor = anchor;
+    ctfe = ctfe;
+    material = material;
+    certificate = certificate;
+    leaf = leaf;
+    root_in_chain = chain;
+    content = content;
+    envelope = envelope;
+    entry = entry;
+    profile = profile;
+    issuance = issuance;
+    sct = sct.0;
+    key = key;
+    log_key = log_key;
+    promise = promise.0;
+    proof = proof;
+    checkpoint = checkpoint;
+    inclusion = inclusion.0;
+  },
+  record {
+    issuer = issuer;
+    sct = sct.1;
+    policy = policy;
+    signature = (signature, subject);
+    body = body;
+    time = time;
+    promise = promise.1;
+    note_key = note_key;
+    note_match = note_match;
+    inclusion = inclusion.1;
+  },
+)
 
 all_from : (o : Outside) (i : Inputs) → IsValid o i → TrustChain o i → EveryLinkHolds o i
 all_from o i valid chain = (
@@ -211,7 +135,7 @@ all_from o i valid chain = (
               (
                 valid.leaf,
                 (
-                  tt,
+                  valid.root_in_chain,
                   (
                     valid.content,
                     (
@@ -281,5 +205,4 @@ all_from o i valid chain = (
 )
 
 pub all_links_are_the_trust_chain : AllLinksAreTheTrustChain
-all_links_are_the_trust_chain o i =
-    ((λ all. (valid_from o i all, chain_from o i all)), (λ both. all_from o i both.0 both.1))
+all_links_are_the_trust_chain o i = (parts_from o i, (λ both. all_from o i both.0 both.1))

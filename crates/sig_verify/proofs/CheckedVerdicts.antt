@@ -34,7 +34,7 @@ module _ (k : Checker) (policy : PolicyOf) (trusted : Trusted) (d : ArtifactDige
       subst (λ (r : Answer). Judged Holds (xs ++ ys) (renamed r)) (sym is)
       (judged.0, judged.1, fails_front Holds xs ys judged.0 judged.2)
 
-  judged_logged : (result : Answer) → IsLogged offline c result → Judged Holds (Body ∷ Time ∷ []) (renamed result)
+  judged_logged : (result : Answer) → IsLogged d offline c result → Judged Holds (Body ∷ Time ∷ []) (renamed result)
   judged_logged result (inl both) =
       subst (λ (r : Answer). Judged Holds (Body ∷ Time ∷ []) (renamed r)) (sym both.1)
       (behind Holds (Body ∷ []) (Time ∷ []) (renamed (time_answer c)) (both.0, tt)
@@ -47,7 +47,7 @@ module _ (k : Checker) (policy : PolicyOf) (trusted : Trusted) (d : ArtifactDige
       → Judged Holds (Key ∷ Signature ∷ Subject ∷ Body ∷ Time ∷ []) (renamed result)
   judged_signed result is =
       after (Key ∷ Signature ∷ Subject ∷ []) (Body ∷ Time ∷ []) (content_answer k.spki k.prehash d c) result
-      (IsLogged offline c) (judged_content k policy (trust_of trusted) d offline c read.spki) (judged_logged result) is
+      (IsLogged d offline c) (judged_content k policy (trust_of trusted) d offline c read.spki) (judged_logged result) is
 
   by_policy : (b : Bool) (refusal : Refusal) (result : Answer) → policy.holds c.certificate ≡ b
       → AfterPolicy b refusal (IsSigned k d offline c) result

@@ -4,8 +4,8 @@ use Rattle.std.proofs.Common.{subst, ◌∙◌}
 use Rattle.std.specs.List.{AllByRecursion}
 use Rattle.sig_base.specs.Answers.{Answers, UnlessMemory}
 use Rattle.sig_base.specs.ResultSteps.{◌>>=◌}
-use Rattle.sig_rekor.proofs.RuleLaws.{none_fails, one_fails}
-use Rattle.sig_rekor.specs.Rules.{FailsFirst}
+use Rattle.sig_base.proofs.RuleLaws.{none_fails, one_fails}
+use Rattle.sig_base.specs.Rules.{FailsFirst}
 use Rattle.sig_verify.specs.Judged.{IsOfFirst, Judged, Tells}
 use Rattle.sig_verify.specs.OfflineErrors.{link_of}
 use Rattle.sig_verify.specs.declared.link.Link.{Link}

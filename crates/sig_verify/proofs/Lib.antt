@@ -1,3 +1,4 @@
+pub mod Artifacts
 pub mod BundleVerdicts
 pub mod CertificateBytes
 pub mod ChainLaws

@@ -4,13 +4,13 @@ use Rattle.std.proofs.Math.Path.{fun_ext}
 use Rattle.std.specs.List.{AllByRecursion}
 use Rattle.sig_base.proofs.ResultSteps.{ok_is}
 use Rattle.sig_base.specs.declared.fault.TrustPart.TheVariants as part
+use Rattle.sig_bundle.proofs.Certificates.{OneCertificate}
 use Rattle.sig_bundle.specs.BundleRecord.{bundle_in}
 use Rattle.sig_bundle.specs.Checked.{Checked}
-use Rattle.sig_bundle.specs.Passed.{HasProof, IsPassed}
-use Rattle.sig_bundle.specs.Version.{IsMediaType}
+use Rattle.sig_bundle.specs.Passed.{IsMet, IsPassed}
+use Rattle.sig_bundle.specs.SigningCertificate.{IsNoRoot}
 use Rattle.sig_bundle.specs.declared.bundle.Bundle.{Bundle}
 use Rattle.sig_bundle.specs.declared.material.TransparencyLogEntry.{TransparencyLogEntry}
-use Rattle.sig_bundle.specs.declared.version.Version.TheVariants.{Bundle0_3}
 use Rattle.sig_certificate.specs.Certificate.{Cert}
 use Rattle.sig_certificate.specs.Profile.{leaf_refusal}
 use Rattle.sig_root.specs.RootRecord.{trusted_root_in}
@@ -19,11 +19,11 @@ use Rattle.sig_timestamp.specs.Keyring.{key_of}
 use Rattle.sig_timestamp.specs.RingKey.{point_at}
 use Rattle.sig_x509.specs.Issuance.{AreAnchors}
 use Rattle.sig_x509.specs.Issued.{HasProfile}
-use Rattle.sig_verify.proofs.BundleVerdicts.{OneCertificate}
 use Rattle.sig_verify.proofs.JudgedLaws.{Alike, alike_joined, both_alike}
 use Rattle.sig_verify.proofs.RootVerdicts.{some_given}
 use Rattle.sig_verify.proofs.WholeVerdicts.{one_checked}
-use Rattle.sig_verify.specs.BundleLinks.{IsEnvelopeRead, OfCertificate, OfEncoding, OfEntry, OfEnvelope, bundle_links}
+use Rattle.sig_verify.specs.BundleLinks.{IsContentRead, OfCertificates, OfContent, OfEncodings, OfEntry, OfVersion}
+use Rattle.sig_verify.specs.BundleLinks.{bundle_links}
 use Rattle.sig_verify.specs.CertificateLinks.{HasIssuer, HasSignedBytes, IsAbout, IsSignedContent, IsTimely}
 use Rattle.sig_verify.specs.CertificateLinks.{IsVouchedFor, OfScheme, Trust, certificate_links}
 use Rattle.sig_verify.specs.EntryLinks.{HasPromise, HoldsOfEntry, IsLed, IsNoteOf, IsNoteSignedBy, IsPlaced}
@@ -176,20 +176,20 @@ module _ (o : Outside) (i : Inputs) (root : TrustedRoot) (root_is : trusted_root
 
       bundles_alike : Alike Verified (HoldsOf o i) bundle_links
       bundles_alike = (
-        bundle_as (λ x. OfEncoding x (λ der. Unit {0})),
+        bundle_as (λ x. OfEncodings x (λ ders. Unit {0})),
         (
-          bundle_as (λ x. OfCertificate x (λ c. Unit {0})),
+          bundle_as (λ x. OfCertificates x (λ c later. Unit {0})),
           (
-            bundle_as (λ x. OfCertificate x (λ c. leaf_refusal c ≡ None)),
+            bundle_as (λ x. OfCertificates x (λ c later. leaf_refusal c ≡ None)),
             (
-              ((λ u. u), (λ u. u)),
+              bundle_as (λ x. OfCertificates x (λ c later. AllByRecursion IsNoRoot later)),
               (
-                bundle_as (λ x. OfEnvelope x (λ envelope. Unit {0})),
+                bundle_as (λ x. OfContent x (λ content. Unit {0})),
                 (
-                  bundle_as (λ x. OfEnvelope x IsEnvelopeRead),
+                  bundle_as (λ x. OfContent x IsContentRead),
                   (
                     bundle_as (λ x. OfEntry x (λ e. Unit {0})),
-                    (bundle_as (λ x. IsMediaType x.media_type Bundle0_3 × OfEntry x HasProof), tt),
+                    (bundle_as (λ x. OfVersion x (λ version. OfEntry x (IsMet version))), tt),
                   ),
                 ),
               ),
@@ -215,7 +215,7 @@ module _ (o : Outside) (i : Inputs) (root : TrustedRoot) (root_is : trusted_root
                   (
                     checked_as (λ trust c. IsAbout c.content i.digest),
                     (
-                      checked_as (λ trust c. HasBody c true),
+                      checked_as (λ trust c. HasBody c i.digest true),
                       (checked_as (λ trust c. IsTimely c), tt),
                     ),
                   ),

@@ -11,7 +11,6 @@ use Rattle.sig_base.specs.Answers.{UnlessMemory}
 use Rattle.sig_base.specs.OptionSteps.{◌>>=◌}
 use Rattle.sig_bundle.specs.BundleRecord.{bundle_in}
 use Rattle.sig_bundle.specs.Checked.{Checked}
-use Rattle.sig_bundle.specs.Proof.{IsProof}
 use Rattle.sig_bundle.specs.declared.bundle.Bundle.{Bundle}
 use Rattle.sig_dsse.specs.declared.artifact_digest.ArtifactDigest.{ArtifactDigest}
 use Rattle.sig_root.proofs.LastKeys.{only_last}
@@ -21,10 +20,10 @@ use Rattle.sig_root.specs.declared.record.PublicKey.{PublicKey}
 use Rattle.sig_root.specs.declared.record.TransparencyLogInstance.{TransparencyLogInstance}
 use Rattle.sig_root.specs.declared.record.TrustedRoot.{TrustedRoot}
 use Rattle.sig_verify.proofs.CertificateBytes.{read_of_bundle}
-use Rattle.sig_verify.specs.EntryLinks.{HasKeyOfBytes, OfProof}
+use Rattle.sig_verify.specs.EntryLinks.{HasKeyOfBytes}
 use Rattle.sig_verify.specs.Judged.{Judged}
 use Rattle.sig_verify.specs.Links.{HoldsOf, Inputs, OfPassed, Outside, links}
-use Rattle.sig_verify.specs.LinkLaws.{HasCertificateOfBytes}
+use Rattle.sig_verify.specs.LinkLaws.{HasCertificateOfBytes, IsKept}
 use Rattle.sig_verify.specs.OfflineLaws.{AreRead, HasEntryOfBytes, HasRawBytes, IsOfBundleOfBytes, IsToldOf}
 use Rattle.sig_verify.specs.OfflineLaws.{OutcomesAreJudged}
 use Rattle.sig_verify.specs.OfflineVerdict.{IsOffline, Outcome, entry_among, only_entry}
@@ -131,13 +130,10 @@ module _ (law : OutcomesAreJudged) (o : Outside) (root : List ℕ) (now time : �
       elim (told result same read is) [ inl memory ↦ inl memory | inr all ↦ inr all.judged ]
 
   pub kept_told : (result : Outcome) → time ≡ now → AreReadIn result → IsBySteps result
-      → IfOk result (λ offline. OfPassed (inputs root now d bundle)
-      (λ c. OfProof c.entry (λ p. IsProof p offline.proof)))
+      → IfOk result (λ offline. OfPassed (inputs root now d bundle) (λ c. IsKept c.entry offline))
   kept_told (Err error) same read is = tt
   kept_told (Ok offline) same read is =
       elim (told (Ok offline) same read is) [
         | inl memory ↦ absurd cc
-        | inr all ↦
-            let kept = all.kept offline refl in
-            (kept.0, kept.1, (kept.2.0, kept.2.1, kept.2.2.proof))
+        | inr all ↦ all.kept offline refl
       ]

@@ -2,8 +2,10 @@
 use Rattle.std.proofs.Common.{◌≡◌, ◌↔◌, ◌⊎◌, ◌≢◌, true, List, [], ◌∷◌, ◌++◌, Some, Result, Ok, Err, inl, inr}
 use Rattle.std.proofs.Common.{refl, sym, ap, subst, ◌∙◌}
 use Rattle.std.specs.List.{AllByRecursion}
+use Rattle.sig_base.proofs.OptionSteps.{some_is}
 use Rattle.sig_base.specs.declared.error.SigstoreError.{SigstoreError}
 use Rattle.sig_base.specs.declared.error.SigstoreError.TheVariants as sigstore
+use Rattle.sig_bundle.proofs.Certificates.{OneCertificate}
 use Rattle.sig_bundle.specs.BundleRecord.{bundle_in}
 use Rattle.sig_bundle.specs.Checked.{Checked, IsChecked}
 use Rattle.sig_bundle.specs.Passed.{IsPassed}
@@ -12,7 +14,6 @@ use Rattle.sig_bundle.specs.declared.material.TransparencyLogEntry.{Transparency
 use Rattle.sig_json.specs.declared.error.JsonError.{JsonError}
 use Rattle.sig_root.specs.RootRecord.{trusted_root_in}
 use Rattle.sig_root.specs.declared.record.TrustedRoot.{TrustedRoot}
-use Rattle.sig_verify.proofs.BundleVerdicts.{OneCertificate, some_same}
 use Rattle.sig_verify.proofs.EntryLaws.{entry_kept, judged_entry}
 use Rattle.sig_verify.proofs.EntryPromises.{PromiseLaws}
 use Rattle.sig_verify.proofs.EntryProofs.{ProofLaws}
@@ -58,7 +59,7 @@ behind_json = root_links ++ ((bundle_links ++ certificate_links) ++ entry_links)
 one_entry : (b : BundleType) (c : Checked) (e : TransparencyLogEntry) → IsPassed b c → entry_of b ≡ Some e
     → c.entry ≡ e
 one_entry b c e is only =
-    some_same c.entry e
+    some_is c.entry e
     (sym (ap entry_among is.brought ∙ ap only_entry is.logged) ∙ only)
 
 module _ (laws : Groups) (o : Outside) (i : Inputs) (read : AreRead i) (result : Outcome) where

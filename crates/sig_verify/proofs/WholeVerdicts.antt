@@ -1,23 +1,21 @@
 -- The links `material` to `time`: the result of a verifier says which of them fails first.
-use Rattle.std.proofs.Common.{◌≡◌, ◌↔◌, ℕ, Bool, List, ◌++◌, Result, Ok, inl, inr, sym, ap}
-use Rattle.std.proofs.Common.{subst, ◌∙◌}
+use Rattle.std.proofs.Common.{◌≡◌, ◌↔◌, ℕ, Bool, List, ◌∷◌, ◌++◌, Option, Ok, inl, inr, sym, ap, subst, ◌∙◌}
+use Rattle.sig_base.proofs.OptionSteps.{some_is}
+use Rattle.sig_base.proofs.ResultSteps.{ok_is}
+use Rattle.sig_bundle.proofs.Certificates.{OneCertificate, certificates_one}
+use Rattle.sig_bundle.proofs.ContentLaws.{content-meant}
 use Rattle.sig_bundle.specs.Checked.{Checked, IsChecked}
-use Rattle.sig_bundle.specs.Passed.{IsPassed}
+use Rattle.sig_bundle.specs.Content.{ContentWithSignature}
+use Rattle.sig_bundle.specs.Passed.{IsContentOf, IsPassed}
+use Rattle.sig_bundle.specs.SigningCertificate.{AreCertificates, encodings_in}
 use Rattle.sig_bundle.specs.declared.bundle.Bundle.{Bundle}
+use Rattle.sig_bundle.specs.declared.bundle.Content.{Content}
 use Rattle.sig_bundle.specs.declared.content_check.CheckedContent.{CheckedContent}
-use Rattle.sig_bundle.specs.declared.content_check.CheckedContent.TheVariants.{Dsse}
 use Rattle.sig_bundle.specs.declared.material.TransparencyLogEntry.{TransparencyLogEntry}
-use Rattle.sig_certificate.specs.Certificate.{Cert, IsCertificate}
-use Rattle.sig_dsse.proofs.NamedDigests.{takes_the_named}
-use Rattle.sig_dsse.specs.EnvelopeText.{envelope_text}
-use Rattle.sig_dsse.specs.Pae.{pae}
-use Rattle.sig_dsse.specs.Recognized.{digests_or_fault}
-use Rattle.sig_dsse.specs.Statement.{statement_of}
+use Rattle.sig_bundle.specs.declared.material.VerificationMaterial.{VerificationMaterial}
+use Rattle.sig_certificate.specs.Certificate.{Cert}
 use Rattle.sig_dsse.specs.declared.artifact_digest.ArtifactDigest.{ArtifactDigest}
-use Rattle.sig_dsse.specs.declared.envelope.DsseEnvelope.{DsseEnvelope}
-use Rattle.sig_dsse.specs.declared.envelope.DsseSignature.{DsseSignature}
-use Rattle.sig_dsse.specs.declared.recognized.SubjectFault.{SubjectFault}
-use Rattle.sig_verify.proofs.BundleVerdicts.{OneCertificate, encoded_same, enveloped_same, sole_same, some_same}
+use Rattle.sig_verify.proofs.BundleVerdicts.{sole_same}
 use Rattle.sig_verify.proofs.CheckedVerdicts.{judged_trusted}
 use Rattle.sig_verify.proofs.JudgedLaws.{alike_each, behind, fails_front, judged_as, judged_tells}
 use Rattle.sig_verify.specs.BundleLinks.{bundle_links}
@@ -28,70 +26,46 @@ use Rattle.sig_verify.specs.Verdict.{Answer, Checker, IsVerdict, PolicyOf}
 use Rattle.sig_verify.specs.Verifier.{Trusted}
 use Rattle.sig_verify.specs.declared.link.Link.{Link}
 
-digests_same : (a b : List ArtifactDigest) → ◌≡◌ {A = Result (List ArtifactDigest) SubjectFault} (Ok a) (Ok b) → a ≡ b
-digests_same a b e = cc
+-- the content of a bundle is kept in one way
+one_content : (content : Option Content) (a b : List ℕ) (x y : CheckedContent) → IsContentOf content a x
+    → IsContentOf content b y
+    → ◌≡◌ {A = ContentWithSignature} (record { signature = b; content = y }) (record { signature = a; content = x })
+one_content content a b x y is other =
+    ok_is _ _ (sym (content-meant content b y other) ∙ content-meant content a x is)
+
+head_same : (c d : Cert) (cs ds : List Cert) → c ∷ cs ≡ d ∷ ds → c ≡ d
+head_same c d cs ds e = cc
+
+of_parts : (c d : Checked) → c.certificate ≡ d.certificate
+    → ◌≡◌ {A = ContentWithSignature} (record { signature = c.signature; content = c.content })
+    (record { signature = d.signature; content = d.content })
+    → c.entry ≡ d.entry → c ≡ d
+of_parts c d certificate content entry =
+    ap (λ (x : Cert). record { certificate = x; signature = c.signature; content = c.content; entry = c.entry })
+    certificate
+    ∙ ap (λ (x : ContentWithSignature).
+    record { certificate = d.certificate; signature = x.signature; content = x.content; entry = c.entry }) content
+    ∙ ap (λ (x : TransparencyLogEntry).
+    record { certificate = d.certificate; signature = d.signature; content = d.content; entry = x }) entry
 
 -- a bundle is checked in one way
 pub one_checked : OneCertificate → (b : Bundle) (c o : Checked) → IsPassed b c → IsPassed b o → o ≡ c
 one_checked one b c o is other =
-    let material : other.material ≡ is.material = some_same other.material is.material
+    let material : other.material ≡ is.material = some_is other.material is.material
     (sym other.brought ∙ is.brought) in
-    let der : other.certificate.der ≡ is.certificate.der =
-    encoded_same other.certificate.der is.certificate.der
-    (sym other.certificate.held ∙ ap (λ m. m.content) material ∙ is.certificate.held) in
-    let read : IsCertificate is.certificate.der o.certificate =
-    subst (λ t. IsCertificate t o.certificate) der other.certificate.read in
-    let certificate : o.certificate ≡ c.certificate =
-    one is.certificate.der o.certificate c.certificate read is.certificate.read in
-    let e = is.envelope in
-    let f = other.envelope in
-    let envelope : f.envelope ≡ e.envelope = enveloped_same f.envelope e.envelope (sym f.held ∙ e.held) in
-    let sig : f.signature ≡ e.signature =
-    sole_same f.signature e.signature (sym f.only ∙ ap (λ (x : DsseEnvelope). x.signatures) envelope ∙ e.only) in
-    let signature : o.signature ≡ c.signature = sym f.same ∙ ap (λ (s : DsseSignature). s.sig) sig ∙ e.same in
-    let statement : f.statement ≡ e.statement =
-    some_same f.statement e.statement
-    (sym f.stated ∙ ap (λ (x : DsseEnvelope). statement_of x.payload) envelope ∙ e.stated) in
-    let digests : f.digests ≡ e.digests =
-    digests_same f.digests e.digests
-    (sym ((takes_the_named f.statement f.digests).1 f.named) ∙ ap digests_or_fault statement
-    ∙ (takes_the_named e.statement e.digests).1 e.named) in
-    let content : o.content ≡ c.content =
-    f.over ∙ ap (λ (x : DsseEnvelope). Dsse (pae x.payload_type x.payload) f.digests (envelope_text x) x.payload)
-    envelope
-    ∙ ap (λ (ds : List ArtifactDigest). Dsse (pae e.envelope.payload_type e.envelope.payload) ds
-    (envelope_text e.envelope) e.envelope.payload) digests
-    ∙ sym e.over in
-    let entry : o.entry ≡ c.entry =
-    sole_same o.entry c.entry (sym other.logged ∙ ap (λ m. m.tlog_entries) material ∙ is.logged) in
-    ap (λ (x : Cert). record {
-      certificate =
-          x;
-      signature = o.signature;
-      content = o.content;
-      entry = o.entry;
-    }) certificate
-    ∙ ap (λ (x : List ℕ). record {
-      certificate =
-          c.certificate;
-      signature = x;
-      content = o.content;
-      entry = o.entry;
-    }) signature
-    ∙ ap (λ (x : CheckedContent). record {
-      certificate =
-          c.certificate;
-      signature = c.signature;
-      content = x;
-      entry = o.entry;
-    }) content
-    ∙ ap (λ (x : TransparencyLogEntry). record {
-      certificate =
-          c.certificate;
-      signature = c.signature;
-      content = c.content;
-      entry = x;
-    }) entry
+    let l = is.certificate in
+    let m = other.certificate in
+    let encodings : m.encodings ≡ l.encodings =
+    some_is m.encodings l.encodings
+    (sym m.held ∙ ap (λ (x : VerificationMaterial). encodings_in x.content) material ∙ l.held) in
+    let read : AreCertificates l.encodings (o.certificate ∷ m.later) =
+    subst (λ (ders : List (List ℕ)). AreCertificates ders (o.certificate ∷ m.later)) encodings m.read in
+    of_parts o c
+    (head_same o.certificate c.certificate m.later l.later
+    (certificates_one one l.encodings (o.certificate ∷ m.later) (c.certificate ∷ l.later) read l.read))
+    (one_content b.content c.signature o.signature c.content o.content is.content other.content)
+    (sole_same o.entry c.entry
+    (sym other.logged ∙ ap (λ (x : VerificationMaterial). x.tlog_entries) material ∙ is.logged))
 
 module _ (one : OneCertificate) (passed : (b : Bundle) (c : Checked)
     → IsChecked b (Ok c) ↔ IsPassed b c) (bundles : BundlesAreJudged)

@@ -1,15 +1,17 @@
 -- The links `material` to `profile`, each in its own words: what a bundle needs to pass its own checks (Sigstore
 -- bundle format; RFC 5280 section 4.1; DSSE protocol; in-toto attestation framework).
 use Rattle.std.specs.Prelude.{◌≡◌, ℕ, List, [], ◌∷◌, Some, None}
-use Rattle.sig_bundle.specs.Passed.{HasProof}
+use Rattle.std.specs.List.{AllByRecursion}
+use Rattle.sig_bundle.specs.Passed.{IsMet}
+use Rattle.sig_bundle.specs.SigningCertificate.{AreCertificates, IsNoRoot, encodings_in}
 use Rattle.sig_bundle.specs.Version.{IsMediaType}
 use Rattle.sig_bundle.specs.declared.bundle.Bundle.{Bundle}
-use Rattle.sig_bundle.specs.declared.bundle.Content.TheVariants.{DsseEnvelope as Enveloped}
-use Rattle.sig_bundle.specs.declared.material.MaterialContent.TheVariants.{Certificate as Encoded}
+use Rattle.sig_bundle.specs.declared.bundle.Content.{Content as ContentType}
+use Rattle.sig_bundle.specs.declared.bundle.Content.TheVariants.{MessageSignature as Signed, DsseEnvelope as Enveloped}
 use Rattle.sig_bundle.specs.declared.material.TransparencyLogEntry.{TransparencyLogEntry}
 use Rattle.sig_bundle.specs.declared.material.VerificationMaterial.{VerificationMaterial}
-use Rattle.sig_bundle.specs.declared.version.Version.TheVariants.{Bundle0_3}
-use Rattle.sig_certificate.specs.Certificate.{Cert, IsCertificate}
+use Rattle.sig_bundle.specs.declared.version.Version.{Version}
+use Rattle.sig_certificate.specs.Certificate.{Cert}
 use Rattle.sig_certificate.specs.Profile.{leaf_refusal}
 use Rattle.sig_dsse.specs.Named.{AreTaken}
 use Rattle.sig_dsse.specs.Statement.{Statement, statement_of}
@@ -26,21 +28,27 @@ use Rattle.sig_verify.specs.declared.link.Link.TheVariants.{Envelope, Entry, Pro
 abbrev pub OfMaterial : Bundle → (VerificationMaterial → Type 0) → Type 0
 OfMaterial b P = (material : VerificationMaterial) × (b.verification_material ≡ Some material) × P material
 
--- it holds the DER of a certificate, of which this holds
-abbrev pub OfEncoding : Bundle → (List ℕ → Type 0) → Type 0
-OfEncoding b P = OfMaterial b (λ material. (der : List ℕ) × (material.content ≡ Some (Encoded der)) × P der)
+-- it holds a certificate or a chain, as encodings (DER), of which this holds
+abbrev pub OfEncodings : Bundle → (List (List ℕ) → Type 0) → Type 0
+OfEncodings b P =
+    OfMaterial b (λ material. (ders : List (List ℕ)) × (encodings_in material.content ≡ Some ders) × P ders)
 
--- the DER is that of a certificate, of which this holds
-abbrev pub OfCertificate : Bundle → (Cert → Type 0) → Type 0
-OfCertificate b P = OfEncoding b (λ der. (c : Cert) × IsCertificate der c × P c)
+-- each is that of a certificate, and there is a first one; of it and of the later ones this holds
+abbrev pub OfCertificates : Bundle → (Cert → List Cert → Type 0) → Type 0
+OfCertificates b P =
+    OfEncodings b (λ ders. (c : Cert) × (later : List Cert) × AreCertificates ders (c ∷ later) × P c later)
 
--- the content is an envelope, of which this holds
-abbrev pub OfEnvelope : Bundle → (DsseEnvelope → Type 0) → Type 0
-OfEnvelope b P = (envelope : DsseEnvelope) × (b.content ≡ Some (Enveloped envelope)) × P envelope
+-- there is content, of which this holds
+abbrev pub OfContent : Bundle → (ContentType → Type 0) → Type 0
+OfContent b P = (content : ContentType) × (b.content ≡ Some content) × P content
 
 -- there is one log entry, of which this holds
 abbrev pub OfEntry : Bundle → (TransparencyLogEntry → Type 0) → Type 0
 OfEntry b P = OfMaterial b (λ material. (e : TransparencyLogEntry) × (material.tlog_entries ≡ e ∷ []) × P e)
+
+-- the media type is that of a version, of which this holds
+abbrev pub OfVersion : Bundle → (Version → Type 0) → Type 0
+OfVersion b P = (version : Version) × IsMediaType b.media_type version × P version
 
 -- ---- what a link asks
 
@@ -53,20 +61,24 @@ pub record IsEnvelopeRead (envelope : DsseEnvelope) : Type 0 where
   pub digests : List ArtifactDigest
   pub taken : AreTaken statement digests
 
+-- a signature over an artifact needs nothing more
+abbrev pub IsContentRead : ContentType → Type 0
+IsContentRead (Signed message) = Unit {0}
+IsContentRead (Enveloped envelope) = IsEnvelopeRead envelope
+
 -- ---- the links
 
 abbrev pub bundle_links : List Link
 bundle_links = Material ∷ Certificate ∷ Leaf ∷ RootInChain ∷ Content ∷ Envelope ∷ Entry ∷ Profile ∷ []
 
--- What a link asks of a bundle, of which all links before it hold. Chains are not read yet, so none has a root behind
--- its first certificate.
+-- what a link asks of a bundle, of which all links before it hold
 abbrev pub HoldsOfBundle : Bundle → Link → Type 0
-HoldsOfBundle b Material = OfEncoding b (λ der. Unit {0})
-HoldsOfBundle b Certificate = OfCertificate b (λ c. Unit {0})
-HoldsOfBundle b Leaf = OfCertificate b (λ c. leaf_refusal c ≡ None)
-HoldsOfBundle b RootInChain = Unit {0}
-HoldsOfBundle b Content = OfEnvelope b (λ envelope. Unit {0})
-HoldsOfBundle b Envelope = OfEnvelope b IsEnvelopeRead
+HoldsOfBundle b Material = OfEncodings b (λ ders. Unit {0})
+HoldsOfBundle b Certificate = OfCertificates b (λ c later. Unit {0})
+HoldsOfBundle b Leaf = OfCertificates b (λ c later. leaf_refusal c ≡ None)
+HoldsOfBundle b RootInChain = OfCertificates b (λ c later. AllByRecursion IsNoRoot later)
+HoldsOfBundle b Content = OfContent b (λ content. Unit {0})
+HoldsOfBundle b Envelope = OfContent b IsContentRead
 HoldsOfBundle b Entry = OfEntry b (λ e. Unit {0})
-HoldsOfBundle b Profile = IsMediaType b.media_type Bundle0_3 × OfEntry b HasProof
+HoldsOfBundle b Profile = OfVersion b (λ version. OfEntry b (IsMet version))
 HoldsOfBundle b other = Unit {0}

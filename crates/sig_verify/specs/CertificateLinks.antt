@@ -94,6 +94,6 @@ HoldsOfChecked k policy trust d offline c Policy = policy.holds c.certificate â‰
 HoldsOfChecked k policy trust d offline c Key = OfScheme c.certificate (Î» scheme. Unit {0})
 HoldsOfChecked k policy trust d offline c Signature = IsSignedContent k d c
 HoldsOfChecked k policy trust d offline c Subject = IsAbout c.content d
-HoldsOfChecked k policy trust d offline c Body = HasBody c offline
+HoldsOfChecked k policy trust d offline c Body = HasBody c d offline
 HoldsOfChecked k policy trust d offline c Time = IsTimely c
 HoldsOfChecked k policy trust d offline c other = Unit {0}

@@ -1,7 +1,7 @@
 -- A result that says of rules which holds: Ok if and only if all hold, and an error's link is the first that does not.
 use Rattle.std.specs.Prelude.{◌≡◌, ◌↔◌, List, Some, Result, Ok, Err, IsOk}
 use Rattle.std.specs.List.{AllByRecursion}
-use Rattle.sig_rekor.specs.Rules.{FailsFirst}
+use Rattle.sig_base.specs.Rules.{FailsFirst}
 use Rattle.sig_verify.specs.OfflineErrors.{link_of}
 use Rattle.sig_verify.specs.declared.link.Link.{Link}
 use Rattle.sig_verify.specs.declared.offline_error.OfflineError.{OfflineError}

@@ -1,3 +1,4 @@
+pub mod Artifact
 pub mod ContentCheck
 pub mod Errors
 pub mod IssuerCheck

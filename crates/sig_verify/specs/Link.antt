@@ -7,6 +7,7 @@ use Rattle.sig_verify.specs.declared.link.Link.TheVariants.{Leaf, RootInChain, C
 use Rattle.sig_verify.specs.declared.link.Link.TheVariants.{Issuance, Issuer}
 use Rattle.sig_verify.specs.declared.link.Link.TheVariants.{Sct, Policy, Key, Signature, Subject, Body, Time, LogKey}
 use Rattle.sig_verify.specs.declared.link.Link.TheVariants.{Promise, Proof, Checkpoint, NoteKey, NoteMatch, Inclusion}
+use Rattle.sig_verify.specs.declared.link.Link.TheVariants.{Consistency}
 
 abbrev pub link_name : Link → List ℕ
 link_name Request = codes "request"
@@ -39,3 +40,4 @@ link_name Checkpoint = codes "checkpoint"
 link_name NoteKey = codes "note-key"
 link_name NoteMatch = codes "note-match"
 link_name Inclusion = codes "inclusion"
+link_name Consistency = codes "consistency"

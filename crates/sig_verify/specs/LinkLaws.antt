@@ -7,9 +7,9 @@ use Rattle.sig_bundle.specs.Checked.{Checked, IsChecked}
 use Rattle.sig_bundle.specs.Passed.{IsPassed}
 use Rattle.sig_bundle.specs.Promise.{AreBytes}
 use Rattle.sig_bundle.specs.Proof.{IsProof}
+use Rattle.sig_bundle.specs.SigningCertificate.{encodings_in}
 use Rattle.sig_bundle.specs.declared.bundle.Bundle.{Bundle}
 use Rattle.sig_bundle.specs.declared.bundle_error.BundleErrorKind.{BundleErrorKind}
-use Rattle.sig_bundle.specs.declared.material.MaterialContent.TheVariants.{Certificate as Encoded}
 use Rattle.sig_bundle.specs.declared.material.VerificationMaterial.{VerificationMaterial}
 use Rattle.sig_bundle.specs.declared.material.TransparencyLogEntry.{TransparencyLogEntry}
 use Rattle.sig_dsse.specs.declared.artifact_digest.ArtifactDigest.{ArtifactDigest}
@@ -98,11 +98,15 @@ pub record IsReadAs (c : Checked) : Type 0 where
   pub spki : AreBytes c.certificate.spki
   pub sct : IsSaidOf c.certificate (sct_of c.certificate)
 
--- the DER of a bundle's certificate is bytes
+abbrev pub IsFirstOfBytes : List (List ℕ) → Type 0
+IsFirstOfBytes [] = Unit {0}
+IsFirstOfBytes (der ∷ ders) = AreBytes der
+
+-- the DER of a bundle's first certificate is bytes
 abbrev pub HasCertificateOfBytes : Bundle → Type 0
 HasCertificateOfBytes b =
-    (material : VerificationMaterial) (der : List ℕ) → b.verification_material ≡ Some material
-    → material.content ≡ Some (Encoded der) → AreBytes der
+    (material : VerificationMaterial) (ders : List (List ℕ)) → b.verification_material ≡ Some material
+    → encodings_in material.content ≡ Some ders → IsFirstOfBytes ders
 
 -- of a bundle that passed its own checks: the result is that of the first of the links `issuance` to `time` that fails
 abbrev pub CheckedAreJudged : Type 0

@@ -4,18 +4,17 @@ use Rattle.std.specs.Prelude.{◌≡◌, ◌≢◌, ℕ, ℤ, true, List, [], �
 use Rattle.std.specs.List.{AllByRecursion}
 use Rattle.sig_bundle.specs.BundleRecord.{bundle_in}
 use Rattle.sig_bundle.specs.Checked.{Checked}
-use Rattle.sig_bundle.specs.Passed.{HasProof, IsPassed}
-use Rattle.sig_bundle.specs.Version.{IsMediaType}
+use Rattle.sig_bundle.specs.Passed.{IsMet, IsPassed}
+use Rattle.sig_bundle.specs.SigningCertificate.{IsNoRoot}
 use Rattle.sig_bundle.specs.declared.bundle.Bundle.{Bundle}
 use Rattle.sig_bundle.specs.declared.material.TransparencyLogEntry.{TransparencyLogEntry}
-use Rattle.sig_bundle.specs.declared.version.Version.TheVariants.{Bundle0_3}
 use Rattle.sig_certificate.specs.Profile.{leaf_refusal}
 use Rattle.sig_dsse.specs.declared.artifact_digest.ArtifactDigest.{ArtifactDigest}
-use Rattle.sig_rekor.specs.Rules.{FailsFirst}
+use Rattle.sig_base.specs.Rules.{FailsFirst}
 use Rattle.sig_root.specs.RootRecord.{trusted_root_in}
 use Rattle.sig_root.specs.declared.record.TrustedRoot.{TrustedRoot}
 use Rattle.sig_x509.specs.Issued.{HasProfile}
-use Rattle.sig_verify.specs.BundleLinks.{IsEnvelopeRead, OfCertificate, OfEncoding, OfEntry, OfEnvelope}
+use Rattle.sig_verify.specs.BundleLinks.{IsContentRead, OfCertificates, OfContent, OfEncodings, OfEntry, OfVersion}
 use Rattle.sig_verify.specs.CertificateLinks.{HasIssuer, HasSignedBytes, IsAbout, IsSignedContent, IsTimely}
 use Rattle.sig_verify.specs.CertificateLinks.{IsVouchedFor}
 use Rattle.sig_verify.specs.CertificateLinks.{OfScheme, Trust}
@@ -31,7 +30,7 @@ use Rattle.sig_verify.specs.declared.link.Link.TheVariants.{Envelope, Entry, Pro
 use Rattle.sig_verify.specs.declared.link.Link.TheVariants.{Issuance, Issuer, Sct, Policy, Key, Signature, Subject}
 use Rattle.sig_verify.specs.declared.link.Link.TheVariants.{Body, Time}
 use Rattle.sig_verify.specs.declared.link.Link.TheVariants.{LogKey, Promise, Proof, Checkpoint, NoteKey, NoteMatch}
-use Rattle.sig_verify.specs.declared.link.Link.TheVariants.{Inclusion}
+use Rattle.sig_verify.specs.declared.link.Link.TheVariants.{Inclusion, Consistency}
 
 pub record Inputs : Type 0 where
   pub root : List ℕ
@@ -84,14 +83,14 @@ HoldsOf o i BundleJson = OfBundle i (λ b. Unit {0})
 HoldsOf o i Fulcio = OfRoot i (λ root. authorities root i.now ≢ [])
 HoldsOf o i Anchor = OfRoot i (λ root. AllByRecursion IsSomeAnchor (authorities root i.now))
 HoldsOf o i Ctfe = OfRoot i (λ root. ct_keys root i.now ≢ [])
-HoldsOf o i Material = OfBundle i (λ b. OfEncoding b (λ der. Unit {0}))
-HoldsOf o i Certificate = OfBundle i (λ b. OfCertificate b (λ c. Unit {0}))
-HoldsOf o i Leaf = OfBundle i (λ b. OfCertificate b (λ c. leaf_refusal c ≡ None))
-HoldsOf o i RootInChain = Unit {0}
-HoldsOf o i Content = OfBundle i (λ b. OfEnvelope b (λ envelope. Unit {0}))
-HoldsOf o i Envelope = OfBundle i (λ b. OfEnvelope b IsEnvelopeRead)
+HoldsOf o i Material = OfBundle i (λ b. OfEncodings b (λ ders. Unit {0}))
+HoldsOf o i Certificate = OfBundle i (λ b. OfCertificates b (λ c later. Unit {0}))
+HoldsOf o i Leaf = OfBundle i (λ b. OfCertificates b (λ c later. leaf_refusal c ≡ None))
+HoldsOf o i RootInChain = OfBundle i (λ b. OfCertificates b (λ c later. AllByRecursion IsNoRoot later))
+HoldsOf o i Content = OfBundle i (λ b. OfContent b (λ content. Unit {0}))
+HoldsOf o i Envelope = OfBundle i (λ b. OfContent b IsContentRead)
 HoldsOf o i Entry = OfBundle i (λ b. OfEntry b (λ e. Unit {0}))
-HoldsOf o i Profile = OfBundle i (λ b. IsMediaType b.media_type Bundle0_3 × OfEntry b HasProof)
+HoldsOf o i Profile = OfBundle i (λ b. OfVersion b (λ version. OfEntry b (IsMet version)))
 HoldsOf o i Issuance = OfChecked i (λ trust c. HasProfile c.certificate)
 HoldsOf o i Issuer = OfChecked i (λ trust c. HasIssuer o.checker trust c.certificate)
 HoldsOf o i Sct =
@@ -101,7 +100,7 @@ HoldsOf o i Policy = OfChecked i (λ trust c. o.policy.holds c.certificate ≡ t
 HoldsOf o i Key = OfChecked i (λ trust c. OfScheme c.certificate (λ scheme. Unit {0}))
 HoldsOf o i Signature = OfChecked i (λ trust c. IsSignedContent o.checker i.digest c)
 HoldsOf o i Subject = OfChecked i (λ trust c. IsAbout c.content i.digest)
-HoldsOf o i Body = OfChecked i (λ trust c. HasBody c true)
+HoldsOf o i Body = OfChecked i (λ trust c. HasBody c i.digest true)
 HoldsOf o i Time = OfChecked i (λ trust c. IsTimely c)
 HoldsOf o i LogKey = OfLogged i (λ keys e. OfLogKey keys e (λ key. Unit {0}))
 HoldsOf o i Promise = OfLogged i (λ keys e. HasPromise e) × OfLogged i (λ keys e. IsPromisedBy o.checker.spki keys e)
@@ -110,6 +109,7 @@ HoldsOf o i Checkpoint = OfLogged i (λ keys e. OfCheckpoint e (λ p n. Unit {0}
 HoldsOf o i NoteKey = OfLogged i (λ keys e. IsNoteSignedBy o.checker.spki keys e)
 HoldsOf o i NoteMatch = OfLogged i (λ keys e. OfCheckpoint e IsNoteOf)
 HoldsOf o i Inclusion = OfLogged i (λ keys e. OfProof e IsPlaced) × OfLogged i (λ keys e. OfProof e (IsLed e))
+HoldsOf o i Consistency = Unit {0}
 
 abbrev pub EveryLinkHolds : Outside → Inputs → Type 0
 EveryLinkHolds o i = AllByRecursion (HoldsOf o i) links

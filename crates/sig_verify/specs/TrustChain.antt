@@ -1,12 +1,11 @@
 -- *Trust chain*, its ten items, and all else that the links ask.
 use Rattle.std.specs.Prelude.{◌≡◌, ◌≢◌, ◌↔◌, true, [], None}
 use Rattle.std.specs.List.{AllByRecursion}
-use Rattle.sig_bundle.specs.Passed.{HasProof}
-use Rattle.sig_bundle.specs.Version.{IsMediaType}
-use Rattle.sig_bundle.specs.declared.version.Version.TheVariants.{Bundle0_3}
+use Rattle.sig_bundle.specs.Passed.{IsMet}
+use Rattle.sig_bundle.specs.SigningCertificate.{IsNoRoot}
 use Rattle.sig_certificate.specs.Profile.{leaf_refusal}
 use Rattle.sig_x509.specs.Issued.{HasProfile}
-use Rattle.sig_verify.specs.BundleLinks.{IsEnvelopeRead, OfCertificate, OfEncoding, OfEntry, OfEnvelope}
+use Rattle.sig_verify.specs.BundleLinks.{IsContentRead, OfCertificates, OfContent, OfEncodings, OfEntry, OfVersion}
 use Rattle.sig_verify.specs.CertificateLinks.{HasIssuer, HasSignedBytes, IsAbout, IsSignedContent, IsTimely}
 use Rattle.sig_verify.specs.CertificateLinks.{IsVouchedFor}
 use Rattle.sig_verify.specs.CertificateLinks.{OfScheme}
@@ -29,8 +28,8 @@ pub record TrustChain (o : Outside) (i : Inputs) : Type 0 where
   -- the key of c signed the content, which is about the artifact
   pub signature : OfChecked i (λ trust c. IsSignedContent o.checker i.digest c)
       × OfChecked i (λ trust c. IsAbout c.content i.digest)
-  -- the body of e is about the content, its signature and c
-  pub body : OfChecked i (λ trust c. HasBody c true)
+  -- the body of e is about the content, its signature and c, and about the artifact
+  pub body : OfChecked i (λ trust c. HasBody c i.digest true)
   -- the log took e while c was valid
   pub time : OfChecked i (λ trust c. IsTimely c)
   -- the log signed its promise to include e
@@ -49,13 +48,14 @@ pub record IsValid (o : Outside) (i : Inputs) : Type 0 where
   pub fulcio : OfRoot i (λ root. authorities root i.now ≢ [])
   pub anchor : OfRoot i (λ root. AllByRecursion IsSomeAnchor (authorities root i.now))
   pub ctfe : OfRoot i (λ root. ct_keys root i.now ≢ [])
-  pub material : OfBundle i (λ b. OfEncoding b (λ der. Unit {0}))
-  pub certificate : OfBundle i (λ b. OfCertificate b (λ c. Unit {0}))
-  pub leaf : OfBundle i (λ b. OfCertificate b (λ c. leaf_refusal c ≡ None))
-  pub content : OfBundle i (λ b. OfEnvelope b (λ envelope. Unit {0}))
-  pub envelope : OfBundle i (λ b. OfEnvelope b IsEnvelopeRead)
+  pub material : OfBundle i (λ b. OfEncodings b (λ ders. Unit {0}))
+  pub certificate : OfBundle i (λ b. OfCertificates b (λ c later. Unit {0}))
+  pub leaf : OfBundle i (λ b. OfCertificates b (λ c later. leaf_refusal c ≡ None))
+  pub root_in_chain : OfBundle i (λ b. OfCertificates b (λ c later. AllByRecursion IsNoRoot later))
+  pub content : OfBundle i (λ b. OfContent b (λ content. Unit {0}))
+  pub envelope : OfBundle i (λ b. OfContent b IsContentRead)
   pub entry : OfBundle i (λ b. OfEntry b (λ e. Unit {0}))
-  pub profile : OfBundle i (λ b. IsMediaType b.media_type Bundle0_3 × OfEntry b HasProof)
+  pub profile : OfBundle i (λ b. OfVersion b (λ version. OfEntry b (IsMet version)))
   pub issuance : OfChecked i (λ trust c. HasProfile c.certificate)
   pub sct : OfChecked i (λ trust c. HasSignedBytes c.certificate)
   pub key : OfChecked i (λ trust c. OfScheme c.certificate (λ scheme. Unit {0}))

@@ -1,15 +1,17 @@
 -- The links `material` to `time` of a bundle, as one answer: the first of them that fails, or none. The steps before
--- the
--- policy, behind it, and behind the log's body are each an answer of their own.
+-- the policy, behind it, and behind the log's body are each an answer of their own.
 use Rattle.std.specs.Prelude.{◌≡◌, ◌⊎◌, Bool, true, false, Result, Ok, Err}
+use Rattle.sig_base.specs.declared.checker.SignatureChecker as signature_checker
 use Rattle.sig_bundle.specs.Checked.{Checked, IsChecked}
 use Rattle.sig_bundle.specs.LogBody.{IsLogBody, NeedsNoFetch}
 use Rattle.sig_bundle.specs.declared.bundle.Bundle.{Bundle as BundleType}
 use Rattle.sig_bundle.specs.declared.bundle_error.BundleErrorKind.{BundleErrorKind}
 use Rattle.sig_certificate.specs.Certificate.{Cert}
+use Rattle.sig_dsse.specs.Digest.{bytes_of}
 use Rattle.sig_dsse.specs.declared.artifact_digest.ArtifactDigest.{ArtifactDigest}
 use Rattle.sig_policy.specs.Refusals.{Refusal, IsRefusal}
 use Rattle.sig_policy.specs.declared.failure.PolicyError.{PolicyError}
+use Rattle.sig_policy.specs.declared.policy.VerificationPolicy as verification_policy
 use Rattle.sig_x509.specs.Issuance.{Accepts}
 use Rattle.sig_verify.specs.ContentCheck.{AcceptsSpki, content_answer, time_answer}
 use Rattle.sig_verify.specs.IssuerCheck.{AcceptsPoint, issued_answer}
@@ -25,10 +27,23 @@ pub record Checker : Type 0 where
   pub point : AcceptsPoint
   pub cert : Accepts
 
+-- what this value of the code accepts
+abbrev pub checker_of : {C : Type 0} → signature_checker.Ghosts C → C → Checker
+checker_of members checker = record {
+  spki = members.spki_accepts checker;
+  prehash = members.prehash_accepts checker;
+  point = members.point_accepts checker;
+  cert = members.cert_accepts checker;
+}
+
 -- of which certificates a policy holds, and its refusal of each other
 pub record PolicyOf : Type 0 where
   pub holds : Cert → Bool
   pub refusal : Cert → Refusal
+
+-- what this value of the code says
+abbrev pub policy_of : {P : Type 0} → verification_policy.Ghosts P → P → PolicyOf
+policy_of members policy = record { holds = members.holds policy; refusal = members.refusal policy }
 
 abbrev pub Answer : Type 0
 Answer = Result (Unit {0}) VerificationError
@@ -43,23 +58,23 @@ abbrev pub AfterPolicy : Bool → Refusal → (Answer → Type 0) → Answer →
 AfterPolicy true refusal Next result = Next result
 AfterPolicy false refusal Next result = (why : PolicyError) × (result ≡ Err (Policy why)) × IsRefusal refusal why
 
--- the log's body is about the bundle, and nothing has to be fetched
-abbrev pub HasBody : Checked → Bool → Type 0
-HasBody c offline = IsLogBody c × NeedsNoFetch offline c.entry
+-- the log's body is about the bundle and the artifact of this digest, and nothing has to be fetched
+abbrev pub HasBody : Checked → ArtifactDigest → Bool → Type 0
+HasBody c d offline = IsLogBody c (bytes_of d) × NeedsNoFetch offline c.entry
 
-abbrev pub AfterBody : Checked → Bool → (Answer → Type 0) → Answer → Type 0
-AfterBody c offline Next result =
-    (HasBody c offline × Next result) ⊎ (¬ HasBody c offline × (result ≡ Err (Signature Transparency)))
+abbrev pub AfterBody : Checked → ArtifactDigest → Bool → (Answer → Type 0) → Answer → Type 0
+AfterBody c d offline Next result =
+    (HasBody c d offline × Next result) ⊎ (¬ HasBody c d offline × (result ≡ Err (Signature Transparency)))
 
 -- ---- the steps
 
 -- `body` and `time`
-abbrev pub IsLogged : Bool → Checked → Answer → Type 0
-IsLogged offline c = AfterBody c offline (λ last. last ≡ time_answer c)
+abbrev pub IsLogged : ArtifactDigest → Bool → Checked → Answer → Type 0
+IsLogged d offline c = AfterBody c d offline (λ last. last ≡ time_answer c)
 
 -- `key`, `signature` and `subject`, and those
 abbrev pub IsSigned : Checker → ArtifactDigest → Bool → Checked → Answer → Type 0
-IsSigned k d offline c = After (content_answer k.spki k.prehash d c) (IsLogged offline c)
+IsSigned k d offline c = After (content_answer k.spki k.prehash d c) (IsLogged d offline c)
 
 -- `policy`, and those
 abbrev pub IsAllowed : Checker → PolicyOf → ArtifactDigest → Bool → Checked → Answer → Type 0

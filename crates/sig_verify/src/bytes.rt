@@ -2,10 +2,10 @@
 ghost use Rattle.std.specs.Prelude.{[], unwrap_or};
 ghost use Rattle.std.specs.List.{AllByRecursion};
 ghost use Rattle.sig_bundle.specs.Promise.{AreBytes};
-ghost use Rattle.sig_verify.specs.LinkLaws.{HasCertificateOfBytes};
+ghost use Rattle.sig_verify.specs.LinkLaws.{HasCertificateOfBytes, IsFirstOfBytes};
 ghost use Rattle.sig_verify.specs.OfflineLaws.{HasRawBytes};
 
-use sig_base::Bytes;
+use sig_base::{Bytes, Entries};
 use sig_bundle::{Bundle, MaterialContent};
 use sig_root::TransparencyLogInstance;
 
@@ -34,15 +34,26 @@ pub(crate) fn are_optional_bytes(bytes: &Option<Bytes>)
     }
 }
 
-/// The same of the DER of a bundle's certificate.
+/// The same of the DER of a bundle's first certificate.
 pub(crate) fn is_certificate_bytes(bundle: &Bundle)
     ensures { HasCertificateOfBytes bundle.now }
 {
     match &bundle.verification_material {
         Some(material) => match &material.content {
             Some(MaterialContent::Certificate(der)) => are_owned_bytes(der),
+            Some(MaterialContent::X509CertificateChain(ders)) => is_first_of_bytes(ders),
             _ => (),
         },
+        None => (),
+    }
+}
+
+/// The same of the first of byte strings.
+fn is_first_of_bytes(entries: &Entries)
+    ensures { IsFirstOfBytes entries.now }
+{
+    match entries.get(0) {
+        Some(first) => are_bytes(first),
         None => (),
     }
 }

@@ -1,14 +1,14 @@
 //! Whether a signed bundle is trusted, without a network.
 ghost use Rattle.std.specs.Prelude.{◌≡◌, IfOk};
 ghost use Rattle.sig_base.specs.Answers.{UnlessMemory};
-ghost use Rattle.sig_bundle.specs.Proof.{IsProof};
-ghost use Rattle.sig_verify.specs.EntryLinks.{OfProof};
 ghost use Rattle.sig_verify.specs.Judged.{Judged};
+ghost use Rattle.sig_verify.specs.LinkLaws.{IsKept};
 ghost use Rattle.sig_verify.specs.Links.{HoldsOf, OfPassed, links};
 ghost use Rattle.sig_verify.specs.OfflineLaws.{AreRead, HasEntryOfBytes, IsOfBundleOfBytes};
 ghost use Rattle.sig_verify.specs.OfflineVerdict.{entry_of, IsOffline, IsOfflineIn, IsOfflineOf, IsOfflineUnder};
 ghost use Rattle.sig_verify.specs.OfflineVerdict.{IsVouchedIn};
 ghost use Rattle.sig_verify.specs.OfflineVerdict.{lent_entry};
+ghost use Rattle.sig_verify.specs.Verdict.{checker_of, policy_of};
 
 use crate::bytes::{are_log_key_bytes, are_optional_bytes, are_owned_bytes, is_certificate_bytes};
 use crate::laws::outcomes;
@@ -38,28 +38,18 @@ pub fn verify_offline<P: VerificationPolicy, C: SignatureChecker>(
     // There is a value if and only if every link holds, and an error is that of the first that does not.
     ensures links { UnlessMemory OfflineError.OutOfMemory result (Judged (HoldsOf
         (record {
-          checker = record {
-            spki = C.spki_accepts checker.now;
-            prehash = C.prehash_accepts checker.now;
-            point = C.point_accepts checker.now;
-            cert = C.cert_accepts checker.now;
-          };
-          policy = record { holds = P.holds policy.now; refusal = P.refusal policy.now };
+          checker = checker_of C.SignatureChecker checker.now;
+          policy = policy_of P.VerificationPolicy policy.now;
         })
         (record { root = trusted_root.now; now = now; digest = digest.now; bundle = bundle.now })) links result) }
-    // The value's proof is that of the members of the bundle's log entry.
+    // The value is the body of the bundle's log entry, with the proof that its members are.
     ensures kept { IfOk result (λ offline. OfPassed
         (record { root = trusted_root.now; now = now; digest = digest.now; bundle = bundle.now })
-        (λ c. OfProof c.entry (λ p. IsProof p offline.proof))) }
+        (λ c. IsKept c.entry offline)) }
     // The same by the steps.
     ensures steps { UnlessMemory OfflineError.OutOfMemory result (IsOffline
-        (record {
-          spki = C.spki_accepts checker.now;
-          prehash = C.prehash_accepts checker.now;
-          point = C.point_accepts checker.now;
-          cert = C.cert_accepts checker.now;
-        })
-        (record { holds = P.holds policy.now; refusal = P.refusal policy.now })
+        (checker_of C.SignatureChecker checker.now)
+        (policy_of P.VerificationPolicy policy.now)
         trusted_root.now now digest.now bundle.now result) }
 {
     outcomes();
@@ -79,13 +69,8 @@ fn verify_root<P: VerificationPolicy, C: SignatureChecker>(
     ensures read { UnlessMemory OfflineError.OutOfMemory result (AreRead
         (record { root = trusted_root.now; now = now; digest = digest.now; bundle = bundle.now })) }
     ensures steps { UnlessMemory OfflineError.OutOfMemory result (IsOffline
-        (record {
-          spki = C.spki_accepts checker.now;
-          prehash = C.prehash_accepts checker.now;
-          point = C.point_accepts checker.now;
-          cert = C.cert_accepts checker.now;
-        })
-        (record { holds = P.holds policy.now; refusal = P.refusal policy.now })
+        (checker_of C.SignatureChecker checker.now)
+        (policy_of P.VerificationPolicy policy.now)
         trusted_root.now now digest.now bundle.now result) }
 {
     match read_trusted_root(alloc, trusted_root) {
@@ -110,13 +95,8 @@ fn verify_text<P: VerificationPolicy, C: SignatureChecker>(
 ) -> Result<Offline, OfflineError>
     ensures read { UnlessMemory OfflineError.OutOfMemory result (IsOfBundleOfBytes bundle.now) }
     ensures steps { UnlessMemory OfflineError.OutOfMemory result (IsOfflineIn
-        (record {
-          spki = C.spki_accepts checker.now;
-          prehash = C.prehash_accepts checker.now;
-          point = C.point_accepts checker.now;
-          cert = C.cert_accepts checker.now;
-        })
-        (record { holds = P.holds policy.now; refusal = P.refusal policy.now })
+        (checker_of C.SignatureChecker checker.now)
+        (policy_of P.VerificationPolicy policy.now)
         root.now now digest.now bundle.now result) }
 {
     match read_bundle(alloc, bundle) {
@@ -140,13 +120,8 @@ fn verify_read<P: VerificationPolicy, C: SignatureChecker>(
     checker: &C,
 ) -> Result<Offline, OfflineError>
     ensures { UnlessMemory OfflineError.OutOfMemory result (IsOfflineOf
-        (record {
-          spki = C.spki_accepts checker.now;
-          prehash = C.prehash_accepts checker.now;
-          point = C.point_accepts checker.now;
-          cert = C.cert_accepts checker.now;
-        })
-        (record { holds = P.holds policy.now; refusal = P.refusal policy.now })
+        (checker_of C.SignatureChecker checker.now)
+        (policy_of P.VerificationPolicy policy.now)
         root.now now digest.now bundle.now result) }
 {
     match Verifier::new(alloc, root, now) {
@@ -167,13 +142,8 @@ fn verify_under<P: VerificationPolicy, C: SignatureChecker>(
     checker: &C,
 ) -> Result<Offline, OfflineError>
     ensures { UnlessMemory OfflineError.OutOfMemory result (IsOfflineUnder
-        (record {
-          spki = C.spki_accepts checker.now;
-          prehash = C.prehash_accepts checker.now;
-          point = C.point_accepts checker.now;
-          cert = C.cert_accepts checker.now;
-        })
-        (record { holds = P.holds policy.now; refusal = P.refusal policy.now })
+        (checker_of C.SignatureChecker checker.now)
+        (policy_of P.VerificationPolicy policy.now)
         root.now now digest.now bundle.now verifier.now result) }
 {
     match verifier.verify_digest_with(alloc, digest, bundle, policy, true, checker) {

@@ -3,6 +3,7 @@ ghost use Rattle.std.specs.Prelude.{◌≡◌};
 ghost use Rattle.sig_verify.specs.Errors.{of_bundle, of_pool, of_policy, of_sct};
 ghost use Rattle.sig_verify.specs.declared.error.VerificationError.TheVariants.{OutOfMemory as Memory};
 
+use crate::artifact::InputFault;
 use sig_base::{OutOfMemory, PoolError};
 use sig_bundle::BundleErrorKind;
 use sig_x509::{PolicyError, SCTError};
@@ -14,6 +15,9 @@ pub type VerificationResult = Result<(), VerificationError>;
 /// Why a bundle does not verify, or that memory ran out.
 #[derive(Debug, Drop, Error)]
 pub enum VerificationError {
+    /// The artifact could not be read.
+    #[error("Input")]
+    Input(InputFault),
     /// The bundle does not pass its own checks.
     #[error("Bundle")]
     Bundle(BundleErrorKind),

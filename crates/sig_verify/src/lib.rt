@@ -7,6 +7,7 @@
 //! [`SignatureChecker`](sig_base::SignatureChecker) says so, and every fact here is relative to it.
 #![tactic(auto)]
 
+mod artifact;
 mod bytes;
 mod chain;
 mod content_check;
@@ -21,7 +22,9 @@ mod offline_error;
 mod tests;
 mod verifier;
 mod verify;
+mod verify_artifact;
 
+pub use artifact::InputFault;
 pub use chain::verify_offline;
 pub use error::{CertificateErrorKind, SignatureErrorKind, VerificationError, VerificationResult};
 pub use link::Link;

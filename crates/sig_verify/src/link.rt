@@ -65,6 +65,8 @@ pub enum Link {
     NoteMatch,
     /// The audit path leads from the entry to the root.
     Inclusion,
+    /// The tree has the older one as its first leaves; only the program asks it.
+    Consistency,
 }
 
 impl Link {
@@ -103,6 +105,7 @@ impl Link {
             Link::NoteKey => "note-key",
             Link::NoteMatch => "note-match",
             Link::Inclusion => "inclusion",
+            Link::Consistency => "consistency",
         }
     }
 }

@@ -212,6 +212,8 @@ impl From<VerificationError> for OfflineError {
 
     fn from(error: VerificationError) -> OfflineError {
         match error {
+            // A digest that is handed in is not read.
+            VerificationError::Input(_) => OfflineError::OutOfMemory,
             VerificationError::Bundle(kind) => OfflineError::Bundle(kind),
             VerificationError::Certificate(kind) => OfflineError::Certificate(kind),
             VerificationError::Signature(kind) => OfflineError::Signature(kind),

@@ -6,6 +6,7 @@ ghost use Rattle.sig_verify.specs.CertificateLinks.{certificate_links};
 ghost use Rattle.sig_verify.specs.Judged.{Judged};
 ghost use Rattle.sig_verify.specs.LinkLaws.{HoldsOfVerified, renamed, trust_of};
 ghost use Rattle.sig_verify.specs.Verdict.{IsAllowed, IsLogged, IsSigned, IsTrusted, IsVerdict};
+ghost use Rattle.sig_verify.specs.Verdict.{checker_of, policy_of};
 
 use crate::bytes::is_certificate_bytes;
 use crate::content_check::{check_content, check_time};
@@ -48,24 +49,14 @@ impl Verifier {
     ) -> VerificationResult
         // It is `Ok` only if the links `material` to `time` hold, and an error is that of the first that does not.
         ensures links { UnlessMemory VerificationError.OutOfMemory result (Judged (HoldsOfVerified
-            (record {
-              spki = C.spki_accepts checker.now;
-              prehash = C.prehash_accepts checker.now;
-              point = C.point_accepts checker.now;
-              cert = C.cert_accepts checker.now;
-            })
-            (record { holds = P.holds policy.now; refusal = P.refusal policy.now })
+            (checker_of C.SignatureChecker checker.now)
+            (policy_of P.VerificationPolicy policy.now)
             (trust_of self.now) input_digest.now offline bundle.now) (bundle_links ++ certificate_links)
             (renamed result)) }
         // The same by the steps.
         ensures steps { UnlessMemory VerificationError.OutOfMemory result (IsVerdict
-            (record {
-              spki = C.spki_accepts checker.now;
-              prehash = C.prehash_accepts checker.now;
-              point = C.point_accepts checker.now;
-              cert = C.cert_accepts checker.now;
-            })
-            self.now (record { holds = P.holds policy.now; refusal = P.refusal policy.now })
+            (checker_of C.SignatureChecker checker.now)
+            self.now (policy_of P.VerificationPolicy policy.now)
             input_digest.now offline bundle.now result) }
     {
         certificates();
@@ -86,13 +77,8 @@ impl Verifier {
         checker: &C,
     ) -> VerificationResult
         ensures { UnlessMemory VerificationError.OutOfMemory result (IsVerdict
-            (record {
-              spki = C.spki_accepts checker.now;
-              prehash = C.prehash_accepts checker.now;
-              point = C.point_accepts checker.now;
-              cert = C.cert_accepts checker.now;
-            })
-            self.now (record { holds = P.holds policy.now; refusal = P.refusal policy.now })
+            (checker_of C.SignatureChecker checker.now)
+            self.now (policy_of P.VerificationPolicy policy.now)
             input_digest.now offline bundle.now result) }
     {
         match CheckedBundle::try_from_bundle(alloc, bundle) {
@@ -114,13 +100,8 @@ impl Verifier {
         checker: &C,
     ) -> VerificationResult
         ensures { UnlessMemory VerificationError.OutOfMemory result (IsTrusted
-            (record {
-              spki = C.spki_accepts checker.now;
-              prehash = C.prehash_accepts checker.now;
-              point = C.point_accepts checker.now;
-              cert = C.cert_accepts checker.now;
-            })
-            self.now (record { holds = P.holds policy.now; refusal = P.refusal policy.now })
+            (checker_of C.SignatureChecker checker.now)
+            self.now (policy_of P.VerificationPolicy policy.now)
             digest.now offline bundle.now result) }
     {
         self.check_issuer(alloc, bundle.certificate(), checker)?;
@@ -138,13 +119,8 @@ fn verify_allowed<P: VerificationPolicy, C: SignatureChecker>(
     checker: &C,
 ) -> VerificationResult
     ensures { UnlessMemory VerificationError.OutOfMemory result (IsAllowed
-        (record {
-          spki = C.spki_accepts checker.now;
-          prehash = C.prehash_accepts checker.now;
-          point = C.point_accepts checker.now;
-          cert = C.cert_accepts checker.now;
-        })
-        (record { holds = P.holds policy.now; refusal = P.refusal policy.now })
+        (checker_of C.SignatureChecker checker.now)
+        (policy_of P.VerificationPolicy policy.now)
         digest.now offline bundle.now result) }
 {
     match policy.verify(alloc, bundle.certificate()) {
@@ -162,12 +138,7 @@ fn verify_signed<C: SignatureChecker>(
     checker: &C,
 ) -> VerificationResult
     ensures { UnlessMemory VerificationError.OutOfMemory result (IsSigned
-        (record {
-          spki = C.spki_accepts checker.now;
-          prehash = C.prehash_accepts checker.now;
-          point = C.point_accepts checker.now;
-          cert = C.cert_accepts checker.now;
-        })
+        (checker_of C.SignatureChecker checker.now)
         digest.now offline bundle.now result) }
 {
     check_content(alloc, bundle, digest, checker)?;
@@ -181,7 +152,7 @@ fn verify_logged(
     bundle: &CheckedBundle,
     offline: bool,
 ) -> VerificationResult
-    ensures { UnlessMemory VerificationError.OutOfMemory result (IsLogged offline bundle.now result) }
+    ensures { UnlessMemory VerificationError.OutOfMemory result (IsLogged digest.now offline bundle.now result) }
 {
     match bundle.tlog_entry(alloc, offline, digest.as_bytes()) {
         Ok(Some(_)) => check_time(bundle),

@@ -1,12 +1,13 @@
 -- One reply is meant: a text is one request, and one link is the first that fails.
 use Rattle.std.proofs.Common.{◌≡◌, ◌<◌, ℕ, inl, inr, List, [], ◌∷◌, length, Option, Some, None, Result, Ok, Err, IfOk}
 use Rattle.std.proofs.Common.{ap, refl, sym, subst, arith}
+use Rattle.std.proofs.lemmas.Result.{IfOk-weaker}
 use Rattle.std.specs.List.{AllByRecursion}
 use Rattle.sig_base.specs.declared.memory.OutOfMemory.{OutOfMemory}
-use Rattle.sig_rekor.proofs.RuleLaws.{one_fails, none_fails}
-use Rattle.sig_rekor.specs.Rules.{FailsFirst}
+use Rattle.sig_base.proofs.RuleLaws.{one_fails, none_fails}
+use Rattle.sig_base.specs.Rules.{FailsFirst}
 use Rattle.sigverify.specs.declared.command.Command.{Command}
-use Rattle.sigverify.specs.declared.command.Command.TheVariants.{Log, Verify}
+use Rattle.sigverify.specs.declared.command.Command.TheVariants.{Log, Verify, Consistency}
 use Rattle.sig_verify.specs.declared.link.Link.{Link}
 use Rattle.sig_verify.specs.declared.link.Link.TheVariants.{Request}
 use Rattle.sigverify.specs.declared.reply.Reply.{Reply}
@@ -14,8 +15,9 @@ use Rattle.sigverify.specs.declared.request.LogRequest.{LogRequest}
 use Rattle.sigverify.specs.Limit.{most_bytes}
 use Rattle.sigverify.specs.Request.{IsRequest, IsReadFrom}
 use Rattle.sigverify.specs.VerifyRequest.{IsVerifyReadFrom}
+use Rattle.sigverify.specs.ConsistencyRequest.{IsConsistencyReadFrom}
 use Rattle.sigverify.specs.Link.{log_links, links, HoldsOf, Holds, EveryLinkHolds, IsFirstFailing, IsVerdict}
-use Rattle.sigverify.specs.Reply.{IsReply, Succeeds, success, refusal, status_of}
+use Rattle.sigverify.specs.Reply.{IsLoggedReply, IsReply, Succeeds, refusal, status_of}
 
 -- a text is one request
 one_request : (text : List ℕ) (a b : LogRequest) → IsRequest text a → IsRequest text b → a ≡ b
@@ -76,17 +78,23 @@ unread-reply text none = first-reply Log text Request (inl (λ holds. none holds
 pub unread-verify : (text : List ℕ) → IsVerifyReadFrom text None → IsReply Verify text (refusal Request)
 unread-verify text none = first-reply Verify text Request (inl (λ holds. none holds.0 holds.1, refl))
 
+pub unread-consistency : (text : List ℕ) → IsConsistencyReadFrom text None
+    → IsReply Consistency text (refusal Request)
+unread-consistency text none = first-reply Consistency text Request (inl (λ holds. none holds.0 holds.1, refl))
+
 -- nor of one that is too long
 pub long-reply : (command : Command) (text : List ℕ) → most_bytes < length text
     → IsReply command text (refusal Request)
 long-reply Log text long = unread-reply text (λ request is. absurd (omega (arith, is.short, long)))
 long-reply Verify text long = unread-verify text (λ request is. absurd (omega (arith, is.short, long)))
+long-reply Consistency text long = unread-consistency text (λ request is. absurd (omega (arith, is.short, long)))
 
-pub vouched-reply : (text : List ℕ) (request : LogRequest) → IsReadFrom text (Some request) → IsVerdict request None
-    → IsReply Log text (success request)
-vouched-reply text request is every =
-    every-reply Log text (success request) refl (λ other other_is. ap success
-    (one_request text request other is other_is)) (every-of_text (IsRequest text) HoldsOf request log_links is every)
+pub vouched-reply : (text : List ℕ) (request : LogRequest) (reply : Reply) → IsReadFrom text (Some request)
+    → IsVerdict request None → IsLoggedReply request reply → IsReply Log text reply
+vouched-reply text request reply is every made =
+    every-reply Log text reply (ap (λ (r : Reply). r.status) made.2)
+    (λ other other_is. subst (λ (r : LogRequest). IsLoggedReply r reply) (one_request text request other is other_is)
+    made) (every-of_text (IsRequest text) HoldsOf request log_links is every)
 
 pub refused-reply : (text : List ℕ) (request : LogRequest) (link : Link) → IsReadFrom text (Some request)
     → IsVerdict request (Some link)
@@ -120,16 +128,10 @@ refused-replied text found request verdict link r is some read which first =
     refused-replied_by text request link r is (subst (IsReadFrom text) some read)
     (subst (IsVerdict request) which first)
 
-vouched-replied_by : (text : List ℕ) (request : LogRequest) (r : Result Reply OutOfMemory)
-    → IfOk r (λ reply. reply ≡ success request) → IsReadFrom text (Some request) → IsVerdict request None
-    → IfOk r (IsReply Log text)
-vouched-replied_by text request (Ok reply) is read every =
-    subst (IsReply Log text) (sym is) (vouched-reply text request read every)
-vouched-replied_by text request (Err memory) is read every = tt
-
 pub vouched-replied : (text : List ℕ) (found : Option LogRequest) (request : LogRequest) (verdict : Option Link)
     (r : Result Reply OutOfMemory)
-    → IfOk r (λ reply. reply ≡ success request) → found ≡ Some request → IsReadFrom text found → verdict ≡ None
+    → IfOk r (IsLoggedReply request) → found ≡ Some request → IsReadFrom text found → verdict ≡ None
     → IsVerdict request verdict → IfOk r (IsReply Log text)
-vouched-replied text found request verdict r is some read none every =
-    vouched-replied_by text request r is (subst (IsReadFrom text) some read) (subst (IsVerdict request) none every)
+vouched-replied text found request verdict r made some read none every =
+    IfOk-weaker r (IsLoggedReply request) (IsReply Log text) (λ reply. vouched-reply text request reply
+    (subst (IsReadFrom text) some read) (subst (IsVerdict request) none every)) made

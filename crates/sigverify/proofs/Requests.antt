@@ -12,7 +12,7 @@ use Rattle.sig_json.specs.Record.{record_in, record_with}
 use Rattle.sigverify.specs.declared.request.LogRequest.{LogRequest}
 use Rattle.sigverify.specs.Limit.{most_bytes}
 use Rattle.sigverify.specs.Request.{IsReadFrom, log_request}
-use Rattle.sigverify.specs.Row.{no_kind, row_of, scheme_kind}
+use Rattle.sigverify.specs.Row.{row_of, scheme_kind}
 
 -- it is too long
 pub unread-long : (text : List ℕ) → most_bytes < length text → IsReadFrom text None
@@ -52,7 +52,7 @@ log_request-only d =
       required-only scheme_kind request_names (codes "scheme") d refl,
       required-only bytes_of request_names (codes "key") d refl,
       optional_or-only [] (list_each row_of) request_names (codes "accepted") d refl,
-      optional_or-only None (λ e. option_map Some (no_kind e)) request_names (codes "entries") d refl,
+      optional_or-only None (λ e. option_map Some (list_each bytes_of e)) request_names (codes "entries") d refl,
     ) refl
 
 pub listed-read : (text : List ℕ) → record_with request_names log_request text ≡ record_in log_request text

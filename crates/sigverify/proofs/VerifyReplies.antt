@@ -1,9 +1,8 @@
 -- The reply of `verify`, from what the chain of trust is.
-use Rattle.std.proofs.Common.{◌≡◌, ◌≢◌, ◌⊎◌, ℕ, inl, inr, List, [], ◌∷◌, Option, Some, None, Result, Ok, Err, IfOk}
-use Rattle.std.proofs.Common.{ap, refl, sym, subst, ◌∙◌}
+use Rattle.std.proofs.Common.{◌≡◌, ℕ, inl, inr, List, Option, Some, None, Result, Ok, Err, IfOk}
+use Rattle.std.proofs.Common.{ap, sym, subst, ◌∙◌}
 use Rattle.sig_base.specs.Answers.{UnlessMemory}
 use Rattle.sig_base.specs.declared.memory.OutOfMemory.{OutOfMemory}
-use Rattle.sig_rekor.specs.declared.inclusion_proof.InclusionProof.{InclusionProof}
 use Rattle.sig_verify.specs.Judged.{Judged}
 use Rattle.sig_verify.specs.Links.{links as chain_links}
 use Rattle.sig_verify.specs.OfflineErrors.{link_of}
@@ -12,25 +11,29 @@ use Rattle.sig_verify.specs.declared.link.Link.TheVariants.{Request}
 use Rattle.sig_verify.specs.declared.offline.Offline.{Offline}
 use Rattle.sig_verify.specs.declared.offline_error.OfflineError.{OfflineError}
 use Rattle.sig_verify.specs.declared.offline_error.OfflineError.TheVariants.{OutOfMemory as Memory}
+use Rattle.std.proofs.lemmas.Result.{IfOk-weaker}
+use Rattle.sigverify.proofs.Included.{every-included}
 use Rattle.sigverify.proofs.Replies.{every-of_text, every-reply, first-of_text, first-reply, unread-verify}
 use Rattle.sigverify.proofs.VerifyChains.{one_verify_request}
-use Rattle.sigverify.specs.Reply.{IsProofIn, IsReply, refusal, verified}
-use Rattle.sigverify.specs.VerifyLink.{HoldsOfVerify, verify_links}
+use Rattle.sigverify.specs.Reply.{IsEntryIn, IsReply, IsVerifiedReply, refusal}
+use Rattle.sigverify.specs.ProofOf.{IsProofOf}
+use Rattle.sigverify.specs.VerifyLink.{HoldsOfVerify, inputs, outside, verify_links}
 use Rattle.sigverify.specs.VerifyRequest.{IsVerifyReadFrom, IsVerifyRequest}
 use Rattle.sigverify.specs.declared.command.Command.TheVariants.{Verify}
 use Rattle.sigverify.specs.declared.reply.Reply.{Reply}
 use Rattle.sigverify.specs.declared.verify_request.VerifyRequest.{VerifyRequest}
 
 -- every link of the chain holds
-pub verified-reply : (text : List ℕ) (request : VerifyRequest) (offline : Offline) → IsVerifyRequest text request
-    → Judged {A = Offline} (HoldsOfVerify request) chain_links (Ok offline) → IsProofIn request offline.proof
-    → IsReply Verify text (verified offline.proof)
-verified-reply text request offline is judged proof =
-    every-reply Verify text (verified offline.proof) refl
-    (λ other other_is. (
-      offline.proof,
-      subst (λ (r : VerifyRequest). IsProofIn r offline.proof) (one_verify_request text request other is other_is) proof,
-      refl,
+pub verified-reply : (text : List ℕ) (request : VerifyRequest) (offline : Offline) (reply : Reply)
+    → IsVerifyRequest text request → Judged {A = Offline} (HoldsOfVerify request) chain_links (Ok offline)
+    → IsEntryIn request offline → IsVerifiedReply request offline reply → IsReply Verify text reply
+verified-reply text request offline reply is judged kept made =
+    every-reply Verify text reply (ap (λ (r : Reply). r.status) made.2)
+    (λ other other_is.
+    let same = one_verify_request text request other is other_is in (
+      offline,
+      subst (λ (r : VerifyRequest). IsEntryIn r offline) same kept,
+      subst (λ (r : VerifyRequest). IsVerifiedReply r offline reply) same made,
     ))
     (every-of_text (IsVerifyRequest text) HoldsOfVerify request verify_links is (tt, judged))
 
@@ -85,13 +88,19 @@ chain_failed request error link named (inl memory) =
     absurd (no_link link (subst (λ (e : OfflineError). link_of e ≡ Some link) (same_error error Memory memory) named))
 chain_failed request error link named (inr judged) = judged
 
+-- there is a proof of the logged body
+pub chain-included : (request : VerifyRequest) (offline : Offline) → IsChainOf request (Ok offline)
+    → IsEntryIn request offline → IsProofOf offline.body offline.proof
+chain-included request offline chain kept =
+    every-included (outside request) (inputs request) offline (chain_held request offline chain) kept
+
 pub verified-replied : (text : List ℕ) (found : Option VerifyRequest) (request : VerifyRequest) (offline : Offline)
     (r : Result Reply OutOfMemory)
-    → IfOk r (λ reply. reply ≡ verified offline.proof) → found ≡ Some request → IsVerifyReadFrom text found
-    → IsChainOf request (Ok offline) → IsProofIn request offline.proof → IfOk r (IsReply Verify text)
-verified-replied text found request offline r is some read chain proof =
-    replied text (verified offline.proof) r is (verified-reply text request offline
-    (subst (IsVerifyReadFrom text) some read) (chain_held request offline chain) proof)
+    → IfOk r (IsVerifiedReply request offline) → found ≡ Some request → IsVerifyReadFrom text found
+    → IsChainOf request (Ok offline) → IsEntryIn request offline → IfOk r (IsReply Verify text)
+verified-replied text found request offline r made some read chain kept =
+    IfOk-weaker r (IsVerifiedReply request offline) (IsReply Verify text) (λ reply. verified-reply text request offline
+    reply (subst (IsVerifyReadFrom text) some read) (chain_held request offline chain) kept) made
 
 pub refused-verify-replied : (text : List ℕ) (found : Option VerifyRequest) (request : VerifyRequest)
     (error : OfflineError) (link : Link) (r : Result Reply OutOfMemory)

@@ -4,7 +4,7 @@ use Rattle.std.proofs.Common.{Some, None, option_map, Ok, Err, refl, arith}
 use Rattle.sig_json.proofs.Only.{required-only, optional_or-only}
 use Rattle.sig_json.proofs.Records.{record_in-tree, record_in-read, record_with-same}
 use Rattle.sig_json.specs.Data.{Data}
-use Rattle.sig_json.specs.Kinds.{i64_of, text_of}
+use Rattle.sig_json.specs.Kinds.{bytes_of, i64_of, text_of}
 use Rattle.sig_json.specs.Member.{list_each}
 use Rattle.sig_json.specs.Only.{only}
 use Rattle.sig_json.specs.declared.error.JsonError.{JsonError}
@@ -12,7 +12,7 @@ use Rattle.sig_json.specs.Record.{record_in, record_with}
 use Rattle.sigverify.specs.DigestText.{digest_kind}
 use Rattle.sigverify.specs.Limit.{most_bytes}
 use Rattle.sigverify.specs.Policy.{policy_of}
-use Rattle.sigverify.specs.Row.{no_kind, row_of}
+use Rattle.sigverify.specs.Row.{row_of}
 use Rattle.sigverify.specs.VerifyRequest.{IsVerifyReadFrom, verify_request}
 use Rattle.sigverify.specs.declared.verify_request.VerifyRequest.{VerifyRequest}
 
@@ -52,7 +52,7 @@ verify_request-only d =
       required-only digest_kind request_names (codes "digest") d refl,
       required-only policy_of request_names (codes "policy") d refl,
       optional_or-only [] (list_each row_of) request_names (codes "accepted") d refl,
-      optional_or-only None (λ e. option_map Some (no_kind e)) request_names (codes "entries") d refl,
+      optional_or-only None (λ e. option_map Some (list_each bytes_of e)) request_names (codes "entries") d refl,
     ) refl
 
 pub named-read : (text : List ℕ) → record_with request_names verify_request text ≡ record_in verify_request text

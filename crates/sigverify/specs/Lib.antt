@@ -1,5 +1,8 @@
 pub mod Command
+pub mod ConsistencyLink
+pub mod ConsistencyRequest
 pub mod DigestText
+pub mod Head
 pub mod Limit
 pub mod Link
 pub mod Policy
@@ -10,3 +13,5 @@ pub mod Run
 pub mod Status
 pub mod VerifyLink
 pub mod VerifyRequest
+pub mod ProofOf
+pub mod SecondLine

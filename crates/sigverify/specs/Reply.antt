@@ -1,18 +1,21 @@
 -- The reply to a request.
 use Rattle.std.specs.Prelude.{◌≡◌, ℕ, ◌⊎◌, ◌↔◌, List, ◌++◌, codes, decimal}
 use Rattle.std.specs.Fmt.{signed_decimal}
-use Rattle.sig_bundle.specs.Proof.{IsProof}
 use Rattle.sig_rekor.specs.declared.inclusion_proof.InclusionProof.{InclusionProof}
 use Rattle.sigverify.specs.declared.command.Command.{Command}
-use Rattle.sigverify.specs.declared.command.Command.TheVariants.{Log, Verify}
-use Rattle.sig_verify.specs.EntryLinks.{OfProof}
+use Rattle.sigverify.specs.declared.command.Command.TheVariants.{Log, Verify, Consistency}
 use Rattle.sig_verify.specs.Link.{link_name}
+use Rattle.sig_verify.specs.LinkLaws.{IsKept}
 use Rattle.sig_verify.specs.Links.{OfPassed}
 use Rattle.sig_verify.specs.declared.link.Link.{Link}
 use Rattle.sig_verify.specs.declared.link.Link.TheVariants.{Request}
+use Rattle.sig_verify.specs.declared.offline.Offline.{Offline}
 use Rattle.sigverify.specs.declared.request.LogRequest.{LogRequest}
 use Rattle.sigverify.specs.declared.reply.Reply.{Reply}
 use Rattle.sigverify.specs.Request.{IsRequest}
+use Rattle.sigverify.specs.SecondLine.{IsSecondLine}
+use Rattle.sigverify.specs.ConsistencyRequest.{IsConsistencyRequest}
+use Rattle.sigverify.specs.declared.consistency_request.ConsistencyRequest.{ConsistencyRequest}
 use Rattle.sigverify.specs.VerifyLink.{inputs}
 use Rattle.sigverify.specs.VerifyRequest.{IsVerifyRequest}
 use Rattle.sigverify.specs.declared.verify_request.VerifyRequest.{VerifyRequest}
@@ -27,35 +30,57 @@ status_of other = 1
 abbrev pub refusal : Link → Reply
 refusal link = record { status = status_of link; text = codes "refused " ++ (link_name link ++ codes "\n") }
 
--- the reply of `log` where every link holds: the index and the size of the inclusion proof
-abbrev pub success : LogRequest → Reply
-success request = record {
+-- the reply where every link holds: the index and the size of the inclusion proof, and the second line
+abbrev pub success : List ℕ → InclusionProof → List ℕ → Reply
+success word proof second = record {
   status = 0;
   text =
-      codes "logged " ++ (signed_decimal request.log_index ++
+      word ++ (signed_decimal proof.log_index ++
+      (codes " " ++ (decimal proof.tree_size ++ (codes "\n" ++ second))));
+}
+
+abbrev pub logged : InclusionProof → List ℕ → Reply
+logged = success (codes "logged ")
+
+abbrev pub verified : InclusionProof → List ℕ → Reply
+verified = success (codes "verified ")
+
+-- the proof of a request of `log`, and what the log's entries say of its entry
+abbrev pub IsLoggedReply : LogRequest → Reply → Type 0
+IsLoggedReply request reply =
+    (second : List ℕ) × IsSecondLine request.entries request.entry request.proof second
+    × (reply ≡ logged request.proof second)
+
+-- the log entry of the request's bundle: its body, with the proof that its members are
+abbrev pub IsEntryIn : VerifyRequest → Offline → Type 0
+IsEntryIn request offline = OfPassed (inputs request) (λ c. IsKept c.entry offline)
+
+-- the proof of the log entry of the bundle of a request of `verify`, and what the log's entries say of the logged body
+abbrev pub IsVerifiedReply : VerifyRequest → Offline → Reply → Type 0
+IsVerifiedReply request offline reply =
+    (second : List ℕ) × IsSecondLine request.entries offline.body offline.proof second
+    × (reply ≡ verified offline.proof second)
+
+-- the reply of `consistency` where every link holds: the old and the new size
+abbrev pub consistent : ConsistencyRequest → Reply
+consistent request = record {
+  status = 0;
+  text =
+      codes "consistent " ++ (decimal request.old_size ++
       (codes " " ++ (decimal request.tree_size ++ codes "\n")));
 }
 
--- the reply of `verify` where every link holds: the index and the size of the inclusion proof
-abbrev pub verified : InclusionProof → Reply
-verified proof = record {
-  status = 0;
-  text =
-      codes "verified " ++ (signed_decimal proof.log_index ++
-      (codes " " ++ (decimal proof.tree_size ++ codes "\n")));
-}
-
--- the proof is that of the log entry of the request's bundle
-abbrev pub IsProofIn : VerifyRequest → InclusionProof → Type 0
-IsProofIn request proof = OfPassed (inputs request) (λ c. OfProof c.entry (λ p. IsProof p proof))
-
 -- the reply of a command to a text of which every link holds: `log` shows the proof of the one request that the text
--- is, and `verify` that of the log entry of its bundle
+-- is, `verify` that of the log entry of its bundle, and `consistency` the two sizes of its request; behind a proof,
+-- where the request gives the log's entries, comes the second line
 abbrev pub Succeeds : Command → List ℕ → Reply → Type 0
-Succeeds Log text reply = (request : LogRequest) → IsRequest text request → reply ≡ success request
+Succeeds Log text reply =
+    (request : LogRequest) → IsRequest text request → IsLoggedReply request reply
 Succeeds Verify text reply =
     (request : VerifyRequest) → IsVerifyRequest text request
-    → (proof : InclusionProof) × IsProofIn request proof × (reply ≡ verified proof)
+    → (offline : Offline) × IsEntryIn request offline × IsVerifiedReply request offline reply
+Succeeds Consistency text reply =
+    (request : ConsistencyRequest) → IsConsistencyRequest text request → reply ≡ consistent request
 
 -- the reply to a request's text: the success line if and only if every link of the command holds, else the first link
 -- that fails

@@ -8,9 +8,9 @@ use Rattle.sig_json.specs.Member.{required, required_bytes, required_hash, requi
 use Rattle.sig_json.specs.Member.{optional, optional_list}
 use Rattle.sigverify.specs.declared.request.LogRequest.{LogRequest}
 use Rattle.sigverify.specs.Limit.{most_bytes}
-use Rattle.sigverify.specs.Row.{no_kind, row_of, scheme_kind}
+use Rattle.sigverify.specs.Row.{entries_of, row_of, scheme_kind}
 
--- the members of a request; one with `entries` is none
+-- the members of a request
 unfoldable pub log_request : Data → Option LogRequest
 log_request d = do
   entry ← required_bytes (codes "entry") d
@@ -22,17 +22,18 @@ log_request d = do
   scheme ← required scheme_kind (codes "scheme") d
   key ← required_bytes (codes "key") d
   accepted ← optional_list row_of (codes "accepted") d
-  entries ← optional no_kind (codes "entries") d
+  entries ← optional entries_of (codes "entries") d
   Some (record {
     entry = entry;
-    log_index = log_index;
-    tree_size = tree_size;
-    root_hash = root_hash;
-    hashes = hashes;
-    checkpoint = checkpoint;
-    scheme = scheme;
-    key = key;
-    accepted = accepted;
+    proof = record {
+      log_index = log_index;
+      root_hash = root_hash;
+      tree_size = tree_size;
+      hashes = hashes;
+      checkpoint = None;
+    };
+    head = record { checkpoint = checkpoint; scheme = scheme; key = key; accepted = accepted };
+    entries = entries;
   })
 
 -- the text is this request: it has at most 2^24 bytes, it is a document, and its members are these

@@ -8,8 +8,8 @@ use Rattle.sig_base.specs.declared.checker.Operation.{Operation}
 use Rattle.sig_base.specs.declared.checker.Operation.TheVariants.{Message, Prehash, Point, Certificate}
 use Rattle.sig_base.specs.declared.scheme.SigningScheme.{SigningScheme}
 use Rattle.sig_base.specs.Scheme.{name_of, scheme_of, scheme_named}
-use Rattle.sig_json.specs.Kinds.{text_of}
-use Rattle.sig_json.specs.Member.{optional, required, required_bytes}
+use Rattle.sig_json.specs.Kinds.{bytes_of, text_of}
+use Rattle.sig_json.specs.Member.{list_each, optional, required, required_bytes}
 
 -- the operation that a text names
 abbrev pub operation_named : List ℕ → Option Operation
@@ -25,6 +25,10 @@ operation_kind d = text_of d >>= operation_named
 -- a name of a signature scheme
 unfoldable pub scheme_kind : Data → Option SigningScheme
 scheme_kind d = text_of d >>= scheme_named
+
+-- a log's entries
+abbrev pub entries_of : Data → Option (List (List ℕ))
+entries_of d = list_each bytes_of d
 
 -- no value: a member that has to be absent or null is an optional one of this kind
 abbrev pub no_kind : Data → Option ⊤

@@ -7,10 +7,10 @@ use Rattle.sig_json.specs.Member.{optional, optional_list, required, required_i6
 use Rattle.sigverify.specs.DigestText.{digest_kind}
 use Rattle.sigverify.specs.Limit.{most_bytes}
 use Rattle.sigverify.specs.Policy.{policy_of}
-use Rattle.sigverify.specs.Row.{no_kind, row_of}
+use Rattle.sigverify.specs.Row.{entries_of, row_of}
 use Rattle.sigverify.specs.declared.verify_request.VerifyRequest.{VerifyRequest}
 
--- the members of a request; one with `entries` is none
+-- the members of a request
 unfoldable pub verify_request : Data → Option VerifyRequest
 verify_request d = do
   trusted_root ← required_text (codes "trustedRoot") d
@@ -19,7 +19,7 @@ verify_request d = do
   digest ← required digest_kind (codes "digest") d
   policy ← required policy_of (codes "policy") d
   accepted ← optional_list row_of (codes "accepted") d
-  entries ← optional no_kind (codes "entries") d
+  entries ← optional entries_of (codes "entries") d
   Some (record {
     trusted_root = trusted_root;
     bundle = bundle;
@@ -27,6 +27,7 @@ verify_request d = do
     digest = digest;
     policy = policy;
     accepted = accepted;
+    entries = entries;
   })
 
 -- the text is this request: it has at most 2^24 bytes, it is a document, and its members are these

@@ -11,6 +11,8 @@ pub enum Command {
     Log,
     /// `verify`: may this artifact be trusted, by this bundle?
     Verify,
+    /// `consistency`: does the log still have the entries that it had?
+    Consistency,
 }
 
 impl Command {
@@ -23,6 +25,7 @@ impl Command {
             [word] => match word.as_str() {
                 "log" => Some(Command::Log),
                 "verify" => Some(Command::Verify),
+                "consistency" => Some(Command::Consistency),
                 _ => None,
             },
             _ => None,

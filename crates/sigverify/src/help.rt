@@ -9,6 +9,7 @@ sigverify - decides without a network whether a signed artifact may be trusted
 
 usage: sigverify log < REQUEST
        sigverify verify < REQUEST
+       sigverify consistency < REQUEST
        sigverify --help | --version
 
 commands:
@@ -26,10 +27,16 @@ commands:
            key         base64, the log's key (DER)
            accepted    list of the signatures that are taken for genuine, each
                        with operation, scheme, key, message and signature
+           entries     optional list of base64, all entries of the log
          The reply is one line on standard output:
            logged INDEX SIZE   every link of the chain holds
            refused LINK        the first that fails: request, checkpoint,
                                note-key, note-match or inclusion
+         With entries, a second line follows where every link holds:
+           entry INDEX         the logged entry is the list's at this index
+           other list          the list has another size or root than the log
+           collision HEX HEX   neither: two different byte strings of equal
+                               SHA-256
   verify May an artifact be trusted, by its Sigstore bundle? The request on
          standard input is a JSON object with the members
            trustedRoot  text, the trusted root
@@ -41,9 +48,21 @@ commands:
                         identity and issuer, or one of issuer, trigger, sha,
                         name, repository and ref
            accepted     as of log
+           entries      as of log, of the log that the bundle's entry is in
          The reply is one line on standard output:
            verified INDEX SIZE   every link of the chain of trust holds
            refused LINK          the first that fails
+         and with entries a second line, as of log.
+  consistency Has the log kept what it had? The request on standard input is a
+         JSON object with the members
+           oldSize     how many entries the log had
+           oldRoot     64 hex digits, the root hash that it had then
+           treeSize, rootHash, checkpoint, scheme, key, accepted   as of log
+           hashes      list of 64 hex digits, the consistency proof
+         The reply is one line on standard output:
+           consistent OLD NEW  the log of now begins with all entries of then
+           refused LINK        the first that fails: request, checkpoint,
+                               note-key, note-match or consistency
 
 docs/LINKS.md says of each link what was tested, and what to look at first.
 

@@ -5,7 +5,10 @@
 #![tactic(auto)]
 
 mod command;
+mod consistency;
+mod consistency_request;
 mod digest_text;
+mod head;
 mod help;
 mod log;
 mod policy_rule;
@@ -14,6 +17,7 @@ mod reply;
 mod request;
 mod row;
 mod run;
+mod second_line;
 mod std_stream;
 #[cfg(test)]
 mod tests;

@@ -1,7 +1,7 @@
 //! The texts of replies, all of them.
 ghost use Rattle.std.specs.Prelude.{◌≡◌, IfOk};
 
-use crate::request::LogRequest;
+use crate::consistency_request::ConsistencyRequest;
 use sig_base::{OutOfMemory, Text};
 use sig_rekor::InclusionProof;
 use sig_verify::Link;
@@ -18,7 +18,7 @@ pub struct Reply {
 }
 
 impl Reply {
-    ghost use Rattle.sigverify.specs.Reply.{refusal, success, verified};
+    ghost use Rattle.sigverify.specs.Reply.{consistent, logged, refusal, verified};
 
     /// Returns `refused NAME`, for the first link that fails, with status 2 for the link `request`, else 1. Fails if
     /// out of memory alone.
@@ -34,25 +34,45 @@ impl Reply {
         Ok(Reply { status, text })
     }
 
-    /// Returns `logged I N`, the index and the size of the inclusion proof, with status 0. Fails if out of memory
-    /// alone.
-    pub fn logged(alloc: Global, request: &LogRequest) -> Result<Reply, OutOfMemory>
-        ensures { IfOk result (λ reply. reply ≡ success request.now) }
-    {
-        let index = request.log_index;
-        let size = request.tree_size;
-        let text = Text::from(format!(in alloc; "logged {index} {size}\n")?);
-        Ok(Reply { status: 0, text })
-    }
-
-    /// Returns `verified I N`, the index and the size of the inclusion proof, with status 0. Fails if out of memory
-    /// alone.
-    pub fn verified(alloc: Global, proof: &InclusionProof) -> Result<Reply, OutOfMemory>
-        ensures { IfOk result (λ reply. reply ≡ verified proof.now) }
+    /// Returns `logged I N`, the index and the size of the inclusion proof, and the second line behind it, with status
+    /// 0. Fails if out of memory alone.
+    pub fn logged(
+        alloc: Global,
+        proof: &InclusionProof,
+        second: &Text,
+    ) -> Result<Reply, OutOfMemory>
+        ensures { IfOk result (λ reply. reply ≡ logged proof.now second.now) }
     {
         let index = proof.log_index;
         let size = proof.tree_size;
-        let text = Text::from(format!(in alloc; "verified {index} {size}\n")?);
+        let second = second.as_str();
+        let text = Text::from(format!(in alloc; "logged {index} {size}\n{second}")?);
+        Ok(Reply { status: 0, text })
+    }
+
+    /// Returns `verified I N`, the index and the size of the inclusion proof, and the second line behind it, with
+    /// status 0. Fails if out of memory alone.
+    pub fn verified(
+        alloc: Global,
+        proof: &InclusionProof,
+        second: &Text,
+    ) -> Result<Reply, OutOfMemory>
+        ensures { IfOk result (λ reply. reply ≡ verified proof.now second.now) }
+    {
+        let index = proof.log_index;
+        let size = proof.tree_size;
+        let second = second.as_str();
+        let text = Text::from(format!(in alloc; "verified {index} {size}\n{second}")?);
+        Ok(Reply { status: 0, text })
+    }
+
+    /// Returns `consistent M N`, the old and the new size, with status 0. Fails if out of memory alone.
+    pub fn consistent(alloc: Global, request: &ConsistencyRequest) -> Result<Reply, OutOfMemory>
+        ensures { IfOk result (λ reply. reply ≡ consistent request.now) }
+    {
+        let old = request.old_size;
+        let new = request.tree_size;
+        let text = Text::from(format!(in alloc; "consistent {old} {new}\n")?);
         Ok(Reply { status: 0, text })
     }
 }

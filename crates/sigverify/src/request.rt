@@ -18,7 +18,8 @@
 //!       "message": "bG9nLmV4YW1wbGUKMQpPVnFnWktwTUtmY0JDcy9qOGwyNVNGdTlTNUdKZTJyWHJWUjJPU1VyVFZZPQo=",
 //!       "signature": "c2ln"
 //!     }
-//!   ]
+//!   ],
+//!   "entries": ["TDEyMzQ1Ng=="]
 //! }
 //! ```
 ghost use Rattle.std.specs.Prelude.{IfOk};
@@ -26,14 +27,16 @@ ghost use Rattle.sig_base.specs.Answers.{Answers};
 ghost use Rattle.sig_json.specs.Record.{record_in};
 ghost use Rattle.sigverify.specs.Request.{log_request};
 
+use crate::head::SignedHead;
 use crate::read::MOST_BYTES;
-use crate::row::{AbsentReader, RowReader, SchemeReader};
-use sig_base::{Bytes, Hashes, OutOfMemory, SigningScheme, TableChecker, Text};
+use crate::row::{EntriesReader, RowReader, SchemeReader};
+use sig_base::{Bytes, Entries, OutOfMemory, TableChecker};
 use sig_json::{
     ElementReader, HashReader, Json, JsonError, MemberError, optional, optional_list,
     read_record_with, required, required_bytes, required_hash, required_i64, required_text,
     required_u64,
 };
+use sig_rekor::InclusionProof;
 use std::alloc::Global;
 
 /// The members of a request of `log`.
@@ -41,22 +44,12 @@ use std::alloc::Global;
 pub struct LogRequest {
     /// The entry that is said to be logged.
     pub entry: Bytes,
-    /// Its index in the log.
-    pub log_index: i64,
-    /// How many entries the log has.
-    pub tree_size: u64,
-    /// The log's root hash.
-    pub root_hash: [u8; 32],
-    /// The audit path, from the leaf upward.
-    pub hashes: Hashes,
-    /// A signed note with the log's size and root.
-    pub checkpoint: Text,
-    /// The scheme of the log's key.
-    pub scheme: SigningScheme,
-    /// The log's key (DER).
-    pub key: Bytes,
-    /// The signatures that are taken for genuine.
-    pub accepted: TableChecker,
+    /// The proof that it is at an index of the log's tree; the tree's checkpoint is in `head`.
+    pub proof: InclusionProof,
+    /// The checkpoint that is to vouch for the tree.
+    pub head: SignedHead,
+    /// All entries of the log, if they are given.
+    pub entries: Option<Entries>,
 }
 
 /// The names of the members that a request may have. A member of another name is ignored: no tree is made of it.
@@ -94,18 +87,18 @@ impl ElementReader for LogRequestReader {
         let scheme = required::<SchemeReader>(alloc, json, "scheme")?;
         let key = required_bytes(alloc, json, "key")?;
         let accepted = optional_list::<RowReader>(alloc, json, "accepted")?;
-        let _ = optional::<AbsentReader>(alloc, json, "entries")?;
+        let entries = optional::<EntriesReader>(alloc, json, "entries")?;
         let accepted = TableChecker::from_rows(alloc, accepted)?;
         Ok(LogRequest {
             entry,
-            log_index,
-            tree_size,
-            root_hash,
-            hashes,
-            checkpoint,
-            scheme,
-            key,
-            accepted,
+            proof: InclusionProof::new(log_index, root_hash, tree_size, hashes, None),
+            head: SignedHead {
+                checkpoint,
+                scheme,
+                key,
+                accepted,
+            },
+            entries,
         })
     }
 }

@@ -1,14 +1,16 @@
-//! Readers of the values that only requests of this program have: schemes, operations, accepted signatures, and
-//! members that have to be absent.
+//! Readers of the values that only requests of this program have: schemes, operations, accepted signatures, a log's
+//! entries, and members that have to be absent.
 ghost use Rattle.std.specs.Prelude.{Option};
 ghost use Rattle.sig_json.specs.Data.{Data};
 ghost use Rattle.sig_base.specs.Answers.{Answers};
 ghost use Rattle.sig_json.specs.OrMember.{or_member};
 ghost use Rattle.sig_json.specs.Tree.{tree};
-ghost use Rattle.sigverify.specs.Row.{no_kind, operation_kind, row_of, scheme_for, scheme_kind};
+ghost use Rattle.sigverify.specs.Row.{entries_of, no_kind, operation_kind, row_of, scheme_for, scheme_kind};
 
-use sig_base::{AcceptedRow, Bytes, Operation, SigningScheme};
-use sig_json::{ElementReader, Json, MemberError, optional, required, required_bytes};
+use sig_base::{AcceptedRow, Bytes, Entries, Operation, SigningScheme};
+use sig_json::{
+    BytesReader, ElementReader, Json, MemberError, optional, read_list, required, required_bytes,
+};
 use std::alloc::Global;
 
 /// Reads names of signature schemes.
@@ -48,6 +50,19 @@ impl ElementReader for OperationReader {
             Some("certificate") => Ok(Operation::Certificate),
             _ => Err(MemberError::Member),
         }
+    }
+}
+
+/// Reads a log's entries: a list of base64 texts.
+pub enum EntriesReader {}
+
+impl ElementReader for EntriesReader {
+    type Item = Entries;
+
+    ghost meaning = { entries_of };
+
+    fn read(alloc: Global, json: Json<'_>) -> Result<Entries, MemberError> {
+        Ok(Entries::of(alloc, read_list::<BytesReader>(alloc, json)?))
     }
 }
 

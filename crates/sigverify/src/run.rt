@@ -10,6 +10,7 @@ ghost use Rattle.sigverify.specs.Run.{usage_line};
 ghost use Rattle.sigverify.specs.Status.{usage_status, memory_status, fault_status};
 
 use crate::command::Command;
+use crate::consistency::consistency_reply;
 use crate::log::log_reply;
 use crate::read::{ReadFault, read_request};
 use crate::reply::{Reply, USAGE_LINE};
@@ -49,9 +50,12 @@ impl From<OutOfMemory> for NoReply {
 /// Runs the command that the words name, and returns the program's status.
 ///
 /// A command reads a request, at most 2^24 + 1 bytes of what the source has left, and writes one line: `logged I N` for
-/// `log` and `verified I N` for `verify`, with status 0, if every link of the command holds, else `refused NAME` for the
-/// first that fails, with status 1, or 2 for the link `request`. The reply is whole before its first byte is written, and each write is
-/// handed all that is left of it. Other statuses:
+/// `log`, `verified I N` for `verify` and `consistent M N` for `consistency`, with status 0, if every link of the
+/// command holds, else `refused NAME` for the first that fails, with status 1, or 2 for the link `request`. With
+/// status 0 of `log` or `verify` a second line follows if the request gives the log's entries: if they have the size
+/// and the RFC 6962 root of the proof, `entry I`, and the logged body is the entry at the index I, or
+/// `collision HEX HEX`, two different byte strings of equal SHA-256; else `other list`. The reply is whole before its
+/// first byte is written, and each write is handed all that is left of it. Other statuses:
 ///
 /// - 64: the words name no command. Nothing is read, no memory is taken (no call on the way has the allocator), and
 ///   `usage` is written.
@@ -63,7 +67,7 @@ pub fn run<S: Source, K: Sink>(alloc: Global, words: &[Text], source: &mut S, si
     ensures status { (result < 3) ⊎ (result ≡ usage_status) ⊎ (result ≡ memory_status) ⊎ (result ≡ fault_status) }
 
     // The headline: what `Answered` says of the reply is that every link holds if the status is 0, and that else it
-    // shows the first that fails.
+    // shows the first that fails; and of the log's entries, where they are given, what `IsSecondLine` says.
     ensures answered { result < 3 →
         Answered words.now (S.left source.old) (S.left source.new) (K.taken sink.old) (K.taken sink.new) result }
     ensures usage { result ≡ usage_status → ¬ IsCommand words.now
@@ -112,6 +116,7 @@ fn reply_of(alloc: Global, command: Command, request: &[u8]) -> Result<Reply, Ou
     match command {
         Command::Log => log_reply(alloc, request),
         Command::Verify => verify_reply(alloc, request),
+        Command::Consistency => consistency_reply(alloc, request),
     }
 }
 

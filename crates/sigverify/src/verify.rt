@@ -4,20 +4,23 @@ ghost use Rattle.sig_base.specs.Answers.{UnlessMemory};
 ghost use Rattle.sig_verify.specs.Judged.{Judged};
 ghost use Rattle.sig_verify.specs.Links.{links as chain_links};
 ghost use Rattle.sigverify.specs.Link.{EveryLinkHolds};
-ghost use Rattle.sigverify.specs.Reply.{IsProofIn, IsReply};
+ghost use Rattle.sigverify.specs.Reply.{IsEntryIn, IsReply, IsVerifiedReply};
+ghost use Rattle.sigverify.specs.ProofOf.{IsProofOf};
 ghost use Rattle.sigverify.specs.VerifyLink.{HoldsOfVerify, IsTrusted};
 ghost use Rattle.sigverify.specs.declared.command.Command.TheVariants.{Verify};
 
 use crate::reply::Reply;
+use crate::second_line::second_line;
 use crate::verify_request::VerifyRequest;
 use sig_base::OutOfMemory;
 use sig_verify::{Link, Offline, OfflineError, verify_offline};
 use std::alloc::Global;
 
 /// Returns the reply to a request's text: `verified I N` with status 0 if every link holds, with the index and the
-/// size of the inclusion proof of the bundle's log entry, else `refused NAME` for the first that fails, with status 2
-/// for the link `request` and 1 for every other. All links hold if and only if the text is a request with valid inputs,
-/// and the trust chain of its bundle holds. Fails if out of memory alone.
+/// size of the inclusion proof of the bundle's log entry, and the second line if the request gives the log's entries;
+/// else `refused NAME` for the first link that fails, with status 2 for the link `request` and 1 for every other. All
+/// links hold if and only if the text is a request with valid inputs, and the trust chain of its bundle holds. Fails if
+/// out of memory alone.
 pub fn verify_reply(alloc: Global, request: &[u8]) -> Result<Reply, OutOfMemory>
     ensures reply { IfOk result (IsReply Verify request.now) }
     ensures chain { EveryLinkHolds Verify request.now ↔ IsTrusted request.now }
@@ -33,7 +36,7 @@ fn reply_to_text(alloc: Global, request: &[u8]) -> Result<Reply, OutOfMemory>
         return Reply::refused(alloc, Link::Request);
     };
     match verify_chain(alloc, &request) {
-        Ok(offline) => Reply::verified(alloc, &offline.proof),
+        Ok(offline) => verified(alloc, &request, &offline),
         Err(error) => match error.link() {
             Some(link) => Reply::refused(alloc, link),
             None => Err(OutOfMemory),
@@ -41,11 +44,25 @@ fn reply_to_text(alloc: Global, request: &[u8]) -> Result<Reply, OutOfMemory>
     }
 }
 
+/// The reply to a request of which every link holds, with the log entry of its bundle.
+fn verified(alloc: Global, request: &VerifyRequest, offline: &Offline) -> Result<Reply, OutOfMemory>
+    requires { IsProofOf offline.now.body offline.now.proof }
+    ensures { IfOk result (IsVerifiedReply request.entry.now offline.now) }
+{
+    let second = second_line(
+        alloc,
+        &request.entries,
+        offline.body.as_slice(),
+        &offline.proof,
+    )?;
+    Reply::verified(alloc, &offline.proof, &second)
+}
+
 /// The log entry of the request's bundle, or the error of the first link of the chain of trust that fails.
 fn verify_chain(alloc: Global, request: &VerifyRequest) -> Result<Offline, OfflineError>
     ensures links { UnlessMemory OfflineError.OutOfMemory result
         (Judged (HoldsOfVerify request.entry.now) chain_links result) }
-    ensures kept { IfOk result (λ offline. IsProofIn request.entry.now offline.proof) }
+    ensures kept { IfOk result (λ offline. IsEntryIn request.entry.now offline) }
 {
     let now = time_of(request);
     verify_offline(

@@ -7,7 +7,8 @@
 //!   "now": 1702500000,
 //!   "digest": "sha256:e3b0c44298fc1c149afbf4c8996fb92427ae41e4649b934ca495991b7852b855",
 //!   "policy": { "all": [ { "identity": "https://example.com/workflow", "issuer": "https://issuer.example" } ] },
-//!   "accepted": []
+//!   "accepted": [],
+//!   "entries": null
 //! }
 //! ```
 ghost use Rattle.std.specs.Prelude.{IfOk};
@@ -18,8 +19,8 @@ ghost use Rattle.sigverify.specs.VerifyRequest.{verify_request};
 use crate::digest_text::DigestReader;
 use crate::policy_rule::PolicyReader;
 use crate::read::MOST_BYTES;
-use crate::row::{AbsentReader, RowReader};
-use sig_base::{OutOfMemory, TableChecker, Text};
+use crate::row::{EntriesReader, RowReader};
+use sig_base::{Entries, OutOfMemory, TableChecker, Text};
 use sig_dsse::ArtifactDigest;
 use sig_json::{
     ElementReader, Json, JsonError, MemberError, optional, optional_list, read_record_with,
@@ -43,6 +44,8 @@ pub struct VerifyRequest {
     pub policy: RequestPolicy,
     /// The signatures that are taken for genuine.
     pub accepted: TableChecker,
+    /// All entries of the log, if they are given.
+    pub entries: Option<Entries>,
 }
 
 /// The names of the members that a request may have. A member of another name is ignored: no tree is made of it.
@@ -74,7 +77,7 @@ impl ElementReader for VerifyRequestReader {
         let digest = required::<DigestReader>(alloc, json, "digest")?;
         let policy = required::<PolicyReader>(alloc, json, "policy")?;
         let accepted = optional_list::<RowReader>(alloc, json, "accepted")?;
-        let _ = optional::<AbsentReader>(alloc, json, "entries")?;
+        let entries = optional::<EntriesReader>(alloc, json, "entries")?;
         let accepted = TableChecker::from_rows(alloc, accepted)?;
         Ok(VerifyRequest {
             trusted_root,
@@ -83,6 +86,7 @@ impl ElementReader for VerifyRequestReader {
             digest,
             policy,
             accepted,
+            entries,
         })
     }
 }

@@ -6,7 +6,9 @@
 //! same.
 #![tactic(auto)]
 
+mod artifact;
 mod policy;
+mod rooted;
 mod verified;
 
 use sig_cases::{Answer, Arguments, CaseError, Cases, run};
@@ -21,6 +23,10 @@ impl Cases for VerifyCases {
         arguments: &mut Arguments<'_>,
     ) -> Result<Answer, CaseError> {
         match call {
+            "verify" => artifact::source_answer(alloc, arguments),
+            "verify_digest" => artifact::digest_answer(alloc, arguments),
+            "verify_digest_with" => rooted::bundle_answer(alloc, arguments),
+            "verify_log_entry" => rooted::entry_answer(alloc, arguments),
             "verify_offline" => verified::answer(alloc, arguments),
             _ => Err(CaseError::BadLine),
         }

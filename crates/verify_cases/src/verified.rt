@@ -25,7 +25,7 @@ pub(crate) fn answer(alloc: Global, arguments: &mut Arguments<'_>) -> Result<Ans
 }
 
 /// The name of the link that fails, and the error.
-fn failed(alloc: Global, error: &OfflineError) -> Result<Answer, CaseError> {
+pub(crate) fn failed(alloc: Global, error: &OfflineError) -> Result<Answer, CaseError> {
     match error.link() {
         Some(link) => {
             let shown = Answer::error(alloc, error)?;
@@ -36,7 +36,10 @@ fn failed(alloc: Global, error: &OfflineError) -> Result<Answer, CaseError> {
 }
 
 /// The digest of the next argument, `sha256:DIGITS` or `sha512:DIGITS`. `BadLine` where it is none.
-fn digest(alloc: Global, arguments: &mut Arguments<'_>) -> Result<ArtifactDigest, CaseError> {
+pub(crate) fn digest(
+    alloc: Global,
+    arguments: &mut Arguments<'_>,
+) -> Result<ArtifactDigest, CaseError> {
     let word = arguments.word()?;
     let (algorithm, digits) = word.split_once(':').ok_or(CaseError::BadLine)?;
     let bytes = hex::decode(alloc, digits).map_err(|_| CaseError::BadLine)?;

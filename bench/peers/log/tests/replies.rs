@@ -30,13 +30,21 @@ fn examples_have_their_replies() {
     assert!(tried >= 3);
 }
 
+/// The text with the last of the members that have one name, which alone the plain program is to be asked about.
+fn with_last_values(text: &str) -> Vec<u8> {
+    match serde_json::from_str::<serde_json::Value>(text) {
+        Ok(value) => serde_json::to_vec(&value).unwrap(),
+        Err(_) => text.into(),
+    }
+}
+
 /// `log.requests` has a request and its reply on two lines; a line that begins with `#` says what follows.
 #[test]
 fn requests_of_the_table_have_their_replies() {
     let table = fs::read_to_string(examples().join("log.requests")).unwrap();
     let lines: Vec<&str> = table.lines().filter(|line| !line.starts_with('#')).collect();
     for pair in lines.chunks(2) {
-        assert_eq!(replied(pair[0].as_bytes()), pair[1], "{}", pair[0]);
+        assert_eq!(replied(&with_last_values(pair[0])), pair[1], "{}", pair[0]);
     }
     assert!(lines.len() >= 2);
 }

@@ -1,8 +1,11 @@
-use Rattle.sig_bundle.specs.SigningCertificate.{certificate_texts}
-use Rattle.sig_bundle.proofs.SigningCertificateLaws.{of_texts}
+use Rattle.sig_bundle.specs.SigningCertificate.{encodings_in}
+use Rattle.sig_bundle.proofs.SigningCertificateLaws.{encodings_answer, nothing_answers}
 use Rattle.sig_bundle.proofs.signing_certificate.signing_certificate.Goals as goal
 
-pub returns : goal.returns
-returns c =
-    of_texts (certificate_texts c.args.content.now) c.in_ok-text.text.now c.as_slice.result.now
-    c.sole_certificate.result c.in_ok-text.ensures c.as_slice.ensures c.sole_certificate.ensures
+pub returns-in-Some : goal.returns-in-Some
+returns-in-Some c =
+    encodings_answer c.in-Some.ders.now (encodings_in c.args.content.now) c.leaf_of.result c.in-Some.ensures
+    c.leaf_of.ensures
+
+pub returns-in-None : goal.returns-in-None
+returns-in-None c = nothing_answers (encodings_in c.args.content.now) c.in-None.ensures

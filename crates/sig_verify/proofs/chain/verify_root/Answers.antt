@@ -5,6 +5,7 @@ use Rattle.sig_root.specs.declared.record.TransparencyLogInstance.{TransparencyL
 use Rattle.sig_verify.proofs.Chains.{root_read}
 use Rattle.sig_verify.proofs.OfflineBytes.{are_read, inputs}
 use Rattle.sig_verify.specs.OfflineLaws.{HasRawBytes}
+use Rattle.sig_verify.specs.Verdict.{checker_of, policy_of}
 use Rattle.sig_verify.proofs.chain.verify_root.Goals as goal
 
 pub returns-in-Ok-clause-read : goal.returns-in-Ok-clause-read
@@ -22,15 +23,7 @@ returns-in-Ok-clause-read g c =
 pub returns-in-Ok-clause-steps : goal.returns-in-Ok-clause-steps
 returns-in-Ok-clause-steps g c =
     root_read
-    (record {
-      spki = g.C.SignatureChecker.spki_accepts c.args.checker.now;
-      prehash = g.C.SignatureChecker.prehash_accepts c.args.checker.now;
-      point = g.C.SignatureChecker.point_accepts c.args.checker.now;
-      cert = g.C.SignatureChecker.cert_accepts c.args.checker.now;
-    })
-    (record {
-      holds = g.P.VerificationPolicy.holds c.args.policy.now;
-      refusal = g.P.VerificationPolicy.refusal c.args.policy.now;
-    })
+    (checker_of g.C.SignatureChecker c.args.checker.now)
+    (policy_of g.P.VerificationPolicy c.args.policy.now)
     c.args.trusted_root.now c.in-Ok.root _ c.args.now _ c.args.digest.now c.args.bundle.now c.verify_text.result
     (to_z-of_z c.ranges.now) c.of-root.ensures c.in-Ok.ensures c.verify_text.ensures.steps

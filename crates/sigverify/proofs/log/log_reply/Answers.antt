@@ -1,4 +1,6 @@
 -- The reply to what was read, and to the verdict on it.
+use Rattle.std.proofs.Common.{subst}
+use Rattle.sigverify.specs.Link.{IsVerdict}
 use Rattle.sigverify.proofs.Replies.{unread-replied, refused-replied, vouched-replied}
 use Rattle.sigverify.proofs.log.log_reply.Goals as goal
 
@@ -18,3 +20,7 @@ returns c =
     vouched-replied c.args.request.now c.in_ok-request.field-0 c.in-Some.request c.in_ok-link.field-0 c.logged.result
     c.logged.ensures
     c.in-Some.is c.in_ok-request.ensures c.in-None.is c.in_ok-link.ensures
+
+-- the last of the links holds
+pub logged-requires : goal.logged-requires
+logged-requires c = (subst (IsVerdict c.in-Some.request) c.in-None.is c.in_ok-link.ensures).1.1.1.1.0

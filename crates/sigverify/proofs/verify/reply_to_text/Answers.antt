@@ -1,6 +1,7 @@
 -- The reply to what was read, and to what the chain of trust is.
 use Rattle.std.proofs.Common.{sym, ◌∙◌}
-use Rattle.sigverify.proofs.VerifyReplies.{refused-verify-replied, unread-verify-replied, verified-replied}
+use Rattle.sigverify.proofs.VerifyReplies.{chain-included, refused-verify-replied}
+use Rattle.sigverify.proofs.VerifyReplies.{unread-verify-replied, verified-replied}
 use Rattle.sigverify.proofs.verify.reply_to_text.Goals as goal
 
 pub returns-in_default : goal.returns-in_default
@@ -18,3 +19,7 @@ returns-in-Some-link c =
     refused-verify-replied c.args.request.now c.in_ok-request.field-0 c.in-Some.request c.in-Err.error
     c.in-Some-link.link c.refused-in-Some-link.result c.refused-in-Some-link.ensures c.in-Some.is
     c.in_ok-request.ensures (sym c.link.ensures ∙ c.in-Some-link.is) c.in-Err.ensures.links
+
+pub verified-requires : goal.verified-requires
+verified-requires c =
+    chain-included c.in-Some.request c.in-Ok.offline c.in-Ok.ensures.links c.in-Ok.ensures.kept

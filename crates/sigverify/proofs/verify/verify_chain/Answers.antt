@@ -1,9 +1,8 @@
 -- The clauses of `verify_offline`, of the texts and the time that the request holds.
 use Rattle.std.proofs.Common.{◌≡◌, List, ℕ, ℤ, IfOk, arith, rules, subst, sym, w64, FitsSigned, ◌∙◌}
 use Rattle.std.proofs.lemmas.Int.{ints, to_z-of_z}
-use Rattle.sig_bundle.specs.Proof.{IsProof}
 use Rattle.sig_dsse.specs.declared.artifact_digest.ArtifactDigest.{ArtifactDigest}
-use Rattle.sig_verify.specs.EntryLinks.{OfProof}
+use Rattle.sig_verify.specs.LinkLaws.{IsKept}
 use Rattle.sig_verify.specs.Links.{Inputs, OfPassed}
 use Rattle.sig_verify.specs.declared.offline.Offline.{Offline}
 use Rattle.sigverify.proofs.verify.verify_chain.Goals as goal
@@ -35,5 +34,5 @@ returns-clause-kept c =
     let now = to_z-of_z w64 c.time_of-now.result fits ∙ c.time_of-now.ensures in
     same_inputs
     (λ i. IfOk c.verify_offline.result
-    (λ (offline : Offline). OfPassed i (λ e. OfProof e.entry (λ p. IsProof p offline.proof))))
+    (λ (offline : Offline). OfPassed i (λ c. IsKept c.entry offline)))
     c.args.request.now.digest _ _ root _ _ now _ _ bundle c.verify_offline.ensures.kept

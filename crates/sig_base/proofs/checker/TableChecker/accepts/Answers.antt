@@ -1,10 +1,11 @@
 -- The search finds an index if and only if the table has the row.
 use Rattle.std.proofs.Common.{rules, ◌≡◌, ◌↔◌, sym, subst, true, List, ℕ}
 use Rattle.std.specs.Prelude.{Contains, is_ok}
+use Rattle.std.specs.Bool.{one_answer}
 use Rattle.std.proofs.lemmas.Fn.{always_returns_same}
 use Rattle.sig_base.specs.declared.checker.AcceptedRow.{AcceptedRow}
 use Rattle.sig_base.specs.RowOrder.{IsOrderOf}
-use Rattle.sig_base.proofs.AcceptedRows.{accepted-rows, row_with, same_test}
+use Rattle.sig_base.proofs.AcceptedRows.{accepted-rows, row_with}
 use Rattle.sig_base.proofs.RowOrders.{finds_row, sought}
 use Rattle.sig_base.proofs.checker.TableChecker.accepts.Goals as goal
 
@@ -31,5 +32,5 @@ returns-clause-exact c = found c
 
 pub returns-clause-value : goal.returns-clause-value
 returns-clause-value c =
-    same_test _ _ _ (found c) (accepted-rows c.args.self.now c.args.operation c.args.scheme.now c.args.key.now
+    one_answer _ _ (found c) (accepted-rows c.args.self.now c.args.operation c.args.scheme.now c.args.key.now
     c.args.message.now c.args.signature.now)

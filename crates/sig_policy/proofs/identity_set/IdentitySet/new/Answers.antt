@@ -3,7 +3,7 @@ use Rattle.std.proofs.Common.{ℕ, List, sym, ap, ◌∙◌, refl}
 use Rattle.std.specs.Borrow.{Bor}
 use Rattle.std.specs.Str.{bytes_eq}
 use Rattle.sig_policy.specs.IdentitySet.{has_text}
-use Rattle.sig_policy.proofs.IdentityLaws.{list_any_seen}
+use Rattle.sig_base.proofs.SeenTexts.{list_any_seen}
 use Rattle.sig_policy.proofs.identity_set.IdentitySet.new.Goals as goal
 use Rattle.sig_policy.proofs.identity_set.IdentitySet.new.Goals.{in-None, in-Some+in_ok-set-in-Some}
 

@@ -1,0 +1,369 @@
+"""Requests of `verify` with many of one kind: each a function from a count to the bytes. Nothing but the list grows:
+the rest is the fixture of tools/fixture.py, of which each link holds unless the table says another reply."""
+import random
+import sys
+
+import measure
+import shapes
+from shapes import coded, numbered, repeated
+
+sys.path.append(str(measure.TOP / "tools"))
+import fixture
+from fixture import SEQUENCE, certificate, compact, der, extension, extensions, leaf
+
+MOST_SUBJECTS, MOST_DIGESTS = 1024, 32  # of a statement
+FAR = "fixture root" + "n" * 1000  # a name that agrees with no issuer's in its last bytes
+
+
+class Signed(fixture.Request):
+    """A request whose leaf has many extensions; its precertificate is made of the extensions by name."""
+
+    def __init__(self, held, **changes):
+        self.held = held
+        super().__init__(leaf=leaf(held), **changes)
+
+    def precertificate(self):
+        others = [item for name, item in self.held.items() if name != "list"]
+        return fixture.tbs({**self.leaf, "extensions": extensions(*others)})
+
+
+def written(made, root=None, bundle=None, rows=None, **members):
+    """The request's text, by a trusted root, a bundle, rows and members in place of those that were made."""
+    members = {"now": made.now, "digest": made.digest, "policy": made.policy, **members}
+    members["trustedRoot"] = compact(root or made.trusted_root())
+    members["bundle"] = compact(bundle or made.bundle(), canonical=True)
+    members["accepted"] = made.accepted() if rows is None else rows
+    return compact(members).encode()
+
+
+def example(_count=0):
+    return written(fixture.Request())
+
+
+def bundle():
+    """The bundle of the example."""
+    return compact(fixture.Request().bundle(), canonical=True).encode()
+
+
+def payload_of(size):
+    """A payload of nearly so many bytes: its predicate is one text."""
+    return fixture.statement().replace(b'"predicate":{}', b'"predicate":{"a":"' + b"p" * (size - 500) + b'"}')
+
+
+def small(size):
+    return written(fixture.Request(payload=payload_of(size)))
+
+
+def predicate(count):
+    return written(fixture.Request(payload=payload_of(500 + 3 * count)))
+
+
+# The trusted root
+
+
+def with_anchors(made, anchors):
+    """The made trusted root with these trust anchors before its own."""
+    root = made.trusted_root()
+    chain = root["certificateAuthorities"][0]["certChain"]["certificates"]
+    chain[:0] = [{"rawBytes": coded(certificate(anchor))} for anchor in anchors]
+    return root
+
+
+def keys(count):
+    """So many keys of P-256 whose points share a prefix, in an order that is none."""
+    prefix = fixture.key(9)[:-4]
+    return list(numbered(prefix, count))
+
+
+def turned(content):
+    """The bytes with another last one."""
+    return content[:-1] + bytes([content[-1] ^ 1])
+
+
+def anchors_and_rows(count):
+    """Trust anchors of the issuer's name and other keys, each with a row of the leaf's signature over other bytes."""
+    made, others = fixture.Request(), keys(count)
+    first = made.accepted()[0]
+    other = coded(turned(fixture.tbs(made.leaf)))
+    rows = [{**first, "key": coded(key), "message": other} for key in others]
+    return written(made, with_anchors(made, (fixture.anchor(key=key) for key in others)), rows=rows + made.accepted())
+
+
+def anchors_of_one_key(count):
+    """Trust anchors of the issuer's name and one other key, and one row over a leaf of 200 KB that differs in its last
+    byte: for each anchor the checker compares all of the leaf."""
+    made = Signed(fixture.leaf_extensions(others=extension(unknown(0), b"v" * 200000)))
+    first = made.accepted()[0]
+    row = {**first, "key": coded(fixture.key(9)), "message": coded(turned(fixture.tbs(made.leaf)))}
+    root = with_anchors(made, [fixture.anchor(key=fixture.key(9))] * count)
+    return written(made, root, rows=[row] + made.accepted())
+
+
+def anchors_by_name(count):
+    """Trust anchors whose names share all but the last bytes with the leaf's issuer."""
+    issuer = fixture.name(FAR)
+    made = fixture.Request(anchor=fixture.anchor(subject=issuer), leaf=leaf(issuer=issuer))
+    names = [fixture.name(FAR[:-8] + "%08d" % place) for place in range(count)]
+    return written(made, with_anchors(made, (fixture.anchor(subject=name) for name in names)))
+
+
+def authorities(count):
+    """As many authorities, with a trust anchor of another name each."""
+    made = fixture.Request()
+    root = made.trusted_root()
+    other = certificate(fixture.anchor(subject=fixture.name("fixture r00t")))
+    chain = {"certificates": [{"rawBytes": coded(other)}]}
+    listed = [{"certChain": chain, "validFor": {"start": "2023-01-01T00:00:00Z"}}] * count
+    return written(made, {**root, "certificateAuthorities": listed + root["certificateAuthorities"]})
+
+
+def log_of(key, identifier, **valid_for):
+    opened = {"start": "2023-01-01T00:00:00Z", **valid_for}
+    return {"publicKey": {"rawBytes": coded(key), "validFor": opened}, "logId": {"keyId": coded(identifier)}}
+
+
+def log_keys(count):
+    """Keys of logs whose ids share a thousand bytes with the entry's."""
+    made = fixture.Request(log_id=b"\x44" * 1000)
+    root = made.trusted_root()
+    others = [log_of(fixture.key(9), identifier) for identifier in numbered(b"\x44" * 996, count)]
+    return written(made, {**root, "tlogs": others + root["tlogs"]})
+
+
+def log_keys_of_one_id(count):
+    """Keys of the entry's log; the last in range is the one."""
+    made = fixture.Request()
+    root = made.trusted_root()
+    others = [log_of(key, fixture.LOG_ID) for key in keys(count)]
+    return written(made, {**root, "tlogs": others + root["tlogs"]})
+
+
+def certificate_log_keys(count):
+    made = fixture.Request()
+    root = made.trusted_root()
+    others = [log_of(key, b"\x33" * 32) for key in keys(count)]
+    return written(made, {**root, "ctlogs": others + root["ctlogs"]})
+
+
+# The leaf and the policy
+
+
+def unknown(place):
+    """The contents octets of an object identifier that nothing here knows."""
+    return b"\x2b\x06\x01\x05" + shapes.arc(2**14 + place)
+
+
+def leaf_of_extensions(count):
+    """The leaf's extensions behind so many others, whose object identifiers come in an order that is none."""
+    order = random.Random(count).sample(range(count), count)
+    others = b"".join(extension(unknown(place), b"v") for place in order)
+    return {"before": others, **fixture.leaf_extensions()}
+
+
+def names_of(count):
+    """So many identities that share a prefix, in an order that is none."""
+    return [fixture.WORKFLOW + place.hex() for place in numbered(b"", count)]
+
+
+def leaf_of_names(names):
+    """The leaf's extensions, where the alternative names are these."""
+    listed = der(SEQUENCE, *(der(fixture.URI, name.encode()) for name in names))
+    return fixture.leaf_extensions(names=extension(fixture.SUBJECT_ALTERNATIVE_NAME, listed, critical=True))
+
+
+def leaf_extensions(count):
+    return written(Signed(leaf_of_extensions(count)))
+
+
+def leaf_names(count):
+    return written(Signed(leaf_of_names(names_of(count) + [fixture.WORKFLOW])))
+
+
+def asked_for(name):
+    return {"identity": name, "issuer": fixture.ISSUER}
+
+
+def all_names(count):
+    """All of the identities that the leaf has are asked for."""
+    names = names_of(count)
+    return written(Signed(leaf_of_names(names), policy={"all": [asked_for(name) for name in reversed(names)]}))
+
+
+def any_name(count):
+    """Identities of which the leaf has only the last that is asked for."""
+    asked = [asked_for(name + "x") for name in names_of(count)] + [asked_for(fixture.WORKFLOW)]
+    return written(Signed(leaf_of_names(names_of(count) + [fixture.WORKFLOW]), policy={"any": asked}))
+
+
+def no_name(count):
+    """Identities of which the leaf has none."""
+    asked = [asked_for(name + "x") for name in names_of(count)]
+    return written(Signed(leaf_of_names(names_of(count)), policy={"any": asked}))
+
+
+def rules_over_extensions(count):
+    """As many rules as extensions before the one that they ask for."""
+    return written(Signed(leaf_of_extensions(count), policy={"all": [{"issuer": fixture.ISSUER}] * count}))
+
+
+def any_rule_of_a_long_text(count):
+    """Rules of which none holds, over an extension of ten bytes for each rule."""
+    held = fixture.leaf_extensions(issued=extension(fixture.FULCIO["issuer"], b"i" * (10 * count)))
+    return written(Signed(held, policy={"any": [{"issuer": "i" * 10}] * count}))
+
+
+# The statement
+
+
+def digests(count):
+    """So many digests of a subject, of which two can be compared, and neither is the artifact's."""
+    others = {f"other{place}": "a5" * 32 for place in range(count - 2)}
+    return {"sha256": "c" * 64, "sha512": "c" * 128, **others}
+
+
+def statement(subjects, each):
+    """A statement of so many subjects of so many digests, of which the last has the artifact's."""
+    listed = [fixture.subject(str(place), **digests(each)) for place in range(subjects)]
+    listed[-1]["digest"]["sha256"] = fixture.DIGEST
+    members = {"_type": "https://in-toto.io/Statement/v1", "subject": listed, "predicateType": "", "predicate": {}}
+    return written(fixture.Request(payload=compact(members).encode()))
+
+
+def subjects(count):
+    return statement(count, MOST_DIGESTS)
+
+
+def digests_of_a_subject(count):
+    return statement(MOST_SUBJECTS, count)
+
+
+# The log's entry and its note
+
+
+def note_line(signature, name="fixture.log"):
+    return f"\u2014 {name} {coded(bytes(4) + signature)}\n"
+
+
+def with_note(made, signatures, rows):
+    """The request whose note has these signatures before the genuine one, with these rows before its own."""
+    bundle = made.bundle()
+    lines = [note_line(signature) for signature in signatures] + [note_line(b"sig-note")]
+    proof = bundle["verificationMaterial"]["tlogEntries"][0]["inclusionProof"]
+    proof["checkpoint"]["envelope"] = made.noted + "\n" + "\n".join(lines)
+    return written(made, bundle=bundle, rows=rows + made.accepted())
+
+
+def note_signatures(count):
+    """As many signatures of the note as rows under the log's key, none of them equal."""
+    made = fixture.Request()
+    last = made.accepted()[-1]
+    rows = [{**last, "signature": coded(signature)} for signature in numbered(b"t" * 66, count)]
+    return with_note(made, numbered(b"s" * 66, count), rows)
+
+
+def note_of_many_lines(count):
+    """Signatures that differ, over a note of as many lines."""
+    made = fixture.Request()
+    made.noted += "c\n" * count
+    return with_note(made, numbered(b"s" * 66, count), [])
+
+
+def rows_by_signature(count):
+    """Rows that differ from the note's in the last bytes of the signature."""
+    made = fixture.Request()
+    last = made.accepted()[-1]
+    rows = [{**last, "signature": coded(signature)} for signature in numbered(b"s" * 66, count)]
+    return written(made, rows=rows + made.accepted())
+
+
+def rows_by_message(count):
+    """Rows that differ from the leaf's in the last bytes of the TBSCertificate."""
+    made = fixture.Request()
+    first, tbs = made.accepted()[0], fixture.tbs(made.leaf)
+    rows = [{**first, "message": coded(message)} for message in numbered(tbs[:-4], count)]
+    return written(made, rows=rows + made.accepted())
+
+
+def hashes(count):
+    made = fixture.Request()
+    bundle = made.bundle()
+    proof = bundle["verificationMaterial"]["tlogEntries"][0]["inclusionProof"]
+    proof["hashes"] = [coded(b"\xa5" * 32)] * count
+    return written(made, bundle=bundle)
+
+
+def entries(count):
+    made = fixture.Request()
+    bundle = made.bundle()
+    bundle["verificationMaterial"]["tlogEntries"] *= count
+    return written(made, bundle=bundle)
+
+
+def envelope_signatures(count):
+    made = fixture.Request()
+    bundle = made.bundle()
+    bundle["dsseEnvelope"]["signatures"] *= count
+    return written(made, bundle=bundle)
+
+
+# Ignored members inside
+
+
+def ignored(place, item):
+    """Requests with a member that is ignored, the list of so many items, in an object inside: a tree is made of it."""
+    def make(count):
+        made = fixture.Request()
+        root, bundle, rows = made.trusted_root(), made.bundle(), made.accepted()
+        inside = {
+            "trusted root": root["tlogs"][0],
+            "log entry": bundle["verificationMaterial"]["tlogEntries"][0],
+            "row": rows[0],
+        }
+        inside[place]["ignored"] = "@items"
+        text, items = written(made, root, bundle, rows), repeated(item)(count)
+        if place == "row":
+            return text.replace(b'"@items"', items)
+        return text.replace(rb"\"@items\"", items.replace(b'"', rb"\""))
+    return make
+
+
+# The requests by their reply; each is made at half of the largest size, and at the whole.
+REQUESTS = {
+    "verified 2 5": (
+        ("one payload", predicate),
+        ("trust anchors, a row each", anchors_and_rows),
+        ("trust anchors of long names", anchors_by_name),
+        ("authorities", authorities),
+        ("log keys, ids of a long prefix", log_keys),
+        ("log keys of one id", log_keys_of_one_id),
+        ("Certificate Transparency log keys", certificate_log_keys),
+        ("extensions of the leaf", leaf_extensions),
+        ("alternative names of the leaf", leaf_names),
+        ("policy, all of the leaf's names", all_names),
+        ("policy, any name, the last", any_name),
+        ("policy rules, extensions", rules_over_extensions),
+        ("signatures of the note, rows", note_signatures),
+        ("signatures of the note, its lines", note_of_many_lines),
+        ("rows by signature", rows_by_signature),
+        ("rows by message", rows_by_message),
+        *(
+            (f"ignored in a {place}: {name}", ignored(place, item))
+            for place, above in (("trusted root", 3), ("log entry", 4), ("row", 3))
+            for name, item in shapes.worst(above)
+        ),
+    ),
+    "refused policy": (
+        ("policy, any name, none", no_name),
+        ("policy, any rule, a long text", any_rule_of_a_long_text),
+    ),
+    "refused envelope": (("signatures of the envelope", envelope_signatures),),
+    "refused entry": (("log entries", entries),),
+    "refused inclusion": (("hashes of the proof", hashes),),
+}
+
+# Lists by their number of items, which a rule limits, or which stand beside something long: this many, and half.
+COUNTED = (
+    ("trust anchors of one key, a long leaf", anchors_of_one_key, 20000),
+    (f"subjects of {MOST_DIGESTS} digests", subjects, MOST_SUBJECTS),
+    (f"digests of {MOST_SUBJECTS} subjects", digests_of_a_subject, MOST_DIGESTS),
+)

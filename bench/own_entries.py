@@ -1,0 +1,52 @@
+"""Requests of `log` with the log's own entries, and what hashing those takes alone."""
+import hashlib
+import time
+
+from shapes import EXAMPLE, coded, request, row
+
+KEY_HINT_AND_SIGNATURE = EXAMPLE["checkpoint"].split("\n\n")[1]
+
+
+def leaf(entry):
+    return hashlib.sha256(b"\0" + entry).digest()
+
+
+def node(left, right):
+    return hashlib.sha256(b"\1" + left + right).digest()
+
+
+def levels(entries):
+    """The hashes of a tree of 2^k entries, level by level, from the leaves to the root (RFC 6962 section 2.1)."""
+    level = [leaf(entry) for entry in entries]
+    while len(level) > 1:
+        yield level
+        level = [node(*level[at : at + 2]) for at in range(0, len(level), 2)]
+    yield level
+
+
+def of_log(entries, more=()):
+    """A request for the first of 2^k entries of a log, with the log's entries and more."""
+    *below, [root] = levels(entries)
+    note = f"log.example\n{len(entries)}\n{coded(root)}\n"
+    return request(
+        entry=coded(entries[0]), treeSize=len(entries), rootHash=root.hex(), hashes=[level[1].hex() for level in below],
+        checkpoint=f"{note}\n{KEY_HINT_AND_SIGNATURE}", accepted=[row(note.encode())],
+        entries=[coded(entry) for entry in (*entries, *more)],
+    )
+
+
+def big(size):
+    """Four entries that make a request of nearly so many bytes."""
+    return [bytes([number]) * (3 * size // 20 - 300) for number in range(4)]
+
+
+def small(count):
+    return [b"entry %d" % number for number in range(count)]
+
+
+def hashing(entries):
+    """The seconds that the leaves' hashes take, of few and big entries, by the library that Python has."""
+    begun = time.perf_counter()
+    for entry in entries:
+        leaf(entry)
+    return time.perf_counter() - begun

@@ -1,0 +1,293 @@
+"""The tables of bench/run: each a function over the run, whose rows are what was measured."""
+import itertools
+import sys
+
+import chains
+import measure
+import own_entries
+import shapes
+from measure import megabytes, written
+from shapes import filled
+
+MOST_TO_PLAIN = 1.2  # the time over a request, to the plain program's
+MOST_TO_PLAIN_SMALL = 1  # the same where the request has at most 2^16 bytes
+MOST_DOUBLED = 2.3  # the time over an input, to that over one of half the size
+MOST_TO_READING_AND_HASHING = 1.3  # the time over a log's own entries, to those of reading them and of hashing them alone
+MOST_BEYOND_START = 1.0  # the milliseconds that a small request takes beyond those of a process that reads none
+MOST_MEGABYTES = 700  # the peak memory over an input of 2^24 bytes
+MOST_TO_HASHING = 1.1  # the time over an artifact, to that of hashing it alone
+MOST_MEGABYTES_OF_ARTIFACT = 20  # the peak memory over an artifact, however long
+
+# Requests of `log` by the reply that they have; each is made at half of the largest size, and at the whole.
+LOG_REQUESTS = {
+    "refused inclusion": (
+        ("one entry", shapes.one_entry),
+        ("one entry of escapes", shapes.escaped_entry),
+        ("hashes", shapes.hashes),
+    ),
+    "logged 0 1": (
+        ("equal rows", shapes.equal_rows),
+        ("rows by signature", shapes.rows_by_signature),
+        ("rows by key", shapes.rows_by_key),
+        ("rows by message", shapes.rows_by_message),
+        ("signatures and rows", shapes.signatures_and_rows),
+        ("signatures, a long note", shapes.signatures_of_a_long_note),
+        ("equal signatures, a long note", shapes.equal_signatures_of_a_long_note),
+        *((f"ignored: {name}", shapes.ignored(shapes.repeated(item))) for name, item in shapes.worst(above=1)),
+        ("ignored: members", shapes.ignored_members("m")),
+        ("ignored: long names", shapes.ignored_members("m" * 1000)),
+        ("ignored: one object", shapes.ignored(shapes.members("m"))),
+    ),
+    "refused note-key": (
+        ("signatures", shapes.signatures),
+        ("contents", shapes.contents("a key: and its value, which is a line of a usual length\n")),
+        ("contents, a byte each", shapes.contents("c\n")),
+        ("contents, a pair each", shapes.contents("k: v\n")),
+    ),
+}
+
+
+def status_of(reply):
+    return 2 if reply == "refused request" else 1 if reply.startswith("refused") else 0
+
+
+def timed(bench, commands, text, reply):
+    """The best times of the commands over a request that has to have this reply, and their peak memory."""
+    path, status = bench.kept(text), status_of(reply)
+    for words in commands:
+        measure.expect(words, path, written(words, path, status), reply)
+    return bench.seconds(path, *commands, status=status), [megabytes(words, path, status) for words in commands]
+
+
+def log(bench):
+    """Requests of `log`, beside the plain program of `bench/peers/log` where it can be built. The last column is the
+    time to that over a request of half the size."""
+    packages = "librust-serde-json-dev librust-sha2-dev librust-base64-dev librust-hex-dev"
+    plain = measure.peer("log", "plain-log", packages)
+    commands = [[program, "log"] for program in (bench.program, plain) if program]
+    beside = ("plain ms", "plain MB", "to plain") if plain else ()
+    table = bench.table(log, "request", "reply", "bytes", "ms", "MB", *beside, "to half")
+
+    def measured(name, text, reply):
+        """Times and peaks over a request; the goals that it misses are noted."""
+        times, peaks = timed(bench, commands, text, reply)
+        said = f"log, {name}, {len(text)} bytes"
+        bench.goal(f"{said}, MB", peaks[0], MOST_MEGABYTES)
+        if plain:
+            most = MOST_TO_PLAIN if len(text) > 2**16 else MOST_TO_PLAIN_SMALL
+            bench.goal(f"{said}, time to the plain program", times[0] / times[1], most)
+        return times, peaks
+
+    def row(name, text, reply, half=None):
+        """The row of a request, and of the one of half its size where there is one."""
+        first = half and measured(name, half, reply)[0][0]
+        times, peaks = measured(name, text, reply)
+        cells = [cell for took, peak in zip(times, peaks) for cell in (took * 1000, round(peak))]
+        cells += [times[0] / times[1]] if plain else []
+        doubled = half and times[0] / first
+        table.row(name, reply, len(text), *cells, doubled)
+        if half:
+            bench.goal(f"log, {name}, time to that at half", doubled, MOST_DOUBLED)
+
+    for name in ("log", "log-rekor-staging"):
+        example = measure.TOP / f"examples/{name}.json"
+        row(f"examples/{name}.json", example.read_bytes(), example.with_suffix(".expected").read_text().splitlines()[0])
+    for reply, kinds in LOG_REQUESTS.items():
+        for name, make in kinds:
+            row(name, filled(make, bench.most), reply, filled(make, bench.most // 2))
+    row("too long, refused", shapes.request() + b" " * 2**25, "refused request")
+
+
+def verify(bench):
+    """Requests of `verify`. The milliseconds are those beyond a process that reads no request, which the first row has;
+    the last column is their ratio to those over a request whose list has half as many items."""
+    command = [bench.program, "verify"]
+    start = bench.seconds(bench.kept(b""), [bench.program, "--version"])[0]
+    table = bench.table(verify, "request", "reply", "bytes", "ms", "MB", "to half")
+    table.row("none: the process alone", "", 0, start * 1000, None, None)
+
+    def measured(name, text, reply):
+        """Time beyond the start and peak over a request."""
+        [took], [peak] = timed(bench, [command], text, reply)
+        bench.goal(f"verify, {name}, {len(text)} bytes, MB", peak, MOST_MEGABYTES)
+        return took - start, peak
+
+    def row(name, text, reply, half=None):
+        first = half and measured(name, half, reply)[0]
+        took, peak = measured(name, text, reply)
+        table.row(name, reply, len(text), took * 1000, round(peak), half and took / first)
+        if half:
+            bench.goal(f"verify, {name}, time to that at half", took / first, MOST_DOUBLED)
+        return took * 1000
+
+    for name, text in (("examples/verify.json", chains.example()), ("a payload of 10 KB", chains.small(10000))):
+        bench.goal(f"verify, {name}, ms beyond the start", row(name, text, "verified 2 5"), MOST_BEYOND_START)
+    for name, make, most in chains.COUNTED:
+        row(name, make(most), "verified 2 5", make(most // 2))
+    for reply, kinds in chains.REQUESTS.items():
+        for name, make in kinds:
+            row(name, filled(make, bench.most), reply, filled(make, bench.most // 2))
+    row("too long, refused", chains.example() + b" " * 2**25, "refused request")
+
+
+def entries(bench):
+    """Requests of `log` with the log's own entries, beside the same request with one entry more, which is read and not
+    hashed, and the hashing of big entries by itself. The last column is the time to that over half as many."""
+    command = [bench.program, "log"]
+    table = bench.table(entries, "entries", "bytes", "ms", "MB", "read ms", "hash ms", "to both", "to half")
+
+    def measured(made):
+        size = len(made)
+        text, longer = own_entries.of_log(made), own_entries.of_log(made, [b"more"])
+        [took], [peak] = timed(bench, [command], text, f"logged 0 {size}\nentry 0")
+        [read], _ = timed(bench, [command], longer, f"logged 0 {size}\nother list")
+        return len(text), took, peak, read
+
+    big = own_entries.big(bench.most)
+    size, took, peak, read = measured(big)
+    hashed = min(own_entries.hashing(big) for _ in range(bench.runs))
+    table.row("four of one size", size, took * 1000, round(peak), read * 1000, hashed * 1000, took / (read + hashed), None)
+    bench.goal("log, big entries, time to reading and hashing", took / (read + hashed), MOST_TO_READING_AND_HASHING)
+    first = measured(own_entries.small(2**16))[1]
+    size, took, peak, read = measured(own_entries.small(2**17))
+    table.row("131,072 small ones", size, took * 1000, round(peak), read * 1000, None, None, took / first)
+    bench.goal("log, small entries, time to that at half", took / first, MOST_DOUBLED)
+
+
+# Certificates by their numbers of extensions; webpki reads no more than 2^16 bytes.
+CERTIFICATES = (
+    ("usual", (9,), shapes.in_order, b""),
+    ("in order", (500, 1000), shapes.in_order, b""),
+    ("shuffled", (500, 1000, 18000, 36000), shapes.shuffled, b""),
+    ("shuffled, long identifiers", (18000, 36000), shapes.shuffled, b"\1" * 90),
+)
+
+
+def certificates(bench):
+    """Certificates whose extensions come in some order, beside webpki where it can be built, which reads no more than
+    2^16 bytes."""
+    webpki = measure.peer("certificate", "webpki-read", "librust-webpki-dev")
+    beside = ("webpki a second", "to webpki") if webpki else ()
+    table = bench.table(certificates, "certificate", "extensions", "bytes", "read a second", "ns a byte", *beside)
+    for name, counts, order, prefix in CERTIFICATES:
+        for count in counts:
+            text = shapes.certificate(count, order, prefix)
+            path, times = bench.kept(text), max(20, 10**7 // len(text))
+            words = [[bench.reader, "certificate"]] + ([[webpki]] if webpki and len(text) < 2**16 else [])
+            once = bench.seconds(path, *([*start, "1"] for start in words))
+            more = bench.seconds(path, *([*start, str(times + 1)] for start in words))
+            each = [(end - begun) / times for begun, end in zip(once, more)]
+            cells = [count, len(text), round(1 / each[0]), each[0] / len(text) * 1e9]
+            if webpki:
+                cells += [round(1 / each[1]), each[0] / each[1]] if len(each) > 1 else [None, None]
+            table.row(name, *cells)
+
+
+# The kinds of documents that cost most for a byte: in time, in memory or in depth.
+DOCUMENTS = (
+    *((name, shapes.repeated(item)) for name, item in shapes.worst(above=0)),
+    ("empty objects", shapes.repeated("{}")),
+    ("small integers", shapes.repeated("1")),
+    ("members of one object", shapes.members("m")),
+    ("names of a long prefix", shapes.members("m" * 1000)),
+    ("names in two orders", shapes.two_orders),
+    ("one text", shapes.one_text()),
+    ("one text 126 deep", shapes.one_text(depth=126)),
+    ("one text of escapes", shapes.one_text(unit=rb"\u00e9")),
+)
+
+# Reading by Python's own reader, timed inside the process, so that its start does not count.
+PYTHON = """
+import json, sys, time
+text = sys.stdin.buffer.read()
+begun = time.process_time()
+json.loads(text)
+print(time.process_time() - begun)
+"""
+
+
+def documents(bench):
+    """Documents of the worst kinds: the milliseconds to read one of the largest size, and their ratio to those of
+    Python's `json`; then those to read and write it, compact and canonical, and their ratio to those at half the size."""
+    reader = bench.reader
+    start = bench.seconds(bench.kept(b"{}"), [reader, "read"])[0]
+    ways = (column for word in ("compact", "canonical") for column in (f"{word} ms", "to half", "MB"))
+    table = bench.table(documents, "document", "read ms", "to Python", "MB", *ways)
+    for name, make in DOCUMENTS:
+        half, whole = (bench.kept(filled(make, most)) for most in (bench.most // 2, bench.most))
+        took, peak = bench.seconds(whole, [reader, "read"])[0] - start, megabytes([reader, "read"], whole)
+        python = min(float(written([sys.executable, "-c", PYTHON], whole)) for _ in range(bench.runs))
+        cells = [took * 1000, took / python, round(peak)]
+        bench.goal(f"document, {name}, MB", peak, MOST_MEGABYTES)
+        for word in ("compact", "canonical"):
+            first, both = (bench.seconds(path, [reader, word])[0] - start for path in (half, whole))
+            cells += [both * 1000, both / first, round(megabytes([reader, word], whole))]
+            bench.goal(f"document, {name}, {word}, time to that at half", both / first, MOST_DOUBLED)
+        table.row(name, *cells)
+
+
+def as_entry(item):
+    """A log entry: the item, if it is an object, else an entry with the item as a member that is ignored."""
+    return item if item.startswith("{") else '{"a":' + item + "}"
+
+
+# Bundles of most parts.
+BUNDLES = (
+    *((f"entries: {name}", shapes.bundle_of_entries(as_entry(item))) for name, item in shapes.worst(above=3)),
+    ("entries: {}", shapes.bundle_of_entries("{}")),
+    ("entries: with a proof", shapes.bundle_of_entries('{"inclusionProof":{}}')),
+    ("hashes of one byte", shapes.bundle_of_hashes),
+    ("empty certificates", shapes.bundle_of_certificates),
+    ("empty signatures", shapes.bundle_of_signatures),
+    ("one payload", shapes.bundle_of_payload),
+)
+
+
+def bundles(bench):
+    """Bundles of the most decoded parts, of the largest size."""
+    rows = ((name, filled(make, bench.most)) for name, make in BUNDLES)
+    read(bench, bench.table(bundles, "bundle", "bytes", "read ms", "MB"), rows, ["bundle"])
+
+
+def statements(bench):
+    """Payloads as large as base64 in a text of the largest size can carry, read as statements by
+    `InTotoStatementV1::from_json`, and for their digests alone, as the checks of a bundle do."""
+    most = bench.most // 4 * 3
+    made = (
+        (f"{member}: {name}", filled(shapes.statement_of(member, shapes.repeated(item)), most))
+        for member, above in (("predicate", 1), ("annotations", 3))
+        for name, item in shapes.worst(above)
+    )
+    rows = itertools.chain(made, [("1,024 subjects", shapes.many_subjects())])
+    table = bench.table(statements, "payload", "bytes", "statement ms", "MB", "digests ms", "MB")
+    read(bench, table, rows, ["statement", "digests"])
+
+
+def read(bench, table, rows, words):
+    """Adds for each text how long the reader takes by each word, and how much memory."""
+    commands = [[bench.reader, word] for word in words]
+    start = bench.seconds(bench.kept(b"{}"), [bench.reader, "read"])[0]
+    for name, text in rows:
+        path = bench.kept(text)
+        times, peaks = bench.seconds(path, *commands), [megabytes(command, path) for command in commands]
+        cells = (cell for took, peak in zip(times, peaks) for cell in ((took - start) * 1000, round(peak)))
+        table.row(name, len(text), *cells)
+        bench.goal(f"{words[0]}, {name}, MB", max(peaks), MOST_MEGABYTES)
+
+
+def artifacts(bench):
+    """Artifacts of zero bytes that `Verifier::verify` reads from a source, beside their SHA-256 alone, by the same
+    `sha2`."""
+    path = bench.kept(chains.bundle())
+    table = bench.table(artifacts, "artifact", "bytes", "hashed ms", "verified ms", "to hashing", "MB")
+    for size in (10**8, 10**9):
+        commands = [[bench.reader, word, str(size)] for word in ("hash", "artifact")]
+        hashed, verified = bench.seconds(path, *commands)
+        peak = megabytes(commands[1], path)
+        table.row("zeros", size, hashed * 1000, verified * 1000, verified / hashed, round(peak))
+        bench.goal(f"artifact of {size} bytes, time to hashing", verified / hashed, MOST_TO_HASHING)
+        bench.goal(f"artifact of {size} bytes, MB", peak, MOST_MEGABYTES_OF_ARTIFACT)
+
+
+OF_PROGRAM = (log, entries, verify)  # those that measure sigverify, and not the readers of sig_bench
+TABLES = {table.__name__: table for table in (*OF_PROGRAM, certificates, documents, bundles, statements, artifacts)}

@@ -1,0 +1,134 @@
+//! The walks of sig_merkle over bits, beside the recursions.
+ghost use Rattle.std.specs.Prelude.{◌≡◌, ◌<◌};
+
+use sig_base::{Steps, sha256};
+use sig_cases::{Answer, Arguments, CaseError};
+use sig_merkle::recursion::{fold_path, fold_roots, growth_len, proof_len};
+use sig_merkle::{decomp_inclusion_proof, root_from_inclusion_proof, verify_consistency};
+use std::alloc::Global;
+use std::marker::Brand;
+use std::sync::ledger::{Blank, Ledger};
+
+/// The hash of the leaf of each made-up path, and the old root of each made-up consistency proof.
+const LEAF: [u8; 32] = [255; 32];
+
+/// The line for a call on walks.
+pub fn answer(
+    alloc: Global,
+    call: &str,
+    arguments: &mut Arguments<'_>,
+) -> Result<Answer, CaseError> {
+    match call {
+        "decomposed" => decomposed(alloc, arguments),
+        "both_ways" => both_ways(alloc, arguments),
+        "both_growths" => both_growths(alloc, arguments),
+        _ => Err(CaseError::BadLine),
+    }
+}
+
+/// `INDEX SIZE`: how many hashes of the path are inner ones, and how many are of the right border.
+fn decomposed(alloc: Global, arguments: &mut Arguments<'_>) -> Result<Answer, CaseError> {
+    let index = arguments.natural()?;
+    let size = arguments.natural()?;
+    if index >= size {
+        return Err(CaseError::BadLine);
+    }
+    let (inner, border) = decomp_inclusion_proof(index, size);
+    Answer::ok(alloc)?.value(&inner)?.value(&border)
+}
+
+/// `SIZE FIRST COUNT`: the roots of made-up paths for so many indices of a tree of this size.
+fn both_ways(alloc: Global, arguments: &mut Arguments<'_>) -> Result<Answer, CaseError> {
+    let size = arguments.natural()?;
+    let first = arguments.natural()?;
+    let count = arguments.natural()?;
+    let hashes = made_up_hashes(alloc)?;
+    both_ways_on::<Brand>(alloc, Blank::new(1), size, first, count, hashes.as_slice())
+}
+
+/// As many hashes as the longest proof has, each of one byte: its place.
+fn made_up_hashes(alloc: Global) -> Result<Vec<[u8; 32]>, CaseError> {
+    let mut hashes = Vec::new(alloc);
+    for place in 0..65u8 {
+        hashes.push([place; 32])?;
+    }
+    Ok(hashes)
+}
+
+/// The digests of the roots by the walk and by the recursion, on a ledger.
+fn both_ways_on<L: Ledger>(
+    alloc: Global,
+    blank: Blank,
+    size: u64,
+    first: u64,
+    count: u64,
+    hashes: &[[u8; 32]],
+) -> Result<Answer, CaseError>
+    requires name { blank.name ≡ L.name }
+    requires parts { blank.parts ≡ L.parts }
+    requires some { 0 < blank.parts }
+{
+    let mut steps = Steps::<L>::new(blank);
+    let mut walked = Vec::new(alloc);
+    let mut recursed = Vec::new(alloc);
+    for offset in 0..count {
+        let index = first.checked_add(offset).ok_or(CaseError::BadLine)?;
+        if index >= size {
+            return Err(CaseError::BadLine);
+        }
+        let path = hashes
+            .get(..proof_len(index, size) as usize)
+            .ok_or(CaseError::BadLine)?;
+        match root_from_inclusion_proof(index, &LEAF, size, path, &mut steps) {
+            Ok(root) => walked.extend_from_slice(&root)?,
+            Err(error) => return Answer::error(alloc, &error),
+        }
+        recursed.extend_from_slice(&fold_path(index, &LEAF, size, path, &mut steps))?;
+    }
+    let walked = sha256(walked.as_slice());
+    let recursed = sha256(recursed.as_slice());
+    Answer::ok(alloc)?.hex(&walked)?.hex(&recursed)
+}
+
+/// `SIZE FIRST COUNT`: the roots of made-up consistency proofs from so many older trees to a tree of this size.
+fn both_growths(alloc: Global, arguments: &mut Arguments<'_>) -> Result<Answer, CaseError> {
+    let size = arguments.natural()?;
+    let first = arguments.natural()?;
+    let count = arguments.natural()?;
+    let hashes = made_up_hashes(alloc)?;
+    both_growths_on::<Brand>(alloc, Blank::new(1), size, first, count, hashes.as_slice())
+}
+
+/// The digest of the roots by the recursion, each of which the walk accepts, on a ledger.
+fn both_growths_on<L: Ledger>(
+    alloc: Global,
+    blank: Blank,
+    size: u64,
+    first: u64,
+    count: u64,
+    hashes: &[[u8; 32]],
+) -> Result<Answer, CaseError>
+    requires name { blank.name ≡ L.name }
+    requires parts { blank.parts ≡ L.parts }
+    requires some { 0 < blank.parts }
+{
+    let mut steps = Steps::<L>::new(blank);
+    let mut roots = Vec::new(alloc);
+    for offset in 0..count {
+        let old_size = first.checked_add(offset).ok_or(CaseError::BadLine)?;
+        if old_size == 0 || old_size >= size {
+            return Err(CaseError::BadLine);
+        }
+        let wanted = growth_len(old_size, size, true) as usize;
+        let proof = hashes.get(..wanted).ok_or(CaseError::BadLine)?;
+        let led = fold_roots(old_size, size, true, &LEAF, proof, &mut steps);
+        if let Err(error) = verify_consistency(
+            old_size, size, proof, &led.old, &led.new, &mut steps,
+        ) {
+            return Answer::error(alloc, &error);
+        }
+        roots.extend_from_slice(&led.old)?;
+        roots.extend_from_slice(&led.new)?;
+    }
+    Answer::ok(alloc)?.hex(&sha256(roots.as_slice()))
+}

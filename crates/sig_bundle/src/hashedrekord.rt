@@ -1,0 +1,126 @@
+//! The body of a log's entry about a signature over an artifact: Rekor's entry of kind `hashedrekord`, version 0.0.1.
+//!
+//! ```text
+//! {"apiVersion":"0.0.1","kind":"hashedrekord","spec":{
+//!   "data":{"hash":{"algorithm":"sha256","value":"2c26b46b68ffc68ff99b453c1d30413413422d706483bfa0f98a5e886266e7ae"}},
+//!   "signature":{"content":"c2ln","publicKey":{"content":"LS0tLS1CRUdJTi.."}}}}
+//! ```
+ghost use Rattle.std.specs.Prelude.{◌≡◌, ◌↔◌, IsTrue, IfOk, Ok};
+ghost use Rattle.sig_certificate.specs.Pem.{pem_of};
+ghost use Rattle.sig_json.specs.Document.{document_of};
+ghost use Rattle.sig_json.specs.Tree.{document_tree};
+ghost use Rattle.sig_bundle.specs.Hashedrekord.{data_tree, hash_tree, hashedrekord_tree, public_key_tree};
+ghost use Rattle.sig_bundle.specs.Hashedrekord.{signature_tree, spec_tree};
+
+use crate::object::Object;
+use crate::write_value::write_bytes;
+use sig_base::OutOfMemory;
+use sig_certificate::der_to_pem;
+use sig_json::{Document, DocumentError};
+use std::alloc::Global;
+
+/// The digest of the artifact. Fails only if memory runs out.
+#[tactic(auto, unfolding(crate::specs::Hashedrekord::hash_tree, hex::specs::Hex::encode_with))]
+fn hash(alloc: Global, digest: &[u8]) -> Result<Document, OutOfMemory>
+    ensures { IfOk result (λ document. document_tree document ≡ hash_tree digest.now) }
+{
+    let algorithm = Document::of_text(alloc, "sha256")?;
+    let digits = hex::encode(alloc, digest)?;
+    let value = Document::of_text(alloc, digits.as_str())?;
+    let object = Object::new(alloc)
+        .with(alloc, "algorithm", algorithm)?
+        .with(alloc, "value", value)?;
+    Ok(object.into_document())
+}
+
+/// What is signed. Fails only if memory runs out.
+#[tactic(auto, unfolding(crate::specs::Hashedrekord::data_tree))]
+fn data(alloc: Global, digest: &[u8]) -> Result<Document, OutOfMemory>
+    ensures { IfOk result (λ document. document_tree document ≡ data_tree digest.now) }
+{
+    let hash = hash(alloc, digest)?;
+    let object = Object::new(alloc).with(alloc, "hash", hash)?;
+    Ok(object.into_document())
+}
+
+/// The text of the certificate. Fails only if memory runs out.
+#[tactic(auto, unfolding(crate::specs::Hashedrekord::public_key_tree))]
+fn public_key(alloc: Global, pem: &[u8]) -> Result<Document, OutOfMemory>
+    ensures { IfOk result (λ document. document_tree document ≡ public_key_tree pem.now) }
+{
+    let content = write_bytes(alloc, pem)?;
+    let object = Object::new(alloc).with(alloc, "content", content)?;
+    Ok(object.into_document())
+}
+
+/// The signature, and the certificate that verifies it. Fails only if memory runs out.
+#[tactic(auto, unfolding(crate::specs::Hashedrekord::signature_tree))]
+fn signature_of(alloc: Global, signature: &[u8], pem: &[u8]) -> Result<Document, OutOfMemory>
+    ensures { IfOk result (λ document. document_tree document ≡ signature_tree signature.now pem.now) }
+{
+    let content = write_bytes(alloc, signature)?;
+    let key = public_key(alloc, pem)?;
+    let object = Object::new(alloc)
+        .with(alloc, "content", content)?
+        .with(alloc, "publicKey", key)?;
+    Ok(object.into_document())
+}
+
+/// What the entry says. Fails only if memory runs out.
+#[tactic(auto, unfolding(crate::specs::Hashedrekord::spec_tree))]
+fn spec(alloc: Global, digest: &[u8], signature: &[u8], pem: &[u8]) -> Result<Document, OutOfMemory>
+    ensures { IfOk result (λ document. document_tree document ≡ spec_tree digest.now signature.now pem.now) }
+{
+    let data = data(alloc, digest)?;
+    let signature = signature_of(alloc, signature, pem)?;
+    let object = Object::new(alloc)
+        .with(alloc, "data", data)?
+        .with(alloc, "signature", signature)?;
+    Ok(object.into_document())
+}
+
+/// The entry about an artifact of this SHA-256 digest, with this signature, which the certificate of this PEM
+/// verifies. Fails only if memory runs out.
+#[tactic(auto, unfolding(crate::specs::Hashedrekord::hashedrekord_tree))]
+fn entry_about(
+    alloc: Global,
+    digest: &[u8],
+    signature: &[u8],
+    pem: &[u8],
+) -> Result<Document, OutOfMemory>
+    ensures { IfOk result (λ document. document_tree document
+        ≡ hashedrekord_tree digest.now signature.now pem.now) }
+{
+    let version = Document::of_text(alloc, "0.0.1")?;
+    let kind = Document::of_text(alloc, "hashedrekord")?;
+    let spec = spec(alloc, digest, signature, pem)?;
+    let object = Object::new(alloc)
+        .with(alloc, "apiVersion", version)?
+        .with(alloc, "kind", kind)?
+        .with(alloc, "spec", spec)?;
+    Ok(object.into_document())
+}
+
+/// Whether the body of an entry is about an artifact of this SHA-256 digest, with this signature, which the
+/// certificate of this DER verifies: whether its tree is the one of kind `hashedrekord`, version 0.0.1, that says so,
+/// without any other member. Fails only if memory runs out.
+pub(crate) fn is_about_artifact(
+    alloc: Global,
+    digest: &[u8],
+    signature: &[u8],
+    certificate: &[u8],
+    body: &[u8],
+) -> Result<bool, OutOfMemory>
+    ensures { IfOk result (λ about. IsTrue about ↔ (document_of body.now
+        ≡ Ok (hashedrekord_tree digest.now signature.now (pem_of certificate.now)))) }
+{
+    match Document::read(alloc, body) {
+        Ok(document) => {
+            let pem = der_to_pem(alloc, certificate)?;
+            let entry = entry_about(alloc, digest, signature, pem.as_str().as_bytes())?;
+            Ok(document == entry)
+        }
+        Err(DocumentError::NotJson | DocumentError::Float) => Ok(false),
+        Err(DocumentError::OutOfMemory) => Err(OutOfMemory),
+    }
+}

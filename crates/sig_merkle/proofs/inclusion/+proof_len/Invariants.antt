@@ -1,4 +1,0 @@
-use Rattle.sig_merkle.proofs.inclusion.+proof_len.Given as goal
-
-abbrev pub decreases-proof_len : goal.decreases-proof_len
-decreases-proof_len l = l.size

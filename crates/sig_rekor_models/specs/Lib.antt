@@ -1,0 +1,10 @@
+pub mod EntryKind
+pub mod EntryTree
+pub mod Body
+pub mod LogEntry
+pub mod Inclusion
+pub mod LogInfo
+pub mod PublicKey
+pub mod HashedrekordTree
+pub mod ProposedTree
+pub mod Consistency

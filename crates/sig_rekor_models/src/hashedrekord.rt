@@ -1,0 +1,208 @@
+//! `Hashedrekord`: an entry about a signature over a hash, and its JSON.
+//!
+//! ```text
+//! {"apiVersion":"0.0.1","kind":"hashedrekord","spec":{
+//!   "data":{"hash":{"algorithm":"sha256","value":"47c1db9fb5fe7ff66e3d7c15b2ca5d3a046ee8f4aa043dedd317e46b321c4390"}},
+//!   "signature":{"content":"MEYCIQDT..","publicKey":{"content":"LS0tLS1CRUdJTi.."}}}}
+//! ```
+use crate::entry_object::{entry_object, object_of_one, object_of_two};
+use crate::public_key::PublicKey;
+use sig_base::{OutOfMemory, Result, Text};
+use sig_json::Document;
+use std::alloc::Global;
+
+/// An entry of kind `hashedrekord`: a signature over the hash of an artifact.
+#[derive(Drop, PartialEq, Eq)]
+pub struct Hashedrekord {
+    /// The kind of the entry.
+    pub kind: Text,
+    /// The version of the entry's form.
+    pub api_version: Text,
+    /// What the entry says.
+    pub spec: Spec,
+}
+
+/// What an entry of kind `hashedrekord` says.
+#[derive(Drop, PartialEq, Eq)]
+pub struct Spec {
+    /// The signature.
+    pub signature: Signature,
+    /// What it is over.
+    pub logged_data: Data,
+}
+
+/// A signature, and the key that verifies it.
+#[derive(Drop, PartialEq, Eq)]
+pub struct Signature {
+    /// The signature in base64.
+    pub content: Text,
+    /// The key.
+    pub public_key: PublicKey,
+}
+
+/// What a signature is over.
+#[derive(Drop, PartialEq, Eq)]
+pub struct Data {
+    /// The hash of the artifact.
+    pub hash: Hash,
+}
+
+/// A hash.
+#[derive(Drop, PartialEq, Eq)]
+pub struct Hash {
+    /// How it is computed.
+    pub algorithm: AlgorithmKind,
+    /// The hash in hexadecimal.
+    pub value: Text,
+}
+
+/// An algorithm of a hash.
+#[allow(non_camel_case_types)]
+#[derive(Clone, Default, Drop, PartialEq, Eq)]
+pub enum AlgorithmKind {
+    /// SHA-256 (FIPS 180-4).
+    #[default]
+    sha256,
+    /// SHA-1 (FIPS 180-4).
+    sha1,
+}
+
+impl Hashedrekord {
+    ghost use Rattle.std.specs.Prelude.{◌≡◌, Ok};
+    ghost use Rattle.sig_base.specs.Answers.{Answers};
+    ghost use Rattle.sig_base.specs.declared.error.SigstoreError.TheVariants.{OutOfMemory as Memory};
+    ghost use Rattle.sig_json.specs.Tree.{document_tree};
+    ghost use Rattle.sig_rekor_models.specs.HashedrekordTree.{hashedrekord_tree};
+
+    /// The entry of these parts.
+    pub fn new(kind: Text, api_version: Text, spec: Spec) -> Self
+        ensures { result ≡ record { kind = kind; api_version = api_version; spec = spec } }
+    {
+        Hashedrekord {
+            kind,
+            api_version,
+            spec,
+        }
+    }
+
+    /// Returns the object of the members `apiVersion`, `kind` and `spec`. Fails if out of memory alone.
+    pub fn json(&self, alloc: Global) -> Result<Document>
+        ensures { Answers Memory document_tree result (Ok (hashedrekord_tree self.now)) }
+    {
+        let spec = self.spec.json(alloc)?;
+        Ok(entry_object(alloc, self.kind.as_str(), self.api_version.as_str(), spec)?)
+    }
+}
+
+impl Spec {
+    ghost use Rattle.std.specs.Prelude.{◌≡◌, IfOk};
+    ghost use Rattle.sig_json.specs.Tree.{document_tree};
+    ghost use Rattle.sig_rekor_models.specs.HashedrekordTree.{spec_tree};
+
+    /// What is said by this signature over this data.
+    pub fn new(signature: Signature, logged_data: Data) -> Self
+        ensures { result ≡ record { signature = signature; logged_data = logged_data } }
+    {
+        Spec {
+            signature,
+            logged_data,
+        }
+    }
+
+    /// The object of the members `data` and `signature`.
+    #[tactic(auto, unfolding(crate::specs::HashedrekordTree::spec_tree))]
+    pub(crate) fn json(&self, alloc: Global) -> std::result::Result<Document, OutOfMemory>
+        ensures { IfOk result (λ document. document_tree document ≡ spec_tree self.now) }
+    {
+        let data = self.logged_data.json(alloc)?;
+        let signature = self.signature.json(alloc)?;
+        object_of_two(alloc, "data", data, "signature", signature)
+    }
+}
+
+impl Signature {
+    ghost use Rattle.std.specs.Prelude.{◌≡◌, IfOk};
+    ghost use Rattle.sig_json.specs.Tree.{document_tree};
+    ghost use Rattle.sig_rekor_models.specs.HashedrekordTree.{signature_tree};
+
+    /// The signature of this text, which this key verifies.
+    pub fn new(content: Text, public_key: PublicKey) -> Self
+        ensures { result ≡ record { content = content; public_key = public_key } }
+    {
+        Signature {
+            content,
+            public_key,
+        }
+    }
+
+    /// The object of the members `content` and `publicKey`.
+    #[tactic(auto, unfolding(crate::specs::HashedrekordTree::signature_tree))]
+    fn json(&self, alloc: Global) -> std::result::Result<Document, OutOfMemory>
+        ensures { IfOk result (λ document. document_tree document ≡ signature_tree self.now) }
+    {
+        let content = Document::of_text(alloc, self.content.as_str())?;
+        let key = Document::of_text(alloc, self.public_key.content())?;
+        let public_key = object_of_one(alloc, "content", key)?;
+        object_of_two(alloc, "content", content, "publicKey", public_key)
+    }
+}
+
+impl Data {
+    ghost use Rattle.std.specs.Prelude.{◌≡◌, IfOk};
+    ghost use Rattle.sig_json.specs.Tree.{document_tree};
+    ghost use Rattle.sig_rekor_models.specs.HashedrekordTree.{data_tree};
+
+    /// The artifact of this hash.
+    pub fn new(hash: Hash) -> Self
+        ensures { result ≡ record { hash = hash } }
+    {
+        Data { hash }
+    }
+
+    /// The object of the member `hash`.
+    #[tactic(auto, unfolding(crate::specs::HashedrekordTree::data_tree))]
+    fn json(&self, alloc: Global) -> std::result::Result<Document, OutOfMemory>
+        ensures { IfOk result (λ document. document_tree document ≡ data_tree self.now) }
+    {
+        let hash = self.hash.json(alloc)?;
+        object_of_one(alloc, "hash", hash)
+    }
+}
+
+impl Hash {
+    ghost use Rattle.std.specs.Prelude.{◌≡◌, IfOk};
+    ghost use Rattle.sig_json.specs.Tree.{document_tree};
+    ghost use Rattle.sig_rekor_models.specs.HashedrekordTree.{hash_tree};
+
+    /// The hash of this value, computed so.
+    pub fn new(algorithm: AlgorithmKind, value: Text) -> Self
+        ensures { result ≡ record { algorithm = algorithm; value = value } }
+    {
+        Hash { algorithm, value }
+    }
+
+    /// The object of the members `algorithm` and `value`.
+    #[tactic(auto, unfolding(crate::specs::HashedrekordTree::hash_tree))]
+    fn json(&self, alloc: Global) -> std::result::Result<Document, OutOfMemory>
+        ensures { IfOk result (λ document. document_tree document ≡ hash_tree self.now) }
+    {
+        let algorithm = Document::of_text(alloc, self.algorithm.name())?;
+        let value = Document::of_text(alloc, self.value.as_str())?;
+        object_of_two(alloc, "algorithm", algorithm, "value", value)
+    }
+}
+
+impl AlgorithmKind {
+    ghost use Rattle.std.specs.Prelude.{◌≡◌};
+    ghost use Rattle.sig_rekor_models.specs.HashedrekordTree.{algorithm_name};
+
+    /// Returns the algorithm's name.
+    pub fn name(&self) -> &'static str
+        ensures { result.now ≡ algorithm_name self.now }
+    {
+        match self {
+            AlgorithmKind::sha256 => "sha256",
+            AlgorithmKind::sha1 => "sha1",
+        }
+    }
+}

@@ -1,0 +1,46 @@
+//! `LogEntry`: an entry of Rekor as its API returns it.
+//!
+//! ```text
+//! {"body":"eyJhcGlWZXJzaW9uIjoiMC4wLjEiLCJraW5kIjoiaGFzaGVkcmVrb3JkIiwic3BlYyI6e319","integratedTime":1702446656,
+//!  "logID":"c0d23d6ad406973f9559f3ba2d1ca01f84147d8ffc5b8445c224f98b9591801d","logIndex":1688,
+//!  "verification":{"signedEntryTimestamp":"AA==","inclusionProof":{"hashes":["810320ec"],"logIndex":1227,
+//!    "rootHash":"effa4fa4","treeSize":14358,"checkpoint":"rekor.sigstage.dev - 108574341321668964\n14358\n.."}}}
+//! ```
+use crate::body::Body;
+use sig_base::Text;
+use sig_rekor::RekorInclusionProof;
+
+/// An entry of a log.
+#[derive(Drop, PartialEq, Eq)]
+pub struct LogEntry {
+    /// The entry's identifier.
+    pub uuid: Option<Text>,
+    /// What is kept of the entry beside the log.
+    pub attestation: Option<Attestation>,
+    /// What is logged.
+    pub body: Body,
+    /// When the entry was logged, in seconds since 1970.
+    pub integrated_time: i64,
+    /// The log's id: the SHA-256 of its key, in hexadecimal.
+    pub log_i_d: Text,
+    /// The index of the entry over all shards of the log.
+    pub log_index: i64,
+    /// What the log proves and promises of the entry.
+    pub verification: Verification,
+}
+
+/// What is kept of an entry beside the log. No member of it is known.
+#[derive(Drop, PartialEq, Eq)]
+pub struct Attestation {
+    /// A text that stands for such members.
+    pub dummy: Option<Text>,
+}
+
+/// What a log proves and promises of an entry.
+#[derive(Drop, PartialEq, Eq)]
+pub struct Verification {
+    /// A proof that the entry is included in the log.
+    pub inclusion_proof: Option<RekorInclusionProof>,
+    /// The log's promise to include the entry, in base64.
+    pub signed_entry_timestamp: Text,
+}

@@ -1,0 +1,61 @@
+-- The links on the head of a log: its checkpoint has to vouch for the size and the root that a proof leads to.
+use Rattle.std.specs.Prelude.{◌≡◌, ℕ, List, [], ◌∷◌, Any, Contains, Option, Some, None}
+use Rattle.std.specs.List.{AllByRecursion}
+use Rattle.sig_base.specs.declared.checker.AcceptedRow.{AcceptedRow}
+use Rattle.sig_base.specs.declared.checker.Operation.TheVariants.{Message}
+use Rattle.sig_base.specs.Scheme.{name_of, scheme_of}
+use Rattle.sig_rekor.specs.declared.checkpoint.CheckpointSignature.{CheckpointSignature}
+use Rattle.sig_rekor.specs.declared.checkpoint.SignedCheckpoint.{SignedCheckpoint}
+use Rattle.sig_rekor.specs.CheckpointText.{IsCheckpoint}
+use Rattle.sig_rekor.specs.NoteText.{note_text}
+use Rattle.sig_base.specs.Rules.{FailsFirst}
+use Rattle.sig_verify.specs.declared.link.Link.{Link}
+use Rattle.sig_verify.specs.declared.link.Link.TheVariants.{Checkpoint, NoteKey, NoteMatch}
+use Rattle.sigverify.specs.declared.head.SignedHead.{SignedHead}
+
+-- the links on a head, in their order
+abbrev pub head_links : List Link
+head_links = Checkpoint ∷ NoteKey ∷ NoteMatch ∷ []
+
+-- the row that says that the log's key signed the note
+abbrev pub note_row : SignedHead → SignedCheckpoint → CheckpointSignature → AcceptedRow
+note_row head checkpoint signature = record {
+  operation = Message;
+  scheme = name_of (scheme_of head.scheme);
+  key = head.key;
+  message = note_text checkpoint.note;
+  signature = signature.raw;
+}
+
+-- one of the signatures over the note text is accepted under the log's scheme and key
+abbrev pub IsSigned : SignedHead → SignedCheckpoint → Type 0
+IsSigned head checkpoint =
+    Any (λ signature. Contains head.accepted (note_row head checkpoint signature)) checkpoint.signatures
+
+-- the note speaks of a tree of this size and root
+abbrev pub IsMatched : ℕ → List ℕ → SignedCheckpoint → Type 0
+IsMatched size root checkpoint = (checkpoint.note.size ≡ size) × (checkpoint.note.hash ≡ root)
+
+-- a link on the checkpoint: it has a reading, and this holds of it
+abbrev pub OfCheckpoint : SignedHead → (SignedCheckpoint → Type 0) → Type 0
+OfCheckpoint head P = (checkpoint : SignedCheckpoint) × IsCheckpoint head.checkpoint checkpoint × P checkpoint
+
+-- what a link asks of the head of a tree of this size and root, of which all links before it hold
+abbrev pub HoldsOfHead : SignedHead → ℕ → List ℕ → Link → Type 0
+HoldsOfHead head size root Checkpoint = OfCheckpoint head (λ _. Unit {0})
+HoldsOfHead head size root NoteKey = OfCheckpoint head (IsSigned head)
+HoldsOfHead head size root NoteMatch = OfCheckpoint head (IsMatched size root)
+HoldsOfHead head size root other = Unit {0}
+
+-- the first failing link of a head, or none
+abbrev pub IsHeadVerdict : SignedHead → ℕ → List ℕ → Option Link → Type 0
+IsHeadVerdict head size root None = AllByRecursion (HoldsOfHead head size root) head_links
+IsHeadVerdict head size root (Some link) = FailsFirst (HoldsOfHead head size root) head_links link
+
+-- the first failing link behind the checkpoint, or none, where this is the checkpoint's reading
+abbrev pub IsHeadVerdictUnder : SignedHead → ℕ → List ℕ → SignedCheckpoint → Option Link → Type 0
+IsHeadVerdictUnder head size root checkpoint None = IsSigned head checkpoint × IsMatched size root checkpoint
+IsHeadVerdictUnder head size root checkpoint (Some NoteKey) = ¬ IsSigned head checkpoint
+IsHeadVerdictUnder head size root checkpoint (Some NoteMatch) =
+    IsSigned head checkpoint × ¬ IsMatched size root checkpoint
+IsHeadVerdictUnder head size root checkpoint (Some other) = ⊥
