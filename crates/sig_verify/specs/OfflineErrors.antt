@@ -103,7 +103,7 @@ of_fields fields.OutOfMemory = offline.OutOfMemory
 
 -- a digest that is handed in is not read
 abbrev pub of_verification : VerificationError → OfflineError
-of_verification (verification.Input fault) = offline.OutOfMemory
+of_verification (verification.Input _) = offline.OutOfMemory
 of_verification (verification.Bundle kind) = offline.Bundle kind
 of_verification (verification.Certificate kind) = offline.Certificate kind
 of_verification (verification.Signature kind) = offline.Signature kind
