@@ -8,6 +8,7 @@ import sys
 import tempfile
 
 TOP = pathlib.Path(__file__).resolve().parent.parent
+PEERS = TOP / "bench/peers"
 SMALL = 2**20  # the time over a file of fewer bytes is the best of ten times as many runs
 
 
@@ -42,10 +43,11 @@ class Bench:
         if value > most:
             self.missed.append(f"{what}: {value:.2f}, and not {most}")
 
-    def seconds(self, path, *commands, status=0):
-        """The least processor time of each command over a file, in turns; each has to end with this status."""
+    def seconds(self, path, *commands, status=0, slow=False):
+        """The least processor time of each command over a file, in turns; each has to end with this status. Of small files
+        the best of more runs counts, unless the commands are slow whatever the file."""
         best = [float("inf")] * len(commands)
-        for _ in range(self.runs if path.stat().st_size > SMALL else self.runs * 10):
+        for _ in range(self.runs if slow or path.stat().st_size > SMALL else self.runs * 10):
             for place, words in enumerate(commands):
                 best[place] = min(best[place], processor_seconds(words, path, status))
         return best
@@ -178,13 +180,27 @@ def built(crate, named=None):
 
 def peer(folder, name, packages):
     """The program of bench/peers/FOLDER, built by cargo of Debian's packages; None where it cannot be, which is said."""
-    if not shutil.which("cargo"):
-        said = "cargo is not there"
+    words = ["cargo", "build", "--release", "--quiet"]
+    built = PEERS / "out/release" / name
+    return built if made(words, PEERS / folder, name, f"cargo {packages}") else None
+
+
+def go_peer(name, packages):
+    """The program of bench/peers/NAME, built by go of Debian's packages; None where it cannot be, which is said."""
+    built = PEERS / "out" / name
+    debian = {"GO111MODULE": "off", "GOPATH": "/usr/share/gocode"}
+    return built if made(["go", "build", "-o", built, "."], PEERS / name, name, packages, **debian) else None
+
+
+def made(words, folder, name, packages, **environment):
+    """Whether a build in a folder passes; where it does not, the reason is said, and which of Debian's packages it needs."""
+    if not shutil.which(words[0]):
+        said = f"{words[0]} is not there"
     else:
-        words = ["cargo", "build", "--release", "--quiet"]
-        ran = subprocess.run(words, cwd=TOP / "bench/peers" / folder, stderr=subprocess.PIPE, text=True)
+        surroundings = {**os.environ, **environment}
+        ran = subprocess.run(words, cwd=folder, env=surroundings, stderr=subprocess.PIPE, text=True)
         if ran.returncode == 0:
-            return TOP / "bench/peers/out/release" / name
-        said = (ran.stderr.strip() or f"cargo ends with status {ran.returncode}").splitlines()[0]
-    print(f"bench/run: without {name}: {said} (Debian: cargo {packages})", file=sys.stderr)
-    return None
+            return True
+        said = (ran.stderr.strip() or f"{words[0]} ends with status {ran.returncode}").splitlines()[0]
+    print(f"bench/run: without {name}: {said} (Debian: {packages})", file=sys.stderr)
+    return False

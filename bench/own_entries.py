@@ -45,8 +45,8 @@ def small(count):
 
 
 def hashing(entries):
-    """The seconds that the leaves' hashes take, of few and big entries, by the library that Python has."""
-    begun = time.perf_counter()
+    """The seconds of the processor that the hashes of few and big entries take, by the library that Python has."""
+    begun = time.process_time()
     for entry in entries:
         leaf(entry)
-    return time.perf_counter() - begun
+    return time.process_time() - begun

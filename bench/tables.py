@@ -17,6 +17,7 @@ MOST_BEYOND_START = 1.0  # the milliseconds that a small request takes beyond th
 MOST_MEGABYTES = 700  # the peak memory over an input of 2^24 bytes
 MOST_TO_HASHING = 1.1  # the time over an artifact, to that of hashing it alone
 MOST_MEGABYTES_OF_ARTIFACT = 20  # the peak memory over an artifact, however long
+MOST_TO_HASHES = 1.05  # the time of a check of inclusion, to that of its hashes alone
 
 # Requests of `log` by the reply that they have; each is made at half of the largest size, and at the whole.
 LOG_REQUESTS = {
@@ -282,12 +283,39 @@ def artifacts(bench):
     table = bench.table(artifacts, "artifact", "bytes", "hashed ms", "verified ms", "to hashing", "MB")
     for size in (10**8, 10**9):
         commands = [[bench.reader, word, str(size)] for word in ("hash", "artifact")]
-        hashed, verified = bench.seconds(path, *commands)
+        hashed, verified = bench.seconds(path, *commands, slow=True)
         peak = megabytes(commands[1], path)
         table.row("zeros", size, hashed * 1000, verified * 1000, verified / hashed, round(peak))
         bench.goal(f"artifact of {size} bytes, time to hashing", verified / hashed, MOST_TO_HASHING)
         bench.goal(f"artifact of {size} bytes, MB", peak, MOST_MEGABYTES_OF_ARTIFACT)
 
 
+CHECKS = 10000  # how many checks of inclusion are timed at once
+
+
+def walks(bench):
+    """Checks that a leaf is in a tree of 2^63 leaves: by sig_merkle's walk over bits, by the recursion of RFC 6962
+    section 2.1.1, and their 63 hashes alone, called like the check's or written out in their place; and by Go's
+    `tlog.CheckRecord`, in a tree of 2^62 leaves, its largest, with its 62 hashes. The microseconds are of one check,
+    beyond the start of the process."""
+    own = [[bench.reader, word] for word in ("walk", "recursion", "hashes", "inline")]
+    go = measure.go_peer("walks", "golang-go golang-golang-x-mod-dev")
+    others = [[go, word] for word in ("walk", "hashes")] if go else []
+    path = bench.kept(b"")
+    for command in own + others:
+        measure.expect(command, path, written([*command, str(CHECKS)], path), str(CHECKS))
+    starts = bench.seconds(path, *([*command, "0"] for command in own + others))
+    ends = bench.seconds(path, *([*command, str(CHECKS)] for command in own + others))
+    took = [(end - start) / CHECKS for start, end in zip(starts, ends)]
+    table = bench.table(walks, "check", "hashes", "us", "ns a hash", "to hashes")
+    names = ("walk", "recursion", "hashes alone", "hashes alone, written out in place")
+    rows = [(name, 63, time, took[2]) for name, time in zip(names, took)]
+    rows += [(f"Go: {name}", 62, time, took[-1]) for name, time in zip(("tlog.CheckRecord", "hashes alone"), took[4:])]
+    for name, hashes, time, alone in rows:
+        table.row(name, hashes, time * 1e6, time / hashes * 1e9, time / alone)
+    bench.goal("check of inclusion, time to its hashes", took[0] / took[2], MOST_TO_HASHES)
+
+
 OF_PROGRAM = (log, entries, verify)  # those that measure sigverify, and not the readers of sig_bench
-TABLES = {table.__name__: table for table in (*OF_PROGRAM, certificates, documents, bundles, statements, artifacts)}
+OF_READERS = (certificates, documents, bundles, statements, artifacts, walks)
+TABLES = {table.__name__: table for table in (*OF_PROGRAM, *OF_READERS)}

@@ -8,7 +8,9 @@
 //! - `statement` reads a payload as a statement, `digests` as the checks of a bundle do, and both print how many
 //!   digests were taken;
 //! - `hash N` hashes N zero bytes, and prints the first byte of SHA-256; `artifact N` reads a bundle, verifies it of an
-//!   artifact of N zero bytes, where nothing is trusted, and prints 0.
+//!   artifact of N zero bytes, where nothing is trusted, and prints 0;
+//! - `walk N` and `recursion N` check a leaf of a tree of 2^63 leaves N times, and print how often it was accepted;
+//!   `hashes N` and `inline N` make the hashes of N such checks alone, and print N.
 //!
 //! It promises nothing.
 #![tactic(auto)]
@@ -17,6 +19,7 @@ mod artifact;
 mod bundle;
 mod certificate;
 mod document;
+mod merkle;
 mod statement;
 
 use anyhow::{Context, Result, anyhow};
@@ -42,6 +45,10 @@ fn main(rt: HostRuntime) -> Result<()> {
         "digests" => statement::digests_alone(alloc, input.as_slice()),
         "hash" => Some(artifact::hashed(number(words.next())?)),
         "artifact" => artifact::verified(alloc, input.as_slice(), number(words.next())?),
+        "walk" => merkle::walked(number(words.next())?),
+        "recursion" => merkle::recursed(number(words.next())?),
+        "hashes" => Some(merkle::hashed(number(words.next())?)),
+        "inline" => Some(merkle::hashed_inline(number(words.next())?)),
         _ => None,
     };
     let Some(count) = count else {
