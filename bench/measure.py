@@ -44,8 +44,8 @@ class Bench:
             self.missed.append(f"{what}: {value:.2f}, and not {most}")
 
     def seconds(self, path, *commands, status=0, slow=False):
-        """The least processor time of each command over a file, in turns; each has to end with this status. Of small files
-        the best of more runs counts, unless the commands are slow whatever the file."""
+        """The least processor time of each command over a file, in turns; each has to end with this status. There are
+        more turns over a small file, unless the commands are slow whatever the file."""
         best = [float("inf")] * len(commands)
         for _ in range(self.runs if slow or path.stat().st_size > SMALL else self.runs * 10):
             for place, words in enumerate(commands):
@@ -179,7 +179,7 @@ def built(crate, named=None):
 
 
 def peer(folder, name, packages):
-    """The program of bench/peers/FOLDER, built by cargo of Debian's packages; None where it cannot be, which is said."""
+    """The program of bench/peers/FOLDER, built by cargo of Debian's packages; None where it cannot be, as is said."""
     words = ["cargo", "build", "--release", "--quiet"]
     built = PEERS / "out/release" / name
     return built if made(words, PEERS / folder, name, f"cargo {packages}") else None
@@ -193,7 +193,7 @@ def go_peer(name, packages):
 
 
 def made(words, folder, name, packages, **environment):
-    """Whether a build in a folder passes; where it does not, the reason is said, and which of Debian's packages it needs."""
+    """Whether a build in a folder passes; where it does not, the reason is said, and which packages it needs."""
     if not shutil.which(words[0]):
         said = f"{words[0]} is not there"
     else:

@@ -10,7 +10,8 @@ DEEPEST = 127  # how deep a document may nest
 
 
 def filled(make, most):
-    """A text of nearly so many bytes, and of no more: the count by the sizes of two small ones, then less until it fits."""
+    """A text of nearly so many bytes, and of no more: the count by the sizes of two small ones, then less, until it
+    fits."""
     few, more = len(make(50)), len(make(100))
     count = 50 + max(0, most - few) * 50 // (more - few)
     while len(text := make(count)) > most and count > 1:

@@ -12,7 +12,7 @@ from shapes import filled
 MOST_TO_PLAIN = 1.2  # the time over a request, to the plain program's
 MOST_TO_PLAIN_SMALL = 1  # the same where the request has at most 2^16 bytes
 MOST_DOUBLED = 2.3  # the time over an input, to that over one of half the size
-MOST_TO_READING_AND_HASHING = 1.3  # the time over a log's own entries, to those of reading them and of hashing them alone
+MOST_TO_READING_AND_HASHING = 1.3  # the time over a log's own entries, to that of reading and of hashing them
 MOST_BEYOND_START = 1.0  # the milliseconds that a small request takes beyond those of a process that reads none
 MOST_MEGABYTES = 700  # the peak memory over an input of 2^24 bytes
 MOST_TO_HASHING = 1.1  # the time over an artifact, to that of hashing it alone
@@ -147,8 +147,9 @@ def entries(bench):
     big = own_entries.big(bench.most)
     size, took, peak, read = measured(big)
     hashed = min(own_entries.hashing(big) for _ in range(bench.runs))
-    table.row("four of one size", size, took * 1000, round(peak), read * 1000, hashed * 1000, took / (read + hashed), None)
-    bench.goal("log, big entries, time to reading and hashing", took / (read + hashed), MOST_TO_READING_AND_HASHING)
+    to_both = took / (read + hashed)
+    table.row("four of one size", size, took * 1000, round(peak), read * 1000, hashed * 1000, to_both, None)
+    bench.goal("log, big entries, time to reading and hashing", to_both, MOST_TO_READING_AND_HASHING)
     first = measured(own_entries.small(2**16))[1]
     size, took, peak, read = measured(own_entries.small(2**17))
     table.row("131,072 small ones", size, took * 1000, round(peak), read * 1000, None, None, took / first)
@@ -209,7 +210,8 @@ print(time.process_time() - begun)
 
 def documents(bench):
     """Documents of the worst kinds: the milliseconds to read one of the largest size, and their ratio to those of
-    Python's `json`; then those to read and write it, compact and canonical, and their ratio to those at half the size."""
+    Python's `json`; then those to read and write it, compact and canonical, and their ratio to those at half the
+    size."""
     reader = bench.reader
     start = bench.seconds(bench.kept(b"{}"), [reader, "read"])[0]
     ways = (column for word in ("compact", "canonical") for column in (f"{word} ms", "to half", "MB"))

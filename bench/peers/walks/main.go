@@ -1,8 +1,9 @@
-// Checks that a leaf is in a tree of 2^62 leaves, by Go's golang.org/x/mod/sumdb/tlog, so many times; or makes the hashes of
-// as many such checks alone. Prints how often the leaf was accepted, or the hashes led to one value.
+// Checks that a leaf is in a tree of 2^62 leaves, by Go's golang.org/x/mod/sumdb/tlog, so many times; or makes the
+// hashes of as many such checks alone. Prints how often the leaf was accepted, or the hashes led to one value.
 //
-// bench/run builds it with Debian's golang-go and golang-golang-x-mod-dev, and calls it by `walk N` and `hashes N`. 2^62 is
-// the largest size of tlog's: above it, maxpow2 does not end, since 1<<63 is no int64 above zero. So a path has 62 hashes.
+// bench/run builds it with Debian's golang-go and golang-golang-x-mod-dev, and calls it by `walk N` and `hashes N`.
+// 2^62 is the largest size of tlog's: above it, maxpow2 does not end, since 1<<63 is no int64 above zero. So a path has
+// 62 hashes.
 package main
 
 import (
