@@ -117,6 +117,12 @@ def authorities(count):
     return written(made, {**root, "certificateAuthorities": listed + root["certificateAuthorities"]})
 
 
+def anchors_beside_extensions(count):
+    """As many trust anchors of the issuer's name, of one other key, as the leaf has extensions more."""
+    made = Signed(leaf_of_extensions(count))
+    return written(made, with_anchors(made, [fixture.anchor(key=fixture.key(9))] * count))
+
+
 def log_of(key, identifier, **valid_for):
     opened = {"start": "2023-01-01T00:00:00Z", **valid_for}
     return {"publicKey": {"rawBytes": coded(key), "validFor": opened}, "logId": {"keyId": coded(identifier)}}
@@ -333,6 +339,7 @@ REQUESTS = {
         ("one payload", predicate),
         ("trust anchors, a row each", anchors_and_rows),
         ("trust anchors of long names", anchors_by_name),
+        ("trust anchors, extensions of the leaf", anchors_beside_extensions),
         ("authorities", authorities),
         ("log keys, ids of a long prefix", log_keys),
         ("log keys of one id", log_keys_of_one_id),
@@ -367,3 +374,19 @@ COUNTED = (
     (f"subjects of {MOST_DIGESTS} digests", subjects, MOST_SUBJECTS),
     (f"digests of {MOST_SUBJECTS} subjects", digests_of_a_subject, MOST_DIGESTS),
 )
+
+# Requests of `questions verify` by its status; with 2 the list of signatures would have more than 2^24 bytes.
+QUESTIONS = {
+    0: (
+        ("one payload", predicate),
+        ("trust anchors of long names", anchors_by_name),
+        ("log keys of one id", log_keys_of_one_id),
+        ("extensions of the leaf", leaf_extensions),
+        ("signatures of the note, rows", note_signatures),
+        ("rows by signature", rows_by_signature),
+    ),
+    2: (
+        ("trust anchors, extensions of the leaf", anchors_beside_extensions),
+        ("signatures of the note, its lines", note_of_many_lines),
+    ),
+}

@@ -15,6 +15,7 @@ MOST_DOUBLED = 2.3  # the time over an input, to that over one of half the size
 MOST_TO_READING_AND_HASHING = 1.3  # the time over a log's own entries, to that of reading and of hashing them
 MOST_BEYOND_START = 1.0  # the milliseconds that a small request takes beyond those of a process that reads none
 MOST_MEGABYTES = 700  # the peak memory over an input of 2^24 bytes
+MOST_MEGABYTES_OF_QUESTIONS = 600  # the same of `questions`
 MOST_TO_HASHING = 1.1  # the time over an artifact, to that of hashing it alone
 MOST_MEGABYTES_OF_ARTIFACT = 20  # the peak memory over an artifact, however long
 MOST_TO_HASHES = 1.05  # the time of a check of inclusion, to that of its hashes alone
@@ -131,6 +132,26 @@ def verify(bench):
     row("too long, refused", chains.example() + b" " * 2**25, "refused request")
 
 
+def questions(bench):
+    """Requests of `questions verify`, the worst of those of `verify`. With the status 2 the list of signatures would
+    have more than 2^24 bytes. The last column is the time to that over a request of half the size."""
+    command = [bench.program, "questions", "verify"]
+    table = bench.table(questions, "request", "status", "bytes", "ms", "MB", "to half")
+
+    def measured(name, text, status):
+        path = bench.kept(text)
+        [took], peak = bench.seconds(path, command, status=status), megabytes(command, path, status)
+        bench.goal(f"questions, {name}, {len(text)} bytes, MB", peak, MOST_MEGABYTES_OF_QUESTIONS)
+        return took, peak
+
+    for status, kinds in chains.QUESTIONS.items():
+        for name, make in kinds:
+            text, half = filled(make, bench.most), filled(make, bench.most // 2)
+            (took, peak), (first, _) = measured(name, text, status), measured(name, half, status)
+            table.row(name, status, len(text), took * 1000, round(peak), took / first)
+            bench.goal(f"questions, {name}, time to that at half", took / first, MOST_DOUBLED)
+
+
 def entries(bench):
     """Requests of `log` with the log's own entries, beside the same request with one entry more, which is read and not
     hashed, and the hashing of big entries by itself. The last column is the time to that over half as many."""
@@ -238,6 +259,7 @@ def as_entry(item):
 BUNDLES = (
     *((f"entries: {name}", shapes.bundle_of_entries(as_entry(item))) for name, item in shapes.worst(above=3)),
     ("entries: {}", shapes.bundle_of_entries("{}")),
+    ('entries: {"logId":{}}', shapes.bundle_of_entries('{"logId":{}}')),
     ("entries: with a proof", shapes.bundle_of_entries('{"inclusionProof":{}}')),
     ("hashes of one byte", shapes.bundle_of_hashes),
     ("empty certificates", shapes.bundle_of_certificates),
@@ -318,6 +340,6 @@ def walks(bench):
     bench.goal("check of inclusion, time to its hashes", took[0] / took[2], MOST_TO_HASHES)
 
 
-OF_PROGRAM = (log, entries, verify)  # those that measure sigverify, and not the readers of sig_bench
+OF_PROGRAM = (log, entries, verify, questions)  # those that measure sigverify, and not the readers of sig_bench
 OF_READERS = (certificates, documents, bundles, statements, artifacts, walks)
 TABLES = {table.__name__: table for table in (*OF_PROGRAM, *OF_READERS)}

@@ -11,20 +11,12 @@ import hashlib
 import os
 
 import consistency_cases
+from case_table import Table
+from consistency_cases import cut, leaf_hash, node_hash, proof_len, tree_hash
 
 HERE = os.path.dirname(os.path.abspath(__file__))
-CRATE = os.path.join(HERE, "..", "crates", "base_cases")
-CALLS, RETURNS = [], []
-
-
-def note(text):
-    CALLS.append("# " + text)
-    RETURNS.append("# " + text)
-
-
-def case(call, result):
-    CALLS.append(call)
-    RETURNS.append(result)
+TABLE = Table("base_cases")
+case, note = TABLE.case, TABLE.note
 
 
 def hexed(data):
@@ -180,32 +172,6 @@ ROOTS = ["e3b0c44298fc1c149afbf4c8996fb92427ae41e4649b934ca495991b7852b855",
          "76e67dadbcdf1e10e1b74ddc608abd2f98dfb16fbce75277b5232a127f2087ef",
          "ddb89be403809e325750d3d263cd78929c2942b7942a34b77e122c9594a74c8c",
          "5dc9da79a70659a9ad559cb701ded9a2ab9d823aad2f4960cfe370eff4604328"]
-
-
-def leaf_hash(entry):
-    return hashlib.sha256(b"\x00" + entry).digest()
-
-
-def node_hash(left, right):
-    return hashlib.sha256(b"\x01" + left + right).digest()
-
-
-def cut(n):
-    """The largest power of two smaller than n."""
-    k = 1
-    while 2 * k < n:
-        k *= 2
-    return k
-
-
-def tree_hash(entries):
-    """MTH (section 2.1)."""
-    if not entries:
-        return hashlib.sha256(b"").digest()
-    if len(entries) == 1:
-        return leaf_hash(entries[0])
-    k = cut(len(entries))
-    return node_hash(tree_hash(entries[:k]), tree_hash(entries[k:]))
 
 
 def audit_path(m, entries):
@@ -364,14 +330,6 @@ def both_ways(size, first, count):
     case(f"both_ways {size} {first} {count}", f"ok {digest} {digest}")
 
 
-def growth_len(m, n, known):
-    """The number of hashes of SUBPROOF (section 2.1.2)."""
-    if m == n:
-        return 0 if known else 1
-    k = cut(n)
-    return 1 + (growth_len(m, k, known) if m <= k else growth_len(m - k, n - k, False))
-
-
 def grown(m, n, known, old, path):
     """The old and the new root that a proof leads to, by the recursion of SUBPROOF."""
     if m == n:
@@ -384,33 +342,12 @@ def grown(m, n, known, old, path):
     return node_hash(path[-1], first), node_hash(path[-1], second)
 
 
-def grown_by_walk(first, second, old, path):
-    """The same, by the algorithm of RFC 9162 section 2.1.4.2."""
-    if first & (first - 1) == 0:
-        path = [old] + path
-    fn, sn = first - 1, second - 1
-    while fn & 1:
-        fn, sn = fn >> 1, sn >> 1
-    fr = sr = path[0]
-    for c in path[1:]:
-        assert sn != 0
-        if fn & 1 or fn == sn:
-            fr, sr = node_hash(c, fr), node_hash(c, sr)
-            while not fn & 1 and fn:
-                fn, sn = fn >> 1, sn >> 1
-        else:
-            sr = node_hash(sr, c)
-        fn, sn = fn >> 1, sn >> 1
-    assert sn == 0
-    return fr, sr
-
-
 def both_growths(size, first, count):
     old, roots = bytes([255] * 32), b""
     for old_size in range(first, first + count):
-        path = [bytes([place] * 32) for place in range(growth_len(old_size, size, True))]
+        path = [bytes([place] * 32) for place in range(proof_len(old_size, size))]
         led = grown(old_size, size, True, old, path)
-        assert led == grown_by_walk(old_size, size, old, path)
+        assert led == consistency_cases.walk(old_size, size, path, old)
         roots += led[0] + led[1]
     case(f"both_growths {size} {first} {count}", f"ok {hashlib.sha256(roots).hexdigest()}")
 
@@ -582,9 +519,7 @@ def main():
         for call, result in rows:
             case(call, result)
     keys(os.path.join(HERE, "base_cases.txt"))
-    for name, lines in [("stdin", CALLS), ("stdout", RETURNS)]:
-        with open(os.path.join(CRATE, name), "w") as out:
-            out.write("\n".join(lines) + "\n")
+    TABLE.write()
 
 
 main()

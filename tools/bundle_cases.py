@@ -14,11 +14,11 @@ import os
 import re
 
 import fixture
+from case_table import Table
 from fixture import base64_of, compact
 from rekor_cases import Fault, debug, read_checkpoint
 
 HERE = os.path.dirname(os.path.abspath(__file__))
-CRATE = os.path.join(HERE, "..", "crates", "bundle_cases")
 
 
 # A bundle read by the table of the format: an absent member and null mean an empty text, no bytes, 0, no elements, or nothing.
@@ -124,27 +124,12 @@ def read_bundle(content):
 
 # Lines.
 
-LINES_IN, LINES_OUT = [], []
-
-
-def comment(line):
-    LINES_IN.append(line)
-    LINES_OUT.append(line)
-
-
-def group(title):
-    if LINES_IN:
-        comment("")
-    comment("# " + title)
-
-
-def case(call, expected):
-    LINES_IN.append(call)
-    LINES_OUT.append(expected)
+TABLE = Table("bundle_cases")
+case, group = TABLE.case, TABLE.group
 
 
 def named_case(cause, call, expected):
-    comment("# " + cause)
+    TABLE.note(cause)
     case(call, expected)
 
 
@@ -598,9 +583,7 @@ def main():
     fixture_bundle()
     versions()
     errors()
-    for title, lines in [("stdin", LINES_IN), ("stdout", LINES_OUT)]:
-        with open(os.path.join(CRATE, title), "w", encoding="utf-8") as file:
-            file.write("\n".join(lines) + "\n")
+    TABLE.write()
 
 
 if __name__ == "__main__":

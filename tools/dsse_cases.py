@@ -10,25 +10,18 @@ examples of the protocol, the messages `abc` those of FIPS 180-4.
 import base64
 import hashlib
 import json
-import os
 import re
 
-CRATE = os.path.join(os.path.dirname(os.path.abspath(__file__)), "..", "crates", "dsse_cases")
+from case_table import Table
+
 
 STATEMENT_V1 = "https://in-toto.io/Statement/v1"
 COSIGN_SIGN_V1 = "https://sigstore.dev/cosign/sign/v1"
 TYPE = "application/vnd.in-toto+json"
 A, B, C = "a" * 64, "b" * 128, "0123456789ABCDEFabcdef" + "9" * 42
 
-ROWS = []
-
-
-def say(text):
-    ROWS.append(("# " + text, "# " + text))
-
-
-def case(call, answer):
-    ROWS.append((call, answer))
+TABLE = Table("dsse_cases")
+case, say = TABLE.case, TABLE.note
 
 
 # ---- texts in arguments and in answers
@@ -362,9 +355,7 @@ def main():
     cosign()
     hashes()
     faults()
-    for name, column in [("stdin", 0), ("stdout", 1)]:
-        with open(os.path.join(CRATE, name), "w", encoding="utf-8", newline="\n") as table:
-            table.write("".join(row[column] + "\n" for row in ROWS))
+    TABLE.write()
 
 
 main()

@@ -10,21 +10,13 @@ those of RFC 4648. None of the project's code runs.
 import base64
 import itertools
 import json
-import os
 import random
 import re
 
-CRATE = os.path.join(os.path.dirname(os.path.abspath(__file__)), "..", "crates", "json_cases")
+from case_table import Table
 
-ROWS = []
-
-
-def say(text):
-    ROWS.append(("# " + text, "# " + text))
-
-
-def case(call, answer):
-    ROWS.append((call, answer))
+TABLE = Table("json_cases")
+case, say = TABLE.case, TABLE.note
 
 
 # ---- what a text is as a tree
@@ -806,9 +798,7 @@ def main():
     builders()
     equality()
     errors()
-    for name, column in [("stdin", 0), ("stdout", 1)]:
-        with open(os.path.join(CRATE, name), "w", encoding="utf-8", newline="\n") as table:
-            table.write("".join(row[column] + "\n" for row in ROWS))
+    TABLE.write()
 
 
 main()

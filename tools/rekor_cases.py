@@ -6,10 +6,10 @@ RFC 4648 for base64, RFC 6962 for a tree and Unicode's PropList.txt for white sp
 import base64
 import hashlib
 import itertools
-import pathlib
 import urllib.parse
 
-FOLDER = pathlib.Path(__file__).resolve().parent.parent / "crates/rekor_cases"
+from case_table import Table
+
 
 # PropList.txt, White_Space
 WHITE = {0x09, 0x0A, 0x0B, 0x0C, 0x0D, 0x20, 0x85, 0xA0, 0x1680, *range(0x2000, 0x200B), 0x2028, 0x2029, 0x202F, 0x205F, 0x3000}
@@ -128,13 +128,13 @@ READERS = {
     "checkpoint_text": lambda text: debug(checkpoint_text(read_checkpoint(text))),
 }
 
-TABLE = []
+TABLE = Table("rekor_cases")
 
 
-def say(*words):
-    TABLE.append(("", ""))
-    for line in words:
-        TABLE.append((f"# {line}", f"# {line}"))
+def say(first, *others):
+    TABLE.group(first)
+    for line in others:
+        TABLE.note(line)
 
 
 def quoted(text):
@@ -147,7 +147,7 @@ def case(call, *texts):
             answer = "ok " + READERS[call](text)
         except Fault as fault:
             answer = f"DecodeError({fault})"
-        TABLE.append((f"{call} {quoted(text)}", answer))
+        TABLE.case(f"{call} {quoted(text)}", answer)
 
 
 def counts(parts):
@@ -158,7 +158,7 @@ def counts(parts):
         answer = f"ok {len(note[3])} {len(signatures)}"
     except Fault as fault:
         answer = f"DecodeError({fault})"
-    TABLE.append(("counts " + "+".join(f"{part.encode().hex()}*{times}" for part, times in parts), answer))
+    TABLE.case("counts " + "+".join(f"{part.encode().hex()}*{times}" for part, times in parts), answer)
 
 
 def path_root(index, size, leaf, path):
@@ -235,15 +235,15 @@ def proof(entry, index, root, size, path, rows, text):
         checkpoint = read_checkpoint(text)
         answer = signed(checkpoint, rows) or of_tree(checkpoint, root, size) or included(entry, index, root, size, path) or "ok"
     line = f"proof {in_hex(entry)} {index} {root.hex()} {size} {','.join(h.hex() for h in path) or '-'} {table(rows)}"
-    TABLE.append((line + ("" if text is None else " " + quoted(text)), answer))
+    TABLE.case(line + ("" if text is None else " " + quoted(text)), answer)
 
 
 def tree(text, root, size):
-    TABLE.append((f"tree {quoted(text)} {root.hex()} {size}", of_tree(read_checkpoint(text), root, size) or "ok"))
+    TABLE.case(f"tree {quoted(text)} {root.hex()} {size}", of_tree(read_checkpoint(text), root, size) or "ok")
 
 
 def asked(text, rows):
-    TABLE.append((f"signed {quoted(text)} {table(rows)}", signed(read_checkpoint(text), rows) or "ok"))
+    TABLE.case(f"signed {quoted(text)} {table(rows)}", signed(read_checkpoint(text), rows) or "ok")
 
 
 def coded(size):
@@ -359,8 +359,9 @@ for index, path in itertools.product(range(4), PATHS):
     proof(b"abcd"[index : index + 1], index, TOP, 3, path, [(THREE.encode(), b"sig")], THREE + "\n" + LINE)
 
 if __name__ == "__main__":
+    import rekor_growth_rows  # writes its rows behind those of rekor_model_rows
     import rekor_model_rows
 
-    TABLE += rekor_model_rows.TABLE
-    (FOLDER / "stdin").write_text("".join(given + "\n" for given, _ in TABLE[1:]))
-    (FOLDER / "stdout").write_text("".join(wanted + "\n" for _, wanted in TABLE[1:]))
+    TABLE.line("")
+    TABLE.rows += rekor_model_rows.TABLE.rows
+    TABLE.write()

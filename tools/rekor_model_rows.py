@@ -9,26 +9,28 @@ import pathlib
 import re
 
 import rekor_cases as notes
+from case_table import Table
 
 EXAMPLES = pathlib.Path(__file__).resolve().parent.parent / "examples"
 KINDS = ("alpine", "hashedrekord", "helm", "intoto", "jar", "rekord", "rfc3161", "rpm", "tuf")
-TABLE = []
+TABLE = Table("rekor_cases")
 
 
 class Refused(Exception):
     """Why a model is none, or does not hold."""
 
 
-def say(*words):
-    TABLE.append(("", ""))
-    TABLE.extend((f"# {line}", f"# {line}") for line in words)
+def say(first, *others):
+    TABLE.group(first)
+    for line in others:
+        TABLE.note(line)
 
 
 def row(line, answer):
     try:
-        TABLE.append((line, answer()))
+        TABLE.case(line, answer())
     except Refused as why:
-        TABLE.append((line, str(why)))
+        TABLE.case(line, str(why))
 
 
 # ---- hashes and proofs
@@ -68,11 +70,6 @@ def hex_list(texts):
 def from_rekor(api):
     words = (hex_list(api["hashes"]), str(api["logIndex"]), notes.quoted(api["rootHash"]), str(api["treeSize"]), notes.quoted(api["checkpoint"]))
     row("from_rekor " + " ".join(words), lambda: proof_line(api))
-
-
-def log_info(root, size, text):
-    read_checkpoint(text)
-    row(f"log_info {notes.quoted(root)} {size} {notes.quoted(text)}", lambda: f"ok {read_hash(root, 'RootLength').hex()} {size}")
 
 
 # ---- entries
@@ -318,11 +315,6 @@ for text in BAD[1:]:
     from_rekor(dict(PLAIN, rootHash=text))
 for one, two, root, text in itertools.product((ROOT, "zz", "00"), (ROOT, "zz", "00"), (ROOT, "zz", "00"), (ONE, "", "x", "bad note\n\n")):
     from_rekor(dict(PLAIN, hashes=[one, two], rootHash=root, checkpoint=text))
-
-say("log_info ROOT SIZE CHECKPOINT: what LogInfo::try_from_rekor reads.")
-for text in BAD:
-    log_info(text, 1, ONE)
-log_info(ROOT.upper(), 2**64 - 1, ONE)
 
 say("entry TEXT: what LogEntry::from_json_text reads. An entry of the staging log.")
 entry(json.dumps(ENTRY))

@@ -7,14 +7,12 @@ A request of fixture.py, as it is and with one part changed: each signature in i
 needed by one signature alone. The signatures of the leaf and of its SCT are among the cases of x509_cases.py.
 """
 import json
-import os
 from urllib.parse import quote
 
 import fixture
+from case_table import Table
 from fixture import key, spelled
 
-HERE = os.path.dirname(os.path.abspath(__file__))
-CRATE = os.path.join(HERE, "..", "crates", "request_cases")
 REFUSALS = {"envelope": "PublicKeyVerificationError", "promise": "PublicKeyVerificationError",
             "checkpoint": "CheckpointSignatureVerificationError",
             "verify_der_cert": "VerificationFailed", "verify_sct": "Verification(VerificationFailed)"}
@@ -71,32 +69,27 @@ def fixture_stamp():
     return {"time": 1702446655000, "more": b"", "signature": b"sig-sct"}
 
 
-def written(asked):
-    """The lines for these calls of each request: by all rows, and of the fixture without each row."""
-    lines = []
-    for title, change in CHANGES.items():
+def add_calls(table, asked):
+    """Adds these calls of each request: by all rows, and of the fixture without each row."""
+    for place, (title, change) in enumerate(CHANGES.items()):
         request = fixture.Request(**change)
         rows = list(map(words_of, request.accepted()))
-        if lines:
-            lines.append(("", ""))
-        title = "# a request's signatures by its rows: " + title
-        lines.append((title, title))
+        if place:
+            table.line("")
+        table.note("a request's signatures by its rows: " + title)
         for call, arguments in asked(request).items():
             good = "ok 0" if call == "verify_der_cert" else "ok"
-            lines.append((" ".join([call, arguments, *rows]), good))
-            for place in range(len(rows)) if not change else []:
-                fewer = rows[:place] + rows[place + 1:]
-                without = "# without row %d" % place
-                lines.append((without, without))
-                lines.append((" ".join([call, arguments, *fewer]), REFUSALS[call] if place == PLACES[call] else good))
-    return lines
+            table.case(" ".join([call, arguments, *rows]), good)
+            for left_out in range(len(rows)) if not change else []:
+                fewer = rows[:left_out] + rows[left_out + 1:]
+                table.note("without row %d" % left_out)
+                table.case(" ".join([call, arguments, *fewer]), REFUSALS[call] if left_out == PLACES[call] else good)
 
 
 def main():
-    lines = written(calls)
-    for title, texts in [("stdin", [one for one, _ in lines]), ("stdout", [other for _, other in lines])]:
-        with open(os.path.join(CRATE, title), "w", encoding="utf-8") as file:
-            file.write("\n".join(texts) + "\n")
+    table = Table("request_cases")
+    add_calls(table, calls)
+    table.write()
 
 
 if __name__ == "__main__":

@@ -29,10 +29,9 @@ sys.dont_write_bytecode = True
 import fixture
 import request_cases
 import verify_links
+from case_table import Table
 from fixture import BIT_STRING, OBJECT_IDENTIFIER, SEQUENCE, compact, der, leaf, leaf_extensions, oid, spelled
 
-HERE = os.path.dirname(os.path.abspath(__file__))
-CALLS = os.path.join(HERE, "..", "crates", "verify_cases")
 ABSENT = object()
 
 
@@ -339,9 +338,12 @@ def rooted_calls():
 
 
 def write_calls():
+    table = Table("verify_cases")
     calls = [(row.name, call(row.text), returned(*row.expected)) for row in ROWS if is_call(row)] + rooted_calls()
-    for name, column in [("stdin", 1), ("stdout", 2)]:
-        write(os.path.join(CALLS, name), [line for each in calls for line in ("# " + each[0], each[column])])
+    for name, asked, wanted in calls:
+        table.note(name)
+        table.case(asked, wanted)
+    table.write()
 
 
 def write_examples(folder):

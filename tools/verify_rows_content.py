@@ -6,7 +6,8 @@ from fixture import (A0, BASIC_CONSTRAINTS, BIT_STRING, CODE_SIGNING, DIGEST, EX
                      OBJECT_IDENTIFIER, OCTET_STRING, SCT_LIST, SEQUENCE, SUBJECT_ALTERNATIVE_NAME, URI, WIDE_DIGEST, WORKFLOW, base64_of, compact,
                      der, extension, key, leaf, leaf_extensions, note, oid, sct, sct_list, subject)
 from rekor_cases import debug
-from verify_cases import (ABSENT, CERTIFICATE, CHECKPOINT, ENTRY, KEYS, MATERIAL, PROOF, accepted, bundle, held, of_bytes, parts, row, unaccepted)
+from verify_cases import (ABSENT, CERTIFICATE, CHECKPOINT, ENTRY, KEYS, MATERIAL, PROOF, accepted, bundle, edited, held, of_bytes, parts, row,
+                          unaccepted)
 
 
 # material to profile: the bundle's parts. Those of chains, of signatures over an artifact and of profiles are in verify_rows_message.py.
@@ -272,15 +273,7 @@ def envelopes():
 
 def bodies():
     def changed(path, value):
-        tree = json.loads(fixture.Request().body)
-        *way, last = path
-        place = tree
-        for name in way:
-            place = place[name]
-        if value is ABSENT:
-            del place[last]
-        else:
-            place[last] = value(place[last]) if callable(value) else value
+        tree = edited(json.loads(fixture.Request().body), ".".join(map(str, path)), value)
         return parts(body=compact(tree).encode())
     made = fixture.Request()
     first = ("spec", "signatures", 0)

@@ -14,10 +14,10 @@ import re
 
 import fixture
 import request_cases
+from case_table import Table
 from fixture import der, extension, extensions, key, leaf_extensions, sha256, spelled
 
 HERE = os.path.dirname(os.path.abspath(__file__))
-CRATE = os.path.join(HERE, "..", "crates", "x509_cases")
 
 
 # The fixture leaf with changes.
@@ -193,24 +193,13 @@ def answer(*values):
     return " ".join(["ok", *map(str, values)])
 
 
-LINES_IN, LINES_OUT = [], []
-
-
-def comment(text):
-    LINES_IN.append(text)
-    LINES_OUT.append(text)
-
-
-def group(title):
-    if LINES_IN:
-        comment("")
-    comment("# " + title)
+TABLE = Table("x509_cases")
+group = TABLE.group
 
 
 def case(cause, call, expected):
-    comment("# " + cause)
-    LINES_IN.append(call)
-    LINES_OUT.append(expected)
+    TABLE.note(cause)
+    TABLE.case(call, expected)
 
 
 # The two certificates of Sigstore, and the log's SCT.
@@ -637,10 +626,8 @@ def all_of(total, *refusals):
 
 def requests():
     """The signatures of the leaf and of its SCT in the requests of request_cases.py."""
-    comment("")
-    for call, expected in request_cases.written(request_cases.leaf_calls):
-        LINES_IN.append(call)
-        LINES_OUT.append(expected)
+    TABLE.line("")
+    request_cases.add_calls(TABLE, request_cases.leaf_calls)
 
 
 def errors():
@@ -662,9 +649,7 @@ def main():
     policies()
     requests()
     errors()
-    for title, lines in [("stdin", LINES_IN), ("stdout", LINES_OUT)]:
-        with open(os.path.join(CRATE, title), "w", encoding="utf-8") as file:
-            file.write("\n".join(lines) + "\n")
+    TABLE.write()
 
 
 if __name__ == "__main__":

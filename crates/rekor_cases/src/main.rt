@@ -6,12 +6,14 @@
 //! for the checkpoints and roots that it begins with.
 #![tactic(auto)]
 
+mod growth;
 mod models;
 mod proof;
 mod shown;
 
+use growth::{consistency, consistency_from_rekor, grown, log_info};
 use models::{
-    entry, entry_inclusion, hashedrekord, log_info, proof_from_rekor, proposed, public_key,
+    entry, entry_inclusion, hashedrekord, inclusion_proof_from_rekor, proposed, public_key,
 };
 use proof::{answer_of_proof, answer_of_signature, answer_of_tree};
 use shown::{add_note, add_signature, add_signatures};
@@ -38,8 +40,11 @@ impl Cases for RekorCases {
             "signed" => answer_of_signature(alloc, arguments),
             "tree" => answer_of_tree(alloc, arguments),
             "proof" => answer_of_proof(alloc, arguments),
-            "from_rekor" => proof_from_rekor(alloc, arguments),
+            "from_rekor" => inclusion_proof_from_rekor(alloc, arguments),
             "log_info" => log_info(alloc, arguments),
+            "consistency_from_rekor" => consistency_from_rekor(alloc, arguments),
+            "consistency" => consistency(alloc, arguments),
+            "grown" => grown(alloc, arguments),
             "entry" => entry(alloc, arguments),
             "entry_inclusion" => entry_inclusion(alloc, arguments),
             "public_key" => public_key(alloc, arguments),

@@ -6,8 +6,8 @@ use sig_cases::{Answer, Arguments, CaseError};
 use sig_json::{Document, compact};
 use sig_rekor::{InclusionProof, RekorInclusionProof, SignedCheckpoint};
 use sig_rekor_models::{
-    AlgorithmKind, Data, EntryKind, Hash, Hashedrekord, LogEntry, LogInfo, ProposedEntry,
-    PublicKey, RekorLogInfo, Signature, Spec,
+    AlgorithmKind, Data, EntryKind, Hash, Hashedrekord, LogEntry, ProposedEntry, PublicKey,
+    Signature, Spec,
 };
 use std::alloc::Global;
 
@@ -40,7 +40,10 @@ fn add_checkpoint(
 }
 
 /// `from_rekor HASHES INDEX ROOT SIZE CHECKPOINT`: what `InclusionProof::try_from_rekor` reads.
-pub fn proof_from_rekor(alloc: Global, arguments: &mut Arguments<'_>) -> Result<Answer, CaseError> {
+pub fn inclusion_proof_from_rekor(
+    alloc: Global,
+    arguments: &mut Arguments<'_>,
+) -> Result<Answer, CaseError> {
     let api = RekorInclusionProof {
         hashes: read_entries(alloc, arguments)?,
         log_index: arguments.integer()?,
@@ -59,29 +62,6 @@ pub fn proof_from_rekor(alloc: Global, arguments: &mut Arguments<'_>) -> Result<
             }
             add_checkpoint(answer, &proof.checkpoint)
         }
-        Err(error) => Answer::error(alloc, &error),
-    }
-}
-
-/// `log_info ROOT SIZE CHECKPOINT`: what `LogInfo::try_from_rekor` reads.
-pub fn log_info(alloc: Global, arguments: &mut Arguments<'_>) -> Result<Answer, CaseError> {
-    let root_hash = read_text(alloc, arguments)?;
-    let tree_size = arguments.natural()?;
-    let text = arguments.text(alloc)?;
-    let signed_tree_head = SignedCheckpoint::decode(alloc, text.as_str()).map_err(
-        |_| CaseError::BadLine,
-    )?;
-    let raw = RekorLogInfo {
-        root_hash,
-        tree_size,
-        signed_tree_head,
-        tree_id: None,
-        inactive_shards: None,
-    };
-    match LogInfo::try_from_rekor(raw) {
-        Ok(info) => Answer::ok(alloc)?
-            .hex(&info.root_hash)?
-            .value(&info.tree_size),
         Err(error) => Answer::error(alloc, &error),
     }
 }
@@ -129,7 +109,7 @@ fn add_api_proof(answer: Answer, proof: &RekorInclusionProof) -> Result<Answer, 
 }
 
 /// Adds a text, or `none`.
-fn add_text(answer: Answer, text: &Option<Text>) -> Result<Answer, CaseError> {
+pub fn add_text(answer: Answer, text: &Option<Text>) -> Result<Answer, CaseError> {
     match text {
         Some(text) => answer.debug(&text.as_str()),
         None => answer.value(&"none"),

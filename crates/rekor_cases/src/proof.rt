@@ -31,7 +31,7 @@ fn read_hash(alloc: Global, arguments: &mut Arguments<'_>) -> Result<[u8; 32], C
 }
 
 /// The key of the cases that name none.
-const KEY: &[u8] = b"key";
+pub const KEY: &[u8] = b"key";
 
 /// Reads a table: the notes over which a signature is accepted under ECDSA over P-256 and this key, and those
 /// signatures.

@@ -36,7 +36,7 @@ fn key(alloc: Global, arguments: &mut Arguments<'_>) -> Result<CosignVerificatio
 }
 
 /// Whether the signature over the message is the key's, by the rows of the next arguments.
-fn signed(
+fn accepts_signature(
     alloc: Global,
     arguments: &mut Arguments<'_>,
     key: &CosignVerificationKey,
@@ -57,7 +57,7 @@ fn envelope(alloc: Global, arguments: &mut Arguments<'_>) -> Result<Answer, Case
     let payload = arguments.hex(alloc)?;
     let signature = arguments.hex(alloc)?;
     let pae = compute_pae(alloc, payload_type.as_str(), &payload)?;
-    signed(alloc, arguments, &key, &signature, pae.as_slice())
+    accepts_signature(alloc, arguments, &key, &signature, pae.as_slice())
 }
 
 /// `promise SPKI JSON SIGNATURE ROW ..`: whether the signature over the canonical form of the JSON text is the key's.
@@ -70,7 +70,7 @@ fn promise(alloc: Global, arguments: &mut Arguments<'_>) -> Result<Answer, CaseE
         Err(refusal) => return Answer::error(alloc, &refusal),
     };
     match canonical(alloc, document.view()) {
-        Ok(text) => signed(alloc, arguments, &key, &signature, text.as_str().as_bytes()),
+        Ok(text) => accepts_signature(alloc, arguments, &key, &signature, text.as_str().as_bytes()),
         Err(refusal) => Answer::error(alloc, &refusal),
     }
 }

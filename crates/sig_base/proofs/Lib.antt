@@ -11,3 +11,7 @@ pub mod Decisions
 pub mod SeenTexts
 pub mod ComesLaws
 pub mod RuleLaws
+pub mod ByteLists
+pub mod Zipped
+pub mod PartEquality
+pub mod IntOrders

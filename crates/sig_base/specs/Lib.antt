@@ -12,3 +12,4 @@ pub mod Base64
 pub mod ByText
 pub mod Rules
 pub mod Collision
+pub mod ByteLists

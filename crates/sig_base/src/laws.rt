@@ -1,8 +1,11 @@
-//! What the definitions mean. It has no code.
-ghost use Rattle.std.specs.Prelude.{◌≡◌, ◌≢◌, ◌↔◌, ℕ, List, None, Some, Contains};
+//! What the definitions mean. Its calls do nothing.
+ghost use Rattle.std.specs.Prelude.{◌≡◌, ◌≢◌, ◌↔◌, [], ℕ, List, None, Some, Contains, unwrap_or};
 ghost use Rattle.base64.specs.GeneralPurpose.{IsBytes};
 ghost use Rattle.sig_base.specs.Base64.{base64_bytes, base64_text};
 ghost use Rattle.sig_base.specs.ByText.{text_lookup, text_put, KeysAscend};
+ghost use Rattle.sig_base.specs.ByteLists.{AreBytes};
+
+use crate::bytes::Bytes;
 
 /// A text has bytes in base64 if and only if it is their one encoding (RFC 4648 section 4, with padding and without
 /// stray bits).
@@ -30,3 +33,28 @@ pub fn entries_put<V>()
     ensures ascend { (text : List ℕ) (value : V) (entries : List (List ℕ × V)) → KeysAscend entries
         → KeysAscend (text_put text value entries) }
 {}
+
+/// What contracts see of bytes are numbers below 256.
+#[tactic(auto, using(crate::proofs::ByteLists::each_byte))]
+pub fn are_bytes(bytes: &[u8])
+    ensures { AreBytes bytes.now }
+{
+    let _ = bytes;
+}
+
+/// The same of bytes that are owned.
+pub fn are_owned_bytes(bytes: &Bytes)
+    ensures { AreBytes bytes.now }
+{
+    are_bytes(bytes.as_slice());
+}
+
+/// The same of bytes that may be absent.
+pub fn are_optional_bytes(bytes: &Option<Bytes>)
+    ensures { AreBytes (unwrap_or bytes.now []) }
+{
+    match bytes {
+        Some(bytes) => are_owned_bytes(bytes),
+        None => (),
+    }
+}

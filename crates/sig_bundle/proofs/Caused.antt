@@ -5,6 +5,7 @@ use Rattle.std.specs.Prelude.{if◌then◌else◌}
 use Rattle.std.specs.List.{list_any}
 use Rattle.sig_base.specs.ResultSteps.{◌>>=◌}
 use Rattle.sig_certificate.specs.Certificate.{Cert}
+use Rattle.sig_certificate.specs.Certificates.{AreCertificates}
 use Rattle.sig_certificate.specs.Profile.{leaf_refusal}
 use Rattle.sig_certificate.specs.declared.profile_error.CertificateValidationError.{CertificateValidationError}
 use Rattle.sig_dsse.proofs.FaultCauses.{faults_have_their_cause}
@@ -24,7 +25,7 @@ use Rattle.sig_bundle.specs.Profile.{meets_version, unless_lacking}
 use Rattle.sig_bundle.specs.Refusals.{DemandsProof, HasCertificates, HasContent, HasEncodings, HasEntry, HasEnvelope}
 use Rattle.sig_bundle.specs.Refusals.{HasMaterial, HasNoRoot, HasSignature, HasStatement, HasVersion, IsCause}
 use Rattle.sig_bundle.specs.Refusals.{material_under}
-use Rattle.sig_bundle.specs.SigningCertificate.{AreCertificates, AreRead, IsLeafAmong, IsSigningCertificate}
+use Rattle.sig_bundle.specs.SigningCertificate.{AreRead, IsLeafAmong, IsSigningCertificate}
 use Rattle.sig_bundle.specs.SigningCertificate.{encodings_in, is_root, leaf_among, leaf_or_refusal}
 use Rattle.sig_bundle.specs.Version.{version_of}
 use Rattle.sig_bundle.specs.declared.bundle.Bundle.{Bundle}

@@ -5,10 +5,12 @@ use Rattle.std.proofs.lemmas.Bool.{or_from, or_parts}
 use Rattle.std.proofs.lemmas.List.Folds.{Any-from_list_any, list_any-from_Any}
 use Rattle.std.specs.Prelude.{Any, is_none}
 use Rattle.std.specs.List.{AllByRecursion, list_any}
+use Rattle.sig_base.proofs.Zipped.{zip_one}
 use Rattle.sig_certificate.specs.Certificate.{Cert, IsCertificate}
+use Rattle.sig_certificate.specs.Certificates.{AreCertificates}
 use Rattle.sig_certificate.specs.Profile.{root_refusal}
 use Rattle.sig_certificate.specs.declared.profile_error.CertificateValidationError.{CertificateValidationError}
-use Rattle.sig_bundle.specs.SigningCertificate.{AreCertificates, AreRead, IsFirstMalformed, IsNoRoot, IsRoot, is_root}
+use Rattle.sig_bundle.specs.SigningCertificate.{AreRead, IsFirstMalformed, IsNoRoot, IsRoot, is_root}
 use Rattle.sig_bundle.specs.declared.bundle_error.BundleErrorKind.{BundleErrorKind}
 
 -- no DER is that of two certificates
@@ -19,13 +21,7 @@ OneCertificate = (der : List ℕ) (c d : Cert) → IsCertificate der c → IsCer
 
 pub certificates_one : OneCertificate → (ders : List (List ℕ)) (cs ds : List Cert) → AreCertificates ders cs
     → AreCertificates ders ds → cs ≡ ds
-certificates_one one [] [] [] a b = refl
-certificates_one one [] [] (d ∷ ds) a b = absurd b
-certificates_one one [] (c ∷ cs) ds a b = absurd a
-certificates_one one (der ∷ ders) [] ds a b = absurd a
-certificates_one one (der ∷ ders) (c ∷ cs) [] a b = absurd b
-certificates_one one (der ∷ ders) (c ∷ cs) (d ∷ ds) a b =
-    rw (one der c d a.0 b.0, certificates_one one ders cs ds a.1 b.1) refl
+certificates_one one = zip_one IsCertificate IsCertificate one
 
 -- where all are certificates, none is the first that is not
 pub none_malformed : (ders : List (List ℕ)) (cs : List Cert) (index : ℕ) → AreCertificates ders cs

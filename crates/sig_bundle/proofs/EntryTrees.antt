@@ -2,7 +2,8 @@
 use Rattle.std.proofs.Common.{◌≡◌, Option, option_map, refl}
 use Rattle.std.specs.Prelude.{codes}
 use Rattle.sig_json.specs.Data.{Data, object, Members, no_members, put}
-use Rattle.sig_bundle.specs.BundleTree.{checkpoint_tree, entry_tree, kind_version_tree, log_id_tree, inclusion_promise_tree}
+use Rattle.sig_bundle.specs.BundleTree.{checkpoint_tree, entry_tree, kind_version_tree, log_id_tree}
+use Rattle.sig_bundle.specs.BundleTree.{inclusion_promise_tree}
 use Rattle.sig_bundle.specs.BundleTree.{proof_tree}
 use Rattle.sig_bundle.specs.Written.{put_some, integer_tree, bytes_tree, list_tree}
 use Rattle.sig_bundle.specs.declared.material.ProofFields.{ProofFields}

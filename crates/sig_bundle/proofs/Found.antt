@@ -7,7 +7,7 @@ use Rattle.sig_base.specs.OptionSteps.{◌>>=◌}
 use Rattle.sig_json.specs.Data.{Data, Members, no_members}
 use Rattle.sig_json.specs.Find.{get_member}
 use Rattle.sig_json.proofs.Views.{get_member-put, get_member-put_other}
-use Rattle.sig_bundle.specs.Written.{Row, put_some, rows_into, object_of, IsReadAs, OptionIsRead}
+use Rattle.sig_bundle.specs.Written.{TreeMember, put_some, members_into, object_of, IsReadAs, OptionIsRead}
 use Rattle.sig_json.specs.Member.{member_of, not_null, optional, optional_or}
 
 -- ---- a member, as the rows give it: the last row of its name whose value is there
@@ -16,11 +16,11 @@ abbrev pub over : Option Data → Option Data → Option Data
 over None value = value
 over (Some before) value = Some (unwrap_or value before)
 
-abbrev pub find_from : List ℕ → Option Data → List Row → Option Data
+abbrev pub find_from : List ℕ → Option Data → List TreeMember → Option Data
 find_from name found [] = found
 find_from name found (row ∷ rows) = find_from name (if bytes_eq name row.0 then over found row.1 else found) rows
 
-abbrev pub find : List ℕ → List Row → Option Data
+abbrev pub find : List ℕ → List TreeMember → Option Data
 find name rows = find_from name None rows
 
 -- ---- as the reader finds it
@@ -53,27 +53,28 @@ get_member-put_some name k value ms =
           (λ e. let same : bytes_eq name k ≡ true = (bytes_eq-Decides name k).1 e in cc))
     ]
 
-get_member-rows : (name : List ℕ) (ms : Members) (rows : List Row)
-    → get_member name (rows_into ms rows) ≡ find_from name (get_member name ms) rows
+get_member-rows : (name : List ℕ) (ms : Members) (rows : List TreeMember)
+    → get_member name (members_into ms rows) ≡ find_from name (get_member name ms) rows
 get_member-rows name ms [] = refl
 get_member-rows name ms (row ∷ rows) =
     get_member-rows name (put_some row.0 row.1 ms) rows ∙ ap (λ found. find_from name found rows)
     (get_member-put_some name row.0 row.1 ms)
 
-member_of-object_of : (name : List ℕ) (rows : List Row)
+member_of-object_of : (name : List ℕ) (rows : List TreeMember)
     → member_of name (object_of rows) ≡ Some (find name rows >>= not_null)
 unfolding member_of
 member_of-object_of name rows = ap (λ found. Some (found >>= not_null)) (get_member-rows name no_members rows)
 
 -- a member that is there
-pub found : {A : Type 0} → (absent : A) (kind : Data → Option A) (name : List ℕ) (rows : List Row) (d : Data) (x : A)
+pub found : {A : Type 0} → (absent : A) (kind : Data → Option A) (name : List ℕ) (rows : List TreeMember) (d : Data)
+    (x : A)
     → find name rows ≡ Some d → IsReadAs kind d x → optional_or absent kind name (object_of rows) ≡ Some x
 unfolding optional_or
 found absent kind name rows d x there back = rw (member_of-object_of name rows, there, back.1, back.0) refl
 
 -- a member that may be absent
 pub found_option : {A : Type 0}
-    → (kind : Data → Option A) (written : A → Data) (name : List ℕ) (rows : List Row) (o : Option A)
+    → (kind : Data → Option A) (written : A → Data) (name : List ℕ) (rows : List TreeMember) (o : Option A)
     → find name rows ≡ option_map written o → OptionIsRead kind written o
     → optional kind name (object_of rows) ≡ Some o
 unfolding optional_or

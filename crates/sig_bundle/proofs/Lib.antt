@@ -2,7 +2,7 @@ pub mod Certificates
 mod Caused
 mod CheckedLaws
 pub mod ContentLaws
-mod Equality
+pub mod Equality
 pub mod Hashedrekords
 mod LeafLaws
 mod PassedLaws

@@ -8,14 +8,18 @@ use Rattle.std.specs.declared.cmp.Ordering.TheVariants.{Less, Equal, Greater}
 use Rattle.sig_json.specs.Data.{Data, Members, no_members, member, put, depth, items_depth, members_depth}
 use Rattle.sig_json.specs.Read.{max_depth}
 use Rattle.sig_bundle.specs.BundleRecord.{bundle_in, bundle_of}
-use Rattle.sig_bundle.specs.BundleTree.{bundle_rows, bundle_tree, certificate_rows, certificate_tree, chain_rows}
-use Rattle.sig_bundle.specs.BundleTree.{chain_tree, checkpoint_rows, checkpoint_tree, content_row, digest_rows}
-use Rattle.sig_bundle.specs.BundleTree.{digest_tree, entry_rows, entry_tree, envelope_rows, envelope_tree}
-use Rattle.sig_bundle.specs.BundleTree.{kind_version_rows, kind_version_tree, log_id_rows, log_id_tree, material_rows}
-use Rattle.sig_bundle.specs.BundleTree.{material_tree, message_signature_rows, message_tree, promise_rows}
-use Rattle.sig_bundle.specs.BundleTree.{inclusion_promise_tree, proof_rows, proof_tree, signature_rows, signature_tree}
-use Rattle.sig_bundle.specs.BundleTree.{material_content_row}
-use Rattle.sig_bundle.specs.Written.{Row, put_some, rows_into, object_of, integer_tree, bytes_tree, items_of}
+use Rattle.sig_bundle.specs.BundleTree.{bundle_members, bundle_tree, certificate_members, certificate_tree}
+use Rattle.sig_bundle.specs.BundleTree.{chain_members}
+use Rattle.sig_bundle.specs.BundleTree.{chain_tree, checkpoint_members, checkpoint_tree, content_member}
+use Rattle.sig_bundle.specs.BundleTree.{digest_members}
+use Rattle.sig_bundle.specs.BundleTree.{digest_tree, entry_members, entry_tree, envelope_members, envelope_tree}
+use Rattle.sig_bundle.specs.BundleTree.{kind_version_members, kind_version_tree, log_id_members, log_id_tree}
+use Rattle.sig_bundle.specs.BundleTree.{material_members}
+use Rattle.sig_bundle.specs.BundleTree.{material_tree, message_signature_members, message_tree, promise_members}
+use Rattle.sig_bundle.specs.BundleTree.{inclusion_promise_tree, proof_members, proof_tree, signature_members}
+use Rattle.sig_bundle.specs.BundleTree.{dsse_signature_tree}
+use Rattle.sig_bundle.specs.BundleTree.{material_content_member}
+use Rattle.sig_bundle.specs.Written.{TreeMember, put_some, members_into, object_of, integer_tree, bytes_tree, items_of}
 use Rattle.sig_bundle.specs.Written.{list_tree}
 use Rattle.sig_bundle.specs.declared.bundle.Bundle.{Bundle}
 use Rattle.sig_bundle.specs.declared.bundle.Content.{Content}
@@ -57,17 +61,17 @@ put_some_shallow : (k : List ℕ) (value : Option Data) (ms : Members) (n : ℕ)
 put_some_shallow k None ms n p q = q
 put_some_shallow k (Some d) ms n p q = put_shallow k d ms n p q
 
-abbrev AreShallow : ℕ → List Row → Type 0
+abbrev AreShallow : ℕ → List TreeMember → Type 0
 AreShallow n [] = ⊤
 AreShallow n (row ∷ rows) = IsShallow n row.1 × AreShallow n rows
 
-rows_shallow : (n : ℕ) (ms : Members) (rows : List Row) → members_depth ms ≤ n → AreShallow n rows
-    → members_depth (rows_into ms rows) ≤ n
+rows_shallow : (n : ℕ) (ms : Members) (rows : List TreeMember) → members_depth ms ≤ n → AreShallow n rows
+    → members_depth (members_into ms rows) ≤ n
 rows_shallow n ms [] p q = p
 rows_shallow n ms (row ∷ rows) p q =
     rows_shallow n (put_some row.0 row.1 ms) rows (put_some_shallow row.0 row.1 ms n q.0 p) q.1
 
-object_shallow : (n : ℕ) (rows : List Row) → AreShallow n rows → depth (object_of rows) ≤ n + 1
+object_shallow : (n : ℕ) (rows : List TreeMember) → AreShallow n rows → depth (object_of rows) ≤ n + 1
 object_shallow n rows h = let below = rows_shallow n no_members rows (omega arith) h in omega arith
 
 items_shallow : {A : Type 0} → (n : ℕ) (written : A → Data) (xs : List A) → ((x : A) → depth (written x) ≤ n)
@@ -96,37 +100,37 @@ integer_shallow n z = omega arith
 
 certificate_shallow : (der : List ℕ) → depth (certificate_tree der) ≤ 1
 unfolding certificate_tree
-certificate_shallow der = object_shallow 0 (certificate_rows der) (bytes_shallow 0 der, tt)
+certificate_shallow der = object_shallow 0 (certificate_members der) (bytes_shallow 0 der, tt)
 
 log_id_shallow : (id : List ℕ) → depth (log_id_tree id) ≤ 1
 unfolding log_id_tree
-log_id_shallow id = object_shallow 0 (log_id_rows id) (bytes_shallow 0 id, tt)
+log_id_shallow id = object_shallow 0 (log_id_members id) (bytes_shallow 0 id, tt)
 
 promise_shallow : (signature : List ℕ) → depth (inclusion_promise_tree signature) ≤ 1
 unfolding inclusion_promise_tree
-promise_shallow signature = object_shallow 0 (promise_rows signature) (bytes_shallow 0 signature, tt)
+promise_shallow signature = object_shallow 0 (promise_members signature) (bytes_shallow 0 signature, tt)
 
 digest_shallow : (digest : List ℕ) → depth (digest_tree digest) ≤ 1
 unfolding digest_tree
-digest_shallow digest = object_shallow 0 (digest_rows digest) (bytes_shallow 0 digest, tt)
+digest_shallow digest = object_shallow 0 (digest_members digest) (bytes_shallow 0 digest, tt)
 
 checkpoint_shallow : (text : List ℕ) → depth (checkpoint_tree text) ≤ 1
 unfolding checkpoint_tree
-checkpoint_shallow text = object_shallow 0 (checkpoint_rows text) (omega arith, tt)
+checkpoint_shallow text = object_shallow 0 (checkpoint_members text) (omega arith, tt)
 
 chain_shallow : (chain : List (List ℕ)) → depth (chain_tree chain) ≤ 3
 unfolding chain_tree
 chain_shallow chain =
-    object_shallow 2 (chain_rows chain) (list_shallow 1 certificate_tree chain certificate_shallow, tt)
+    object_shallow 2 (chain_members chain) (list_shallow 1 certificate_tree chain certificate_shallow, tt)
 
 kind_shallow : (k : KindVersion) → depth (kind_version_tree k) ≤ 1
 unfolding kind_version_tree
-kind_shallow k = object_shallow 0 (kind_version_rows k) (omega arith, (omega arith, tt))
+kind_shallow k = object_shallow 0 (kind_version_members k) (omega arith, (omega arith, tt))
 
 proof_shallow : (p : ProofFields) → depth (proof_tree p) ≤ 2
 unfolding proof_tree
 proof_shallow p =
-    object_shallow 1 (proof_rows p) (
+    object_shallow 1 (proof_members p) (
       integer_shallow 1 p.log_index,
       (
         bytes_shallow 1 p.root_hash,
@@ -146,7 +150,7 @@ at_most_two n h = omega arith
 entry_shallow : (e : TransparencyLogEntry) → depth (entry_tree e) ≤ 3
 unfolding entry_tree
 entry_shallow e =
-    object_shallow 2 (entry_rows e) (
+    object_shallow 2 (entry_members e) (
       integer_shallow 2 e.log_index,
       (
         option_shallow 2 log_id_tree e.log_id (λ x. at_most_two (depth (log_id_tree x)) (log_id_shallow x)),
@@ -168,7 +172,7 @@ entry_shallow e =
       ),
     )
 
-signer_shallow : (o : Option MaterialContent) → IsShallow 4 (material_content_row o).1
+signer_shallow : (o : Option MaterialContent) → IsShallow 4 (material_content_member o).1
 signer_shallow None = tt
 signer_shallow (Some (material.Certificate der)) = let below = certificate_shallow der in omega arith
 signer_shallow (Some (material.X509CertificateChain chain)) = let below = chain_shallow chain in omega arith
@@ -177,28 +181,28 @@ signer_shallow (Some material.PublicKey) = omega arith
 material_shallow : (m : VerificationMaterial) → depth (material_tree m) ≤ 5
 unfolding material_tree
 material_shallow m =
-    object_shallow 4 (material_rows (material_content_row m.content) (list_tree entry_tree m.tlog_entries))
+    object_shallow 4 (material_members (material_content_member m.content) (list_tree entry_tree m.tlog_entries))
     (signer_shallow m.content, (list_shallow 3 entry_tree m.tlog_entries entry_shallow, tt))
 
 message_shallow : (m : MessageSignature) → depth (message_tree m) ≤ 2
 unfolding message_tree
 message_shallow m =
-    object_shallow 1 (message_signature_rows m)
+    object_shallow 1 (message_signature_members m)
     (bytes_shallow 1 m.signature, (option_shallow 1 digest_tree m.message_digest digest_shallow, tt))
 
-signature_shallow : (s : DsseSignature) → depth (signature_tree s) ≤ 1
-unfolding signature_tree
-signature_shallow s = object_shallow 0 (signature_rows s) (bytes_shallow 0 s.sig, (omega arith, tt))
+signature_shallow : (s : DsseSignature) → depth (dsse_signature_tree s) ≤ 1
+unfolding dsse_signature_tree
+signature_shallow s = object_shallow 0 (signature_members s) (bytes_shallow 0 s.sig, (omega arith, tt))
 
 envelope_shallow : (e : DsseEnvelope) → depth (envelope_tree e) ≤ 3
 unfolding envelope_tree
 envelope_shallow e =
-    object_shallow 2 (envelope_rows e) (
+    object_shallow 2 (envelope_members e) (
       bytes_shallow 2 e.payload,
-      (omega arith, (list_shallow 1 signature_tree e.signatures signature_shallow, tt)),
+      (omega arith, (list_shallow 1 dsse_signature_tree e.signatures signature_shallow, tt)),
     )
 
-content_shallow : (o : Option Content) → IsShallow 5 (content_row o).1
+content_shallow : (o : Option Content) → IsShallow 5 (content_member o).1
 content_shallow None = tt
 content_shallow (Some (content.MessageSignature m)) = let below = message_shallow m in omega arith
 content_shallow (Some (content.DsseEnvelope e)) = let below = envelope_shallow e in omega arith
@@ -206,8 +210,8 @@ content_shallow (Some (content.DsseEnvelope e)) = let below = envelope_shallow e
 pub bundle_shallow : (b : Bundle) → depth (bundle_tree b) ≤ 6
 unfolding bundle_tree
 bundle_shallow b =
-    object_shallow 5 (bundle_rows b.media_type (option_map material_tree b.verification_material)
-    (content_row b.content)) (
+    object_shallow 5 (bundle_members b.media_type (option_map material_tree b.verification_material)
+    (content_member b.content)) (
       omega arith,
       (
         option_shallow 5 material_tree b.verification_material material_shallow,

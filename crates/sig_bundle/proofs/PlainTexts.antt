@@ -11,7 +11,7 @@ use Rattle.base64.specs.Rfc4648.{encode_symbols, encode_group, padding_len}
 use Rattle.hex.specs.Hex.{encode_lower, encode_with, lower_digits}
 use Rattle.sig_base.specs.Base64.{base64_text}
 use Rattle.sig_json.specs.Canonical.{canon_string, escape_of}
-use Rattle.sig_bundle.specs.Promise.{AreBytes}
+use Rattle.sig_base.specs.ByteLists.{AreBytes}
 
 -- above the controls and the space, no quotation mark and no backslash
 abbrev is_plain : ℕ → Bool

@@ -1,6 +1,6 @@
 -- The canonical text of a promise's object.
-use Rattle.std.proofs.Common.{◌≡◌, ◌⊎◌, inl, inr, ℕ, suc, ◌<◌, ℤ, pos, negsuc, ◌^◌, Bool, true, false, nat_lt}
-use Rattle.std.proofs.Common.{List, [], ◌∷◌, ◌++◌, slice_index, Some, None, Result, Ok, Err, IfOk, unwrap_or}
+use Rattle.std.proofs.Common.{◌≡◌, ◌⊎◌, inl, inr, ℕ, ℤ, pos, negsuc, ◌^◌, Bool, true, false, nat_lt}
+use Rattle.std.proofs.Common.{List, [], ◌∷◌, ◌++◌, Some, None, Result, Ok, Err, IfOk, unwrap_or}
 use Rattle.std.proofs.Common.{refl, sym, ap, ◌∙◌, append_assoc}
 use Rattle.std.proofs.lemmas.Bool.{lt-ltb, ltb-true}
 use Rattle.std.specs.Fmt.{signed_decimal}
@@ -11,13 +11,14 @@ use Rattle.hex.specs.Hex.{encode_lower}
 use Rattle.sig_base.proofs.ResultSteps.{ok_is}
 use Rattle.sig_base.specs.Answers.{Answers, ComesWhere}
 use Rattle.sig_base.specs.Base64.{base64_text}
+use Rattle.sig_base.specs.ByteLists.{AreBytes}
 use Rattle.sig_base.specs.OptionSteps.{◌>>=◌}
 use Rattle.sig_json.specs.Canonical.{canon, canon_integer, canon_string, canonical_of, utf16_units, with_text}
 use Rattle.sig_json.specs.Data.{Data, Num, string, number, object, no_members, member}
 use Rattle.sig_json.specs.Find.{as_integer, of_integer}
 use Rattle.sig_json.specs.declared.error.CanonicalError.{CanonicalError}
 use Rattle.sig_json.specs.declared.error.CanonicalError.TheVariants.{IntegerTooLarge, OutOfMemory}
-use Rattle.sig_bundle.specs.Promise.{promise_tree_of, AreBytes, IsExact, IsExactEntry, promise_of_entry}
+use Rattle.sig_bundle.specs.Promise.{promise_tree_of, IsExact, IsExactEntry, promise_of_entry}
 use Rattle.sig_bundle.specs.declared.material.TransparencyLogEntry.{TransparencyLogEntry}
 use Rattle.sig_bundle.proofs.PlainTexts.{base64-plain, hex-plain}
 
@@ -166,7 +167,3 @@ promise_text-wide e (Err d) body id (inr is) = (
   λ same exact. let law = sym (exact-promise e body id exact) ∙ is in cc,
   λ wide. inr (sym is ∙ wide-promise e wide),
 )
-
-pub each_byte : (m : List ℕ) → ((i : ℕ) → slice_index m i < 256) → AreBytes m
-each_byte [] all = tt
-each_byte (b ∷ m) all = (all 0, each_byte m (λ i. all (suc i)))

@@ -1,43 +1,24 @@
 -- The signing certificate among the certificates of a bundle.
-use Rattle.std.proofs.Common.{◌≡◌, inl, inr, ℕ, zero, suc, ◌+◌, ◌<◌, List, [], ◌∷◌, ◌++◌, take, length, get_or}
+use Rattle.std.proofs.Common.{◌≡◌, inl, inr, ℕ, zero, suc, ◌+◌, ◌<◌, List, [], ◌∷◌, take, length, get_or}
 use Rattle.std.proofs.Common.{true, false, Option, Some, None, Result, Ok, Err, refl, sym, ap, subst, ◌∙◌, arith}
 use Rattle.std.proofs.Common.{add-one}
-use Rattle.std.proofs.lemmas.List.{take_more}
 use Rattle.std.specs.List.{list_any}
 use Rattle.std.specs.Prelude.{IfErr}
 use Rattle.sig_base.specs.Answers.{AnswersOnly, ComesWhere}
 use Rattle.sig_base.specs.ResultSteps.{◌>>=◌}
 use Rattle.sig_certificate.specs.Certificate.{Cert, IsCertificate}
+use Rattle.sig_certificate.specs.Certificates.{AreCertificates}
 use Rattle.sig_certificate.specs.Profile.{leaf_refusal}
 use Rattle.sig_certificate.specs.declared.error.X509ReadError.{X509ReadError}
 use Rattle.sig_certificate.specs.declared.error.X509ReadError.TheVariants.{Der, OutOfMemory as NoMemory}
 use Rattle.sig_bundle.specs.Lent.{AreUnreadBehind, IsUnreadAt}
-use Rattle.sig_bundle.specs.SigningCertificate.{AreCertificates, AreRead, IsFirstMalformed, IsLeafAmong}
+use Rattle.sig_bundle.specs.SigningCertificate.{AreRead, IsFirstMalformed, IsLeafAmong}
 use Rattle.sig_bundle.specs.SigningCertificate.{IsNoCertificate, is_root, leaf_among}
 use Rattle.sig_bundle.specs.declared.bundle_error.BundleErrorKind.{BundleErrorKind}
 use Rattle.sig_bundle.specs.declared.bundle_error.BundleErrorKind.TheVariants.{OutOfMemory, CertificateMalformed}
 use Rattle.sig_bundle.specs.declared.bundle_error.BundleErrorKind.TheVariants.{CertificatesMissing, RootInChain}
 use Rattle.sig_bundle.specs.declared.bundle_error.BundleErrorKind.TheVariants.{VerificationMaterialContentUnsupported}
 use Rattle.sig_bundle.proofs.Certificates.{OneCertificate, read_one}
-
--- ---- one certificate more
-
-certificates_push : (ders : List (List ℕ)) (cs : List Cert) (der : List ℕ) (c : Cert) → AreCertificates ders cs
-    → IsCertificate der c
-    → AreCertificates (ders ++ der ∷ []) (cs ++ c ∷ [])
-certificates_push [] [] der c are is = (is, tt)
-certificates_push (d ∷ ders) (b ∷ cs) der c are is = (are.0, certificates_push ders cs der c are.1 is)
-certificates_push [] (b ∷ cs) der c are is = absurd are
-certificates_push (d ∷ ders) [] der c are is = absurd are
-
--- the element of the loop, as bytes, is the encoding at the index
-pub certificates_more : (ders : List (List ℕ)) (index : ℕ) (der item : List ℕ) (c : Cert) (before after : List Cert)
-    → index < length ders → item ≡ get_or ders index item → der ≡ item → IsCertificate der c
-    → after ≡ before ++ c ∷ [] → AreCertificates (take index ders) before
-    → AreCertificates (take (index + 1) ders) after
-certificates_more ders index der item c before after below there seen is grown are =
-    let got : der ≡ get_or ders index der = rw seen there in
-    rw (grown, take_more ders index der below, sym got) (certificates_push (take index ders) before der c are is)
 
 -- ---- the first that is none
 

@@ -4,6 +4,7 @@ use Rattle.std.proofs.Common.{Result, Ok, Err, refl, sym, ap, subst, ◌∙◌}
 use Rattle.sig_base.proofs.ResultSteps.{bind_of_ok}
 use Rattle.sig_base.specs.ResultSteps.{◌>>=◌}
 use Rattle.sig_certificate.specs.Certificate.{Cert}
+use Rattle.sig_certificate.specs.Certificates.{AreCertificates}
 use Rattle.sig_dsse.proofs.FaultCauses.{faults_have_their_cause}
 use Rattle.sig_dsse.specs.Faults.{IsCauseOf}
 use Rattle.sig_dsse.specs.declared.envelope.DsseSignature.{DsseSignature}
@@ -16,7 +17,7 @@ use Rattle.sig_bundle.specs.Profile.{entry_among, lacks, lacks_proof, meets_prof
 use Rattle.sig_bundle.specs.Refusals.{DemandsProof, HasCertificates, HasContent, HasEncodings, HasEntry, HasEnvelope}
 use Rattle.sig_bundle.specs.Refusals.{HasMaterial, HasNoRoot, HasSignature, HasStatement, HasVersion, IsCause}
 use Rattle.sig_bundle.specs.Refusals.{IsProfileCauseOf, material_under}
-use Rattle.sig_bundle.specs.SigningCertificate.{AreCertificates, AreRead, IsLeafAmong, IsSigningCertificate}
+use Rattle.sig_bundle.specs.SigningCertificate.{AreRead, IsLeafAmong, IsSigningCertificate}
 use Rattle.sig_bundle.specs.SigningCertificate.{leaf_among}
 use Rattle.sig_bundle.specs.Version.{version_of, IsMediaType}
 use Rattle.sig_bundle.specs.declared.bundle.Bundle.{Bundle}

@@ -15,7 +15,11 @@ use Rattle.sig_json.specs.Kinds.{bytes_of, i64_of}
 natural_text-decimal : (n : ℕ) → n < 2 ^ 64 → natural_text (decimal n) ≡ Some n
 unfolding natural_text
 natural_text-decimal n h =
-    rw (digits_decimal digits_model n h, lt-ltb 0 (length (decimal n)) (decimal_nonempty n h), digits_value-decimal digits_model n h)
+    rw (
+      digits_decimal digits_model n h,
+      lt-ltb 0 (length (decimal n)) (decimal_nonempty n h),
+      digits_value-decimal digits_model n h,
+    )
     refl
 
 integer_text-natural : (text : List ℕ) (n : ℕ) → natural_text text ≡ Some n → integer_text text ≡ Some (pos n)

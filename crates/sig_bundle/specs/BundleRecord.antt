@@ -16,7 +16,7 @@ use Rattle.sig_bundle.specs.declared.material.TransparencyLogEntry.{Transparency
 use Rattle.sig_bundle.specs.declared.material.VerificationMaterial.{VerificationMaterial}
 use Rattle.sig_dsse.specs.declared.envelope.DsseEnvelope.{DsseEnvelope}
 use Rattle.sig_dsse.specs.declared.envelope.DsseSignature.{DsseSignature}
-use Rattle.sig_json.specs.Choice.{at_most_one}
+use Rattle.sig_json.specs.Choice.{oneof}
 use Rattle.sig_json.specs.Kinds.{bytes_of}
 use Rattle.sig_json.specs.Member.{optional, optional_bytes, optional_i64, optional_list, optional_text}
 use Rattle.sig_json.specs.Record.{record_in}
@@ -39,7 +39,7 @@ material_content_of d = do
   certificate ← optional certificate_of (codes "certificate") d
   chain ← optional chain_of (codes "x509CertificateChain") d
   hint ← optional key_hint_of (codes "publicKey") d
-  at_most_one (option_map material.Certificate certificate ∷ option_map material.X509CertificateChain chain ∷
+  oneof (option_map material.Certificate certificate ∷ option_map material.X509CertificateChain chain ∷
       option_map (λ _. material.PublicKey) hint ∷ [])
 
 -- ---- an entry of a log
@@ -50,8 +50,8 @@ log_id_of = optional_bytes (codes "keyId")
 abbrev pub promise_of : Data → Option (List ℕ)
 promise_of = optional_bytes (codes "signedEntryTimestamp")
 
-abbrev pub checkpoint_of : Data → Option (List ℕ)
-checkpoint_of = optional_text (codes "envelope")
+abbrev pub checkpoint_envelope_of : Data → Option (List ℕ)
+checkpoint_envelope_of = optional_text (codes "envelope")
 
 unfoldable pub kind_version_of : Data → Option KindVersion
 kind_version_of d = do
@@ -65,7 +65,7 @@ proof_of d = do
   root_hash ← optional_bytes (codes "rootHash") d
   tree_size ← optional_i64 (codes "treeSize") d
   hashes ← optional_list bytes_of (codes "hashes") d
-  checkpoint ← optional checkpoint_of (codes "checkpoint") d
+  checkpoint ← optional checkpoint_envelope_of (codes "checkpoint") d
   Some (record {
     log_index = log_index;
     root_hash = root_hash;
@@ -110,8 +110,8 @@ message_signature_of d = do
   message_digest ← optional digest_of (codes "messageDigest") d
   Some (record { signature = signature; message_digest = message_digest })
 
-unfoldable pub signature_of : Data → Option DsseSignature
-signature_of d = do
+unfoldable pub dsse_signature_of : Data → Option DsseSignature
+dsse_signature_of d = do
   sig ← optional_bytes (codes "sig") d
   keyid ← optional_text (codes "keyid") d
   Some (record { sig = sig; keyid = keyid })
@@ -120,13 +120,13 @@ unfoldable pub envelope_of : Data → Option DsseEnvelope
 envelope_of d = do
   payload ← optional_bytes (codes "payload") d
   payload_type ← optional_text (codes "payloadType") d
-  signatures ← optional_list signature_of (codes "signatures") d
+  signatures ← optional_list dsse_signature_of (codes "signatures") d
   Some (record { payload = payload; payload_type = payload_type; signatures = signatures })
 
 -- the one of both that is there
 unfoldable pub one_content : Option MessageSignature → Option DsseEnvelope → Option (Option Content)
 one_content signature envelope =
-    at_most_one (option_map content.MessageSignature signature ∷ option_map content.DsseEnvelope envelope ∷ [])
+    oneof (option_map content.MessageSignature signature ∷ option_map content.DsseEnvelope envelope ∷ [])
 
 unfoldable pub content_of : Data → Option (Option Content)
 content_of d = do

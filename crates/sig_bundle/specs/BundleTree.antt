@@ -2,7 +2,7 @@
 -- is empty; only what is none is left out.
 use Rattle.std.specs.Prelude.{ℕ, List, [], ◌∷◌, codes, Option, Some, None, option_map}
 use Rattle.sig_json.specs.Data.{Data, string}
-use Rattle.sig_bundle.specs.Written.{Row, object_of, integer_tree, bytes_tree, list_tree}
+use Rattle.sig_bundle.specs.Written.{TreeMember, object_of, integer_tree, bytes_tree, list_tree}
 use Rattle.sig_bundle.specs.declared.bundle.Bundle.{Bundle}
 use Rattle.sig_bundle.specs.declared.bundle.Content.{Content}
 use Rattle.sig_bundle.specs.declared.bundle.Content.TheVariants as content
@@ -18,55 +18,55 @@ use Rattle.sig_dsse.specs.declared.envelope.DsseSignature.{DsseSignature}
 
 -- ---- objects with one member
 
-abbrev pub certificate_rows : List ℕ → List Row
-certificate_rows der = (codes "rawBytes", Some (bytes_tree der)) ∷ []
+abbrev pub certificate_members : List ℕ → List TreeMember
+certificate_members der = (codes "rawBytes", Some (bytes_tree der)) ∷ []
 
 unfoldable pub certificate_tree : List ℕ → Data
-certificate_tree der = object_of (certificate_rows der)
+certificate_tree der = object_of (certificate_members der)
 
-abbrev pub log_id_rows : List ℕ → List Row
-log_id_rows id = (codes "keyId", Some (bytes_tree id)) ∷ []
+abbrev pub log_id_members : List ℕ → List TreeMember
+log_id_members id = (codes "keyId", Some (bytes_tree id)) ∷ []
 
 unfoldable pub log_id_tree : List ℕ → Data
-log_id_tree id = object_of (log_id_rows id)
+log_id_tree id = object_of (log_id_members id)
 
-abbrev pub promise_rows : List ℕ → List Row
-promise_rows signature = (codes "signedEntryTimestamp", Some (bytes_tree signature)) ∷ []
+abbrev pub promise_members : List ℕ → List TreeMember
+promise_members signature = (codes "signedEntryTimestamp", Some (bytes_tree signature)) ∷ []
 
 unfoldable pub inclusion_promise_tree : List ℕ → Data
-inclusion_promise_tree signature = object_of (promise_rows signature)
+inclusion_promise_tree signature = object_of (promise_members signature)
 
-abbrev pub digest_rows : List ℕ → List Row
-digest_rows digest = (codes "digest", Some (bytes_tree digest)) ∷ []
+abbrev pub digest_members : List ℕ → List TreeMember
+digest_members digest = (codes "digest", Some (bytes_tree digest)) ∷ []
 
 unfoldable pub digest_tree : List ℕ → Data
-digest_tree digest = object_of (digest_rows digest)
+digest_tree digest = object_of (digest_members digest)
 
-abbrev pub checkpoint_rows : List ℕ → List Row
-checkpoint_rows text = (codes "envelope", Some (string text)) ∷ []
+abbrev pub checkpoint_members : List ℕ → List TreeMember
+checkpoint_members text = (codes "envelope", Some (string text)) ∷ []
 
 unfoldable pub checkpoint_tree : List ℕ → Data
-checkpoint_tree text = object_of (checkpoint_rows text)
+checkpoint_tree text = object_of (checkpoint_members text)
 
-abbrev pub chain_rows : List (List ℕ) → List Row
-chain_rows chain = (codes "certificates", Some (list_tree certificate_tree chain)) ∷ []
+abbrev pub chain_members : List (List ℕ) → List TreeMember
+chain_members chain = (codes "certificates", Some (list_tree certificate_tree chain)) ∷ []
 
 unfoldable pub chain_tree : List (List ℕ) → Data
-chain_tree chain = object_of (chain_rows chain)
+chain_tree chain = object_of (chain_members chain)
 
 -- ---- an entry of a log
 
-abbrev pub kind_version_rows : KindVersion → List Row
-kind_version_rows k =
+abbrev pub kind_version_members : KindVersion → List TreeMember
+kind_version_members k =
     (codes "kind", Some (string k.kind))
     ∷ (codes "version", Some (string k.version))
     ∷ []
 
 unfoldable pub kind_version_tree : KindVersion → Data
-kind_version_tree k = object_of (kind_version_rows k)
+kind_version_tree k = object_of (kind_version_members k)
 
-abbrev pub proof_rows : ProofFields → List Row
-proof_rows p =
+abbrev pub proof_members : ProofFields → List TreeMember
+proof_members p =
     (codes "logIndex", Some (integer_tree p.log_index))
     ∷ (codes "rootHash", Some (bytes_tree p.root_hash))
     ∷ (codes "treeSize", Some (integer_tree p.tree_size))
@@ -75,10 +75,10 @@ proof_rows p =
     ∷ []
 
 unfoldable pub proof_tree : ProofFields → Data
-proof_tree p = object_of (proof_rows p)
+proof_tree p = object_of (proof_members p)
 
-abbrev pub entry_rows : TransparencyLogEntry → List Row
-entry_rows e =
+abbrev pub entry_members : TransparencyLogEntry → List TreeMember
+entry_members e =
     (codes "logIndex", Some (integer_tree e.log_index))
     ∷ (codes "logId", option_map log_id_tree e.log_id)
     ∷ (codes "kindVersion", option_map kind_version_tree e.kind_version)
@@ -89,67 +89,68 @@ entry_rows e =
     ∷ []
 
 unfoldable pub entry_tree : TransparencyLogEntry → Data
-entry_tree e = object_of (entry_rows e)
+entry_tree e = object_of (entry_members e)
 
 -- ---- the certificates
 
 -- the member of the content's kind
-abbrev pub material_content_row : Option MaterialContent → Row
-material_content_row None = (codes "publicKey", None)
-material_content_row (Some (material.Certificate der)) = (codes "certificate", Some (certificate_tree der))
-material_content_row (Some (material.X509CertificateChain chain)) =
+abbrev pub material_content_member : Option MaterialContent → TreeMember
+material_content_member None = (codes "publicKey", None)
+material_content_member (Some (material.Certificate der)) = (codes "certificate", Some (certificate_tree der))
+material_content_member (Some (material.X509CertificateChain chain)) =
     (codes "x509CertificateChain", Some (chain_tree chain))
-material_content_row (Some material.PublicKey) = (codes "publicKey", Some (object_of []))
+material_content_member (Some material.PublicKey) = (codes "publicKey", Some (object_of []))
 
-abbrev pub material_rows : Row → Data → List Row
-material_rows content entries =
+abbrev pub material_members : TreeMember → Data → List TreeMember
+material_members content entries =
     content
     ∷ (codes "tlogEntries", Some entries)
     ∷ []
 
 unfoldable pub material_tree : VerificationMaterial → Data
-material_tree m = object_of (material_rows (material_content_row m.content) (list_tree entry_tree m.tlog_entries))
+material_tree m = object_of (material_members (material_content_member m.content)
+    (list_tree entry_tree m.tlog_entries))
 
 -- ---- the content
 
-abbrev pub message_signature_rows : MessageSignature → List Row
-message_signature_rows m =
+abbrev pub message_signature_members : MessageSignature → List TreeMember
+message_signature_members m =
     (codes "signature", Some (bytes_tree m.signature))
     ∷ (codes "messageDigest", option_map digest_tree m.message_digest)
     ∷ []
 
 unfoldable pub message_tree : MessageSignature → Data
-message_tree m = object_of (message_signature_rows m)
+message_tree m = object_of (message_signature_members m)
 
-abbrev pub signature_rows : DsseSignature → List Row
-signature_rows s =
+abbrev pub signature_members : DsseSignature → List TreeMember
+signature_members s =
     (codes "sig", Some (bytes_tree s.sig))
     ∷ (codes "keyid", Some (string s.keyid))
     ∷ []
 
-unfoldable pub signature_tree : DsseSignature → Data
-signature_tree s = object_of (signature_rows s)
+unfoldable pub dsse_signature_tree : DsseSignature → Data
+dsse_signature_tree s = object_of (signature_members s)
 
-abbrev pub envelope_rows : DsseEnvelope → List Row
-envelope_rows e =
+abbrev pub envelope_members : DsseEnvelope → List TreeMember
+envelope_members e =
     (codes "payload", Some (bytes_tree e.payload))
     ∷ (codes "payloadType", Some (string e.payload_type))
-    ∷ (codes "signatures", Some (list_tree signature_tree e.signatures))
+    ∷ (codes "signatures", Some (list_tree dsse_signature_tree e.signatures))
     ∷ []
 
 unfoldable pub envelope_tree : DsseEnvelope → Data
-envelope_tree e = object_of (envelope_rows e)
+envelope_tree e = object_of (envelope_members e)
 
 -- the member of the content's kind
-abbrev pub content_row : Option Content → Row
-content_row None = (codes "dsseEnvelope", None)
-content_row (Some (content.MessageSignature m)) = (codes "messageSignature", Some (message_tree m))
-content_row (Some (content.DsseEnvelope e)) = (codes "dsseEnvelope", Some (envelope_tree e))
+abbrev pub content_member : Option Content → TreeMember
+content_member None = (codes "dsseEnvelope", None)
+content_member (Some (content.MessageSignature m)) = (codes "messageSignature", Some (message_tree m))
+content_member (Some (content.DsseEnvelope e)) = (codes "dsseEnvelope", Some (envelope_tree e))
 
 -- ---- the bundle
 
-abbrev pub bundle_rows : List ℕ → Option Data → Row → List Row
-bundle_rows media_type material content =
+abbrev pub bundle_members : List ℕ → Option Data → TreeMember → List TreeMember
+bundle_members media_type material content =
     (codes "mediaType", Some (string media_type))
     ∷ (codes "verificationMaterial", material)
     ∷ content
@@ -157,4 +158,5 @@ bundle_rows media_type material content =
 
 unfoldable pub bundle_tree : Bundle → Data
 bundle_tree b =
-    object_of (bundle_rows b.media_type (option_map material_tree b.verification_material) (content_row b.content))
+    object_of (bundle_members b.media_type (option_map material_tree b.verification_material)
+    (content_member b.content))

@@ -10,9 +10,10 @@ use Rattle.sig_dsse.specs.declared.artifact_digest.ArtifactDigest.{ArtifactDiges
 use Rattle.sig_dsse.specs.declared.envelope.DsseEnvelope.{DsseEnvelope}
 use Rattle.sig_dsse.specs.declared.envelope.DsseSignature.{DsseSignature}
 use Rattle.sig_certificate.specs.Certificate.{Cert}
+use Rattle.sig_certificate.specs.Certificates.{AreCertificates}
 use Rattle.sig_certificate.specs.Profile.{leaf_refusal}
 use Rattle.sig_bundle.specs.Checked.{Checked}
-use Rattle.sig_bundle.specs.SigningCertificate.{AreCertificates, IsNoRoot, encodings_in}
+use Rattle.sig_bundle.specs.SigningCertificate.{IsNoRoot, encodings_in}
 use Rattle.sig_bundle.specs.Version.{IsMediaType}
 use Rattle.sig_bundle.specs.declared.bundle.Bundle.{Bundle}
 use Rattle.sig_bundle.specs.declared.bundle.Content.{Content}

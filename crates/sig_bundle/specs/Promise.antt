@@ -1,7 +1,6 @@
 -- *Promise*: what a log signs to promise that it includes an entry (Rekor's signed entry timestamp).
 use Rattle.std.specs.Prelude.{◌<◌, ◌^◌, ◌++◌, ℕ, ℤ, List, [], ◌∷◌, codes, Some, unwrap_or, unsigned_abs}
 use Rattle.std.specs.Fmt.{signed_decimal}
-use Rattle.std.specs.List.{AllByRecursion}
 use Rattle.hex.specs.Hex.{encode_lower}
 use Rattle.sig_base.specs.Base64.{base64_text}
 use Rattle.sig_json.specs.Data.{Data, string, number}
@@ -22,9 +21,6 @@ promise_tree_of entry =
     )
 
 -- ---- *Promise law*: the canonical text of that object, letter by letter
-
-abbrev pub AreBytes : List ℕ → Type 0
-AreBytes bytes = AllByRecursion (λ b. b < 256) bytes
 
 -- within plus or minus 2^53 - 1
 abbrev pub IsExact : ℤ → Type 0

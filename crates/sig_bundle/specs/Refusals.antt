@@ -3,6 +3,7 @@
 use Rattle.std.specs.Prelude.{⊤, ◌≡◌, ◌≢◌, ◌↔◌, ℕ, List, [], ◌∷◌, length, Any, Some, None, Err}
 use Rattle.std.specs.List.{AllByRecursion}
 use Rattle.sig_certificate.specs.Certificate.{Cert}
+use Rattle.sig_certificate.specs.Certificates.{AreCertificates}
 use Rattle.sig_certificate.specs.Profile.{leaf_refusal}
 use Rattle.sig_dsse.specs.Faults.{IsCauseOf}
 use Rattle.sig_dsse.specs.Statement.{Statement, statement_of}
@@ -11,7 +12,7 @@ use Rattle.sig_dsse.specs.declared.envelope.DsseSignature.{DsseSignature}
 use Rattle.sig_dsse.specs.declared.recognized.SubjectFault.TheVariants as fault
 use Rattle.sig_bundle.specs.Checked.{IsChecked}
 use Rattle.sig_bundle.specs.Passed.{IsContentOf}
-use Rattle.sig_bundle.specs.SigningCertificate.{AreCertificates, IsFirstMalformed, IsNoRoot, IsRoot, encodings_in}
+use Rattle.sig_bundle.specs.SigningCertificate.{IsFirstMalformed, IsNoRoot, IsRoot, encodings_in}
 use Rattle.sig_bundle.specs.Version.{IsMediaType}
 use Rattle.sig_bundle.specs.declared.bundle.Bundle.{Bundle}
 use Rattle.sig_bundle.specs.declared.bundle.Content.TheVariants.{DsseEnvelope as Envelope}

@@ -1,10 +1,11 @@
 -- The signing certificate of a bundle: the first of its certificates (sigstore_bundle.proto, the comments on
 -- verification_material).
-use Rattle.std.specs.Prelude.{⊤, ◌≡◌, ◌≢◌, ℕ, zero, suc, List, [], ◌∷◌, Bool, Option, Some, None, is_none, Result}
+use Rattle.std.specs.Prelude.{◌≡◌, ◌≢◌, ℕ, zero, suc, List, [], ◌∷◌, Bool, Option, Some, None, is_none, Result}
 use Rattle.std.specs.Prelude.{Ok, Err, if◌then◌else◌}
 use Rattle.std.specs.List.{list_any}
 use Rattle.sig_base.specs.ResultSteps.{◌>>=◌}
 use Rattle.sig_certificate.specs.Certificate.{Cert, IsCertificate}
+use Rattle.sig_certificate.specs.Certificates.{AreCertificates}
 use Rattle.sig_certificate.specs.Profile.{leaf_refusal, root_refusal}
 use Rattle.sig_certificate.specs.declared.profile_error.CertificateValidationError.{CertificateValidationError}
 use Rattle.sig_bundle.specs.declared.bundle_error.BundleErrorKind.{BundleErrorKind}
@@ -24,13 +25,6 @@ encodings_in (Some (Certificate der)) = Some (der ∷ [])
 encodings_in (Some (X509CertificateChain ders)) = Some ders
 
 -- ---- what the encodings are
-
--- one by one, the encodings of these certificates
-abbrev pub AreCertificates : List (List ℕ) → List Cert → Type 0
-AreCertificates [] [] = ⊤
-AreCertificates (der ∷ ders) (c ∷ cs) = IsCertificate der c × AreCertificates ders cs
-AreCertificates [] (c ∷ cs) = ⊥
-AreCertificates (der ∷ ders) [] = ⊥
 
 abbrev pub IsNoCertificate : List ℕ → Type 0
 IsNoCertificate der = (c : Cert) → ¬ IsCertificate der c

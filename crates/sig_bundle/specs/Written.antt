@@ -9,20 +9,20 @@ use Rattle.sig_json.specs.Member.{not_null}
 use Rattle.sig_json.specs.Tree.{document_tree}
 
 -- a name, and the value that is written under it, if any
-abbrev pub Row : Type 0
-Row = List ℕ × Option Data
+abbrev pub TreeMember : Type 0
+TreeMember = List ℕ × Option Data
 
 abbrev pub put_some : List ℕ → Option Data → Members → Members
 put_some name None ms = ms
 put_some name (Some value) ms = put name value ms
 
-abbrev pub rows_into : Members → List Row → Members
-rows_into ms [] = ms
-rows_into ms (row ∷ rows) = rows_into (put_some row.0 row.1 ms) rows
+abbrev pub members_into : Members → List TreeMember → Members
+members_into ms [] = ms
+members_into ms (row ∷ rows) = members_into (put_some row.0 row.1 ms) rows
 
 -- the object of the rows whose value is there; its members stand in the byte order of their names
-abbrev pub object_of : List Row → Data
-object_of rows = object (rows_into no_members rows)
+abbrev pub object_of : List TreeMember → Data
+object_of rows = object (members_into no_members rows)
 
 abbrev pub members_in : Data → Members
 members_in d = unwrap_or (as_object d) no_members

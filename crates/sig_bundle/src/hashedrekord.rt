@@ -55,7 +55,7 @@ fn public_key(alloc: Global, pem: &[u8]) -> Result<Document, OutOfMemory>
 
 /// The signature, and the certificate that verifies it. Fails only if memory runs out.
 #[tactic(auto, unfolding(crate::specs::Hashedrekord::signature_tree))]
-fn signature_of(alloc: Global, signature: &[u8], pem: &[u8]) -> Result<Document, OutOfMemory>
+fn signature_tree(alloc: Global, signature: &[u8], pem: &[u8]) -> Result<Document, OutOfMemory>
     ensures { IfOk result (λ document. document_tree document ≡ signature_tree signature.now pem.now) }
 {
     let content = write_bytes(alloc, signature)?;
@@ -72,7 +72,7 @@ fn spec(alloc: Global, digest: &[u8], signature: &[u8], pem: &[u8]) -> Result<Do
     ensures { IfOk result (λ document. document_tree document ≡ spec_tree digest.now signature.now pem.now) }
 {
     let data = data(alloc, digest)?;
-    let signature = signature_of(alloc, signature, pem)?;
+    let signature = signature_tree(alloc, signature, pem)?;
     let object = Object::new(alloc)
         .with(alloc, "data", data)?
         .with(alloc, "signature", signature)?;

@@ -17,6 +17,7 @@ mod dsse_body;
 mod hashedrekord;
 pub mod laws;
 mod log_body;
+mod log_entries;
 mod material;
 mod object;
 mod profile_check;
@@ -41,9 +42,9 @@ pub use bundle_error::{
 };
 pub use checked_bundle::CheckedBundle;
 pub use content_check::CheckedContent;
+pub use log_entries::LogEntries;
 pub use material::{
-    KindVersion, LogEntries, MaterialContent, ProofFields, TransparencyLogEntry,
-    VerificationMaterial,
+    KindVersion, MaterialContent, ProofFields, TransparencyLogEntry, VerificationMaterial,
 };
 pub use promise::promise_text;
 pub use proof_error::ProofFieldsError;

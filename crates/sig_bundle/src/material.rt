@@ -1,7 +1,8 @@
 //! `VerificationMaterial`: what a bundle brings to check its signature with: certificates, and entries of transparency
 //! logs.
 
-use sig_base::{Bytes, Entries, Register, Text};
+use crate::log_entries::LogEntries;
+use sig_base::{Bytes, Entries, Text};
 
 /// Certificates or a hint at a key, and the entries of logs.
 #[derive(Drop, PartialEq, Eq)]
@@ -41,9 +42,6 @@ pub struct TransparencyLogEntry {
     /// The entry itself, whose hash is the leaf of the log's tree.
     pub canonicalized_body: Bytes,
 }
-
-/// Entries of logs in order.
-pub type LogEntries = Register<TransparencyLogEntry>;
 
 /// The kind of a log entry.
 #[derive(Drop, PartialEq, Eq)]

@@ -8,7 +8,8 @@ ghost use Rattle.sig_bundle.specs.Profile.{entry_among, lacks_proof, lacks_promi
 use crate::bundle_error::{
     Bundle01ProfileErrorKind, Bundle02ProfileErrorKind, BundleErrorKind, BundleProfileErrorKind,
 };
-use crate::material::{LogEntries, ProofFields, TransparencyLogEntry};
+use crate::log_entries::LogEntries;
+use crate::material::{ProofFields, TransparencyLogEntry};
 use crate::version::Version;
 use sig_base::{Bytes, Text};
 use std::alloc::Global;
@@ -18,9 +19,9 @@ use std::str::FromStr;
 pub(crate) fn only_entry(entries: &LogEntries) -> Result<&TransparencyLogEntry, BundleErrorKind>
     ensures { lent_now result ≡ entry_among entries.now }
 {
-    match entries.as_slice() {
-        [entry] => Ok(entry),
-        other => Err(BundleErrorKind::TlogEntry(other.len())),
+    match entries.only() {
+        Some(entry) => Ok(entry),
+        None => Err(BundleErrorKind::TlogEntry(entries.len())),
     }
 }
 

@@ -6,7 +6,7 @@
 ghost use Rattle.std.specs.Prelude.{◌≡◌, [], IsSome, IfOk, Err, unwrap_or};
 ghost use Rattle.hex.specs.Hex.{encode_lower};
 ghost use Rattle.sig_base.specs.Answers.{Answers, ComesWhere};
-ghost use Rattle.sig_bundle.specs.Promise.{AreBytes, IsExactEntry, promise_of_entry, promise_tree_of};
+ghost use Rattle.sig_bundle.specs.Promise.{IsExactEntry, promise_of_entry, promise_tree_of};
 ghost use Rattle.sig_json.specs.Canonical.{canonical_of};
 ghost use Rattle.sig_json.specs.Data.{string};
 ghost use Rattle.sig_json.specs.Tree.{document_tree};
@@ -14,6 +14,7 @@ ghost use Rattle.sig_json.specs.Tree.{document_tree};
 use crate::material::TransparencyLogEntry;
 use crate::object::Object;
 use crate::write_value::write_bytes;
+use sig_base::laws::{are_optional_bytes, are_owned_bytes};
 use sig_base::{Bytes, OutOfMemory, Text};
 use sig_json::{CanonicalError, Document, canonical};
 use std::alloc::Global;
@@ -33,8 +34,8 @@ pub fn promise_text(alloc: Global, entry: &TransparencyLogEntry) -> Result<Text,
     ensures answer { Answers CanonicalError.OutOfMemory (λ text. text) result
         (canonical_of (promise_tree_of entry.now)) }
 {
-    are_bytes(entry.canonicalized_body.as_slice());
-    is_bytes(&entry.log_id);
+    are_owned_bytes(&entry.canonicalized_body);
+    are_optional_bytes(&entry.log_id);
     write_promise(alloc, entry)
 }
 
@@ -45,24 +46,6 @@ fn write_promise(alloc: Global, entry: &TransparencyLogEntry) -> Result<Text, Ca
 {
     let object = promise_object(alloc, entry)?;
     canonical(alloc, object.view())
-}
-
-/// What contracts see of bytes are numbers below 256: a law, for the proof above. It does nothing.
-#[tactic(auto, using(crate::proofs::PromiseLaws::each_byte))]
-fn are_bytes(bytes: &[u8])
-    ensures { AreBytes bytes.now }
-{
-    let _ = bytes;
-}
-
-/// The same of bytes that may be absent.
-fn is_bytes(bytes: &Option<Bytes>)
-    ensures { AreBytes (unwrap_or bytes.now []) }
-{
-    match bytes {
-        Some(bytes) => are_bytes(bytes.as_slice()),
-        None => (),
-    }
 }
 
 /// The object of a promise. Fails only if memory runs out.

@@ -2,7 +2,7 @@
 ghost use Rattle.std.specs.Prelude.{Option};
 ghost use Rattle.sig_json.specs.Data.{Data};
 ghost use Rattle.sig_bundle.specs.BundleRecord.{content_of, digest_of, envelope_of, message_signature_of, one_content};
-ghost use Rattle.sig_bundle.specs.BundleRecord.{signature_of};
+ghost use Rattle.sig_bundle.specs.BundleRecord.{dsse_signature_of};
 ghost use Rattle.sig_base.specs.Answers.{Answers};
 ghost use Rattle.sig_json.specs.OrMember.{or_member};
 ghost use Rattle.sig_json.specs.Tree.{tree};
@@ -49,9 +49,9 @@ enum SignatureReader {}
 impl ElementReader for SignatureReader {
     type Item = DsseSignature;
 
-    ghost meaning = { signature_of };
+    ghost meaning = { dsse_signature_of };
 
-    #[tactic(auto, unfolding(crate::specs::BundleRecord::signature_of))]
+    #[tactic(auto, unfolding(crate::specs::BundleRecord::dsse_signature_of))]
     fn read(alloc: Global, json: Json<'_>) -> Result<DsseSignature, MemberError> {
         Ok(DsseSignature {
             sig: read_bytes(alloc, json, "sig")?,

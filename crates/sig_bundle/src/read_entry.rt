@@ -1,10 +1,12 @@
 //! Readers of the entries of transparency logs.
 ghost use Rattle.std.specs.Prelude.{Option};
 ghost use Rattle.sig_json.specs.Data.{Data};
-ghost use Rattle.sig_bundle.specs.BundleRecord.{checkpoint_of, entry_of, kind_version_of, log_id_of, promise_of};
+ghost use Rattle.sig_bundle.specs.BundleRecord.{checkpoint_envelope_of, entry_of, kind_version_of, log_id_of};
+ghost use Rattle.sig_bundle.specs.BundleRecord.{promise_of};
 ghost use Rattle.sig_bundle.specs.BundleRecord.{proof_of};
 ghost use Rattle.sig_json.specs.Tree.{tree};
 
+use crate::log_entries::SparseEntry;
 use crate::material::{KindVersion, ProofFields, TransparencyLogEntry};
 use sig_base::{Bytes, Entries, Text};
 use sig_json::{
@@ -45,7 +47,7 @@ enum CheckpointReader {}
 impl ElementReader for CheckpointReader {
     type Item = Text;
 
-    ghost meaning = { checkpoint_of };
+    ghost meaning = { checkpoint_envelope_of };
 
     fn read(alloc: Global, json: Json<'_>) -> Result<Text, MemberError> {
         read_text(alloc, json, "envelope")
@@ -90,7 +92,7 @@ impl ElementReader for ProofReader {
 }
 
 /// Reads entries of logs.
-pub(crate) enum EntryReader {}
+enum EntryReader {}
 
 impl ElementReader for EntryReader {
     type Item = TransparencyLogEntry;
@@ -108,5 +110,19 @@ impl ElementReader for EntryReader {
             inclusion_proof: optional::<ProofReader>(alloc, json, "inclusionProof")?,
             canonicalized_body: read_bytes(alloc, json, "canonicalizedBody")?,
         })
+    }
+}
+
+/// Reads entries of logs, and holds little of those without members.
+pub(crate) enum SparseEntryReader {}
+
+impl ElementReader for SparseEntryReader {
+    type Item = SparseEntry;
+
+    ghost meaning = { entry_of };
+
+    fn read(alloc: Global, json: Json<'_>) -> Result<SparseEntry, MemberError> {
+        let entry = EntryReader::read(alloc, json)?;
+        Ok(SparseEntry::new(alloc, entry)?)
     }
 }

@@ -7,8 +7,9 @@ ghost use Rattle.sig_base.specs.Answers.{Answers};
 ghost use Rattle.sig_json.specs.OrMember.{or_member};
 ghost use Rattle.sig_json.specs.Tree.{tree};
 
+use crate::log_entries::LogEntries;
 use crate::material::{MaterialContent, VerificationMaterial};
-use crate::read_entry::EntryReader;
+use crate::read_entry::SparseEntryReader;
 use sig_base::{Bytes, Entries};
 use sig_json::{ElementReader, Json, MemberError, optional, optional_list, read_bytes};
 use std::alloc::Global;
@@ -88,7 +89,10 @@ impl ElementReader for MaterialReader {
     fn read(alloc: Global, json: Json<'_>) -> Result<VerificationMaterial, MemberError> {
         Ok(VerificationMaterial {
             content: read_material_content(alloc, json)?,
-            tlog_entries: optional_list::<EntryReader>(alloc, json, "tlogEntries")?,
+            tlog_entries: LogEntries::of(
+                alloc,
+                optional_list::<SparseEntryReader>(alloc, json, "tlogEntries")?,
+            ),
         })
     }
 }

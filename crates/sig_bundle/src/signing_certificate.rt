@@ -5,9 +5,10 @@ ghost use Rattle.std.specs.Prelude.{◌≡◌, ◌∷◌, IfOk, IfErr, Some, opt
 ghost use Rattle.std.specs.List.{list_any};
 ghost use Rattle.sig_base.specs.Answers.{AnswersOnly};
 ghost use Rattle.sig_bundle.specs.Lent.{AreUnreadBehind, IsUnreadAt};
-ghost use Rattle.sig_bundle.specs.SigningCertificate.{AreCertificates, IsLeafAmong, IsSigningCertificate, encodings_in};
+ghost use Rattle.sig_bundle.specs.SigningCertificate.{IsLeafAmong, IsSigningCertificate, encodings_in};
 ghost use Rattle.sig_bundle.specs.SigningCertificate.{is_root, leaf_among};
 ghost use Rattle.sig_certificate.specs.Certificate.{IsCertificate};
+ghost use Rattle.sig_certificate.specs.Certificates.{AreCertificates};
 
 use crate::bundle_error::BundleErrorKind;
 use crate::material::MaterialContent;
@@ -98,8 +99,8 @@ fn leaf_of(alloc: Global, ders: &[Bytes]) -> Result<Certificate, BundleErrorKind
 /// Returns the signing certificate.
 ///
 /// Fails with `VerificationMaterialContentUnsupported` if and only if the material holds no certificates: no content,
-/// or a hint at a key; then with `CertificateMalformed` and the index of the first that is none, `CertificatesMissing` if
-/// a chain is empty, `NoLeaf` if the first is no leaf, and `RootInChain` if a later one is a root.
+/// or a hint at a key; then with `CertificateMalformed` and the index of the first that is none, `CertificatesMissing`
+/// if a chain is empty, `NoLeaf` if the first is no leaf, and `RootInChain` if a later one is a root.
 pub(crate) fn signing_certificate(
     alloc: Global,
     content: &Option<MaterialContent>,

@@ -1,9 +1,9 @@
 //! Writers of a bundle's content: a signature over an artifact, or an envelope.
 ghost use Rattle.std.specs.Prelude.{◌≡◌, IfOk, Option, Some};
 ghost use Rattle.sig_json.specs.Data.{Data};
-ghost use Rattle.sig_bundle.specs.BundleRecord.{digest_of, envelope_of, message_signature_of, signature_of};
-ghost use Rattle.sig_bundle.specs.BundleTree.{content_row, digest_tree, envelope_tree, message_tree};
-ghost use Rattle.sig_bundle.specs.BundleTree.{signature_tree};
+ghost use Rattle.sig_bundle.specs.BundleRecord.{digest_of, envelope_of, message_signature_of, dsse_signature_of};
+ghost use Rattle.sig_bundle.specs.BundleTree.{content_member, digest_tree, envelope_tree, message_tree};
+ghost use Rattle.sig_bundle.specs.BundleTree.{dsse_signature_tree};
 ghost use Rattle.sig_bundle.specs.ReadBack.{ContentIsRead};
 ghost use Rattle.sig_bundle.specs.Written.{IsReadAs, members, put_some};
 ghost use Rattle.sig_json.specs.Tree.{document_tree};
@@ -61,11 +61,11 @@ enum SignatureWriter {}
 impl ElementWriter for SignatureWriter {
     type Item = DsseSignature;
 
-    ghost written = { signature_tree };
+    ghost written = { dsse_signature_tree };
 
-    ghost meaning = { signature_of };
+    ghost meaning = { dsse_signature_of };
 
-    #[tactic(auto, using(crate::proofs::MaterialBack::back), unfolding(crate::specs::BundleTree::signature_tree))]
+    #[tactic(auto, using(crate::proofs::MaterialBack::back), unfolding(crate::specs::BundleTree::dsse_signature_tree))]
     fn write(alloc: Global, item: &DsseSignature) -> Result<Document, OutOfMemory> {
         let sig = write_bytes(alloc, item.sig.as_slice())?;
         let keyid = Document::of_text(alloc, item.keyid.as_str())?;
@@ -106,7 +106,7 @@ pub(crate) fn with_content(
     content: &Option<Content>,
 ) -> Result<Object, OutOfMemory>
     ensures tree { IfOk result (λ made. members made
-        ≡ put_some (content_row content.now).0 (content_row content.now).1 (members object)) }
+        ≡ put_some (content_member content.now).0 (content_member content.now).1 (members object)) }
     ensures back { IfOk result (λ _. ContentIsRead content.now) }
 {
     match content {

@@ -1,13 +1,15 @@
 //! Writers of the entries of transparency logs.
 ghost use Rattle.std.specs.Prelude.{◌≡◌, IfOk, Option};
 ghost use Rattle.sig_json.specs.Data.{Data};
-ghost use Rattle.sig_bundle.specs.BundleRecord.{checkpoint_of, entry_of, kind_version_of, log_id_of, promise_of};
+ghost use Rattle.sig_bundle.specs.BundleRecord.{checkpoint_envelope_of, entry_of, kind_version_of, log_id_of};
+ghost use Rattle.sig_bundle.specs.BundleRecord.{promise_of};
 ghost use Rattle.sig_bundle.specs.BundleRecord.{proof_of};
 ghost use Rattle.sig_bundle.specs.BundleTree.{checkpoint_tree, entry_tree, kind_version_tree, log_id_tree};
 ghost use Rattle.sig_bundle.specs.BundleTree.{inclusion_promise_tree, proof_tree};
 ghost use Rattle.sig_bundle.specs.Written.{IsReadAs};
 ghost use Rattle.sig_json.specs.Tree.{document_tree};
 
+use crate::log_entries::{SparseEntry, without_members};
 use crate::material::{KindVersion, ProofFields, TransparencyLogEntry};
 use crate::object::Object;
 use crate::write_value::{
@@ -60,7 +62,7 @@ impl ElementWriter for CheckpointWriter {
 
     ghost written = { checkpoint_tree };
 
-    ghost meaning = { checkpoint_of };
+    ghost meaning = { checkpoint_envelope_of };
 
     #[tactic(auto, using(crate::proofs::EntriesBack::back), unfolding(crate::specs::BundleTree::checkpoint_tree))]
     fn write(alloc: Global, item: &Text) -> Result<Document, OutOfMemory> {
@@ -122,7 +124,7 @@ impl ElementWriter for ProofWriter {
 }
 
 /// Writes entries of logs.
-pub(crate) enum EntryWriter {}
+enum EntryWriter {}
 
 impl ElementWriter for EntryWriter {
     type Item = TransparencyLogEntry;
@@ -149,5 +151,21 @@ impl ElementWriter for EntryWriter {
             .with_some(alloc, "inclusionProof", proof)?
             .with(alloc, "canonicalizedBody", body)?;
         Ok(object.into_document())
+    }
+}
+
+/// Writes entries of logs that are held as `SparseEntry`.
+pub(crate) enum SparseEntryWriter {}
+
+impl ElementWriter for SparseEntryWriter {
+    type Item = SparseEntry;
+
+    ghost written = { entry_tree };
+
+    ghost meaning = { entry_of };
+
+    fn write(alloc: Global, item: &SparseEntry) -> Result<Document, OutOfMemory> {
+        let absent = without_members(alloc);
+        EntryWriter::write(alloc, item.get(&absent))
     }
 }

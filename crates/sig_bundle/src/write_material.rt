@@ -2,14 +2,14 @@
 ghost use Rattle.std.specs.Prelude.{◌≡◌, IfOk, Option};
 ghost use Rattle.sig_json.specs.Data.{Data};
 ghost use Rattle.sig_bundle.specs.BundleRecord.{certificate_of, chain_of, material_of};
-ghost use Rattle.sig_bundle.specs.BundleTree.{certificate_tree, chain_tree, material_tree, material_content_row};
+ghost use Rattle.sig_bundle.specs.BundleTree.{certificate_tree, chain_tree, material_tree, material_content_member};
 ghost use Rattle.sig_bundle.specs.ReadBack.{MaterialContentIsRead};
 ghost use Rattle.sig_bundle.specs.Written.{IsReadAs, members, put_some};
 ghost use Rattle.sig_json.specs.Tree.{document_tree};
 
 use crate::material::{MaterialContent, VerificationMaterial};
 use crate::object::Object;
-use crate::write_entry::EntryWriter;
+use crate::write_entry::SparseEntryWriter;
 use crate::write_value::{ElementWriter, write_bytes, write_list};
 use sig_base::{Bytes, Entries, OutOfMemory};
 use sig_json::Document;
@@ -58,7 +58,7 @@ fn with_material_content(
     content: &Option<MaterialContent>,
 ) -> Result<Object, OutOfMemory>
     ensures tree { IfOk result (λ made. members made
-        ≡ put_some (material_content_row content.now).0 (material_content_row content.now).1 (members object)) }
+        ≡ put_some (material_content_member content.now).0 (material_content_member content.now).1 (members object)) }
     ensures back { IfOk result (λ _. MaterialContentIsRead content.now) }
 {
     match content {
@@ -90,7 +90,7 @@ impl ElementWriter for MaterialWriter {
     #[tactic(auto, using(crate::proofs::MaterialBack::back), unfolding(crate::specs::BundleTree::material_tree))]
     fn write(alloc: Global, item: &VerificationMaterial) -> Result<Document, OutOfMemory> {
         let object = with_material_content(Object::new(alloc), alloc, &item.content)?;
-        let entries = write_list::<EntryWriter>(alloc, item.tlog_entries.as_slice())?;
+        let entries = write_list::<SparseEntryWriter>(alloc, item.tlog_entries.as_slice())?;
         let object = object.with(alloc, "tlogEntries", entries)?;
         Ok(object.into_document())
     }

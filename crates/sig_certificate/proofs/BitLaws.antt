@@ -9,7 +9,7 @@ use Rattle.std.proofs.lemmas.Nat.Bits.{and_pow, bit_at-lt}
 use Rattle.std.specs.Prelude.{bit_and}
 use Rattle.sig_base.proofs.OptionSteps.{when_is, unless_is, some, some_is}
 use Rattle.sig_certificate.specs.declared.values.KeyUsage.{KeyUsage}
-use Rattle.sig_certificate.specs.Values.{has_bit, usage_of, number_of}
+use Rattle.sig_certificate.specs.Values.{has_bit, usage_of, natural_of}
 use Rattle.sig_certificate.specs.ExtensionValues.{bit, IsKeyUsage, IsNatural}
 
 -- ---- one bit of an octet
@@ -121,8 +121,8 @@ padded_not a b h =
       | inr not_so ↦ and_left (eqb a 0) (ltb b 128) not_so
     ]
 
-pub number_takes : (content : List ℕ) (n : ℕ) → number_of content ≡ Some n → IsNatural content n
-unfolding number_of
+pub number_takes : (content : List ℕ) (n : ℕ) → natural_of content ≡ Some n → IsNatural content n
+unfolding natural_of
 number_takes [] n e = absurd cc
 number_takes (a ∷ []) n e =
     let w = when_is (ltb a 128) (some a) n e in
@@ -173,8 +173,8 @@ number_takes (a ∷ b ∷ c ∷ d ∷ []) n e =
     }
 number_takes (a ∷ b ∷ c ∷ d ∷ x ∷ rest) n e = absurd cc
 
-pub number_again : (content : List ℕ) (n : ℕ) → IsNatural content n → number_of content ≡ Some n
-unfolding number_of
+pub number_again : (content : List ℕ) (n : ℕ) → IsNatural content n → natural_of content ≡ Some n
+unfolding natural_of
 number_again [] n is = absurd (let low = is.some in omega (arith, low))
 number_again (a ∷ []) n is =
     let value : a * 1 + 0 ≡ n = is.value in

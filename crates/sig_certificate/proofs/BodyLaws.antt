@@ -15,7 +15,7 @@ use Rattle.sig_der.proofs.Takings.{IsOptional}
 use Rattle.sig_der.proofs.KeyInfos.{content_fits, first_fits, rest_fits, none_left, key_info_at_takes}
 use Rattle.sig_der.proofs.KeyInfos.{key_info_at_again}
 use Rattle.sig_certificate.specs.Certificate.{IsOptionalElement, IsKeyInfoText, IsSequence}
-use Rattle.sig_certificate.specs.Cutting.{Body, validity_at, body_at, after_ids, list_of, list_at}
+use Rattle.sig_certificate.specs.Cutting.{Body, validity_at, body_at, after_ids, extension_list_of, list_at}
 use Rattle.sig_certificate.proofs.HeadLaws.{after_fits, before_fits}
 use Rattle.sig_der.specs.Tag.{EXTENSIONS, ISSUER_UNIQUE_ID, SEQUENCE, SUBJECT_UNIQUE_ID}
 
@@ -187,7 +187,7 @@ IsListed text (true, list) = IsListText text list
 IsListed text (false, list) = (text ≡ []) × (list ≡ [])
 
 list_is : (text : List ℕ) (o : Option Piece) (l : Bool × List ℕ) → IsBytes text → IsOptional 163 text o
-    → list_of o ≡ Some l → IsListed text l
+    → extension_list_of o ≡ Some l → IsListed text l
 list_is text None l fits is e = subst (λ (w : Bool × List ℕ). IsListed text w) (some_is (false, []) l e) (is, refl)
 list_is text (Some p) l fits is e =
     let s = bind_is (take_whole SEQUENCE p.content) _ l e in
@@ -199,7 +199,7 @@ pub list_at_takes : (bytes : List ℕ) → IsBytes bytes → (l : Bool × List �
 unfolding list_at
 list_at_takes bytes fits l e =
     let x = bind_is (take_optional EXTENSIONS bytes) _ l e in
-    let w = when_is (eqb (length x.0.1) 0) (list_of x.0.0) l x.2 in
+    let w = when_is (eqb (length x.0.1) 0) (extension_list_of x.0.0) l x.2 in
     let t = take_optional_takes EXTENSIONS bytes fits x.0 x.1 in
     let all : t.text ≡ bytes =
     sym (t.parts ∙ ap (λ (u : List ℕ). t.text ++ u) (none_left x.0.1 w.0) ∙ append-nil t.text) in

@@ -15,7 +15,7 @@ use Rattle.sig_der.proofs.Many.{many_at_takes, many_at_again, many_at_none}
 use Rattle.sig_certificate.specs.Certificate.{Extension, Cert, IsCertificate, IsExtension, AreExtensions}
 use Rattle.sig_certificate.specs.Certificate.{IsAlgorithmText}
 use Rattle.sig_certificate.specs.Cutting.{Head, Body, Outer, Parts, before, outer_at, head_at, body_at, after_ids}
-use Rattle.sig_certificate.specs.Cutting.{list_at, parts_at, extension_at, certificate_of, IsCut}
+use Rattle.sig_certificate.specs.Cutting.{list_at, parts_at, extension_at, certificate_from_parts, HasCertificateParts}
 use Rattle.sig_certificate.proofs.ExtensionLaws.{extension_reader}
 use Rattle.sig_certificate.proofs.HeadLaws.{after_fits, algorithm_text_again, TakesHead, head_at_takes, head_at_again}
 use Rattle.sig_certificate.proofs.BodyLaws.{TakesBody, body_at_takes, body_at_again, TakesIds, after_ids_takes}
@@ -174,8 +174,9 @@ parts_takes text fits p e =
     })
 
 pub certificate_takes : (text : List ℕ) (p : Parts) (not_before not_after : ℤ) (es : List Extension) → IsBytes text
-    → IsCut text p not_before not_after
-    → many_at extension_at p.list ≡ Some es → IsCertificate text (certificate_of text p not_before not_after es)
+    → HasCertificateParts text p not_before not_after
+    → many_at extension_at p.list ≡ Some es → IsCertificate text
+    (certificate_from_parts text p not_before not_after es)
 certificate_takes text p not_before not_after es fits is read =
     let t = parts_takes text fits p is.cut in
     let content = p.outer.tbs.content in
@@ -253,11 +254,11 @@ has_list text true es is =
       no_subject_id = rw is.outer.spelled refl;
     }
 
-pub record IsReadAs (text : List ℕ) (c : Cert) : Type 0 where
+pub record IsCertificateOf (text : List ℕ) (c : Cert) : Type 0 where
   pub parts : Parts
-  pub cut : IsCut text parts c.not_before c.not_after
+  pub cut : HasCertificateParts text parts c.not_before c.not_after
   pub list : many_at extension_at parts.list ≡ Some c.extensions
-  pub is : certificate_of text parts c.not_before c.not_after c.extensions ≡ c
+  pub is : certificate_from_parts text parts c.not_before c.not_after c.extensions ≡ c
 
 abbrev with_whole : Cert → List ℕ → Cert
 with_whole c w =
@@ -282,7 +283,7 @@ abbrev some_parts : Outer → Head → Body → Bool → List ℕ → List ℕ �
 some_parts outer head body listed list front =
     Some (record { outer = outer; front = front; head = head; body = body; listed = listed; list = list })
 
-pub certificate_again : (text : List ℕ) (c : Cert) → IsCertificate text c → IsReadAs text c
+pub certificate_again : (text : List ℕ) (c : Cert) → IsCertificate text c → IsCertificateOf text c
 unfolding parts_at
 certificate_again text c is =
     let s = is.tbs in

@@ -14,7 +14,8 @@ use Rattle.sig_der.proofs.Takings.{take_optional_takes, take_optional_here, take
 use Rattle.sig_der.proofs.KeyInfos.{content_fits, rest_fits, some_left, left_some, algorithm_at_takes}
 use Rattle.sig_der.proofs.KeyInfos.{algorithm_at_again}
 use Rattle.sig_certificate.specs.Certificate.{IsVersion, IsSerial, IsAlgorithmText, IsSequence}
-use Rattle.sig_certificate.specs.Cutting.{Head, version_number, explicit_version, version_of, version_at, head_at}
+use Rattle.sig_certificate.specs.Cutting.{Head, version_number, explicit_version, certificate_version_of, version_at}
+use Rattle.sig_certificate.specs.Cutting.{head_at}
 use Rattle.sig_der.specs.Tag.{INTEGER, SEQUENCE, VERSION}
 
 pub after_fits : (text rest bytes : List ℕ) → bytes ≡ text ++ rest → IsBytes bytes → IsBytes rest
@@ -52,7 +53,7 @@ unfolding version_number
 version_number_again n lt = cond-true (ltb n 3) _ _ (lt-ltb n 3 lt)
 
 version_is : (text : List ℕ) (o : Option Piece) (version : ℕ) → IsBytes text → IsOptional 160 text o
-    → version_of o ≡ Some version → IsVersion text version
+    → certificate_version_of o ≡ Some version → IsVersion text version
 unfolding explicit_version
 version_is text None version fits is e = inl (is, sym (some_is 1 version e))
 version_is text (Some p) version fits is e =
@@ -78,7 +79,7 @@ version_at_takes : (bytes : List ℕ) → IsBytes bytes → (y : ℕ × List ℕ
 unfolding version_at
 version_at_takes bytes fits y e =
     let o = bind_is (take_optional VERSION bytes) _ y e in
-    let n = bind_is (version_of o.0.0) _ y o.2 in
+    let n = bind_is (certificate_version_of o.0.0) _ y o.2 in
     let t = take_optional_takes VERSION bytes fits o.0 o.1 in
     subst (λ (w : ℕ × List ℕ). TakesVersion bytes w) (some_is _ y n.2) (record {
       text = t.text;

@@ -3,7 +3,7 @@ use Rattle.std.proofs.Common.{◌≡◌, ◌≤◌, false, List, [], ◌∷◌, 
 use Rattle.sig_certificate.specs.declared.profile_error.CertificateValidationError.TheVariants.{Malformed}
 use Rattle.sig_certificate.specs.Certificate.{Extension}
 use Rattle.std.specs.Prelude.{is_some}
-use Rattle.sig_certificate.specs.Names.{names_of}
+use Rattle.sig_certificate.specs.Names.{general_names_of}
 use Rattle.sig_certificate.specs.Trust.{is_named}
 use Rattle.sig_certificate.specs.Profile.{held, read_as}
 
@@ -27,7 +27,7 @@ pub ruleset held_laws = (held_absent, held_one, held_several)
 pub named_absent : (es : List Extension) → es ≡ [] → is_named es ≡ false
 named_absent es is = rw is refl
 
-pub named_one : (es : List Extension) (e : Extension) → es ≡ e ∷ [] → is_named es ≡ is_some (names_of e.value)
+pub named_one : (es : List Extension) (e : Extension) → es ≡ e ∷ [] → is_named es ≡ is_some (general_names_of e.value)
 named_one es e is = rw is refl
 
 pub named_several : (es : List Extension) → 2 ≤ length es → is_named es ≡ false

@@ -19,3 +19,4 @@ pub mod Spans
 pub mod NameLaws
 pub mod DistinctLaws
 pub mod SortedLaws
+pub mod CertificateBytes

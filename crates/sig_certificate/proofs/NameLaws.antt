@@ -15,7 +15,7 @@ use Rattle.sig_der.proofs.Takings.{take_whole_again}
 use Rattle.sig_der.proofs.Many.{many_at_none, many_at_more}
 use Rattle.sig_der.proofs.KeyInfos.{content_fits, first_fits, rest_fits, some_left, left_some, none_left}
 use Rattle.sig_certificate.specs.Names.{Name, Email, Uri, Other, Unread, is_context, is_ascii_text, other_value}
-use Rattle.sig_certificate.specs.Names.{other_name, name_of, name_at, names_of}
+use Rattle.sig_certificate.specs.Names.{other_name, general_name_of, name_at, general_names_of}
 use Rattle.sig_certificate.specs.AlternativeNames.{IsOtherName, IsContext, IsName, IsGeneralName, AreJoinedNames}
 use Rattle.sig_certificate.specs.AlternativeNames.{AreNames}
 use Rattle.sig_certificate.proofs.WalkLaws.{name_at_shrinks}
@@ -158,9 +158,9 @@ unread_takes tag content n no_email no_uri no_other e =
       context_takes tag w.0,
     )
 
-name_takes : (tag : ℕ) (content : List ℕ) → IsBytes content → (n : Name) → name_of tag content ≡ Some n
+name_takes : (tag : ℕ) (content : List ℕ) → IsBytes content → (n : Name) → general_name_of tag content ≡ Some n
     → IsName tag content n
-unfolding name_of
+unfolding general_name_of
 name_takes tag content fits n e =
     elim (cases_Bool (eqb tag RFC822_NAME)) [
       | inl here ↦
@@ -185,8 +185,8 @@ name_takes tag content fits n e =
           ]
     ]
 
-name_again : (tag : ℕ) (content : List ℕ) (n : Name) → IsName tag content n → name_of tag content ≡ Some n
-unfolding name_of
+name_again : (tag : ℕ) (content : List ℕ) (n : Name) → IsName tag content n → general_name_of tag content ≡ Some n
+unfolding general_name_of
 name_again tag content (Email text) is =
     rw (is.0, is.1) (cond-true (is_ascii_text content) _ _ (ascii_again content is.2))
 name_again tag content (Uri text) is =
@@ -210,7 +210,7 @@ name_at_takes : (bytes : List ℕ) → IsBytes bytes → (y : Name × List ℕ) 
 unfolding name_at
 name_at_takes bytes fits y e =
     let x = bind_is (take_any bytes) _ y e in
-    let n = bind_is (name_of x.0.0.tag x.0.0.content) _ y x.2 in
+    let n = bind_is (general_name_of x.0.0.tag x.0.0.content) _ y x.2 in
     let t = take_any_takes bytes fits x.0 x.1 in
     let inner = first_fits _ _ _ _ bytes t fits in
     subst (λ (w : Name × List ℕ). TakesName bytes w) (some_is _ y n.2) (record {
@@ -229,7 +229,7 @@ name_at_again : (whole : List ℕ) (n : Name) (rest bytes : List ℕ) → IsGene
 unfolding name_at
 name_at_again whole n rest bytes is parts =
     bind_of_some (take_any bytes) _ _ (take_any_again whole is.tag is.content rest bytes is.is parts)
-    ∙ bind_of_some (name_of is.tag is.content) _ n (name_again is.tag is.content n is.says)
+    ∙ bind_of_some (general_name_of is.tag is.content) _ n (name_again is.tag is.content n is.says)
 
 -- ---- names one after another
 
@@ -255,8 +255,9 @@ many_again bytes (n ∷ ns) is =
 
 -- ---- the whole value
 
-pub names_takes : (value : List ℕ) → IsBytes value → (ns : List Name) → names_of value ≡ Some ns → AreNames value ns
-unfolding names_of many_at
+pub names_takes : (value : List ℕ) → IsBytes value → (ns : List Name) → general_names_of value ≡ Some ns
+    → AreNames value ns
+unfolding general_names_of many_at
 names_takes value fits ns e =
     let s = bind_is (take_whole SEQUENCE value) _ ns e in
     let t = take_whole_takes SEQUENCE value fits s.0 s.1 in
@@ -266,8 +267,8 @@ names_takes value fits ns e =
       joined = within_takes (length s.0.content) s.0.content (content_fits value SEQUENCE s.0.content t.0 fits) ns s.2;
     }
 
-pub names_again : (value : List ℕ) (ns : List Name) → AreNames value ns → names_of value ≡ Some ns
-unfolding names_of
+pub names_again : (value : List ℕ) (ns : List Name) → AreNames value ns → general_names_of value ≡ Some ns
+unfolding general_names_of
 names_again value ns are =
     bind_of_some (take_whole SEQUENCE value) _ _ (take_whole_again value SEQUENCE are.inner are.is)
     ∙ many_again are.inner ns are.joined

@@ -5,7 +5,7 @@ use Rattle.sig_der.specs.Moment.{IsSecondOf, second_of}
 use Rattle.sig_der.specs.DerTime.{IsUtcTime, IsGeneralizedTime, IsTimeOf}
 use Rattle.sig_der.proofs.TimeTexts.{utc_at_again, generalized_at_again}
 use Rattle.sig_certificate.specs.Certificate.{Cert, IsCertificate}
-use Rattle.sig_certificate.specs.Cutting.{Parts, IsCut}
+use Rattle.sig_certificate.specs.Cutting.{Parts, HasCertificateParts}
 use Rattle.sig_certificate.proofs.CertificateLaws.{certificate_again}
 use Rattle.sig_certificate.proofs.Readings.{IsCutAs, read_is}
 
@@ -29,7 +29,7 @@ time_one tag content s t (inr a) (inr b) = generalized_one content s t a.1 b.1
 time_one tag content s t (inl a) (inr b) = absurd (omega (arith, a.0, b.0))
 time_one tag content s t (inr a) (inl b) = absurd (omega (arith, a.0, b.0))
 
-cut_one : (text : List ℕ) (p : Parts) (a b : ℤ) → IsCut text p a b → IsCutAs text p a b
+cut_one : (text : List ℕ) (p : Parts) (a b : ℤ) → HasCertificateParts text p a b → IsCutAs text p a b
 cut_one text p a b is q x y other =
     let same = some_is p q (sym is.cut ∙ other.cut) in
     let begins = subst (λ (w : Parts). IsTimeOf w.body.first.tag w.body.first.content x) (sym same) other.begins in

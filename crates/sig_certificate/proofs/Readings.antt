@@ -6,26 +6,27 @@ use Rattle.sig_der.specs.Taking.{many_at}
 use Rattle.sig_certificate.specs.declared.span.Span.{Span}
 use Rattle.sig_certificate.specs.declared.extensions.ExtensionPlaces.{ExtensionPlaces}
 use Rattle.sig_certificate.specs.Certificate.{Extension, Cert, IsCertificate}
-use Rattle.sig_certificate.specs.Cutting.{Parts, extension_at, certificate_of, IsCut}
+use Rattle.sig_certificate.specs.Cutting.{Parts, extension_at, certificate_from_parts, HasCertificateParts}
 use Rattle.sig_certificate.specs.Places.{IsSpan, AreSpans}
 use Rattle.sig_certificate.proofs.CertificateLaws.{certificate_again}
 
 -- a text that is cut into no parts is no certificate
-pub no_parts : (text : List ℕ) → ((p : Parts) (a b : ℤ) → IsCut text p a b → ⊥) → (c : Cert) → IsCertificate text c → ⊥
+pub no_parts : (text : List ℕ) → ((p : Parts) (a b : ℤ) → HasCertificateParts text p a b → ⊥) → (c : Cert)
+    → IsCertificate text c → ⊥
 no_parts text none c is = let r = certificate_again text c is in none r.parts c.not_before c.not_after r.cut
 
 -- the text is cut into these parts and these times alone
 abbrev pub IsCutAs : List ℕ → Parts → ℤ → ℤ → Type 0
-IsCutAs text p a b = (q : Parts) (x y : ℤ) → IsCut text q x y → (p ≡ q) × (a ≡ x) × (b ≡ y)
+IsCutAs text p a b = (q : Parts) (x y : ℤ) → HasCertificateParts text q x y → (p ≡ q) × (a ≡ x) × (b ≡ y)
 
 same_certificate : (text : List ℕ) (p q : Parts) (a b x y : ℤ) (es fs : List Extension) → p ≡ q → a ≡ x → b ≡ y
     → es ≡ fs
-    → certificate_of text q x y fs ≡ certificate_of text p a b es
+    → certificate_from_parts text q x y fs ≡ certificate_from_parts text p a b es
 same_certificate text p q a b x y es fs e f g h = rw (e, f, g, h) refl
 
 pub read_is : (text : List ℕ) (p : Parts) (a b : ℤ) (es : List Extension) → IsCutAs text p a b
     → many_at extension_at p.list ≡ Some es
-    → (c : Cert) → IsCertificate text c → c ≡ certificate_of text p a b es
+    → (c : Cert) → IsCertificate text c → c ≡ certificate_from_parts text p a b es
 read_is text p a b es cut read c is =
     let r = certificate_again text c is in
     let same = cut r.parts c.not_before c.not_after r.cut in

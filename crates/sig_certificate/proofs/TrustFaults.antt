@@ -15,7 +15,7 @@ use Rattle.sig_der.specs.ObjectIdentifiers as oid
 use Rattle.sig_certificate.specs.declared.values.KeyUsage.{KeyUsage as Usage}
 use Rattle.sig_certificate.specs.Certificate.{Extension, Cert}
 use Rattle.sig_certificate.specs.Lookups.{with_oid}
-use Rattle.sig_certificate.specs.Names.{Name, names_of}
+use Rattle.sig_certificate.specs.Names.{Name, general_names_of}
 use Rattle.sig_certificate.specs.Profile.{Held, usage, code_signing, or_else}
 use Rattle.sig_certificate.specs.Trust.{may_sign, may_sign_code, is_named, usages_refusal, names_refusal}
 use Rattle.sig_certificate.specs.Trust.{validity_refusal, expiration_refusal, trust_refusal}
@@ -94,17 +94,17 @@ usages_none_again c signs code = usages_are c true true (may_sign_again c signs)
 
 -- ---- alternative names
 
-named_is : (es : List Extension) → is_named es ≡ true → Says es names_of (λ e names. Unit {0})
+named_is : (es : List Extension) → is_named es ≡ true → Says es general_names_of (λ e names. Unit {0})
 named_is [] is = absurd cc
-named_is (x ∷ []) is = one (names_of x.value) refl is
+named_is (x ∷ []) is = one (general_names_of x.value) refl is
   where
-    one : (o : Option (List Name)) → names_of x.value ≡ o → is_some o ≡ true
-        → Says (x ∷ []) names_of (λ e names. Unit {0})
+    one : (o : Option (List Name)) → general_names_of x.value ≡ o → is_some o ≡ true
+        → Says (x ∷ []) general_names_of (λ e names. Unit {0})
     one None a r = absurd cc
     one (Some names) a r = (x, (names, (refl, (a, tt))))
 named_is (x ∷ y ∷ es) is = absurd cc
 
-named_again : (es : List Extension) → Says es names_of (λ e names. Unit {0}) → is_named es ≡ true
+named_again : (es : List Extension) → Says es general_names_of (λ e names. Unit {0}) → is_named es ≡ true
 named_again es (x, (names, (one, (is, rest)))) = named_one es x one ∙ ap (λ (o : Option (List Name)). is_some o) is
 
 pub names_fault_is : (c : Cert) (e : SigstoreError) → names_refusal c ≡ Some e → IsNamesFault c e

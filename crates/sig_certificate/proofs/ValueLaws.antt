@@ -17,7 +17,7 @@ use Rattle.sig_der.proofs.KeyInfos.{content_fits, some_left, left_some, none_lef
 use Rattle.sig_certificate.specs.declared.values.KeyUsage.{KeyUsage}
 use Rattle.sig_certificate.specs.declared.values.BasicConstraints.{BasicConstraints}
 use Rattle.sig_certificate.specs.Cutting.{flag_at}
-use Rattle.sig_certificate.specs.Values.{key_usage_of, oid_at, purposes_of, number_of, path_len_of, constraints_in}
+use Rattle.sig_certificate.specs.Values.{key_usage_of, oid_at, purposes_of, natural_of, path_len_of, constraints_in}
 use Rattle.sig_certificate.specs.Values.{basic_constraints_of}
 use Rattle.sig_certificate.specs.ExtensionValues.{IsKeyUsageValue, purpose_text, IsPurpose, ArePurposes, IsPathLen}
 use Rattle.sig_certificate.specs.ExtensionValues.{AreBasicConstraints}
@@ -92,9 +92,9 @@ purposes_again value ps are =
 path_len_is : (text : List ℕ) (o : Option Piece) (n : Option ℕ) → IsOptional INTEGER text o → path_len_of o ≡ Some n
     → IsPathLen text n
 path_len_is text None n is e = subst (λ (w : Option ℕ). IsPathLen text w) (some_is _ n e) is
-path_len_is text (Some p) n is e = by (number_of p.content) refl e
+path_len_is text (Some p) n is e = by (natural_of p.content) refl e
   where
-    by : (o : Option ℕ) → number_of p.content ≡ o → option_map (λ k. some k) o ≡ Some n → IsPathLen text n
+    by : (o : Option ℕ) → natural_of p.content ≡ o → option_map (λ k. some k) o ≡ Some n → IsPathLen text n
     by None a r = absurd cc
     by (Some k) a r =
         subst (λ (w : Option ℕ). IsPathLen text w) (some_is _ n r) (p.content, (is.0, number_takes p.content k a))
@@ -148,7 +148,7 @@ after_flag text ca (Some n) is content f =
     bind_of_some (flag_at content) _ _ f
     ∙ bind_of_some (take_optional INTEGER text) _ _
     (take_optional_here text INTEGER is.0 [] text is.1.0 (sym (append-nil text)))
-    ∙ bind_of_some (option_map (λ k. some k) (number_of is.0)) _ (Some n)
+    ∙ bind_of_some (option_map (λ k. some k) (natural_of is.0)) _ (Some n)
     (ap (λ (o : Option ℕ). option_map (λ k. some k) o) (number_again is.0 n is.1.1))
 
 pub constraints_again : (value : List ℕ) (b : BasicConstraints) → AreBasicConstraints value b

@@ -8,7 +8,7 @@ use Rattle.sig_base.proofs.OptionSteps.{bind_is, unless_is, some, some_is}
 use Rattle.sig_der.specs.Taking.{take_any, take_tag, many_at}
 use Rattle.sig_der.proofs.Takings.{take_any_shrinks, take_tag_shrinks}
 use Rattle.sig_der.proofs.Many.{Shrinks, many_at_none, many_at_more}
-use Rattle.sig_certificate.specs.Names.{Name, name_of, name_at}
+use Rattle.sig_certificate.specs.Names.{Name, general_name_of, name_at}
 use Rattle.sig_certificate.specs.Values.{oid_at}
 use Rattle.sig_der.specs.Tag.{OBJECT_IDENTIFIER}
 
@@ -26,7 +26,7 @@ pub name_at_shrinks : (bytes : List ℕ) (y : Name × List ℕ) → name_at byte
 unfolding name_at
 name_at_shrinks bytes y e =
     let x = bind_is (take_any bytes) _ y e in
-    let n = bind_is (name_of x.0.0.tag x.0.0.content) _ y x.2 in
+    let n = bind_is (general_name_of x.0.0.tag x.0.0.content) _ y x.2 in
     subst (λ (w : Name × List ℕ). length w.1 < length bytes) (some_is _ y n.2) (take_any_shrinks bytes x.0 x.1)
 
 -- ---- whether the whole is a list

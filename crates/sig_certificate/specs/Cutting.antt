@@ -57,14 +57,14 @@ version_number (n ∷ m ∷ bytes) = None
 unfoldable pub explicit_version : List ℕ → Option ℕ
 explicit_version bytes = take_whole INTEGER bytes >>= λ n. version_number n.content
 
-abbrev pub version_of : Option Piece → Option ℕ
-version_of None = Some 1
-version_of (Some p) = explicit_version p.content
+abbrev pub certificate_version_of : Option Piece → Option ℕ
+certificate_version_of None = Some 1
+certificate_version_of (Some p) = explicit_version p.content
 
 unfoldable pub version_at : List ℕ → Option (ℕ × List ℕ)
 version_at bytes = do
   v ← take_optional VERSION bytes
-  n ← version_of v.0
+  n ← certificate_version_of v.0
   Some (n, v.1)
 
 unfoldable pub head_at : List ℕ → Option (Head × List ℕ)
@@ -106,14 +106,14 @@ after_ids bytes = do
   Some b.1
 
 -- all of the text as the extensions: whether they are there, and the content of their SEQUENCE
-abbrev pub list_of : Option Piece → Option (Bool × List ℕ)
-list_of None = Some (false, [])
-list_of (Some p) = take_whole SEQUENCE p.content >>= λ s. Some (true, s.content)
+abbrev pub extension_list_of : Option Piece → Option (Bool × List ℕ)
+extension_list_of None = Some (false, [])
+extension_list_of (Some p) = take_whole SEQUENCE p.content >>= λ s. Some (true, s.content)
 
 unfoldable pub list_at : List ℕ → Option (Bool × List ℕ)
 list_at bytes = do
   x ← take_optional EXTENSIONS bytes
-  if is_empty x.1 then list_of x.0 else None
+  if is_empty x.1 then extension_list_of x.0 else None
 
 -- ---- the whole
 
@@ -154,8 +154,8 @@ parts_at bytes = do
   Some (record { outer = o; front = before o.tbs.content r; head = h.0; body = b.0; listed = l.0; list = l.1 })
 
 -- the parts, the times of their validity, and the extensions that their list reads as
-abbrev pub certificate_of : List ℕ → Parts → ℤ → ℤ → List Extension → Cert
-certificate_of text p not_before not_after extensions =
+abbrev pub certificate_from_parts : List ℕ → Parts → ℤ → ℤ → List Extension → Cert
+certificate_from_parts text p not_before not_after extensions =
     record {
       whole = text;
       tbs = p.outer.tbs.whole;
@@ -174,7 +174,7 @@ certificate_of text p not_before not_after extensions =
     }
 
 -- The text is cut into these parts, and the elements of their validity are these times.
-pub record IsCut (text : List ℕ) (p : Parts) (not_before not_after : ℤ) : Type 0 where
+pub record HasCertificateParts (text : List ℕ) (p : Parts) (not_before not_after : ℤ) : Type 0 where
   pub cut : parts_at text ≡ Some p
   pub begins : IsTimeOf p.body.first.tag p.body.first.content not_before
   pub ends : IsTimeOf p.body.second.tag p.body.second.content not_after

@@ -26,7 +26,7 @@ use Rattle.sig_certificate.specs.declared.profile_error.PartName.TheVariants.{Ex
 use Rattle.sig_certificate.specs.Certificate.{Extension, Cert}
 use Rattle.sig_certificate.specs.Lookups.{with_oid}
 use Rattle.sig_certificate.specs.Values.{key_usage_of, purposes_of, has_purpose, basic_constraints_of}
-use Rattle.sig_certificate.specs.Names.{names_of}
+use Rattle.sig_certificate.specs.Names.{general_names_of}
 
 -- ---- what the extensions of one object identifier say
 
@@ -130,7 +130,7 @@ MaySignCode c = SaysCodeSigning c true
 
 -- exactly one extension of alternative names, and it is well formed
 abbrev pub IsNamed : Cert → Type 0
-IsNamed c = Says (with_oid oid.subject_alternative_name c.extensions) names_of (λ e names. Unit {0})
+IsNamed c = Says (with_oid oid.subject_alternative_name c.extensions) general_names_of (λ e names. Unit {0})
 
 pub data IsUsagesFault : Cert → SigstoreError → Type 0 where
   may_not_sign : {c : Cert} → ¬ MaySign c → IsUsagesFault c CertificateWithoutDigitalSignatureKeyUsage

@@ -1,4 +1,5 @@
 pub mod Certificate
+pub mod Certificates
 pub mod Cutting
 pub mod Places
 pub mod Answers
@@ -8,6 +9,7 @@ pub mod Values
 pub mod ExtensionValues
 pub mod Names
 pub mod BorrowedNames
+pub mod ExtensionsLeft
 pub mod Profile
 pub mod Trust
 pub mod Faults

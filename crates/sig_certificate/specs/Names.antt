@@ -36,8 +36,8 @@ other_name bytes = do
   if is_empty o.0.content then None else Some (o.0.content, v)
 
 -- what the element of a tag and a content is
-unfoldable pub name_of : ℕ → List ℕ → Option Name
-name_of tag content =
+unfoldable pub general_name_of : ℕ → List ℕ → Option Name
+general_name_of tag content =
     if tag == RFC822_NAME then (if is_ascii_text content then Some (Email content) else None)
     else if tag == UNIFORM_RESOURCE_IDENTIFIER then (if is_ascii_text content then Some (Uri content) else None)
     else if tag == OTHER_NAME then (other_name content >>= λ o. Some (Other o.0 o.1))
@@ -47,9 +47,9 @@ name_of tag content =
 unfoldable pub name_at : List ℕ → Option (Name × List ℕ)
 name_at bytes = do
   x ← take_any bytes
-  n ← name_of x.0.tag x.0.content
+  n ← general_name_of x.0.tag x.0.content
   Some (n, x.1)
 
 -- a SEQUENCE of names
-unfoldable pub names_of : List ℕ → Option (List Name)
-names_of value = take_whole SEQUENCE value >>= λ s. many_at name_at s.content
+unfoldable pub general_names_of : List ℕ → Option (List Name)
+general_names_of value = take_whole SEQUENCE value >>= λ s. many_at name_at s.content

@@ -13,7 +13,7 @@ use Rattle.sig_certificate.specs.declared.parts.Outer.{Outer as OuterPlaces}
 use Rattle.sig_certificate.specs.declared.parts.Places.{Places}
 use Rattle.sig_certificate.specs.declared.extensions.ExtensionPlaces.{ExtensionPlaces}
 use Rattle.sig_certificate.specs.Certificate.{Extension, Cert}
-use Rattle.sig_certificate.specs.Cutting.{Head, Body, Outer, Parts, certificate_of}
+use Rattle.sig_certificate.specs.Cutting.{Head, Body, Outer, Parts, certificate_from_parts}
 
 abbrev pub part : List ℕ → Span → List ℕ
 part bytes s = slice_range bytes s.start s.end
@@ -54,11 +54,11 @@ value_read x = (x.0, left x.1)
 
 -- ---- the parts
 
-abbrev pub head_of : List ℕ → HeadPlaces → Head
-head_of bytes h = record { version = h.version; algorithm = part bytes h.algorithm; issuer = part bytes h.issuer }
+abbrev pub placed_head : List ℕ → HeadPlaces → Head
+placed_head bytes h = record { version = h.version; algorithm = part bytes h.algorithm; issuer = part bytes h.issuer }
 
 abbrev pub head_read : List ℕ → HeadPlaces × Reader → Head × List ℕ
-head_read bytes x = (head_of bytes x.0, left x.1)
+head_read bytes x = (placed_head bytes x.0, left x.1)
 
 pub record IsHeadWithin (end : ℕ) (h : HeadPlaces) : Type 0 where
   pub algorithm : IsSpan end h.algorithm
@@ -71,8 +71,8 @@ validity_read bytes x = ((piece_at bytes x.0.0, piece_at bytes x.0.1), left x.1)
 abbrev pub IsValidityRead : Reader → (Place × Place) × Reader → Type 0
 IsValidityRead r x = IsPlace r.end x.0.0 × IsPlace r.end x.0.1 × GoesTo r x.1
 
-abbrev pub body_of : List ℕ → BodyPlaces → Body
-body_of bytes b =
+abbrev pub placed_body : List ℕ → BodyPlaces → Body
+placed_body bytes b =
     record {
       first = piece_at bytes b.not_before;
       second = piece_at bytes b.not_after;
@@ -81,7 +81,7 @@ body_of bytes b =
     }
 
 abbrev pub body_read : List ℕ → BodyPlaces × Reader → Body × List ℕ
-body_read bytes x = (body_of bytes x.0, left x.1)
+body_read bytes x = (placed_body bytes x.0, left x.1)
 
 pub record IsBodyWithin (end : ℕ) (b : BodyPlaces) : Type 0 where
   pub not_before : IsPlace end b.not_before
@@ -89,8 +89,8 @@ pub record IsBodyWithin (end : ℕ) (b : BodyPlaces) : Type 0 where
   pub subject : IsSpan end b.subject
   pub spki : IsSpan end b.spki
 
-abbrev pub outer_of : List ℕ → OuterPlaces → Outer
-outer_of bytes o =
+abbrev pub placed_outer : List ℕ → OuterPlaces → Outer
+placed_outer bytes o =
     record { tbs = piece_at bytes o.tbs; algorithm = part bytes o.algorithm; signature = part bytes o.signature }
 
 pub record IsOuterWithin (at end : ℕ) (o : OuterPlaces) : Type 0 where
@@ -112,10 +112,10 @@ IsListedWithin end l = IsSpan end l.1
 abbrev pub parts_of : List ℕ → Places → Parts
 parts_of bytes p =
     record {
-      outer = outer_of bytes p.outer;
+      outer = placed_outer bytes p.outer;
       front = part bytes p.front;
-      head = head_of bytes p.head;
-      body = body_of bytes p.body;
+      head = placed_head bytes p.head;
+      body = placed_body bytes p.body;
       listed = p.listed;
       list = part bytes p.list;
     }
@@ -131,4 +131,4 @@ pub record ArePlaces (end : ℕ) (p : Places) : Type 0 where
 -- the certificate of these ranges of its parts and of its extensions
 abbrev pub placed_certificate : List ℕ → Places → ℤ → ℤ → List ExtensionPlaces → Cert
 placed_certificate bytes p not_before not_after es =
-    certificate_of bytes (parts_of bytes p) not_before not_after (map (extension_of bytes) es)
+    certificate_from_parts bytes (parts_of bytes p) not_before not_after (map (extension_of bytes) es)

@@ -23,9 +23,9 @@ use Rattle.sig_certificate.specs.Lookups.{with_oid}
 use Rattle.sig_certificate.specs.Values.{key_usage_of, purposes_of, has_purpose, basic_constraints_of}
 
 -- the error of a call that failed
-abbrev pub refusal : {X E : Type 0} → Result X E → Option E
-refusal (Ok x) = None
-refusal (Err e) = Some e
+abbrev pub error_of : {X E : Type 0} → Result X E → Option E
+error_of (Ok x) = None
+error_of (Err e) = Some e
 
 -- What the extensions of one object identifier say: nothing where there is none, what the reader makes of the only
 -- one, and that they are malformed where it makes nothing of it, or where there are several.

@@ -12,7 +12,7 @@ use Rattle.sig_der.specs.ObjectIdentifiers.{subject_alternative_name}
 use Rattle.sig_certificate.specs.declared.values.KeyUsage.{KeyUsage as Usage}
 use Rattle.sig_certificate.specs.Certificate.{Extension, Cert}
 use Rattle.sig_certificate.specs.Lookups.{with_oid}
-use Rattle.sig_certificate.specs.Names.{names_of}
+use Rattle.sig_certificate.specs.Names.{general_names_of}
 use Rattle.sig_certificate.specs.Profile.{Held, or_else, usage, code_signing}
 
 abbrev pub may_sign : Held Usage → Bool
@@ -34,7 +34,7 @@ usages_refusal c =
 -- exactly one, and well formed
 abbrev pub is_named : List Extension → Bool
 is_named [] = false
-is_named (e ∷ []) = is_some (names_of e.value)
+is_named (e ∷ []) = is_some (general_names_of e.value)
 is_named (e ∷ f ∷ es) = false
 
 abbrev pub names_refusal : Cert → Option SigstoreError

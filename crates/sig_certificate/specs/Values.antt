@@ -48,21 +48,21 @@ has_purpose oid purposes = list_any (λ p. bytes_eq p oid) purposes
 -- ---- basic constraints, RFC 5280 section 4.2.1.9
 
 -- the content of an INTEGER that is minimal, not negative and has at most four bytes
-unfoldable pub number_of : List ℕ → Option ℕ
-number_of [] = None
-number_of (a ∷ []) = if nat_lt a 128 then Some a else None
-number_of (a ∷ b ∷ []) = if (a == 0) && nat_lt b 128 then None else if nat_lt a 128 then Some (a * 256 + b) else None
-number_of (a ∷ b ∷ c ∷ []) =
+unfoldable pub natural_of : List ℕ → Option ℕ
+natural_of [] = None
+natural_of (a ∷ []) = if nat_lt a 128 then Some a else None
+natural_of (a ∷ b ∷ []) = if (a == 0) && nat_lt b 128 then None else if nat_lt a 128 then Some (a * 256 + b) else None
+natural_of (a ∷ b ∷ c ∷ []) =
     if (a == 0) && nat_lt b 128 then None else if nat_lt a 128 then Some (a * 65536 + b * 256 + c) else None
-number_of (a ∷ b ∷ c ∷ d ∷ []) =
+natural_of (a ∷ b ∷ c ∷ d ∷ []) =
     if (a == 0) && nat_lt b 128 then None
     else if nat_lt a 128 then Some (a * 16777216 + b * 65536 + c * 256 + d)
     else None
-number_of (a ∷ b ∷ c ∷ d ∷ e ∷ rest) = None
+natural_of (a ∷ b ∷ c ∷ d ∷ e ∷ rest) = None
 
 abbrev pub path_len_of : Option Piece → Option (Option ℕ)
 path_len_of None = Some None
-path_len_of (Some p) = option_map (λ n. Some n) (number_of p.content)
+path_len_of (Some p) = option_map (λ n. Some n) (natural_of p.content)
 
 -- a SEQUENCE of a BOOLEAN DEFAULT FALSE and an optional INTEGER
 unfoldable pub constraints_in : List ℕ → Option BasicConstraints

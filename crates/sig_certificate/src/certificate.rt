@@ -7,14 +7,16 @@
 //!      signatureValue       BIT STRING }
 //! ```
 
-ghost use Rattle.std.specs.Prelude.{◌≡◌, ◌≤◌, ◌+◌, ℕ, pos, ◌≤ℤ◌, length, slice_get, option_map, Ok, Err, IfOk};
+ghost use Rattle.std.specs.Prelude.{◌≡◌, ◌≤◌, ◌+◌, ℕ, pos, ◌≤ℤ◌, length, Ok, Err, IfOk};
 ghost use Rattle.sig_base.specs.Answers.{Answers, ComesWhere};
 ghost use Rattle.sig_certificate.specs.Certificate.{Cert, IsCertificate};
-ghost use Rattle.sig_certificate.specs.Lookups.{borrowed_extension, with_oid, are_single, Finds};
+ghost use Rattle.sig_certificate.specs.ExtensionsLeft.{extensions_left};
+ghost use Rattle.sig_certificate.specs.Lookups.{with_oid, are_single, Finds};
 
 use crate::error::X509ReadError;
+use crate::extension_walk::Extensions;
 use crate::listed::{Listed, read_listed};
-use crate::lookup::{ExtensionRef, Lookup, lend, look_up};
+use crate::lookup::{Lookup, look_up};
 use crate::parts::Places;
 use crate::reading::dated_parts;
 use crate::span::part;
@@ -202,13 +204,13 @@ impl Certificate {
         self.extensions.single
     }
 
-    /// Returns the extension at this index. `None` if and only if the index is not below the number of extensions.
-    pub fn extension_at(&self, place: usize) -> Option<ExtensionRef<'_>>
-        ensures { option_map borrowed_extension result ≡ slice_get self.now.extensions place }
+    /// Returns the extensions in order, each borrowed from the certificate.
+    pub fn extensions(&self) -> Extensions<'_>
+        ensures { extensions_left result ≡ self.now.extensions }
     {
-        match self.extensions.places.get(place) {
-            None => None,
-            Some(places) => Some(lend(&self.der, places)),
+        Extensions {
+            bytes: &self.der,
+            left: &self.extensions.places,
         }
     }
 

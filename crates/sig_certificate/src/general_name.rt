@@ -11,7 +11,8 @@
 //! ```
 
 ghost use Rattle.std.specs.Prelude.{◌≡◌, option_map};
-ghost use Rattle.sig_certificate.specs.Names.{is_context, is_ascii_text, other_value, other_name, name_of, name_at};
+ghost use Rattle.sig_certificate.specs.Names.{is_context, is_ascii_text, other_value, other_name, general_name_of};
+ghost use Rattle.sig_certificate.specs.Names.{name_at};
 ghost use Rattle.sig_certificate.specs.BorrowedNames.{borrowed_name};
 
 use sig_der::{tag, take_any, take_tag, take_whole};
@@ -70,9 +71,9 @@ fn other_name(bytes: &[u8]) -> Option<(&[u8], &[u8])>
 
 /// Returns the name that an element of this tag and these contents octets is. `None` if it is no name, or a malformed
 /// one.
-#[tactic(auto, unfolding(crate::specs::Names::name_of))]
-fn name_of(tag: u8, content: &[u8]) -> Option<GeneralName<'_>>
-    ensures { name_of tag content.now ≡ option_map borrowed_name result }
+#[tactic(auto, unfolding(crate::specs::Names::general_name_of))]
+fn general_name_of(tag: u8, content: &[u8]) -> Option<GeneralName<'_>>
+    ensures { general_name_of tag content.now ≡ option_map borrowed_name result }
 {
     if tag == tag::RFC822_NAME {
         return if is_ascii(content) {
@@ -105,6 +106,6 @@ pub(crate) fn name_at(bytes: &[u8]) -> Option<(GeneralName<'_>, &[u8])>
     ensures { name_at bytes.now ≡ option_map (λ x. (borrowed_name x.0, x.1.now)) result }
 {
     let (element, rest) = take_any(bytes)?;
-    let name = name_of(element.tag, element.content)?;
+    let name = general_name_of(element.tag, element.content)?;
     Some((name, rest))
 }

@@ -30,7 +30,7 @@ impl<'a> Iterator for AlternativeNames<'a> {
 ghost use Rattle.std.specs.Prelude.{◌≡◌, [], ◌∷◌, MatchOption, is_some, option_map};
 ghost use Rattle.sig_der.specs.Taking.{many_at};
 ghost use Rattle.sig_certificate.specs.BorrowedNames.{borrowed_name, front_names, names_left};
-ghost use Rattle.sig_certificate.specs.Names.{name_at, names_of};
+ghost use Rattle.sig_certificate.specs.Names.{name_at, general_names_of};
 
 /// The first name, and what follows it.
 fn step(rest: &[u8]) -> Option<(GeneralName<'_>, &[u8])>
@@ -61,9 +61,9 @@ fn are_names(bytes: &[u8]) -> bool
 
 /// Returns the names of the subject alternative name of this value. `None` if the value is not a SEQUENCE of names and
 /// nothing else.
-#[tactic(auto, unfolding(crate::specs::Names::names_of), using(crate::proofs::FrontNames::are_names))]
+#[tactic(auto, unfolding(crate::specs::Names::general_names_of), using(crate::proofs::FrontNames::are_names))]
 pub fn alternative_names(value: &[u8]) -> Option<AlternativeNames<'_>>
-    ensures { names_of value.now ≡ option_map names_left result }
+    ensures { general_names_of value.now ≡ option_map names_left result }
 {
     let sequence = take_whole(value, tag::SEQUENCE)?;
     if are_names(sequence.content) {

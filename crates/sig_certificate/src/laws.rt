@@ -10,7 +10,7 @@ ghost use Rattle.sig_certificate.specs.Certificate.{Cert, IsCertificate};
 ghost use Rattle.sig_certificate.specs.Pem.{lines_of, IsWrappedBase64};
 ghost use Rattle.sig_certificate.specs.Values.{key_usage_of, purposes_of, basic_constraints_of};
 ghost use Rattle.sig_certificate.specs.ExtensionValues.{IsKeyUsageValue, ArePurposes, AreBasicConstraints};
-ghost use Rattle.sig_certificate.specs.Names.{Name, names_of};
+ghost use Rattle.sig_certificate.specs.Names.{Name, general_names_of};
 ghost use Rattle.sig_certificate.specs.AlternativeNames.{AreNames};
 ghost use Rattle.sig_certificate.specs.Profile.{ca_refusal, root_refusal, leaf_refusal};
 ghost use Rattle.sig_certificate.specs.Trust.{usages_refusal, names_refusal, validity_refusal, expiration_refusal};
@@ -54,8 +54,8 @@ pub fn basic_constraints(value: &[u8])
 
 /// A value has these alternative names if and only if it is the SEQUENCE of them (RFC 5280 section 4.2.1.6).
 pub fn subject_alternative_names(value: &[u8])
-    ensures takes { (names : List Name) → names_of value.now ≡ Some names → AreNames value.now names }
-    ensures again { (names : List Name) → AreNames value.now names → names_of value.now ≡ Some names }
+    ensures takes { (names : List Name) → general_names_of value.now ≡ Some names → AreNames value.now names }
+    ensures again { (names : List Name) → AreNames value.now names → general_names_of value.now ≡ Some names }
 {
     let _value = value;
 }

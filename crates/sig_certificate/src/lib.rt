@@ -7,12 +7,14 @@
 //! several. A value of an extension says what its definition reads in it. A profile returns `Ok`, or the first of its
 //! faults that has its cause.
 //!
-//! What other crates use besides: sig_timestamp takes `front`, `is_listed`, `extension_at`, `is_certificate` and
-//! `read_purpose`, sig_policy the names of a value, and sig_x509 `are_single`, `basic_constraints` and `code_signing`.
+//! What other crates use besides: sig_timestamp takes `front`, `is_listed`, `extensions`, `is_certificate` and
+//! `read_purpose`, sig_policy the names of a value, and sig_x509 `extensions`, `are_single`, `basic_constraints` and
+//! `code_signing`.
 #![tactic(auto)]
 
 mod certificate;
 mod error;
+mod extension_walk;
 mod extensions;
 mod general_name;
 mod general_names;
@@ -32,6 +34,7 @@ mod walks;
 
 pub use certificate::Certificate;
 pub use error::X509ReadError;
+pub use extension_walk::Extensions;
 pub use general_name::GeneralName;
 pub use general_names::{AlternativeNames, alternative_names};
 pub use lookup::{ExtensionRef, Lookup};

@@ -27,7 +27,7 @@ ghost use Rattle.std.specs.Prelude.{◌≡◌, length, option_map, IfSome};
 ghost use Rattle.sig_certificate.specs.Cutting.{version_number, explicit_version, version_at, head_at, validity_at};
 ghost use Rattle.sig_certificate.specs.Cutting.{body_at, after_ids, list_at, outer_at, parts_at};
 ghost use Rattle.sig_certificate.specs.Places.{value_read, head_read, IsHeadWithin, validity_read, IsValidityRead};
-ghost use Rattle.sig_certificate.specs.Places.{body_read, IsBodyWithin, outer_of, IsOuterWithin, listed_of};
+ghost use Rattle.sig_certificate.specs.Places.{body_read, IsBodyWithin, placed_outer, IsOuterWithin, listed_of};
 ghost use Rattle.sig_certificate.specs.Places.{IsListedWithin, parts_of, ArePlaces};
 ghost use Rattle.sig_der.specs.Readers.{left, GoesTo};
 
@@ -110,7 +110,7 @@ fn read_certificate(reader: Reader<'_>) -> Option<Places>
 /// Reads the three parts of the certificate that is all that is left. `None` if it is none.
 #[tactic(auto, unfolding(crate::specs::Cutting::outer_at))]
 fn read_outer(reader: Reader<'_>) -> Option<Outer>
-    ensures cut { outer_at (left reader.entry) ≡ option_map (outer_of reader.entry.bytes.now) result }
+    ensures cut { outer_at (left reader.entry) ≡ option_map (placed_outer reader.entry.bytes.now) result }
     ensures within { IfSome result (IsOuterWithin reader.entry.at reader.entry.end) }
 {
     let whole = reader.whole(tag::SEQUENCE)?;

@@ -1,7 +1,7 @@
 //! What a certificate may be: a leaf, an authority, a root.
 
 ghost use Rattle.std.specs.Prelude.{◌≡◌};
-ghost use Rattle.sig_certificate.specs.Profile.{refusal, usage, constraints, code_signing, authority, signer};
+ghost use Rattle.sig_certificate.specs.Profile.{error_of, usage, constraints, code_signing, authority, signer};
 ghost use Rattle.sig_certificate.specs.Profile.{ca_refusal, root_refusal, leaf_refusal};
 
 use crate::certificate::Certificate;
@@ -76,7 +76,7 @@ fn judge_authority(
     constraints: Result<Option<(bool, BasicConstraints)>, CertificateValidationError>,
     usage: Result<Option<KeyUsage>, CertificateValidationError>,
 ) -> Result<(), CertificateValidationError>
-    ensures { refusal result ≡ authority constraints usage }
+    ensures { error_of result ≡ authority constraints usage }
 {
     let Some((critical, constraints)) = constraints? else {
         return Err(missing(PartName::BasicConstraints));
@@ -103,7 +103,7 @@ fn judge_authority(
 ///
 /// `laws::profile_faults` says when each comes.
 pub fn is_ca(certificate: &Certificate) -> Result<(), CertificateValidationError>
-    ensures { refusal result ≡ ca_refusal certificate.now }
+    ensures { error_of result ≡ ca_refusal certificate.now }
 {
     if certificate.version() != 3 {
         return Err(CertificateValidationError::VersionUnsupported);
@@ -113,7 +113,7 @@ pub fn is_ca(certificate: &Certificate) -> Result<(), CertificateValidationError
 
 /// Whether the certificate is a root. Fails as `is_ca` does, then with `NotRootCA` if issuer and subject differ.
 pub fn is_root_ca(certificate: &Certificate) -> Result<(), CertificateValidationError>
-    ensures { refusal result ≡ root_refusal certificate.now }
+    ensures { error_of result ≡ root_refusal certificate.now }
 {
     is_ca(certificate)?;
     if certificate.issuer() == certificate.subject() {
@@ -134,7 +134,7 @@ fn judge_signer(
     usage: Result<Option<KeyUsage>, CertificateValidationError>,
     code_signing: Result<Option<bool>, CertificateValidationError>,
 ) -> Result<(), CertificateValidationError>
-    ensures { refusal result ≡ signer usage code_signing }
+    ensures { error_of result ≡ signer usage code_signing }
 {
     let Some(usage) = usage? else {
         return Err(missing(PartName::KeyUsage));
@@ -158,7 +158,7 @@ fn judge_signer(
 ///
 /// `laws::profile_faults` says when each comes.
 pub fn is_leaf(certificate: &Certificate) -> Result<(), CertificateValidationError>
-    ensures { refusal result ≡ leaf_refusal certificate.now }
+    ensures { error_of result ≡ leaf_refusal certificate.now }
 {
     if certificate.version() != 3 {
         return Err(CertificateValidationError::VersionUnsupported);

@@ -6,7 +6,7 @@ ghost use Rattle.sig_der.specs.Readers.{left};
 ghost use Rattle.sig_der.specs.Taking.{many_at};
 ghost use Rattle.sig_base.specs.Answers.{Answers};
 ghost use Rattle.sig_certificate.specs.Answers.{or_der};
-ghost use Rattle.sig_certificate.specs.Cutting.{Parts, extension_at, IsCut};
+ghost use Rattle.sig_certificate.specs.Cutting.{Parts, extension_at, HasCertificateParts};
 ghost use Rattle.sig_certificate.specs.Places.{extension_of, parts_of, AreSpans, ArePlaces, Ascend};
 ghost use Rattle.sig_certificate.specs.Held.{IsDatedAs};
 
@@ -28,8 +28,9 @@ pub(crate) struct Dated {
 
 /// Reads the parts and the validity of the certificate that the bytes are. `None` if they are none.
 pub(crate) fn dated_parts(der: &[u8]) -> Option<Dated>
-    ensures found { IfSome result (λ d. IsCut der.now (parts_of der.now d.places) d.not_before d.not_after) }
-    ensures only { (p : Parts) (not_before not_after : ℤ) → IsCut der.now p not_before not_after
+    ensures found { IfSome result (λ d. HasCertificateParts der.now
+        (parts_of der.now d.places) d.not_before d.not_after) }
+    ensures only { (p : Parts) (not_before not_after : ℤ) → HasCertificateParts der.now p not_before not_after
         → IsDatedAs der.now p not_before not_after result }
     ensures within { IfSome result (λ d. ArePlaces (length der.now) d.places) }
 {

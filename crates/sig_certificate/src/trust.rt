@@ -1,7 +1,7 @@
 //! The checks of a certificate that signed what a log has recorded.
 
 ghost use Rattle.std.specs.Prelude.{◌≡◌};
-ghost use Rattle.sig_certificate.specs.Profile.{refusal};
+ghost use Rattle.sig_certificate.specs.Profile.{error_of};
 ghost use Rattle.sig_certificate.specs.Trust.{may_sign, may_sign_code, is_named, usages_refusal, names_refusal};
 ghost use Rattle.sig_certificate.specs.Trust.{validity_refusal, expiration_refusal, trust_refusal};
 ghost use Rattle.sig_der.specs.ObjectIdentifiers.{subject_alternative_name};
@@ -44,7 +44,7 @@ fn may_sign_code(
 /// - `CertificateWithoutCodeSigningKeyUsage` if extended key usage is absent, malformed, duplicate or without code
 ///   signing.
 pub fn verify_key_usages(certificate: &Certificate) -> Result<()>
-    ensures { refusal result ≡ usages_refusal certificate.now }
+    ensures { error_of result ≡ usages_refusal certificate.now }
 {
     if !may_sign(key_usage(certificate)) {
         return Err(SigstoreError::CertificateWithoutDigitalSignatureKeyUsage);
@@ -70,7 +70,7 @@ fn is_named(certificate: &Certificate) -> bool
 /// Whether the subject has alternative names (RFC 5280 section 4.2.1.6). Fails with
 /// `CertificateWithoutSubjectAlternativeName` unless there is exactly one such extension and it is well formed.
 pub fn verify_has_san(certificate: &Certificate) -> Result<()>
-    ensures { refusal result ≡ names_refusal certificate.now }
+    ensures { error_of result ≡ names_refusal certificate.now }
 {
     if is_named(certificate) {
         Ok(())
@@ -82,7 +82,7 @@ pub fn verify_has_san(certificate: &Certificate) -> Result<()>
 /// Whether the validity has begun by now, in seconds since 1970. Fails with `CertificateValidityError` and its first
 /// second if it has not.
 pub fn verify_validity(certificate: &Certificate, now: i64) -> Result<()>
-    ensures { refusal result ≡ validity_refusal certificate.now now }
+    ensures { error_of result ≡ validity_refusal certificate.now now }
 {
     let not_before = certificate.not_before();
     if now < not_before {
@@ -100,7 +100,7 @@ pub fn verify_validity(certificate: &Certificate, now: i64) -> Result<()>
 ///
 /// The names are the ported crate's.
 pub fn verify_expiration(certificate: &Certificate, integrated_time: i64) -> Result<()>
-    ensures { refusal result ≡ expiration_refusal certificate.now integrated_time }
+    ensures { error_of result ≡ expiration_refusal certificate.now integrated_time }
 {
     let not_before = certificate.not_before();
     if integrated_time < not_before {
@@ -126,7 +126,7 @@ pub fn verify_expiration(certificate: &Certificate, integrated_time: i64) -> Res
 /// The four checks in order: key usages, alternative names, validity by now, and validity at the time of the entry.
 /// Fails with the first fault. Both times are seconds since 1970. `laws::trust_faults` says when each fault comes.
 pub fn is_trusted(certificate: &Certificate, integrated_time: i64, now: i64) -> Result<()>
-    ensures { refusal result ≡ trust_refusal certificate.now integrated_time now }
+    ensures { error_of result ≡ trust_refusal certificate.now integrated_time now }
 {
     verify_key_usages(certificate)?;
     verify_has_san(certificate)?;

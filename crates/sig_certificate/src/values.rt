@@ -10,7 +10,7 @@
 
 ghost use Rattle.std.specs.Prelude.{◌≡◌, option_map};
 ghost use Rattle.sig_der.specs.Readers.{left};
-ghost use Rattle.sig_certificate.specs.Values.{usage_of, key_usage_of, oid_at, number_of, constraints_in};
+ghost use Rattle.sig_certificate.specs.Values.{usage_of, key_usage_of, oid_at, natural_of, constraints_in};
 ghost use Rattle.sig_certificate.specs.Values.{basic_constraints_of};
 
 use crate::extensions::read_flag;
@@ -74,9 +74,9 @@ pub(crate) fn take_oid(bytes: &[u8]) -> Option<(&[u8], &[u8])>
 }
 
 /// The INTEGER of this content, which is minimal, not negative and has at most four bytes.
-#[tactic(auto, unfolding(crate::specs::Values::number_of))]
+#[tactic(auto, unfolding(crate::specs::Values::natural_of))]
 fn number(content: &[u8]) -> Option<u32>
-    ensures { result ≡ number_of content.now }
+    ensures { result ≡ natural_of content.now }
 {
     match content {
         [a @ 0..=127] => Some(*a as u32),

@@ -2,7 +2,7 @@
 
 ghost use Rattle.std.specs.Prelude.{◌≡◌, ◌||◌, option_map, is_some};
 ghost use Rattle.sig_der.specs.Taking.{many_at};
-ghost use Rattle.sig_certificate.specs.Names.{names_of};
+ghost use Rattle.sig_certificate.specs.Names.{general_names_of};
 ghost use Rattle.sig_certificate.specs.Values.{oid_at, has_purpose, purposes_of};
 
 use crate::general_names::alternative_names;
@@ -45,7 +45,7 @@ pub fn read_purpose(value: &[u8], purpose: &[u8]) -> Option<bool>
 
 /// Whether alternative names of this value are well formed.
 pub(crate) fn holds_names(value: &[u8]) -> bool
-    ensures { is_some (names_of value.now) ≡ result }
+    ensures { is_some (general_names_of value.now) ≡ result }
 {
     match alternative_names(value) {
         None => false,

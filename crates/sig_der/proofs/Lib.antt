@@ -14,3 +14,4 @@ pub mod DigitTexts
 pub mod TimeTexts
 pub mod KeyInfos
 pub mod StampTexts
+pub mod StampSeconds

@@ -1,5 +1,5 @@
 -- A part of a text that lies between two parts, and the place of an element within a text.
-use Rattle.std.proofs.Common.{◌≡◌, ◌≢◌, ℕ, ◌+◌, ◌-◌, ◌<◌, ◌≤◌, List, [], ◌∷◌, ◌++◌, length, take, drop, refl, sym, ap}
+use Rattle.std.proofs.Common.{◌≡◌, ℕ, ◌+◌, ◌-◌, ◌≤◌, List, [], ◌∷◌, ◌++◌, length, take, drop, refl, sym, ap}
 use Rattle.std.proofs.Common.{◌∙◌, append_assoc, arith}
 use Rattle.std.specs.Prelude.{slice_range}
 use Rattle.std.proofs.lemmas.List.{take_at, take_all, drop_at, take-append-drop, length-append, length-take-le}
@@ -81,9 +81,3 @@ placed_is bytes at end from to tag whole content rest first =
 
 pub part-none : (bytes : List ℕ) (at end : ℕ) → end ≤ at → slice_range bytes at end ≡ []
 part-none bytes at end le = let none : end - at ≡ 0 = omega arith in rw none refl
-
-pub part-some : (bytes : List ℕ) (at end : ℕ) → at < end → end ≤ length bytes → slice_range bytes at end ≢ []
-part-some bytes at end lt to = λ none.
-    let len = length-part bytes at end (omega arith) to in
-    let zero_long : length (slice_range bytes at end) ≡ 0 = ap (λ (w : List ℕ). length w) none in
-    omega arith

@@ -17,3 +17,4 @@ pub mod Moment
 pub mod Digits
 pub mod DerTime
 pub mod Stamp
+pub mod StampSecond

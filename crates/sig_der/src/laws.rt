@@ -1,10 +1,12 @@
 //! What the constants and the lengths of this crate are, in the words of the standards. No function here does
 //! anything: each states laws, and its proof is that they hold.
 
-ghost use Rattle.std.specs.Prelude.{◌≡◌, ◌^◌, ◌<◌, ℕ, List};
+ghost use Rattle.std.specs.Prelude.{◌≡◌, ◌↔◌, ◌^◌, ◌<◌, ℕ, ℤ, List, Some};
 ghost use Rattle.sig_der.specs.Element.{spelled_length};
 ghost use Rattle.sig_der.specs.Length.{IsLength};
 ghost use Rattle.sig_der.specs.ObjectIdentifiers as dotted;
+ghost use Rattle.sig_der.specs.Stamp.{IsInstantOf};
+ghost use Rattle.sig_der.specs.StampSecond.{second_in};
 ghost use Rattle.sig_der.specs.Tag as named;
 ghost use Rattle.sig_der.specs.declared.oid.TheConstants as oid;
 ghost use Rattle.sig_der.specs.declared.tag.TheConstants as tag;
@@ -62,4 +64,9 @@ pub fn tags()
 pub fn lengths()
     ensures is { (n : ℕ) → n < 2 ^ 32 → IsLength n (spelled_length n) }
     ensures only { (n : ℕ) (text : List ℕ) → n < 2 ^ 32 → IsLength n text → text ≡ spelled_length n }
+{}
+
+/// A time text is read as a second if and only if its instant lies in that second (RFC 3339 section 5.6).
+pub fn time_texts()
+    ensures { (text : List ℕ) (second : ℤ) → (second_in text ≡ Some second) ↔ IsInstantOf text second }
 {}

@@ -5,6 +5,7 @@ ghost use Rattle.jiff_core.specs.Calendar.{IsWithin};
 ghost use Rattle.sig_der.specs.Moment.{IsDecimal, IsReal, second_of};
 ghost use Rattle.sig_der.specs.Stamp.{IsInstantOf, front_at, after_digit, after_digits, fraction_at, offset_at};
 ghost use Rattle.sig_der.specs.Stamp.{zone_at, stamp_at, starts_with_digit};
+ghost use Rattle.sig_der.specs.StampSecond.{second_in};
 
 use crate::digits::{read_clock, read_day, read_four, read_two, skip_mark};
 use crate::moment::{Moment, second_at};
@@ -145,6 +146,8 @@ fn read_instant(text: &[u8]) -> Option<i64>
 pub fn rfc3339_second(text: &str) -> Option<i64>
     ensures found { IfSome result (IsInstantOf text.now) }
     ensures only { (s : ℤ) → IsInstantOf text.now s → result ≡ Some s }
+    // The same in one equation.
+    ensures exact { result ≡ second_in text.now }
 {
     read_instant(text.as_bytes())
 }

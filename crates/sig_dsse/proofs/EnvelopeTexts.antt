@@ -2,20 +2,10 @@
 use Rattle.std.proofs.Common.{◌≡◌, ℕ, ◌+◌, ◌<◌, List, [], ◌∷◌, ◌++◌, length, map, take, get_or, String, Global}
 use Rattle.std.proofs.Common.{string_bytes, refl, sym, ap, ◌∙◌, append_assoc, append-nil}
 use Rattle.std.proofs.lemmas.List.{take_more}
-use Rattle.sig_dsse.specs.Texts.{texts_of}
-use Rattle.std.specs.List.{join_by, flat_map}
+use Rattle.sig_json.specs.Spells.{texts_of}
 use Rattle.std.specs.Prelude.{codes}
-use Rattle.sig_dsse.specs.EnvelopeText.{text_member, bytes_member, list_member, signature_text}
+use Rattle.sig_dsse.specs.EnvelopeText.{text_member, bytes_member, list_member, envelope_signature_text}
 use Rattle.sig_dsse.specs.declared.envelope.DsseSignature.{DsseSignature}
-
-pub join_by-texts_of : (separator : List ℕ) (texts : List (String Global))
-    → join_by string_bytes separator texts ≡ join_by (λ text. text) separator (texts_of texts)
-join_by-texts_of separator [] = refl
-join_by-texts_of separator (t ∷ ts) = ap (λ rest. string_bytes t ++ rest) (rest_same ts) where
-  rest_same : (rest : List (String Global))
-      → flat_map (λ text. separator ++ string_bytes text) rest ≡ flat_map (λ text. separator ++ text) (texts_of rest)
-  rest_same [] = refl
-  rest_same (r ∷ rs) = ap (λ more. (separator ++ string_bytes r) ++ more) (rest_same rs)
 
 pub texts_of-append : (texts : List (String Global)) (text : String Global)
     → texts_of (texts ++ text ∷ []) ≡ texts_of texts ++ string_bytes text ∷ []
@@ -23,17 +13,18 @@ texts_of-append [] text = refl
 texts_of-append (t ∷ ts) text = ap (λ rest. string_bytes t ∷ rest) (texts_of-append ts text)
 
 signed-append : (signatures : List DsseSignature) (signature : DsseSignature)
-    → map signature_text (signatures ++ signature ∷ []) ≡ map signature_text signatures ++ signature_text
+    → map envelope_signature_text (signatures ++ signature ∷ [])
+    ≡ map envelope_signature_text signatures ++ envelope_signature_text
     signature ∷ []
 signed-append [] signature = refl
-signed-append (s ∷ ss) signature = ap (λ rest. signature_text s ∷ rest) (signed-append ss signature)
+signed-append (s ∷ ss) signature = ap (λ rest. envelope_signature_text s ∷ rest) (signed-append ss signature)
 
 -- the text of one more signature
 pub signed-more : (signatures : List DsseSignature) (i : ℕ) (signature : DsseSignature)
     (texts after : List (String Global)) (text : String Global) → i < length signatures
-    → signature ≡ get_or signatures i signature → string_bytes text ≡ signature_text signature
-    → after ≡ texts ++ text ∷ [] → texts_of texts ≡ map signature_text (take i signatures) → texts_of after
-    ≡ map signature_text (take (i + 1) signatures)
+    → signature ≡ get_or signatures i signature → string_bytes text ≡ envelope_signature_text signature
+    → after ≡ texts ++ text ∷ [] → texts_of texts ≡ map envelope_signature_text (take i signatures) → texts_of after
+    ≡ map envelope_signature_text (take (i + 1) signatures)
 signed-more signatures i signature texts after text h is written pushed so_far =
     let front : take (i + 1) signatures ≡ take i signatures ++ signature ∷ [] =
     take_more signatures i signature h ∙ ap (λ s. take i signatures ++ s ∷ []) (sym is) in

@@ -19,7 +19,7 @@ use Rattle.sig_dsse.specs.declared.recognized.DigestName.TheVariants.{Sha256 as 
 use Rattle.sig_dsse.specs.declared.recognized.SubjectFault.{SubjectFault}
 use Rattle.sig_dsse.specs.declared.recognized.SubjectFault.TheVariants.{TooManySubjects, TooManyDigests, Malformed}
 use Rattle.sig_dsse.specs.declared.recognized.SubjectFault.TheVariants.{NoneRecognized, OutOfMemory}
-use Rattle.sig_dsse.specs.Faults.{IsFirst, spelling, IsDigestText, IsMalformed, IsWellFormed, IsSound, HasTooMany}
+use Rattle.sig_dsse.specs.Faults.{IsFirst, spelling, IsHexDigest, IsMalformed, IsWellFormed, IsSound, HasTooMany}
 use Rattle.sig_dsse.specs.Faults.{HasMalformed, IsCauseOf, DigitsAreOfTheHash, FaultsHaveTheirCause}
 use Rattle.sig_dsse.specs.Named.{named}
 use Rattle.sig_dsse.specs.Recognized.{digest_or_malformed, digests_of_each, entry_digest, map_digests, not_none}
@@ -136,7 +136,7 @@ judged : {E D : Type 0} (name : DigestName) (digest : List ℕ → ArtifactDiges
 judged name digest (Ok bytes) tells = inl (tells.0 refl, (digest bytes ∷ [], refl))
 judged name digest (Err e) tells = inr ((λ d. let no = tells.1 d in cc), refl)
 
-read-judged : (name : DigestName) (text : List ℕ) → Judged name (IsDigestText name text) (read_under name text)
+read-judged : (name : DigestName) (text : List ℕ) → Judged name (IsHexDigest name text) (read_under name text)
 read-judged NamedSha256 text = judged NamedSha256 Sha256 (decode_sized text 32) (IsOk-decode_sized text 32)
 read-judged NamedSha512 text = judged NamedSha512 Sha512 (decode_sized text 64) (IsOk-decode_sized text 64)
 
@@ -170,10 +170,10 @@ EntryJudged e =
     ((name : DigestName) × IsMalformed name e × (entry_digest e ≡ Err (Malformed name)))
 
 named-judged : (name : DigestName) (e : Entry) → Named_as name e
-    → Judged name (IsDigestText name e.1) (read_under name e.1) → EntryJudged e
+    → Judged name (IsHexDigest name e.1) (read_under name e.1) → EntryJudged e
 named-judged name e named (inl read) =
     inl (
-      (λ other malformed. malformed.1 (subst (λ n. IsDigestText n e.1)
+      (λ other malformed. malformed.1 (subst (λ n. IsHexDigest n e.1)
           (names-apart name other (sym named.0 ∙ malformed.0)) read.0)),
       (read.1.0, named.1 ∙ read.1.1),
     )

@@ -5,16 +5,16 @@ use Rattle.sig_dsse.specs.declared.recognized.SubjectFault.{SubjectFault}
 use Rattle.sig_dsse.specs.declared.recognized.SubjectFault.TheVariants.{OutOfMemory}
 
 -- the digests that are meant are put behind, or the fault that is meant is told, unless memory ran out
-abbrev pub Adds : {A : Type 0} → List ArtifactDigest → List ArtifactDigest → Result A SubjectFault
+abbrev pub AddsDigests : {A : Type 0} → List ArtifactDigest → List ArtifactDigest → Result A SubjectFault
     → Result (List ArtifactDigest) SubjectFault → Type 0
-Adds before after (Ok x) meant = (more : List ArtifactDigest) × (meant ≡ Ok more) × (after ≡ before ++ more)
-Adds before after (Err e) meant = (e ≡ OutOfMemory) ⊎ (meant ≡ Err e)
+AddsDigests before after (Ok x) meant = (more : List ArtifactDigest) × (meant ≡ Ok more) × (after ≡ before ++ more)
+AddsDigests before after (Err e) meant = (e ≡ OutOfMemory) ⊎ (meant ≡ Err e)
 
-abbrev pub listed : Option ArtifactDigest → List ArtifactDigest
-listed None = []
-listed (Some digest) = digest ∷ []
+abbrev pub listed_digest : Option ArtifactDigest → List ArtifactDigest
+listed_digest None = []
+listed_digest (Some digest) = digest ∷ []
 
 -- the same result, as a list
 abbrev pub listing : Result (Option ArtifactDigest) SubjectFault → Result (List ArtifactDigest) SubjectFault
-listing (Ok digest) = Ok (listed digest)
+listing (Ok digest) = Ok (listed_digest digest)
 listing (Err e) = Err e

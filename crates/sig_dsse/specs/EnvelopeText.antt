@@ -25,12 +25,12 @@ abbrev pub list_member : List ℕ → List (List ℕ) → List (List ℕ)
 list_member name [] = []
 list_member name (text ∷ texts) = member_text name (in_brackets (text ∷ texts)) ∷ []
 
-unfoldable pub signature_text : DsseSignature → List ℕ
-signature_text signature =
+unfoldable pub envelope_signature_text : DsseSignature → List ℕ
+envelope_signature_text signature =
     in_braces (bytes_member (codes "sig") signature.sig ++ text_member (codes "keyid") signature.keyid)
 
 unfoldable pub envelope_text : DsseEnvelope → List ℕ
 envelope_text envelope =
     in_braces (bytes_member (codes "payload") envelope.payload ++
     (text_member (codes "payloadType") envelope.payload_type ++ list_member (codes "signatures")
-    (map signature_text envelope.signatures)))
+    (map envelope_signature_text envelope.signatures)))

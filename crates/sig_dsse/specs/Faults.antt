@@ -50,12 +50,12 @@ DigitsAreOfTheHash =
     (digit_count Sha512 ≡ 2 * length (sha512 message))
 
 -- so many hexadecimal digits, of either case, and nothing else (RFC 4648 section 8)
-abbrev pub IsDigestText : DigestName → List ℕ → Type 0
-IsDigestText name text = (length text ≡ digit_count name) × AllPass is_hex_digit text
+abbrev pub IsHexDigest : DigestName → List ℕ → Type 0
+IsHexDigest name text = (length text ≡ digit_count name) × AllPass is_hex_digit text
 
 -- the entry has this name, and its text is no digest of the algorithm
 abbrev pub IsMalformed : DigestName → List ℕ × List ℕ → Type 0
-IsMalformed name entry = (entry.0 ≡ spelling name) × ¬ IsDigestText name entry.1
+IsMalformed name entry = (entry.0 ≡ spelling name) × ¬ IsHexDigest name entry.1
 
 abbrev pub IsWellFormed : List ℕ × List ℕ → Type 0
 IsWellFormed entry = (name : DigestName) → ¬ IsMalformed name entry

@@ -1,6 +1,5 @@
 pub mod Pae
 pub mod EnvelopeText
-pub mod Texts
 pub mod Digest
 pub mod Statement
 pub mod Seen

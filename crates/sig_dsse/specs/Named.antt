@@ -6,7 +6,7 @@ use Rattle.hex.specs.Hex.{decode_sized}
 use Rattle.sig_dsse.specs.declared.artifact_digest.ArtifactDigest.{ArtifactDigest}
 use Rattle.sig_dsse.specs.declared.artifact_digest.ArtifactDigest.TheVariants.{Sha256, Sha512}
 use Rattle.sig_dsse.specs.declared.recognized.SubjectFault.TheVariants.{NoneRecognized}
-use Rattle.sig_dsse.specs.Digest.{algorithm_of, bytes_of}
+use Rattle.sig_dsse.specs.Digest.{digest_algorithm, digest_bytes}
 use Rattle.sig_dsse.specs.Recognized.{most_subjects, most_digests, digests_or_fault}
 use Rattle.sig_dsse.specs.Statement.{Statement, digest_maps}
 
@@ -24,14 +24,14 @@ pub record IsWithinLimits (statement : Statement) : Type 0 where
   pub digests : AllByRecursion (λ digests. length digests ≤ most_digests) (digest_maps statement)
 
 -- how many bytes the algorithm gives
-abbrev pub size_of : ArtifactDigest → ℕ
-size_of (Sha256 bytes) = 32
-size_of (Sha512 bytes) = 64
+abbrev pub digest_len : ArtifactDigest → ℕ
+digest_len (Sha256 bytes) = 32
+digest_len (Sha512 bytes) = 64
 
 -- the entry has the algorithm's name, and the digest's bytes in hexadecimal digits of either case
 abbrev pub IsEntryOf : ArtifactDigest → List ℕ × List ℕ → Type 0
 IsEntryOf digest entry =
-    (entry.0 ≡ algorithm_of digest) × (decode_sized entry.1 (size_of digest) ≡ Ok (bytes_of digest))
+    (entry.0 ≡ digest_algorithm digest) × (decode_sized entry.1 (digest_len digest) ≡ Ok (digest_bytes digest))
 
 -- digest by digest, in order
 abbrev pub AreEntriesOf : List ArtifactDigest → List (List ℕ × List ℕ) → Type 0

@@ -1,7 +1,7 @@
 //! `ArtifactDigest`: the digest of an artifact, with its algorithm.
 ghost use Rattle.std.specs.Prelude.{◌≡◌, IfOk};
 ghost use Rattle.hex.specs.Hex.{encode_lower};
-ghost use Rattle.sig_dsse.specs.Digest.{algorithm_of, bytes_of};
+ghost use Rattle.sig_dsse.specs.Digest.{digest_algorithm, digest_bytes};
 
 use sha2::{Digest, Sha256, Sha512};
 use sig_base::{OutOfMemory, Register, Text};
@@ -29,7 +29,7 @@ impl ArtifactDigest {
 
     /// The algorithm's name, `sha256` or `sha512`.
     pub fn algorithm(&self) -> &'static str
-        ensures { result.now ≡ algorithm_of self.now }
+        ensures { result.now ≡ digest_algorithm self.now }
     {
         match self {
             ArtifactDigest::Sha256(_) => "sha256",
@@ -39,7 +39,7 @@ impl ArtifactDigest {
 
     /// The digest's bytes, 32 or 64.
     pub fn as_bytes(&self) -> &[u8]
-        ensures { result.now ≡ bytes_of self.now }
+        ensures { result.now ≡ digest_bytes self.now }
     {
         match self {
             ArtifactDigest::Sha256(bytes) => bytes,
@@ -49,7 +49,7 @@ impl ArtifactDigest {
 
     /// The bytes as hexadecimal digits in lower case. Fails only if memory runs out.
     pub fn to_hex(&self, alloc: Global) -> Result<Text, OutOfMemory>
-        ensures { IfOk result (λ text. text ≡ encode_lower (bytes_of self.now)) }
+        ensures { IfOk result (λ text. text ≡ encode_lower (digest_bytes self.now)) }
     {
         let text = hex::encode(alloc, self.as_bytes())?;
         Ok(Text::from(text))

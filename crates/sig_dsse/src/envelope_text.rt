@@ -2,8 +2,9 @@
 ghost use Rattle.std.specs.Prelude.{◌≡◌, ◌++◌, [], ◌∷◌, map, codes, IfOk, OnOk, string_bytes};
 ghost use Rattle.sig_base.specs.Base64.{base64_text};
 ghost use Rattle.sig_json.specs.Canonical.{canon_string, in_braces, in_brackets};
-ghost use Rattle.sig_dsse.specs.Texts.{texts_of};
-ghost use Rattle.sig_dsse.specs.EnvelopeText.{member_text, text_member, bytes_member, list_member, signature_text};
+ghost use Rattle.sig_json.specs.Spells.{texts_of};
+ghost use Rattle.sig_dsse.specs.EnvelopeText.{member_text, text_member, bytes_member, list_member};
+ghost use Rattle.sig_dsse.specs.EnvelopeText.{envelope_signature_text};
 ghost use Rattle.sig_dsse.specs.EnvelopeText.{envelope_text};
 
 use crate::envelope::{DsseEnvelope, DsseSignature, DsseSignatures};
@@ -30,7 +31,7 @@ pub fn envelope_json(alloc: Global, envelope: &DsseEnvelope) -> Result<Text, Out
 }
 
 fn signature_json(alloc: Global, signature: &DsseSignature) -> Result<String, OutOfMemory>
-    ensures { IfOk result (λ text. string_bytes text ≡ signature_text signature.now) }
+    ensures { IfOk result (λ text. string_bytes text ≡ envelope_signature_text signature.now) }
 {
     let mut members = Vec::new(alloc);
     push_bytes(alloc, &mut members, "sig", signature.sig.as_slice())?;
@@ -78,7 +79,8 @@ fn push_signatures(
     signatures: &DsseSignatures,
 ) -> Result<(), OutOfMemory>
     ensures { OnOk result (texts_of members.new.items
-        ≡ texts_of members.old.items ++ list_member (codes "signatures") (map signature_text signatures.now)) }
+        ≡ texts_of members.old.items ++ list_member (codes "signatures")
+        (map envelope_signature_text signatures.now)) }
 {
     if signatures.len() == 0 {
         return Ok(());
@@ -89,7 +91,7 @@ fn push_signatures(
 }
 
 fn signatures_json(alloc: Global, signatures: &DsseSignatures) -> Result<String, OutOfMemory>
-    ensures { IfOk result (λ text. string_bytes text ≡ in_brackets (map signature_text signatures.now)) }
+    ensures { IfOk result (λ text. string_bytes text ≡ in_brackets (map envelope_signature_text signatures.now)) }
 {
     let texts = signature_texts(alloc, signatures)?;
     let joined = texts.join(alloc, ",")?;
@@ -98,7 +100,7 @@ fn signatures_json(alloc: Global, signatures: &DsseSignatures) -> Result<String,
 
 #[tactic(auto, using(crate::proofs::EnvelopeTexts::signed))]
 fn signature_texts(alloc: Global, signatures: &DsseSignatures) -> Result<Vec<String>, OutOfMemory>
-    ensures { IfOk result (λ texts. texts_of texts.items ≡ map signature_text signatures.now) }
+    ensures { IfOk result (λ texts. texts_of texts.items ≡ map envelope_signature_text signatures.now) }
 {
     let mut texts = Vec::new(alloc);
     'signatures: for signature in signatures.as_slice() {

@@ -1,6 +1,6 @@
 //! What the definitions mean.
 ghost use Rattle.std.specs.Prelude.{◌≡◌, ◌↔◌, IsTrue};
-ghost use Rattle.sig_dsse.specs.Digest.{algorithm_of, bytes_of};
+ghost use Rattle.sig_dsse.specs.Digest.{digest_algorithm, digest_bytes};
 ghost use Rattle.sig_dsse.specs.Faults.{DigitsAreOfTheHash, FaultsHaveTheirCause, PayloadFaultsHaveTheirCause};
 ghost use Rattle.sig_dsse.specs.Faults.{CosignFaultsHaveTheirCause};
 ghost use Rattle.sig_dsse.specs.Pae.{PaeIsInjective};
@@ -17,7 +17,7 @@ pub fn encoding_is_injective()
 /// Two digests are equal if and only if their algorithms and their bytes are.
 pub fn equal_digests(one: &ArtifactDigest, other: &ArtifactDigest) -> bool
     ensures { IsTrue result
-        ↔ ((algorithm_of one.now ≡ algorithm_of other.now) × (bytes_of one.now ≡ bytes_of other.now)) }
+        ↔ ((digest_algorithm one.now ≡ digest_algorithm other.now) × (digest_bytes one.now ≡ digest_bytes other.now)) }
 {
     one == other
 }

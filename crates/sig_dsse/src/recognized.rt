@@ -1,7 +1,7 @@
 //! The digests of a statement that an artifact can be compared with.
 ghost use Rattle.std.specs.Prelude.{◌≡◌, ◌++◌, [], ◌∷◌, Ok};
 ghost use Rattle.sig_base.specs.Answers.{Answers};
-ghost use Rattle.sig_dsse.specs.Collecting.{Adds, listing};
+ghost use Rattle.sig_dsse.specs.Collecting.{AddsDigests, listing};
 ghost use Rattle.sig_dsse.specs.Recognized.{digests_or_fault, digests_of_maps, digests_of_each, map_digests};
 ghost use Rattle.sig_dsse.specs.Recognized.{entry_digest};
 ghost use Rattle.sig_dsse.specs.Seen.{seen};
@@ -111,7 +111,7 @@ fn digests_of_subjects(alloc: Global, subjects: SubjectDigests<'_>) -> Result<Di
 /// Adds the digests of a subject.
 #[tactic(auto, unfolding(crate::specs::Recognized::map_digests))]
 fn push_digests(digest: &TextMap, digests: &mut Digests) -> Result<(), SubjectFault>
-    ensures { Adds digests.old digests.new result (map_digests digest.now) }
+    ensures { AddsDigests digests.old digests.new result (map_digests digest.now) }
 {
     let count = digest.len();
     if count > MOST_DIGESTS {
@@ -122,7 +122,7 @@ fn push_digests(digest: &TextMap, digests: &mut Digests) -> Result<(), SubjectFa
 
 #[tactic(auto, using(crate::proofs::Collected::collected))]
 fn push_entries(digest: &TextMap, digests: &mut Digests) -> Result<(), SubjectFault>
-    ensures { Adds digests.old digests.new result (digests_of_each entry_digest digest.now) }
+    ensures { AddsDigests digests.old digests.new result (digests_of_each entry_digest digest.now) }
 {
     'entries: for (name, text) in digest.iter() {
         push_entry(name, text, digests)?;
@@ -131,7 +131,7 @@ fn push_entries(digest: &TextMap, digests: &mut Digests) -> Result<(), SubjectFa
 }
 
 fn push_entry(name: &str, text: &str, digests: &mut Digests) -> Result<(), SubjectFault>
-    ensures { Adds digests.old digests.new result (entry_digest (name.now, text.now)) }
+    ensures { AddsDigests digests.old digests.new result (entry_digest (name.now, text.now)) }
 {
     if let Some(digest) = read_digest(name, text)? {
         digests.push(digest)?;

@@ -1,5 +1,6 @@
 -- Whether every member of an object has one of some names.
-use Rattle.std.proofs.Common.{◌≡◌, ℕ, ◌+◌, ◌<◌, List, length, drop, get_or, Bool, true, false, string_bytes, sym, refl, ◌∙◌}
+use Rattle.std.proofs.Common.{◌≡◌, ℕ, ◌+◌, ◌<◌, List, length, drop, get_or, Bool, true, false, string_bytes}
+use Rattle.std.proofs.Common.{sym, refl, ◌∙◌}
 use Rattle.sig_json.specs.Closed.{are_among}
 use Rattle.sig_json.specs.Gathered.{Entry}
 use Rattle.sig_json.specs.Only.{is_among}

@@ -21,7 +21,7 @@ use Rattle.sig_json.proofs.Tokens.{Means, object_meant, object_refused, text_rea
 use Rattle.sig_json.specs.Gathered.{Entry, gathered}
 use Rattle.sig_json.specs.Named.{IsNamed, NamesAscend, HasNamedValues}
 use Rattle.sig_json.specs.Only.{is_among, members_where}
-use Rattle.sig_json.specs.Skipped.{PassesValue, IsKept, KeepsMembers, KeepsOf, value_meant, members_meant}
+use Rattle.sig_json.specs.Skipped.{PassesValue, AreKeptMembers, KeepsMembers, KeepsOf, value_meant, members_meant}
 use Rattle.sig_json.specs.View.{view, members_view}
 use Rattle.sig_json.specs.declared.tree.Tree.{Tree}
 
@@ -37,7 +37,7 @@ pub record KeptSoFar (names : List (List ℕ)) (depth : ℕ) (start left : List 
   pub enough : length left ≤ turns
   pub meant : object_meant depth (length start) start no_members ≡ object_meant depth turns left all
   pub below : length left ≤ length start
-  pub part : IsKept names all (gathered found)
+  pub part : AreKeptMembers names all (gathered found)
   pub ascend : NamesAscend (gathered found)
   pub named : HasNamedValues (gathered found)
 

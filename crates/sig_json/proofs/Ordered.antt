@@ -19,6 +19,8 @@ use Rattle.std.specs.declared.cmp.Ordering.TheVariants.{Less, Equal, Greater}
 use Rattle.serde_json.specs.Data.{Data, Members, member, put}
 use Rattle.serde_json.specs.Find.{get, get_member, get_item, at}
 use Rattle.sig_json.proofs.ByOrdering.{choice_of_each}
+use Rattle.sig_json.proofs.Named.{keys-put}
+use Rattle.sig_base.specs.ByText.{KeysAscend}
 use Rattle.sig_json.specs.Gathered.{Entry, put_each, gathered, InOrder, IsPlaceOf}
 use Rattle.sig_json.specs.Members.{members_list}
 use Rattle.sig_json.specs.Named.{IsNamed}
@@ -253,4 +255,14 @@ pub ruleset in_trees = (in_order_from_named, found_in_object, found_in_array)
 
 pub ruleset placed = (put_here, put_between)
 
+-- what a put makes of members that ascend, ascends
+pub in_order-put : (es others : List Entry) (name : List ℕ) (d : Data) → InOrder es
+    → members_view others ≡ put name d (members_view es) → InOrder others
+in_order-put es others name d up is =
+    subst (λ ms. KeysAscend (members_list ms)) (sym is) (keys-put name d (members_view es) up)
+
 pub ruleset ordered = (ascending_stay, view-insert_entry)
+
+pub in_order-none : InOrder []
+unfolding IsStrictlySortedBy
+in_order-none = tt

@@ -8,7 +8,7 @@ alone x None = Some (Some x)
 alone x (Some y) = None
 
 -- the one member that is there, or that none is; nothing where two are
-abbrev pub at_most_one : {A : Type 0} → List (Option A) → Option (Option A)
-at_most_one [] = Some None
-at_most_one (None ∷ members) = at_most_one members
-at_most_one (Some x ∷ members) = at_most_one members >>= alone x
+abbrev pub oneof : {A : Type 0} → List (Option A) → Option (Option A)
+oneof [] = Some None
+oneof (None ∷ members) = oneof members
+oneof (Some x ∷ members) = oneof members >>= alone x

@@ -44,7 +44,7 @@ pub record PassesMembers (depth : ℕ) (ts rest : List Token) : Type 0 where
   pub whole : members_have_float members ≡ false
 
 -- of all members these are kept, and those that are not have no floats
-pub record IsKept (names : List (List ℕ)) (all kept : Members) : Type 0 where
+pub record AreKeptMembers (names : List (List ℕ)) (all kept : Members) : Type 0 where
   pub ascend : KeysAscend (members_list all)
   pub are : members_where (is_among names) all ≡ kept
   pub whole : members_have_float (members_where (λ name. not (is_among names name)) all) ≡ false
@@ -53,10 +53,10 @@ pub record IsKept (names : List (List ℕ)) (all kept : Members) : Type 0 where
 pub record KeepsMembers (names : List (List ℕ)) (depth : ℕ) (ts rest : List Token) (kept : Members) : Type 0 where
   pub all : Members
   pub are : members_meant depth ts ≡ Some (all, rest)
-  pub part : IsKept names all kept
+  pub part : AreKeptMembers names all kept
 
 -- the text is an object, of whose members these are kept
 pub record KeepsOf (names : List (List ℕ)) (text : List ℕ) (kept : Members) : Type 0 where
   pub all : Members
   pub is : read text ≡ Some (object all)
-  pub part : IsKept names all kept
+  pub part : AreKeptMembers names all kept

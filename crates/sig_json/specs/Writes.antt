@@ -13,9 +13,9 @@ use Rattle.sig_json.specs.declared.error.CanonicalError.{CanonicalError}
 use Rattle.sig_json.specs.declared.error.CanonicalError.TheVariants.{IntegerTooLarge}
 
 -- the part that is meant comes after the text before, and `IntegerTooLarge` where there is none, unless memory ran out
-abbrev pub Writes : {X : Type 0} → List ℕ → Result X CanonicalError → List ℕ → Option (List ℕ) → Type 0
-Writes before (Ok x) after meant = option_map (λ text. before ++ text) meant ≡ Some after
-Writes before (Err e) after meant = e ≡ IntegerTooLarge → meant ≡ None
+abbrev pub WritesPart : {X : Type 0} → List ℕ → Result X CanonicalError → List ℕ → Option (List ℕ) → Type 0
+WritesPart before (Ok x) after meant = option_map (λ text. before ++ text) meant ≡ Some after
+WritesPart before (Err e) after meant = e ≡ IntegerTooLarge → meant ≡ None
 
 -- before the part at this place of a list or an object
 abbrev pub comma_before : ℕ → List ℕ

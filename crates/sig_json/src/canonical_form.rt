@@ -13,7 +13,7 @@ ghost use Rattle.sig_json.specs.Large.{has_large};
 ghost use Rattle.sig_json.specs.Named.{IsNamed, AreNamed, NamesAscend, HasNamedValues};
 ghost use Rattle.sig_json.specs.Order.{KeepsOrder};
 ghost use Rattle.sig_json.specs.Tree.{tree};
-ghost use Rattle.sig_json.specs.Writes.{Writes, comma_before, by_units, member_text, pair_of, texts_in_turn};
+ghost use Rattle.sig_json.specs.Writes.{WritesPart, comma_before, by_units, member_text, pair_of, texts_in_turn};
 
 use crate::error::CanonicalError;
 use crate::named_member::Member;
@@ -46,7 +46,7 @@ pub fn canonical(alloc: Global, json: Json<'_>) -> Result<Text, CanonicalError>
 #[cycle(canon)]
 fn write_value(alloc: Global, value: &Tree, out: &mut String) -> Result<(), CanonicalError>
     requires { IsNamed (view value.now) }
-    ensures { Writes (string_bytes out.old) result (string_bytes out.new) (canon (view value.now)) }
+    ensures { WritesPart (string_bytes out.old) result (string_bytes out.new) (canon (view value.now)) }
 {
     match value {
         Tree::Null => Ok(write_text(out, "null")?),
@@ -68,7 +68,7 @@ fn write_text(out: &mut String, text: &str) -> Result<(), OutOfMemory>
 
 #[tactic(auto, unfolding(crate::specs::Canonical::canon_integer))]
 fn write_number(alloc: Global, number: &Number, out: &mut String) -> Result<(), CanonicalError>
-    ensures { Writes (string_bytes out.old) result (string_bytes out.new)
+    ensures { WritesPart (string_bytes out.old) result (string_bytes out.new)
         (option_and_then canon_integer (as_integer (number_view number.now))) }
 {
     let Some(integer) = number.as_i128() else {
@@ -117,7 +117,7 @@ fn write_comma(out: &mut String, place: usize) -> Result<(), OutOfMemory>
 #[tactic(auto, using(crate::proofs::MemberTexts::parts))]
 fn write_list(alloc: Global, items: &Vec<Tree>, out: &mut String) -> Result<(), CanonicalError>
     requires { AreNamed (items_view items.now.items) }
-    ensures { Writes (string_bytes out.old) result (string_bytes out.new)
+    ensures { WritesPart (string_bytes out.old) result (string_bytes out.new)
         (option_and_then (λ texts. Some (in_brackets texts)) (canon_items (items_view items.now.items))) }
 {
     write_text(out, "[")?;
@@ -136,7 +136,7 @@ fn write_object(
     out: &mut String,
 ) -> Result<(), CanonicalError>
     requires { NamesAscend (members_view members.now.items) × HasNamedValues (members_view members.now.items) }
-    ensures { Writes (string_bytes out.old) result (string_bytes out.new)
+    ensures { WritesPart (string_bytes out.old) result (string_bytes out.new)
         (option_and_then (λ sorted. Some (in_braces (values_of sorted)))
         (canon_members (members_view members.now.items) [])) }
 {
@@ -152,7 +152,7 @@ fn write_members(
     members: &Vec<Member<'_>>,
     out: &mut String,
 ) -> Result<(), CanonicalError>
-    ensures { Writes (string_bytes out.old) result (string_bytes out.new)
+    ensures { WritesPart (string_bytes out.old) result (string_bytes out.new)
         (option_and_then (λ texts. Some (in_braces texts)) (texts_in_turn (map pair_of members.now.items))) }
 {
     write_text(out, "{")?;
@@ -166,7 +166,7 @@ fn write_members(
 #[cycle(canon)]
 #[tactic(auto, using(crate::proofs::MemberTexts::parts))]
 fn write_member(alloc: Global, member: &Member<'_>, out: &mut String) -> Result<(), CanonicalError>
-    ensures { Writes (string_bytes out.old) result (string_bytes out.new) (member_text (pair_of member.now)) }
+    ensures { WritesPart (string_bytes out.old) result (string_bytes out.new) (member_text (pair_of member.now)) }
 {
     write_quoted(alloc, member.name, out)?;
     write_text(out, ":")?;

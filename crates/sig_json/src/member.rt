@@ -8,7 +8,7 @@ ghost use Rattle.sig_json.specs.Tree.{tree};
 
 use crate::element::{ElementReader, required};
 use crate::error::MemberError;
-use crate::integer::{signed, unsigned};
+use crate::integer::{i64_of, u64_of};
 use crate::kind::{BytesReader, TextReader, hash};
 use crate::view::Json;
 use sig_base::{Bytes, Text};
@@ -39,7 +39,7 @@ pub fn read_i64(json: Json<'_>, name: &str) -> Result<i64, MemberError>
     ensures no_memory { IfErr result (λ e. e ≡ MemberError.Member) }
 {
     match find_member(json, name)? {
-        Some(value) => signed(value).ok_or(MemberError::Member),
+        Some(value) => i64_of(value).ok_or(MemberError::Member),
         None => Ok(0),
     }
 }
@@ -53,7 +53,7 @@ pub fn read_u64(json: Json<'_>, name: &str) -> Result<u64, MemberError>
     ensures no_memory { IfErr result (λ e. e ≡ MemberError.Member) }
 {
     match find_member(json, name)? {
-        Some(value) => unsigned(value).ok_or(MemberError::Member),
+        Some(value) => u64_of(value).ok_or(MemberError::Member),
         None => Ok(0),
     }
 }
@@ -91,7 +91,7 @@ pub fn required_i64(json: Json<'_>, name: &str) -> Result<i64, MemberError>
     ensures no_memory { IfErr result (λ e. e ≡ MemberError.Member) }
 {
     match find_member(json, name)? {
-        Some(value) => signed(value).ok_or(MemberError::Member),
+        Some(value) => i64_of(value).ok_or(MemberError::Member),
         None => Err(MemberError::Member),
     }
 }
@@ -105,7 +105,7 @@ pub fn required_u64(json: Json<'_>, name: &str) -> Result<u64, MemberError>
     ensures no_memory { IfErr result (λ e. e ≡ MemberError.Member) }
 {
     match find_member(json, name)? {
-        Some(value) => unsigned(value).ok_or(MemberError::Member),
+        Some(value) => u64_of(value).ok_or(MemberError::Member),
         None => Err(MemberError::Member),
     }
 }

@@ -14,6 +14,9 @@ use std::alloc::Global;
 use std::cmp::Ordering;
 use std::collections::BTreeMap;
 
+/// So many members are put in order by insertion, and more by a map, whose nodes are large.
+const FEW: usize = 32;
+
 /// The value of a name.
 #[tactic(auto, using(crate::proofs::Ordered::found))]
 pub(crate) fn find<'a>(members: &'a Vec<(String, Tree)>, name: &str) -> Option<&'a Tree>
@@ -77,7 +80,43 @@ pub(crate) fn in_order(
     if ascends(members.as_slice()) {
         return Ok(members);
     }
-    sorted(alloc, members)
+    if members.len() <= FEW {
+        inserted(alloc, members)
+    } else {
+        sorted(alloc, members)
+    }
+}
+
+/// The same, for few members: each goes to its place among those before it.
+#[tactic(auto, using(crate::proofs::Ordered::ordered))]
+fn inserted(alloc: Global, members: Vec<(String, Tree)>) -> Result<Vec<(String, Tree)>, OutOfMemory>
+    ensures { IfOk result (λ ordered. members_view ordered.items ≡ gathered members.items) }
+{
+    let mut ordered = Vec::new(alloc);
+    ordered.reserve_exact(members.len())?;
+    'members: for (name, value) in members {
+        insert(&mut ordered, name, value)?;
+    }
+    Ok(ordered)
+}
+
+/// Sets the member of a name that is owned, as `put` does. Fails only if memory runs out.
+#[tactic(auto, using(crate::proofs::Ordered::placed))]
+fn insert(members: &mut Vec<(String, Tree)>, name: String, value: Tree) -> Result<(), OutOfMemory>
+    requires { InOrder members.old.items }
+    ensures { OnOk result (members_view members.new.items
+        ≡ with_member (string_bytes name) (view value) (members_view members.old.items)) }
+{
+    match search(members, name.as_str()) {
+        Ok(place) => {
+            members[place].1 = value;
+            Ok(())
+        }
+        Err(place) => {
+            members.insert(place, (name, value))?;
+            Ok(())
+        }
+    }
 }
 
 fn is_below(name: &str, other: &str) -> bool

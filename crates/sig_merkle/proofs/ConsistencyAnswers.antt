@@ -12,7 +12,8 @@ use Rattle.sig_base.specs.declared.merkle_error.MerkleProofError.TheVariants.{Un
 use Rattle.sig_base.specs.declared.merkle_error.MerkleProofError.TheVariants.{WrongProofSize, WrongEmptyTreeHash}
 use Rattle.sig_merkle.specs.Consistency.{roots_of, roots_len}
 use Rattle.sig_merkle.specs.Inclusion.{match_root}
-use Rattle.sig_merkle.specs.ConsistencyAnswer.{HasGrown, LeadsTo, IsSameTree, IsFromEmpty, IsConsistent, same_tree_answer}
+use Rattle.sig_merkle.specs.ConsistencyAnswer.{HasGrown, LeadsTo, IsSameTree, IsFromEmpty, IsConsistent}
+use Rattle.sig_merkle.specs.ConsistencyAnswer.{same_tree_answer}
 use Rattle.sig_merkle.specs.ConsistencyAnswer.{from_empty_answer, then_match, match_roots, growth_answer}
 use Rattle.sig_merkle.specs.ConsistencyAnswer.{consistency_answer, IsWrongGrowthSize, IsMismatch, IsConsistencyAnswer}
 use Rattle.sig_merkle.proofs.InclusionLaws.{match_root-same, match_root-apart, bytes_eq-apart, Ok-from_IsOk}

@@ -12,7 +12,8 @@ use Rattle.sig_merkle.specs.GrowthWalk.{climb_old, climb_new, walk_roots}
 use Rattle.sig_merkle.proofs.Levels.{by_power}
 use Rattle.sig_merkle.proofs.ConsistencyLaws.{roots_of-right}
 use Rattle.sig_merkle.proofs.ConsistencyLens.{roots_of-some}
-use Rattle.sig_merkle.proofs.WalkBits.{inner_len-left, border_len-left, inner_len-right, border_len-right, inner_len-low}
+use Rattle.sig_merkle.proofs.WalkBits.{inner_len-left, border_len-left, inner_len-right, border_len-right}
+use Rattle.sig_merkle.proofs.WalkBits.{inner_len-low}
 use Rattle.sig_merkle.proofs.WalkFolds.{inner_fold-above, border_fold-last}
 use Rattle.sig_merkle.proofs.Walks.{split_at, narrow}
 use Rattle.sig_merkle.proofs.GrowthBits.{shift-within, shift-above, mask-above}

@@ -21,7 +21,8 @@ subproof_at (suc level) old_size entries known =
     else (if nat_lt (2 ^ level) (length entries)
     then (if nat_le old_size (2 ^ level)
     then subproof_at level old_size (take (2 ^ level) entries) known ++ root (drop (2 ^ level) entries) ∷ []
-    else subproof_at level (old_size - 2 ^ level) (drop (2 ^ level) entries) false ++ root (take (2 ^ level) entries) ∷ [])
+    else subproof_at level (old_size - 2 ^ level) (drop (2 ^ level) entries) false
+    ++ root (take (2 ^ level) entries) ∷ [])
     else subproof_at level old_size entries known)
 
 -- SUBPROOF

@@ -7,15 +7,15 @@ use Rattle.std.proofs.lemmas.Bool.{cases_Bool, cond-true, cond-false, and_parts,
 use Rattle.sig_base.proofs.OptionSteps.{some_is}
 use Rattle.sig_certificate.specs.Certificate.{Extension, Cert}
 use Rattle.sig_certificate.specs.Lookups.{with_oid}
-use Rattle.sig_certificate.specs.Names.{Name, names_of}
+use Rattle.sig_certificate.specs.Names.{Name, general_names_of}
 use Rattle.sig_der.specs.ObjectIdentifiers.{fulcio, subject_alternative_name}
 use Rattle.sig_policy.specs.Claim.{Claim}
 use Rattle.sig_policy.specs.Held.{HasText, HasIdentities, HasIdentity, WhyNot, no_issuer, other_issuer, no_names}
 use Rattle.sig_policy.specs.Held.{other_names, refusal_for}
-use Rattle.sig_policy.specs.Identities.{identity_of, only_identities, identities, is_among}
+use Rattle.sig_policy.specs.Identities.{identity_of, only_identities, identities, is_among_identities}
 use Rattle.sig_policy.specs.Identities.{name_refusal, is_issued_by, identity_holds, identity_refusal}
 use Rattle.sig_policy.specs.Refusals.{Refusal, not_found}
-use Rattle.sig_policy.specs.Single.{extension_text, is_text, single_refusal}
+use Rattle.sig_policy.specs.Single.{extension_text, is_asked_text, single_refusal}
 use Rattle.sig_policy.proofs.SingleLaws.{text_takes, text_again, holds_from, holds_is}
 
 -- ---- the identities of a certificate
@@ -33,7 +33,7 @@ identities_takes c texts e = by_list (with_oid subject_alternative_name c.extens
         → only_identities es ≡ Some texts → HasIdentities c texts
     by_list [] is f = absurd cc
     by_list (x ∷ []) is f =
-        let n = named_takes (names_of x.value) texts f in
+        let n = named_takes (general_names_of x.value) texts f in
         record { extension = x; one = is; names = n.0; are = n.1.0; given = n.1.1 }
     by_list (x ∷ y ∷ es) is f = absurd cc
 
@@ -49,7 +49,7 @@ module _ (p : Claim) (c : Cert) where
   abbrev Issuer : Option (List ℕ)
   Issuer = extension_text (fulcio 1) c
 
-  among_takes : (o : Option (List (List ℕ))) → identities c ≡ o → is_among p.identity o ≡ true
+  among_takes : (o : Option (List (List ℕ))) → identities c ≡ o → is_among_identities p.identity o ≡ true
       → HasIdentity c p.identity
   among_takes None e is = absurd cc
   among_takes (Some texts) e is = record { texts = texts; are = identities_takes c texts e; named = is }
@@ -62,10 +62,10 @@ module _ (p : Claim) (c : Cert) where
 
   pub identity_held : (identity_holds p c ≡ true) ↔ (HasText (fulcio 1) c p.issuer × HasIdentity c p.identity)
   identity_held = (
-    (λ e. let parts = and_parts (is_issued_by p.issuer c) (is_among p.identity (identities c)) e in
+    (λ e. let parts = and_parts (is_issued_by p.issuer c) (is_among_identities p.identity (identities c)) e in
         (issuer_from parts.0, among_takes (identities c) refl parts.1)),
     (λ h. and_from _ _ (issuer_is h.0)
-        (ap (λ (o : Option (List (List ℕ))). is_among p.identity o) (identities_again c h.1.texts h.1.are)
+        (ap (λ (o : Option (List (List ℕ))). is_among_identities p.identity o) (identities_again c h.1.texts h.1.are)
         ∙ h.1.named)),
   )
 
@@ -78,15 +78,15 @@ module _ (p : Claim) (c : Cert) where
   by_issuer : (r : Refusal) → is_issued_by p.issuer c ≡ false → single_refusal (codes "OIDCIssuer") p.issuer Issuer ≡ r
       → Refused r
   by_issuer r out says = (
-    ap (λ (b : Bool). b && is_among p.identity (identities c)) out,
+    ap (λ (b : Bool). b && is_among_identities p.identity (identities c)) out,
     cond-false (is_issued_by p.issuer c) _ _ out
         ∙ says,
   )
 
-  by_names : (r : Refusal) → HasText (fulcio 1) c p.issuer → is_among p.identity (identities c) ≡ false
+  by_names : (r : Refusal) → HasText (fulcio 1) c p.issuer → is_among_identities p.identity (identities c) ≡ false
       → name_refusal p.identity (identities c) ≡ r → Refused r
   by_names r issuer out says = (
-    ap (λ (b : Bool). b && is_among p.identity (identities c)) (issuer_is issuer) ∙ out,
+    ap (λ (b : Bool). b && is_among_identities p.identity (identities c)) (issuer_is issuer) ∙ out,
     cond-true (is_issued_by p.issuer c) _ _ (issuer_is issuer) ∙ says,
   )
 
@@ -104,7 +104,7 @@ module _ (p : Claim) (c : Cert) where
     where
       by_text : (o : Option (List ℕ)) → Issuer ≡ o → Refused not_found
       by_text None e =
-          by_issuer not_found (ap (λ (o : Option (List ℕ)). is_text p.issuer o) e)
+          by_issuer not_found (ap (λ (o : Option (List ℕ)). is_asked_text p.issuer o) e)
           (ap (λ (o : Option (List ℕ)). single_refusal (codes "OIDCIssuer") p.issuer o) e)
       by_text (Some text) e = absurd (none text (text_takes (fulcio 1) c text e))
   caused (other_issuer actual has other) =
@@ -115,18 +115,19 @@ module _ (p : Claim) (c : Cert) where
     where
       by_option : (o : Option (List (List ℕ))) → identities c ≡ o → Refused not_found
       by_option None e =
-          by_names not_found issuer (ap (λ (o : Option (List (List ℕ))). is_among p.identity o) e)
+          by_names not_found issuer (ap (λ (o : Option (List (List ℕ))). is_among_identities p.identity o) e)
           (ap (λ (o : Option (List (List ℕ))). name_refusal p.identity o) e)
       by_option (Some texts) e = absurd (none texts (identities_takes c texts e))
   caused (other_names texts issuer has none) =
       let is = identities_again c texts has in
-      by_names _ issuer (ap (λ (o : Option (List (List ℕ))). is_among p.identity o) is ∙ none)
+      by_names _ issuer (ap (λ (o : Option (List (List ℕ))). is_among_identities p.identity o) is ∙ none)
       (ap (λ (o : Option (List (List ℕ))). name_refusal p.identity o) is)
 
-  why_names : HasText (fulcio 1) c p.issuer → is_among p.identity (identities c) ≡ false → WhyNot p c
+  why_names : HasText (fulcio 1) c p.issuer → is_among_identities p.identity (identities c) ≡ false → WhyNot p c
   why_names issuer out = by_option (identities c) refl out
     where
-      by_option : (o : Option (List (List ℕ))) → identities c ≡ o → is_among p.identity o ≡ false → WhyNot p c
+      by_option : (o : Option (List (List ℕ))) → identities c ≡ o → is_among_identities p.identity o ≡ false
+          → WhyNot p c
       by_option None e f = no_names issuer (λ texts has. let some = sym (identities_again c texts has) ∙ e in cc)
       by_option (Some texts) e f = other_names texts issuer (identities_takes c texts e) f
 
@@ -145,7 +146,8 @@ module _ (p : Claim) (c : Cert) where
   why fails =
       elim (cases_Bool (is_issued_by p.issuer c)) [
         | inl issued ↦
-            why_names (issuer_from issued) (sym (ap (λ (b : Bool). b && is_among p.identity (identities c)) issued)
+            why_names (issuer_from issued) (sym (ap (λ (b : Bool). b && is_among_identities p.identity (identities c))
+            issued)
             ∙ fails)
         | inr out ↦ why_issuer out
       ]

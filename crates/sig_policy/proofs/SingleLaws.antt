@@ -11,7 +11,7 @@ use Rattle.sig_certificate.specs.Certificate.{Extension, Cert}
 use Rattle.sig_certificate.specs.Lookups.{with_oid}
 use Rattle.sig_policy.specs.Held.{HasText}
 use Rattle.sig_policy.specs.Refusals.{not_found, check_failed}
-use Rattle.sig_policy.specs.Single.{only_text, extension_text, is_text, single_refusal}
+use Rattle.sig_policy.specs.Single.{only_text, extension_text, is_asked_text, single_refusal}
 use Rattle.sig_policy.specs.Texts.{utf8_text}
 use Rattle.sig_policy.specs.Verdict.{IsPolicyResult}
 use Rattle.sig_policy.specs.declared.failure.PolicyError.TheVariants.{ExtensionNotFound, ExtensionCheckFailed}
@@ -47,22 +47,26 @@ text_again oid c text h =
 -- ---- the policy
 
 module _ (name asked : List ℕ) where
-  pub holds_from : (x : Option (List ℕ)) → is_text asked x ≡ true → x ≡ Some asked
+  pub holds_from : (x : Option (List ℕ)) → is_asked_text asked x ≡ true → x ≡ Some asked
   holds_from None e = absurd cc
   holds_from (Some actual) e = ap (λ (w : List ℕ). Some w) ((bytes_eq-Decides actual asked).0 e)
 
-  pub holds_is : (x : Option (List ℕ)) → x ≡ Some asked → is_text asked x ≡ true
-  holds_is x e = ap (λ (y : Option (List ℕ)). is_text asked y) e ∙ (bytes_eq-Decides asked asked).1 refl
+  pub holds_is : (x : Option (List ℕ)) → x ≡ Some asked → is_asked_text asked x ≡ true
+  holds_is x e = ap (λ (y : Option (List ℕ)). is_asked_text asked y) e ∙ (bytes_eq-Decides asked asked).1 refl
 
   missing_from : (x : Option (List ℕ)) → single_refusal name asked x ≡ not_found → x ≡ None
   missing_from None e = refl
   missing_from (Some actual) e = absurd cc
 
-  missing_is : (x : Option (List ℕ)) → x ≡ None → (is_text asked x ≡ false) × (single_refusal name asked x ≡ not_found)
-  missing_is x e =
-      (ap (λ (y : Option (List ℕ)). is_text asked y) e, ap (λ (y : Option (List ℕ)). single_refusal name asked y) e)
+  missing_is : (x : Option (List ℕ)) → x ≡ None → (is_asked_text asked x ≡ false) ×
+      (single_refusal name asked x ≡ not_found)
+  missing_is x e = (
+    ap (λ (y : Option (List ℕ)). is_asked_text asked y) e,
+    ap
+        (λ (y : Option (List ℕ)). single_refusal name asked y) e,
+  )
 
-  differs_from : (x : Option (List ℕ)) (actual : List ℕ) → is_text asked x ≡ false
+  differs_from : (x : Option (List ℕ)) (actual : List ℕ) → is_asked_text asked x ≡ false
       → single_refusal name asked x ≡ check_failed name asked actual
       → (x ≡ Some actual) × (actual ≢ asked)
   differs_from None actual fails e = absurd cc
@@ -73,9 +77,9 @@ module _ (name asked : List ℕ) where
       )
 
   differs_is : (x : Option (List ℕ)) (actual : List ℕ) → x ≡ Some actual → actual ≢ asked
-      → (is_text asked x ≡ false) × (single_refusal name asked x ≡ check_failed name asked actual)
+      → (is_asked_text asked x ≡ false) × (single_refusal name asked x ≡ check_failed name asked actual)
   differs_is x actual e other = (
-    ap (λ (y : Option (List ℕ)). is_text asked y) e ∙ unequal (bytes_eq actual asked) refl,
+    ap (λ (y : Option (List ℕ)). is_asked_text asked y) e ∙ unequal (bytes_eq actual asked) refl,
     ap (λ (y : Option (List ℕ)). single_refusal name asked y) e,
   )
     where
@@ -84,7 +88,8 @@ module _ (name asked : List ℕ) where
       unequal false is = is
 
 module _ (name asked oid : List ℕ) (c : Cert) (r : Answer)
-    (is : IsPolicyResult (is_text asked (extension_text oid c)) (single_refusal name asked (extension_text oid c)) r)
+    (is : IsPolicyResult (is_asked_text asked (extension_text oid c))
+    (single_refusal name asked (extension_text oid c)) r)
   where
     abbrev Text : Option (List ℕ)
     Text = extension_text oid c

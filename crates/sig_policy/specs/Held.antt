@@ -4,7 +4,7 @@ use Rattle.std.specs.Str.{IsUtf8, bytes_eq}
 use Rattle.std.specs.List.{filter_map, list_any, join_by}
 use Rattle.sig_certificate.specs.Certificate.{Extension, Cert}
 use Rattle.sig_certificate.specs.Lookups.{with_oid}
-use Rattle.sig_certificate.specs.Names.{Name, names_of}
+use Rattle.sig_certificate.specs.Names.{Name, general_names_of}
 use Rattle.sig_der.specs.ObjectIdentifiers.{subject_alternative_name, fulcio}
 use Rattle.sig_policy.specs.Claim.{Claim}
 use Rattle.sig_policy.specs.Identities.{identity_of}
@@ -23,7 +23,7 @@ pub record HasIdentities (c : Cert) (texts : List (List ℕ)) : Type 0 where
   pub extension : Extension
   pub one : with_oid subject_alternative_name c.extensions ≡ extension ∷ []
   pub names : List Name
-  pub are : names_of extension.value ≡ Some names
+  pub are : general_names_of extension.value ≡ Some names
   pub given : filter_map identity_of names ≡ texts
 
 -- The certificate has this identity: it is one of those that its names give.

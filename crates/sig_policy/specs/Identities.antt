@@ -7,9 +7,9 @@ use Rattle.sig_certificate.specs.Certificate.{Extension, Cert}
 use Rattle.sig_policy.specs.Claim.{Claim}
 use Rattle.sig_certificate.specs.Lookups.{with_oid}
 use Rattle.sig_policy.specs.Texts.{utf8_text}
-use Rattle.sig_certificate.specs.Names.{Name, Email, Uri, Other, Unread, names_of}
+use Rattle.sig_certificate.specs.Names.{Name, Email, Uri, Other, Unread, general_names_of}
 use Rattle.sig_der.specs.ObjectIdentifiers.{subject_alternative_name, fulcio}
-use Rattle.sig_policy.specs.Single.{extension_text, is_text, single_refusal}
+use Rattle.sig_policy.specs.Single.{extension_text, is_asked_text, single_refusal}
 use Rattle.sig_policy.specs.Refusals.{Refusal, not_found, check_failed}
 
 -- the identity that a name gives: the text of an email, of a URI, or of an other name of Fulcio's kind,
@@ -22,7 +22,7 @@ identity_of Unread = None
 
 -- the identities that a subject alternative name of this value gives, in order; absent if it is malformed
 abbrev pub identities_of : List ℕ → Option (List (List ℕ))
-identities_of value = option_map (λ ns. filter_map identity_of ns) (names_of value)
+identities_of value = option_map (λ ns. filter_map identity_of ns) (general_names_of value)
 
 -- those of the only extension
 abbrev pub only_identities : List Extension → Option (List (List ℕ))
@@ -34,9 +34,9 @@ abbrev pub identities : Cert → Option (List (List ℕ))
 identities c = only_identities (with_oid subject_alternative_name c.extensions)
 
 -- the identities are there, and this is one of them
-abbrev pub is_among : List ℕ → Option (List (List ℕ)) → Bool
-is_among identity None = false
-is_among identity (Some texts) = list_any (λ t. bytes_eq t identity) texts
+abbrev pub is_among_identities : List ℕ → Option (List (List ℕ)) → Bool
+is_among_identities identity None = false
+is_among_identities identity (Some texts) = list_any (λ t. bytes_eq t identity) texts
 
 -- why the identity is not among them
 abbrev pub name_refusal : List ℕ → Option (List (List ℕ)) → Refusal
@@ -45,10 +45,10 @@ name_refusal identity (Some texts) = check_failed (codes "SubjectAltName") ident
     (codes ", ") texts)
 
 abbrev pub is_issued_by : List ℕ → Cert → Bool
-is_issued_by issuer c = is_text issuer (extension_text (fulcio 1) c)
+is_issued_by issuer c = is_asked_text issuer (extension_text (fulcio 1) c)
 
 abbrev pub identity_holds : Claim → Cert → Bool
-identity_holds p c = is_issued_by p.issuer c && is_among p.identity (identities c)
+identity_holds p c = is_issued_by p.issuer c && is_among_identities p.identity (identities c)
 
 -- the issuer is asked first
 abbrev pub identity_refusal : Claim → Cert → Refusal

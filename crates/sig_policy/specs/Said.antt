@@ -17,8 +17,8 @@ pub record Values : Type 0 where
   pub git_ref : Option (List ℕ)
   pub identities : Option (List (List ℕ))
 
-abbrev pub values_of : Cert → Values
-values_of c =
+abbrev pub extension_values_of : Cert → Values
+extension_values_of c =
     record {
       issuer = extension_text (fulcio 1) c;
       trigger = extension_text (fulcio 2) c;

@@ -16,9 +16,9 @@ abbrev pub extension_text : List ℕ → Cert → Option (List ℕ)
 extension_text oid c = only_text (with_oid oid c.extensions)
 
 -- the text is there, and it is this one
-abbrev pub is_text : List ℕ → Option (List ℕ) → Bool
-is_text asked None = false
-is_text asked (Some actual) = bytes_eq actual asked
+abbrev pub is_asked_text : List ℕ → Option (List ℕ) → Bool
+is_asked_text asked None = false
+is_asked_text asked (Some actual) = bytes_eq actual asked
 
 -- why the text is not the one asked for: it is absent, or another
 abbrev pub single_refusal : List ℕ → List ℕ → Option (List ℕ) → Refusal

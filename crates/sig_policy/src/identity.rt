@@ -3,7 +3,8 @@
 ghost use Rattle.std.specs.Prelude.{◌≡◌, Some, option_map, map, codes, IfOk};
 ghost use Rattle.std.specs.List.{list_any, join_by};
 ghost use Rattle.std.specs.Str.{bytes_eq};
-ghost use Rattle.sig_policy.specs.Identities.{identities, is_among, name_refusal, identity_holds, identity_refusal};
+ghost use Rattle.sig_policy.specs.Identities.{identities, is_among_identities, name_refusal, identity_holds};
+ghost use Rattle.sig_policy.specs.Identities.{identity_refusal};
 ghost use Rattle.sig_policy.specs.Verdict.{IsPolicyResult};
 
 use crate::failure::PolicyError;
@@ -77,7 +78,7 @@ impl VerificationPolicy for Identity {
 
 fn verify_name(alloc: Global, identity: &str, cert: &Certificate) -> PolicyResult
     ensures { IsPolicyResult
-        (is_among identity.now (identities cert.now))
+        (is_among_identities identity.now (identities cert.now))
         (name_refusal identity.now (identities cert.now))
         result }
 {
@@ -88,7 +89,7 @@ fn verify_name(alloc: Global, identity: &str, cert: &Certificate) -> PolicyResul
 /// Returns what the policy returns, if its issuer is the certificate's and the certificate names these identities.
 pub(crate) fn judge_name(alloc: Global, identity: &str, texts: &Option<Vec<&str>>) -> PolicyResult
     ensures { IsPolicyResult
-        (is_among identity.now (option_map (λ v. map (λ t. t.now) v.items) texts.now))
+        (is_among_identities identity.now (option_map (λ v. map (λ t. t.now) v.items) texts.now))
         (name_refusal identity.now (option_map (λ v. map (λ t. t.now) v.items) texts.now))
         result }
 {
@@ -100,7 +101,7 @@ pub(crate) fn judge_name(alloc: Global, identity: &str, texts: &Option<Vec<&str>
 
 fn verify_among(alloc: Global, identity: &str, texts: &[&str]) -> PolicyResult
     ensures { IsPolicyResult
-        (is_among identity.now (Some (map (λ t. t.now) texts.now)))
+        (is_among_identities identity.now (Some (map (λ t. t.now) texts.now)))
         (name_refusal identity.now (Some (map (λ t. t.now) texts.now)))
         result }
 {

@@ -1,7 +1,7 @@
 //! The identities that a certificate names, each found without a look at the others.
 
 ghost use Rattle.std.specs.Prelude.{◌≡◌, ℕ, List, option_map, map, IfOk};
-ghost use Rattle.sig_policy.specs.Identities.{is_among};
+ghost use Rattle.sig_policy.specs.Identities.{is_among_identities};
 ghost use Rattle.sig_policy.specs.IdentitySet.{has_text};
 
 use sig_base::OutOfMemory;
@@ -15,7 +15,7 @@ pub(crate) struct IdentitySet<'a> {
     pub(crate) texts: Option<Vec<&'a str>>,
     set: BTreeSet<&'a str>,
     ghost same: { (identity : List ℕ) → has_text set.keys identity
-        ≡ is_among identity (option_map (λ v. map (λ t. t.now) v.items) texts) },
+        ≡ is_among_identities identity (option_map (λ v. map (λ t. t.now) v.items) texts) },
 }
 
 impl<'a> IdentitySet<'a> {
@@ -35,7 +35,8 @@ impl<'a> IdentitySet<'a> {
 
     /// Whether the identities are there, and this is one of them.
     pub(crate) fn has(&self, identity: &str) -> bool
-        ensures { result ≡ is_among identity.now (option_map (λ v. map (λ t. t.now) v.items) self.now.texts) }
+        ensures { result ≡ is_among_identities identity.now
+            (option_map (λ v. map (λ t. t.now) v.items) self.now.texts) }
     {
         has(&self.set, identity)
     }

@@ -2,7 +2,8 @@
 
 ghost use Rattle.std.specs.Prelude.{◌≡◌, length, IfOk};
 ghost use Rattle.std.specs.List.{list_all, list_any};
-ghost use Rattle.sig_policy.specs.Requests.{leaf_holds, leaf_refusal, refused, refusals, all_refusal, request_holds};
+ghost use Rattle.sig_policy.specs.Requests.{leaf_holds, leaf_policy_refusal, refused, refusals, all_refusal};
+ghost use Rattle.sig_policy.specs.Requests.{request_holds};
 ghost use Rattle.sig_policy.specs.Requests.{request_refusal};
 ghost use Rattle.sig_policy.specs.Failures.{failures};
 ghost use Rattle.sig_policy.specs.Refusals.{any_of, refusals_of, AreRefusals, IsRefusalOf};
@@ -16,7 +17,7 @@ use crate::fulcio::{
 use crate::identity::Identity;
 use crate::policy::{PolicyResult, VerificationPolicy};
 use crate::said::said_by;
-use crate::subject::Subject;
+use crate::subject::PolicySubject;
 use sig_base::{OutOfMemory, Register};
 use sig_certificate::Certificate;
 use std::alloc::Global;
@@ -55,7 +56,7 @@ pub enum RequestPolicy {
 impl VerificationPolicy for LeafPolicy {
     ghost holds = { leaf_holds };
 
-    ghost refusal = { leaf_refusal };
+    ghost refusal = { leaf_policy_refusal };
 
     /// Returns what the policy returns that it holds.
     fn verify(&self, alloc: Global, cert: &Certificate) -> PolicyResult {
@@ -90,7 +91,7 @@ impl VerificationPolicy for RequestPolicy {
 }
 
 /// Returns `None` if the policy holds, else its refusal. Fails only if out of memory.
-fn refused<P, S: Subject<P>>(
+fn refused<P, S: PolicySubject<P>>(
     alloc: Global,
     policy: &P,
     subject: &S,
@@ -106,7 +107,7 @@ fn refused<P, S: Subject<P>>(
 }
 
 /// Returns the refusals of the policies that do not hold, in order. Fails only if out of memory.
-fn refusals<P, S: Subject<P>>(
+fn refusals<P, S: PolicySubject<P>>(
     alloc: Global,
     policies: &[P],
     subject: &S,
@@ -124,7 +125,7 @@ fn refusals<P, S: Subject<P>>(
     Ok(errors)
 }
 
-pub(crate) fn verify_all<P, S: Subject<P>>(
+pub(crate) fn verify_all<P, S: PolicySubject<P>>(
     alloc: Global,
     policies: &[P],
     subject: &S,
@@ -141,7 +142,7 @@ pub(crate) fn verify_all<P, S: Subject<P>>(
     Err(all_of(policies.len(), errors))
 }
 
-pub(crate) fn verify_any<P, S: Subject<P>>(
+pub(crate) fn verify_any<P, S: PolicySubject<P>>(
     alloc: Global,
     policies: &[P],
     subject: &S,

@@ -4,14 +4,14 @@
 
 ghost use Rattle.std.specs.Prelude.{◌≡◌, IfOk};
 ghost use Rattle.sig_policy.specs.Requests.{holds_by, refusal_by};
-ghost use Rattle.sig_policy.specs.Said.{said_values, values_of};
+ghost use Rattle.sig_policy.specs.Said.{said_values, extension_values_of};
 
 use crate::identity::{identities, judge_name};
 use crate::identity_set::IdentitySet;
 use crate::policy::PolicyResult;
 use crate::request::LeafPolicy;
-use crate::single::{extension_text, is_text, judge_text};
-use crate::subject::Subject;
+use crate::single::{extension_text, is_asked_text, judge_text};
+use crate::subject::PolicySubject;
 use sig_base::OutOfMemory;
 use sig_certificate::Certificate;
 use sig_der::oid;
@@ -32,7 +32,7 @@ pub(crate) struct Said<'a> {
 
 /// Returns what the certificate says. Fails only if out of memory.
 pub(crate) fn said_by(alloc: Global, cert: &Certificate) -> Result<Said<'_>, OutOfMemory>
-    ensures { IfOk result (λ s. said_values s ≡ values_of cert.now) }
+    ensures { IfOk result (λ s. said_values s ≡ extension_values_of cert.now) }
 {
     let texts = identities(alloc, cert)?;
     let identities = IdentitySet::new(alloc, texts)?;
@@ -47,7 +47,7 @@ pub(crate) fn said_by(alloc: Global, cert: &Certificate) -> Result<Said<'_>, Out
     })
 }
 
-impl Subject<LeafPolicy> for Said<'_> {
+impl PolicySubject<LeafPolicy> for Said<'_> {
     ghost holds = { λ s p. holds_by p (said_values s) };
 
     ghost refusal = { λ s p. refusal_by p (said_values s) };
@@ -75,14 +75,15 @@ impl Subject<LeafPolicy> for Said<'_> {
     /// Takes no memory.
     fn meets(&self, _alloc: Global, policy: &LeafPolicy) -> Result<bool, OutOfMemory> {
         Ok(match policy {
-            LeafPolicy::OIDCIssuer(policy) => is_text(policy, self.issuer),
-            LeafPolicy::GitHubWorkflowTrigger(policy) => is_text(policy, self.trigger),
-            LeafPolicy::GitHubWorkflowSHA(policy) => is_text(policy, self.sha),
-            LeafPolicy::GitHubWorkflowName(policy) => is_text(policy, self.name),
-            LeafPolicy::GitHubWorkflowRepository(policy) => is_text(policy, self.repository),
-            LeafPolicy::GitHubWorkflowRef(policy) => is_text(policy, self.git_ref),
+            LeafPolicy::OIDCIssuer(policy) => is_asked_text(policy, self.issuer),
+            LeafPolicy::GitHubWorkflowTrigger(policy) => is_asked_text(policy, self.trigger),
+            LeafPolicy::GitHubWorkflowSHA(policy) => is_asked_text(policy, self.sha),
+            LeafPolicy::GitHubWorkflowName(policy) => is_asked_text(policy, self.name),
+            LeafPolicy::GitHubWorkflowRepository(policy) => is_asked_text(policy, self.repository),
+            LeafPolicy::GitHubWorkflowRef(policy) => is_asked_text(policy, self.git_ref),
             LeafPolicy::Identity(policy) => {
-                is_text(policy.issuer(), self.issuer) && self.identities.has(policy.identity())
+                is_asked_text(policy.issuer(), self.issuer)
+                    && self.identities.has(policy.identity())
             }
         })
     }

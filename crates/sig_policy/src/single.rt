@@ -3,7 +3,7 @@
 ghost use Rattle.std.specs.Prelude.{◌≡◌, ◌≢◌, ℕ, List, Ok, Err, IfOk, option_map};
 ghost use Rattle.sig_base.specs.Answers.{ComesWhere};
 ghost use Rattle.sig_certificate.specs.Certificate.{Cert};
-ghost use Rattle.sig_policy.specs.Single.{extension_text, is_text, single_refusal};
+ghost use Rattle.sig_policy.specs.Single.{extension_text, is_asked_text, single_refusal};
 ghost use Rattle.sig_policy.specs.Held.{HasText};
 ghost use Rattle.sig_policy.specs.Refusals.{IsRefusal, check_failed};
 ghost use Rattle.sig_policy.specs.Verdict.{IsPolicyResult};
@@ -76,7 +76,7 @@ pub fn verify_single<T: SingleX509ExtPolicy>(
         (HasText T.identifier cert.now actual × (actual ≢ T.asked policy.now)) }
     // The same by the definition.
     ensures verdict { IsPolicyResult
-        (is_text (T.asked policy.now) (extension_text T.identifier cert.now))
+        (is_asked_text (T.asked policy.now) (extension_text T.identifier cert.now))
         (single_refusal T.title (T.asked policy.now) (extension_text T.identifier cert.now))
         result }
 {
@@ -85,7 +85,7 @@ pub fn verify_single<T: SingleX509ExtPolicy>(
 
 fn check<T: SingleX509ExtPolicy>(alloc: Global, policy: &T, cert: &Certificate) -> PolicyResult
     ensures { IsPolicyResult
-        (is_text (T.asked policy.now) (extension_text T.identifier cert.now))
+        (is_asked_text (T.asked policy.now) (extension_text T.identifier cert.now))
         (single_refusal T.title (T.asked policy.now) (extension_text T.identifier cert.now))
         result }
 {
@@ -93,8 +93,8 @@ fn check<T: SingleX509ExtPolicy>(alloc: Global, policy: &T, cert: &Certificate) 
 }
 
 /// Whether the text of the policy's extension is there, and is the one that the policy asks for.
-pub(crate) fn is_text<T: SingleX509ExtPolicy>(policy: &T, text: Option<&str>) -> bool
-    ensures { result ≡ is_text (T.asked policy.now) (option_map (λ t. t.now) text.entry) }
+pub(crate) fn is_asked_text<T: SingleX509ExtPolicy>(policy: &T, text: Option<&str>) -> bool
+    ensures { result ≡ is_asked_text (T.asked policy.now) (option_map (λ t. t.now) text.entry) }
 {
     match text {
         Some(actual) => actual == policy.value(),
@@ -109,7 +109,7 @@ pub(crate) fn judge_text<T: SingleX509ExtPolicy>(
     text: Option<&str>,
 ) -> PolicyResult
     ensures { IsPolicyResult
-        (is_text (T.asked policy.now) (option_map (λ t. t.now) text.entry))
+        (is_asked_text (T.asked policy.now) (option_map (λ t. t.now) text.entry))
         (single_refusal T.title (T.asked policy.now) (option_map (λ t. t.now) text.entry))
         result }
 {
@@ -139,7 +139,7 @@ pub(crate) fn check_failed(
 }
 
 impl<T: SingleX509ExtPolicy + Drop> VerificationPolicy for T {
-    ghost holds = { λ p c. is_text (T.asked p) (extension_text T.identifier c) };
+    ghost holds = { λ p c. is_asked_text (T.asked p) (extension_text T.identifier c) };
 
     ghost refusal = { λ p c. single_refusal T.title (T.asked p) (extension_text T.identifier c) };
 

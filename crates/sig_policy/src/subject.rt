@@ -11,7 +11,7 @@ use sig_certificate::Certificate;
 use std::alloc::Global;
 
 /// What policies of a type are asked of.
-pub(crate) trait Subject<P> {
+pub(crate) trait PolicySubject<P> {
     // The policies that hold of it.
     ghost holds: { Self → P → Bool };
 
@@ -27,7 +27,7 @@ pub(crate) trait Subject<P> {
         ensures { IfOk result (λ b. b ≡ holds self.now policy.now) };
 }
 
-impl<P: VerificationPolicy> Subject<P> for Certificate {
+impl<P: VerificationPolicy> PolicySubject<P> for Certificate {
     ghost holds = { λ c p. P.holds p c };
 
     ghost refusal = { λ c p. P.refusal p c };

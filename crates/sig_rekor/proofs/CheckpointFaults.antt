@@ -5,13 +5,14 @@ use Rattle.std.specs.List.{AllByRecursion}
 use Rattle.sig_base.specs.declared.fault.CheckpointFault.{CheckpointFault}
 use Rattle.sig_rekor.specs.declared.checkpoint.Checkpoint.{Checkpoint}
 use Rattle.sig_rekor.specs.declared.checkpoint.CheckpointSignature.{CheckpointSignature}
-use Rattle.sig_rekor.specs.Cut.{cut_at, parts, trimmed}
+use Rattle.sig_rekor.specs.Cut.{cut_at, parts_between, trimmed}
 use Rattle.sig_rekor.specs.Reading.{each}
 use Rattle.sig_rekor.specs.NoteText.{note_of}
 use Rattle.sig_rekor.specs.SignatureText.{signature_of}
 use Rattle.sig_rekor.specs.CheckpointText.{quotation_mark, empty_line, is_written, signatures_by, checkpoint_of}
 use Rattle.sig_rekor.specs.Faults.{IsPieceFault, StandsForSignature, HasPieces, IsNoteFault, IsCheckpointFault}
-use Rattle.sig_rekor.proofs.Cutting.{cut_at-some, cut_at-none, cut_at-cut, cut_at-lacks, parts-found, parts-only}
+use Rattle.sig_rekor.proofs.Cutting.{cut_at-some, cut_at-none, cut_at-cut, cut_at-lacks, parts_between-found}
+use Rattle.sig_rekor.proofs.Cutting.{parts_between-only}
 use Rattle.sig_rekor.proofs.Cutting.{trimmed-found, trimmed-only}
 use Rattle.sig_rekor.proofs.NoteFaults.{note-fails, note-only_fails}
 use Rattle.sig_rekor.proofs.SignatureLaws.{signature-found, signature-only}
@@ -85,16 +86,16 @@ checkpoint-fails text fault e = by_cut (cut_at empty_line (trimmed quotation_mar
       )
   by_cut (Some cut) is = inr (cut.0, written, has, read (each signature_of written) refl) where
     written : List (List ℕ)
-    written = filter is_written (parts empty_line cut.1)
+    written = filter is_written (parts_between empty_line cut.1)
 
     has : HasPieces text cut.0 written
     has = record {
       body = trimmed quotation_mark text;
       rest = cut.1;
-      pieces = parts empty_line cut.1;
+      pieces = parts_between empty_line cut.1;
       quotes = trimmed-found quotation_mark text;
       split = cut_at-some empty_line (trimmed quotation_mark text) cut.0 cut.1 is;
-      between = parts-found empty_line cut.1 (omega arith);
+      between = parts_between-found empty_line cut.1 (omega arith);
       kept = refl;
     }
 
@@ -121,7 +122,7 @@ checkpoint-only_fails text fault (inr (note_part, written, has, inl pieces)) =
     rw (
       trimmed-only quotation_mark text has.body has.quotes,
       cut_at-cut empty_line has.body note_part has.rest (omega arith) has.split,
-      parts-only empty_line has.rest has.pieces (omega arith) has.between,
+      parts_between-only empty_line has.rest has.pieces (omega arith) has.between,
       ← has.kept,
       pieces-only_fail written fault pieces,
     ) refl
@@ -130,7 +131,7 @@ checkpoint-only_fails text fault (inr (note_part, written, has, inr (all, noted)
     rw (
       trimmed-only quotation_mark text has.body has.quotes,
       cut_at-cut empty_line has.body note_part has.rest (omega arith) has.split,
-      parts-only empty_line has.rest has.pieces (omega arith) has.between,
+      parts_between-only empty_line has.rest has.pieces (omega arith) has.between,
       ← has.kept,
       read.1,
       note-only_fails note_part fault noted,

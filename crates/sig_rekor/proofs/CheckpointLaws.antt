@@ -2,12 +2,13 @@
 use Rattle.std.proofs.Common.{◌≡◌, ℕ, List, Option, Some, None, Ok, refl, subst, arith, filter}
 use Rattle.sig_base.proofs.ResultSteps.{bind_ok}
 use Rattle.sig_rekor.specs.declared.checkpoint.SignedCheckpoint.{SignedCheckpoint}
-use Rattle.sig_rekor.specs.Cut.{cut_at, parts, trimmed}
+use Rattle.sig_rekor.specs.Cut.{cut_at, parts_between, trimmed}
 use Rattle.sig_rekor.specs.NoteText.{note_of}
 use Rattle.sig_rekor.specs.SignatureText.{IsSignature, signature_of}
 use Rattle.sig_rekor.specs.CheckpointText.{quotation_mark, empty_line, is_written, IsCheckpoint, signatures_by}
 use Rattle.sig_rekor.specs.CheckpointText.{checkpoint_by, checkpoint_of}
-use Rattle.sig_rekor.proofs.Cutting.{cut_at-some, cut_at-cut, parts-found, parts-only, trimmed-found, trimmed-only}
+use Rattle.sig_rekor.proofs.Cutting.{cut_at-some, cut_at-cut, parts_between-found, parts_between-only, trimmed-found}
+use Rattle.sig_rekor.proofs.Cutting.{trimmed-only}
 use Rattle.sig_rekor.proofs.Steps.{each-found, each-only}
 use Rattle.sig_rekor.proofs.NoteLaws.{note-found, note-only}
 use Rattle.sig_rekor.proofs.SignatureLaws.{signature-found, signature-only}
@@ -18,7 +19,7 @@ cut-found : (text : List ℕ) (checkpoint : SignedCheckpoint) (o : Option (List 
 unfolding signatures_by
 cut-found text checkpoint None cut e = cc
 cut-found text checkpoint (Some split) cut e =
-    let a = bind_ok (signatures_by (parts empty_line split.1)) _ checkpoint e in
+    let a = bind_ok (signatures_by (parts_between empty_line split.1)) _ checkpoint e in
     let b = bind_ok (note_of split.0) _ checkpoint a.2 in
     let made : SignedCheckpoint = record { note = b.0; signatures = a.0 } in
     let same : made ≡ checkpoint = (let f = b.2 in cc) in
@@ -26,12 +27,13 @@ cut-found text checkpoint (Some split) cut e =
       body = trimmed quotation_mark text;
       note_part = split.0;
       rest = split.1;
-      pieces = parts empty_line split.1;
+      pieces = parts_between empty_line split.1;
       quotes = trimmed-found quotation_mark text;
       split = cut_at-some empty_line (trimmed quotation_mark text) split.0 split.1 cut;
-      between = parts-found empty_line split.1 (omega arith);
+      between = parts_between-found empty_line split.1 (omega arith);
       signatures =
-          each-found signature_of IsSignature signature-found (filter is_written (parts empty_line split.1)) a.0 a.1;
+          each-found signature_of IsSignature signature-found
+          (filter is_written (parts_between empty_line split.1)) a.0 a.1;
       note = note-found split.0 b.0 b.1;
     })
 
@@ -47,7 +49,7 @@ checkpoint-only text checkpoint is =
     rw (
       trimmed-only quotation_mark text is.body is.quotes,
       cut_at-cut empty_line is.body is.note_part is.rest (omega arith) is.split,
-      parts-only empty_line is.rest is.pieces (omega arith) is.between,
+      parts_between-only empty_line is.rest is.pieces (omega arith) is.between,
       each-only signature_of IsSignature signature-only
           (filter is_written is.pieces) checkpoint.signatures is.signatures,
       note-only is.note_part checkpoint.note is.note,

@@ -1,4 +1,4 @@
--- What `cut_at`, `parts` and `trimmed` find is what the relations say, and only that.
+-- What `cut_at`, `parts_between` and `trimmed` find is what the relations say, and only that.
 use Rattle.std.proofs.Common.{◌≡◌, ◌≢◌, ℕ, zero, suc, ◌-◌, ◌<◌, ◌≤◌, List, [], ◌∷◌, ◌++◌, length, drop, Option, Some}
 use Rattle.std.proofs.Common.{None, refl, sym, ◌∙◌, ap, subst, inl, inr, arith, add-one, option_map, MatchOption}
 use Rattle.std.proofs.Common.{IfSome, append_assoc, length-append, take-append-drop, reverse, replicate}
@@ -10,7 +10,7 @@ use Rattle.std.proofs.lemmas.Bool.{cases_eq, cases_lt, eq-eqb, ne_eqb}
 use Rattle.std.specs.Str.Pattern.{CutsPrefixes, CutsSuffixes, IsTrimStartMatches, IsTrimEndMatches, FindsCharPrefix}
 use Rattle.std.specs.Str.Pattern.{FindsCharSuffix, FindsText, SplitsAroundMatch}
 use Rattle.sig_rekor.specs.Cut.{IsTrimmed, Lacks, IsCut, IsParts, without_front, without_back, trimmed}
-use Rattle.sig_rekor.specs.Cut.{after_separator, cut_here, cut_at, parts_of_cut, parts_within, parts}
+use Rattle.sig_rekor.specs.Cut.{after_separator, cut_here, cut_at, parts_of_cut, parts_within, parts_between}
 
 -- a separator at the front
 pub after_separator-at : (separator rest : List ℕ) → after_separator separator (separator ++ rest) ≡ Some rest
@@ -248,52 +248,60 @@ parts_within-enough (suc n) (suc m) separator text some n_is m_is = at _ refl (p
       let less = after_cut separator text cut.0 cut.1 some e in
       rw e (ap (λ rest. cut.0 ∷ rest) (deeper cut.1 some (omega arith) (omega arith)))
 
-pub parts-whole : (separator text : List ℕ) → cut_at separator text ≡ None → parts separator text ≡ text ∷ []
-unfolding parts parts_within
-parts-whole separator [] e = refl
-parts-whole separator (b ∷ text) e = rw e refl
+pub parts_between-whole : (separator text : List ℕ) → cut_at separator text ≡ None → parts_between separator text
+    ≡ text ∷ []
+unfolding parts_between parts_within
+parts_between-whole separator [] e = refl
+parts_between-whole separator (b ∷ text) e = rw e refl
 
-pub parts-cut : (separator text before after : List ℕ) → 0 < length separator
-    → cut_at separator text ≡ Some (before, after) → parts separator text ≡ before ∷ parts separator after
-unfolding parts parts_within
-parts-cut separator [] before after some e = absurd (omega (arith, after_cut separator [] before after some e))
-parts-cut separator (b ∷ text) before after some e =
+pub parts_between-cut : (separator text before after : List ℕ) → 0 < length separator
+    → cut_at separator text ≡ Some (before, after) → parts_between separator text
+    ≡ before ∷ parts_between separator after
+unfolding parts_between parts_within
+parts_between-cut separator [] before after some e = absurd (omega (arith, after_cut separator [] before after some e))
+parts_between-cut separator (b ∷ text) before after some e =
     let less = after_cut separator (b ∷ text) before after some e in
     rw e (ap (λ rest. before ∷ rest) (parts_within-enough (length text) (length after) separator after some
     (omega arith) (omega arith)))
 
 -- what the relation says, the parts are
-pub parts-only : (separator text : List ℕ) (ps : List (List ℕ)) → 0 < length separator → IsParts separator text ps
-    → parts separator text ≡ ps
-parts-only separator text [] some are = absurd are
-parts-only separator text (part ∷ []) some are =
-    parts-whole separator text (cut_at-lacks separator text are.1) ∙ ap (λ t. t ∷ []) are.0
-parts-only separator text (part ∷ next ∷ ps) some are =
-    parts-cut separator text part are.0 some (cut_at-cut separator text part are.0 some are.1)
-    ∙ ap (λ rest. part ∷ rest) (parts-only separator are.0 (next ∷ ps) some are.2)
+pub parts_between-only : (separator text : List ℕ) (ps : List (List ℕ)) → 0 < length separator
+    → IsParts separator text ps
+    → parts_between separator text ≡ ps
+parts_between-only separator text [] some are = absurd are
+parts_between-only separator text (part ∷ []) some are =
+    parts_between-whole separator text (cut_at-lacks separator text are.1) ∙ ap (λ t. t ∷ []) are.0
+parts_between-only separator text (part ∷ next ∷ ps) some are =
+    parts_between-cut separator text part are.0 some (cut_at-cut separator text part are.0 some are.1)
+    ∙ ap (λ rest. part ∷ rest) (parts_between-only separator are.0 (next ∷ ps) some are.2)
 
 IsParts-more : (separator text before after : List ℕ) (ps : List (List ℕ)) → IsCut separator text before after
     → IsParts separator after ps → IsParts separator text (before ∷ ps)
 IsParts-more separator text before after [] cut are = absurd are
 IsParts-more separator text before after (next ∷ ps) cut are = (after, cut, are)
 
-parts-found_within : (n : ℕ) (separator text : List ℕ) → 0 < length separator → length text < n
-    → IsParts separator text (parts separator text)
-parts-found_within zero separator text some size = absurd (omega arith)
-parts-found_within (suc n) separator text some size = found _ refl (parts-found_within n separator) where
-  found : (o : Option (List ℕ × List ℕ)) → cut_at separator text ≡ o
-      → ((t : List ℕ) → 0 < length separator → length t < n → IsParts separator t (parts separator t))
-      → IsParts separator text (parts separator text)
-  found None e deeper =
-      subst (IsParts separator text) (sym (parts-whole separator text e)) (refl, cut_at-none separator text some e)
-  found (Some cut) e deeper =
-      let less = after_cut separator text cut.0 cut.1 some e in
-      subst (IsParts separator text) (sym (parts-cut separator text cut.0 cut.1 some e))
-      (IsParts-more separator text cut.0 cut.1 (parts separator cut.1) (cut_at-some separator text cut.0 cut.1 e)
-      (deeper cut.1 some (omega arith)))
+parts_between-found_within : (n : ℕ) (separator text : List ℕ) → 0 < length separator → length text < n
+    → IsParts separator text (parts_between separator text)
+parts_between-found_within zero separator text some size = absurd (omega arith)
+parts_between-found_within (suc n) separator text some size = found _ refl
+    (parts_between-found_within n separator) where
+      found : (o : Option (List ℕ × List ℕ)) → cut_at separator text ≡ o
+          → ((t : List ℕ) → 0 < length separator → length t < n → IsParts separator t (parts_between separator t))
+          → IsParts separator text (parts_between separator text)
+      found None e deeper =
+          subst (IsParts separator text) (sym (parts_between-whole separator text e))
+          (refl, cut_at-none separator text some e)
+      found (Some cut) e deeper =
+          let less = after_cut separator text cut.0 cut.1 some e in
+          subst (IsParts separator text) (sym (parts_between-cut separator text cut.0 cut.1 some e))
+          (IsParts-more separator text cut.0 cut.1 (parts_between separator cut.1)
+          (cut_at-some separator text cut.0 cut.1 e)
+          (deeper cut.1 some (omega arith)))
 
-pub parts-found : (separator text : List ℕ) → 0 < length separator → IsParts separator text (parts separator text)
-parts-found separator text some = parts-found_within (suc (length text)) separator text some (omega arith)
+pub parts_between-found : (separator text : List ℕ) → 0 < length separator → IsParts separator text
+    (parts_between separator text)
+parts_between-found separator text some = parts_between-found_within (suc (length text)) separator text some
+    (omega arith)
 
 -- the marks that were trimmed
 front_marks : (mark : ℕ) (text : List ℕ) → (n : ℕ) × (text ≡ replicate n mark ++ without_front mark text)
@@ -316,10 +324,10 @@ front_stops mark (b ∷ text) rest w = elim (cases_eq b mark) [
 ]
 
 -- there is always a part
-pub parts-first : (separator text : List ℕ) → (part : List ℕ) × (ps : List (List ℕ))
-    × (parts separator text ≡ part ∷ ps)
-unfolding parts parts_within
-parts-first separator text = within (length text) text where
+pub parts_between-first : (separator text : List ℕ) → (part : List ℕ) × (ps : List (List ℕ))
+    × (parts_between separator text ≡ part ∷ ps)
+unfolding parts_between parts_within
+parts_between-first separator text = within (length text) text where
   within : (n : ℕ) (t : List ℕ) → (part : List ℕ) × (ps : List (List ℕ)) × (parts_within n separator t ≡ part ∷ ps)
   within zero t = (t, [], refl)
   within (suc n) t = of_cut (cut_at separator t) where

@@ -1,12 +1,10 @@
 -- The derived `==` of checkpoints, notes and proofs is equality of all parts.
-use Rattle.std.proofs.Common.{◌≡◌, ℕ, ℤ, List, Bool, Option, Some, None, refl, ap}
+use Rattle.std.proofs.Common.{◌≡◌, ℕ, ℤ, List, Option, refl, ap}
 use Rattle.std.proofs.lemmas.Bool.Decides.{Decides-and, Decides-int_eq}
 use Rattle.std.proofs.lemmas.Slice.Eq.{slice_eq-Decides}
 use Rattle.std.specs.Bool.{Decides}
 use Rattle.std.specs.Cmp.{unsigned_Decides}
-use Rattle.std.specs.Cmp.Lexicographic.{pointwise}
-use Rattle.std.specs.Option.{option_eq}
-use Rattle.std.specs.Prelude.{nat_eq}
+use Rattle.sig_base.proofs.PartEquality.{decides_option, decides_texts}
 use Rattle.sig_base.proofs.Decisions.{decides_same, decides_bytes}
 use Rattle.sig_rekor.specs.contracts.checkpoint.CheckpointPartialEq.TheImpl as note_eq
 use Rattle.sig_rekor.specs.contracts.checkpoint.CheckpointSignaturePartialEq.TheImpl as signature_eq
@@ -21,11 +19,6 @@ use Rattle.sig_rekor.specs.declared.checkpoint.OtherContent.TheVariants.{KeyValu
 use Rattle.sig_rekor.specs.declared.checkpoint.SignedCheckpoint.{SignedCheckpoint}
 use Rattle.sig_rekor.specs.declared.inclusion_proof.InclusionProof.{InclusionProof}
 use Rattle.sig_rekor.specs.declared.rekor_proof.RekorInclusionProof.{RekorInclusionProof}
-
--- ---- parts
-
-texts_eq-tells : (a b : List (List ℕ)) → Decides (pointwise (pointwise nat_eq) a b) (a ≡ b)
-texts_eq-tells a b = slice_eq-Decides decides_bytes a b (pointwise (pointwise nat_eq) a b) refl
 
 -- ---- notes
 
@@ -90,13 +83,6 @@ checkpoint_eq-tells a b =
 
 -- ---- proofs
 
-option_eq-tells : {A : Type 0} → (E : A → A → Bool) → ((a b : A) → Decides (E a b) (a ≡ b)) → (x y : Option A)
-    → Decides (option_eq E x y) (x ≡ y)
-option_eq-tells E tells None None = (λ _. refl, λ _. refl)
-option_eq-tells E tells None (Some y) = (λ e. absurd cc, λ e. absurd cc)
-option_eq-tells E tells (Some x) None = (λ e. absurd cc, λ e. absurd cc)
-option_eq-tells E tells (Some x) (Some y) = (λ e. ap Some ((tells x y).0 e), λ e. (tells x y).1 cc)
-
 proof-of_parts : (i j : ℤ) → (r q : List ℕ) → (s t : ℕ) → (h g : List (List ℕ)) → (c d : Option SignedCheckpoint)
     → (i ≡ j) × ((r ≡ q) × ((s ≡ t) × ((h ≡ g) × (c ≡ d))))
     → ◌≡◌ {A = InclusionProof}
@@ -125,8 +111,8 @@ proof_eq-tells a b =
     (Decides-and _ _ (Decides-int_eq a.log_index b.log_index)
     (Decides-and _ _ (decides_bytes a.root_hash b.root_hash)
     (Decides-and _ _ (unsigned_Decides a.tree_size b.tree_size)
-    (Decides-and _ _ (texts_eq-tells a.hashes b.hashes)
-    (option_eq-tells _ checkpoint_eq-tells a.checkpoint b.checkpoint)))))
+    (Decides-and _ _ (decides_texts a.hashes b.hashes)
+    (decides_option _ checkpoint_eq-tells a.checkpoint b.checkpoint)))))
 
 api_proof-of_parts : (h g : List (List ℕ)) → (i j : ℤ) → (r q : List ℕ) → (s t : ℕ) → (c d : List ℕ)
     → (h ≡ g) × ((i ≡ j) × ((r ≡ q) × ((s ≡ t) × (c ≡ d))))
@@ -149,7 +135,7 @@ api_proof_eq-tells a b =
         ),
       ),
     ))
-    (Decides-and _ _ (texts_eq-tells a.hashes b.hashes)
+    (Decides-and _ _ (decides_texts a.hashes b.hashes)
     (Decides-and _ _ (Decides-int_eq a.log_index b.log_index)
     (Decides-and _ _ (decides_bytes a.root_hash b.root_hash)
     (Decides-and _ _ (unsigned_Decides a.tree_size b.tree_size) (decides_bytes a.checkpoint b.checkpoint)))))

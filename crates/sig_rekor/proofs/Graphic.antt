@@ -16,9 +16,11 @@ use Rattle.base64.specs.GeneralPurpose.{IsBytes, engine_symbols}
 use Rattle.base64.specs.Engines.{standard}
 use Rattle.base64.specs.Rfc4648.{encode_symbols, encode_group, padding_len}
 use Rattle.base64.proofs.EngineFacts.{decode_of-encode_of}
+use Rattle.sig_base.proofs.ByteLists.{each_byte}
 use Rattle.sig_base.specs.Base64.{base64_text, base64_bytes}
-use Rattle.sig_rekor.specs.NoteText.{size_of}
-use Rattle.sig_rekor.proofs.Notes.{size_of-numeral}
+use Rattle.sig_base.specs.ByteLists.{AreBytes}
+use Rattle.sig_rekor.specs.NoteText.{tree_size_of}
+use Rattle.sig_rekor.proofs.Notes.{tree_size_of-numeral}
 
 -- `!` to `~`
 abbrev pub is_graphic : ℕ → Bool
@@ -71,11 +73,11 @@ no_plus (d ∷ ds) is = rw (ne_eqb d 43 (plus d is.1.0)) refl where
   plus : (d : ℕ) → digit_value d < 10 → d ≢ 43
   plus d small same = let f = subst (λ x. digit_value x < 10) same small in omega arith
 
-pub size_of-decimal : (n : ℕ) → n < 2 ^ 64 → size_of (decimal n) ≡ Ok n
-size_of-decimal n small =
+pub tree_size_of-decimal : (n : ℕ) → n < 2 ^ 64 → tree_size_of (decimal n) ≡ Ok n
+tree_size_of-decimal n small =
     let is = decimal_is_IsNumeral n small in
     let plain = no_plus (decimal n) is.0 in
-    size_of-numeral (decimal n) n (subst (λ t. IsNumeral 10 t × (digits_value 10 t < 2 ^ 64)) (sym plain)
+    tree_size_of-numeral (decimal n) n (subst (λ t. IsNumeral 10 t × (digits_value 10 t < 2 ^ 64)) (sym plain)
     (is.0, subst (λ v. v < 2 ^ 64) (sym is.1) small)) (sym is.1 ∙ ap (digits_value 10) (sym plain))
 
 -- base64
@@ -91,7 +93,7 @@ alphabet = engine_symbols standard
 symbol : (i : ℕ) → i < 64 → is_graphic (slice_index alphabet i) ≡ true
 symbol i small = table_at alphabet i refl small
 
-symbols : (m : List ℕ) → AllByRecursion (λ b. b < 256) m → IsGraphic (encode_symbols alphabet m)
+symbols : (m : List ℕ) → AreBytes m → IsGraphic (encode_symbols alphabet m)
 unfolding encode_symbols
 symbols [] all = refl
 symbols (a ∷ []) all =
@@ -109,10 +111,6 @@ symbols (a ∷ b ∷ c ∷ rest) all =
 pads : (n : ℕ) → IsGraphic (replicate n 61)
 pads zero = refl
 pads (suc n) = and_from (is_graphic 61) (list_all is_graphic (replicate n 61)) refl (pads n)
-
-each_byte : (m : List ℕ) → IsBytes m → AllByRecursion (λ b. b < 256) m
-each_byte [] all = tt
-each_byte (b ∷ m) all = (all 0, each_byte m (λ i. all (suc i)))
 
 pub base64-graphic : (m : List ℕ) → IsBytes m → IsGraphic (base64_text m)
 unfolding base64_text

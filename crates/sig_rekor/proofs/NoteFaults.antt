@@ -10,13 +10,13 @@ use Rattle.sig_base.specs.declared.fault.CheckpointFault.TheVariants.{NoteFormat
 use Rattle.sig_base.specs.declared.fault.CheckpointFault.TheVariants.{HashLength}
 use Rattle.sig_base.specs.Base64.{base64_bytes}
 use Rattle.sig_rekor.specs.declared.checkpoint.Checkpoint.{Checkpoint}
-use Rattle.sig_rekor.specs.Cut.{IsParts, parts}
+use Rattle.sig_rekor.specs.Cut.{IsParts, parts_between}
 use Rattle.sig_rekor.specs.Reading.{base64_of}
-use Rattle.sig_rekor.specs.NoteText.{newline, is_blank, is_not_empty, IsSize, IsNote, origin_of, size_of, hash_by}
-use Rattle.sig_rekor.specs.NoteText.{hash_of, note_by, note_of}
+use Rattle.sig_rekor.specs.NoteText.{newline, is_blank, is_not_empty, IsSize, IsNote, origin_of, tree_size_of, hash_by}
+use Rattle.sig_rekor.specs.NoteText.{root_hash_of, note_by, note_of}
 use Rattle.sig_base.specs.Rules.{FailsFirst}
 use Rattle.sig_rekor.specs.Faults.{OfLines, OfBytes, NoteKeeps, note_rules, IsNoteFault}
-use Rattle.sig_rekor.proofs.Cutting.{parts-found, parts-only}
+use Rattle.sig_rekor.proofs.Cutting.{parts_between-found, parts_between-only}
 use Rattle.sig_rekor.proofs.NoteLaws.{note-found, origin-only, size-found, size-only, hash-only}
 use Rattle.sig_base.proofs.RuleLaws.{one_fails, none_fails}
 use Rattle.sig_rekor.proofs.Steps.{chosen}
@@ -25,8 +25,8 @@ use Rattle.sig_rekor.proofs.Steps.{chosen}
 of_lines : (text origin size hash : List ℕ) (others : List (List ℕ)) (P : List ℕ → List ℕ → List ℕ → Type 0)
     → IsParts newline text (origin ∷ size ∷ hash ∷ others) → OfLines text P → P origin size hash
 of_lines text origin size hash others P are (o, s, h, more, these, holds) =
-    let e = sym (parts-only newline text (o ∷ s ∷ h ∷ more) (omega arith) these)
-    ∙ parts-only newline text (origin ∷ size ∷ hash ∷ others) (omega arith) are in
+    let e = sym (parts_between-only newline text (o ∷ s ∷ h ∷ more) (omega arith) these)
+    ∙ parts_between-only newline text (origin ∷ size ∷ hash ∷ others) (omega arith) are in
     let a : o ≡ origin = cc in
     let b : s ≡ size = cc in
     let c : h ≡ hash = cc in
@@ -36,12 +36,12 @@ few_lines : (text : List ℕ) (lines : List (List ℕ)) → IsParts newline text
     → ((a b c : List ℕ) (ls : List (List ℕ)) → lines ≡ a ∷ b ∷ c ∷ ls → ⊥)
     → OfLines text (λ _ _ _. ⊤) → ⊥
 few_lines text lines are e few (o, s, h, more, these, _) =
-    few o s h more (sym (parts-only newline text lines (omega arith) are)
-    ∙ parts-only newline text (o ∷ s ∷ h ∷ more) (omega arith) these)
+    few o s h more (sym (parts_between-only newline text lines (omega arith) are)
+    ∙ parts_between-only newline text (o ∷ s ∷ h ∷ more) (omega arith) these)
 
 -- each reader has the fault of its rule
-size-fault : (line : List ℕ) (fault : CheckpointFault) → size_of line ≡ Err fault → fault ≡ Size
-unfolding size_of
+size-fault : (line : List ℕ) (fault : CheckpointFault) → tree_size_of line ≡ Err fault → fault ≡ Size
+unfolding tree_size_of
 size-fault line fault e =
     let ds = without_leading_plus line in
     elim (chosen (list_all is_ascii_digit ds && (is_not_empty ds && nat_lt (digits_value 10 ds) (2 ^ 64)))
@@ -57,8 +57,8 @@ origin-blank line blank = rw blank refl
 -- the hash, by its bytes
 hash_fails : (text origin size hash : List ℕ) (others : List (List ℕ)) (fault : CheckpointFault)
     → IsParts newline text (origin ∷ size ∷ hash ∷ others)
-    → hash_of hash ≡ Err fault → FailsFirst (NoteKeeps text) (HashBase64 ∷ HashLength ∷ []) fault
-unfolding hash_of base64_of
+    → root_hash_of hash ≡ Err fault → FailsFirst (NoteKeeps text) (HashBase64 ∷ HashLength ∷ []) fault
+unfolding root_hash_of base64_of
 hash_fails text origin size hash others fault are e = read (base64_bytes hash) refl where
   read : (o : Option (List ℕ)) → base64_bytes hash ≡ o
       → FailsFirst (NoteKeeps text) (HashBase64 ∷ HashLength ∷ []) fault
@@ -92,18 +92,22 @@ lines_fail text (a ∷ []) fault are e = inl (few_lines text (a ∷ []) are refl
 lines_fail text (a ∷ b ∷ []) fault are e = inl (few_lines text (a ∷ b ∷ []) are refl (λ x y z ls f. cc), cc)
 lines_fail text (origin ∷ size ∷ hash ∷ others) fault are e =
     inr ((origin, size, hash, others, are, tt), by_origin (is_blank origin) refl) where
-      by_hash : (n : ℕ) → is_blank origin ≡ false → size_of size ≡ Ok n → (r : Result (List ℕ) CheckpointFault)
-          → hash_of hash ≡ r → FailsFirst (NoteKeeps text) (HashBase64 ∷ HashLength ∷ []) fault
+      by_hash : (n : ℕ) → is_blank origin ≡ false → tree_size_of size ≡ Ok n → (r : Result (List ℕ) CheckpointFault)
+          → root_hash_of hash ≡ r → FailsFirst (NoteKeeps text) (HashBase64 ∷ HashLength ∷ []) fault
       by_hash n written sized (Ok bytes) is = let f = rw (origin-only origin written, sized, is) at e in cc
       by_hash n written sized (Err other) is =
           let f = rw (origin-only origin written, sized, is) at e in
           let same : other ≡ fault = cc in
           hash_fails text origin size hash others fault are (is ∙ ap Err same)
 
-      by_size : is_blank origin ≡ false → (r : Result ℕ CheckpointFault) → size_of size ≡ r
+      by_size : is_blank origin ≡ false → (r : Result ℕ CheckpointFault) → tree_size_of size ≡ r
           → FailsFirst (NoteKeeps text) (Size ∷ HashBase64 ∷ HashLength ∷ []) fault
       by_size written (Ok n) is =
-          inr ((origin, size, hash, others, are, (n, size-found size n is)), by_hash n written is (hash_of hash) refl)
+          inr (
+            (origin, size, hash, others, are, (n, size-found size n is)),
+            by_hash n written is
+                (root_hash_of hash) refl,
+          )
       by_size written (Err other) is =
           let f = rw (origin-only origin written, is) at e in
           let same : other ≡ fault = cc in
@@ -123,11 +127,12 @@ lines_fail text (origin ∷ size ∷ hash ∷ others) fault are e =
         λ keeps. (let written = of_lines text origin size hash others (λ o _ _. is_blank o ≡ false) are keeps in cc),
         blank_fault is,
       )
-      by_origin false is = inr ((origin, size, hash, others, are, is), by_size is (size_of size) refl)
+      by_origin false is = inr ((origin, size, hash, others, are, is), by_size is (tree_size_of size) refl)
 
 pub note-fails : (text : List ℕ) (fault : CheckpointFault) → note_of text ≡ Err fault → IsNoteFault text fault
 unfolding note_of
-note-fails text fault e = lines_fail text (parts newline text) fault (parts-found newline text (omega arith)) e
+note-fails text fault e = lines_fail text (parts_between newline text) fault
+    (parts_between-found newline text (omega arith)) e
 
 -- a note keeps every rule
 note-keeps : (text : List ℕ) (note : Checkpoint) → IsNote text note → AllByRecursion (NoteKeeps text) note_rules

@@ -15,17 +15,17 @@ use Rattle.sig_rekor.specs.declared.checkpoint.SignedCheckpoint.{SignedCheckpoin
 use Rattle.sig_rekor.specs.declared.checkpoint.Checkpoint.{Checkpoint}
 use Rattle.sig_rekor.specs.declared.checkpoint.CheckpointSignature.{CheckpointSignature}
 use Rattle.sig_rekor.specs.declared.checkpoint.OtherContent.{OtherContent}
-use Rattle.sig_rekor.specs.Cut.{IsParts, Lacks, cut_at, parts, trimmed}
+use Rattle.sig_rekor.specs.Cut.{IsParts, Lacks, cut_at, parts_between, trimmed}
 use Rattle.sig_base.specs.Base64.{base64_text, base64_bytes}
 use Rattle.sig_rekor.specs.NoteText.{newline, is_blank, contents_of, content_text, content_line, note_of, note_text}
-use Rattle.sig_rekor.specs.SignatureText.{em_dash, space, signed_bytes, signature_of, signature_text}
+use Rattle.sig_rekor.specs.SignatureText.{em_dash, space, fingerprint_and_raw, signature_of, signature_text}
 use Rattle.sig_rekor.specs.CheckpointText.{quotation_mark, empty_line, signatures_by, checkpoint_of, checkpoint_text}
-use Rattle.sig_rekor.specs.ReadBack.{IsLineOf, IsName, IsSignatureValue, IsNoteValue, ReadsBack}
-use Rattle.sig_rekor.proofs.Cutting.{parts-whole, parts-cut, parts-found, trimmed-only}
+use Rattle.sig_rekor.specs.ReadBack.{IsContentLine, IsSignerName, IsSignatureValue, IsNoteValue, ReadsBack}
+use Rattle.sig_rekor.proofs.Cutting.{parts_between-whole, parts_between-cut, parts_between-found, trimmed-only}
 use Rattle.sig_rekor.proofs.NoteLaws.{origin-only, hash-only}
 use Rattle.sig_rekor.proofs.SignatureLaws.{signature-only}
 use Rattle.sig_rekor.proofs.Signatures.{signatures_by-blank, signatures_by-written, signatures_by-none}
-use Rattle.sig_rekor.proofs.Graphic.{IsFreeOf, graphic-free, decimal-graphic, size_of-decimal, base64-graphic}
+use Rattle.sig_rekor.proofs.Graphic.{IsFreeOf, graphic-free, decimal-graphic, tree_size_of-decimal, base64-graphic}
 use Rattle.sig_rekor.proofs.Graphic.{base64-again, trim_end-graphic}
 use Rattle.sig_rekor.proofs.WrittenCuts.{free-lacks, free-append, onto_cut, cut_past, cut_none, cut_after, cut_empty}
 use Rattle.sig_rekor.proofs.WrittenCuts.{cut_apart, cut_last, written, IsLine, written_parts, written_cut}
@@ -34,27 +34,28 @@ use Rattle.sig_rekor.proofs.WrittenCuts.{cut_apart, cut_last, written, IsLine, w
 
 -- the line of a signature, without its newline
 abbrev signature_line : CheckpointSignature → List ℕ
-signature_line s = em_dash ++ (space ++ (s.name ++ (space ++ base64_text (signed_bytes s))))
+signature_line s = em_dash ++ (space ++ (s.name ++ (space ++ base64_text (fingerprint_and_raw s))))
 
 line_newline : (s : CheckpointSignature) → signature_text s ≡ signature_line s ++ newline
 unfolding signature_text
 line_newline s =
-    ap (λ t. em_dash ++ (space ++ t)) (sym (append_assoc s.name (space ++ base64_text (signed_bytes s)) newline))
+    ap (λ t. em_dash ++ (space ++ t)) (sym (append_assoc s.name
+    (space ++ base64_text (fingerprint_and_raw s)) newline))
 
-line_parts : (s : CheckpointSignature) → IsName s.name → IsSignatureValue s
-    → parts space (signature_line s) ≡ em_dash ∷ s.name ∷ base64_text (signed_bytes s) ∷ []
+line_parts : (s : CheckpointSignature) → IsSignerName s.name → IsSignatureValue s
+    → parts_between space (signature_line s) ≡ em_dash ∷ s.name ∷ base64_text (fingerprint_and_raw s) ∷ []
 line_parts s name value =
-    let coded = base64_text (signed_bytes s) in
-    parts-cut space (signature_line s) em_dash (s.name ++ (space ++ coded)) (omega arith)
+    let coded = base64_text (fingerprint_and_raw s) in
+    parts_between-cut space (signature_line s) em_dash (s.name ++ (space ++ coded)) (omega arith)
     (cut_after 32 em_dash (s.name ++ (space ++ coded))
     ((λ e. omega arith), ((λ e. omega arith), ((λ e. omega arith), tt))))
-    ∙ ap (λ ps. em_dash ∷ ps) (parts-cut space (s.name ++ (space ++ coded)) s.name coded (omega arith)
+    ∙ ap (λ ps. em_dash ∷ ps) (parts_between-cut space (s.name ++ (space ++ coded)) s.name coded (omega arith)
     (cut_after 32 s.name coded (free-lacks 32 s.name name.word))
-    ∙ ap (λ ps. s.name ∷ ps) (parts-whole space coded
-    (cut_none 32 [] coded (graphic-free 32 coded (omega arith) (base64-graphic (signed_bytes s) value.bytes)))))
+    ∙ ap (λ ps. s.name ∷ ps) (parts_between-whole space coded
+    (cut_none 32 [] coded (graphic-free 32 coded (omega arith) (base64-graphic (fingerprint_and_raw s) value.bytes)))))
 
 -- no newline in it
-line_free : (s : CheckpointSignature) → IsName s.name → IsSignatureValue s → IsFreeOf 10 (signature_line s)
+line_free : (s : CheckpointSignature) → IsSignerName s.name → IsSignatureValue s → IsFreeOf 10 (signature_line s)
 line_free s name value = (
   (λ e. omega arith),
   (
@@ -63,10 +64,10 @@ line_free s name value = (
       (λ e. omega arith),
       (
         (λ e. omega arith),
-        free-append 10 s.name (space ++ base64_text (signed_bytes s)) (free-lacks 10 s.name name.line) (
+        free-append 10 s.name (space ++ base64_text (fingerprint_and_raw s)) (free-lacks 10 s.name name.line) (
           (λ e. omega arith),
-          graphic-free 10 (base64_text (signed_bytes s)) (omega arith)
-              (base64-graphic (signed_bytes s) value.bytes),
+          graphic-free 10 (base64_text (fingerprint_and_raw s)) (omega arith)
+              (base64-graphic (fingerprint_and_raw s) value.bytes),
         ),
       ),
     ),
@@ -87,10 +88,10 @@ apart : ◌≡◌ {A = ℕ} 226 10 → ⊥
 apart e = omega arith
 
 -- a line between newlines is read as its signature
-pub signature_between : (s : CheckpointSignature) (n m : ℕ) → IsName s.name → IsSignatureValue s
+pub signature_between : (s : CheckpointSignature) (n m : ℕ) → IsSignerName s.name → IsSignatureValue s
     → signature_of (replicate n 10 ++ (signature_line s ++ replicate m 10)) ≡ Ok s
 signature_between s n m name value =
-    let coded = base64_text (signed_bytes s) in
+    let coded = base64_text (fingerprint_and_raw s) in
     signature-only (replicate n 10 ++ (signature_line s ++ replicate m 10)) s (record {
       line = signature_line s;
       behind_dash = space ++ (s.name ++ (space ++ coded));
@@ -106,14 +107,14 @@ signature_between s n m name value =
       dash = refl;
       parts =
           subst (IsParts space (signature_line s)) (line_parts s name value)
-          (parts-found space (signature_line s) (omega arith));
+          (parts_between-found space (signature_line s) (omega arith));
       bytes =
-          ap base64_bytes (trim_end-graphic coded (base64-graphic (signed_bytes s) value.bytes))
-          ∙ base64-again (signed_bytes s) value.bytes;
+          ap base64_bytes (trim_end-graphic coded (base64-graphic (fingerprint_and_raw s) value.bytes))
+          ∙ base64-again (fingerprint_and_raw s) value.bytes;
       fingerprint = value.fingerprint;
     })
 
-pub signature_back : {E : Type 0} (s : CheckpointSignature) (r : Result (List ℕ) E) → IsName s.name
+pub signature_back : {E : Type 0} (s : CheckpointSignature) (r : Result (List ℕ) E) → IsSignerName s.name
     → IfOk r (λ t. t ≡ signature_text s) → OnOk r (IsSignatureValue s) → IfOk r (λ t. signature_of t ≡ Ok s)
 signature_back s (Ok t) name text value = ap signature_of (text ∙ line_newline s) ∙ signature_between s 0 1 name value
 signature_back s (Err e) name text value = tt
@@ -154,11 +155,11 @@ dash_written t u e = let ends = dash_ends u in rw (e, ends.1) (longer 226 ends.0
 not_blank : (n : ℕ) (s : CheckpointSignature) (t : List ℕ) → n < 2
     → is_blank (replicate n 10 ++ (signature_line s ++ t)) ≡ false
 not_blank zero s t small =
-    let c = dash_chars (32 ∷ (s.name ++ 32 ∷ base64_text (signed_bytes s) ++ t)) in
+    let c = dash_chars (32 ∷ (s.name ++ 32 ∷ base64_text (fingerprint_and_raw s) ++ t)) in
     let start = dash_starts (signature_line s ++ t) (8212 ∷ c.0) c.1 refl in
     dash_written (signature_line s ++ t) start.0 start.1
 not_blank (suc zero) s t small =
-    let c = newline_chars (32 ∷ (s.name ++ 32 ∷ base64_text (signed_bytes s) ++ t)) in
+    let c = newline_chars (32 ∷ (s.name ++ 32 ∷ base64_text (fingerprint_and_raw s) ++ t)) in
     let start = dash_starts (10 ∷ (signature_line s ++ t)) (10 ∷ 8212 ∷ c.0) c.1 refl in
     dash_written (10 ∷ (signature_line s ++ t)) start.0 start.1
 not_blank (suc (suc n)) s t small = absurd (omega arith)
@@ -195,21 +196,22 @@ piece_cut : (n : ℕ) (s : CheckpointSignature) (t : List ℕ) → n < 2 → IsF
     ≡ onto_cut (replicate n 10 ++ signature_line s) (cut_at empty_line t)
 piece_cut zero s t small free = cut_past 10 newline (signature_line s) t free
 piece_cut (suc zero) s t small free =
-    let behind = 128 ∷ 148 ∷ (space ++ (s.name ++ (space ++ base64_text (signed_bytes s)))) in
+    let behind = 128 ∷ 148 ∷ (space ++ (s.name ++ (space ++ base64_text (fingerprint_and_raw s)))) in
     cut_apart 226 (behind ++ t) apart ∙ ap (onto_cut newline) (cut_past 10 newline (signature_line s) t free)
     ∙ onto_onto newline (signature_line s) (cut_at empty_line t)
 piece_cut (suc (suc n)) s t small free = absurd (omega arith)
 
 signatures_back : (n : ℕ) (s : CheckpointSignature) (ss : List CheckpointSignature) → n < 2
-    → AllByRecursion (λ (x : CheckpointSignature). IsName x.name) (s ∷ ss) → AllByRecursion IsSignatureValue (s ∷ ss)
-    → signatures_by (parts empty_line (replicate n 10 ++ joined s ss)) ≡ Ok (s ∷ ss)
+    → AllByRecursion (λ (x : CheckpointSignature). IsSignerName x.name) (s ∷ ss) → AllByRecursion IsSignatureValue
+    (s ∷ ss)
+    → signatures_by (parts_between empty_line (replicate n 10 ++ joined s ss)) ≡ Ok (s ∷ ss)
 signatures_back n s [] small names values =
     let text = replicate n 10 ++ (signature_line s ++ newline) in
     let free = line_free s names.0 values.0 in
     let whole : cut_at empty_line text ≡ None = piece_cut n s newline small free
     ∙ ap (onto_cut (replicate n 10 ++ signature_line s)) cut_last in
     rw (
-      parts-whole empty_line text whole,
+      parts_between-whole empty_line text whole,
       signatures_by-written text []
           (not_blank n s newline small),
       signature_between s n 1 names.0 values.0,
@@ -224,8 +226,8 @@ signatures_back n s (next ∷ ss) small names values =
     piece_cut n s (10 ∷ 10 ∷ rest) small free ∙ ap (onto_cut (replicate n 10 ++ signature_line s)) (cut_empty rest)
     ∙ ap (λ t. Some (t, rest)) (append_assoc (replicate n 10) (signature_line s) []) in
     rw (
-      parts-cut empty_line text piece rest (omega arith) cut,
-      signatures_by-written piece (parts empty_line rest)
+      parts_between-cut empty_line text piece rest (omega arith) cut,
+      signatures_by-written piece (parts_between empty_line rest)
           (not_blank n s [] small),
       signature_between s n 0 names.0 values.0,
       signatures_back 0 next ss
@@ -237,11 +239,16 @@ blank_newline : is_blank newline ≡ true
 unfolding is_blank trim_start trim_end chars
 blank_newline = refl
 
-rest_back : (ss : List CheckpointSignature) → AllByRecursion (λ (x : CheckpointSignature). IsName x.name) ss
-    → AllByRecursion IsSignatureValue ss → signatures_by (parts empty_line (10 ∷ join_by signature_text newline ss))
+rest_back : (ss : List CheckpointSignature) → AllByRecursion (λ (x : CheckpointSignature). IsSignerName x.name) ss
+    → AllByRecursion IsSignatureValue ss → signatures_by
+    (parts_between empty_line (10 ∷ join_by signature_text newline ss))
     ≡ Ok ss
 rest_back [] names values =
-    rw (parts-whole empty_line newline cut_last, signatures_by-blank newline [] blank_newline, signatures_by-none) refl
+    rw (
+      parts_between-whole empty_line newline cut_last,
+      signatures_by-blank newline [] blank_newline,
+      signatures_by-none,
+    ) refl
 rest_back (s ∷ ss) names values = rw (joined_is s ss) (signatures_back 1 s ss (omega arith) names values)
 
 -- ---- the note
@@ -254,7 +261,7 @@ contents_written line (content ∷ contents) tail =
     ∙ append_assoc (content_text content) newline (flat_map content_line contents ++ tail)
     ∙ contents_written (content_text content) contents tail)
 
-contents_back : (contents : List OtherContent) → AllByRecursion IsLineOf contents
+contents_back : (contents : List OtherContent) → AllByRecursion IsContentLine contents
     → contents_of (map content_text contents) ≡ contents
 unfolding contents_of
 contents_back [] all = refl
@@ -262,7 +269,7 @@ contents_back (content ∷ contents) all =
     rw (lt-ltb 0 (length (content_text content)) all.0.written, all.0.same)
     (ap (λ t. content ∷ t) (contents_back contents all.1))
 
-content_lines : (contents : List OtherContent) → AllByRecursion IsLineOf contents
+content_lines : (contents : List OtherContent) → AllByRecursion IsContentLine contents
     → AllByRecursion IsLine (map content_text contents)
 content_lines [] all = tt
 content_lines (content ∷ contents) all = (
@@ -304,7 +311,7 @@ origin_some (b ∷ origin) written = omega arith
 first_line : (origin : List ℕ) → is_blank origin ≡ false → Lacks newline origin → IsLine origin
 first_line origin written lacks = record { free = free-lacks 10 origin lacks; some = origin_some origin written }
 
-further_lines : (note : Checkpoint) → IsNoteValue note → AllByRecursion IsLineOf note.other_content
+further_lines : (note : Checkpoint) → IsNoteValue note → AllByRecursion IsContentLine note.other_content
     → AllByRecursion IsLine (further note)
 further_lines note value contents = (
   record {
@@ -323,14 +330,14 @@ further_lines note value contents = (
 )
 
 note_back : (note : Checkpoint) → IsNoteValue note → is_blank note.origin ≡ false → Lacks newline note.origin
-    → AllByRecursion IsLineOf note.other_content → note_of (written note.origin (further note) []) ≡ Ok note
+    → AllByRecursion IsContentLine note.other_content → note_of (written note.origin (further note) []) ≡ Ok note
 unfolding note_of
 note_back note value origin line contents =
     rw (
       written_parts note.origin (further note) (first_line note.origin origin line)
           (further_lines note value contents),
       origin-only note.origin origin,
-      size_of-decimal note.size value.size,
+      tree_size_of-decimal note.size value.size,
       hash-only (base64_text note.hash) note.hash (base64-again note.hash value.bytes, value.hash),
       contents_back note.other_content contents,
     ) refl

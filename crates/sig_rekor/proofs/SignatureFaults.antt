@@ -10,13 +10,13 @@ use Rattle.sig_base.specs.declared.fault.CheckpointFault.TheVariants.{NoDash, Si
 use Rattle.sig_base.specs.declared.fault.CheckpointFault.TheVariants.{SignatureLength}
 use Rattle.sig_base.specs.Base64.{base64_bytes}
 use Rattle.sig_rekor.specs.declared.checkpoint.CheckpointSignature.{CheckpointSignature}
-use Rattle.sig_rekor.specs.Cut.{IsTrimmed, IsParts, trimmed, parts}
+use Rattle.sig_rekor.specs.Cut.{IsTrimmed, IsParts, trimmed, parts_between}
 use Rattle.sig_rekor.specs.Reading.{base64_of}
-use Rattle.sig_rekor.specs.SignatureText.{em_dash, space, signed_bytes, IsSignature, line_of, signature_by}
+use Rattle.sig_rekor.specs.SignatureText.{em_dash, space, fingerprint_and_raw, IsSignature, line_of, signature_by}
 use Rattle.sig_rekor.specs.SignatureText.{signature_of}
 use Rattle.sig_base.specs.Rules.{FailsFirst}
 use Rattle.sig_rekor.specs.Faults.{OfThird, OfBytes, SignatureKeeps, signature_rules, IsSignatureFault}
-use Rattle.sig_rekor.proofs.Cutting.{parts-found, parts-only, trimmed-only}
+use Rattle.sig_rekor.proofs.Cutting.{parts_between-found, parts_between-only, trimmed-only}
 use Rattle.sig_rekor.proofs.SignatureLaws.{line-found, line-only, signature-found}
 use Rattle.sig_base.proofs.RuleLaws.{one_fails, none_fails}
 use Rattle.sig_rekor.proofs.Steps.{chosen}
@@ -26,17 +26,18 @@ of_third : (text line first name coded : List ℕ) (P : List ℕ → Type 0) →
     → IsParts space line (first ∷ name ∷ coded ∷ []) → OfThird text P → P coded
 of_third text line first name coded P trims are (l, f, n, c, trims', these, holds) =
     let same : l ≡ line = sym (trimmed-only 10 text l trims') ∙ trimmed-only 10 text line trims in
-    let e = sym (parts-only space l (f ∷ n ∷ c ∷ []) (omega arith) these) ∙ ap (parts space) same
-    ∙ parts-only space line (first ∷ name ∷ coded ∷ []) (omega arith) are in
+    let e = sym (parts_between-only space l (f ∷ n ∷ c ∷ []) (omega arith) these) ∙ ap (parts_between space) same
+    ∙ parts_between-only space line (first ∷ name ∷ coded ∷ []) (omega arith) are in
     let third : c ≡ coded = cc in
     subst P third holds
 
 -- other parts than three
-unlike_three : (text line : List ℕ) (ps : List (List ℕ)) → IsTrimmed 10 text line → parts space line ≡ ps
+unlike_three : (text line : List ℕ) (ps : List (List ℕ)) → IsTrimmed 10 text line → parts_between space line ≡ ps
     → ((a b c : List ℕ) → ps ≡ a ∷ b ∷ c ∷ [] → ⊥) → OfThird text (λ _. ⊤) → ⊥
 unlike_three text line ps trims are unlike (l, f, n, c, trims', these, _) =
     let same : l ≡ line = sym (trimmed-only 10 text l trims') ∙ trimmed-only 10 text line trims in
-    unlike f n c (sym are ∙ ap (parts space) (sym same) ∙ parts-only space l (f ∷ n ∷ c ∷ []) (omega arith) these)
+    unlike f n c (sym are ∙ ap (parts_between space) (sym same) ∙ parts_between-only space l (f ∷ n ∷ c ∷ [])
+    (omega arith) these)
 
 dash-fault : (text : List ℕ) (fault : CheckpointFault) → line_of text ≡ Err fault → fault ≡ NoDash
 unfolding line_of
@@ -82,7 +83,7 @@ bytes_fail text line first name coded fault trims are (Some bytes) is long none 
 
 -- the parts of the line
 parts_fail : (text line : List ℕ) (ps : List (List ℕ)) (fault : CheckpointFault) → IsTrimmed 10 text line
-    → line_of text ≡ Ok line → parts space line ≡ ps → IsParts space line ps → signature_of text ≡ Err fault
+    → line_of text ≡ Ok line → parts_between space line ≡ ps → IsParts space line ps → signature_of text ≡ Err fault
     → FailsFirst (SignatureKeeps text) (SignatureFormat ∷ SignatureBase64 ∷ SignatureLength ∷ []) fault
 unfolding signature_of base64_of
 parts_fail text line [] fault trims dash same are e = absurd are
@@ -108,8 +109,8 @@ signature-fails text fault e = by_line (line_of text) refl where
       let found = line-found text line is in
       inr (
         (line, drop 3 line, found.0, found.1),
-        parts_fail text line (parts space line) fault found.0 is refl
-            (parts-found space line (omega arith)) e,
+        parts_fail text line (parts_between space line) fault found.0 is refl
+            (parts_between-found space line (omega arith)) e,
       )
   by_line (Err other) is =
       let f = rw is at e in
@@ -126,13 +127,14 @@ signature-keeps : (text : List ℕ) (s : CheckpointSignature) → IsSignature te
 signature-keeps text s is =
     let third : (P : List ℕ → Type 0) → P is.coded → OfThird text P =
     λ P holds. (is.line, is.first, s.name, is.coded, is.newlines, is.parts, holds) in
-    let four : 4 ≤ length (signed_bytes s) = omega (arith, length-append s.key_fingerprint s.raw, is.fingerprint) in (
+    let four : 4 ≤ length (fingerprint_and_raw s) = omega
+    (arith, length-append s.key_fingerprint s.raw, is.fingerprint) in (
       (is.line, is.behind_dash, is.newlines, is.dash),
       (
         third (λ _. ⊤) tt,
         (
-          third (λ c. OfBytes (trim_end c) (λ _. ⊤)) (signed_bytes s, is.bytes, tt),
-          (third (λ c. OfBytes (trim_end c) (λ b. 4 ≤ length b)) (signed_bytes s, is.bytes, four), tt),
+          third (λ c. OfBytes (trim_end c) (λ _. ⊤)) (fingerprint_and_raw s, is.bytes, tt),
+          (third (λ c. OfBytes (trim_end c) (λ b. 4 ≤ length b)) (fingerprint_and_raw s, is.bytes, four), tt),
         ),
       ),
     )

@@ -9,13 +9,13 @@ use Rattle.std.specs.List.{starts_with}
 use Rattle.std.specs.Str.{trim_end}
 use Rattle.sig_base.specs.declared.fault.CheckpointFault.TheVariants.{NoDash, SignatureBase64, SignatureLength}
 use Rattle.sig_rekor.specs.declared.checkpoint.CheckpointSignature.{CheckpointSignature}
-use Rattle.sig_rekor.specs.Cut.{IsTrimmed, IsParts, trimmed, parts}
+use Rattle.sig_rekor.specs.Cut.{IsTrimmed, IsParts, trimmed, parts_between}
 use Rattle.sig_base.specs.Base64.{base64_bytes}
 use Rattle.sig_base.proofs.ResultSteps.{bind_ok}
 use Rattle.sig_rekor.specs.Reading.{base64_of}
-use Rattle.sig_rekor.specs.SignatureText.{em_dash, space, signed_bytes, IsSignature, line_of, name_and_bytes}
+use Rattle.sig_rekor.specs.SignatureText.{em_dash, space, fingerprint_and_raw, IsSignature, line_of, name_and_bytes}
 use Rattle.sig_rekor.specs.SignatureText.{signature_by, signature_of}
-use Rattle.sig_rekor.proofs.Cutting.{parts-found, parts-only, trimmed-found, trimmed-only}
+use Rattle.sig_rekor.proofs.Cutting.{parts_between-found, parts_between-only, trimmed-found, trimmed-only}
 use Rattle.sig_rekor.proofs.Steps.{chosen, ok_or-ok}
 
 -- the line behind its dash
@@ -56,23 +56,23 @@ three-found (a ∷ b ∷ c ∷ d ∷ ps) named e = cc
 
 -- four bytes and the others
 signature_by-found : (name bytes : List ℕ) (s : CheckpointSignature) → signature_by name bytes ≡ Ok s
-    → (s.name ≡ name) × (signed_bytes s ≡ bytes) × (length s.key_fingerprint ≡ 4)
+    → (s.name ≡ name) × (fingerprint_and_raw s ≡ bytes) × (length s.key_fingerprint ≡ 4)
 signature_by-found name bytes s e =
     let made : CheckpointSignature = record { key_fingerprint = take 4 bytes; raw = drop 4 bytes; name = name } in
     elim (chosen (nat_lt (length bytes) 4) (Err SignatureLength) (Ok made) (Ok s) e) [
       | inl short ↦ (let f = short.1 in cc)
       | inr long ↦
           let same : made ≡ s = (let f = long.1 in cc) in
-          subst (λ (x : CheckpointSignature). (x.name ≡ name) × (signed_bytes x ≡ bytes)
+          subst (λ (x : CheckpointSignature). (x.name ≡ name) × (fingerprint_and_raw x ≡ bytes)
           × (length x.key_fingerprint ≡ 4)) same
           (refl, take-append-drop 4 bytes, length-take-le 4 bytes (ltb-false (length bytes) 4 long.0))
     ]
 
 signature_by-only : (s : CheckpointSignature) → length s.key_fingerprint ≡ 4
-    → signature_by s.name (signed_bytes s) ≡ Ok s
+    → signature_by s.name (fingerprint_and_raw s) ≡ Ok s
 signature_by-only s four =
     rw (
-      le-ltb (length (signed_bytes s)) 4 (omega (arith, length-append s.key_fingerprint s.raw)),
+      le-ltb (length (fingerprint_and_raw s)) 4 (omega (arith, length-append s.key_fingerprint s.raw)),
       take_at
           s.key_fingerprint s.raw 4 four,
       drop_at s.key_fingerprint s.raw 4 four,
@@ -82,10 +82,10 @@ pub signature-found : (text : List ℕ) (s : CheckpointSignature) → signature_
 unfolding signature_of base64_of
 signature-found text s e =
     let a = bind_ok (line_of text) _ s e in
-    let b = bind_ok (name_and_bytes (parts space a.0)) _ s a.2 in
+    let b = bind_ok (name_and_bytes (parts_between space a.0)) _ s a.2 in
     let c = bind_ok (base64_of SignatureBase64 (trim_end b.0.1)) _ s b.2 in
     let line = line-found text a.0 a.1 in
-    let three = three-found (parts space a.0) b.0 b.1 in
+    let three = three-found (parts_between space a.0) b.0 b.1 in
     let made = signature_by-found b.0.0 c.0 s c.2 in
     record {
       line = a.0;
@@ -96,8 +96,9 @@ signature-found text s e =
       dash = line.1;
       parts =
           subst (λ name. IsParts space a.0 (three.0 ∷ name ∷ b.0.1 ∷ [])) (sym made.0)
-          (subst (IsParts space a.0) three.1 (parts-found space a.0 (omega arith)));
-      bytes = ok_or-ok (base64_bytes (trim_end b.0.1)) SignatureBase64 (signed_bytes s) (c.1 ∙ ap Ok (sym made.1));
+          (subst (IsParts space a.0) three.1 (parts_between-found space a.0 (omega arith)));
+      bytes = ok_or-ok (base64_bytes (trim_end b.0.1)) SignatureBase64 (fingerprint_and_raw s)
+          (c.1 ∙ ap Ok (sym made.1));
       fingerprint = made.2;
     }
 
@@ -106,6 +107,6 @@ unfolding signature_of base64_of
 signature-only text s is =
     rw (
       line-only text is.line is.behind_dash is.newlines is.dash,
-      parts-only space is.line (is.first ∷ s.name ∷ is.coded ∷ []) (omega arith) is.parts,
+      parts_between-only space is.line (is.first ∷ s.name ∷ is.coded ∷ []) (omega arith) is.parts,
       is.bytes,
     ) (signature_by-only s is.fingerprint)

@@ -6,14 +6,14 @@ use Rattle.sig_base.specs.ResultSteps.{◌>>=◌}
 use Rattle.sig_base.specs.declared.fault.CheckpointFault.{CheckpointFault}
 use Rattle.sig_base.specs.declared.fault.CheckpointFault.TheVariants.{SignatureFormat}
 use Rattle.sig_rekor.specs.declared.checkpoint.CheckpointSignature.{CheckpointSignature}
-use Rattle.sig_rekor.specs.Cut.{cut_at, parts}
+use Rattle.sig_rekor.specs.Cut.{cut_at, parts_between}
 use Rattle.sig_rekor.specs.declared.fault.ParseCheckpointError.{ParseCheckpointError}
 use Rattle.sig_rekor.specs.declared.fault.ParseCheckpointError.TheVariants.{OutOfMemory}
 use Rattle.sig_rekor.specs.Reading.{as_error}
 use Rattle.sig_rekor.specs.NoteText.{is_blank}
 use Rattle.sig_rekor.specs.SignatureText.{space, name_and_bytes, signature_of}
 use Rattle.sig_rekor.specs.CheckpointText.{empty_line, signatures_by, signatures_on}
-use Rattle.sig_rekor.proofs.Cutting.{parts-whole, parts-cut, parts-first}
+use Rattle.sig_rekor.proofs.Cutting.{parts_between-whole, parts_between-cut, parts_between-first}
 
 -- a piece of white space alone gives none, and any other one
 pub signatures_by-blank : (piece : List ℕ) (pieces : List (List ℕ)) → is_blank piece ≡ true
@@ -83,21 +83,21 @@ signatures_on-stops before piece pieces fault e = elim (cases_Bool (is_blank pie
 -- the pieces of what is left, at a cut and at the end
 pub signatures_on-cut : (before after : List CheckpointSignature) (text piece rest : List ℕ)
     → Some (piece, rest) ≡ cut_at empty_line text → signatures_on before (piece ∷ []) ≡ Ok after
-    → signatures_on before (parts empty_line text) ≡ signatures_on after (parts empty_line rest)
+    → signatures_on before (parts_between empty_line text) ≡ signatures_on after (parts_between empty_line rest)
 signatures_on-cut before after text piece rest e f =
-    ap (signatures_on before) (parts-cut empty_line text piece rest (omega arith) (sym e))
-    ∙ signatures_on-more before after piece (parts empty_line rest) f
+    ap (signatures_on before) (parts_between-cut empty_line text piece rest (omega arith) (sym e))
+    ∙ signatures_on-more before after piece (parts_between empty_line rest) f
 
 pub signatures_on-cut_refused : (before : List CheckpointSignature) (text piece rest : List ℕ)
     (fault : CheckpointFault) → Some (piece, rest) ≡ cut_at empty_line text
-    → signatures_on before (piece ∷ []) ≡ Err fault → signatures_on before (parts empty_line text) ≡ Err fault
+    → signatures_on before (piece ∷ []) ≡ Err fault → signatures_on before (parts_between empty_line text) ≡ Err fault
 signatures_on-cut_refused before text piece rest fault e f =
-    ap (signatures_on before) (parts-cut empty_line text piece rest (omega arith) (sym e))
-    ∙ signatures_on-stops before piece (parts empty_line rest) fault f
+    ap (signatures_on before) (parts_between-cut empty_line text piece rest (omega arith) (sym e))
+    ∙ signatures_on-stops before piece (parts_between empty_line rest) fault f
 
 pub signatures_on-end : (before : List CheckpointSignature) (text : List ℕ) → None ≡ cut_at empty_line text
-    → signatures_on before (parts empty_line text) ≡ signatures_on before (text ∷ [])
-signatures_on-end before text e = ap (signatures_on before) (parts-whole empty_line text (sym e))
+    → signatures_on before (parts_between empty_line text) ≡ signatures_on before (text ∷ [])
+signatures_on-end before text e = ap (signatures_on before) (parts_between-whole empty_line text (sym e))
 
 pub signatures_on-nothing : (pieces : List (List ℕ)) → signatures_on [] pieces ≡ signatures_by pieces
 signatures_on-nothing pieces = same (signatures_by pieces) where
@@ -107,35 +107,36 @@ signatures_on-nothing pieces = same (signatures_by pieces) where
 
 -- ---- the three parts of a signature
 
-pub no_part : (line : List ℕ) → None ≡ cut_at space line → name_and_bytes (parts space line) ≡ Err SignatureFormat
-no_part line e = rw (parts-whole space line (sym e)) refl
+pub no_part : (line : List ℕ) → None ≡ cut_at space line → name_and_bytes (parts_between space line)
+    ≡ Err SignatureFormat
+no_part line e = rw (parts_between-whole space line (sym e)) refl
 
 pub two_parts : (line first behind : List ℕ) → Some (first, behind) ≡ cut_at space line → None ≡ cut_at space behind
-    → name_and_bytes (parts space line) ≡ Err SignatureFormat
+    → name_and_bytes (parts_between space line) ≡ Err SignatureFormat
 two_parts line first behind e f =
-    rw (parts-cut space line first behind (omega arith) (sym e), parts-whole space behind (sym f)) refl
+    rw (parts_between-cut space line first behind (omega arith) (sym e), parts_between-whole space behind (sym f)) refl
 
 pub just_three : (line first behind name coded : List ℕ) → Some (first, behind) ≡ cut_at space line
     → Some (name, coded) ≡ cut_at space behind → None ≡ cut_at space coded
-    → name_and_bytes (parts space line) ≡ Ok (name, coded)
+    → name_and_bytes (parts_between space line) ≡ Ok (name, coded)
 just_three line first behind name coded e f g =
     rw (
-      parts-cut space line first behind (omega arith) (sym e),
-      parts-cut space behind name coded (omega arith)
+      parts_between-cut space line first behind (omega arith) (sym e),
+      parts_between-cut space behind name coded (omega arith)
           (sym f),
-      parts-whole space coded (sym g),
+      parts_between-whole space coded (sym g),
     ) refl
 
 pub more_parts : (line first behind name coded more last : List ℕ) → Some (first, behind) ≡ cut_at space line
     → Some (name, coded) ≡ cut_at space behind → Some (more, last) ≡ cut_at space coded
-    → name_and_bytes (parts space line) ≡ Err SignatureFormat
+    → name_and_bytes (parts_between space line) ≡ Err SignatureFormat
 more_parts line first behind name coded more last e f g =
-    let p = parts-first space last in
+    let p = parts_between-first space last in
     rw (
-      parts-cut space line first behind (omega arith) (sym e),
-      parts-cut space behind name coded (omega arith)
+      parts_between-cut space line first behind (omega arith) (sym e),
+      parts_between-cut space behind name coded (omega arith)
           (sym f),
-      parts-cut space coded more last (omega arith) (sym g),
+      parts_between-cut space coded more last (omega arith) (sym g),
       p.2,
     ) refl
 
@@ -146,17 +147,17 @@ pub ruleset one_signature = (signatures_on-blank, signatures_on-read, signatures
 -- what fails at a cut fails for the whole
 failed_at_cut : (before : List CheckpointSignature) (text piece rest : List ℕ) (error : ParseCheckpointError)
     → Some (piece, rest) ≡ cut_at empty_line text → as_error (signatures_on before (piece ∷ [])) ≡ Err error
-    → as_error (signatures_on before (parts empty_line text)) ≡ Err error
+    → as_error (signatures_on before (parts_between empty_line text)) ≡ Err error
 failed_at_cut before text piece rest error cut is = by (signatures_on before (piece ∷ [])) refl is where
   by : (r : Result (List CheckpointSignature) CheckpointFault) → signatures_on before (piece ∷ []) ≡ r
-      → as_error r ≡ Err error → as_error (signatures_on before (parts empty_line text)) ≡ Err error
+      → as_error r ≡ Err error → as_error (signatures_on before (parts_between empty_line text)) ≡ Err error
   by (Ok after) same failed = absurd cc
   by (Err fault) same failed = rw (signatures_on-cut_refused before text piece rest fault cut same) failed
 
 -- so does what ends at a cut for want of memory
 pub ends_at_cut : (before : List CheckpointSignature) (text piece rest : List ℕ) (error : ParseCheckpointError)
     (whole : Result (List CheckpointSignature) CheckpointFault)
-    → signatures_on before (parts empty_line text) ≡ whole → Some (piece, rest) ≡ cut_at empty_line text
+    → signatures_on before (parts_between empty_line text) ≡ whole → Some (piece, rest) ≡ cut_at empty_line text
     → (error ≡ OutOfMemory) ⊎ (as_error (signatures_on before (piece ∷ [])) ≡ Err error)
     → (error ≡ OutOfMemory) ⊎ (as_error whole ≡ Err error)
 ends_at_cut before text piece rest error whole same cut (inl memory) = inl memory

@@ -16,7 +16,8 @@ use Rattle.sig_merkle.specs.Inclusion.{inclusion_answer}
 use Rattle.sig_merkle.proofs.InclusionLaws.{inclusion_answers}
 use Rattle.sig_rekor.specs.declared.checkpoint.SignedCheckpoint.{SignedCheckpoint}
 use Rattle.sig_rekor.specs.declared.inclusion_proof.InclusionProof.{InclusionProof}
-use Rattle.sig_rekor.specs.Verify.{is_signed, IsOfTree, signed_answer, tree_answer, as_inclusion, inclusion_at}
+use Rattle.sig_rekor.specs.Verify.{has_accepted_signature, IsOfTree, signed_answer, tree_answer, as_inclusion}
+use Rattle.sig_rekor.specs.Verify.{inclusion_at}
 use Rattle.sig_rekor.specs.Verify.{and_then, checkpoint_answer, proof_answer, HasCheckpoint, IsIncludedAt, IsVouched}
 use Rattle.sig_rekor.proofs.Steps.{chosen}
 
@@ -69,9 +70,10 @@ has_checkpoint accepts proof (Some checkpoint) e =
     let both = both_accepted (signed_answer accepts checkpoint)
     (tree_answer checkpoint proof.root_hash proof.tree_size) e in
     (signed both.0, of_tree checkpoint proof.root_hash proof.tree_size both.1) where
-      signed : signed_answer accepts checkpoint ≡ Ok tt → is_signed accepts checkpoint ≡ true
+      signed : signed_answer accepts checkpoint ≡ Ok tt → has_accepted_signature accepts checkpoint ≡ true
       signed f =
-          elim (chosen (is_signed accepts checkpoint) (Ok tt) (Err CheckpointSignatureVerificationError) (Ok tt) f) [
+          elim (chosen (has_accepted_signature accepts checkpoint) (Ok tt) (Err CheckpointSignatureVerificationError)
+          (Ok tt) f) [
             | inl is ↦ is.0
             | inr none ↦ (let g = none.1 in cc)
           ]
@@ -80,7 +82,7 @@ checkpoint_accepted : (accepts : List ℕ → List ℕ → Bool) (proof : Inclus
     → HasCheckpoint accepts proof o → checkpoint_answer accepts proof o ≡ Ok tt
 checkpoint_accepted accepts proof None is = absurd is
 checkpoint_accepted accepts proof (Some checkpoint) is =
-    let signed : is_signed accepts checkpoint ≡ true =
+    let signed : has_accepted_signature accepts checkpoint ≡ true =
     is.0 in rw (signed, tree_accepted checkpoint proof.root_hash proof.tree_size is.1) refl
 
 -- the path

@@ -3,11 +3,11 @@ use Rattle.std.proofs.Common.{◌≡◌, ◌≢◌, ℕ, ◌<◌, List, [], ◌�
 use Rattle.std.proofs.Common.{◌∙◌, ap, arith, append-nil}
 use Rattle.std.proofs.lemmas.Bool.{ne_eqb, eq-eqb}
 use Rattle.std.specs.List.{AllByRecursion}
-use Rattle.sig_rekor.specs.Cut.{Lacks, cut_at, cut_here, parts}
+use Rattle.sig_rekor.specs.Cut.{Lacks, cut_at, cut_here, parts_between}
 use Rattle.sig_rekor.specs.NoteText.{newline}
 use Rattle.sig_rekor.specs.CheckpointText.{empty_line}
 use Rattle.sig_rekor.proofs.Graphic.{IsFreeOf}
-use Rattle.sig_rekor.proofs.Cutting.{parts-whole, parts-cut}
+use Rattle.sig_rekor.proofs.Cutting.{parts_between-whole, parts_between-cut}
 
 pub free-lacks : (s : ℕ) (t : List ℕ) → Lacks (s ∷ []) t → IsFreeOf s t
 free-lacks s [] lacks = tt
@@ -83,12 +83,12 @@ pub record IsLine (line : List ℕ) : Type 0 where
   pub some : 0 < length line
 
 pub written_parts : (line : List ℕ) (lines : List (List ℕ)) → IsLine line → AllByRecursion IsLine lines
-    → parts newline (written line lines []) ≡ line ∷ lines
+    → parts_between newline (written line lines []) ≡ line ∷ lines
 written_parts line [] is are =
-    parts-whole newline (line ++ []) (ap (cut_at newline) (append-nil line) ∙ cut_none 10 [] line is.free)
+    parts_between-whole newline (line ++ []) (ap (cut_at newline) (append-nil line) ∙ cut_none 10 [] line is.free)
     ∙ ap (λ x. x ∷ []) (append-nil line)
 written_parts line (next ∷ lines) is are =
-    parts-cut newline (line ++ 10 ∷ written next lines []) line (written next lines []) (omega arith)
+    parts_between-cut newline (line ++ 10 ∷ written next lines []) line (written next lines []) (omega arith)
     (cut_after 10 line (written next lines []) is.free)
     ∙ ap (λ ps. line ∷ ps) (written_parts next lines are.0 are.1)
 

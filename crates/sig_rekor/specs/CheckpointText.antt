@@ -6,7 +6,7 @@ use Rattle.sig_base.specs.declared.fault.CheckpointFault.{CheckpointFault}
 use Rattle.sig_base.specs.declared.fault.CheckpointFault.TheVariants.{Format}
 use Rattle.sig_rekor.specs.declared.checkpoint.SignedCheckpoint.{SignedCheckpoint}
 use Rattle.sig_rekor.specs.declared.checkpoint.CheckpointSignature.{CheckpointSignature}
-use Rattle.sig_rekor.specs.Cut.{IsTrimmed, IsCut, IsParts, trimmed, cut_at, parts}
+use Rattle.sig_rekor.specs.Cut.{IsTrimmed, IsCut, IsParts, trimmed, cut_at, parts_between}
 use Rattle.sig_rekor.specs.Reading.{each}
 use Rattle.sig_rekor.specs.NoteText.{newline, is_blank, IsNote, note_of, note_text}
 use Rattle.sig_rekor.specs.SignatureText.{IsSignature, signature_of, signature_text}
@@ -47,7 +47,7 @@ signatures_on before pieces = signatures_by pieces >>= λ signatures. Ok (before
 abbrev pub checkpoint_by : Option (List ℕ × List ℕ) → Result SignedCheckpoint CheckpointFault
 checkpoint_by None = Err Format
 checkpoint_by (Some cut) = do
-  signatures ← signatures_by (parts empty_line cut.1)
+  signatures ← signatures_by (parts_between empty_line cut.1)
   note ← note_of cut.0
   Ok (record { note = note; signatures = signatures })
 

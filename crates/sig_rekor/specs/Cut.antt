@@ -24,8 +24,8 @@ pub record IsCut (separator text before after : List ℕ) : Type 0 where
 abbrev pub IsParts : List ℕ → List ℕ → List (List ℕ) → Type 0
 IsParts separator text [] = ⊥
 IsParts separator text (part ∷ []) = (text ≡ part) × Lacks separator text
-IsParts separator text (part ∷ next ∷ parts) =
-    (rest : List ℕ) × IsCut separator text part rest × IsParts separator rest (next ∷ parts)
+IsParts separator text (part ∷ next ∷ parts_between) =
+    (rest : List ℕ) × IsCut separator text part rest × IsParts separator rest (next ∷ parts_between)
 
 -- the text without the marks at its front, and at both its ends
 abbrev pub without_front : ℕ → List ℕ → List ℕ
@@ -65,5 +65,5 @@ parts_within zero separator text = text ∷ []
 parts_within (suc most) separator text = parts_of_cut text (parts_within most separator) (cut_at separator text)
 
 -- the parts between the separators. No text has more separators than bytes
-unfoldable pub parts : List ℕ → List ℕ → List (List ℕ)
-parts separator text = parts_within (length text) separator text
+unfoldable pub parts_between : List ℕ → List ℕ → List (List ℕ)
+parts_between separator text = parts_within (length text) separator text

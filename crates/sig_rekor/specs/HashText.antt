@@ -1,4 +1,5 @@
--- A hash in Rekor's API: 64 hexadecimal digits in either case (RFC 4648 section 8), and the error of a text that is none.
+-- A hash in Rekor's API: 64 hexadecimal digits in either case (RFC 4648 section 8), and the error of a text that is
+-- none.
 use Rattle.std.specs.Prelude.{ℕ, ◌+◌, ◌%◌, ◌==◌, ◌&&◌, Bool, if◌then◌else◌, List, [], ◌∷◌, length, Result, Ok, Err}
 use Rattle.std.specs.Char.{is_ascii_hexdigit}
 use Rattle.std.specs.List.{list_all}

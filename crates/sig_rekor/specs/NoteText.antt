@@ -13,7 +13,7 @@ use Rattle.sig_base.specs.declared.fault.CheckpointFault.TheVariants.{HashLength
 use Rattle.sig_rekor.specs.declared.checkpoint.Checkpoint.{Checkpoint}
 use Rattle.sig_rekor.specs.declared.checkpoint.OtherContent.{OtherContent}
 use Rattle.sig_rekor.specs.declared.checkpoint.OtherContent.TheVariants.{KeyValue, Value}
-use Rattle.sig_rekor.specs.Cut.{IsCut, IsParts, Lacks, cut_at, parts}
+use Rattle.sig_rekor.specs.Cut.{IsCut, IsParts, Lacks, cut_at, parts_between}
 use Rattle.sig_base.specs.Base64.{base64_bytes, base64_text}
 use Rattle.sig_rekor.specs.Reading.{base64_of}
 
@@ -66,26 +66,26 @@ abbrev pub content_by : List ℕ → Option (List ℕ × List ℕ) → OtherCont
 content_by line None = Value line
 content_by line (Some cut) = KeyValue cut.0 cut.1
 
-unfoldable pub content_of : List ℕ → OtherContent
-content_of line = content_by line (cut_at colon line)
+unfoldable pub other_content_of : List ℕ → OtherContent
+other_content_of line = content_by line (cut_at colon line)
 
 unfoldable pub contents_of : List (List ℕ) → List OtherContent
-contents_of lines = map content_of (filter is_not_empty lines)
+contents_of lines = map other_content_of (filter is_not_empty lines)
 
 -- the size that a line says
 abbrev pub size_by : List ℕ → Result ℕ CheckpointFault
 size_by digits = if list_all is_ascii_digit digits && (is_not_empty digits && nat_lt (digits_value 10 digits) (2 ^ 64))
     then Ok (digits_value 10 digits) else Err Size
 
-unfoldable pub size_of : List ℕ → Result ℕ CheckpointFault
-size_of line = size_by (without_leading_plus line)
+unfoldable pub tree_size_of : List ℕ → Result ℕ CheckpointFault
+tree_size_of line = size_by (without_leading_plus line)
 
 -- the hash that a line says
 abbrev pub hash_by : List ℕ → Result (List ℕ) CheckpointFault
 hash_by bytes = if length bytes == hash_len then Ok bytes else Err HashLength
 
-unfoldable pub hash_of : List ℕ → Result (List ℕ) CheckpointFault
-hash_of line = base64_of HashBase64 line >>= hash_by
+unfoldable pub root_hash_of : List ℕ → Result (List ℕ) CheckpointFault
+root_hash_of line = base64_of HashBase64 line >>= hash_by
 
 unfoldable pub origin_of : List ℕ → Result (List ℕ) CheckpointFault
 origin_of line = if is_blank line then Err EmptyOrigin else Ok line
@@ -94,13 +94,13 @@ origin_of line = if is_blank line then Err EmptyOrigin else Ok line
 abbrev pub note_by : List (List ℕ) → Result Checkpoint CheckpointFault
 note_by (origin_line ∷ size_line ∷ hash_line ∷ others) = do
   origin ← origin_of origin_line
-  size ← size_of size_line
-  hash ← hash_of hash_line
+  size ← tree_size_of size_line
+  hash ← root_hash_of hash_line
   Ok (record { origin = origin; size = size; hash = hash; other_content = contents_of others })
 note_by _ = Err NoteFormat
 
 unfoldable pub note_of : List ℕ → Result Checkpoint CheckpointFault
-note_of text = note_by (parts newline text)
+note_of text = note_by (parts_between newline text)
 
 -- how a content is written
 abbrev pub content_text : OtherContent → List ℕ

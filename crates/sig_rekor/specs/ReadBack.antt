@@ -7,18 +7,18 @@ use Rattle.sig_rekor.specs.declared.checkpoint.Checkpoint.{Checkpoint}
 use Rattle.sig_rekor.specs.declared.checkpoint.CheckpointSignature.{CheckpointSignature}
 use Rattle.sig_rekor.specs.declared.checkpoint.OtherContent.{OtherContent}
 use Rattle.sig_rekor.specs.Cut.{Lacks}
-use Rattle.sig_rekor.specs.NoteText.{newline, hash_len, is_blank, content_of, content_text}
-use Rattle.sig_rekor.specs.SignatureText.{space, fingerprint_len, signed_bytes}
+use Rattle.sig_rekor.specs.NoteText.{newline, hash_len, is_blank, other_content_of, content_text}
+use Rattle.sig_rekor.specs.SignatureText.{space, fingerprint_len, fingerprint_and_raw}
 use Rattle.sig_rekor.specs.CheckpointText.{quotation_mark}
 
 -- one line that is not empty and means this content: a value has no `: `, and a key none either
-pub record IsLineOf (content : OtherContent) : Type 0 where
+pub record IsContentLine (content : OtherContent) : Type 0 where
   pub line : Lacks newline (content_text content)
   pub written : 0 < length (content_text content)
-  pub same : content_of (content_text content) ≡ content
+  pub same : other_content_of (content_text content) ≡ content
 
 -- the name has no space and no newline
-pub record IsName (name : List ℕ) : Type 0 where
+pub record IsSignerName (name : List ℕ) : Type 0 where
   pub word : Lacks space name
   pub line : Lacks newline name
 
@@ -28,13 +28,13 @@ pub record ReadsBack (checkpoint : SignedCheckpoint) : Type 0 where
   pub origin : is_blank checkpoint.note.origin ≡ false
   pub line : Lacks newline checkpoint.note.origin
   pub unquoted : (rest : List ℕ) → checkpoint.note.origin ≢ quotation_mark ∷ rest
-  pub contents : AllByRecursion IsLineOf checkpoint.note.other_content
-  pub names : AllByRecursion (λ (s : CheckpointSignature). IsName s.name) checkpoint.signatures
+  pub contents : AllByRecursion IsContentLine checkpoint.note.other_content
+  pub names : AllByRecursion (λ (s : CheckpointSignature). IsSignerName s.name) checkpoint.signatures
 
 -- what the types say of a signature and of a note: numbers below 2^64, arrays of their length, bytes below 256
 pub record IsSignatureValue (signature : CheckpointSignature) : Type 0 where
   pub fingerprint : length signature.key_fingerprint ≡ fingerprint_len
-  pub bytes : IsBytes (signed_bytes signature)
+  pub bytes : IsBytes (fingerprint_and_raw signature)
 
 pub record IsNoteValue (note : Checkpoint) : Type 0 where
   pub size : note.size < 2 ^ 64

@@ -23,8 +23,8 @@ checkpoint_or_none [] = Ok None
 checkpoint_or_none (first ∷ others) = there (checkpoint_of (first ∷ others))
 
 -- the proof, or the first part that is wrong: the hashes in order, the root hash, the checkpoint
-unfoldable pub proof_from_rekor : RekorInclusionProof → Result InclusionProof SigstoreError
-proof_from_rekor api = do
+unfoldable pub inclusion_proof_from_rekor : RekorInclusionProof → Result InclusionProof SigstoreError
+inclusion_proof_from_rekor api = do
   hashes ← hashes_from 0 api.hashes
   root ← hash_in RootLength api.root_hash
   checkpoint ← checkpoint_or_none api.checkpoint

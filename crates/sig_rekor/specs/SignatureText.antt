@@ -9,7 +9,7 @@ use Rattle.sig_base.specs.declared.fault.CheckpointFault.{CheckpointFault}
 use Rattle.sig_base.specs.declared.fault.CheckpointFault.TheVariants.{NoDash, SignatureFormat, SignatureBase64}
 use Rattle.sig_base.specs.declared.fault.CheckpointFault.TheVariants.{SignatureLength}
 use Rattle.sig_rekor.specs.declared.checkpoint.CheckpointSignature.{CheckpointSignature}
-use Rattle.sig_rekor.specs.Cut.{IsTrimmed, IsParts, trimmed, parts}
+use Rattle.sig_rekor.specs.Cut.{IsTrimmed, IsParts, trimmed, parts_between}
 use Rattle.sig_base.specs.Base64.{base64_bytes, base64_text}
 use Rattle.sig_rekor.specs.Reading.{base64_of}
 use Rattle.sig_rekor.specs.NoteText.{line_feed, newline}
@@ -26,8 +26,8 @@ abbrev pub fingerprint_len : ℕ
 fingerprint_len = 4
 
 -- the fingerprint's four bytes and the signature's, in one
-abbrev pub signed_bytes : CheckpointSignature → List ℕ
-signed_bytes signature = signature.key_fingerprint ++ signature.raw
+abbrev pub fingerprint_and_raw : CheckpointSignature → List ℕ
+fingerprint_and_raw signature = signature.key_fingerprint ++ signature.raw
 
 -- *Signature*: with newlines trimmed, the text starts with an em dash and has three parts between single spaces.
 -- The second is the name, and the third, white space at its end dropped, the base64 of the fingerprint's four bytes
@@ -40,7 +40,7 @@ pub record IsSignature (text : List ℕ) (signature : CheckpointSignature) : Typ
   pub newlines : IsTrimmed line_feed text line
   pub dash : line ≡ em_dash ++ behind_dash
   pub parts : IsParts space line (first ∷ signature.name ∷ coded ∷ [])
-  pub bytes : base64_bytes (trim_end coded) ≡ Some (signed_bytes signature)
+  pub bytes : base64_bytes (trim_end coded) ≡ Some (fingerprint_and_raw signature)
   pub fingerprint : length signature.key_fingerprint ≡ fingerprint_len
 
 -- the line, where it starts with the dash
@@ -61,11 +61,11 @@ signature_by name bytes = if nat_lt (length bytes) fingerprint_len then Err Sign
 unfoldable pub signature_of : List ℕ → Result CheckpointSignature CheckpointFault
 signature_of text = do
   line ← line_of text
-  named ← name_and_bytes (parts space line)
+  named ← name_and_bytes (parts_between space line)
   bytes ← base64_of SignatureBase64 (trim_end named.1)
   signature_by named.0 bytes
 
 -- how a signature is written: em dash, space, name, space, base64, newline
 unfoldable pub signature_text : CheckpointSignature → List ℕ
 signature_text signature =
-    em_dash ++ (space ++ (signature.name ++ (space ++ (base64_text (signed_bytes signature) ++ newline))))
+    em_dash ++ (space ++ (signature.name ++ (space ++ (base64_text (fingerprint_and_raw signature) ++ newline))))

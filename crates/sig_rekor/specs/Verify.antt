@@ -18,8 +18,8 @@ use Rattle.sig_rekor.specs.declared.inclusion_proof.InclusionProof.{InclusionPro
 use Rattle.sig_rekor.specs.NoteText.{note_text}
 
 -- one of the signatures is accepted over the note text
-unfoldable pub is_signed : (List ℕ → List ℕ → Bool) → SignedCheckpoint → Bool
-is_signed accepts checkpoint =
+unfoldable pub has_accepted_signature : (List ℕ → List ℕ → Bool) → SignedCheckpoint → Bool
+has_accepted_signature accepts checkpoint =
     list_any (λ signature. accepts (note_text checkpoint.note) signature.raw) checkpoint.signatures
 
 -- the note speaks of the tree of this size and root
@@ -28,7 +28,7 @@ IsOfTree checkpoint root size = (checkpoint.note.size ≡ size) × (checkpoint.n
 
 abbrev pub signed_answer : (List ℕ → List ℕ → Bool) → SignedCheckpoint → Result (Unit {0}) SigstoreError
 signed_answer accepts checkpoint =
-    if is_signed accepts checkpoint then Ok tt else Err CheckpointSignatureVerificationError
+    if has_accepted_signature accepts checkpoint then Ok tt else Err CheckpointSignatureVerificationError
 
 -- a larger note, a smaller one, and one of the same size with another root
 abbrev pub tree_answer : SignedCheckpoint → List ℕ → ℕ → Result (Unit {0}) SigstoreError
@@ -71,7 +71,7 @@ proof_answer accepts entry proof =
 abbrev pub HasCheckpoint : (List ℕ → List ℕ → Bool) → InclusionProof → Option SignedCheckpoint → Type 0
 HasCheckpoint accepts proof None = ⊥
 HasCheckpoint accepts proof (Some checkpoint) =
-    IsTrue (is_signed accepts checkpoint) × IsOfTree checkpoint proof.root_hash proof.tree_size
+    IsTrue (has_accepted_signature accepts checkpoint) × IsOfTree checkpoint proof.root_hash proof.tree_size
 
 abbrev pub IsIncludedAt : ℤ → List ℕ → InclusionProof → Type 0
 IsIncludedAt (pos index) entry proof = IsIncluded index (leaf_of entry) proof.tree_size proof.hashes proof.root_hash

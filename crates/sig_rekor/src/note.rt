@@ -10,10 +10,11 @@ ghost use Rattle.std.specs.Prelude.{◌≡◌, ◌++◌, [], ◌∷◌, List, �
 ghost use Rattle.sig_base.specs.declared.fault.CheckpointFault.TheVariants.{NoteFormat};
 ghost use Rattle.sig_rekor.specs.declared.checkpoint.Checkpoint.{Checkpoint as Note};
 ghost use Rattle.std.specs.List.{flat_map};
-ghost use Rattle.sig_rekor.specs.Cut.{parts};
+ghost use Rattle.sig_rekor.specs.Cut.{parts_between};
 ghost use Rattle.sig_rekor.specs.Reading.{Reads};
-ghost use Rattle.sig_rekor.specs.NoteText.{newline, content_of, contents_of, content_line, origin_of, size_of};
-ghost use Rattle.sig_rekor.specs.NoteText.{hash_of, note_by, note_of, note_text, IsNote};
+ghost use Rattle.sig_rekor.specs.NoteText.{newline, other_content_of, contents_of, content_line, origin_of};
+ghost use Rattle.sig_rekor.specs.NoteText.{tree_size_of};
+ghost use Rattle.sig_rekor.specs.NoteText.{root_hash_of, note_by, note_of, note_text, IsNote};
 ghost use Rattle.sig_rekor.specs.ReadBack.{IsNoteValue};
 
 use crate::checkpoint::{Checkpoint, OtherContent, OtherContents};
@@ -93,7 +94,8 @@ fn read_note(alloc: Global, text: &str) -> Result<Checkpoint, ParseCheckpointErr
 #[tactic(auto, using(crate::proofs::Notes::all_lines))]
 fn lines_of(text: &str) -> Option<Lines<'_>>
     ensures { MatchOption result (note_of text.now ≡ Err NoteFormat)
-        (λ lines. note_of text.now ≡ note_by (lines.origin.now ∷ lines.size.now ∷ lines.hash.now ∷ parts newline
+        (λ lines. note_of text.now ≡ note_by (lines.origin.now ∷ lines.size.now ∷ lines.hash.now ∷ parts_between
+        newline
         lines.others.now)) }
 {
     let (origin, rest) = cut(text, "\n")?;
@@ -120,9 +122,9 @@ fn read_origin(alloc: Global, line: &str) -> Result<Text, ParseCheckpointError>
     Ok(Text::copy_of(alloc, line)?)
 }
 
-#[tactic(auto, unfolding(crate::specs::NoteText::size_of))]
+#[tactic(auto, unfolding(crate::specs::NoteText::tree_size_of))]
 fn read_size(line: &str) -> Result<u64, ParseCheckpointError>
-    ensures { Reads (λ n. n) result (size_of line.now) }
+    ensures { Reads (λ n. n) result (tree_size_of line.now) }
 {
     match line.parse::<u64>() {
         Ok(size) => Ok(size),
@@ -130,9 +132,9 @@ fn read_size(line: &str) -> Result<u64, ParseCheckpointError>
     }
 }
 
-#[tactic(auto, unfolding(crate::specs::NoteText::hash_of))]
+#[tactic(auto, unfolding(crate::specs::NoteText::root_hash_of))]
 fn read_hash(alloc: Global, line: &str) -> Result<[u8; 32], ParseCheckpointError>
-    ensures { Reads (λ h. h) result (hash_of line.now) }
+    ensures { Reads (λ h. h) result (root_hash_of line.now) }
 {
     let bytes = decode_base64(alloc, line, CheckpointFault::HashBase64)?;
     match <[u8; 32]>::try_from(bytes.as_slice()) {
@@ -143,7 +145,7 @@ fn read_hash(alloc: Global, line: &str) -> Result<[u8; 32], ParseCheckpointError
 
 #[tactic(auto, using(crate::proofs::Notes::all_contents))]
 fn read_contents(alloc: Global, text: &str) -> Result<OtherContents, OutOfMemory>
-    ensures { IfOk result (λ contents. contents ≡ contents_of (parts newline text.now)) }
+    ensures { IfOk result (λ contents. contents ≡ contents_of (parts_between newline text.now)) }
 {
     let mut contents = OtherContents::new(alloc);
     let mut rest = text;
@@ -167,9 +169,9 @@ fn add_content(alloc: Global, line: &str, contents: &mut OtherContents) -> Resul
     contents.push(content)
 }
 
-#[tactic(auto, unfolding(crate::specs::NoteText::content_of))]
+#[tactic(auto, unfolding(crate::specs::NoteText::other_content_of))]
 fn read_content(alloc: Global, line: &str) -> Result<OtherContent, OutOfMemory>
-    ensures { IfOk result (λ content. content ≡ content_of line.now) }
+    ensures { IfOk result (λ content. content ≡ other_content_of line.now) }
 {
     match cut(line, ": ") {
         Some((key, value)) => Ok(OtherContent::KeyValue(

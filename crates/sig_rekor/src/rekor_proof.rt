@@ -8,7 +8,7 @@
 ghost use Rattle.std.specs.Prelude.{◌≡◌};
 ghost use Rattle.sig_base.specs.Answers.{Answers};
 ghost use Rattle.sig_base.specs.declared.error.SigstoreError.TheVariants.{OutOfMemory as Memory};
-ghost use Rattle.sig_rekor.specs.RekorProof.{checkpoint_or_none, proof_from_rekor};
+ghost use Rattle.sig_rekor.specs.RekorProof.{checkpoint_or_none, inclusion_proof_from_rekor};
 
 use crate::checkpoint::SignedCheckpoint;
 use crate::hash_text::{decode_hash, decode_hashes};
@@ -40,9 +40,9 @@ impl InclusionProof {
     ///   hexadecimal digits, as of [`decode_hash`];
     /// - `HexDecodeError`, or `UnexpectedError` of `RootLength`: the same of the root hash;
     /// - `ParseCheckpointError`: the fault of [`SignedCheckpoint::decode`].
-    #[tactic(auto, unfolding(crate::specs::RekorProof::proof_from_rekor))]
+    #[tactic(auto, unfolding(crate::specs::RekorProof::inclusion_proof_from_rekor))]
     pub fn try_from_rekor(alloc: Global, api: &RekorInclusionProof) -> Result<InclusionProof>
-        ensures { Answers Memory (λ proof. proof) result (proof_from_rekor api.now) }
+        ensures { Answers Memory (λ proof. proof) result (inclusion_proof_from_rekor api.now) }
     {
         let hashes = decode_hashes(alloc, &api.hashes)?;
         let root_hash = decode_hash(

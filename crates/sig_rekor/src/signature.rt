@@ -8,12 +8,12 @@ ghost use Rattle.std.specs.Prelude.{◌≡◌, Ok, IfOk, OnOk, option_map};
 ghost use Rattle.std.specs.Option.{ok_or};
 ghost use Rattle.sig_base.specs.declared.fault.CheckpointFault.TheVariants.{SignatureFormat};
 ghost use Rattle.sig_rekor.specs.declared.checkpoint.CheckpointSignature.{CheckpointSignature as Signature};
-ghost use Rattle.sig_rekor.specs.Cut.{parts};
+ghost use Rattle.sig_rekor.specs.Cut.{parts_between};
 ghost use Rattle.sig_base.specs.Base64.{base64_text};
 ghost use Rattle.sig_rekor.specs.Reading.{Reads};
 ghost use Rattle.sig_rekor.specs.SignatureText.{space, line_of, name_and_bytes, signature_by, signature_of};
-ghost use Rattle.sig_rekor.specs.SignatureText.{signature_text, signed_bytes, IsSignature};
-ghost use Rattle.sig_rekor.specs.ReadBack.{IsName, IsSignatureValue};
+ghost use Rattle.sig_rekor.specs.SignatureText.{signature_text, fingerprint_and_raw, IsSignature};
+ghost use Rattle.sig_rekor.specs.ReadBack.{IsSignerName, IsSignatureValue};
 
 use crate::checkpoint::CheckpointSignature;
 use crate::coding::decode_base64;
@@ -42,7 +42,7 @@ impl CheckpointSignature {
     /// back if the name has neither a space nor a newline. Fails if out of memory alone.
     pub fn encode(&self, alloc: Global) -> Result<Text, OutOfMemory>
         ensures text { IfOk result (λ text. text ≡ signature_text self.now) }
-        ensures reads_back { IsName self.now.name → IfOk result (λ text. signature_of text ≡ Ok self.now) }
+        ensures reads_back { IsSignerName self.now.name → IfOk result (λ text. signature_of text ≡ Ok self.now) }
     {
         self.write(alloc)
     }
@@ -60,7 +60,7 @@ impl CheckpointSignature {
 
     /// The fingerprint and the signature in one, in base64.
     fn coded(&self, alloc: Global) -> Result<Text, OutOfMemory>
-        ensures text { IfOk result (λ text. text ≡ base64_text (signed_bytes self.now)) }
+        ensures text { IfOk result (λ text. text ≡ base64_text (fingerprint_and_raw self.now)) }
         ensures value { OnOk result (IsSignatureValue self.now) }
     {
         let mut bytes = Vec::from_slice(alloc, &self.key_fingerprint)?;
@@ -115,7 +115,7 @@ fn read_line(text: &str) -> Result<&str, ParseCheckpointError>
 /// The second and the third of three parts.
 #[tactic(auto, using(crate::proofs::Signatures::three_parts))]
 fn name_and_bytes(line: &str) -> Option<(&str, &str)>
-    ensures { name_and_bytes (parts space line.now) ≡ ok_or
+    ensures { name_and_bytes (parts_between space line.now) ≡ ok_or
         (option_map (λ x. (x.0.now, x.1.now)) result) SignatureFormat }
 {
     let (_, behind) = cut(line, " ")?;

@@ -11,7 +11,7 @@ ghost use Rattle.std.specs.Prelude.{◌≡◌, ◌++◌, ◌∷◌, [], Ok, IfOk
 ghost use Rattle.std.specs.List.{AllByRecursion, join_by, flat_map};
 ghost use Rattle.std.specs.Option.{option_to_list};
 ghost use Rattle.sig_rekor.specs.declared.checkpoint.SignedCheckpoint.{SignedCheckpoint as Signed};
-ghost use Rattle.sig_rekor.specs.Cut.{parts};
+ghost use Rattle.sig_rekor.specs.Cut.{parts_between};
 ghost use Rattle.sig_rekor.specs.Reading.{Reads};
 ghost use Rattle.sig_rekor.specs.NoteText.{newline};
 ghost use Rattle.sig_rekor.specs.SignatureText.{signature_text};
@@ -77,7 +77,7 @@ fn read_checkpoint(alloc: Global, text: &str) -> Result<SignedCheckpoint, ParseC
 
 #[tactic(auto, using(crate::proofs::Signatures::all_signatures))]
 fn read_signatures(alloc: Global, text: &str) -> Result<CheckpointSignatures, ParseCheckpointError>
-    ensures { Reads (λ x. x) result (signatures_by (parts empty_line text.now)) }
+    ensures { Reads (λ x. x) result (signatures_by (parts_between empty_line text.now)) }
 {
     let mut signatures = CheckpointSignatures::new(alloc);
     let mut rest = text;

@@ -5,7 +5,7 @@ ghost use Rattle.sig_base.specs.Answers.{Answers};
 ghost use Rattle.sig_base.specs.declared.error.SigstoreError.TheVariants.{OutOfMemory as Memory};
 ghost use Rattle.sig_key.specs.Key.{key_accepts};
 ghost use Rattle.sig_rekor.specs.NoteText.{note_text};
-ghost use Rattle.sig_rekor.specs.Verify.{is_signed, IsOfTree, signed_answer, tree_answer};
+ghost use Rattle.sig_rekor.specs.Verify.{has_accepted_signature, IsOfTree, signed_answer, tree_answer};
 
 use crate::checkpoint::{CheckpointSignature, SignedCheckpoint};
 use crate::different::different;
@@ -30,10 +30,11 @@ impl SignedCheckpoint {
     ) -> Result<()>
         ensures answer { Answers Memory (λ x. x) result
             (signed_answer (key_accepts (C.spki_accepts checker.now) rekor_key.now) self.now) }
-        ensures ok { OnOk result (IsTrue (is_signed (key_accepts (C.spki_accepts checker.now) rekor_key.now)
+        ensures ok { OnOk result (IsTrue (has_accepted_signature
+            (key_accepts (C.spki_accepts checker.now) rekor_key.now)
             self.now)) }
     {
-        if self.is_signed_by(alloc, rekor_key, checker)? {
+        if self.has_accepted_signature(alloc, rekor_key, checker)? {
             Ok(())
         } else {
             Err(SigstoreError::CheckpointSignatureVerificationError)
@@ -41,14 +42,15 @@ impl SignedCheckpoint {
     }
 
     /// Whether one of the signatures is the key's over the marshalled note.
-    #[tactic(auto, unfolding(crate::specs::Verify::is_signed))]
-    fn is_signed_by<C: SignatureChecker>(
+    #[tactic(auto, unfolding(crate::specs::Verify::has_accepted_signature))]
+    fn has_accepted_signature<C: SignatureChecker>(
         &self,
         alloc: Global,
         key: &CosignVerificationKey,
         checker: &C,
     ) -> std::result::Result<bool, OutOfMemory>
-        ensures { IfOk result (λ signed. signed ≡ is_signed (key_accepts (C.spki_accepts checker.now) key.now)
+        ensures { IfOk result (λ signed. signed ≡ has_accepted_signature
+            (key_accepts (C.spki_accepts checker.now) key.now)
             self.now) }
     {
         let note = self.note.marshal(alloc)?;

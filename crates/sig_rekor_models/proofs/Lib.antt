@@ -1,2 +1,5 @@
 mod Utf8Texts
 mod VouchedEntries
+mod Equality
+mod EntryEquality
+mod ProposedEquality

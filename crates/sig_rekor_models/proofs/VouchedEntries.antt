@@ -1,5 +1,5 @@
 -- The check of an entry is Ok exactly where the proof that it carries vouches for it.
-use Rattle.std.proofs.Common.{◌≡◌, ◌⊎◌, ℕ, Bool, List, Option, Some, None, Result, Ok, Err, refl, sym, ap, ◌∙◌, inl, inr}
+use Rattle.std.proofs.Common.{◌≡◌, ℕ, Bool, List, Option, Some, None, Result, Ok, Err, inl, inr}
 use Rattle.std.specs.Option.{ok_or}
 use Rattle.std.specs.Prelude.{OnOk, IsOkUnless}
 use Rattle.sig_base.proofs.ResultSteps.{bind_ok}
@@ -10,8 +10,7 @@ use Rattle.sig_base.specs.declared.unexpected.UnexpectedKind.{UnexpectedKind}
 use Rattle.sig_base.specs.declared.unexpected.UnexpectedKind.TheVariants.{ProofMissing, ProofConversion, CanonicalBody}
 use Rattle.sig_json.specs.Canonical.{canonical_of}
 use Rattle.sig_rekor.proofs.VerifyLaws.{vouched, accepted}
-use Rattle.sig_rekor.specs.RekorProof.{proof_from_rekor}
-use Rattle.sig_rekor.specs.Verify.{proof_answer}
+use Rattle.sig_rekor.specs.RekorProof.{inclusion_proof_from_rekor}
 use Rattle.sig_rekor_models.specs.Body.{body_tree}
 use Rattle.sig_rekor_models.specs.Inclusion.{or_unexpected, carried_proof, logged_bytes, entry_answer, IsVouchedEntry}
 use Rattle.sig_rekor_models.specs.LogEntry.{LogEntry}
@@ -36,7 +35,7 @@ vouched_entry accepts entry is =
       proof = proof.0;
       leaf = leaf.0;
       carried = carried entry.verification.inclusion_proof (UnexpectedError ProofMissing) api.0 api.1;
-      converted = expected ProofConversion (proof_from_rekor api.0) proof.0 api.2;
+      converted = expected ProofConversion (inclusion_proof_from_rekor api.0) proof.0 api.2;
       canonical = expected CanonicalBody (canonical_of (body_tree entry.body)) leaf.0 leaf.1;
       vouched = vouched accepts leaf.0 proof.0 leaf.2;
     }

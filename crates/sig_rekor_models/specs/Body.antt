@@ -21,6 +21,11 @@ pub record Body : Type 0 where
   pub api_version : List ℕ
   pub spec : Data
 
+-- the same without the kind
+pub record Content : Type 0 where
+  pub api_version : List ℕ
+  pub spec : Data
+
 -- ---- the body that a value of the code is
 
 abbrev pub kind_of : HeldBody → EntryKind
@@ -34,22 +39,25 @@ kind_of (rfc3161 content) = kinds.Rfc3161
 kind_of (rpm content) = kinds.Rpm
 kind_of (tuf content) = kinds.Tuf
 
-abbrev pub content_of : HeldBody → BodyContent
-content_of (alpine content) = content
-content_of (hashedrekord content) = content
-content_of (helm content) = content
-content_of (intoto content) = content
-content_of (jar content) = content
-content_of (rekord content) = content
-content_of (rfc3161 content) = content
-content_of (rpm content) = content
-content_of (tuf content) = content
+abbrev pub body_content_of : HeldBody → BodyContent
+body_content_of (alpine content) = content
+body_content_of (hashedrekord content) = content
+body_content_of (helm content) = content
+body_content_of (intoto content) = content
+body_content_of (jar content) = content
+body_content_of (rekord content) = content
+body_content_of (rfc3161 content) = content
+body_content_of (rpm content) = content
+body_content_of (tuf content) = content
+
+abbrev pub seen_content : BodyContent → Content
+seen_content content = record { api_version = content.api_version; spec = document_tree content.spec }
 
 abbrev pub seen_body : HeldBody → Body
 seen_body body = record {
   kind = kind_of body;
-  api_version = (content_of body).api_version;
-  spec = document_tree (content_of body).spec;
+  api_version = (body_content_of body).api_version;
+  spec = document_tree (body_content_of body).spec;
 }
 
 -- ---- a body as JSON

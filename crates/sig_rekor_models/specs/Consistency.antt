@@ -1,6 +1,6 @@
 -- *Consistency proof from Rekor*: what Rekor's API returns, as the proof that it is (RFC 6962 section 2.1.2), and the
 -- result of its check, also from the head of a log.
-use Rattle.std.specs.Prelude.{◌≡◌, ℕ, Bool, IsTrue, List, Option, Some, None, Result, Ok, Err}
+use Rattle.std.specs.Prelude.{ℕ, Bool, IsTrue, List, Option, Some, None, Result, Ok, Err}
 use Rattle.sig_base.specs.ResultSteps.{◌>>=◌}
 use Rattle.sig_base.specs.declared.error.SigstoreError.{SigstoreError}
 use Rattle.sig_base.specs.declared.error.SigstoreError.TheVariants.{ConsistencyProofError}
@@ -8,14 +8,14 @@ use Rattle.sig_base.specs.declared.merkle_error.MerkleProofError.{MerkleProofErr
 use Rattle.sig_base.specs.declared.unexpected.UnexpectedKind.TheVariants.{RootLength}
 use Rattle.sig_merkle.specs.ConsistencyAnswer.{IsConsistent, consistency_answer}
 use Rattle.sig_rekor.specs.HashText.{hash_in, hashes_from}
-use Rattle.sig_rekor.specs.Verify.{IsOfTree, is_signed, signed_answer, tree_answer}
+use Rattle.sig_rekor.specs.Verify.{IsOfTree, has_accepted_signature, signed_answer, tree_answer}
 use Rattle.sig_rekor_models.specs.declared.consistency_proof.ConsistencyProof.{ConsistencyProof}
 use Rattle.sig_rekor_models.specs.declared.consistency_proof.RekorConsistencyProof.{RekorConsistencyProof}
 use Rattle.sig_rekor_models.specs.declared.log_info.LogInfo.{LogInfo}
 
 -- the proof, or the first part that is wrong: the root hash, then the hashes in order
-unfoldable pub proof_from_rekor : RekorConsistencyProof → Result ConsistencyProof SigstoreError
-proof_from_rekor raw = do
+unfoldable pub consistency_proof_from_rekor : RekorConsistencyProof → Result ConsistencyProof SigstoreError
+consistency_proof_from_rekor raw = do
   root ← hash_in RootLength raw.root_hash
   hashes ← hashes_from 0 raw.hashes
   Ok (record { root_hash = root; hashes = hashes })
@@ -42,6 +42,6 @@ head_answer accepts head old_size old_root proof = do
 -- *Grown head*: the log signed the head's own tree, and the proof shows that it has the older one as its first leaves
 pub record IsGrownHead (accepts : List ℕ → List ℕ → Bool) (head : LogInfo) (old_size : ℕ) (old_root : List ℕ)
     (proof : ConsistencyProof) : Type 0 where
-  pub signed : IsTrue (is_signed accepts head.signed_tree_head)
+  pub signed : IsTrue (has_accepted_signature accepts head.signed_tree_head)
   pub tree : IsOfTree head.signed_tree_head head.root_hash head.tree_size
   pub grown : IsConsistent old_size head.tree_size proof.hashes old_root head.root_hash

@@ -1,6 +1,6 @@
 -- When a log vouches for an entry that Rekor's API returned, and the result of the check where it does not. What is
 -- logged is the canonical JSON of the body (RFC 8785). `accepts` is what the checker accepts under the log's key.
-use Rattle.std.specs.Prelude.{◌≡◌, ℕ, Bool, List, Option, Some, Result, Ok, Err}
+use Rattle.std.specs.Prelude.{◌≡◌, ℕ, Bool, List, Some, Result, Ok, Err}
 use Rattle.std.specs.Option.{ok_or}
 use Rattle.sig_base.specs.ResultSteps.{◌>>=◌}
 use Rattle.sig_base.specs.declared.error.SigstoreError.{SigstoreError}
@@ -8,7 +8,7 @@ use Rattle.sig_base.specs.declared.error.SigstoreError.TheVariants.{UnexpectedEr
 use Rattle.sig_base.specs.declared.unexpected.UnexpectedKind.{UnexpectedKind}
 use Rattle.sig_base.specs.declared.unexpected.UnexpectedKind.TheVariants.{ProofMissing, ProofConversion, CanonicalBody}
 use Rattle.sig_json.specs.Canonical.{canonical_of}
-use Rattle.sig_rekor.specs.RekorProof.{proof_from_rekor}
+use Rattle.sig_rekor.specs.RekorProof.{inclusion_proof_from_rekor}
 use Rattle.sig_rekor.specs.Verify.{IsVouched, proof_answer}
 use Rattle.sig_rekor.specs.declared.inclusion_proof.InclusionProof.{InclusionProof}
 use Rattle.sig_rekor.specs.declared.rekor_proof.RekorInclusionProof.{RekorInclusionProof}
@@ -24,7 +24,7 @@ or_unexpected kind (Err e) = Err (UnexpectedError kind)
 abbrev pub carried_proof : LogEntry → Result InclusionProof SigstoreError
 carried_proof entry = do
   api ← ok_or entry.verification.inclusion_proof (UnexpectedError ProofMissing)
-  or_unexpected ProofConversion (proof_from_rekor api)
+  or_unexpected ProofConversion (inclusion_proof_from_rekor api)
 
 -- the bytes that are logged
 abbrev pub logged_bytes : Body → Result (List ℕ) SigstoreError
@@ -43,6 +43,6 @@ pub record IsVouchedEntry (accepts : List ℕ → List ℕ → Bool) (entry : Lo
   pub proof : InclusionProof
   pub leaf : List ℕ
   pub carried : entry.verification.inclusion_proof ≡ Some api
-  pub converted : proof_from_rekor api ≡ Ok proof
+  pub converted : inclusion_proof_from_rekor api ≡ Ok proof
   pub canonical : canonical_of (body_tree entry.body) ≡ Ok leaf
   pub vouched : IsVouched accepts leaf proof

@@ -110,12 +110,12 @@ entry_members_of d = do
     verification = placed.verification;
   })
 
-unfoldable pub entry_of : Data → Option LogEntry
-entry_of d = if has_only entry_names d then entry_members_of d else None
+unfoldable pub log_entry_of : Data → Option LogEntry
+log_entry_of d = if has_only entry_names d then entry_members_of d else None
 
 -- the entry of a text, none where it is no document without floats or a member is not as it has to be
 unfoldable pub entry_in : List ℕ → Option LogEntry
-entry_in text = result_ok (record_in entry_of text)
+entry_in text = result_ok (record_in log_entry_of text)
 
 abbrev pub entry_or_error : List ℕ → Result LogEntry SigstoreError
 entry_or_error text = ok_or (entry_in text) SerdeJsonError

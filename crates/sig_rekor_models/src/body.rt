@@ -47,12 +47,12 @@ impl Body {
     ghost use Rattle.sig_base.specs.Answers.{Answers};
     ghost use Rattle.sig_base.specs.declared.error.SigstoreError.TheVariants.{OutOfMemory as Memory};
     ghost use Rattle.sig_json.specs.Tree.{document_tree};
-    ghost use Rattle.sig_rekor_models.specs.Body.{body_tree, content_of, kind_of, seen_body};
+    ghost use Rattle.sig_rekor_models.specs.Body.{body_tree, body_content_of, kind_of, seen_body};
 
     /// The body of this kind and content.
     pub fn of(kind: EntryKind, content: BodyContent) -> Body
         ensures kind { kind_of result ≡ kind }
-        ensures content { content_of result ≡ content }
+        ensures content { body_content_of result ≡ content }
     {
         match kind {
             EntryKind::Alpine => Body::alpine(content),
@@ -86,7 +86,7 @@ impl Body {
 
     /// Returns what the entry says.
     pub fn content(&self) -> &BodyContent
-        ensures { result.now ≡ content_of self.now }
+        ensures { result.now ≡ body_content_of self.now }
     {
         match self {
             Body::alpine(content)

@@ -8,7 +8,7 @@ ghost use Rattle.std.specs.Prelude.{◌≡◌, ◌↔◌, IsOk, option_map};
 ghost use Rattle.sig_base.specs.Answers.{Answers};
 ghost use Rattle.sig_base.specs.declared.error.SigstoreError.TheVariants.{OutOfMemory as Memory};
 ghost use Rattle.sig_merkle.specs.ConsistencyAnswer.{IsConsistent, consistency_answer};
-ghost use Rattle.sig_rekor_models.specs.Consistency.{as_consistency, given_or, proof_from_rekor};
+ghost use Rattle.sig_rekor_models.specs.Consistency.{as_consistency, given_or, consistency_proof_from_rekor};
 
 use sig_base::{Entries, Hashes, Result, SigstoreError, Text, UnexpectedKind};
 use sig_merkle::uncounted;
@@ -48,9 +48,9 @@ impl ConsistencyProof {
     ///   [`decode_hash`];
     /// - `HexDecodeError`, or `UnexpectedError` of `HashLength` with its index: the same of the first hash that is
     ///   not.
-    #[tactic(auto, unfolding(crate::specs::Consistency::proof_from_rekor))]
+    #[tactic(auto, unfolding(crate::specs::Consistency::consistency_proof_from_rekor))]
     pub fn try_from_rekor(alloc: Global, raw: &RekorConsistencyProof) -> Result<ConsistencyProof>
-        ensures { Answers Memory (λ proof. proof) result (proof_from_rekor raw.now) }
+        ensures { Answers Memory (λ proof. proof) result (consistency_proof_from_rekor raw.now) }
     {
         let root_hash = decode_hash(
             raw.root_hash.as_str().as_bytes(),

@@ -14,6 +14,7 @@ mod consistency_proof;
 mod entry_kind;
 mod entry_object;
 mod hashedrekord;
+pub mod laws;
 mod log_entry;
 mod log_info;
 mod proposed_entry;

@@ -7,7 +7,8 @@ ghost use Rattle.sig_json.specs.Kinds.{text_of};
 ghost use Rattle.sig_json.specs.OrMember.{or_member};
 ghost use Rattle.sig_json.specs.SeenAs.{value_by};
 ghost use Rattle.sig_json.specs.Tree.{tree};
-ghost use Rattle.sig_rekor_models.specs.LogEntry.{attestation_of, beside_of, entry_members_of, entry_of, entry_or_error, logged_of};
+ghost use Rattle.sig_rekor_models.specs.LogEntry.{attestation_of, beside_of, entry_members_of, log_entry_of};
+ghost use Rattle.sig_rekor_models.specs.LogEntry.{entry_or_error, logged_of};
 ghost use Rattle.sig_rekor_models.specs.LogEntry.{placed_of, rekor_proof_of, seen, verification_of};
 
 use crate::log_entry::{Attestation, LogEntry, Verification};
@@ -184,9 +185,9 @@ impl ElementReader for LogEntryReader {
 
     ghost seen_as = { value_by seen };
 
-    ghost meaning = { entry_of };
+    ghost meaning = { log_entry_of };
 
-    #[tactic(auto, unfolding(crate::specs::LogEntry::entry_of))]
+    #[tactic(auto, unfolding(crate::specs::LogEntry::log_entry_of))]
     fn read(alloc: Global, json: Json<'_>) -> Result<LogEntry, MemberError> {
         if !json.has_only(&MEMBERS) {
             return Err(MemberError::Member);

@@ -1,2 +1,2 @@
 pub mod LastKeys
-pub mod Times
+pub mod KeyBytes

@@ -1,4 +1,4 @@
 pub mod Picked
 pub mod PickedLaws
 pub mod RootRecord
-pub mod TimeText
+pub mod OfBytes

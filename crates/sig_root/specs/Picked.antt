@@ -54,14 +54,14 @@ authority_certificates now (authority ∷ authorities) = certificates_at now aut
 -- ---- the logs
 
 -- the bytes of a key whose range holds
-abbrev pub bytes_at : ℤ → PublicKey → Option (List ℕ)
-bytes_at now key = if holds now key.valid_for then key.raw_bytes else None
+abbrev pub key_bytes_at : ℤ → PublicKey → Option (List ℕ)
+key_bytes_at now key = if holds now key.valid_for then key.raw_bytes else None
 
 -- the log id of an instance in lower-case hexadecimal, with the bytes of its key
 unfoldable pub key_at : ℤ → TransparencyLogInstance → Option (List ℕ × List ℕ)
 key_at now instance = do
   key ← instance.public_key
-  bytes ← bytes_at now key
+  bytes ← key_bytes_at now key
   id ← instance.log_id
   Some (encode_lower id, bytes)
 

@@ -9,7 +9,7 @@ use Rattle.sig_json.specs.Kinds.{bytes_of, text_of}
 use Rattle.sig_json.specs.Member.{optional, optional_bytes, optional_list}
 use Rattle.sig_json.specs.Record.{record_in}
 use Rattle.sig_json.specs.declared.error.JsonError.{JsonError}
-use Rattle.sig_root.specs.TimeText.{second_in}
+use Rattle.sig_der.specs.StampSecond.{second_in}
 use Rattle.sig_root.specs.declared.record.CertificateAuthority.{CertificateAuthority}
 use Rattle.sig_root.specs.declared.record.PublicKey.{PublicKey}
 use Rattle.sig_root.specs.declared.record.TimeRange.{TimeRange}

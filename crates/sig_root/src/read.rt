@@ -1,11 +1,10 @@
 //! Readers of trusted roots.
-ghost use Rattle.std.specs.Prelude.{◌≡◌, Option};
+ghost use Rattle.std.specs.Prelude.{Option};
 ghost use Rattle.sig_base.specs.Answers.{Answers};
 ghost use Rattle.sig_json.specs.Data.{Data};
 ghost use Rattle.sig_json.specs.Tree.{tree};
 ghost use Rattle.sig_root.specs.RootRecord.{authority_of, certificate_of, chain_of, instance_of, log_id_of};
 ghost use Rattle.sig_root.specs.RootRecord.{public_key_of};
-ghost use Rattle.sig_root.specs.TimeText.{second_in};
 ghost use Rattle.sig_root.specs.RootRecord.{range_of, time_of, trusted_root_in, trusted_root_of};
 
 use crate::record::{
@@ -18,13 +17,6 @@ use sig_json::{
     read_record,
 };
 use std::alloc::Global;
-
-/// The second since 1970 in which the instant of a time text lies.
-fn second_in(text: &str) -> Option<i64>
-    ensures { result ≡ second_in text.now }
-{
-    rfc3339_second(text)
-}
 
 /// Reads time texts, as the seconds since 1970 in which their instants lie.
 enum TimeReader {}
@@ -39,7 +31,7 @@ impl ElementReader for TimeReader {
         let Some(text) = json.text() else {
             return Err(MemberError::Member);
         };
-        match second_in(text) {
+        match rfc3339_second(text) {
             Some(second) => Ok(second),
             None => Err(MemberError::Member),
         }

@@ -14,11 +14,11 @@ use Rattle.sig_timestamp.specs.declared.sct_error.CertificateErrorKind.TheVarian
 use Rattle.sig_timestamp.specs.declared.sct_error.SCTError.{SCTError}
 use Rattle.sig_timestamp.specs.declared.sct_error.SCTError.TheVariants.{Parsing, OutOfMemory}
 use Rattle.sig_certificate.specs.Certificate.{Extension, Cert}
-use Rattle.sig_timestamp.specs.Vectors.{vector, two_bytes}
+use Rattle.sig_timestamp.specs.Vectors.{vector, uint16_bytes}
 use Rattle.sig_timestamp.specs.SctList.{Sct, IsSct, IsSctList, sct_at, sct_list_at}
 use Rattle.sig_timestamp.specs.Timestamps.{HasSct, LacksSct, HasBadSct, IsNoList, ListsNoSct, sct_extensions, only_one}
 use Rattle.sig_timestamp.specs.Timestamps.{sct_or_not, sct_in, sct_of_value, sct_of_list, sct_of}
-use Rattle.sig_timestamp.specs.Embedded.{signs_by, ready, HasCause, IsEmbedded, IsEmbeddedUnder, IsSaidOf}
+use Rattle.sig_timestamp.specs.Embedded.{signs_by, ready, HasSctCause, IsEmbedded, IsEmbeddedUnder, IsSaidOf}
 use Rattle.sig_timestamp.specs.Embedded.{IsSaidOfValue}
 use Rattle.sig_timestamp.proofs.SctLaws.{sct_list_at_takes, sct_list_at_again, sct_at_takes, sct_at_again}
 
@@ -31,9 +31,9 @@ Texts = List (List ℕ)
 only_fits : (value text : List ℕ) → IsSctList value (text ∷ []) → IsBytes value → IsBytes text
 only_fits value text is fits =
     let content = content_fits value 4 (vector is.list) is.is fits in
-    let list = IsBytes-right (two_bytes (length is.list)) is.list content in
+    let list = IsBytes-right (uint16_bytes (length is.list)) is.list content in
     let one = subst (λ (w : List ℕ). IsBytes w) (is.joined.parts ∙ append-nil (vector text)) list in
-    IsBytes-right (two_bytes (length text)) text one
+    IsBytes-right (uint16_bytes (length text)) text one
 
 of_text : (v text : List ℕ) → IsBytes v → IsSctList v (text ∷ []) → (o : Option Sct) → sct_at text ≡ o
     → IsSaidOfValue v (sct_or_not o)
@@ -140,7 +140,7 @@ abbrev Answer : Type 0
 Answer = Result DigitallySigned SCTError
 
 caused : (c : Cert) (spki : List ℕ) (r : Result Sct CertificateErrorKind) → IsSaidOf c r → (a : Answer)
-    → Answers OutOfMemory (λ (d : DigitallySigned). d) a (ready c spki r) → HasCause c spki a
+    → Answers OutOfMemory (λ (d : DigitallySigned). d) a (ready c spki r) → HasSctCause c spki a
 caused c spki (Ok s) said (Ok d) e = record { sct = s; has = said; is = let is = e in cc }
 caused c spki (Ok s) said (Err f) (inl memory) = rw memory tt
 caused c spki (Ok s) said (Err f) (inr e) = absurd cc
@@ -148,7 +148,7 @@ caused c spki (Err k) said (Ok d) e = absurd cc
 caused c spki (Err k) said (Err f) (inl memory) = rw memory tt
 caused c spki (Err k) said (Err f) (inr e) = let same : f ≡ Parsing k = cc in rw same (of_kind k said)
   where
-    of_kind : (k : CertificateErrorKind) → IsSaidOf c (Err k) → HasCause c spki (Err (Parsing k))
+    of_kind : (k : CertificateErrorKind) → IsSaidOf c (Err k) → HasSctCause c spki (Err (Parsing k))
     of_kind LeafSCTMissing h = h
     of_kind LeafSCTMalformed h = h
     of_kind IssuerMissing h = h
@@ -178,14 +178,14 @@ comes (Err f) m (inr e) = inr (sym e)
 pub missing : (c : Cert) (spki : List ℕ) (a : Answer) → IsEmbedded c spki a
     → ComesWhere OutOfMemory a (Err (Parsing LeafSCTMissing)) (LacksSct c)
 missing c spki a is = (
-  (λ e. subst (λ (w : Answer). HasCause c spki w) e is.cause),
+  (λ e. subst (λ (w : Answer). HasSctCause c spki w) e is.cause),
   (λ h. comes a (Err (Parsing LeafSCTMissing)) (is.lacks h)),
 )
 
 pub malformed : (c : Cert) (spki : List ℕ) (a : Answer) → IsEmbedded c spki a
     → ComesWhere OutOfMemory a (Err (Parsing LeafSCTMalformed)) (HasBadSct c)
 malformed c spki a is = (
-  (λ e. subst (λ (w : Answer). HasCause c spki w) e is.cause),
+  (λ e. subst (λ (w : Answer). HasSctCause c spki w) e is.cause),
   (λ h. comes a (Err (Parsing LeafSCTMalformed)) (is.bad h)),
 )
 
@@ -193,7 +193,7 @@ pub under_issuer : (c : Cert) (o : Option Cert) (a : Answer) → IsEmbeddedUnder
     → (a ≡ Err (Parsing IssuerMissing)) ↔ (o ≡ None)
 under_issuer c None a is = ((λ e. refl), (λ e. is))
 under_issuer c (Some x) a is =
-    ((λ e. absurd (subst (λ (w : Answer). HasCause c x.spki w) e is.cause)), (λ e. absurd cc))
+    ((λ e. absurd (subst (λ (w : Answer). HasSctCause c x.spki w) e is.cause)), (λ e. absurd cc))
 
 pub under_missing : (c : Cert) (o : Option Cert) (a : Answer) → IsEmbeddedUnder c o a
     → ComesWhere OutOfMemory a (Err (Parsing LeafSCTMissing)) (IsSome o × LacksSct c)

@@ -7,3 +7,4 @@ pub mod SctLaws
 pub mod OnlyOne
 pub mod PrecertLaws
 pub mod EmbeddedLaws
+pub mod CertificateSaid

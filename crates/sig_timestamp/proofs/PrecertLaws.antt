@@ -1,14 +1,13 @@
 -- The precertificate's signed part: it is one of the same parts, no longer than the certificate's.
-use Rattle.std.proofs.Common.{◌≡◌, ℕ, ◌+◌, ◌/◌, ◌%◌, ◌<◌, ◌≤◌, Bool, true, false, not, cond, ltb, List, [], ◌∷◌, ◌++◌}
-use Rattle.std.proofs.Common.{length, take, Some, None, refl, sym, ap, subst, ◌∙◌, append_assoc, arith, inl, inr}
-use Rattle.std.specs.Prelude.{slice_get, Result, Ok, Err, IfOk}
+use Rattle.std.proofs.Common.{◌≡◌, ℕ, ◌+◌, ◌/◌, ◌%◌, ◌≤◌, Bool, true, false, not, cond, ltb, List, [], ◌∷◌, ◌++◌}
+use Rattle.std.proofs.Common.{length, refl, sym, ap, subst, ◌∙◌, append_assoc, arith, inl, inr}
+use Rattle.std.specs.Prelude.{Result, Ok, Err, IfOk}
 use Rattle.sig_base.specs.declared.memory.OutOfMemory.{OutOfMemory}
 use Rattle.std.specs.Str.{bytes_eq}
 use Rattle.std.specs.List.{AllByRecursion}
 use Rattle.std.proofs.lemmas.Bool.{cases_Bool, cond-true, cond-false}
-use Rattle.std.proofs.lemmas.List.{length-append, append-nil, take_more}
+use Rattle.std.proofs.lemmas.List.{length-append, append-nil}
 use Rattle.std.proofs.lemmas.Bool.Decides.{nat_tests}
-use Rattle.std.proofs.lemmas.Option.{slice_get_within, slice_get-get_or, get_or_from_slice_get}
 use Rattle.sig_der.specs.Element.{IsElement, element, spelled_length}
 use Rattle.sig_der.specs.ObjectIdentifiers.{sct_list}
 use Rattle.sig_certificate.specs.Certificate.{Extension, Cert, IsExtension, IsList, AreExtensions, IsSignedPart}
@@ -22,31 +21,21 @@ kept_texts_cond : (b : Bool) (e : Extension) (es : List Extension)
 kept_texts_cond true e es = refl
 kept_texts_cond false e es = refl
 
-pub kept_push : (es : List Extension) (e : Extension)
-    → ders_of (without_oid sct_list (es ++ e ∷ [])) ≡ ders_of (without_oid sct_list es) ++ kept_of e
-kept_push [] e = kept_texts_cond (bytes_eq e.oid sct_list) e [] ∙ append-nil (kept_of e)
-kept_push (x ∷ es) e =
-    kept_texts_cond (bytes_eq x.oid sct_list) x (without_oid sct_list (es ++ e ∷ []))
-    ∙ ap (λ (w : List ℕ). kept_of x ++ w) (kept_push es e)
-    ∙ sym (append_assoc (kept_of x) (ders_of (without_oid sct_list es)) (kept_of e))
-    ∙ ap (λ (w : List ℕ). w ++ kept_of e) (sym (kept_texts_cond (bytes_eq x.oid sct_list) x (without_oid sct_list es)))
+-- one turn of the walk over the extensions: an extension and the rest are left
+pub kept_passes : (whole before after : List ℕ) (left rest : List Extension) (e : Extension)
+    → before ++ ders_of (without_oid sct_list left) ≡ whole → left ≡ e ∷ rest → after ≡ before ++ kept_of e
+    → after ++ ders_of (without_oid sct_list rest) ≡ whole
+kept_passes whole before after left rest e is first more =
+    ap (λ (w : List ℕ). w ++ ders_of (without_oid sct_list rest)) more
+    ∙ append_assoc before (kept_of e) (ders_of (without_oid sct_list rest))
+    ∙ ap (λ (w : List ℕ). before ++ w)
+    (sym (kept_texts_cond (bytes_eq e.oid sct_list) e (without_oid sct_list rest)))
+    ∙ sym (ap (λ (es : List Extension). before ++ ders_of (without_oid sct_list es)) first) ∙ is
 
--- one turn of the loop over the extensions
-pub kept_more : (es : List Extension) (index : ℕ) (e : Extension) (before after : List ℕ) → slice_get es index ≡ Some e
-    → after ≡ before ++ kept_of e
-    → before ≡ ders_of (without_oid sct_list (take index es))
-    → after ≡ ders_of (without_oid sct_list (take (index + 1) es))
-kept_more es index e before after got is h =
-    is ∙ ap (λ (w : List ℕ). w ++ kept_of e) h ∙ sym (kept_push (take index es) e)
-    ∙ ap (λ (xs : List Extension). ders_of (without_oid sct_list xs))
-    (sym (take_more es index e (slice_get_within es index e got)
-    ∙ ap (λ (x : Extension). take index es ++ x ∷ []) (get_or_from_slice_get es index e e got)))
-
--- an index below the length has an item
-pub within_list : {X : Type 0} (xs : List X) (index : ℕ) → index < length xs → slice_get xs index ≡ None → ⊥
-within_list [] index lt none = omega (arith, lt)
-within_list (x ∷ xs) index lt none =
-    let some = slice_get-get_or (x ∷ xs) index x lt in let no = sym none ∙ some in absurd cc
+pub kept_ends : (whole before : List ℕ) (left : List Extension)
+    → before ++ ders_of (without_oid sct_list left) ≡ whole → left ≡ [] → before ≡ whole
+kept_ends whole before left is none =
+    sym (append-nil before) ∙ sym (ap (λ (es : List Extension). before ++ ders_of (without_oid sct_list es)) none) ∙ is
 
 kept_each : (es : List Extension) → AllByRecursion IsExtension es
     → AllByRecursion IsExtension (without_oid sct_list es)

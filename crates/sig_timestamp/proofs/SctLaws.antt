@@ -12,7 +12,7 @@ use Rattle.sig_der.proofs.Bytes.{IsBytes, IsBytes-right, IsBytes-left, IsBytes-t
 use Rattle.sig_der.proofs.Takings.{take_whole_takes, take_whole_again}
 use Rattle.sig_der.proofs.KeyInfos.{content_fits}
 use Rattle.sig_der.proofs.Many.{many_at_takes, many_at_again}
-use Rattle.sig_timestamp.specs.Vectors.{vector, two_bytes, IsShort, bytes_at, vector_at, whole_vector}
+use Rattle.sig_timestamp.specs.Vectors.{vector, uint16_bytes, IsShort, bytes_at, vector_at, whole_vector}
 use Rattle.sig_timestamp.specs.SctList.{Sct, IsSct, IsSctList, eight_bytes, signed_at, after_version, sct_at, list_in}
 use Rattle.sig_timestamp.specs.SctList.{sct_list_at}
 use Rattle.sig_timestamp.proofs.VectorLaws.{bytes_at_takes, bytes_at_again, vector_at_takes, vector_at_again, vectors}
@@ -29,7 +29,7 @@ sct_list_at_takes value fits texts e =
     let t = take_whole_takes 4 value fits o.0 o.1 in
     let inner = content_fits value 4 o.0.content t.0 fits in
     let v = whole_vector_takes o.0.content inner l.0 o.2 in
-    let list_fits = IsBytes-right (two_bytes (length l.0)) l.0 (subst (λ (w : List ℕ). IsBytes w) v.1 inner) in
+    let list_fits = IsBytes-right (uint16_bytes (length l.0)) l.0 (subst (λ (w : List ℕ). IsBytes w) v.1 inner) in
     record {
       list = l.0;
       is = subst (λ (w : List ℕ). IsElement value 4 w) v.1 t.0;
@@ -48,7 +48,7 @@ sct_list_at_again value texts is =
 
 -- ---- the end of an SCT
 
-record IsSigned (bytes : List ℕ) (y : List ℕ × List ℕ) : Type 0 where
+record IsSctEnd (bytes : List ℕ) (y : List ℕ × List ℕ) : Type 0 where
   algorithm : List ℕ
   extended : IsShort y.0
   two : length algorithm ≡ 2
@@ -56,7 +56,7 @@ record IsSigned (bytes : List ℕ) (y : List ℕ × List ℕ) : Type 0 where
   spelled : bytes ≡ vector y.0 ++ (algorithm ++ vector y.1)
 
 signed_at_takes : (bytes : List ℕ) → IsBytes bytes → (y : List ℕ × List ℕ) → signed_at bytes ≡ Some y
-    → IsSigned bytes y
+    → IsSctEnd bytes y
 unfolding signed_at
 signed_at_takes bytes fits y e =
     let v = bind_is (vector_at bytes) _ y e in
@@ -67,7 +67,7 @@ signed_at_takes bytes fits y e =
     let ta = bytes_at_takes 2 v.0.1 a.0 a.1 in
     let last = IsBytes-right a.0.0 a.0.1 (subst (λ (w : List ℕ). IsBytes w) ta.1 rest) in
     let ts = whole_vector_takes a.0.1 last s.0 s.1 in
-    subst (λ (w : List ℕ × List ℕ). IsSigned bytes w) (some_is _ y s.2) (record {
+    subst (λ (w : List ℕ × List ℕ). IsSctEnd bytes w) (some_is _ y s.2) (record {
       algorithm = a.0.0;
       extended = tv.0;
       two = ta.0;

@@ -12,8 +12,8 @@ use Rattle.sig_timestamp.specs.declared.sct_error.SCTError.TheVariants.{Serializ
 use Rattle.sig_timestamp.specs.declared.signed.DigitallySigned.{DigitallySigned}
 use Rattle.sig_timestamp.specs.RingKey.{point_at}
 use Rattle.sig_timestamp.specs.Keyring.{vouch}
-use Rattle.sig_timestamp.specs.SctBytes.{signed_bytes, verified, judged}
-use Rattle.sig_timestamp.specs.Vouched.{Accepts, Ring, IsSignedUnder, HasBytes, IsSignedByLog, IsOfUnknownLog}
+use Rattle.sig_timestamp.specs.SctBytes.{signed_bytes, as_sct_result, judged}
+use Rattle.sig_timestamp.specs.Vouched.{AcceptsPoint, Ring, IsSignedUnder, HasBytes, IsSignedByLog, IsOfUnknownLog}
 use Rattle.sig_base.proofs.ComesLaws.{comes_where}
 
 abbrev Vouch : Type 0
@@ -30,7 +30,7 @@ as_result_one true false e = absurd cc
 as_result_one false true e = absurd cc
 as_result_one false false e = refl
 
-module _ (accepts : Accepts) (ring : Ring) (id message signature : List ℕ) where
+module _ (accepts : AcceptsPoint) (ring : Ring) (id message signature : List ℕ) where
   abbrev Meant : Vouch
   Meant = vouch accepts (point_at ring id) message signature
 
@@ -71,14 +71,14 @@ Judged = Result (Unit {0}) SCTError
 above : (a n : ℕ) → ltb a n ≡ true → n < a + 1 → ⊥
 above a n e lt = let no = le-ltb a n (omega (arith, lt)) in let wrong = sym no ∙ e in cc
 
-module _ (accepts : Accepts) (d : DigitallySigned) (ring : Ring) where
+module _ (accepts : AcceptsPoint) (d : DigitallySigned) (ring : Ring) where
   abbrev Vouched : Vouch
   Vouched = vouch accepts (point_at ring d.log_id) (signed_bytes d) d.signature
 
   abbrev Meaning : Judged
   Meaning = judged accepts d ring
 
-  has_bytes : HasBytes d → Meaning ≡ verified Vouched
+  has_bytes : HasBytes d → Meaning ≡ as_sct_result Vouched
   has_bytes h =
       cond-false (ltb (2 ^ 24 - 1) (length d.tbs_certificate)) _ _ (le-ltb _ _ (omega (arith, h.body)))
       ∙ cond-false (ltb (2 ^ 16 - 1) (length d.extensions)) _ _ (le-ltb _ _ (omega (arith, h.extensions)))
@@ -92,20 +92,20 @@ module _ (accepts : Accepts) (d : DigitallySigned) (ring : Ring) where
   by_point : HasBytes d → (o : Option (List ℕ)) → point_at ring d.log_id ≡ o → Cases
   by_point h None e =
       unknown (record { bytes = h; unknown = e })
-      (has_bytes h ∙ ap verified ((vouch_unknown accepts ring d.log_id (signed_bytes d) d.signature).1 e))
+      (has_bytes h ∙ ap as_sct_result ((vouch_unknown accepts ring d.log_id (signed_bytes d) d.signature).1 e))
   by_point h (Some p) e = by_said (accepts p (signed_bytes d) d.signature) refl
     where
       by_said : (b : Bool) → accepts p (signed_bytes d) d.signature ≡ b → Cases
       by_said true said =
           genuine (record { bytes = h; signed = record { point = p; has = e; said = said } })
           (has_bytes h
-          ∙ ap verified
+          ∙ ap as_sct_result
           ((vouch_signed accepts ring d.log_id (signed_bytes d) d.signature true).1
           (record { point = p; has = e; said = said })))
       by_said false said =
           forged (record { bytes = h; signed = record { point = p; has = e; said = said } })
           (has_bytes h
-          ∙ ap verified
+          ∙ ap as_sct_result
           ((vouch_signed accepts ring d.log_id (signed_bytes d) d.signature false).1
           (record { point = p; has = e; said = said })))
 
@@ -155,13 +155,15 @@ module _ (accepts : Accepts) (d : DigitallySigned) (ring : Ring) where
   to_forged (genuine x e) f = let no = sym e ∙ f in absurd cc
   to_forged (forged x e) f = x
 
-  from_signed : (b : Bool) → IsSignedByLog accepts d ring b → Meaning ≡ verified (as_result b)
+  from_signed : (b : Bool) → IsSignedByLog accepts d ring b → Meaning ≡ as_sct_result (as_result b)
   from_signed b x =
-      has_bytes x.bytes ∙ ap verified ((vouch_signed accepts ring d.log_id (signed_bytes d) d.signature b).1 x.signed)
+      has_bytes x.bytes ∙ ap as_sct_result ((vouch_signed accepts ring d.log_id (signed_bytes d) d.signature b).1
+      x.signed)
 
   from_unknown : IsOfUnknownLog d ring → Meaning ≡ Err (Verification KeyNotFound)
   from_unknown x =
-      has_bytes x.bytes ∙ ap verified ((vouch_unknown accepts ring d.log_id (signed_bytes d) d.signature).1 x.unknown)
+      has_bytes x.bytes ∙ ap as_sct_result ((vouch_unknown accepts ring d.log_id (signed_bytes d) d.signature).1
+      x.unknown)
 
   module _ (r : Judged) (is : Answers OutOfMemory (λ (x : Unit {0}). x) r Meaning) where
     pub comes_long : ComesWhere OutOfMemory r (Err Serialization) (¬ HasBytes d)

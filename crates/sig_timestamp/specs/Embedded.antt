@@ -39,8 +39,8 @@ if_authority None = None
 if_authority (Some c) = if is_some (ca_refusal c) then None else Some c
 
 -- the issuer that a chain begins with, if it is an authority
-abbrev pub issuer_of : List Cert → Option Cert
-issuer_of chain = if_authority (candidate_of chain)
+abbrev pub issuer_in_chain : List Cert → Option Cert
+issuer_in_chain chain = if_authority (candidate_of chain)
 
 -- ---- the result
 
@@ -55,19 +55,19 @@ pub record IsReady (c : Cert) (spki : List ℕ) (d : DigitallySigned) : Type 0 w
   pub is : d ≡ signed_of c spki sct
 
 -- each result and its cause
-abbrev pub HasCause : Cert → List ℕ → Result DigitallySigned SCTError → Type 0
-HasCause c spki (Ok d) = IsReady c spki d
-HasCause c spki (Err (Parsing LeafSCTMissing)) = LacksSct c
-HasCause c spki (Err (Parsing LeafSCTMalformed)) = HasBadSct c
-HasCause c spki (Err (Parsing IssuerMissing)) = ⊥
-HasCause c spki (Err Serialization) = ⊥
-HasCause c spki (Err (Verification e)) = ⊥
-HasCause c spki (Err OutOfMemory) = Unit {0}
+abbrev pub HasSctCause : Cert → List ℕ → Result DigitallySigned SCTError → Type 0
+HasSctCause c spki (Ok d) = IsReady c spki d
+HasSctCause c spki (Err (Parsing LeafSCTMissing)) = LacksSct c
+HasSctCause c spki (Err (Parsing LeafSCTMalformed)) = HasBadSct c
+HasSctCause c spki (Err (Parsing IssuerMissing)) = ⊥
+HasSctCause c spki (Err Serialization) = ⊥
+HasSctCause c spki (Err (Verification e)) = ⊥
+HasSctCause c spki (Err OutOfMemory) = Unit {0}
 
 -- The result for an issuer with this SPKI.
 pub record IsEmbedded (c : Cert) (spki : List ℕ) (result : Result DigitallySigned SCTError) : Type 0 where
   -- no result without its cause
-  pub cause : HasCause c spki result
+  pub cause : HasSctCause c spki result
   -- and no cause without its result
   pub has : (s : Sct) → HasSct c s → Answers OutOfMemory (λ d. d) result (Ok (signed_of c spki s))
   pub lacks : LacksSct c → Answers OutOfMemory (λ d. d) result (Err (Parsing LeafSCTMissing))

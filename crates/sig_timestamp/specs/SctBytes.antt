@@ -10,7 +10,7 @@ use Rattle.sig_timestamp.specs.RingKey.{RingKey, point_at}
 use Rattle.sig_timestamp.specs.Keyring.{vouch}
 use Rattle.sig_certificate.specs.Certificate.{Cert}
 use Rattle.sig_timestamp.specs.Numbers.{v1, certificate_timestamp, precert_entry}
-use Rattle.sig_timestamp.specs.Vectors.{two_bytes, vector, long_vector}
+use Rattle.sig_timestamp.specs.Vectors.{uint16_bytes, vector, long_vector}
 use Rattle.sig_timestamp.specs.SctErrors.{of_keyring}
 use Rattle.sig_timestamp.specs.SctList.{Sct, eight_bytes}
 use Rattle.sig_timestamp.specs.Precert.{precertificate}
@@ -19,7 +19,7 @@ use Rattle.sig_timestamp.specs.Precert.{precertificate}
 abbrev pub signed_bytes : DigitallySigned → List ℕ
 signed_bytes d =
     (v1 ∷ certificate_timestamp ∷ eight_bytes d.timestamp)
-    ++ ((two_bytes precert_entry ++ d.issuer_key_hash) ++ (long_vector d.tbs_certificate ++ vector d.extensions))
+    ++ ((uint16_bytes precert_entry ++ d.issuer_key_hash) ++ (long_vector d.tbs_certificate ++ vector d.extensions))
 
 -- what an SCT of a certificate signs, and its signature, if the issuer has this SPKI: `signed_bytes` of it is *SCT
 -- signed bytes*
@@ -36,9 +36,9 @@ signed_of c spki s =
 
 -- ---- whether a keyring vouches for it
 
-abbrev pub verified : Result (Unit {0}) KeyringError → Result (Unit {0}) SCTError
-verified (Ok x) = Ok x
-verified (Err e) = Err (of_keyring e)
+abbrev pub as_sct_result : Result (Unit {0}) KeyringError → Result (Unit {0}) SCTError
+as_sct_result (Ok x) = Ok x
+as_sct_result (Err e) = Err (of_keyring e)
 
 -- a length has no spelling, or the key of the log's id says it
 abbrev pub judged : (List ℕ → List ℕ → List ℕ → Bool) → DigitallySigned → List (List ℕ × RingKey)
@@ -46,4 +46,4 @@ abbrev pub judged : (List ℕ → List ℕ → List ℕ → Bool) → DigitallyS
 judged accepts d ring =
     if nat_lt (2 ^ 24 - 1) (length d.tbs_certificate) then Err Serialization
     else if nat_lt (2 ^ 16 - 1) (length d.extensions) then Err Serialization
-    else verified (vouch accepts (point_at ring d.log_id) (signed_bytes d) d.signature)
+    else as_sct_result (vouch accepts (point_at ring d.log_id) (signed_bytes d) d.signature)

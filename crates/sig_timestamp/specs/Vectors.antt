@@ -6,22 +6,22 @@ use Rattle.sig_base.specs.OptionSteps.{◌>>=◌}
 use Rattle.sig_der.specs.KeyInfo.{is_empty}
 
 -- uint16 and uint24, section 4.4: the most significant byte first
-abbrev pub two_bytes : ℕ → List ℕ
-two_bytes n = (n / 256) ∷ (n % 256) ∷ []
+abbrev pub uint16_bytes : ℕ → List ℕ
+uint16_bytes n = (n / 256) ∷ (n % 256) ∷ []
 
-abbrev pub three_bytes : ℕ → List ℕ
-three_bytes n = (n / 65536) ∷ (n / 256 % 256) ∷ (n % 256) ∷ []
+abbrev pub uint24_bytes : ℕ → List ℕ
+uint24_bytes n = (n / 65536) ∷ (n / 256 % 256) ∷ (n % 256) ∷ []
 
 -- opaque<0..2^16-1>, section 4.3: the length in two bytes, and the bytes
 abbrev pub vector : List ℕ → List ℕ
-vector content = two_bytes (length content) ++ content
+vector content = uint16_bytes (length content) ++ content
 
 abbrev pub IsShort : List ℕ → Type 0
 IsShort content = length content < 2 ^ 16
 
 -- opaque<0..2^24-1>: the length in three bytes, and the bytes
 abbrev pub long_vector : List ℕ → List ℕ
-long_vector content = three_bytes (length content) ++ content
+long_vector content = uint24_bytes (length content) ++ content
 
 abbrev pub IsLong : List ℕ → Type 0
 IsLong content = length content < 2 ^ 24

@@ -5,8 +5,8 @@ use Rattle.sig_timestamp.specs.RingKey.{RingKey, point_at}
 use Rattle.sig_timestamp.specs.Vectors.{IsShort, IsLong}
 use Rattle.sig_timestamp.specs.SctBytes.{signed_bytes}
 
-abbrev pub Accepts : Type 0
-Accepts = List ℕ → List ℕ → List ℕ → Bool
+abbrev pub AcceptsPoint : Type 0
+AcceptsPoint = List ℕ → List ℕ → List ℕ → Bool
 
 abbrev pub Ring : Type 0
 Ring = List (List ℕ × RingKey)
@@ -14,7 +14,7 @@ Ring = List (List ℕ × RingKey)
 -- ---- a message under the key of an id
 
 -- The ring has a key of the id, and its point accepts, or rejects, the signature over the message.
-pub record IsSignedUnder (accepts : Accepts) (ring : Ring) (id message signature : List ℕ)
+pub record IsSignedUnder (accepts : AcceptsPoint) (ring : Ring) (id message signature : List ℕ)
     (accepted : Bool) : Type 0 where
   pub point : List ℕ
   pub has : point_at ring id ≡ Some point
@@ -28,7 +28,7 @@ pub record HasBytes (d : DigitallySigned) : Type 0 where
   pub extensions : IsShort d.extensions
 
 -- It has bytes, and the key of its log's id accepts, or rejects, its signature over them.
-pub record IsSignedByLog (accepts : Accepts) (d : DigitallySigned) (ring : Ring) (accepted : Bool) : Type 0 where
+pub record IsSignedByLog (accepts : AcceptsPoint) (d : DigitallySigned) (ring : Ring) (accepted : Bool) : Type 0 where
   pub bytes : HasBytes d
   pub signed : IsSignedUnder accepts ring d.log_id (signed_bytes d) d.signature accepted
 

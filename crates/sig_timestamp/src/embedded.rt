@@ -6,7 +6,8 @@ ghost use Rattle.sig_timestamp.specs.SctBytes.{signed_of};
 ghost use Rattle.sig_timestamp.specs.Timestamps.{LacksSct, HasBadSct, only_one, sct_in, sct_of, sct_of_value};
 ghost use Rattle.sig_der.specs.Taking.{many_at};
 ghost use Rattle.sig_timestamp.specs.Vectors.{vector_at};
-ghost use Rattle.sig_timestamp.specs.Embedded.{issuer_of, ready, IsEmbedded, IsEmbeddedUnder, IsSaidOf, IsSaidOfValue};
+ghost use Rattle.sig_timestamp.specs.Embedded.{issuer_in_chain, ready, IsEmbedded, IsEmbeddedUnder, IsSaidOf};
+ghost use Rattle.sig_timestamp.specs.Embedded.{IsSaidOfValue};
 ghost use Rattle.sig_timestamp.specs.Borrowed.{sct_result, sct_now};
 
 use crate::issuer::find_issuer;
@@ -47,18 +48,18 @@ impl CertificateEmbeddedSCT {
         chain: &[Certificate],
     ) -> Result<CertificateEmbeddedSCT, SCTError>
         // The one SCT is returned, ready to be checked under the issuer's key.
-        ensures embedded { IsEmbeddedUnder leaf.now (issuer_of chain.now) result }
+        ensures embedded { IsEmbeddedUnder leaf.now (issuer_in_chain chain.now) result }
         // The chain begins with no issuer.
         ensures issuer { IsErrOf result (SCTError.Parsing CertificateErrorKind.IssuerMissing)
-            ↔ (issuer_of chain.now ≡ None) }
+            ↔ (issuer_in_chain chain.now ≡ None) }
         // It begins with one, and not one extension lists SCTs, or it does not list exactly one.
         ensures missing { ComesWhere SCTError.OutOfMemory result (Err
             (SCTError.Parsing CertificateErrorKind.LeafSCTMissing)) (IsSome
-            (issuer_of chain.now) × LacksSct leaf.now) }
+            (issuer_in_chain chain.now) × LacksSct leaf.now) }
         // It begins with one, and the one list of SCTs is malformed, or the only SCT in it.
         ensures malformed { ComesWhere SCTError.OutOfMemory result (Err
             (SCTError.Parsing CertificateErrorKind.LeafSCTMalformed)) (IsSome
-            (issuer_of chain.now) × HasBadSct leaf.now) }
+            (issuer_in_chain chain.now) × HasBadSct leaf.now) }
     {
         embed_under(alloc, leaf, chain)
     }
@@ -114,7 +115,7 @@ fn embed_under(
     leaf: &Certificate,
     chain: &[Certificate],
 ) -> Result<CertificateEmbeddedSCT, SCTError>
-    ensures { IsEmbeddedUnder leaf.now (issuer_of chain.now) result }
+    ensures { IsEmbeddedUnder leaf.now (issuer_in_chain chain.now) result }
 {
     match find_issuer(chain) {
         None => Err(SCTError::Parsing(CertificateErrorKind::IssuerMissing)),

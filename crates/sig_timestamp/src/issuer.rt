@@ -1,14 +1,14 @@
 //! The issuer that a chain begins with: RFC 6962 section 3.1.
 
 ghost use Rattle.std.specs.Prelude.{◌≡◌, option_map};
-ghost use Rattle.sig_timestamp.specs.Embedded.{signs_precertificates, candidate_of, issuer_of};
+ghost use Rattle.sig_timestamp.specs.Embedded.{signs_precertificates, candidate_of, issuer_in_chain};
 
 use sig_certificate::{Certificate, Lookup, is_ca, read_purpose};
 use sig_der::oid::{EXTENDED_KEY_USAGE, PRECERTIFICATE_SIGNING};
 
 /// Returns the issuer that the chain begins with. `None` if it is not there, or `is_ca` rejects it.
 pub(crate) fn find_issuer(chain: &[Certificate]) -> Option<&Certificate>
-    ensures { option_map (λ c. c.now) result ≡ issuer_of chain.now }
+    ensures { option_map (λ c. c.now) result ≡ issuer_in_chain chain.now }
 {
     let issuer = candidate(chain)?;
     match is_ca(issuer) {

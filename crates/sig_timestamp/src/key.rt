@@ -56,6 +56,13 @@ impl Key {
         read_key(alloc, spki_bytes)
     }
 
+    /// The point.
+    pub(crate) fn point(&self) -> &[u8]
+        ensures { result.now ≡ self.now.point }
+    {
+        self.point.as_slice()
+    }
+
     /// Whether the checker accepts the signature over the message under this key.
     pub(crate) fn verify<C: SignatureChecker>(
         &self,

@@ -68,6 +68,16 @@ impl Keyring {
         self.keys.get(id)
     }
 
+    /// Returns the point of P-256 of the key of this id, or `None` if the keyring has no such key.
+    pub fn point(&self, key_id: &[u8; 32]) -> Option<&[u8]>
+        ensures { option_map (λ p. p.now) result ≡ point_at self.now key_id.now }
+    {
+        match self.key(key_id) {
+            Some(key) => Some(key.point()),
+            None => None,
+        }
+    }
+
     /// Whether the key of this id accepts the signature over the message. Takes no memory. Errors:
     ///
     /// - `KeyNotFound` if and only if the keyring has no such key;

@@ -24,4 +24,4 @@ pub use keyring::Keyring;
 pub use keyring_error::KeyringError;
 pub use precert::precert_tbs_der;
 pub use sct_error::{CertificateErrorKind, SCTError};
-pub use signed::{DigitallySigned, verify_sct};
+pub use signed::{DigitallySigned, signed_bytes, verify_sct};

@@ -61,10 +61,8 @@ fn kept_extensions(alloc: Global, leaf: &Certificate) -> Result<Vec<u8>, OutOfMe
     ensures { IfOk result (λ v. v.items ≡ ders_of (kept_extensions leaf.now)) }
 {
     let mut kept = Vec::new(alloc);
-    for index in 0..leaf.extension_count() {
-        if let Some(extension) = leaf.extension_at(index) {
-            push_kept(&mut kept, extension)?;
-        }
+    for extension in leaf.extensions() {
+        push_kept(&mut kept, extension)?;
     }
     Ok(kept)
 }

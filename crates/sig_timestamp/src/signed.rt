@@ -15,7 +15,7 @@
 ghost use Rattle.std.specs.Prelude.{◌≡◌, ◌∷◌, ◌++◌, true, false, Ok, Err, IfOk, OnOk};
 ghost use Rattle.sig_base.specs.Answers.{Answers, ComesWhere};
 ghost use Rattle.sig_timestamp.specs.Numbers.{v1, certificate_timestamp, precert_entry};
-ghost use Rattle.sig_timestamp.specs.Vectors.{two_bytes, vector, long_vector, IsShort, IsLong};
+ghost use Rattle.sig_timestamp.specs.Vectors.{uint16_bytes, vector, long_vector, IsShort, IsLong};
 ghost use Rattle.sig_timestamp.specs.SctList.{eight_bytes};
 ghost use Rattle.sig_timestamp.specs.SctBytes.{judged, signed_bytes};
 ghost use Rattle.sig_timestamp.specs.Vouched.{HasBytes, IsSignedByLog, IsOfUnknownLog};
@@ -105,8 +105,9 @@ fn check<C: SignatureChecker>(
     Ok(())
 }
 
-/// The signed bytes.
-fn signed_bytes(alloc: Global, sct: &DigitallySigned) -> Result<Vec<u8>, OutOfMemory>
+/// The bytes that the SCT's signature is over (RFC 6962 section 3.2). They are spelled only of a TBSCertificate of at
+/// most 2^24 - 1 bytes and extensions of at most 2^16 - 1. Fails if out of memory alone.
+pub fn signed_bytes(alloc: Global, sct: &DigitallySigned) -> Result<Vec<u8>, OutOfMemory>
     requires tbs { IsLong sct.now.tbs_certificate }
     requires extensions { IsShort sct.now.extensions }
     ensures { IfOk result (λ v. v.items ≡ signed_bytes sct.now) }
@@ -130,7 +131,8 @@ fn push_time(message: &mut Vec<u8>, timestamp: u64) -> Result<(), AllocError>
 
 /// The entry type precert_entry, and the SHA-256 of the issuer's SPKI.
 fn push_issuer(message: &mut Vec<u8>, issuer_key_hash: &[u8; 32]) -> Result<(), AllocError>
-    ensures { OnOk result (message.new.items ≡ message.old.items ++ (two_bytes precert_entry ++ issuer_key_hash.now)) }
+    ensures { OnOk result (message.new.items ≡ message.old.items ++
+        (uint16_bytes precert_entry ++ issuer_key_hash.now)) }
 {
     message.extend_from_slice(&PRECERT_ENTRY.to_be_bytes())?;
     message.extend_from_slice(issuer_key_hash)

@@ -10,7 +10,7 @@ use Rattle.sig_bundle.specs.Passed.{HasPromise, HasProof, IsContentOf, IsMet, Is
 use Rattle.sig_bundle.specs.Refusals.{DemandsProof, HasCertificates, HasContent, HasEncodings, HasEntry, HasEnvelope}
 use Rattle.sig_bundle.specs.Refusals.{HasLeaf, HasMaterial, HasNoRoot, HasStatement, HasVersion}
 use Rattle.sig_bundle.specs.Refusals.{IsCause, IsProfileCauseOf, RefusalsHaveTheirCause}
-use Rattle.sig_bundle.specs.SigningCertificate.{AreCertificates, IsNoRoot, encodings_in}
+use Rattle.sig_bundle.specs.SigningCertificate.{IsNoRoot, encodings_in}
 use Rattle.sig_bundle.specs.declared.bundle.Bundle.{Bundle}
 use Rattle.sig_bundle.specs.declared.bundle.Content.{Content}
 use Rattle.sig_bundle.specs.declared.bundle.Content.TheVariants.{MessageSignature as Signed, DsseEnvelope as Enveloped}
@@ -30,6 +30,7 @@ use Rattle.sig_bundle.specs.declared.material.VerificationMaterial.{Verification
 use Rattle.sig_bundle.specs.declared.version.Version.{Version}
 use Rattle.sig_bundle.specs.declared.version.Version.TheVariants.{Bundle0_1, Bundle0_2, Bundle0_3}
 use Rattle.sig_certificate.specs.Certificate.{Cert}
+use Rattle.sig_certificate.specs.Certificates.{AreCertificates}
 use Rattle.sig_certificate.specs.Profile.{leaf_refusal}
 use Rattle.sig_certificate.specs.declared.profile_error.CertificateValidationError.{CertificateValidationError}
 use Rattle.sig_dsse.proofs.FaultCauses.{faults_have_their_cause}

@@ -10,9 +10,10 @@ use Rattle.sig_verify.specs.CertificateLinks.{HoldsOfChecked, certificate_links}
 use Rattle.sig_verify.specs.ContentCheck.{content_answer, time_answer}
 use Rattle.sig_verify.specs.IssuerCheck.{issued_answer}
 use Rattle.sig_verify.specs.Judged.{Judged, Tells}
-use Rattle.sig_verify.specs.LinkLaws.{IsReadAs, renamed, trust_of}
-use Rattle.sig_verify.specs.Verdict.{After, AfterPolicy, Answer, Checker, IsAllowed, IsLogged, IsSigned}
-use Rattle.sig_verify.specs.Verdict.{IsTrusted, PolicyOf}
+use Rattle.sig_verify.specs.LinkLaws.{IsReadCertificate, renamed, trust_of}
+use Rattle.sig_verify.specs.Verdict.{After, AfterPolicy, Answer, Checker, IsVerdictFromPolicy, IsVerdictFromBody}
+use Rattle.sig_verify.specs.Verdict.{IsVerdictFromKey}
+use Rattle.sig_verify.specs.Verdict.{IsVerdictFromIssuance, PolicyOf}
 use Rattle.sig_verify.specs.Verifier.{Trusted}
 use Rattle.sig_verify.specs.declared.error.SignatureErrorKind.TheVariants.{Transparency}
 use Rattle.sig_verify.specs.declared.link.Link.{Link}
@@ -21,7 +22,7 @@ use Rattle.sig_verify.specs.declared.link.Link.TheVariants.{Body, Time}
 use Rattle.sig_verify.specs.declared.offline_error.OfflineError.TheVariants as error
 
 module _ (k : Checker) (policy : PolicyOf) (trusted : Trusted) (d : ArtifactDigest) (offline : Bool) (c : Checked)
-    (read : IsReadAs c) where
+    (read : IsReadCertificate c) where
   abbrev Holds : Link → Type 0
   Holds = HoldsOfChecked k policy (trust_of trusted) d offline c
 
@@ -34,7 +35,8 @@ module _ (k : Checker) (policy : PolicyOf) (trusted : Trusted) (d : ArtifactDige
       subst (λ (r : Answer). Judged Holds (xs ++ ys) (renamed r)) (sym is)
       (judged.0, judged.1, fails_front Holds xs ys judged.0 judged.2)
 
-  judged_logged : (result : Answer) → IsLogged d offline c result → Judged Holds (Body ∷ Time ∷ []) (renamed result)
+  judged_logged : (result : Answer) → IsVerdictFromBody d offline c result → Judged Holds (Body ∷ Time ∷ [])
+      (renamed result)
   judged_logged result (inl both) =
       subst (λ (r : Answer). Judged Holds (Body ∷ Time ∷ []) (renamed r)) (sym both.1)
       (behind Holds (Body ∷ []) (Time ∷ []) (renamed (time_answer c)) (both.0, tt)
@@ -43,14 +45,15 @@ module _ (k : Checker) (policy : PolicyOf) (trusted : Trusted) (d : ArtifactDige
       subst (λ (r : Answer). Judged Holds (Body ∷ Time ∷ []) (renamed r)) (sym both.1)
       (not_first Holds Body (Time ∷ []) (error.Signature Transparency) both.0 refl)
 
-  judged_signed : (result : Answer) → IsSigned k d offline c result
+  judged_signed : (result : Answer) → IsVerdictFromKey k d offline c result
       → Judged Holds (Key ∷ Signature ∷ Subject ∷ Body ∷ Time ∷ []) (renamed result)
   judged_signed result is =
       after (Key ∷ Signature ∷ Subject ∷ []) (Body ∷ Time ∷ []) (content_answer k.spki k.prehash d c) result
-      (IsLogged d offline c) (judged_content k policy (trust_of trusted) d offline c read.spki) (judged_logged result) is
+      (IsVerdictFromBody d offline c) (judged_content k policy (trust_of trusted) d offline c read.spki)
+      (judged_logged result) is
 
   by_policy : (b : Bool) (refusal : Refusal) (result : Answer) → policy.holds c.certificate ≡ b
-      → AfterPolicy b refusal (IsSigned k d offline c) result
+      → AfterPolicy b refusal (IsVerdictFromKey k d offline c) result
       → Judged Holds (Policy ∷ Key ∷ Signature ∷ Subject ∷ Body ∷ Time ∷ []) (renamed result)
   by_policy true refusal result holds is =
       behind Holds (Policy ∷ []) (Key ∷ Signature ∷ Subject ∷ Body ∷ Time ∷ []) (renamed result) (holds, tt)
@@ -61,14 +64,14 @@ module _ (k : Checker) (policy : PolicyOf) (trusted : Trusted) (d : ArtifactDige
       (not_first Holds Policy (Key ∷ Signature ∷ Subject ∷ Body ∷ Time ∷ []) (error.Policy is.0)
       (λ other. let wrong : true ≡ false = sym other ∙ holds in absurd cc) refl)
 
-  pub judged_trusted : (result : Answer) → IsTrusted k trusted policy d offline c result
+  pub judged_trusted : (result : Answer) → IsVerdictFromIssuance k trusted policy d offline c result
       → Judged Holds certificate_links (renamed result)
   judged_trusted result is =
       after (Issuance ∷ Issuer ∷ Sct ∷ []) (Policy ∷ Key ∷ Signature ∷ Subject ∷ Body ∷ Time ∷ [])
-      (issued_answer k.cert k.point trusted c.certificate) result (IsAllowed k policy d offline c)
+      (issued_answer k.cert k.point trusted c.certificate) result (IsVerdictFromPolicy k policy d offline c)
       (judged_issued k policy trusted d offline c read.sct)
       (by_policy (policy.holds c.certificate) (policy.refusal c.certificate) result refl) is
 
-  pub trusted_told : (result : Answer) → IsTrusted k trusted policy d offline c result
+  pub trusted_told : (result : Answer) → IsVerdictFromIssuance k trusted policy d offline c result
       → Tells Holds certificate_links (renamed result)
   trusted_told result is = judged_tells Holds certificate_links (renamed result) (judged_trusted result is)

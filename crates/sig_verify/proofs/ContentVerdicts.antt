@@ -1,11 +1,12 @@
 -- The links `key`, `signature`, `subject` and `time`: the results say which of them fails first.
-use Rattle.std.proofs.Common.{◌≡◌, ℕ, ℤ, ◌≤ℤ◌, Bool, true, false, cond, List, [], ◌∷◌, Some, Ok, Err}
+use Rattle.std.proofs.Common.{◌≡◌, ℕ, Bool, true, false, cond, List, [], ◌∷◌, Some, Ok, Err}
 use Rattle.std.proofs.Common.{inl, inr, refl, sym, ap, subst, ◌∙◌}
-use Rattle.std.specs.Prelude.{T, int_le, ◌&&◌, Contains}
+use Rattle.std.specs.Prelude.{int_le, ◌&&◌, Contains}
 use Rattle.std.specs.List.{list_any}
 use Rattle.std.proofs.lemmas.List.Folds.{Any-from_list_any, list_any-from_Any}
 use Rattle.std.specs.Cmp.Lexicographic.{bytes_decides}
 use Rattle.std.specs.Prelude.{slice_index_or}
+use Rattle.sig_base.proofs.IntOrders.{le_from, le_is}
 use Rattle.sig_base.specs.ResultSteps.{◌>>=◌}
 use Rattle.sig_base.specs.declared.scheme.VerifyScheme.{VerifyScheme}
 use Rattle.sig_bundle.specs.Checked.{Checked}
@@ -13,14 +14,14 @@ use Rattle.sig_bundle.specs.declared.content_check.CheckedContent.{CheckedConten
 use Rattle.sig_bundle.specs.declared.content_check.CheckedContent.TheVariants.{MessageSignature, Dsse}
 use Rattle.sig_dsse.specs.declared.artifact_digest.ArtifactDigest.{ArtifactDigest}
 use Rattle.sig_dsse.specs.declared.artifact_digest.ArtifactDigest.TheVariants.{Sha256, Sha512}
-use Rattle.sig_bundle.specs.Promise.{AreBytes}
+use Rattle.sig_base.specs.ByteLists.{AreBytes}
 use Rattle.sig_key.proofs.KeyKinds.{key_kind_is, key_kind_only}
 use Rattle.sig_key.specs.Kind.{IsKind, key_kind, kind_answer}
 use Rattle.sig_key.specs.declared.kind.KeyKind.{KeyKind}
 use Rattle.sig_key.specs.declared.kind.KeyKind.TheVariants.{NoKeyInfo, Unsupported, Scheme}
-use Rattle.sig_verify.proofs.EntryKeys.{bytes_at}
+use Rattle.sig_base.proofs.ByteLists.{byte_at}
 use Rattle.sig_verify.proofs.JudgedLaws.{not_first, judged_tells}
-use Rattle.sig_verify.specs.CertificateLinks.{HoldsOfChecked, IsAbout, IsSignedUnder, IsTimely, OfScheme, Trust}
+use Rattle.sig_verify.specs.CertificateLinks.{HoldsOfChecked, IsAbout, IsContentSignedUnder, IsTimely, OfScheme, Trust}
 use Rattle.sig_verify.specs.ContentCheck.{AcceptsUnder, content_answer, if_about, if_accepted, is_about, is_same}
 use Rattle.sig_verify.specs.ContentCheck.{or_unsupported, signature_answer, time_answer}
 use Rattle.sig_verify.specs.Judged.{Judged, Tells}
@@ -50,7 +51,7 @@ accepted_says true x is = is
 accepted_says false x is = ((λ e. let wrong : true ≡ false = sym e ∙ is in absurd cc), refl)
 
 signature_says : (message prehash : AcceptsUnder) (d : ArtifactDigest) (content : CheckedContent) (signature : List ℕ)
-    → SaysOf (IsSignedUnder message prehash d content signature) Signature
+    → SaysOf (IsContentSignedUnder message prehash d content signature) Signature
     (signature_answer message prehash d content signature)
 signature_says message prehash d (Dsse pae digests envelope payload) signature =
     accepted_says (message pae signature) (message pae signature) refl
@@ -93,20 +94,6 @@ about_says (Dsse pae digests envelope payload) d =
 
 -- ---- the time
 
-le_from : (a b : ℤ) → int_le a b ≡ true → a ≤ℤ b
-le_from a b e = record { le = so (int_le a b) e }
-  where
-    so : (x : Bool) → x ≡ true → T x
-    so true e = tt
-    so false e = absurd cc
-
-le_is : (a b : ℤ) → a ≤ℤ b → int_le a b ≡ true
-le_is a b e = is_so (int_le a b) e.le
-  where
-    is_so : (x : Bool) → T x → x ≡ true
-    is_so true t = refl
-    is_so false t = absurd t
-
 time_says : (c : Checked) (x y : Bool) → int_le c.certificate.not_before c.entry.integrated_time ≡ x
     → int_le c.entry.integrated_time c.certificate.not_after ≡ y
     → SaysOf (IsTimely c) Time (cond (x && y) (Ok tt) (Err (Certificate Expired)))
@@ -140,7 +127,7 @@ module _ (k : Checker) (policy : PolicyOf) (trust : Trust) (d : ArtifactDigest) 
     no_scheme : (kind : KeyKind) → kind ≡ key_kind c.certificate.spki → ((s : VerifyScheme) → ¬ (kind ≡ Scheme s))
         → ¬ Holds Key
     no_scheme kind is other holds =
-        other holds.0 (is ∙ sym (key_kind_only c.certificate.spki (bytes_at c.certificate.spki fits)
+        other holds.0 (is ∙ sym (key_kind_only c.certificate.spki (byte_at c.certificate.spki fits)
         (Scheme holds.0) holds.1))
 
     by_kind : (kind : KeyKind) → IsKind c.certificate.spki kind → kind ≡ key_kind c.certificate.spki
@@ -157,7 +144,8 @@ module _ (k : Checker) (policy : PolicyOf) (trust : Trust) (d : ArtifactDigest) 
     by_kind (Scheme s) is same =
         let P : VerifyScheme
         → Type 0 =
-        λ x. IsSignedUnder (k.spki x c.certificate.spki) (k.prehash x c.certificate.spki) d c.content c.signature in
+        λ x. IsContentSignedUnder (k.spki x c.certificate.spki)
+        (k.prehash x c.certificate.spki) d c.content c.signature in
         judged_two (signature_answer (k.spki s c.certificate.spki) (k.prehash s c.certificate.spki) d c.content
         c.signature)
         (if_about (is_about c.content d)) (s, is, tt)
@@ -165,13 +153,13 @@ module _ (k : Checker) (policy : PolicyOf) (trust : Trust) (d : ArtifactDigest) 
         (signature_answer (k.spki s c.certificate.spki) (k.prehash s c.certificate.spki) d c.content c.signature)
         (λ p. (s, is, p))
         (λ q. subst P (same_scheme q.0 s
-        (key_kind_only c.certificate.spki (bytes_at c.certificate.spki fits) (Scheme q.0) q.1 ∙ sym same)) q.2)
+        (key_kind_only c.certificate.spki (byte_at c.certificate.spki fits) (Scheme q.0) q.1 ∙ sym same)) q.2)
         (signature_says (k.spki s c.certificate.spki) (k.prehash s c.certificate.spki) d c.content c.signature))
         (about_says c.content d)
 
     pub judged_content : Judged Holds (Key ∷ Signature ∷ Subject ∷ []) (renamed (content_answer k.spki k.prehash d c))
     judged_content =
-        by_kind (key_kind c.certificate.spki) (key_kind_is c.certificate.spki (bytes_at c.certificate.spki fits)) refl
+        by_kind (key_kind c.certificate.spki) (key_kind_is c.certificate.spki (byte_at c.certificate.spki fits)) refl
 
     pub content_told : Tells Holds (Key ∷ Signature ∷ Subject ∷ []) (renamed (content_answer k.spki k.prehash d c))
     content_told = judged_tells Holds (Key ∷ Signature ∷ Subject ∷ [])

@@ -1,11 +1,11 @@
 -- The link `log-key`: a key is returned if and only if it is that of the entry's log.
-use Rattle.std.proofs.Common.{◌≡◌, ℕ, zero, suc, ◌<◌, List, [], ◌∷◌, get_or, Option, Some, None, Result, Ok, Err}
-use Rattle.std.proofs.Common.{IfErr, refl, sym, ap, subst, arith, ◌∙◌}
+use Rattle.std.proofs.Common.{◌≡◌, ℕ, List, [], ◌∷◌, Option, Some, None, Result, Ok, Err}
+use Rattle.std.proofs.Common.{IfErr, refl, sym, ap, subst, ◌∙◌}
 use Rattle.hex.specs.Hex.{encode_lower}
+use Rattle.sig_base.proofs.ByteLists.{byte_at}
 use Rattle.sig_base.proofs.ResultSteps.{ok_is}
 use Rattle.sig_base.specs.ByText.{text_lookup}
 use Rattle.sig_base.specs.declared.scheme.VerifyScheme.{VerifyScheme}
-use Rattle.sig_bundle.specs.Promise.{AreBytes}
 use Rattle.sig_bundle.specs.declared.material.TransparencyLogEntry.{TransparencyLogEntry}
 use Rattle.sig_key.proofs.KeyKinds.{key_kind_is, key_kind_only}
 use Rattle.sig_key.specs.Kind.{IsKind, key_kind, kind_answer}
@@ -15,15 +15,10 @@ use Rattle.sig_verify.proofs.JudgedLaws.{judged_one}
 use Rattle.sig_verify.specs.EntryLinks.{HasLogKey, HoldsOfEntry, IsOfBytes, LogKeys}
 use Rattle.sig_verify.specs.ContentCheck.{AcceptsSpki}
 use Rattle.sig_verify.specs.Judged.{Judged}
-use Rattle.sig_verify.specs.LogEntry.{from_kind, key_answer, read_found}
+use Rattle.sig_verify.specs.LogEntry.{from_kind, log_key_answer, read_found}
 use Rattle.sig_verify.specs.OfflineErrors.{link_of}
 use Rattle.sig_verify.specs.declared.link.Link.TheVariants.{LogKey}
 use Rattle.sig_verify.specs.declared.offline_error.OfflineError.{OfflineError}
-
-pub bytes_at : (bytes : List ℕ) → AreBytes bytes → (i : ℕ) → get_or bytes i 0 < 256
-bytes_at [] are i = omega arith
-bytes_at (b ∷ bytes) are zero = are.0
-bytes_at (b ∷ bytes) are (suc i) = bytes_at bytes are.1 i
 
 -- ---- what is returned is the key
 
@@ -47,26 +42,26 @@ by_der : (keys : LogKeys) (e : TransparencyLogEntry) → IsOfBytes keys e → (i
     → read_found (encode_lower id) found ≡ Ok key → HasLogKey keys e key
 by_der keys e bytes id key None named is answer = absurd cc
 by_der keys e bytes id key (Some der) named is answer =
-    by_kind keys e id der key (key_kind der) named is (key_kind_is der (bytes_at der (bytes.key id der named is)))
+    by_kind keys e id der key (key_kind der) named is (key_kind_is der (byte_at der (bytes.key id der named is)))
     answer
 
 by_id : (keys : LogKeys) (e : TransparencyLogEntry) → IsOfBytes keys e → (key : VerifyScheme × List ℕ)
-    (id : Option (List ℕ)) → e.log_id ≡ id → key_answer keys id ≡ Ok key → HasLogKey keys e key
+    (id : Option (List ℕ)) → e.log_id ≡ id → log_key_answer keys id ≡ Ok key → HasLogKey keys e key
 by_id keys e bytes key None named answer = absurd cc
 by_id keys e bytes key (Some id) named answer =
     by_der keys e bytes id key (text_lookup (encode_lower id) keys) named refl answer
 
 pub key_has : (keys : LogKeys) (e : TransparencyLogEntry) → IsOfBytes keys e → (key : VerifyScheme × List ℕ)
-    → key_answer keys e.log_id ≡ Ok key → HasLogKey keys e key
+    → log_key_answer keys e.log_id ≡ Ok key → HasLogKey keys e key
 key_has keys e bytes key answer = by_id keys e bytes key e.log_id refl answer
 
 -- ---- and the key is returned
 
 pub key_again : (keys : LogKeys) (e : TransparencyLogEntry) → IsOfBytes keys e → (key : VerifyScheme × List ℕ)
-    → HasLogKey keys e key → key_answer keys e.log_id ≡ Ok key
+    → HasLogKey keys e key → log_key_answer keys e.log_id ≡ Ok key
 key_again keys e bytes key has =
-    let fits = bytes_at key.1 (bytes.key has.id key.1 has.named has.found) in
-    ap (λ (o : Option (List ℕ)). key_answer keys o) has.named
+    let fits = byte_at key.1 (bytes.key has.id key.1 has.named has.found) in
+    ap (λ (o : Option (List ℕ)). log_key_answer keys o) has.named
     ∙ ap (λ (o : Option (List ℕ)). read_found (encode_lower has.id) o) has.found
     ∙ ap (λ (k : KeyKind). from_kind (kind_answer key.1 k)) (sym (key_kind_only key.1 fits (Scheme key.0) has.kind))
 
@@ -89,14 +84,14 @@ found_links name None = refl
 found_links name (Some der) = kind_links der (key_kind der)
 
 key_links : (keys : LogKeys) (id : Option (List ℕ))
-    → IfErr (key_answer keys id) (λ error. link_of error ≡ Some LogKey)
+    → IfErr (log_key_answer keys id) (λ error. link_of error ≡ Some LogKey)
 key_links keys None = refl
 key_links keys (Some id) = found_links (encode_lower id) (text_lookup (encode_lower id) keys)
 
 pub judged_key : (spki : AcceptsSpki) (keys : LogKeys) (e : TransparencyLogEntry) → IsOfBytes keys e
-    → Judged (HoldsOfEntry spki keys e) (LogKey ∷ []) (key_answer keys e.log_id)
+    → Judged (HoldsOfEntry spki keys e) (LogKey ∷ []) (log_key_answer keys e.log_id)
 judged_key spki keys e bytes =
-    judged_one (HoldsOfEntry spki keys e) LogKey (key_answer keys e.log_id)
+    judged_one (HoldsOfEntry spki keys e) LogKey (log_key_answer keys e.log_id)
     (λ key answer. (key, key_has keys e bytes key answer, tt))
     (λ error answer. (
       (λ holds. let both : ◌≡◌ {A = Result (VerifyScheme × List ℕ) OfflineError} (Err error) (Ok holds.0) =

@@ -4,7 +4,7 @@ use Rattle.std.specs.Prelude.{IfOk, unwrap_or}
 use Rattle.sig_base.proofs.ResultSteps.{bind_ok, ok_is}
 use Rattle.sig_base.specs.Answers.{Answers, UnlessMemory}
 use Rattle.sig_base.specs.declared.scheme.VerifyScheme.{VerifyScheme}
-use Rattle.sig_bundle.specs.Promise.{AreBytes}
+use Rattle.sig_base.specs.ByteLists.{AreBytes}
 use Rattle.sig_bundle.specs.declared.material.TransparencyLogEntry.{TransparencyLogEntry}
 use Rattle.sig_rekor.specs.declared.inclusion_proof.InclusionProof.{InclusionProof}
 use Rattle.sig_verify.proofs.EntryKeys.{judged_key, key_has}
@@ -16,7 +16,8 @@ use Rattle.sig_verify.specs.ContentCheck.{AcceptsSpki}
 use Rattle.sig_verify.specs.EntryLinks.{HasKeyOfBytes, HasLogKey, HoldsOfEntry, IsOfBytes, LogKeys, entry_links}
 use Rattle.sig_verify.specs.LinkLaws.{IsKept}
 use Rattle.sig_verify.specs.Judged.{Judged, Tells}
-use Rattle.sig_verify.specs.LogEntry.{entry_answer, fields_answer, included, inclusion_answer, key_answer}
+use Rattle.sig_verify.specs.LogEntry.{log_entry_answer, fields_answer, included, entry_inclusion_answer}
+use Rattle.sig_verify.specs.LogEntry.{log_key_answer}
 use Rattle.sig_verify.specs.LogEntry.{promise_answer, vouched}
 use Rattle.sig_verify.specs.declared.link.Link.TheVariants.{LogKey, Promise, Proof, Checkpoint, NoteKey, NoteMatch}
 use Rattle.sig_verify.specs.declared.link.Link.TheVariants.{Inclusion}
@@ -32,7 +33,7 @@ module _ (promises : PromiseLaws) (proofs : ProofLaws) (spki : AcceptsSpki) (key
   judged_included key has proof answer =
       let of = proof_taken proofs e e.inclusion_proof proof refl answer in
       judged_map (HoldsOfEntry spki keys e) (NoteKey ∷ NoteMatch ∷ Inclusion ∷ [])
-      (inclusion_answer (spki key.0 key.1) e.canonicalized_body proof)
+      (entry_inclusion_answer (spki key.0 key.1) e.canonicalized_body proof)
       (λ (done : Unit {0}). record { body = e.canonicalized_body; proof = proof })
       (judged_path spki keys e bytes key has of.0 of.1 proof of.2)
 
@@ -47,40 +48,40 @@ module _ (promises : PromiseLaws) (proofs : ProofLaws) (spki : AcceptsSpki) (key
       (fields_answer e.inclusion_proof) _ (judged_proof spki keys e proofs)
       (λ proof answer. judged_included key has proof answer))
 
-  pub judged_entry : Judged (HoldsOfEntry spki keys e) entry_links (entry_answer spki keys e)
+  pub judged_entry : Judged (HoldsOfEntry spki keys e) entry_links (log_entry_answer spki keys e)
   judged_entry =
       judged_bind (HoldsOfEntry spki keys e) (LogKey ∷ [])
       (Promise ∷ Proof ∷ Checkpoint ∷ NoteKey ∷ NoteMatch ∷ Inclusion ∷ [])
-      (key_answer keys e.log_id) _ (judged_key spki keys e bytes)
+      (log_key_answer keys e.log_id) _ (judged_key spki keys e bytes)
       (λ key answer. judged_vouched key (key_has keys e bytes key answer))
 
-  pub entry_told : Tells (HoldsOfEntry spki keys e) entry_links (entry_answer spki keys e)
-  entry_told = judged_tells (HoldsOfEntry spki keys e) entry_links (entry_answer spki keys e) judged_entry
+  pub entry_told : Tells (HoldsOfEntry spki keys e) entry_links (log_entry_answer spki keys e)
+  entry_told = judged_tells (HoldsOfEntry spki keys e) entry_links (log_entry_answer spki keys e) judged_entry
 
 -- what the last step keeps
 pub entry_kept : ProofLaws → (spki : AcceptsSpki) (keys : LogKeys) (e : TransparencyLogEntry) (offline : Offline)
-    → entry_answer spki keys e ≡ Ok offline → IsKept e offline
+    → log_entry_answer spki keys e ≡ Ok offline → IsKept e offline
 entry_kept proofs spki keys e offline answer =
-    let a = bind_ok (key_answer keys e.log_id) _ offline answer in
+    let a = bind_ok (log_key_answer keys e.log_id) _ offline answer in
     let b = bind_ok (promise_answer (spki a.0.0 a.0.1) e) _ offline a.2 in
     let c = bind_ok (fields_answer e.inclusion_proof) _ offline b.2 in
-    let d = bind_ok (inclusion_answer (spki a.0.0 a.0.1) e.canonicalized_body c.0) _ offline c.2 in
+    let d = bind_ok (entry_inclusion_answer (spki a.0.0 a.0.1) e.canonicalized_body c.0) _ offline c.2 in
     let is : ◌≡◌ {A = Offline} (record { body = e.canonicalized_body; proof = c.0 }) offline = ok_is _ offline d.2 in
     subst (λ (o : Offline). IsKept e o) is
     (record { body = refl; proof = proof_taken proofs e e.inclusion_proof c.0 refl c.1 })
 
 -- what the call returns, whose arguments are bytes
 pub entry_linked : PromiseLaws → ProofLaws → (spki : AcceptsSpki) (keys : LogKeys) (e : TransparencyLogEntry)
-    (r : Result Offline OfflineError) → Answers OutOfMemory (λ (o : Offline). o) r (entry_answer spki keys e)
+    (r : Result Offline OfflineError) → Answers OutOfMemory (λ (o : Offline). o) r (log_entry_answer spki keys e)
     → UnlessMemory OutOfMemory r (HasKeyOfBytes keys e) → AreBytes e.canonicalized_body
     → AreBytes (unwrap_or e.log_id []) → UnlessMemory OutOfMemory r (Judged (HoldsOfEntry spki keys e) entry_links r)
 entry_linked promises proofs spki keys e r is (inl memory) body id = inl memory
 entry_linked promises proofs spki keys e r is (inr key) body id =
-    judged_answer OutOfMemory (HoldsOfEntry spki keys e) entry_links r (entry_answer spki keys e) is
+    judged_answer OutOfMemory (HoldsOfEntry spki keys e) entry_links r (log_entry_answer spki keys e) is
     (judged_entry promises proofs spki keys e (record { body = body; id = id; key = key }))
 
 pub entry_kept_of : ProofLaws → (spki : AcceptsSpki) (keys : LogKeys) (e : TransparencyLogEntry)
-    (r : Result Offline OfflineError) → Answers OutOfMemory (λ (o : Offline). o) r (entry_answer spki keys e)
+    (r : Result Offline OfflineError) → Answers OutOfMemory (λ (o : Offline). o) r (log_entry_answer spki keys e)
     → IfOk r (IsKept e)
 entry_kept_of proofs spki keys e (Ok offline) is = entry_kept proofs spki keys e offline is
 entry_kept_of proofs spki keys e (Err error) is = tt

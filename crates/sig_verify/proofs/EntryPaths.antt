@@ -19,7 +19,8 @@ use Rattle.sig_merkle.proofs.InclusionLaws.{inclusion_answers}
 use Rattle.sig_merkle.specs.Inclusion.{IsIncluded, inclusion_answer}
 use Rattle.sig_merkle.specs.Path.{path_root}
 use Rattle.sig_merkle.specs.Root.{leaf_of}
-use Rattle.sig_rekor.specs.Verify.{and_then, as_inclusion, checkpoint_answer, inclusion_at, is_signed, proof_answer}
+use Rattle.sig_rekor.specs.Verify.{and_then, as_inclusion, checkpoint_answer, inclusion_at, has_accepted_signature}
+use Rattle.sig_rekor.specs.Verify.{proof_answer}
 use Rattle.sig_rekor.specs.Verify.{signed_answer, tree_answer}
 use Rattle.sig_rekor.specs.declared.checkpoint.SignedCheckpoint.{SignedCheckpoint}
 use Rattle.sig_rekor.specs.declared.inclusion_proof.InclusionProof.{InclusionProof}
@@ -31,7 +32,7 @@ use Rattle.sig_verify.specs.EntryLinks.{LogKeys}
 use Rattle.sig_verify.specs.EntryLinks.{OfCheckpoint, OfPlace}
 use Rattle.sig_verify.specs.Judged.{Judged}
 use Rattle.sig_verify.specs.LogEntry.{from_proof}
-use Rattle.sig_verify.specs.LogEntry.{inclusion_answer as entry_inclusion_answer}
+use Rattle.sig_verify.specs.LogEntry.{entry_inclusion_answer}
 use Rattle.sig_verify.specs.OfflineErrors.{link_of, of_proof}
 use Rattle.sig_verify.specs.declared.link.Link.{Link}
 use Rattle.sig_verify.specs.declared.link.Link.TheVariants.{NoteKey, NoteMatch, Inclusion}
@@ -70,16 +71,16 @@ module _ (spki : AcceptsSpki) (keys : LogKeys) (e : TransparencyLogEntry) (bytes
 
   -- ---- the signature
 
-  says_signed : (b : Bool) → is_signed (spki key.0 key.1) of.checkpoint ≡ b
+  says_signed : (b : Bool) → has_accepted_signature (spki key.0 key.1) of.checkpoint ≡ b
       → Says (HoldsOfEntry spki keys e) NoteKey (cond b (Ok tt) (Err CheckpointSignatureVerificationError))
   says_signed true said = (key, has, (p, is, (of.checkpoint, of.decoded, said)))
   says_signed false said = (
     (λ holds.
         let same : holds.0 ≡ key = one_key keys e bytes key holds.0 has holds.1 in
-        let other : is_signed (spki holds.0.0 holds.0.1) of.checkpoint ≡ true =
+        let other : has_accepted_signature (spki holds.0.0 holds.0.1) of.checkpoint ≡ true =
         note_of (λ q n. IsNoteSigned (spki holds.0.0 holds.0.1) n) holds.2 in
-        let signed : is_signed (spki key.0 key.1) of.checkpoint ≡ true =
-        subst (λ (k : VerifyScheme × List ℕ). is_signed (spki k.0 k.1) of.checkpoint ≡ true) same other in
+        let signed : has_accepted_signature (spki key.0 key.1) of.checkpoint ≡ true =
+        subst (λ (k : VerifyScheme × List ℕ). has_accepted_signature (spki k.0 k.1) of.checkpoint ≡ true) same other in
         let wrong : true ≡ false = sym signed ∙ said in absurd cc),
     refl,
   )
@@ -200,7 +201,7 @@ module _ (spki : AcceptsSpki) (keys : LogKeys) (e : TransparencyLogEntry) (bytes
       (judged_three (HoldsOfEntry spki keys e)
       (signed_answer (spki key.0 key.1) of.checkpoint) (tree_answer of.checkpoint proof.root_hash proof.tree_size)
       (inclusion_at proof.log_index e.canonicalized_body proof)
-      (says_signed (is_signed (spki key.0 key.1) of.checkpoint) refl)
+      (says_signed (has_accepted_signature (spki key.0 key.1) of.checkpoint) refl)
       (says_tree (nat_lt proof.tree_size of.checkpoint.note.size) (nat_lt of.checkpoint.note.size proof.tree_size)
       (bytes_eq of.checkpoint.note.hash proof.root_hash) refl refl refl)
       (says_path proof.log_index refl))

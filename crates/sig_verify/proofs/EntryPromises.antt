@@ -5,7 +5,8 @@ use Rattle.std.specs.Prelude.{is_some, unsigned_abs, unwrap_or}
 use Rattle.std.proofs.lemmas.Bool.{cases_lt}
 use Rattle.sig_base.specs.ResultSteps.{◌>>=◌}
 use Rattle.sig_base.specs.declared.scheme.VerifyScheme.{VerifyScheme}
-use Rattle.sig_bundle.specs.Promise.{AreBytes, IsExactEntry, promise_of_entry, promise_tree_of}
+use Rattle.sig_base.specs.ByteLists.{AreBytes}
+use Rattle.sig_bundle.specs.Promise.{IsExactEntry, promise_of_entry, promise_tree_of}
 use Rattle.sig_bundle.specs.declared.material.TransparencyLogEntry.{TransparencyLogEntry}
 use Rattle.sig_json.specs.Canonical.{canonical_of}
 use Rattle.sig_json.specs.declared.error.CanonicalError.{CanonicalError}

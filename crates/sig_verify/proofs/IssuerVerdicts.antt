@@ -15,7 +15,7 @@ use Rattle.sig_timestamp.specs.Embedded.{IsSaidOf, ready}
 use Rattle.sig_timestamp.specs.Keyring.{vouch}
 use Rattle.sig_timestamp.specs.Precert.{precertificate}
 use Rattle.sig_timestamp.specs.RingKey.{point_at}
-use Rattle.sig_timestamp.specs.SctBytes.{judged, signed_bytes, signed_of, verified}
+use Rattle.sig_timestamp.specs.SctBytes.{judged, signed_bytes, signed_of, as_sct_result}
 use Rattle.sig_timestamp.specs.SctList.{Sct as SctType}
 use Rattle.sig_timestamp.specs.Timestamps.{HasSct, sct_of}
 use Rattle.sig_timestamp.specs.declared.keyring_error.KeyringError.TheVariants as keyring
@@ -64,7 +64,7 @@ same_point : (a b : List ℕ) → ◌≡◌ {A = Option (List ℕ)} (Some a) (So
 same_point a b e = cc
 
 -- what is read is read
-itself : (r : Result DigitallySigned SCTError) → Answers OutOfMemory (λ (x : DigitallySigned). x) r r
+pub itself : (r : Result DigitallySigned SCTError) → Answers OutOfMemory (λ (x : DigitallySigned). x) r r
 itself (Ok x) = refl
 itself (Err e) = inr refl
 
@@ -136,7 +136,7 @@ module _ (k : Checker) (policy : PolicyOf) (trusted : Trusted) (d : ArtifactDige
       says_point : (long : length (precertificate c) < 2 ^ 24) → (length s.extensions < 2 ^ 16)
           → (point : List ℕ) → point_at trusted.ring s.log_id ≡ Some point
           → (b : Bool) → k.point point (signed_bytes (signed_of c spki s)) s.signature ≡ b
-          → SaysSct (verified (cond b (Ok tt) (Err keyring.VerificationFailed)))
+          → SaysSct (as_sct_result (cond b (Ok tt) (Err keyring.VerificationFailed)))
       says_point long short point at true accepted =
           ((s, has, (long, short)), (s, has, record { index = place; first = first; holds = (point, at, accepted) }))
       says_point long short point at false accepted = (
@@ -159,7 +159,7 @@ module _ (k : Checker) (policy : PolicyOf) (trusted : Trusted) (d : ArtifactDige
 
       says_log : (long : length (precertificate c) < 2 ^ 24) → (length s.extensions < 2 ^ 16)
           → (o : Option (List ℕ)) → point_at trusted.ring s.log_id ≡ o
-          → SaysSct (verified (vouch k.point o (signed_bytes (signed_of c spki s)) s.signature))
+          → SaysSct (as_sct_result (vouch k.point o (signed_bytes (signed_of c spki s)) s.signature))
       says_log long short None at = (
         (λ holds.
             let t = holds.1.0 in
@@ -176,7 +176,8 @@ module _ (k : Checker) (policy : PolicyOf) (trusted : Trusted) (d : ArtifactDige
       says_lengths : (x y : Bool) → nat_lt (2 ^ 24 - 1) (length (precertificate c)) ≡ x
           → nat_lt (2 ^ 16 - 1) (length s.extensions) ≡ y
           → SaysSct (cond x (Err Serialization) (cond y (Err Serialization)
-          (verified (vouch k.point (point_at trusted.ring s.log_id) (signed_bytes (signed_of c spki s)) s.signature))))
+          (as_sct_result (vouch k.point (point_at trusted.ring s.log_id)
+          (signed_bytes (signed_of c spki s)) s.signature))))
       says_lengths true y body extensions = (
         (λ holds.
             let long : length (precertificate c) < 2 ^ 24 = holds.0.2.0 in

@@ -1,8 +1,9 @@
 -- What a link asks of the inputs is what it asks of the root, of the bundle and of the log entry that these are.
-use Rattle.std.proofs.Common.{◌≡◌, ◌↔◌, ◌≢◌, ℕ, true, List, [], ◌∷◌, ◌++◌, Option, None, Ok, refl, sym, ap, subst, ◌∙◌}
+use Rattle.std.proofs.Common.{◌≡◌, ◌↔◌, ◌≢◌, ℕ, true, List, [], ◌++◌, Option, None, Ok, sym, ap, subst, ◌∙◌}
 use Rattle.std.proofs.Math.Path.{fun_ext}
 use Rattle.std.specs.List.{AllByRecursion}
 use Rattle.sig_base.proofs.ResultSteps.{ok_is}
+use Rattle.sig_base.proofs.Zipped.{zip_one}
 use Rattle.sig_base.specs.declared.fault.TrustPart.TheVariants as part
 use Rattle.sig_bundle.proofs.Certificates.{OneCertificate}
 use Rattle.sig_bundle.specs.BundleRecord.{bundle_in}
@@ -17,7 +18,7 @@ use Rattle.sig_root.specs.RootRecord.{trusted_root_in}
 use Rattle.sig_root.specs.declared.record.TrustedRoot.{TrustedRoot}
 use Rattle.sig_timestamp.specs.Keyring.{key_of}
 use Rattle.sig_timestamp.specs.RingKey.{point_at}
-use Rattle.sig_x509.specs.Issuance.{AreAnchors}
+use Rattle.sig_x509.specs.Issuance.{AreAnchors, IsAnchor}
 use Rattle.sig_x509.specs.Issued.{HasProfile}
 use Rattle.sig_verify.proofs.JudgedLaws.{Alike, alike_joined, both_alike}
 use Rattle.sig_verify.proofs.RootVerdicts.{some_given}
@@ -26,12 +27,14 @@ use Rattle.sig_verify.specs.BundleLinks.{IsContentRead, OfCertificates, OfConten
 use Rattle.sig_verify.specs.BundleLinks.{bundle_links}
 use Rattle.sig_verify.specs.CertificateLinks.{HasIssuer, HasSignedBytes, IsAbout, IsSignedContent, IsTimely}
 use Rattle.sig_verify.specs.CertificateLinks.{IsVouchedFor, OfScheme, Trust, certificate_links}
-use Rattle.sig_verify.specs.EntryLinks.{HasPromise, HoldsOfEntry, IsLed, IsNoteOf, IsNoteSignedBy, IsPlaced}
-use Rattle.sig_verify.specs.EntryLinks.{IsPromisedBy, IsProofRead, LogKeys, OfCheckpoint, OfLogKey, OfProof, entry_links}
+use Rattle.sig_verify.specs.EntryLinks.{HasCanonicalPromise, HoldsOfEntry, IsLed, IsNoteOf, IsNoteSignedBy, IsPlaced}
+use Rattle.sig_verify.specs.EntryLinks.{IsPromisedBy, IsProofRead, LogKeys, OfCheckpoint, OfLogKey, OfProof}
+use Rattle.sig_verify.specs.EntryLinks.{entry_links}
 use Rattle.sig_verify.specs.LinkLaws.{HoldsOfVerified, trust_of}
 use Rattle.sig_verify.specs.Links.{HoldsOf, Inputs, OfBundle, OfChecked, OfLogged, OfPassed, OfRoot, Outside}
 use Rattle.sig_verify.specs.OfflineVerdict.{authorities_of, ct_keys_of}
-use Rattle.sig_verify.specs.RootLinks.{HoldsOfRoot, IsSomeAnchor, OfTrust, authorities, ct_keys, log_keys, root_links}
+use Rattle.sig_verify.specs.RootLinks.{HoldsOfRoot, IsSomeAnchor, OfTrust, authorities, ct_keys, rekor_keys}
+use Rattle.sig_verify.specs.RootLinks.{root_links}
 use Rattle.sig_verify.specs.Verdict.{HasBody}
 use Rattle.sig_verify.specs.Verifier.{IsVerifierOf, Trusted, values_of}
 use Rattle.sig_verify.specs.declared.link.Link.{Link}
@@ -39,14 +42,7 @@ use Rattle.sig_verify.specs.declared.link.Link.{Link}
 -- the anchors of bytes are the only ones
 one_list : OneCertificate → (ders : List (List ℕ)) (cs ds : List Cert) → AreAnchors ders cs → AreAnchors ders ds
     → cs ≡ ds
-one_list one [] [] [] are other = refl
-one_list one [] (c ∷ cs) ds are other = absurd are
-one_list one [] [] (d ∷ ds) are other = absurd other
-one_list one (t ∷ ts) [] ds are other = absurd are
-one_list one (t ∷ ts) (c ∷ cs) [] are other = absurd other
-one_list one (t ∷ ts) (c ∷ cs) (d ∷ ds) are other =
-    ap (λ (x : Cert). x ∷ cs) (one t c d are.0.certificate other.0.certificate)
-    ∙ ap (λ (xs : List Cert). d ∷ xs) (one_list one ts cs ds are.1 other.1)
+one_list one = zip_one IsAnchor IsAnchor (λ t c d anchor other. one t c d anchor.certificate other.certificate)
 
 module _ (o : Outside) (i : Inputs) (root : TrustedRoot) (root_is : trusted_root_in i.root ≡ Ok root) where
   root_as : (P : TrustedRoot → Type 0) → P root ↔ OfRoot i P
@@ -75,24 +71,24 @@ module _ (o : Outside) (i : Inputs) (root : TrustedRoot) (root_is : trusted_root
 
     module _ (one : OneCertificate) (c : Checked) (is : IsPassed b c) where
       entry_from : (X : LogKeys → TransparencyLogEntry → Type 0) (x : Checked) → IsPassed b x
-          → X (log_keys root i.now) x.entry → X (log_keys root i.now) c.entry
+          → X (rekor_keys root i.now) x.entry → X (rekor_keys root i.now) c.entry
       entry_from X x other holds =
-          subst (λ (y : Checked). X (log_keys root i.now) y.entry) (one_checked one b c x is other) holds
+          subst (λ (y : Checked). X (rekor_keys root i.now) y.entry) (one_checked one b c x is other) holds
 
-      logged_as : (X : LogKeys → TransparencyLogEntry → Type 0) → X (log_keys root i.now) c.entry ↔ OfLogged i X
+      logged_as : (X : LogKeys → TransparencyLogEntry → Type 0) → X (rekor_keys root i.now) c.entry ↔ OfLogged i X
       logged_as X = (
-        (λ x. (root_as (λ r. OfPassed i (λ y. X (log_keys r i.now) y.entry))).0 (b, bundle_is, (c, is, x))),
+        (λ x. (root_as (λ r. OfPassed i (λ y. X (rekor_keys r i.now) y.entry))).0 (b, bundle_is, (c, is, x))),
         (λ has.
-            let passed = (root_as (λ r. OfPassed i (λ y. X (log_keys r i.now) y.entry))).1 has in
-            let found = (bundle_as (λ x. (y : Checked) × IsPassed x y × X (log_keys root i.now) y.entry)).1 passed in
+            let passed = (root_as (λ r. OfPassed i (λ y. X (rekor_keys r i.now) y.entry))).1 has in
+            let found = (bundle_as (λ x. (y : Checked) × IsPassed x y × X (rekor_keys root i.now) y.entry)).1 passed in
             entry_from X found.0 found.1 found.2),
       )
 
-      pub entries_alike : Alike (HoldsOfEntry o.checker.spki (log_keys root i.now) c.entry) (HoldsOf o i) entry_links
+      pub entries_alike : Alike (HoldsOfEntry o.checker.spki (rekor_keys root i.now) c.entry) (HoldsOf o i) entry_links
       entries_alike = (
         logged_as (λ keys e. OfLogKey keys e (λ key. Unit {0})),
         (
-          both_alike (logged_as (λ keys e. HasPromise e))
+          both_alike (logged_as (λ keys e. HasCanonicalPromise e))
               (logged_as (λ keys e. IsPromisedBy o.checker.spki keys e)),
           (
             logged_as (λ keys e. OfProof e IsProofRead),

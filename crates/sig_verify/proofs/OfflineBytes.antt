@@ -1,20 +1,22 @@
 -- What was read is bytes, where the law of the outcomes asks for it.
-use Rattle.std.proofs.Common.{◌≡◌, ℕ, zero, suc, ◌+◌, ◌<◌, ℤ, Bool, true, false, List, [], ◌∷◌, Option, Some, None}
-use Rattle.std.proofs.Common.{Ok, Err, IfOk, inl, inr, drop, get_or, length, refl, sym, ap, subst, arith, ◌∙◌}
+use Rattle.std.proofs.Common.{◌≡◌, ℕ, zero, suc, ℤ, Bool, true, false, List, [], ◌∷◌, Option, Some, None}
+use Rattle.std.proofs.Common.{Ok, Err, IfOk, inl, inr, refl, sym, ap, subst, ◌∙◌}
 use Rattle.std.specs.Prelude.{slice_get, if◌then◌else◌}
 use Rattle.std.specs.List.{AllByRecursion}
-use Rattle.std.proofs.Math.Seq.{drop-cons}
 use Rattle.hex.specs.Hex.{encode_lower}
 use Rattle.sig_base.proofs.OptionSteps.{bind_is, some_is}
 use Rattle.sig_base.proofs.ResultSteps.{ok_is}
 use Rattle.sig_base.specs.Answers.{UnlessMemory}
 use Rattle.sig_base.specs.OptionSteps.{◌>>=◌}
+use Rattle.sig_bundle.specs.LogEntries.{only_entry}
 use Rattle.sig_bundle.specs.BundleRecord.{bundle_in}
 use Rattle.sig_bundle.specs.Checked.{Checked}
+use Rattle.sig_bundle.specs.OfBytes.{HasCertificateOfBytes}
 use Rattle.sig_bundle.specs.declared.bundle.Bundle.{Bundle}
 use Rattle.sig_dsse.specs.declared.artifact_digest.ArtifactDigest.{ArtifactDigest}
 use Rattle.sig_root.proofs.LastKeys.{only_last}
-use Rattle.sig_root.specs.Picked.{bytes_at, holds, key_at}
+use Rattle.sig_root.specs.OfBytes.{HasRawBytes}
+use Rattle.sig_root.specs.Picked.{key_bytes_at, holds, key_at}
 use Rattle.sig_root.specs.RootRecord.{trusted_root_in}
 use Rattle.sig_root.specs.declared.record.PublicKey.{PublicKey}
 use Rattle.sig_root.specs.declared.record.TransparencyLogInstance.{TransparencyLogInstance}
@@ -22,27 +24,18 @@ use Rattle.sig_root.specs.declared.record.TrustedRoot.{TrustedRoot}
 use Rattle.sig_verify.proofs.CertificateBytes.{read_of_bundle}
 use Rattle.sig_verify.specs.EntryLinks.{HasKeyOfBytes}
 use Rattle.sig_verify.specs.Judged.{Judged}
-use Rattle.sig_verify.specs.Links.{HoldsOf, Inputs, OfPassed, Outside, links}
-use Rattle.sig_verify.specs.LinkLaws.{HasCertificateOfBytes, IsKept}
-use Rattle.sig_verify.specs.OfflineLaws.{AreRead, HasEntryOfBytes, HasRawBytes, IsOfBundleOfBytes, IsToldOf}
+use Rattle.sig_verify.specs.Links.{HoldsOf, Inputs, OfPassed, Outside, chain_links}
+use Rattle.sig_verify.specs.LinkLaws.{IsKept}
+use Rattle.sig_verify.specs.OfflineLaws.{AreReadInputs, HasEntryOfBytes, IsOfBundleOfBytes, IsOutcomeOf}
 use Rattle.sig_verify.specs.OfflineLaws.{OutcomesAreJudged}
-use Rattle.sig_verify.specs.OfflineVerdict.{IsOffline, Outcome, entry_among, only_entry}
-use Rattle.sig_verify.specs.RootLinks.{log_keys}
+use Rattle.sig_verify.specs.OfflineVerdict.{IsOffline, Outcome, entry_among}
+use Rattle.sig_verify.specs.RootLinks.{rekor_keys}
 use Rattle.sig_verify.specs.declared.offline_error.OfflineError.TheVariants.{OutOfMemory}
 
 abbrev Instance : Type 0
 Instance = TransparencyLogInstance
 
 -- ---- the instances of a log
-
--- one more of them
-pub further : (is : List Instance) (n : ℕ) (i : Instance) → n < length is → i ≡ get_or is n i → HasRawBytes i
-    → AllByRecursion HasRawBytes (drop (n + 1) is) → AllByRecursion HasRawBytes (drop n is)
-further is n i within found has rest =
-    let next : n + 1 ≡ suc n = omega arith in
-    subst (λ (l : List Instance). AllByRecursion HasRawBytes l)
-    (sym (drop-cons is n i within ∙ ap (λ (h : Instance). h ∷ drop (suc n) is) (sym found)))
-    (has, subst (λ (k : ℕ). AllByRecursion HasRawBytes (drop k is)) next rest)
 
 at : (is : List Instance) (n : ℕ) (i : Instance) → AllByRecursion HasRawBytes is → slice_get is n ≡ Some i
     → HasRawBytes i
@@ -63,8 +56,10 @@ raw_of : (now : ℤ) (i : Instance) (id key : List ℕ) → key_at now i ≡ Som
 unfolding key_at
 raw_of now i id key is =
     let first = bind_is i.public_key
-    (λ (k : PublicKey). bytes_at now k >>= (λ raw. i.log_id >>= (λ log. Some (encode_lower log, raw)))) (id, key) is in
-    let second = bind_is (bytes_at now first.0) (λ (raw : List ℕ). i.log_id >>= (λ log. Some (encode_lower log, raw)))
+    (λ (k : PublicKey). key_bytes_at now k >>= (λ raw. i.log_id >>= (λ log. Some (encode_lower log, raw))))
+    (id, key) is in
+    let second = bind_is (key_bytes_at now first.0)
+    (λ (raw : List ℕ). i.log_id >>= (λ log. Some (encode_lower log, raw)))
     (id, key) first.2 in
     let third = bind_is i.log_id (λ (log : List ℕ). Some (encode_lower log, second.0)) (id, key) second.2 in
     let same : second.0 ≡ key = same_key (encode_lower third.0) second.0 id key third.2 in (
@@ -74,7 +69,7 @@ raw_of now i id key is =
     )
 
 keys_are_bytes : (root : TrustedRoot) (now : ℤ) (c : Checked) → AllByRecursion HasRawBytes root.tlogs
-    → HasKeyOfBytes (log_keys root now) c.entry
+    → HasKeyOfBytes (rekor_keys root now) c.entry
 keys_are_bytes root now c all id key named found =
     let last = only_last now root.tlogs (encode_lower id) key found in
     let raw = raw_of now last.gives.0 (encode_lower id) key last.gives.2 in
@@ -89,7 +84,7 @@ bundle_bytes text b is certificate entry other other_is =
     (certificate, entry)
 
 pub are_read : (i : Inputs) (root : TrustedRoot) → trusted_root_in i.root ≡ Ok root
-    → AllByRecursion HasRawBytes root.tlogs → IsOfBundleOfBytes i.bundle → AreRead i
+    → AllByRecursion HasRawBytes root.tlogs → IsOfBundleOfBytes i.bundle → AreReadInputs i
 are_read i root root_is all bytes = record {
   checked = λ other b c other_is bundle_is is. read_of_bundle b (bytes b bundle_is).0 c is;
   logged = λ other b c other_is bundle_is is.
@@ -111,21 +106,21 @@ inputs root now d bundle = record { root = root; now = now; digest = d; bundle =
 module _ (law : OutcomesAreJudged) (o : Outside) (root : List ℕ) (now time : ℤ) (d : ArtifactDigest)
     (bundle : List ℕ) where
   abbrev AreReadIn : Outcome → Type 0
-  AreReadIn result = UnlessMemory OutOfMemory result (AreRead (inputs root time d bundle))
+  AreReadIn result = UnlessMemory OutOfMemory result (AreReadInputs (inputs root time d bundle))
 
   abbrev IsBySteps : Outcome → Type 0
   IsBySteps result = UnlessMemory OutOfMemory result (IsOffline o.checker o.policy root time d bundle result)
 
   told : (result : Outcome) → time ≡ now → AreReadIn result → IsBySteps result
-      → UnlessMemory OutOfMemory result (IsToldOf o (inputs root now d bundle) result)
+      → UnlessMemory OutOfMemory result (IsOutcomeOf o (inputs root now d bundle) result)
   told result same (inl memory) is = inl memory
   told result same (inr read) (inl memory) = inl memory
   told result same (inr read) (inr is) =
-      subst (λ (t : ℤ). UnlessMemory OutOfMemory result (IsToldOf o (inputs root t d bundle) result)) same
+      subst (λ (t : ℤ). UnlessMemory OutOfMemory result (IsOutcomeOf o (inputs root t d bundle) result)) same
       (law o (inputs root time d bundle) read result is)
 
   pub links_told : (result : Outcome) → time ≡ now → AreReadIn result → IsBySteps result
-      → UnlessMemory OutOfMemory result (Judged (HoldsOf o (inputs root now d bundle)) links result)
+      → UnlessMemory OutOfMemory result (Judged (HoldsOf o (inputs root now d bundle)) chain_links result)
   links_told result same read is =
       elim (told result same read is) [ inl memory ↦ inl memory | inr all ↦ inr all.judged ]
 

@@ -5,6 +5,7 @@ use Rattle.std.specs.List.{AllByRecursion}
 use Rattle.sig_base.proofs.OptionSteps.{some_is}
 use Rattle.sig_base.specs.declared.error.SigstoreError.{SigstoreError}
 use Rattle.sig_base.specs.declared.error.SigstoreError.TheVariants as sigstore
+use Rattle.sig_bundle.specs.LogEntries.{only_entry}
 use Rattle.sig_bundle.proofs.Certificates.{OneCertificate}
 use Rattle.sig_bundle.specs.BundleRecord.{bundle_in}
 use Rattle.sig_bundle.specs.Checked.{Checked, IsChecked}
@@ -26,14 +27,14 @@ use Rattle.sig_verify.specs.CertificateLinks.{certificate_links}
 use Rattle.sig_verify.specs.EntryLinks.{HoldsOfEntry, LogKeys, entry_links}
 use Rattle.sig_verify.specs.Judged.{IsOfFirst, Judged}
 use Rattle.sig_verify.specs.LinkLaws.{BundlesAreJudged, HoldsOfVerified, IsKept, RootsAreJudged, renamed, trust_of}
-use Rattle.sig_verify.specs.Links.{HoldsOf, Inputs, OfPassed, Outside, links}
-use Rattle.sig_verify.specs.LogEntry.{entry_answer}
+use Rattle.sig_verify.specs.Links.{HoldsOf, Inputs, OfPassed, Outside, chain_links}
+use Rattle.sig_verify.specs.LogEntry.{log_entry_answer}
 use Rattle.sig_verify.specs.OfflineErrors.{of_root, of_verification}
-use Rattle.sig_verify.specs.OfflineLaws.{AreRead, IsToldOf}
+use Rattle.sig_verify.specs.OfflineLaws.{AreReadInputs, IsOutcomeOf}
 use Rattle.sig_verify.specs.OfflineVerdict.{AfterAnswer, AfterRead, IsOffline, IsOfflineIn, IsOfflineOf}
-use Rattle.sig_verify.specs.OfflineVerdict.{IsVouchedIn, Outcome, authorities_of, ct_keys_of, entry_among, entry_of}
-use Rattle.sig_verify.specs.OfflineVerdict.{only_entry}
-use Rattle.sig_verify.specs.RootLinks.{HoldsOfRoot, log_keys, root_links}
+use Rattle.sig_verify.specs.OfflineVerdict.{IsVouchedIn, Outcome, authorities_of, ct_keys_of, entry_among}
+use Rattle.sig_verify.specs.OfflineVerdict.{only_entry_of}
+use Rattle.sig_verify.specs.RootLinks.{HoldsOfRoot, rekor_keys, root_links}
 use Rattle.sig_verify.specs.Verdict.{Answer, IsVerdict}
 use Rattle.sig_verify.specs.Verifier.{IsVerifierOf, Trusted}
 use Rattle.sig_verify.specs.declared.link.Link.{Link}
@@ -56,13 +57,13 @@ abbrev behind_json : List Link
 behind_json = root_links ++ ((bundle_links ++ certificate_links) ++ entry_links)
 
 -- the only entry is that of the checked bundle
-one_entry : (b : BundleType) (c : Checked) (e : TransparencyLogEntry) → IsPassed b c → entry_of b ≡ Some e
+one_entry : (b : BundleType) (c : Checked) (e : TransparencyLogEntry) → IsPassed b c → only_entry_of b ≡ Some e
     → c.entry ≡ e
 one_entry b c e is only =
     some_is c.entry e
     (sym (ap entry_among is.brought ∙ ap only_entry is.logged) ∙ only)
 
-module _ (laws : Groups) (o : Outside) (i : Inputs) (read : AreRead i) (result : Outcome) where
+module _ (laws : Groups) (o : Outside) (i : Inputs) (read : AreReadInputs i) (result : Outcome) where
   abbrev Holds : Link → Type 0
   Holds = HoldsOf o i
 
@@ -85,14 +86,14 @@ module _ (laws : Groups) (o : Outside) (i : Inputs) (read : AreRead i) (result :
       (bundle_is : bundle_in i.bundle ≡ Ok b) where
     vouched : (c : Checked) → IsPassed b c → IsVouchedIn o.checker.spki root i.now b result → Rest entry_links
     vouched c is (entry, only, answer) =
-        let keys : LogKeys = log_keys root i.now in
-        let said : result ≡ entry_answer o.checker.spki keys c.entry =
-        answer ∙ ap (λ (e : TransparencyLogEntry). entry_answer o.checker.spki keys e)
+        let keys : LogKeys = rekor_keys root i.now in
+        let said : result ≡ log_entry_answer o.checker.spki keys c.entry =
+        answer ∙ ap (λ (e : TransparencyLogEntry). log_entry_answer o.checker.spki keys e)
         (sym (one_entry b c entry is only)) in
         record {
           judged = subst (λ (r : Outcome). Judged Holds entry_links r) (sym said)
               (judged_as (HoldsOfEntry o.checker.spki keys c.entry) Holds entry_links
-              (entry_answer o.checker.spki keys c.entry)
+              (log_entry_answer o.checker.spki keys c.entry)
               (entries_alike o i root root_is b bundle_is laws.one c is)
               (judged_entry laws.promises laws.proofs o.checker.spki keys c.entry
               (read.logged root b c root_is bundle_is is)));
@@ -173,18 +174,23 @@ module _ (laws : Groups) (o : Outside) (i : Inputs) (read : AreRead i) (result :
 
   read_root : (found : Result TrustedRoot JsonError) → trusted_root_in i.root ≡ found
       → AfterRead Root found (λ root. IsOfflineIn o.checker o.policy root i.now i.digest i.bundle) result
-      → Found links
+      → Found chain_links
   read_root (Err why) is next =
-      inr (refused links (Json Root why) next (RootJson, refl, inl (no_root why is, refl)))
+      inr (refused chain_links (Json Root why) next (RootJson, refl, inl (no_root why is, refl)))
   read_root (Ok root) is next =
       behind_one RootJson (BundleJson ∷ behind_json) (root, is, tt)
       (bundled root is (bundle_in i.bundle) refl next)
 
-  told : Found links → (result ≡ Err OutOfMemory) ⊎ IsToldOf o i result
+  told : Found chain_links → (result ≡ Err OutOfMemory) ⊎ IsOutcomeOf o i result
   told (inl memory) = inl memory
   told (inr rest) =
-      inr (record { judged = rest.judged; tells = judged_tells Holds links result rest.judged; kept = rest.kept })
+      inr (record {
+        judged = rest.judged;
+        tells = judged_tells Holds chain_links result rest.judged;
+        kept =
+            rest.kept;
+      })
 
   pub outcome_told : IsOffline o.checker o.policy i.root i.now i.digest i.bundle result
-      → (result ≡ Err OutOfMemory) ⊎ IsToldOf o i result
+      → (result ≡ Err OutOfMemory) ⊎ IsOutcomeOf o i result
   outcome_told is = told (read_root (trusted_root_in i.root) refl is)

@@ -7,13 +7,14 @@ use Rattle.sig_bundle.proofs.ContentLaws.{content-meant}
 use Rattle.sig_bundle.specs.Checked.{Checked, IsChecked}
 use Rattle.sig_bundle.specs.Content.{ContentWithSignature}
 use Rattle.sig_bundle.specs.Passed.{IsContentOf, IsPassed}
-use Rattle.sig_bundle.specs.SigningCertificate.{AreCertificates, encodings_in}
+use Rattle.sig_bundle.specs.SigningCertificate.{encodings_in}
 use Rattle.sig_bundle.specs.declared.bundle.Bundle.{Bundle}
 use Rattle.sig_bundle.specs.declared.bundle.Content.{Content}
 use Rattle.sig_bundle.specs.declared.content_check.CheckedContent.{CheckedContent}
 use Rattle.sig_bundle.specs.declared.material.TransparencyLogEntry.{TransparencyLogEntry}
 use Rattle.sig_bundle.specs.declared.material.VerificationMaterial.{VerificationMaterial}
 use Rattle.sig_certificate.specs.Certificate.{Cert}
+use Rattle.sig_certificate.specs.Certificates.{AreCertificates}
 use Rattle.sig_dsse.specs.declared.artifact_digest.ArtifactDigest.{ArtifactDigest}
 use Rattle.sig_verify.proofs.BundleVerdicts.{sole_same}
 use Rattle.sig_verify.proofs.CheckedVerdicts.{judged_trusted}
@@ -21,7 +22,8 @@ use Rattle.sig_verify.proofs.JudgedLaws.{alike_each, behind, fails_front, judged
 use Rattle.sig_verify.specs.BundleLinks.{bundle_links}
 use Rattle.sig_verify.specs.CertificateLinks.{HoldsOfChecked, certificate_links}
 use Rattle.sig_verify.specs.Judged.{Judged, Tells}
-use Rattle.sig_verify.specs.LinkLaws.{BundlesAreJudged, HoldsOfVerified, IsReadAs, OfPassedBundle, renamed, trust_of}
+use Rattle.sig_verify.specs.LinkLaws.{BundlesAreJudged, HoldsOfVerified, IsReadCertificate, OfPassedBundle, renamed}
+use Rattle.sig_verify.specs.LinkLaws.{trust_of}
 use Rattle.sig_verify.specs.Verdict.{Answer, Checker, IsVerdict, PolicyOf}
 use Rattle.sig_verify.specs.Verifier.{Trusted}
 use Rattle.sig_verify.specs.declared.link.Link.{Link}
@@ -70,7 +72,7 @@ one_checked one b c o is other =
 module _ (one : OneCertificate) (passed : (b : Bundle) (c : Checked)
     → IsChecked b (Ok c) ↔ IsPassed b c) (bundles : BundlesAreJudged)
     (k : Checker) (policy : PolicyOf) (trusted : Trusted) (d : ArtifactDigest) (offline : Bool) (b : Bundle)
-    (read : (c : Checked) → IsPassed b c → IsReadAs c) where
+    (read : (c : Checked) → IsPassed b c → IsReadCertificate c) where
   abbrev Holds : Link → Type 0
   Holds = HoldsOfVerified k policy (trust_of trusted) d offline b
 

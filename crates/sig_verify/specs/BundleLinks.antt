@@ -3,7 +3,7 @@
 use Rattle.std.specs.Prelude.{◌≡◌, ℕ, List, [], ◌∷◌, Some, None}
 use Rattle.std.specs.List.{AllByRecursion}
 use Rattle.sig_bundle.specs.Passed.{IsMet}
-use Rattle.sig_bundle.specs.SigningCertificate.{AreCertificates, IsNoRoot, encodings_in}
+use Rattle.sig_bundle.specs.SigningCertificate.{IsNoRoot, encodings_in}
 use Rattle.sig_bundle.specs.Version.{IsMediaType}
 use Rattle.sig_bundle.specs.declared.bundle.Bundle.{Bundle}
 use Rattle.sig_bundle.specs.declared.bundle.Content.{Content as ContentType}
@@ -12,6 +12,7 @@ use Rattle.sig_bundle.specs.declared.material.TransparencyLogEntry.{Transparency
 use Rattle.sig_bundle.specs.declared.material.VerificationMaterial.{VerificationMaterial}
 use Rattle.sig_bundle.specs.declared.version.Version.{Version}
 use Rattle.sig_certificate.specs.Certificate.{Cert}
+use Rattle.sig_certificate.specs.Certificates.{AreCertificates}
 use Rattle.sig_certificate.specs.Profile.{leaf_refusal}
 use Rattle.sig_dsse.specs.Named.{AreTaken}
 use Rattle.sig_dsse.specs.Statement.{Statement, statement_of}

@@ -61,14 +61,15 @@ IsVouchedFor k trust c = OfSct c (λ s. OfIssuer k.cert trust.anchors c (λ anch
     × (k.point point (signed_bytes (signed_of c anchor.spki s)) s.signature ≡ true)))
 
 -- *Sig*: over the encoding of an envelope, or over the SHA-256 digest of the artifact
-abbrev pub IsSignedUnder : AcceptsUnder → AcceptsUnder → ArtifactDigest → CheckedContent → List ℕ → Type 0
-IsSignedUnder message prehash d (Dsse pae digests envelope payload) signature = message pae signature ≡ true
-IsSignedUnder message prehash (Sha256 bytes) MessageSignature signature = prehash bytes signature ≡ true
-IsSignedUnder message prehash (Sha512 bytes) MessageSignature signature = ⊥
+abbrev pub IsContentSignedUnder : AcceptsUnder → AcceptsUnder → ArtifactDigest → CheckedContent → List ℕ → Type 0
+IsContentSignedUnder message prehash d (Dsse pae digests envelope payload) signature = message pae signature ≡ true
+IsContentSignedUnder message prehash (Sha256 bytes) MessageSignature signature = prehash bytes signature ≡ true
+IsContentSignedUnder message prehash (Sha512 bytes) MessageSignature signature = ⊥
 
 abbrev pub IsSignedContent : Checker → ArtifactDigest → Checked → Type 0
 IsSignedContent k d c = OfScheme c.certificate (λ scheme.
-    IsSignedUnder (k.spki scheme c.certificate.spki) (k.prehash scheme c.certificate.spki) d c.content c.signature)
+    IsContentSignedUnder (k.spki scheme c.certificate.spki)
+    (k.prehash scheme c.certificate.spki) d c.content c.signature)
 
 -- *Subject*: a signature over the artifact is about it; a statement is if its subjects have the digest
 abbrev pub IsAbout : CheckedContent → ArtifactDigest → Type 0

@@ -35,8 +35,8 @@ or_unsupported (Ok key) = Ok key
 or_unsupported (Err error) = Err (Signature AlgoUnsupported)
 
 -- the scheme of the key that these bytes are, with the bytes
-abbrev pub key_answer : List ℕ → Result (VerifyScheme × List ℕ) VerificationError
-key_answer spki = or_unsupported (kind_answer spki (key_kind spki))
+abbrev pub certificate_key_answer : List ℕ → Result (VerifyScheme × List ℕ) VerificationError
+certificate_key_answer spki = or_unsupported (kind_answer spki (key_kind spki))
 
 -- ---- the signature
 
@@ -73,7 +73,7 @@ if_about false = Err (Signature SubjectDigestMismatch)
 
 abbrev pub content_answer : AcceptsSpki → AcceptsSpki → ArtifactDigest → Checked → Result (Unit {0}) VerificationError
 content_answer spki prehash d c = do
-  key ← key_answer c.certificate.spki
+  key ← certificate_key_answer c.certificate.spki
   _ ← signature_answer (spki key.0 key.1) (prehash key.0 key.1) d c.content c.signature
   if_about (is_about c.content d)
 

@@ -4,7 +4,8 @@ use Rattle.std.specs.Prelude.{◌≡◌, ℕ, ◌<◌, pos, true, List, [], ◌�
 use Rattle.hex.specs.Hex.{encode_lower}
 use Rattle.sig_base.specs.ByText.{text_lookup}
 use Rattle.sig_base.specs.declared.scheme.VerifyScheme.{VerifyScheme}
-use Rattle.sig_bundle.specs.Promise.{AreBytes, IsExactEntry, promise_of_entry}
+use Rattle.sig_base.specs.ByteLists.{AreBytes}
+use Rattle.sig_bundle.specs.Promise.{IsExactEntry, promise_of_entry}
 use Rattle.sig_bundle.specs.Proof.{HasRoot, HasHashes, HasSize, OfText}
 use Rattle.sig_bundle.specs.declared.material.ProofFields.{ProofFields}
 use Rattle.sig_bundle.specs.declared.material.TransparencyLogEntry.{TransparencyLogEntry}
@@ -13,7 +14,7 @@ use Rattle.sig_key.specs.declared.kind.KeyKind.TheVariants.{Scheme}
 use Rattle.sig_merkle.specs.Path.{path_root}
 use Rattle.sig_merkle.specs.Root.{leaf_of}
 use Rattle.sig_rekor.specs.CheckpointText.{IsCheckpoint}
-use Rattle.sig_rekor.specs.Verify.{is_signed}
+use Rattle.sig_rekor.specs.Verify.{has_accepted_signature}
 use Rattle.sig_rekor.specs.declared.checkpoint.SignedCheckpoint.{SignedCheckpoint}
 use Rattle.sig_verify.specs.ContentCheck.{AcceptsSpki, AcceptsUnder}
 use Rattle.sig_verify.specs.declared.link.Link.{Link}
@@ -48,8 +49,8 @@ OfCheckpoint e P = OfProof e (λ p. (n : SignedCheckpoint) × OfText p (λ text.
 -- ---- what a link asks
 
 -- there is a promise, and both integers of the entry are within plus or minus 2^53 - 1
-abbrev pub HasPromise : TransparencyLogEntry → Type 0
-HasPromise e = IsSome e.inclusion_promise × IsExactEntry e
+abbrev pub HasCanonicalPromise : TransparencyLogEntry → Type 0
+HasCanonicalPromise e = IsSome e.inclusion_promise × IsExactEntry e
 
 -- the promise is a signature over its text
 abbrev pub IsPromised : AcceptsUnder → TransparencyLogEntry → Type 0
@@ -69,7 +70,7 @@ pub record IsProofRead (p : ProofFields) : Type 0 where
 
 -- one of the signatures is over the note
 abbrev pub IsNoteSigned : AcceptsUnder → SignedCheckpoint → Type 0
-IsNoteSigned accepts n = is_signed accepts n ≡ true
+IsNoteSigned accepts n = has_accepted_signature accepts n ≡ true
 
 -- under the key of the entry's log
 abbrev pub IsNoteSignedBy : AcceptsSpki → LogKeys → TransparencyLogEntry → Type 0
@@ -112,7 +113,7 @@ entry_links = LogKey ∷ Promise ∷ Proof ∷ Checkpoint ∷ NoteKey ∷ NoteMa
 -- what a link asks of an entry, of which all links before it hold
 abbrev pub HoldsOfEntry : AcceptsSpki → LogKeys → TransparencyLogEntry → Link → Type 0
 HoldsOfEntry spki keys e LogKey = OfLogKey keys e (λ key. Unit {0})
-HoldsOfEntry spki keys e Promise = HasPromise e × IsPromisedBy spki keys e
+HoldsOfEntry spki keys e Promise = HasCanonicalPromise e × IsPromisedBy spki keys e
 HoldsOfEntry spki keys e Proof = OfProof e IsProofRead
 HoldsOfEntry spki keys e Checkpoint = OfCheckpoint e (λ p n. Unit {0})
 HoldsOfEntry spki keys e NoteKey = IsNoteSignedBy spki keys e

@@ -1,16 +1,14 @@
 -- What the results of the checks say of the links, group by group.
-use Rattle.std.specs.Prelude.{◌≡◌, ◌≢◌, ℕ, ℤ, Bool, List, [], ◌∷◌, ◌++◌, Some, Result, Ok, Err}
+use Rattle.std.specs.Prelude.{◌≡◌, ◌≢◌, ℤ, Bool, [], ◌∷◌, ◌++◌, Result, Ok, Err}
 use Rattle.std.specs.List.{AllByRecursion}
+use Rattle.sig_base.specs.ByteLists.{AreBytes}
 use Rattle.sig_base.specs.declared.error.SigstoreError.{SigstoreError}
 use Rattle.sig_base.specs.declared.error.SigstoreError.TheVariants.{OutOfMemory}
 use Rattle.sig_bundle.specs.Checked.{Checked, IsChecked}
 use Rattle.sig_bundle.specs.Passed.{IsPassed}
-use Rattle.sig_bundle.specs.Promise.{AreBytes}
 use Rattle.sig_bundle.specs.Proof.{IsProof}
-use Rattle.sig_bundle.specs.SigningCertificate.{encodings_in}
 use Rattle.sig_bundle.specs.declared.bundle.Bundle.{Bundle}
 use Rattle.sig_bundle.specs.declared.bundle_error.BundleErrorKind.{BundleErrorKind}
-use Rattle.sig_bundle.specs.declared.material.VerificationMaterial.{VerificationMaterial}
 use Rattle.sig_bundle.specs.declared.material.TransparencyLogEntry.{TransparencyLogEntry}
 use Rattle.sig_dsse.specs.declared.artifact_digest.ArtifactDigest.{ArtifactDigest}
 use Rattle.sig_root.specs.declared.record.TrustedRoot.{TrustedRoot}
@@ -23,11 +21,11 @@ use Rattle.sig_verify.specs.ContentCheck.{AcceptsSpki, content_answer, time_answ
 use Rattle.sig_verify.specs.EntryLinks.{HoldsOfEntry, IsOfBytes, LogKeys, OfProof, entry_links}
 use Rattle.sig_verify.specs.IssuerCheck.{issued_answer}
 use Rattle.sig_verify.specs.Judged.{IsOfFirst, Tells}
-use Rattle.sig_verify.specs.LogEntry.{entry_answer}
+use Rattle.sig_verify.specs.LogEntry.{log_entry_answer}
 use Rattle.sig_verify.specs.OfflineErrors.{of_root, of_verification}
 use Rattle.sig_verify.specs.OfflineVerdict.{authorities_of, ct_keys_of}
 use Rattle.sig_verify.specs.RootLinks.{HoldsOfRoot, root_links}
-use Rattle.sig_verify.specs.Verdict.{Answer, Checker, IsTrusted, IsVerdict, PolicyOf}
+use Rattle.sig_verify.specs.Verdict.{Answer, Checker, IsVerdictFromIssuance, IsVerdict, PolicyOf}
 use Rattle.sig_verify.specs.Verifier.{IsRefusedRoot, IsVerifierOf, Trusted}
 use Rattle.sig_verify.specs.declared.error.VerificationError.{VerificationError}
 use Rattle.sig_verify.specs.declared.link.Link.{Link}
@@ -41,7 +39,7 @@ use Rattle.sig_verify.specs.declared.offline_error.OfflineError.TheVariants.{Bun
 -- the first that does not
 abbrev pub EntriesAreJudged : Type 0
 EntriesAreJudged = (spki : AcceptsSpki) (keys : LogKeys) (e : TransparencyLogEntry) → IsOfBytes keys e
-    → Tells (HoldsOfEntry spki keys e) entry_links (entry_answer spki keys e)
+    → Tells (HoldsOfEntry spki keys e) entry_links (log_entry_answer spki keys e)
 
 -- the value is the entry's body, with the proof that its members are
 pub record IsKept (e : TransparencyLogEntry) (offline : Offline) : Type 0 where
@@ -50,7 +48,7 @@ pub record IsKept (e : TransparencyLogEntry) (offline : Offline) : Type 0 where
 
 abbrev pub EntriesAreKept : Type 0
 EntriesAreKept = (spki : AcceptsSpki) (keys : LogKeys) (e : TransparencyLogEntry) (offline : Offline)
-    → entry_answer spki keys e ≡ Ok offline → IsKept e offline
+    → log_entry_answer spki keys e ≡ Ok offline → IsKept e offline
 
 -- of a bundle: its own checks pass if and only if the links `material` to `profile` hold, and an error is that of the
 -- first that does not
@@ -94,26 +92,16 @@ IssuersAreJudged =
     (renamed (issued_answer k.cert k.point trusted c.certificate))
 
 -- the certificate's key is bytes, and the reader of SCTs says what the certificate has
-pub record IsReadAs (c : Checked) : Type 0 where
+pub record IsReadCertificate (c : Checked) : Type 0 where
   pub spki : AreBytes c.certificate.spki
   pub sct : IsSaidOf c.certificate (sct_of c.certificate)
-
-abbrev pub IsFirstOfBytes : List (List ℕ) → Type 0
-IsFirstOfBytes [] = Unit {0}
-IsFirstOfBytes (der ∷ ders) = AreBytes der
-
--- the DER of a bundle's first certificate is bytes
-abbrev pub HasCertificateOfBytes : Bundle → Type 0
-HasCertificateOfBytes b =
-    (material : VerificationMaterial) (ders : List (List ℕ)) → b.verification_material ≡ Some material
-    → encodings_in material.content ≡ Some ders → IsFirstOfBytes ders
 
 -- of a bundle that passed its own checks: the result is that of the first of the links `issuance` to `time` that fails
 abbrev pub CheckedAreJudged : Type 0
 CheckedAreJudged =
     (k : Checker) (policy : PolicyOf) (trusted : Trusted) (d : ArtifactDigest) (offline : Bool) (c : Checked)
-    → IsReadAs c
-    → (result : Answer) → IsTrusted k trusted policy d offline c result
+    → IsReadCertificate c
+    → (result : Answer) → IsVerdictFromIssuance k trusted policy d offline c result
     → Tells (HoldsOfChecked k policy (trust_of trusted) d offline c) certificate_links (renamed result)
 
 -- the bundle passes its own checks, and of what they leave the link holds
@@ -138,7 +126,8 @@ HoldsOfVerified k policy trust d offline b link = HoldsOfBundle b link
 abbrev pub VerdictsAreJudged : Type 0
 VerdictsAreJudged =
     (k : Checker) (policy : PolicyOf) (trusted : Trusted) (d : ArtifactDigest) (offline : Bool) (b : Bundle)
-    → ((c : Checked) → IsPassed b c → IsReadAs c) → (result : Answer) → IsVerdict k trusted policy d offline b result
+    → ((c : Checked) → IsPassed b c → IsReadCertificate c) → (result : Answer)
+    → IsVerdict k trusted policy d offline b result
     → Tells (HoldsOfVerified k policy (trust_of trusted) d offline b) (bundle_links ++ certificate_links)
     (renamed result)
 

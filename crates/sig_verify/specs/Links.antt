@@ -18,10 +18,10 @@ use Rattle.sig_verify.specs.BundleLinks.{IsContentRead, OfCertificates, OfConten
 use Rattle.sig_verify.specs.CertificateLinks.{HasIssuer, HasSignedBytes, IsAbout, IsSignedContent, IsTimely}
 use Rattle.sig_verify.specs.CertificateLinks.{IsVouchedFor}
 use Rattle.sig_verify.specs.CertificateLinks.{OfScheme, Trust}
-use Rattle.sig_verify.specs.EntryLinks.{HasPromise, IsLed, IsNoteOf, IsNoteSignedBy, IsPlaced, IsPromisedBy}
+use Rattle.sig_verify.specs.EntryLinks.{HasCanonicalPromise, IsLed, IsNoteOf, IsNoteSignedBy, IsPlaced, IsPromisedBy}
 use Rattle.sig_verify.specs.EntryLinks.{IsProofRead}
 use Rattle.sig_verify.specs.EntryLinks.{LogKeys, OfCheckpoint, OfLogKey, OfProof}
-use Rattle.sig_verify.specs.RootLinks.{IsSomeAnchor, OfTrust, authorities, ct_keys, log_keys}
+use Rattle.sig_verify.specs.RootLinks.{IsSomeAnchor, OfTrust, authorities, ct_keys, rekor_keys}
 use Rattle.sig_verify.specs.Verdict.{Checker, HasBody, PolicyOf}
 use Rattle.sig_verify.specs.declared.link.Link.{Link}
 use Rattle.sig_verify.specs.declared.link.Link.TheVariants.{Request, RootJson, BundleJson, Fulcio, Anchor, Ctfe}
@@ -64,12 +64,12 @@ OfChecked i P = OfRoot i (λ root. OfTrust root i.now (λ trust. OfPassed i (P t
 
 -- of the keys of logs that the root gives and of the bundle's log entry this holds
 abbrev pub OfLogged : Inputs → (LogKeys → TransparencyLogEntry → Type 0) → Type 0
-OfLogged i P = OfRoot i (λ root. OfPassed i (λ c. P (log_keys root i.now) c.entry))
+OfLogged i P = OfRoot i (λ root. OfPassed i (λ c. P (rekor_keys root i.now) c.entry))
 
 -- ---- the links
 
-abbrev pub links : List Link
-links =
+abbrev pub chain_links : List Link
+chain_links =
     RootJson ∷ BundleJson ∷ Fulcio ∷ Anchor ∷ Ctfe
     ∷ Material ∷ Certificate ∷ Leaf ∷ RootInChain ∷ Content ∷ Envelope ∷ Entry ∷ Profile
     ∷ Issuance ∷ Issuer ∷ Sct ∷ Policy ∷ Key ∷ Signature ∷ Subject ∷ Body ∷ Time
@@ -103,7 +103,8 @@ HoldsOf o i Subject = OfChecked i (λ trust c. IsAbout c.content i.digest)
 HoldsOf o i Body = OfChecked i (λ trust c. HasBody c i.digest true)
 HoldsOf o i Time = OfChecked i (λ trust c. IsTimely c)
 HoldsOf o i LogKey = OfLogged i (λ keys e. OfLogKey keys e (λ key. Unit {0}))
-HoldsOf o i Promise = OfLogged i (λ keys e. HasPromise e) × OfLogged i (λ keys e. IsPromisedBy o.checker.spki keys e)
+HoldsOf o i Promise = OfLogged i (λ keys e. HasCanonicalPromise e) × OfLogged i
+    (λ keys e. IsPromisedBy o.checker.spki keys e)
 HoldsOf o i Proof = OfLogged i (λ keys e. OfProof e IsProofRead)
 HoldsOf o i Checkpoint = OfLogged i (λ keys e. OfCheckpoint e (λ p n. Unit {0}))
 HoldsOf o i NoteKey = OfLogged i (λ keys e. IsNoteSignedBy o.checker.spki keys e)
@@ -112,7 +113,7 @@ HoldsOf o i Inclusion = OfLogged i (λ keys e. OfProof e IsPlaced) × OfLogged i
 HoldsOf o i Consistency = Unit {0}
 
 abbrev pub EveryLinkHolds : Outside → Inputs → Type 0
-EveryLinkHolds o i = AllByRecursion (HoldsOf o i) links
+EveryLinkHolds o i = AllByRecursion (HoldsOf o i) chain_links
 
 abbrev pub IsFirstFailing : Outside → Inputs → Link → Type 0
-IsFirstFailing o i link = FailsFirst (HoldsOf o i) links link
+IsFirstFailing o i link = FailsFirst (HoldsOf o i) chain_links link

@@ -55,11 +55,11 @@ read_found name None = Err (RekorPublicKeyNotFoundError name)
 read_found name (Some der) = read_key der
 
 -- the key of the log id, which the map has in lower-case hexadecimal
-abbrev pub key_named : List (List ℕ × List ℕ) → List ℕ → Result (VerifyScheme × List ℕ) OfflineError
-key_named keys id = read_found (encode_lower id) (text_lookup (encode_lower id) keys)
+abbrev pub log_key_named : List (List ℕ × List ℕ) → List ℕ → Result (VerifyScheme × List ℕ) OfflineError
+log_key_named keys id = read_found (encode_lower id) (text_lookup (encode_lower id) keys)
 
-abbrev pub key_answer : List (List ℕ × List ℕ) → Option (List ℕ) → Result (VerifyScheme × List ℕ) OfflineError
-key_answer keys id = id_answer id >>= key_named keys
+abbrev pub log_key_answer : List (List ℕ × List ℕ) → Option (List ℕ) → Result (VerifyScheme × List ℕ) OfflineError
+log_key_answer keys id = id_answer id >>= log_key_named keys
 
 -- ---- the promise
 
@@ -95,15 +95,15 @@ from_proof (Ok done) = Ok done
 from_proof (Err error) = Err (of_proof error)
 
 -- the key signed the checkpoint, which is of the proof's tree, and the path leads from the body to its root
-abbrev pub inclusion_answer : AcceptsUnder → List ℕ → InclusionProof → Result (Unit {0}) OfflineError
-inclusion_answer accepts body proof = from_proof (proof_answer accepts body proof)
+abbrev pub entry_inclusion_answer : AcceptsUnder → List ℕ → InclusionProof → Result (Unit {0}) OfflineError
+entry_inclusion_answer accepts body proof = from_proof (proof_answer accepts body proof)
 
 -- ---- all of them in order
 
 -- the body with this proof, if the key vouches for it
 abbrev pub included : AcceptsUnder → TransparencyLogEntry → InclusionProof → Result Offline OfflineError
 included accepts entry proof = do
-  _ ← inclusion_answer accepts entry.canonicalized_body proof
+  _ ← entry_inclusion_answer accepts entry.canonicalized_body proof
   Ok (record { body = entry.canonicalized_body; proof = proof })
 
 abbrev pub vouched : AcceptsUnder → TransparencyLogEntry → Result Offline OfflineError
@@ -112,7 +112,7 @@ vouched accepts entry = do
   proof ← fields_answer entry.inclusion_proof
   included accepts entry proof
 
-abbrev pub entry_answer : AcceptsSpki → List (List ℕ × List ℕ) → TransparencyLogEntry → Result Offline OfflineError
-entry_answer spki keys entry = do
-  key ← key_answer keys entry.log_id
+abbrev pub log_entry_answer : AcceptsSpki → List (List ℕ × List ℕ) → TransparencyLogEntry → Result Offline OfflineError
+log_entry_answer spki keys entry = do
+  key ← log_key_answer keys entry.log_id
   vouched (spki key.0 key.1) entry

@@ -1,35 +1,29 @@
 -- What the result of offline verification says of the links, all of them in one.
 use Rattle.std.specs.Prelude.{◌≡◌, ◌⊎◌, ℕ, List, [], Some, unwrap_or, Ok, Err}
+use Rattle.sig_base.specs.ByteLists.{AreBytes}
 use Rattle.sig_bundle.specs.BundleRecord.{bundle_in}
 use Rattle.sig_bundle.specs.Checked.{Checked}
+use Rattle.sig_bundle.specs.OfBytes.{HasCertificateOfBytes}
 use Rattle.sig_bundle.specs.Passed.{IsPassed}
-use Rattle.sig_bundle.specs.Promise.{AreBytes}
 use Rattle.sig_bundle.specs.declared.bundle.Bundle.{Bundle}
 use Rattle.sig_bundle.specs.declared.material.TransparencyLogEntry.{TransparencyLogEntry}
 use Rattle.sig_root.specs.RootRecord.{trusted_root_in}
-use Rattle.sig_root.specs.declared.record.PublicKey.{PublicKey}
-use Rattle.sig_root.specs.declared.record.TransparencyLogInstance.{TransparencyLogInstance}
 use Rattle.sig_root.specs.declared.record.TrustedRoot.{TrustedRoot}
 use Rattle.sig_verify.specs.EntryLinks.{IsOfBytes}
 use Rattle.sig_verify.specs.Judged.{Judged, Tells}
-use Rattle.sig_verify.specs.LinkLaws.{HasCertificateOfBytes, IsKept, IsReadAs}
-use Rattle.sig_verify.specs.Links.{HoldsOf, Inputs, OfPassed, Outside, links}
-use Rattle.sig_verify.specs.OfflineVerdict.{IsOffline, Outcome, entry_of}
-use Rattle.sig_verify.specs.RootLinks.{log_keys}
+use Rattle.sig_verify.specs.LinkLaws.{IsKept, IsReadCertificate}
+use Rattle.sig_verify.specs.Links.{HoldsOf, Inputs, OfPassed, Outside, chain_links}
+use Rattle.sig_verify.specs.OfflineVerdict.{IsOffline, Outcome, only_entry_of}
+use Rattle.sig_verify.specs.RootLinks.{rekor_keys}
 use Rattle.sig_verify.specs.declared.offline.Offline.{Offline}
 use Rattle.sig_verify.specs.declared.offline_error.OfflineError.TheVariants.{OutOfMemory}
 
 -- ---- bytes
 
--- the key of a log's instance is bytes
-abbrev pub HasRawBytes : TransparencyLogInstance → Type 0
-HasRawBytes instance =
-    (key : PublicKey) (raw : List ℕ) → instance.public_key ≡ Some key → key.raw_bytes ≡ Some raw → AreBytes raw
-
 -- body and log id of a bundle's only log entry are bytes
 abbrev pub HasEntryOfBytes : Bundle → Type 0
 HasEntryOfBytes b =
-    (e : TransparencyLogEntry) → entry_of b ≡ Some e
+    (e : TransparencyLogEntry) → only_entry_of b ≡ Some e
     → AreBytes e.canonicalized_body × AreBytes (unwrap_or e.log_id [])
 
 -- of the bundle that a text is: its certificate and its only log entry are bytes
@@ -39,24 +33,24 @@ IsOfBundleOfBytes text =
 
 -- Of the root and the bundle that the texts are: keys, log id and body are bytes, and the reader of SCTs says what the
 -- certificate has.
-pub record AreRead (i : Inputs) : Type 0 where
+pub record AreReadInputs (i : Inputs) : Type 0 where
   pub checked : (root : TrustedRoot) (b : Bundle) (c : Checked)
-      → trusted_root_in i.root ≡ Ok root → bundle_in i.bundle ≡ Ok b → IsPassed b c → IsReadAs c
+      → trusted_root_in i.root ≡ Ok root → bundle_in i.bundle ≡ Ok b → IsPassed b c → IsReadCertificate c
   pub logged : (root : TrustedRoot) (b : Bundle) (c : Checked)
       → trusted_root_in i.root ≡ Ok root → bundle_in i.bundle ≡ Ok b → IsPassed b c
-      → IsOfBytes (log_keys root i.now) c.entry
+      → IsOfBytes (rekor_keys root i.now) c.entry
 
 -- There is a value if and only if every link holds, and an error's link is the first that does not. The value is the
 -- body of the bundle's log entry, with the proof that its members are.
-pub record IsToldOf (o : Outside) (i : Inputs) (result : Outcome) : Type 0 where
-  pub judged : Judged (HoldsOf o i) links result
-  pub tells : Tells (HoldsOf o i) links result
+pub record IsOutcomeOf (o : Outside) (i : Inputs) (result : Outcome) : Type 0 where
+  pub judged : Judged (HoldsOf o i) chain_links result
+  pub tells : Tells (HoldsOf o i) chain_links result
   pub kept : (offline : Offline) → result ≡ Ok offline → OfPassed i (λ c. IsKept c.entry offline)
 
 -- of a trusted root's text, a time, a digest and a bundle's text: so is the result of offline verification, unless
 -- memory ran out
 abbrev pub OutcomesAreJudged : Type 0
 OutcomesAreJudged =
-    (o : Outside) (i : Inputs) → AreRead i → (result : Outcome)
+    (o : Outside) (i : Inputs) → AreReadInputs i → (result : Outcome)
     → IsOffline o.checker o.policy i.root i.now i.digest i.bundle result
-    → (result ≡ Err OutOfMemory) ⊎ IsToldOf o i result
+    → (result ≡ Err OutOfMemory) ⊎ IsOutcomeOf o i result

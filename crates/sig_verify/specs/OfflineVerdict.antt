@@ -6,6 +6,7 @@ use Rattle.std.specs.Borrow.{Bor}
 use Rattle.sig_base.specs.declared.error.SigstoreError.{SigstoreError}
 use Rattle.sig_base.specs.declared.fault.TrustPart.TheVariants.{Fulcio, Ctfe}
 use Rattle.sig_bundle.specs.BundleRecord.{bundle_in}
+use Rattle.sig_bundle.specs.LogEntries.{only_entry}
 use Rattle.sig_bundle.specs.declared.bundle.Bundle.{Bundle as BundleType}
 use Rattle.sig_bundle.specs.declared.material.TransparencyLogEntry.{TransparencyLogEntry}
 use Rattle.sig_bundle.specs.declared.material.VerificationMaterial.{VerificationMaterial}
@@ -15,7 +16,7 @@ use Rattle.sig_root.specs.Picked.{authority_certificates, keys_of, unless_empty}
 use Rattle.sig_root.specs.RootRecord.{trusted_root_in}
 use Rattle.sig_root.specs.declared.record.TrustedRoot.{TrustedRoot}
 use Rattle.sig_verify.specs.ContentCheck.{AcceptsSpki}
-use Rattle.sig_verify.specs.LogEntry.{entry_answer}
+use Rattle.sig_verify.specs.LogEntry.{log_entry_answer}
 use Rattle.sig_verify.specs.OfflineErrors.{of_root, of_verification}
 use Rattle.sig_verify.specs.Verdict.{Answer, Checker, IsVerdict, PolicyOf}
 use Rattle.sig_verify.specs.Verifier.{Authorities, CtKeys, IsRefusedRoot, IsVerifierOf, Trusted}
@@ -48,18 +49,13 @@ ct_keys_of root now = unless_empty Ctfe (keys_of now root.ctlogs)
 
 -- ---- the entry
 
-abbrev pub only_entry : List TransparencyLogEntry → Option TransparencyLogEntry
-only_entry [] = None
-only_entry (entry ∷ []) = Some entry
-only_entry (entry ∷ other ∷ others) = None
-
 abbrev pub entry_among : Option VerificationMaterial → Option TransparencyLogEntry
 entry_among None = None
 entry_among (Some material) = only_entry material.tlog_entries
 
 -- the only log entry of a bundle
-abbrev pub entry_of : BundleType → Option TransparencyLogEntry
-entry_of bundle = entry_among bundle.verification_material
+abbrev pub only_entry_of : BundleType → Option TransparencyLogEntry
+only_entry_of bundle = entry_among bundle.verification_material
 
 -- what was lent
 abbrev pub lent_entry : Option (Bor TransparencyLogEntry) → Option TransparencyLogEntry
@@ -70,8 +66,8 @@ lent_entry found = option_map (λ entry. entry.now) found
 -- `log-key` to `inclusion`
 abbrev pub IsVouchedIn : AcceptsSpki → TrustedRoot → ℤ → BundleType → Outcome → Type 0
 IsVouchedIn spki root now bundle result =
-    (entry : TransparencyLogEntry) × (entry_of bundle ≡ Some entry)
-    × (result ≡ entry_answer spki (keys_of now root.tlogs) entry)
+    (entry : TransparencyLogEntry) × (only_entry_of bundle ≡ Some entry)
+    × (result ≡ log_entry_answer spki (keys_of now root.tlogs) entry)
 
 -- `material` to `time`, and those
 abbrev pub IsOfflineUnder : Checker → PolicyOf → TrustedRoot → ℤ → ArtifactDigest → BundleType → Trusted → Outcome

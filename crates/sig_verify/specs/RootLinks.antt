@@ -20,8 +20,8 @@ authorities root now = authority_certificates now root.certificate_authorities
 abbrev pub ct_keys : TrustedRoot → ℤ → List (List ℕ × List ℕ)
 ct_keys root now = keys_of now root.ctlogs
 
-abbrev pub log_keys : TrustedRoot → ℤ → List (List ℕ × List ℕ)
-log_keys root now = keys_of now root.tlogs
+abbrev pub rekor_keys : TrustedRoot → ℤ → List (List ℕ × List ℕ)
+rekor_keys root now = keys_of now root.tlogs
 
 -- the bytes are a trust anchor
 abbrev pub IsSomeAnchor : List ℕ → Type 0

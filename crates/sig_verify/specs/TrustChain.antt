@@ -9,7 +9,7 @@ use Rattle.sig_verify.specs.BundleLinks.{IsContentRead, OfCertificates, OfConten
 use Rattle.sig_verify.specs.CertificateLinks.{HasIssuer, HasSignedBytes, IsAbout, IsSignedContent, IsTimely}
 use Rattle.sig_verify.specs.CertificateLinks.{IsVouchedFor}
 use Rattle.sig_verify.specs.CertificateLinks.{OfScheme}
-use Rattle.sig_verify.specs.EntryLinks.{HasPromise, IsLed, IsNoteOf, IsNoteSignedBy, IsPlaced, IsPromisedBy}
+use Rattle.sig_verify.specs.EntryLinks.{HasCanonicalPromise, IsLed, IsNoteOf, IsNoteSignedBy, IsPlaced, IsPromisedBy}
 use Rattle.sig_verify.specs.EntryLinks.{IsProofRead}
 use Rattle.sig_verify.specs.EntryLinks.{OfCheckpoint, OfLogKey, OfProof}
 use Rattle.sig_verify.specs.Links.{EveryLinkHolds, Inputs, OfBundle, OfChecked, OfLogged, OfRoot, Outside}
@@ -60,7 +60,7 @@ pub record IsValid (o : Outside) (i : Inputs) : Type 0 where
   pub sct : OfChecked i (λ trust c. HasSignedBytes c.certificate)
   pub key : OfChecked i (λ trust c. OfScheme c.certificate (λ scheme. Unit {0}))
   pub log_key : OfLogged i (λ keys e. OfLogKey keys e (λ key. Unit {0}))
-  pub promise : OfLogged i (λ keys e. HasPromise e)
+  pub promise : OfLogged i (λ keys e. HasCanonicalPromise e)
   pub proof : OfLogged i (λ keys e. OfProof e IsProofRead)
   pub checkpoint : OfLogged i (λ keys e. OfCheckpoint e (λ p n. Unit {0}))
   pub inclusion : OfLogged i (λ keys e. OfProof e IsPlaced)

@@ -7,7 +7,7 @@ use Rattle.sig_bundle.specs.LogBody.{IsLogBody, NeedsNoFetch}
 use Rattle.sig_bundle.specs.declared.bundle.Bundle.{Bundle as BundleType}
 use Rattle.sig_bundle.specs.declared.bundle_error.BundleErrorKind.{BundleErrorKind}
 use Rattle.sig_certificate.specs.Certificate.{Cert}
-use Rattle.sig_dsse.specs.Digest.{bytes_of}
+use Rattle.sig_dsse.specs.Digest.{digest_bytes}
 use Rattle.sig_dsse.specs.declared.artifact_digest.ArtifactDigest.{ArtifactDigest}
 use Rattle.sig_policy.specs.Refusals.{Refusal, IsRefusal}
 use Rattle.sig_policy.specs.declared.failure.PolicyError.{PolicyError}
@@ -60,7 +60,7 @@ AfterPolicy false refusal Next result = (why : PolicyError) × (result ≡ Err (
 
 -- the log's body is about the bundle and the artifact of this digest, and nothing has to be fetched
 abbrev pub HasBody : Checked → ArtifactDigest → Bool → Type 0
-HasBody c d offline = IsLogBody c (bytes_of d) × NeedsNoFetch offline c.entry
+HasBody c d offline = IsLogBody c (digest_bytes d) × NeedsNoFetch offline c.entry
 
 abbrev pub AfterBody : Checked → ArtifactDigest → Bool → (Answer → Type 0) → Answer → Type 0
 AfterBody c d offline Next result =
@@ -69,25 +69,25 @@ AfterBody c d offline Next result =
 -- ---- the steps
 
 -- `body` and `time`
-abbrev pub IsLogged : ArtifactDigest → Bool → Checked → Answer → Type 0
-IsLogged d offline c = AfterBody c d offline (λ last. last ≡ time_answer c)
+abbrev pub IsVerdictFromBody : ArtifactDigest → Bool → Checked → Answer → Type 0
+IsVerdictFromBody d offline c = AfterBody c d offline (λ last. last ≡ time_answer c)
 
 -- `key`, `signature` and `subject`, and those
-abbrev pub IsSigned : Checker → ArtifactDigest → Bool → Checked → Answer → Type 0
-IsSigned k d offline c = After (content_answer k.spki k.prehash d c) (IsLogged d offline c)
+abbrev pub IsVerdictFromKey : Checker → ArtifactDigest → Bool → Checked → Answer → Type 0
+IsVerdictFromKey k d offline c = After (content_answer k.spki k.prehash d c) (IsVerdictFromBody d offline c)
 
 -- `policy`, and those
-abbrev pub IsAllowed : Checker → PolicyOf → ArtifactDigest → Bool → Checked → Answer → Type 0
-IsAllowed k policy d offline c =
-    AfterPolicy (policy.holds c.certificate) (policy.refusal c.certificate) (IsSigned k d offline c)
+abbrev pub IsVerdictFromPolicy : Checker → PolicyOf → ArtifactDigest → Bool → Checked → Answer → Type 0
+IsVerdictFromPolicy k policy d offline c =
+    AfterPolicy (policy.holds c.certificate) (policy.refusal c.certificate) (IsVerdictFromKey k d offline c)
 
 -- `issuance`, `issuer` and `sct`, and those
-abbrev pub IsTrusted : Checker → Trusted → PolicyOf → ArtifactDigest → Bool → Checked → Answer → Type 0
-IsTrusted k trusted policy d offline c =
-    After (issued_answer k.cert k.point trusted c.certificate) (IsAllowed k policy d offline c)
+abbrev pub IsVerdictFromIssuance : Checker → Trusted → PolicyOf → ArtifactDigest → Bool → Checked → Answer → Type 0
+IsVerdictFromIssuance k trusted policy d offline c =
+    After (issued_answer k.cert k.point trusted c.certificate) (IsVerdictFromPolicy k policy d offline c)
 
 -- `material` to `profile`, and those
 abbrev pub IsVerdict : Checker → Trusted → PolicyOf → ArtifactDigest → Bool → BundleType → Answer → Type 0
 IsVerdict k trusted policy d offline bundle result =
     ((kind : BundleErrorKind) × IsChecked bundle (Err kind) × (result ≡ Err (Bundle kind)))
-    ⊎ ((c : Checked) × IsChecked bundle (Ok c) × IsTrusted k trusted policy d offline c result)
+    ⊎ ((c : Checked) × IsChecked bundle (Ok c) × IsVerdictFromIssuance k trusted policy d offline c result)

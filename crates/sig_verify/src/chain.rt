@@ -3,21 +3,23 @@ ghost use Rattle.std.specs.Prelude.{◌≡◌, IfOk};
 ghost use Rattle.sig_base.specs.Answers.{UnlessMemory};
 ghost use Rattle.sig_verify.specs.Judged.{Judged};
 ghost use Rattle.sig_verify.specs.LinkLaws.{IsKept};
-ghost use Rattle.sig_verify.specs.Links.{HoldsOf, OfPassed, links};
-ghost use Rattle.sig_verify.specs.OfflineLaws.{AreRead, HasEntryOfBytes, IsOfBundleOfBytes};
-ghost use Rattle.sig_verify.specs.OfflineVerdict.{entry_of, IsOffline, IsOfflineIn, IsOfflineOf, IsOfflineUnder};
+ghost use Rattle.sig_verify.specs.Links.{HoldsOf, OfPassed, chain_links};
+ghost use Rattle.sig_verify.specs.OfflineLaws.{AreReadInputs, HasEntryOfBytes, IsOfBundleOfBytes};
+ghost use Rattle.sig_verify.specs.OfflineVerdict.{only_entry_of, IsOffline, IsOfflineIn, IsOfflineOf, IsOfflineUnder};
 ghost use Rattle.sig_verify.specs.OfflineVerdict.{IsVouchedIn};
 ghost use Rattle.sig_verify.specs.OfflineVerdict.{lent_entry};
 ghost use Rattle.sig_verify.specs.Verdict.{checker_of, policy_of};
 
-use crate::bytes::{are_log_key_bytes, are_optional_bytes, are_owned_bytes, is_certificate_bytes};
 use crate::laws::outcomes;
 use crate::log_entry::verify_log_entry;
 use crate::offline::Offline;
 use crate::offline_error::{OfflineError, Part, json_error, root_error};
 use crate::verifier::Verifier;
 use sig_base::SignatureChecker;
+use sig_base::laws::{are_optional_bytes, are_owned_bytes};
+use sig_bundle::laws::is_certificate_bytes;
 use sig_bundle::{ArtifactDigest, Bundle, TransparencyLogEntry, read_bundle};
+use sig_root::laws::are_log_key_bytes;
 use sig_root::{SigstoreTrustRoot, TrustRoot, read_trusted_root};
 use sig_x509::VerificationPolicy;
 use std::alloc::Global;
@@ -41,7 +43,8 @@ pub fn verify_offline<P: VerificationPolicy, C: SignatureChecker>(
           checker = checker_of C.SignatureChecker checker.now;
           policy = policy_of P.VerificationPolicy policy.now;
         })
-        (record { root = trusted_root.now; now = now; digest = digest.now; bundle = bundle.now })) links result) }
+        (record { root = trusted_root.now; now = now; digest = digest.now; bundle = bundle.now })) chain_links
+        result) }
     // The value is the body of the bundle's log entry, with the proof that its members are.
     ensures kept { IfOk result (λ offline. OfPassed
         (record { root = trusted_root.now; now = now; digest = digest.now; bundle = bundle.now })
@@ -66,7 +69,7 @@ fn verify_root<P: VerificationPolicy, C: SignatureChecker>(
     policy: &P,
     checker: &C,
 ) -> Result<Offline, OfflineError>
-    ensures read { UnlessMemory OfflineError.OutOfMemory result (AreRead
+    ensures read { UnlessMemory OfflineError.OutOfMemory result (AreReadInputs
         (record { root = trusted_root.now; now = now; digest = digest.now; bundle = bundle.now })) }
     ensures steps { UnlessMemory OfflineError.OutOfMemory result (IsOffline
         (checker_of C.SignatureChecker checker.now)
@@ -146,6 +149,7 @@ fn verify_under<P: VerificationPolicy, C: SignatureChecker>(
         (policy_of P.VerificationPolicy policy.now)
         root.now now digest.now bundle.now verifier.now result) }
 {
+    // No `?`: what the result says is a fact of each arm.
     match verifier.verify_digest_with(alloc, digest, bundle, policy, true, checker) {
         Ok(()) => verify_entry(alloc, root, now, bundle, checker),
         Err(error) => Err(OfflineError::from(error)),
@@ -164,7 +168,7 @@ fn verify_entry<C: SignatureChecker>(
         (C.spki_accepts checker.now) root.now now bundle.now result) }
 {
     // Both give up only if memory runs out: a bundle that passed its own checks has one entry.
-    let Some(entry) = entry_of(bundle) else {
+    let Some(entry) = only_entry_of(bundle) else {
         return Err(OfflineError::OutOfMemory);
     };
     match root.rekor_keys(alloc, now) {
@@ -177,7 +181,7 @@ fn verify_entry<C: SignatureChecker>(
 fn is_entry_bytes(bundle: &Bundle)
     ensures { HasEntryOfBytes bundle.now }
 {
-    match entry_of(bundle) {
+    match only_entry_of(bundle) {
         Some(entry) => {
             are_owned_bytes(&entry.canonicalized_body);
             are_optional_bytes(&entry.log_id);
@@ -187,14 +191,11 @@ fn is_entry_bytes(bundle: &Bundle)
 }
 
 /// The only log entry of a bundle.
-fn entry_of(bundle: &Bundle) -> Option<&TransparencyLogEntry>
-    ensures { lent_entry result ≡ entry_of bundle.now }
+fn only_entry_of(bundle: &Bundle) -> Option<&TransparencyLogEntry>
+    ensures { lent_entry result ≡ only_entry_of bundle.now }
 {
     match &bundle.verification_material {
-        Some(material) => match material.tlog_entries.as_slice() {
-            [entry] => Some(entry),
-            _ => None,
-        },
+        Some(material) => material.tlog_entries.only(),
         None => None,
     }
 }

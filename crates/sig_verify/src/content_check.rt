@@ -4,7 +4,8 @@ ghost use Rattle.std.specs.List.{list_any};
 ghost use Rattle.sig_base.specs.Answers.{Answers};
 ghost use Rattle.sig_key.specs.Key.{key_accepts};
 ghost use Rattle.sig_key.specs.Kind.{key_parts};
-ghost use Rattle.sig_verify.specs.ContentCheck.{content_answer, is_about, is_same, key_answer, signature_answer};
+ghost use Rattle.sig_verify.specs.ContentCheck.{content_answer, is_about, is_same, certificate_key_answer};
+ghost use Rattle.sig_verify.specs.ContentCheck.{signature_answer};
 ghost use Rattle.sig_verify.specs.ContentCheck.{time_answer};
 
 use crate::error::{CertificateErrorKind, SignatureErrorKind, VerificationError};
@@ -25,7 +26,7 @@ pub(crate) fn check_content<C: SignatureChecker>(
     ensures { Answers VerificationError.OutOfMemory (λ done. done) result
         (content_answer (C.spki_accepts checker.now) (C.prehash_accepts checker.now) digest.now bundle.now) }
 {
-    let key = key_of(alloc, bundle.certificate())?;
+    let key = certificate_key(alloc, bundle.certificate())?;
     check_signature(bundle, &key, digest, checker)?;
     if !is_about(bundle.content(), digest) {
         return Err(VerificationError::Signature(SignatureErrorKind::SubjectDigestMismatch));
@@ -34,11 +35,11 @@ pub(crate) fn check_content<C: SignatureChecker>(
 }
 
 /// The certificate's key. Fails with `AlgoUnsupported` if and only if it is of a kind that is not checked.
-fn key_of(
+fn certificate_key(
     alloc: Global,
     certificate: &Certificate,
 ) -> Result<CosignVerificationKey, VerificationError>
-    ensures { Answers VerificationError.OutOfMemory key_parts result (key_answer certificate.now.spki) }
+    ensures { Answers VerificationError.OutOfMemory key_parts result (certificate_key_answer certificate.now.spki) }
 {
     match CosignVerificationKey::try_from_spki(alloc, certificate.spki()) {
         Ok(key) => Ok(key),

@@ -53,6 +53,7 @@ fn issuer_place<C: SignatureChecker>(
     ensures { result ≡ issuer_place (C.cert_accepts checker.now) pool.now leaf.now }
 {
     let time = leaf.not_before();
+    // No `?`: what the result says is a fact of each arm.
     match pool.verify_cert_with_time(leaf, time, checker) {
         Ok(place) => Ok(place),
         Err(error) => Err(VerificationError::from(error)),

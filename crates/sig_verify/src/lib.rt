@@ -8,7 +8,6 @@
 #![tactic(auto)]
 
 mod artifact;
-mod bytes;
 mod chain;
 mod content_check;
 mod error;

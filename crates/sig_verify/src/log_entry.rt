@@ -6,13 +6,14 @@ ghost use Rattle.sig_key.specs.Kind.{key_parts};
 ghost use Rattle.sig_verify.specs.EntryLinks.{HasKeyOfBytes, HoldsOfEntry, entry_links};
 ghost use Rattle.sig_verify.specs.Judged.{Judged};
 ghost use Rattle.sig_verify.specs.LinkLaws.{IsKept};
-ghost use Rattle.sig_verify.specs.LogEntry.{entry_answer, fields_answer, id_answer, included, inclusion_answer};
-ghost use Rattle.sig_verify.specs.LogEntry.{key_answer};
+ghost use Rattle.sig_verify.specs.LogEntry.{log_entry_answer, fields_answer, id_answer, included};
+ghost use Rattle.sig_verify.specs.LogEntry.{entry_inclusion_answer};
+ghost use Rattle.sig_verify.specs.LogEntry.{log_key_answer};
 ghost use Rattle.sig_verify.specs.LogEntry.{lent_id, promise_answer, read_key, vouched};
 
-use crate::bytes::{are_bytes, are_optional_bytes, are_owned_bytes};
 use crate::offline::Offline;
 use crate::offline_error::{OfflineError, proof_error};
+use sig_base::laws::{are_bytes, are_optional_bytes, are_owned_bytes};
 use sig_base::{Bytes, KeyMap, SignatureChecker, SigstoreError, Text};
 use sig_bundle::laws::{promises, proof_faults, proofs};
 use sig_bundle::{ProofFields, TransparencyLogEntry, promise_text};
@@ -43,14 +44,15 @@ pub fn verify_log_entry<C: SignatureChecker>(
     log_keys: &KeyMap,
     checker: &C,
 ) -> Result<Offline, OfflineError>
-    // There is a value only if the links `log-key` to `inclusion` hold, and an error is that of the first that does not.
+    // There is a value only if the links `log-key` to `inclusion` hold, and an error is that of the first that does
+    // not.
     ensures links { UnlessMemory OfflineError.OutOfMemory result
         (Judged (HoldsOfEntry (C.spki_accepts checker.now) log_keys.now entry.now) entry_links result) }
     // The value is the entry's body, with the proof that its members are.
     ensures kept { IfOk result (IsKept entry.now) }
     // The same in one equation.
     ensures answer { Answers OfflineError.OutOfMemory (λ offline. offline) result
-        (entry_answer (C.spki_accepts checker.now) log_keys.now entry.now) }
+        (log_entry_answer (C.spki_accepts checker.now) log_keys.now entry.now) }
 {
     promises();
     proofs();
@@ -68,7 +70,7 @@ fn judge_entry<C: SignatureChecker>(
     checker: &C,
 ) -> Result<Offline, OfflineError>
     ensures answer { Answers OfflineError.OutOfMemory (λ offline. offline) result
-        (entry_answer (C.spki_accepts checker.now) log_keys.now entry.now) }
+        (log_entry_answer (C.spki_accepts checker.now) log_keys.now entry.now) }
     ensures bytes { UnlessMemory OfflineError.OutOfMemory result (HasKeyOfBytes log_keys.now entry.now) }
 {
     let key = log_key(alloc, entry, log_keys)?;
@@ -113,7 +115,7 @@ fn log_key(
     entry: &TransparencyLogEntry,
     log_keys: &KeyMap,
 ) -> Result<CosignVerificationKey, OfflineError>
-    ensures key { Answers OfflineError.OutOfMemory key_parts result (key_answer log_keys.now entry.now.log_id) }
+    ensures key { Answers OfflineError.OutOfMemory key_parts result (log_key_answer log_keys.now entry.now.log_id) }
     ensures named { OnOk result (IsSome entry.now.log_id) }
     ensures bytes { UnlessMemory OfflineError.OutOfMemory result (HasKeyOfBytes log_keys.now entry.now) }
 {
@@ -192,7 +194,8 @@ fn check_proof<C: SignatureChecker>(
     checker: &C,
 ) -> Result<(), OfflineError>
     ensures { Answers OfflineError.OutOfMemory (λ done. done) result
-        (inclusion_answer (key_accepts (C.spki_accepts checker.now) key.now) entry.now.canonicalized_body proof.now) }
+        (entry_inclusion_answer (key_accepts (C.spki_accepts checker.now) key.now) entry.now.canonicalized_body
+        proof.now) }
 {
     match proof.verify(alloc, entry.canonicalized_body.as_slice(), key, checker) {
         Ok(()) => Ok(()),

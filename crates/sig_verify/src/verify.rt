@@ -5,16 +5,16 @@ ghost use Rattle.sig_verify.specs.BundleLinks.{bundle_links};
 ghost use Rattle.sig_verify.specs.CertificateLinks.{certificate_links};
 ghost use Rattle.sig_verify.specs.Judged.{Judged};
 ghost use Rattle.sig_verify.specs.LinkLaws.{HoldsOfVerified, renamed, trust_of};
-ghost use Rattle.sig_verify.specs.Verdict.{IsAllowed, IsLogged, IsSigned, IsTrusted, IsVerdict};
+ghost use Rattle.sig_verify.specs.Verdict.{IsVerdictFromPolicy, IsVerdictFromBody, IsVerdictFromKey};
+ghost use Rattle.sig_verify.specs.Verdict.{IsVerdictFromIssuance, IsVerdict};
 ghost use Rattle.sig_verify.specs.Verdict.{checker_of, policy_of};
 
-use crate::bytes::is_certificate_bytes;
 use crate::content_check::{check_content, check_time};
 use crate::error::{SignatureErrorKind, VerificationError, VerificationResult};
 use crate::laws::bundles;
 use crate::verifier::Verifier;
 use sig_base::SignatureChecker;
-use sig_bundle::laws::passed_bundles;
+use sig_bundle::laws::{is_certificate_bytes, passed_bundles};
 use sig_bundle::{ArtifactDigest, Bundle, CheckedBundle};
 use sig_certificate::laws::certificates;
 use sig_x509::VerificationPolicy;
@@ -81,6 +81,7 @@ impl Verifier {
             self.now (policy_of P.VerificationPolicy policy.now)
             input_digest.now offline bundle.now result) }
     {
+        // No `?`: what the result says is a fact of each arm.
         match CheckedBundle::try_from_bundle(alloc, bundle) {
             Ok(checked) => {
                 self.verify_checked(alloc, input_digest, &checked, policy, offline, checker)
@@ -99,7 +100,7 @@ impl Verifier {
         offline: bool,
         checker: &C,
     ) -> VerificationResult
-        ensures { UnlessMemory VerificationError.OutOfMemory result (IsTrusted
+        ensures { UnlessMemory VerificationError.OutOfMemory result (IsVerdictFromIssuance
             (checker_of C.SignatureChecker checker.now)
             self.now (policy_of P.VerificationPolicy policy.now)
             digest.now offline bundle.now result) }
@@ -118,11 +119,12 @@ fn verify_allowed<P: VerificationPolicy, C: SignatureChecker>(
     offline: bool,
     checker: &C,
 ) -> VerificationResult
-    ensures { UnlessMemory VerificationError.OutOfMemory result (IsAllowed
+    ensures { UnlessMemory VerificationError.OutOfMemory result (IsVerdictFromPolicy
         (checker_of C.SignatureChecker checker.now)
         (policy_of P.VerificationPolicy policy.now)
         digest.now offline bundle.now result) }
 {
+    // No `?`: what the result says is a fact of each arm.
     match policy.verify(alloc, bundle.certificate()) {
         Ok(()) => verify_signed(alloc, digest, bundle, offline, checker),
         Err(refusal) => Err(VerificationError::from(refusal)),
@@ -137,7 +139,7 @@ fn verify_signed<C: SignatureChecker>(
     offline: bool,
     checker: &C,
 ) -> VerificationResult
-    ensures { UnlessMemory VerificationError.OutOfMemory result (IsSigned
+    ensures { UnlessMemory VerificationError.OutOfMemory result (IsVerdictFromKey
         (checker_of C.SignatureChecker checker.now)
         digest.now offline bundle.now result) }
 {
@@ -152,7 +154,8 @@ fn verify_logged(
     bundle: &CheckedBundle,
     offline: bool,
 ) -> VerificationResult
-    ensures { UnlessMemory VerificationError.OutOfMemory result (IsLogged digest.now offline bundle.now result) }
+    ensures { UnlessMemory VerificationError.OutOfMemory result
+        (IsVerdictFromBody digest.now offline bundle.now result) }
 {
     match bundle.tlog_entry(alloc, offline, digest.as_bytes()) {
         Ok(Some(_)) => check_time(bundle),

@@ -1,8 +1,8 @@
 -- What is computed of a certificate that may be issued, and of its issuer, is what the relations say.
 use Rattle.std.proofs.Common.{◌≡◌, ◌⊎◌, ltb, ℕ, ◌<◌, ◌≤◌, Bool, true, false, ◌||◌, not, cond, List, [], ◌∷◌, length}
-use Rattle.std.proofs.Common.{get_or, ℤ, ◌≤ℤ◌, Option, Some, None, Result, Ok, Err, inl, inr, refl, sym, ap, subst}
+use Rattle.std.proofs.Common.{get_or, ℤ, Option, Some, None, Result, Ok, Err, inl, inr, refl, sym, ap, subst}
 use Rattle.std.proofs.Common.{◌∙◌, arith}
-use Rattle.std.specs.Prelude.{◌↔◌, T, bytes_eq, position, int_le, ◌==◌}
+use Rattle.std.specs.Prelude.{◌↔◌, bytes_eq, position, ◌==◌}
 use Rattle.std.specs.List.{AllByRecursion, position_or_len}
 use Rattle.std.proofs.lemmas.Bool.{and_parts, and_from, or_cases, or_right, eqb-true, eq-eqb, ltb-false, cases_order}
 use Rattle.std.proofs.lemmas.Bool.{both_ways, not-true}
@@ -10,6 +10,7 @@ use Rattle.std.proofs.lemmas.List.Quantifiers.{position-Some}
 use Rattle.std.proofs.lemmas.List.Sums.{prefix_len_passes}
 use Rattle.std.proofs.lemmas.Option.{slice_get_within, slice_get-get_or, get_or_from_slice_get}
 use Rattle.std.proofs.lemmas.Slice.Eq.{bytes_eq-Decides}
+use Rattle.sig_base.proofs.IntOrders.{le_from, le_is}
 use Rattle.sig_base.specs.Answers.{Answers, ComesWhere}
 use Rattle.sig_base.specs.declared.fault.PoolError.{PoolError}
 use Rattle.sig_base.specs.declared.fault.PoolError.TheVariants.{Malformed, VerificationFailed, OutOfMemory}
@@ -139,21 +140,7 @@ profile_is c is =
 
 -- ---- the issuer
 
-le_from : (a b : ℤ) → int_le a b ≡ true → a ≤ℤ b
-le_from a b e = record { le = so (int_le a b) e }
-  where
-    so : (x : Bool) → x ≡ true → T x
-    so true e = tt
-    so false e = absurd cc
-
-le_is : (a b : ℤ) → a ≤ℤ b → int_le a b ≡ true
-le_is a b e = is_so (int_le a b) e.le
-  where
-    is_so : (x : Bool) → T x → x ≡ true
-    is_so true t = refl
-    is_so false t = absurd t
-
-signs_from : (h : Held Bool) → may_sign_code h ≡ true → h ≡ Ok (Some true)
+pub signs_from : (h : Held Bool) → may_sign_code h ≡ true → h ≡ Ok (Some true)
 signs_from (Err e) is = absurd cc
 signs_from (Ok None) is = absurd cc
 signs_from (Ok (Some b)) is = ap (λ (x : Bool). Ok (Some x)) is

@@ -2,3 +2,4 @@ pub mod IssuanceLaws
 pub mod IssuedLaws
 pub mod AskedLaws
 pub mod AnchorLaws
+mod FirstIssuers

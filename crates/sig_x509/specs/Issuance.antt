@@ -1,9 +1,9 @@
 -- *Issuance*: which certificates may be issued, and by which anchor. RFC 5280 sections 4.2 and 6.1, in the profile of
 -- Sigstore.
-use Rattle.std.specs.Prelude.{⊤, ◌≡◌, ℕ, ℤ, List, [], ◌∷◌, length, take, slice_get, Bool, true, false, not, ◌&&◌, ◌||◌}
+use Rattle.std.specs.Prelude.{⊤, ◌≡◌, ℕ, ℤ, List, length, take, slice_get, Bool, true, false, not, ◌&&◌, ◌||◌}
 use Rattle.std.specs.Prelude.{Option, Some, None, Result, Ok, Err, position, int_le, ◌==◌, if◌then◌else◌}
 use Rattle.std.specs.Str.{bytes_eq}
-use Rattle.std.specs.List.{list_all}
+use Rattle.std.specs.List.{AllZip, list_all}
 use Rattle.sig_base.specs.declared.fault.PoolError.{PoolError}
 use Rattle.sig_base.specs.declared.fault.PoolError.TheVariants.{Anchor, Malformed, VerificationFailed, OutOfMemory}
 use Rattle.sig_der.specs.ObjectIdentifiers.{key_usage, extended_key_usage, basic_constraints, subject_alternative_name}
@@ -59,8 +59,8 @@ Accepts = List ℕ → List ℕ → List ℕ → List ℕ → Bool
 
 -- *Signed*: the issuer is the subject of x byte for byte, and the signature is genuine under the key of x (section
 -- 6.1.3)
-abbrev pub is_signed : Accepts → Cert → Cert → Bool
-is_signed accepts c x = bytes_eq c.issuer x.subject && accepts x.spki c.algorithm c.tbs c.signature
+abbrev pub is_signed_by : Accepts → Cert → Cert → Bool
+is_signed_by accepts c x = bytes_eq c.issuer x.subject && accepts x.spki c.algorithm c.tbs c.signature
 
 -- the time is within the validity, its first and its last second included (section 4.1.2.5)
 abbrev pub is_within : Cert → ℤ → Bool
@@ -72,7 +72,7 @@ signs_code_at c t = is_within c t && may_sign_code (code_signing c)
 
 -- *Issued*: x issued c, which signs code at the time t
 abbrev pub is_issued : Accepts → Cert → ℤ → Cert → Bool
-is_issued accepts c t x = signs_code_at c t && is_signed accepts c x
+is_issued accepts c t x = signs_code_at c t && is_signed_by accepts c x
 
 abbrev pub placed : Option ℕ → Result ℕ PoolError
 placed None = Err VerificationFailed
@@ -95,10 +95,7 @@ IsNoAnchor der = (c : Cert) → IsAnchor der c → ⊥
 
 -- the DERs are those of the anchors, one by one
 abbrev pub AreAnchors : List (List ℕ) → List Cert → Type 0
-AreAnchors [] [] = ⊤
-AreAnchors (t ∷ ts) (c ∷ cs) = IsAnchor t c × AreAnchors ts cs
-AreAnchors [] (c ∷ cs) = ⊥
-AreAnchors (t ∷ ts) [] = ⊥
+AreAnchors ders anchors = AllZip IsAnchor ders anchors
 
 -- The DER at this index is the first that is no anchor.
 pub record IsFirstNoAnchor (ders : List (List ℕ)) (index : ℕ) : Type 0 where

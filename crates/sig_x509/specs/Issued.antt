@@ -109,12 +109,12 @@ pub record IsUnissuedText (accepts : Accepts) (der : List ℕ) (t : ℤ) (anchor
   pub none : IsIssuedByNone accepts certificate t anchors
 
 -- The bytes are this certificate and no other.
-pub record IsRead (der : List ℕ) (c : Cert) : Type 0 where
+pub record IsOnlyCertificate (der : List ℕ) (c : Cert) : Type 0 where
   pub is : IsCertificate der c
   pub only : (d : Cert) → IsCertificate der d → d ≡ c
 
 -- the result for these bytes: that of the one certificate that they are, or `Malformed`, or out of memory
 abbrev pub IsJudgedText : Accepts → List ℕ → ℤ → List Cert → Result ℕ PoolError → Type 0
 IsJudgedText accepts der t anchors answer =
-    ((c : Cert) × IsRead der c × (answer ≡ issuer_of accepts anchors c t))
+    ((c : Cert) × IsOnlyCertificate der c × (answer ≡ issuer_of accepts anchors c t))
     ⊎ ((((c : Cert) → ¬ IsCertificate der c) × (answer ≡ Err Malformed)) ⊎ (answer ≡ Err OutOfMemory))

@@ -5,7 +5,7 @@ ghost use Rattle.sig_certificate.specs.Lookups.{borrowed_extension, with_oid};
 ghost use Rattle.sig_certificate.specs.Profile.{constraints, code_signing};
 ghost use Rattle.sig_certificate.specs.Trust.{may_sign_code};
 ghost use Rattle.sig_x509.specs.Issuance.{may_be_critical, is_understood, are_understood, is_unconstrained, is_fit};
-ghost use Rattle.sig_x509.specs.Issuance.{is_no_authority, is_profiled, is_signed, signs_code_at, is_issued};
+ghost use Rattle.sig_x509.specs.Issuance.{is_no_authority, is_profiled, is_signed_by, signs_code_at};
 
 use sig_base::SignatureChecker;
 use sig_certificate::{Certificate, ExtensionRef, Lookup, basic_constraints, code_signing};
@@ -34,11 +34,9 @@ fn is_understood(extension: &ExtensionRef<'_>) -> bool
 fn are_understood(certificate: &Certificate) -> bool
     ensures { result ≡ are_understood certificate.now.extensions }
 {
-    for index in 0..certificate.extension_count() {
-        if let Some(extension) = certificate.extension_at(index) {
-            if !is_understood(&extension) {
-                return false;
-            }
+    for extension in certificate.extensions() {
+        if !is_understood(&extension) {
+            return false;
         }
     }
     true
@@ -103,12 +101,12 @@ pub(crate) fn signs_code_at(certificate: &Certificate, time: i64) -> bool
 }
 
 /// Whether the anchor signed the certificate. The checker is asked only if the anchor's name is that of the issuer.
-pub(crate) fn is_signed<C: SignatureChecker>(
+pub(crate) fn is_signed_by<C: SignatureChecker>(
     certificate: &Certificate,
     anchor: &Certificate,
     checker: &C,
 ) -> bool
-    ensures { result ≡ is_signed (C.cert_accepts checker.now) certificate.now anchor.now }
+    ensures { result ≡ is_signed_by (C.cert_accepts checker.now) certificate.now anchor.now }
 {
     certificate.issuer() == anchor.subject()
         && checker.verify_cert_signature(
@@ -117,17 +115,4 @@ pub(crate) fn is_signed<C: SignatureChecker>(
             certificate.tbs(),
             certificate.signature(),
         )
-}
-
-/// Whether the anchor issued the certificate, which signs code at the time, in seconds since 1970. The checker is
-/// asked last.
-pub(crate) fn is_issued<C: SignatureChecker>(
-    certificate: &Certificate,
-    time: i64,
-    anchor: &Certificate,
-    checker: &C,
-) -> bool
-    ensures { result ≡ is_issued (C.cert_accepts checker.now) certificate.now time anchor.now }
-{
-    signs_code_at(certificate, time) && is_signed(certificate, anchor, checker)
 }

@@ -3,13 +3,13 @@
 ghost use Rattle.std.specs.Prelude.{◌≡◌, ◌↔◌, ℕ, Ok, Err, option_map, slice_get, position, IfOk, IfErr, IsErrOf};
 ghost use Rattle.sig_base.specs.Answers.{Answers, ComesWhere};
 ghost use Rattle.sig_certificate.specs.Certificate.{Cert, IsCertificate};
-ghost use Rattle.sig_x509.specs.Issuance.{Accepts, is_issued, issuer_of, IsAnchor, AreAnchors, IsFirstNoAnchor};
-ghost use Rattle.sig_x509.specs.Issuance.{IsRefusedAt, IsPoolRefusal};
+ghost use Rattle.sig_x509.specs.Issuance.{Accepts, is_issued, is_signed_by, issuer_of, IsAnchor, AreAnchors};
+ghost use Rattle.sig_x509.specs.Issuance.{IsFirstNoAnchor, IsRefusedAt, IsPoolRefusal};
 ghost use Rattle.sig_x509.specs.Issued.{HasProfile, IsFirstIssuer, IsIssuedByNone, HasNoProfile, IsIssuedText};
 ghost use Rattle.sig_x509.specs.Issued.{IsUnissuedText, IsJudgedText};
 ghost use Rattle.sig_x509.specs.Issued.{AgreeWhereAsked};
 
-use crate::issuance::{is_issued, is_profiled, is_unconstrained};
+use crate::issuance::{is_profiled, is_signed_by, is_unconstrained, signs_code_at};
 use sig_base::{Entries, PoolError, Register, SignatureChecker};
 use sig_certificate::{Certificate, X509ReadError};
 use std::alloc::Global;
@@ -83,7 +83,19 @@ impl CertificatePool {
         Ok(CertificatePool { anchors })
     }
 
-    /// Returns the index of the first trust anchor that issued the leaf, which signs code at the time.
+    /// Returns the index of the first trust anchor that signed the leaf.
+    fn first_signer<C: SignatureChecker>(&self, leaf: &Certificate, checker: &C) -> Option<usize>
+        ensures { result ≡ position (is_signed_by (C.cert_accepts checker.now) leaf.now) self.now }
+    {
+        self.anchors
+            .as_slice()
+            .iter()
+            .position(|anchor| is_signed_by(leaf, anchor, checker))
+    }
+
+    /// Returns the index of the first trust anchor that issued the leaf, which signs code at the time: that is asked
+    /// once, and not of each anchor.
+    #[tactic(auto, using(crate::proofs::FirstIssuers::first_issuers))]
     fn first_issuer<C: SignatureChecker>(
         &self,
         leaf: &Certificate,
@@ -92,10 +104,10 @@ impl CertificatePool {
     ) -> Option<usize>
         ensures { result ≡ position (is_issued (C.cert_accepts checker.now) leaf.now time) self.now }
     {
-        self.anchors
-            .as_slice()
-            .iter()
-            .position(|anchor| is_issued(leaf, time, anchor, checker))
+        if !signs_code_at(leaf, time) {
+            return None;
+        }
+        self.first_signer(leaf, checker)
     }
 
     /// Returns the index of the first trust anchor that issued the leaf, or why there is none.

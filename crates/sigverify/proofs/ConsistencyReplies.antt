@@ -7,7 +7,7 @@ use Rattle.sigverify.proofs.Replies.{every-of_text, every-reply, first-of_text, 
 use Rattle.sigverify.specs.ConsistencyLink.{consistency_links, IsGrown, HoldsOfConsistency, IsConsistencyVerdict}
 use Rattle.sigverify.specs.ConsistencyRequest.{IsConsistencyReadFrom, IsConsistencyRequest}
 use Rattle.sigverify.specs.Head.{IsHeadVerdict}
-use Rattle.sigverify.specs.Reply.{IsReply, refusal, consistent}
+use Rattle.sigverify.specs.Reply.{IsReply, refusal_reply, consistent}
 use Rattle.sigverify.specs.declared.command.Command.TheVariants.{Consistency}
 use Rattle.sigverify.specs.declared.consistency_request.ConsistencyRequest.{ConsistencyRequest}
 use Rattle.sigverify.specs.declared.reply.Reply.{Reply}
@@ -51,7 +51,7 @@ consistent-reply text request is every =
 
 pub refused-consistency : (text : List ℕ) (request : ConsistencyRequest) (link : Link)
     → IsConsistencyRequest text request → IsConsistencyVerdict request (Some link)
-    → IsReply Consistency text (refusal link)
+    → IsReply Consistency text (refusal_reply link)
 refused-consistency text request link is first =
     first-reply Consistency text link
     (first-of_text (IsConsistencyRequest text) HoldsOfConsistency (one_request text) request consistency_links link is
@@ -64,17 +64,17 @@ replied text wanted (Ok reply) is meant = subst (IsReply Consistency text) (sym 
 replied text wanted (Err memory) is meant = tt
 
 pub unread-replied : (text : List ℕ) (found : Option ConsistencyRequest) (r : Result Reply OutOfMemory)
-    → IfOk r (λ reply. reply ≡ refusal Request) → found ≡ None → IsConsistencyReadFrom text found
+    → IfOk r (λ reply. reply ≡ refusal_reply Request) → found ≡ None → IsConsistencyReadFrom text found
     → IfOk r (IsReply Consistency text)
 unread-replied text found r is none read =
-    replied text (refusal Request) r is (unread-consistency text (subst (IsConsistencyReadFrom text) none read))
+    replied text (refusal_reply Request) r is (unread-consistency text (subst (IsConsistencyReadFrom text) none read))
 
 pub refused-replied : (text : List ℕ) (found : Option ConsistencyRequest) (request : ConsistencyRequest)
     (verdict : Option Link) (link : Link) (r : Result Reply OutOfMemory)
-    → IfOk r (λ reply. reply ≡ refusal link) → found ≡ Some request → IsConsistencyReadFrom text found
+    → IfOk r (λ reply. reply ≡ refusal_reply link) → found ≡ Some request → IsConsistencyReadFrom text found
     → verdict ≡ Some link → IsConsistencyVerdict request verdict → IfOk r (IsReply Consistency text)
 refused-replied text found request verdict link r is some read which first =
-    replied text (refusal link) r is (refused-consistency text request link
+    replied text (refusal_reply link) r is (refused-consistency text request link
     (subst (IsConsistencyReadFrom text) some read) (subst (IsConsistencyVerdict request) which first))
 
 pub consistent-replied : (text : List ℕ) (found : Option ConsistencyRequest) (request : ConsistencyRequest)

@@ -13,21 +13,21 @@ use Rattle.sig_key.specs.declared.verification_key.CosignVerificationKey.{Cosign
 use Rattle.sig_key.specs.Key.{key_scheme, key_info, key_accepts}
 use Rattle.sig_rekor.specs.declared.checkpoint.SignedCheckpoint.{SignedCheckpoint}
 use Rattle.sig_rekor.specs.NoteText.{note_text}
-use Rattle.sig_rekor.specs.Verify.{is_signed, signed_answer}
+use Rattle.sig_rekor.specs.Verify.{has_accepted_signature, signed_answer}
 use Rattle.sigverify.specs.declared.head.SignedHead.{SignedHead}
-use Rattle.sigverify.specs.Head.{IsSigned}
+use Rattle.sigverify.specs.Head.{HasAcceptedSignature}
 
 -- what holds of some element, where it follows of each
 Any-more : {A : Type 0} {P Q : A → Type 0} (xs : List A) → ((x : A) → P x → Q x) → Any P xs → Any Q xs
 Any-more xs more some = (some.0, some.1, some.2, some.3, more some.1 some.4)
 
 -- one of the signatures passes the test exactly where the table has its row
-is_signed-rows : (head : SignedHead) (checkpoint : SignedCheckpoint) (accepts : List ℕ → List ℕ → Bool)
+has_accepted_signature-rows : (head : SignedHead) (checkpoint : SignedCheckpoint) (accepts : List ℕ → List ℕ → Bool)
     → ((message signature : List ℕ) → accepts message signature
     ≡ accepted head.accepted Message (name_of (scheme_of head.scheme)) head.key message signature)
-    → (is_signed accepts checkpoint ≡ true) ↔ IsSigned head checkpoint
-unfolding is_signed
-is_signed-rows head checkpoint accepts same =
+    → (has_accepted_signature accepts checkpoint ≡ true) ↔ HasAcceptedSignature head checkpoint
+unfolding has_accepted_signature
+has_accepted_signature-rows head checkpoint accepts same =
     let note = note_text checkpoint.note in (
       λ e. Any-more checkpoint.signatures
           (λ s passes. (accepted-rows head.accepted Message
@@ -39,28 +39,28 @@ is_signed-rows head checkpoint accepts same =
     )
 
 -- the test under the head's key is the table's
-pub is_signed-key : (head : SignedHead) (checkpoint : SignedCheckpoint) (key : CosignVerificationKey)
+pub has_accepted_signature-key : (head : SignedHead) (checkpoint : SignedCheckpoint) (key : CosignVerificationKey)
     → key_scheme key ≡ scheme_of head.scheme → key_info key ≡ head.key
-    → (is_signed (key_accepts (λ scheme info message signature. accepted head.accepted Message
+    → (has_accepted_signature (key_accepts (λ scheme info message signature. accepted head.accepted Message
     (name_of scheme) info message signature) key) checkpoint ≡ true)
-    ↔ IsSigned head checkpoint
-is_signed-key head checkpoint key scheme info =
-    is_signed-rows head checkpoint (λ message signature. accepted head.accepted Message
+    ↔ HasAcceptedSignature head checkpoint
+has_accepted_signature-key head checkpoint key scheme info =
+    has_accepted_signature-rows head checkpoint (λ message signature. accepted head.accepted Message
     (name_of (key_scheme key)) (key_info key) message signature)
     (λ message signature. rw (scheme, info))
 
 -- the answers of the check under the head's key
 pub signed-yes : (head : SignedHead) (checkpoint : SignedCheckpoint) (key : CosignVerificationKey)
     → key_scheme key ≡ scheme_of head.scheme → key_info key ≡ head.key
-    → is_signed (key_accepts (λ scheme info message signature. accepted head.accepted Message
+    → has_accepted_signature (key_accepts (λ scheme info message signature. accepted head.accepted Message
     (name_of scheme) info message signature) key) checkpoint ≡ true
-    → IsTrue true ↔ IsSigned head checkpoint
+    → IsTrue true ↔ HasAcceptedSignature head checkpoint
 signed-yes head checkpoint key scheme info is =
-    (λ _. (is_signed-key head checkpoint key scheme info).0 is, λ _. refl)
+    (λ _. (has_accepted_signature-key head checkpoint key scheme info).0 is, λ _. refl)
 
 unsigned : (accepts : List ℕ → List ℕ → Bool) (checkpoint : SignedCheckpoint)
     → signed_answer accepts checkpoint ≡ Err CheckpointSignatureVerificationError
-    → is_signed accepts checkpoint ≡ true → ⊥
+    → has_accepted_signature accepts checkpoint ≡ true → ⊥
 unsigned accepts checkpoint refused is = let answer = rw is at refused in cc
 
 pub signed-no : (head : SignedHead) (checkpoint : SignedCheckpoint) (key : CosignVerificationKey)
@@ -69,11 +69,11 @@ pub signed-no : (head : SignedHead) (checkpoint : SignedCheckpoint) (key : Cosig
     ⊎ (signed_answer (key_accepts (λ scheme info message signature. accepted head.accepted Message
     (name_of scheme) info message signature) key) checkpoint
     ≡ Err CheckpointSignatureVerificationError)
-    → IsTrue false ↔ IsSigned head checkpoint
+    → IsTrue false ↔ HasAcceptedSignature head checkpoint
 signed-no head checkpoint key scheme info (inl memory) = absurd (let e : ⊥ = cc in e)
 signed-no head checkpoint key scheme info (inr refused) = (
   λ e. absurd (false≢true e),
   λ signed. absurd (unsigned (key_accepts (λ scheme info message signature. accepted head.accepted Message
       (name_of scheme) info message signature) key) checkpoint refused
-      ((is_signed-key head checkpoint key scheme info).1 signed)),
+      ((has_accepted_signature-key head checkpoint key scheme info).1 signed)),
 )

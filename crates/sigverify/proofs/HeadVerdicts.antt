@@ -9,7 +9,7 @@ use Rattle.sig_rekor.specs.CheckpointText.{IsCheckpoint}
 use Rattle.sig_verify.specs.declared.link.Link.{Link}
 use Rattle.sig_verify.specs.declared.link.Link.TheVariants.{Checkpoint, NoteKey, NoteMatch}
 use Rattle.sigverify.specs.declared.head.SignedHead.{SignedHead}
-use Rattle.sigverify.specs.Head.{IsHeadVerdict, IsHeadVerdictUnder, OfCheckpoint, IsSigned, IsMatched}
+use Rattle.sigverify.specs.Head.{IsHeadVerdict, IsHeadVerdictUnder, OfHeadCheckpoint, HasAcceptedSignature, IsMatched}
 
 -- the text has no reading
 pub unread-verdict : (head : SignedHead) (size : ℕ) (root : List ℕ)
@@ -20,7 +20,7 @@ unread-verdict head size root none = inl (λ holds. none holds.0 holds.1, refl)
 -- what does not hold of the one reading holds of none
 other-reading : (head : SignedHead) (checkpoint : SignedCheckpoint) (P : SignedCheckpoint → Type 0)
     → ((other : SignedCheckpoint) → IsCheckpoint head.checkpoint other → other ≡ checkpoint) → ¬ P checkpoint
-    → ¬ OfCheckpoint head P
+    → ¬ OfHeadCheckpoint head P
 other-reading head checkpoint P only fails holds = fails (subst P (only holds.0 holds.1) holds.2)
 
 -- the verdict under the one reading is that of the head
@@ -32,7 +32,7 @@ pub under-verdict : (head : SignedHead) (size : ℕ) (root : List ℕ) (checkpoi
 under-verdict head size root checkpoint None is only under =
     ((checkpoint, is, tt), ((checkpoint, is, under.0), ((checkpoint, is, under.1), tt)))
 under-verdict head size root checkpoint (Some NoteKey) is only under =
-    inr ((checkpoint, is, tt), inl (other-reading head checkpoint (IsSigned head) only under, refl))
+    inr ((checkpoint, is, tt), inl (other-reading head checkpoint (HasAcceptedSignature head) only under, refl))
 under-verdict head size root checkpoint (Some NoteMatch) is only under =
     inr (
       (checkpoint, is, tt),
@@ -44,7 +44,7 @@ under-verdict head size root checkpoint (Some NoteMatch) is only under =
 under-verdict head size root checkpoint (Some other) is only under = absurd under
 
 -- a fault is neither want of memory nor a value
-no_fault : (checkpoint : SignedCheckpoint) (fault : CheckpointFault)
+pub no_fault : (checkpoint : SignedCheckpoint) (fault : CheckpointFault)
     → (DecodeError fault ≡ Memory) ⊎ ◌≡◌ {A = Result SignedCheckpoint ParseCheckpointError} (Ok checkpoint)
     (Err (DecodeError fault)) → ⊥
 no_fault checkpoint fault (inl e) = absurd cc
@@ -61,7 +61,8 @@ refused-verdict head size root text fault same none =
     unread-verdict head size root (λ other is. no_fault other fault
     (none other (subst (λ t. IsCheckpoint t other) (sym same) is)))
 
-same_reading : (a b : SignedCheckpoint) → ◌≡◌ {A = Result SignedCheckpoint ParseCheckpointError} (Ok a) (Ok b) → a ≡ b
+pub same_reading : (a b : SignedCheckpoint)
+    → ◌≡◌ {A = Result SignedCheckpoint ParseCheckpointError} (Ok a) (Ok b) → a ≡ b
 same_reading a b e = cc
 
 pub read-verdict : (head : SignedHead) (size : ℕ) (root : List ℕ) (text : List ℕ)

@@ -11,7 +11,7 @@ use Rattle.sig_bundle.specs.declared.material.TransparencyLogEntry.{Transparency
 use Rattle.sig_rekor.specs.declared.inclusion_proof.InclusionProof.{InclusionProof}
 use Rattle.sig_verify.specs.EntryLinks.{IsLed, IsPlaced, OfProof}
 use Rattle.sig_verify.specs.LinkLaws.{IsKept}
-use Rattle.sig_verify.specs.Links.{HoldsOf, Inputs, OfPassed, Outside, links}
+use Rattle.sig_verify.specs.Links.{HoldsOf, Inputs, OfPassed, Outside, chain_links}
 use Rattle.sig_verify.specs.declared.link.Link.{Link}
 use Rattle.sig_verify.specs.declared.link.Link.TheVariants.{Inclusion, RootJson}
 use Rattle.sig_verify.specs.declared.offline.Offline.{Offline}
@@ -76,7 +76,7 @@ holds-last : (P : Link → Type 0) (link : Link) (rest : List Link) → AllByRec
 holds-last P link [] every = every.0
 holds-last P link (next ∷ rest) every = holds-last P next rest every.1
 
-pub every-included : (o : Outside) (i : Inputs) (offline : Offline) → AllByRecursion (HoldsOf o i) links
+pub every-included : (o : Outside) (i : Inputs) (offline : Offline) → AllByRecursion (HoldsOf o i) chain_links
     → OfPassed i (λ c. IsKept c.entry offline) → IsProofOf offline.body offline.proof
 every-included o i offline every kept =
-    proof_in o i offline (holds-last (HoldsOf o i) RootJson (behind links) every) kept
+    proof_in o i offline (holds-last (HoldsOf o i) RootJson (behind chain_links) every) kept

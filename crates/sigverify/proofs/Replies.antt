@@ -7,7 +7,8 @@ use Rattle.sig_base.specs.declared.memory.OutOfMemory.{OutOfMemory}
 use Rattle.sig_base.proofs.RuleLaws.{one_fails, none_fails}
 use Rattle.sig_base.specs.Rules.{FailsFirst}
 use Rattle.sigverify.specs.declared.command.Command.{Command}
-use Rattle.sigverify.specs.declared.command.Command.TheVariants.{Log, Verify, Consistency}
+use Rattle.sigverify.specs.declared.command.Command.TheVariants.{Log, Verify, Consistency, LogQuestions}
+use Rattle.sigverify.specs.declared.command.Command.TheVariants.{VerifyQuestions}
 use Rattle.sig_verify.specs.declared.link.Link.{Link}
 use Rattle.sig_verify.specs.declared.link.Link.TheVariants.{Request}
 use Rattle.sigverify.specs.declared.reply.Reply.{Reply}
@@ -16,11 +17,11 @@ use Rattle.sigverify.specs.Limit.{most_bytes}
 use Rattle.sigverify.specs.Request.{IsRequest, IsReadFrom}
 use Rattle.sigverify.specs.VerifyRequest.{IsVerifyReadFrom}
 use Rattle.sigverify.specs.ConsistencyRequest.{IsConsistencyReadFrom}
-use Rattle.sigverify.specs.Link.{log_links, links, HoldsOf, Holds, EveryLinkHolds, IsFirstFailing, IsVerdict}
-use Rattle.sigverify.specs.Reply.{IsLoggedReply, IsReply, Succeeds, refusal, status_of}
+use Rattle.sigverify.specs.Link.{log_links, links, HoldsOfLog, Holds, EveryLinkHolds, IsFirstFailing, IsLogVerdict}
+use Rattle.sigverify.specs.Reply.{IsLoggedReply, IsReply, Succeeds, refusal_reply, status_of}
 
 -- a text is one request
-one_request : (text : List ℕ) (a b : LogRequest) → IsRequest text a → IsRequest text b → a ≡ b
+pub one_request : (text : List ℕ) (a b : LogRequest) → IsRequest text a → IsRequest text b → a ≡ b
 one_request text a b p q = let e = p.members in let f = q.members in cc
 
 -- a refusal has no status 0
@@ -40,7 +41,7 @@ every-reply command text reply zero succeeds every = record {
 
 -- the reply where a link is the first that fails
 pub first-reply : (command : Command) (text : List ℕ) (link : Link) → IsFirstFailing command text link
-    → IsReply command text (refusal link)
+    → IsReply command text (refusal_reply link)
 first-reply command text link first = record {
   decided = inr (link, first);
   succeeds = (
@@ -50,7 +51,8 @@ first-reply command text link first = record {
   );
   vouched = λ every. absurd (none_fails (Holds command text) (links command) link every first);
   refused =
-      λ other other_first. ap refusal (one_fails (Holds command text) (links command) link other first other_first);
+      λ other other_first. ap refusal_reply (one_fails (Holds command text)
+      (links command) link other first other_first);
 }
 
 -- what holds of the one request that a text is, and what fails first of it, does so of the text
@@ -72,49 +74,60 @@ first-of_text IsIt Of one request (l ∷ ls) link is (inr later) =
     inr ((request, is, later.0), first-of_text IsIt Of one request ls link is later.1)
 
 -- of no text that is no request the link `request` holds
-pub unread-reply : (text : List ℕ) → IsReadFrom text None → IsReply Log text (refusal Request)
+pub unread-reply : (text : List ℕ) → IsReadFrom text None → IsReply Log text (refusal_reply Request)
 unread-reply text none = first-reply Log text Request (inl (λ holds. none holds.0 holds.1, refl))
 
-pub unread-verify : (text : List ℕ) → IsVerifyReadFrom text None → IsReply Verify text (refusal Request)
+pub unread-verify : (text : List ℕ) → IsVerifyReadFrom text None → IsReply Verify text (refusal_reply Request)
 unread-verify text none = first-reply Verify text Request (inl (λ holds. none holds.0 holds.1, refl))
 
 pub unread-consistency : (text : List ℕ) → IsConsistencyReadFrom text None
-    → IsReply Consistency text (refusal Request)
+    → IsReply Consistency text (refusal_reply Request)
 unread-consistency text none = first-reply Consistency text Request (inl (λ holds. none holds.0 holds.1, refl))
+
+pub unread-log_questions : (text : List ℕ) → IsReadFrom text None → IsReply LogQuestions text (refusal_reply Request)
+unread-log_questions text none = first-reply LogQuestions text Request (inl (λ holds. none holds.0 holds.1, refl))
+
+pub unread-verify_questions : (text : List ℕ) → IsVerifyReadFrom text None
+    → IsReply VerifyQuestions text (refusal_reply Request)
+unread-verify_questions text none = first-reply VerifyQuestions text Request (inl (λ holds. none holds.0 holds.1, refl))
 
 -- nor of one that is too long
 pub long-reply : (command : Command) (text : List ℕ) → most_bytes < length text
-    → IsReply command text (refusal Request)
+    → IsReply command text (refusal_reply Request)
 long-reply Log text long = unread-reply text (λ request is. absurd (omega (arith, is.short, long)))
 long-reply Verify text long = unread-verify text (λ request is. absurd (omega (arith, is.short, long)))
 long-reply Consistency text long = unread-consistency text (λ request is. absurd (omega (arith, is.short, long)))
+long-reply LogQuestions text long = unread-log_questions text (λ request is. absurd (omega (arith, is.short, long)))
+long-reply VerifyQuestions text long =
+    unread-verify_questions text (λ request is. absurd (omega (arith, is.short, long)))
 
 pub vouched-reply : (text : List ℕ) (request : LogRequest) (reply : Reply) → IsReadFrom text (Some request)
-    → IsVerdict request None → IsLoggedReply request reply → IsReply Log text reply
+    → IsLogVerdict request None → IsLoggedReply request reply → IsReply Log text reply
 vouched-reply text request reply is every made =
     every-reply Log text reply (ap (λ (r : Reply). r.status) made.2)
     (λ other other_is. subst (λ (r : LogRequest). IsLoggedReply r reply) (one_request text request other is other_is)
-    made) (every-of_text (IsRequest text) HoldsOf request log_links is every)
+    made) (every-of_text (IsRequest text) HoldsOfLog request log_links is every)
 
 pub refused-reply : (text : List ℕ) (request : LogRequest) (link : Link) → IsReadFrom text (Some request)
-    → IsVerdict request (Some link)
-    → IsReply Log text (refusal link)
+    → IsLogVerdict request (Some link)
+    → IsReply Log text (refusal_reply link)
 refused-reply text request link is first =
     first-reply Log text link
-    (first-of_text (IsRequest text) HoldsOf (one_request text) request log_links link is first)
+    (first-of_text (IsRequest text) HoldsOfLog (one_request text) request log_links link is first)
 
 -- the replies of a call
-unread-replied_by : (text : List ℕ) (r : Result Reply OutOfMemory) → IfOk r (λ reply. reply ≡ refusal Request)
+unread-replied_by : (text : List ℕ) (r : Result Reply OutOfMemory) → IfOk r (λ reply. reply ≡ refusal_reply Request)
     → IsReadFrom text None → IfOk r (IsReply Log text)
 unread-replied_by text (Ok reply) is none = subst (IsReply Log text) (sym is) (unread-reply text none)
 unread-replied_by text (Err memory) is none = tt
 
 pub unread-replied : (text : List ℕ) (found : Option LogRequest) (r : Result Reply OutOfMemory)
-    → IfOk r (λ reply. reply ≡ refusal Request) → found ≡ None → IsReadFrom text found → IfOk r (IsReply Log text)
+    → IfOk r (λ reply. reply ≡ refusal_reply Request) → found ≡ None → IsReadFrom text found → IfOk r
+    (IsReply Log text)
 unread-replied text found r is none read = unread-replied_by text r is (subst (IsReadFrom text) none read)
 
 refused-replied_by : (text : List ℕ) (request : LogRequest) (link : Link) (r : Result Reply OutOfMemory)
-    → IfOk r (λ reply. reply ≡ refusal link) → IsReadFrom text (Some request) → IsVerdict request (Some link)
+    → IfOk r (λ reply. reply ≡ refusal_reply link) → IsReadFrom text (Some request) → IsLogVerdict request (Some link)
     → IfOk r (IsReply Log text)
 refused-replied_by text request link (Ok reply) is read first =
     subst (IsReply Log text) (sym is) (refused-reply text request link read first)
@@ -122,16 +135,16 @@ refused-replied_by text request link (Err memory) is read first = tt
 
 pub refused-replied : (text : List ℕ) (found : Option LogRequest) (request : LogRequest) (verdict : Option Link)
     (link : Link) (r : Result Reply OutOfMemory)
-    → IfOk r (λ reply. reply ≡ refusal link) → found ≡ Some request → IsReadFrom text found → verdict ≡ Some link
-    → IsVerdict request verdict → IfOk r (IsReply Log text)
+    → IfOk r (λ reply. reply ≡ refusal_reply link) → found ≡ Some request → IsReadFrom text found → verdict ≡ Some link
+    → IsLogVerdict request verdict → IfOk r (IsReply Log text)
 refused-replied text found request verdict link r is some read which first =
     refused-replied_by text request link r is (subst (IsReadFrom text) some read)
-    (subst (IsVerdict request) which first)
+    (subst (IsLogVerdict request) which first)
 
 pub vouched-replied : (text : List ℕ) (found : Option LogRequest) (request : LogRequest) (verdict : Option Link)
     (r : Result Reply OutOfMemory)
     → IfOk r (IsLoggedReply request) → found ≡ Some request → IsReadFrom text found → verdict ≡ None
-    → IsVerdict request verdict → IfOk r (IsReply Log text)
+    → IsLogVerdict request verdict → IfOk r (IsReply Log text)
 vouched-replied text found request verdict r made some read none every =
     IfOk-weaker r (IsLoggedReply request) (IsReply Log text) (λ reply. vouched-reply text request reply
-    (subst (IsReadFrom text) some read) (subst (IsVerdict request) none every)) made
+    (subst (IsReadFrom text) some read) (subst (IsLogVerdict request) none every)) made

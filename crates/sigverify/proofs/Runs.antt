@@ -1,15 +1,17 @@
 -- What a run owes, from what it read and what it replied.
 use Rattle.std.proofs.Common.{◌≡◌, ◌<◌, ◌≤◌, ℕ, inl, inr, List, [], ◌∷◌, ◌++◌, Option, Some, None, length, drop, ap}
-use Rattle.std.proofs.Common.{sym, ◌∙◌, refl, subst, arith, get_or, lit<, length-append}
+use Rattle.std.proofs.Common.{sym, ◌∙◌, refl, subst, arith, get_or, lit<, lit≤, length-append}
 use Rattle.std.proofs.lemmas.List.{append-nil, drop_all}
 use Rattle.std.proofs.Math.Seq.{drop-append_seam}
 use Rattle.sig_base.specs.Stream.{HandsOver, TookCount, TakesUpTo, Rose, AppendsFront}
 use Rattle.sig_verify.specs.declared.link.Link.{Link}
 use Rattle.sig_verify.specs.declared.link.Link.TheVariants.{Request}
 use Rattle.sigverify.specs.declared.reply.Reply.{Reply}
-use Rattle.sigverify.specs.Reply.{IsReply, refusal, status_of}
+use Rattle.sigverify.specs.Reply.{IsReply, refusal_reply, status_of}
 use Rattle.sigverify.specs.declared.command.Command.{Command}
-use Rattle.sigverify.specs.Command.{word_of, Names, IsCommand}
+use Rattle.sigverify.specs.declared.command.Command.TheVariants.{Log, Verify, Consistency, LogQuestions}
+use Rattle.sigverify.specs.declared.command.Command.TheVariants.{VerifyQuestions}
+use Rattle.sigverify.specs.Command.{words_of, Names, IsCommand}
 use Rattle.sigverify.specs.Run.{RepliesTo, WriteFaulted, HandsRests, WritesRests, usage_line}
 use Rattle.sigverify.proofs.Replies.{long-reply}
 
@@ -46,10 +48,10 @@ RepliesTo-whole command old new bytes reply all short meant = record {
 
 -- the reply to one that is too long
 pub RepliesTo-long : (command : Command) (old new : Option (List ℕ)) (reply : Reply) → TookCount old new 16777217
-    → reply ≡ refusal Request → RepliesTo command old new reply
+    → reply ≡ refusal_reply Request → RepliesTo command old new reply
 RepliesTo-long command old new reply took refused =
     let long = TakesUpTo-long 16777217 old new took in
-    let meant : IsReply command long.0 (refusal Request) = long-reply command long.0 long.2 in
+    let meant : IsReply command long.0 (refusal_reply Request) = long-reply command long.0 long.2 in
     record { text = long.0; request = long.1; meant = subst (IsReply command long.0) (sym refused) meant }
 
 -- the status of a refusal, and of every reply
@@ -116,15 +118,19 @@ pub WritesRests-reply : (words : List (List ℕ)) (command : Command) (left_old 
 WritesRests-reply words command left_old left_new handed_old handed_new reply named replies rests =
     inr (reply.text, inl (command, named, (reply, replies, refl)), rests)
 
--- words that are not one word name no command
-unnamed : (words : List (List ℕ)) → ((word : List ℕ) → words ≡ word ∷ [] → ⊥) → ¬ IsCommand words
-unnamed words many (command, named) = many (word_of command) named
+-- a command has one word or two
+named-short : (command : Command) → (1 ≤ length (words_of command)) × (length (words_of command) ≤ 2)
+named-short Log = (lit≤ tt, lit≤ tt)
+named-short Verify = (lit≤ tt, lit≤ tt)
+named-short Consistency = (lit≤ tt, lit≤ tt)
+named-short LogQuestions = (lit≤ tt, lit≤ tt)
+named-short VerifyQuestions = (lit≤ tt, lit≤ tt)
 
-pub IsCommand-many : (words : List (List ℕ)) → 2 ≤ length words → ¬ IsCommand words
-IsCommand-many words many = unnamed words (λ word e. omega (arith, many, ap length e))
+pub IsCommand-many : (words : List (List ℕ)) → 3 ≤ length words → ¬ IsCommand words
+IsCommand-many words many (command, named) = omega (arith, many, ap length named, (named-short command).1)
 
 pub IsCommand-none : (words : List (List ℕ)) → length words < 1 → ¬ IsCommand words
-IsCommand-none words few = unnamed words (λ word e. omega (arith, few, ap length e))
+IsCommand-none words few (command, named) = omega (arith, few, ap length named, (named-short command).0)
 
 -- one word, and the test whether it is a name
 pub is_one_word : (words : List (List ℕ)) (word : List ℕ) → word ≡ get_or words 0 word → 1 ≤ length words
@@ -132,6 +138,14 @@ pub is_one_word : (words : List (List ℕ)) (word : List ℕ) → word ≡ get_o
 is_one_word [] word is some few = absurd (omega arith)
 is_one_word (first ∷ []) word is some few = ap (λ w. w ∷ []) (sym is)
 is_one_word (first ∷ second ∷ rest) word is some few = absurd (omega arith)
+
+-- two words, and the test whether they are names
+pub are_two_words : (words : List (List ℕ)) (first second : List ℕ) → first ≡ get_or words 0 first
+    → second ≡ get_or words 1 second → 2 ≤ length words → length words < 3 → words ≡ first ∷ second ∷ []
+are_two_words [] first second is then some few = absurd (omega arith)
+are_two_words (one ∷ []) first second is then some few = absurd (omega arith)
+are_two_words (one ∷ two ∷ []) first second is then some few = cc
+are_two_words (one ∷ two ∷ three ∷ rest) first second is then some few = absurd (omega arith)
 
 pub ruleset runs = (
   RepliesTo-whole,
@@ -144,4 +158,5 @@ pub ruleset runs = (
   IsCommand-many,
   IsCommand-none,
   is_one_word,
+  are_two_words,
 )

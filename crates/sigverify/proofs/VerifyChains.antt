@@ -2,7 +2,7 @@
 use Rattle.std.proofs.Common.{◌≡◌, ℕ, List, [], ◌∷◌, subst}
 use Rattle.std.specs.List.{AllByRecursion}
 use Rattle.sig_verify.proofs.ChainLaws.{all_links_are_the_trust_chain}
-use Rattle.sig_verify.specs.Links.{links as chain_links}
+use Rattle.sig_verify.specs.Links.{chain_links}
 use Rattle.sig_verify.specs.declared.link.Link.{Link}
 use Rattle.sigverify.proofs.Replies.{every-of_text}
 use Rattle.sigverify.specs.VerifyLink.{AllVerifyLinksAreTheTrustChain, HoldsOfVerify, HoldsVerify, IsTrusted}

@@ -4,7 +4,7 @@ use Rattle.std.proofs.Common.{ap, sym, subst, ◌∙◌}
 use Rattle.sig_base.specs.Answers.{UnlessMemory}
 use Rattle.sig_base.specs.declared.memory.OutOfMemory.{OutOfMemory}
 use Rattle.sig_verify.specs.Judged.{Judged}
-use Rattle.sig_verify.specs.Links.{links as chain_links}
+use Rattle.sig_verify.specs.Links.{chain_links}
 use Rattle.sig_verify.specs.OfflineErrors.{link_of}
 use Rattle.sig_verify.specs.declared.link.Link.{Link}
 use Rattle.sig_verify.specs.declared.link.Link.TheVariants.{Request}
@@ -15,7 +15,7 @@ use Rattle.std.proofs.lemmas.Result.{IfOk-weaker}
 use Rattle.sigverify.proofs.Included.{every-included}
 use Rattle.sigverify.proofs.Replies.{every-of_text, every-reply, first-of_text, first-reply, unread-verify}
 use Rattle.sigverify.proofs.VerifyChains.{one_verify_request}
-use Rattle.sigverify.specs.Reply.{IsEntryIn, IsReply, IsVerifiedReply, refusal}
+use Rattle.sigverify.specs.Reply.{IsEntryIn, IsReply, IsVerifiedReply, refusal_reply}
 use Rattle.sigverify.specs.ProofOf.{IsProofOf}
 use Rattle.sigverify.specs.VerifyLink.{HoldsOfVerify, inputs, outside, verify_links}
 use Rattle.sigverify.specs.VerifyRequest.{IsVerifyReadFrom, IsVerifyRequest}
@@ -43,11 +43,12 @@ same_link a b e = cc
 -- the link of the error is the first that fails
 pub refused-verify : (text : List ℕ) (request : VerifyRequest) (error : OfflineError) (link : Link)
     → IsVerifyRequest text request → link_of error ≡ Some link
-    → Judged {A = Offline} (HoldsOfVerify request) chain_links (Err error) → IsReply Verify text (refusal link)
+    → Judged {A = Offline} (HoldsOfVerify request) chain_links (Err error) → IsReply Verify text (refusal_reply link)
 refused-verify text request error link is named judged =
     let same : judged.0 ≡ link = same_link judged.0 link (sym judged.1 ∙ named) in
-    subst (λ (l : Link). IsReply Verify text (refusal l)) same
-    (first-reply Verify text judged.0 (first-of_text (IsVerifyRequest text) HoldsOfVerify (one_verify_request text) request
+    subst (λ (l : Link). IsReply Verify text (refusal_reply l)) same
+    (first-reply Verify text judged.0 (first-of_text (IsVerifyRequest text) HoldsOfVerify
+    (one_verify_request text) request
     verify_links judged.0 is (inr (tt, judged.2))))
 
 -- ---- the replies of a call
@@ -59,10 +60,10 @@ replied text wanted (Ok reply) is meant = subst (IsReply Verify text) (sym is) m
 replied text wanted (Err memory) is meant = tt
 
 pub unread-verify-replied : (text : List ℕ) (found : Option VerifyRequest) (r : Result Reply OutOfMemory)
-    → IfOk r (λ reply. reply ≡ refusal Request) → found ≡ None → IsVerifyReadFrom text found
+    → IfOk r (λ reply. reply ≡ refusal_reply Request) → found ≡ None → IsVerifyReadFrom text found
     → IfOk r (IsReply Verify text)
 unread-verify-replied text found r is none read =
-    replied text (refusal Request) r is (unread-verify text (subst (IsVerifyReadFrom text) none read))
+    replied text (refusal_reply Request) r is (unread-verify text (subst (IsVerifyReadFrom text) none read))
 
 -- what the chain of trust says of a request
 abbrev pub IsChainOf : VerifyRequest → Result Offline OfflineError → Type 0
@@ -104,8 +105,8 @@ verified-replied text found request offline r made some read chain kept =
 
 pub refused-verify-replied : (text : List ℕ) (found : Option VerifyRequest) (request : VerifyRequest)
     (error : OfflineError) (link : Link) (r : Result Reply OutOfMemory)
-    → IfOk r (λ reply. reply ≡ refusal link) → found ≡ Some request → IsVerifyReadFrom text found
+    → IfOk r (λ reply. reply ≡ refusal_reply link) → found ≡ Some request → IsVerifyReadFrom text found
     → link_of error ≡ Some link → IsChainOf request (Err error) → IfOk r (IsReply Verify text)
 refused-verify-replied text found request error link r is some read named chain =
-    replied text (refusal link) r is (refused-verify text request error link
+    replied text (refusal_reply link) r is (refused-verify text request error link
     (subst (IsVerifyReadFrom text) some read) named (chain_failed request error link named chain))

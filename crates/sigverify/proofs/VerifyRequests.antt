@@ -11,7 +11,7 @@ use Rattle.sig_json.specs.declared.error.JsonError.{JsonError}
 use Rattle.sig_json.specs.Record.{record_in, record_with}
 use Rattle.sigverify.specs.DigestText.{digest_kind}
 use Rattle.sigverify.specs.Limit.{most_bytes}
-use Rattle.sigverify.specs.Policy.{policy_of}
+use Rattle.sigverify.specs.Policy.{request_policy_of}
 use Rattle.sigverify.specs.Row.{row_of}
 use Rattle.sigverify.specs.VerifyRequest.{IsVerifyReadFrom, verify_request}
 use Rattle.sigverify.specs.declared.verify_request.VerifyRequest.{VerifyRequest}
@@ -50,7 +50,7 @@ verify_request-only d =
       required-only text_of request_names (codes "bundle") d refl,
       required-only i64_of request_names (codes "now") d refl,
       required-only digest_kind request_names (codes "digest") d refl,
-      required-only policy_of request_names (codes "policy") d refl,
+      required-only request_policy_of request_names (codes "policy") d refl,
       optional_or-only [] (list_each row_of) request_names (codes "accepted") d refl,
       optional_or-only None (λ e. option_map Some (list_each bytes_of e)) request_names (codes "entries") d refl,
     ) refl

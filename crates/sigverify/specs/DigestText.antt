@@ -5,8 +5,8 @@ use Rattle.std.specs.Option.{option_or}
 use Rattle.std.specs.Result.{result_ok}
 use Rattle.hex.specs.Hex.{decode_sized}
 use Rattle.sig_base.specs.OptionSteps.{◌>>=◌}
-use Rattle.sig_dsse.specs.Digest.{algorithm_of, bytes_of}
-use Rattle.sig_dsse.specs.Named.{size_of}
+use Rattle.sig_dsse.specs.Digest.{digest_algorithm, digest_bytes}
+use Rattle.sig_dsse.specs.Named.{digest_len}
 use Rattle.sig_dsse.specs.declared.artifact_digest.ArtifactDigest.{ArtifactDigest}
 use Rattle.sig_dsse.specs.declared.artifact_digest.ArtifactDigest.TheVariants.{Sha256, Sha512}
 use Rattle.sig_json.specs.Data.{Data}
@@ -16,8 +16,8 @@ use Rattle.sig_rekor.specs.Cut.{after_separator}
 -- the text is the algorithm's name, a colon, and the digest's bytes in hexadecimal digits
 pub record IsDigestText (text : List ℕ) (digest : ArtifactDigest) : Type 0 where
   pub digits : List ℕ
-  pub whole : text ≡ algorithm_of digest ++ (codes ":" ++ digits)
-  pub bytes : decode_sized digits (size_of digest) ≡ Ok (bytes_of digest)
+  pub whole : text ≡ digest_algorithm digest ++ (codes ":" ++ digits)
+  pub bytes : decode_sized digits (digest_len digest) ≡ Ok (digest_bytes digest)
 
 -- so many bytes, whose digits are what is after this beginning of the text
 abbrev pub bytes_after : List ℕ → ℕ → List ℕ → Option (List ℕ)

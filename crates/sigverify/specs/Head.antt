@@ -18,8 +18,8 @@ abbrev pub head_links : List Link
 head_links = Checkpoint ∷ NoteKey ∷ NoteMatch ∷ []
 
 -- the row that says that the log's key signed the note
-abbrev pub note_row : SignedHead → SignedCheckpoint → CheckpointSignature → AcceptedRow
-note_row head checkpoint signature = record {
+abbrev pub head_row : SignedHead → SignedCheckpoint → CheckpointSignature → AcceptedRow
+head_row head checkpoint signature = record {
   operation = Message;
   scheme = name_of (scheme_of head.scheme);
   key = head.key;
@@ -28,23 +28,23 @@ note_row head checkpoint signature = record {
 }
 
 -- one of the signatures over the note text is accepted under the log's scheme and key
-abbrev pub IsSigned : SignedHead → SignedCheckpoint → Type 0
-IsSigned head checkpoint =
-    Any (λ signature. Contains head.accepted (note_row head checkpoint signature)) checkpoint.signatures
+abbrev pub HasAcceptedSignature : SignedHead → SignedCheckpoint → Type 0
+HasAcceptedSignature head checkpoint =
+    Any (λ signature. Contains head.accepted (head_row head checkpoint signature)) checkpoint.signatures
 
 -- the note speaks of a tree of this size and root
 abbrev pub IsMatched : ℕ → List ℕ → SignedCheckpoint → Type 0
 IsMatched size root checkpoint = (checkpoint.note.size ≡ size) × (checkpoint.note.hash ≡ root)
 
 -- a link on the checkpoint: it has a reading, and this holds of it
-abbrev pub OfCheckpoint : SignedHead → (SignedCheckpoint → Type 0) → Type 0
-OfCheckpoint head P = (checkpoint : SignedCheckpoint) × IsCheckpoint head.checkpoint checkpoint × P checkpoint
+abbrev pub OfHeadCheckpoint : SignedHead → (SignedCheckpoint → Type 0) → Type 0
+OfHeadCheckpoint head P = (checkpoint : SignedCheckpoint) × IsCheckpoint head.checkpoint checkpoint × P checkpoint
 
 -- what a link asks of the head of a tree of this size and root, of which all links before it hold
 abbrev pub HoldsOfHead : SignedHead → ℕ → List ℕ → Link → Type 0
-HoldsOfHead head size root Checkpoint = OfCheckpoint head (λ _. Unit {0})
-HoldsOfHead head size root NoteKey = OfCheckpoint head (IsSigned head)
-HoldsOfHead head size root NoteMatch = OfCheckpoint head (IsMatched size root)
+HoldsOfHead head size root Checkpoint = OfHeadCheckpoint head (λ _. Unit {0})
+HoldsOfHead head size root NoteKey = OfHeadCheckpoint head (HasAcceptedSignature head)
+HoldsOfHead head size root NoteMatch = OfHeadCheckpoint head (IsMatched size root)
 HoldsOfHead head size root other = Unit {0}
 
 -- the first failing link of a head, or none
@@ -54,8 +54,9 @@ IsHeadVerdict head size root (Some link) = FailsFirst (HoldsOfHead head size roo
 
 -- the first failing link behind the checkpoint, or none, where this is the checkpoint's reading
 abbrev pub IsHeadVerdictUnder : SignedHead → ℕ → List ℕ → SignedCheckpoint → Option Link → Type 0
-IsHeadVerdictUnder head size root checkpoint None = IsSigned head checkpoint × IsMatched size root checkpoint
-IsHeadVerdictUnder head size root checkpoint (Some NoteKey) = ¬ IsSigned head checkpoint
+IsHeadVerdictUnder head size root checkpoint None = HasAcceptedSignature head checkpoint
+    × IsMatched size root checkpoint
+IsHeadVerdictUnder head size root checkpoint (Some NoteKey) = ¬ HasAcceptedSignature head checkpoint
 IsHeadVerdictUnder head size root checkpoint (Some NoteMatch) =
-    IsSigned head checkpoint × ¬ IsMatched size root checkpoint
+    HasAcceptedSignature head checkpoint × ¬ IsMatched size root checkpoint
 IsHeadVerdictUnder head size root checkpoint (Some other) = ⊥

@@ -5,13 +5,17 @@ pub mod DigestText
 pub mod Head
 pub mod Limit
 pub mod Link
+pub mod LogQuestions
 pub mod Policy
 pub mod Reply
 pub mod Request
 pub mod Row
+pub mod RowsText
 pub mod Run
 pub mod Status
+pub mod Suffice
 pub mod VerifyLink
+pub mod VerifyQuestions
 pub mod VerifyRequest
 pub mod ProofOf
 pub mod SecondLine

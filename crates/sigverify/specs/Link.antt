@@ -3,7 +3,8 @@ use Rattle.std.specs.Prelude.{ℕ, List, [], ◌∷◌, Option, Some, None}
 use Rattle.std.specs.List.{AllByRecursion}
 use Rattle.sig_base.specs.Rules.{FailsFirst}
 use Rattle.sigverify.specs.declared.command.Command.{Command}
-use Rattle.sigverify.specs.declared.command.Command.TheVariants.{Log, Verify, Consistency}
+use Rattle.sigverify.specs.declared.command.Command.TheVariants.{Log, Verify, Consistency, LogQuestions}
+use Rattle.sigverify.specs.declared.command.Command.TheVariants.{VerifyQuestions}
 use Rattle.sig_verify.specs.declared.link.Link.{Link}
 use Rattle.sig_verify.specs.declared.link.Link.TheVariants.{Request, Checkpoint, NoteKey, NoteMatch, Inclusion}
 use Rattle.sigverify.specs.declared.request.LogRequest.{LogRequest}
@@ -12,6 +13,8 @@ use Rattle.sigverify.specs.ProofOf.{IsProofOf}
 use Rattle.sigverify.specs.Request.{IsRequest}
 use Rattle.sigverify.specs.VerifyLink.{HoldsVerify, verify_links}
 use Rattle.sigverify.specs.ConsistencyLink.{HoldsConsistency, consistency_links}
+use Rattle.sigverify.specs.LogQuestions.{HoldsLogQuestions, log_question_links}
+use Rattle.sigverify.specs.VerifyQuestions.{HoldsVerifyQuestions, verify_question_links}
 
 -- the links of `log`
 abbrev pub log_links : List Link
@@ -21,6 +24,8 @@ abbrev pub links : Command → List Link
 links Log = log_links
 links Verify = verify_links
 links Consistency = consistency_links
+links LogQuestions = log_question_links
+links VerifyQuestions = verify_question_links
 
 -- the proof is one of the entry
 abbrev pub IsLogged : LogRequest → Type 0
@@ -31,18 +36,20 @@ abbrev pub HoldsOfLogHead : LogRequest → Link → Type 0
 HoldsOfLogHead request = HoldsOfHead request.head request.proof.tree_size request.proof.root_hash
 
 -- what a link asks of a request of `log`, of which all links before it hold
-abbrev pub HoldsOf : LogRequest → Link → Type 0
-HoldsOf request Checkpoint = HoldsOfLogHead request Checkpoint
-HoldsOf request NoteKey = HoldsOfLogHead request NoteKey
-HoldsOf request NoteMatch = HoldsOfLogHead request NoteMatch
-HoldsOf request Inclusion = IsLogged request
-HoldsOf request other = Unit {0}
+abbrev pub HoldsOfLog : LogRequest → Link → Type 0
+HoldsOfLog request Checkpoint = HoldsOfLogHead request Checkpoint
+HoldsOfLog request NoteKey = HoldsOfLogHead request NoteKey
+HoldsOfLog request NoteMatch = HoldsOfLogHead request NoteMatch
+HoldsOfLog request Inclusion = IsLogged request
+HoldsOfLog request other = Unit {0}
 
 -- a link holds of a text: the text is a request of the command, and the link holds of it
 abbrev pub Holds : Command → List ℕ → Link → Type 0
-Holds Log text link = (request : LogRequest) × IsRequest text request × HoldsOf request link
+Holds Log text link = (request : LogRequest) × IsRequest text request × HoldsOfLog request link
 Holds Verify text link = HoldsVerify text link
 Holds Consistency text link = HoldsConsistency text link
+Holds LogQuestions text link = HoldsLogQuestions text link
+Holds VerifyQuestions text link = HoldsVerifyQuestions text link
 
 -- every link of the command holds of a text
 abbrev pub EveryLinkHolds : Command → List ℕ → Type 0
@@ -53,6 +60,6 @@ abbrev pub IsFirstFailing : Command → List ℕ → Link → Type 0
 IsFirstFailing command text link = FailsFirst (Holds command text) (links command) link
 
 -- the first failing link of a request, or none
-abbrev pub IsVerdict : LogRequest → Option Link → Type 0
-IsVerdict request None = AllByRecursion (HoldsOf request) log_links
-IsVerdict request (Some link) = FailsFirst (HoldsOf request) log_links link
+abbrev pub IsLogVerdict : LogRequest → Option Link → Type 0
+IsLogVerdict request None = AllByRecursion (HoldsOfLog request) log_links
+IsLogVerdict request (Some link) = FailsFirst (HoldsOfLog request) log_links link

@@ -92,7 +92,7 @@ rules_under name other d = do
   absent ← optional no_kind other d
   at_least_one rules
 
-unfoldable pub policy_of : Data → Option RequestPolicy
-policy_of d =
+unfoldable pub request_policy_of : Data → Option RequestPolicy
+request_policy_of d =
     option_or (option_map All (rules_under (codes "all") (codes "any") d))
     (option_map Any (rules_under (codes "any") (codes "all") d))

@@ -1,9 +1,12 @@
 -- The reply to a request.
-use Rattle.std.specs.Prelude.{◌≡◌, ℕ, ◌⊎◌, ◌↔◌, List, ◌++◌, codes, decimal}
+use Rattle.std.specs.Prelude.{◌≡◌, ℕ, ◌<◌, ◌≤◌, ◌⊎◌, ◌↔◌, List, ◌++◌, length, codes, decimal, Contains}
 use Rattle.std.specs.Fmt.{signed_decimal}
 use Rattle.sig_rekor.specs.declared.inclusion_proof.InclusionProof.{InclusionProof}
 use Rattle.sigverify.specs.declared.command.Command.{Command}
-use Rattle.sigverify.specs.declared.command.Command.TheVariants.{Log, Verify, Consistency}
+use Rattle.sigverify.specs.declared.command.Command.TheVariants.{Log, Verify, Consistency, LogQuestions}
+use Rattle.sigverify.specs.declared.command.Command.TheVariants.{VerifyQuestions}
+use Rattle.sig_questions.specs.Asked.{IsAskedBy}
+use Rattle.sig_questions.specs.Questions.{AreQuestions}
 use Rattle.sig_verify.specs.Link.{link_name}
 use Rattle.sig_verify.specs.LinkLaws.{IsKept}
 use Rattle.sig_verify.specs.Links.{OfPassed}
@@ -20,6 +23,10 @@ use Rattle.sigverify.specs.VerifyLink.{inputs}
 use Rattle.sigverify.specs.VerifyRequest.{IsVerifyRequest}
 use Rattle.sigverify.specs.declared.verify_request.VerifyRequest.{VerifyRequest}
 use Rattle.sigverify.specs.Link.{EveryLinkHolds, IsFirstFailing}
+use Rattle.sig_base.specs.declared.checker.AcceptedRow.{AcceptedRow}
+use Rattle.sigverify.specs.Limit.{most_bytes}
+use Rattle.sigverify.specs.LogQuestions.{AreLogQuestions}
+use Rattle.sigverify.specs.RowsText.{IsReadBack, rows_text}
 
 -- status 2 for the link `request`, 1 for every other
 abbrev pub status_of : Link → ℕ
@@ -27,8 +34,8 @@ status_of Request = 2
 status_of other = 1
 
 -- the reply where this link is the first that fails
-abbrev pub refusal : Link → Reply
-refusal link = record { status = status_of link; text = codes "refused " ++ (link_name link ++ codes "\n") }
+abbrev pub refusal_reply : Link → Reply
+refusal_reply link = record { status = status_of link; text = codes "refused " ++ (link_name link ++ codes "\n") }
 
 -- the reply where every link holds: the index and the size of the inclusion proof, and the second line
 abbrev pub success : List ℕ → InclusionProof → List ℕ → Reply
@@ -70,9 +77,34 @@ consistent request = record {
       (codes " " ++ (decimal request.tree_size ++ codes "\n")));
 }
 
+-- the reply of `questions`: the document of the signatures that are asked for, and a newline
+abbrev pub listed : List ℕ → Reply
+listed document = record { status = 0; text = document ++ codes "\n" }
+
+-- the reply to a request that asks for these signatures: their document, which is read back as them, if it has at most
+-- as many bytes as a request may have
+abbrev pub IsListingOf : List AcceptedRow → Reply → Type 0
+IsListingOf rows reply =
+    ((length (rows_text rows) ≤ most_bytes) × IsReadBack rows × (reply ≡ listed (rows_text rows)))
+    ⊎ ((most_bytes < length (rows_text rows)) × (reply ≡ refusal_reply Request))
+
+-- the reply lists the signatures that a request of `log` asks for, and is read back as them
+abbrev pub IsLogQuestionsReply : LogRequest → Reply → Type 0
+IsLogQuestionsReply request reply =
+    (rows : List AcceptedRow) × AreLogQuestions request rows × IsReadBack rows × (reply ≡ listed (rows_text rows))
+
+-- the reply lists the signatures that the links of a request of `verify` ask for, each of them and no other, in the
+-- order of the links, and is read back as them
+abbrev pub IsVerifyQuestionsReply : VerifyRequest → Reply → Type 0
+IsVerifyQuestionsReply request reply =
+    (rows : List AcceptedRow) × AreQuestions (inputs request) rows
+    × ((row : AcceptedRow) → Contains rows row ↔ IsAskedBy (inputs request) row)
+    × IsReadBack rows × (reply ≡ listed (rows_text rows))
+
 -- the reply of a command to a text of which every link holds: `log` shows the proof of the one request that the text
 -- is, `verify` that of the log entry of its bundle, and `consistency` the two sizes of its request; behind a proof,
--- where the request gives the log's entries, comes the second line
+-- where the request gives the log's entries, comes the second line; `questions` lists the signatures that the
+-- command asks for
 abbrev pub Succeeds : Command → List ℕ → Reply → Type 0
 Succeeds Log text reply =
     (request : LogRequest) → IsRequest text request → IsLoggedReply request reply
@@ -81,6 +113,10 @@ Succeeds Verify text reply =
     → (offline : Offline) × IsEntryIn request offline × IsVerifiedReply request offline reply
 Succeeds Consistency text reply =
     (request : ConsistencyRequest) → IsConsistencyRequest text request → reply ≡ consistent request
+Succeeds LogQuestions text reply =
+    (request : LogRequest) → IsRequest text request → IsLogQuestionsReply request reply
+Succeeds VerifyQuestions text reply =
+    (request : VerifyRequest) → IsVerifyRequest text request → IsVerifyQuestionsReply request reply
 
 -- the reply to a request's text: the success line if and only if every link of the command holds, else the first link
 -- that fails
@@ -88,4 +124,4 @@ pub record IsReply (command : Command) (text : List ℕ) (reply : Reply) : Type 
   pub decided : EveryLinkHolds command text ⊎ ((link : Link) × IsFirstFailing command text link)
   pub succeeds : (reply.status ≡ 0) ↔ EveryLinkHolds command text
   pub vouched : EveryLinkHolds command text → Succeeds command text reply
-  pub refused : (link : Link) → IsFirstFailing command text link → reply ≡ refusal link
+  pub refused : (link : Link) → IsFirstFailing command text link → reply ≡ refusal_reply link

@@ -6,7 +6,7 @@ use Rattle.sig_base.specs.Checker.{accepted}
 use Rattle.sig_base.specs.Scheme.{name_of}
 use Rattle.sig_base.specs.declared.checker.Operation.TheVariants.{Message, Prehash, Point, Certificate}
 use Rattle.sig_policy.specs.Requests.{request_holds, request_refusal}
-use Rattle.sig_verify.specs.Links.{HoldsOf as HoldsOfInputs, Inputs, Outside, links as chain_links}
+use Rattle.sig_verify.specs.Links.{HoldsOf as HoldsOfInputs, Inputs, Outside, chain_links}
 use Rattle.sig_verify.specs.TrustChain.{IsValid, TrustChain}
 use Rattle.sig_verify.specs.Verdict.{Checker, PolicyOf}
 use Rattle.sig_verify.specs.declared.link.Link.{Link}

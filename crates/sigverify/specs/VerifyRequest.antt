@@ -6,7 +6,7 @@ use Rattle.sig_json.specs.Document.{document_of}
 use Rattle.sig_json.specs.Member.{optional, optional_list, required, required_i64, required_text}
 use Rattle.sigverify.specs.DigestText.{digest_kind}
 use Rattle.sigverify.specs.Limit.{most_bytes}
-use Rattle.sigverify.specs.Policy.{policy_of}
+use Rattle.sigverify.specs.Policy.{request_policy_of}
 use Rattle.sigverify.specs.Row.{entries_of, row_of}
 use Rattle.sigverify.specs.declared.verify_request.VerifyRequest.{VerifyRequest}
 
@@ -17,7 +17,7 @@ verify_request d = do
   bundle ← required_text (codes "bundle") d
   now ← required_i64 (codes "now") d
   digest ← required digest_kind (codes "digest") d
-  policy ← required policy_of (codes "policy") d
+  policy ← required request_policy_of (codes "policy") d
   accepted ← optional_list row_of (codes "accepted") d
   entries ← optional entries_of (codes "entries") d
   Some (record {

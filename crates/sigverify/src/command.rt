@@ -13,10 +13,14 @@ pub enum Command {
     Verify,
     /// `consistency`: does the log still have the entries that it had?
     Consistency,
+    /// `questions log`: which signatures can the reply of `log` rest on?
+    LogQuestions,
+    /// `questions verify`: which signatures can the reply of `verify` rest on?
+    VerifyQuestions,
 }
 
 impl Command {
-    /// Returns the command that the words name, by one word; `None` if and only if they name none. It takes no memory.
+    /// Returns the command that the words name; `None` if and only if they name none. It takes no memory.
     #[tactic(auto, using(crate::proofs::Runs::runs))]
     pub fn named(words: &[Text]) -> Option<Command>
         ensures { MatchOption result (¬ IsCommand words.now) (Names words.now) }
@@ -26,6 +30,11 @@ impl Command {
                 "log" => Some(Command::Log),
                 "verify" => Some(Command::Verify),
                 "consistency" => Some(Command::Consistency),
+                _ => None,
+            },
+            [first, second] => match (first.as_str(), second.as_str()) {
+                ("questions", "log") => Some(Command::LogQuestions),
+                ("questions", "verify") => Some(Command::VerifyQuestions),
                 _ => None,
             },
             _ => None,

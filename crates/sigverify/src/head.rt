@@ -1,6 +1,6 @@
 //! The head of a log that a request gives: the checkpoint that is to vouch for the size and root of its tree.
 ghost use Rattle.std.specs.Prelude.{◌↔◌, IfOk, IsTrue};
-ghost use Rattle.sigverify.specs.Head.{IsHeadVerdict, IsHeadVerdictUnder, IsMatched, IsSigned};
+ghost use Rattle.sigverify.specs.Head.{IsHeadVerdict, IsHeadVerdictUnder, IsMatched, HasAcceptedSignature};
 
 use sig_base::{Bytes, OutOfMemory, SigningScheme, SigstoreError, TableChecker, Text};
 use sig_key::CosignVerificationKey;
@@ -47,7 +47,7 @@ fn failing_link_under(
 ) -> Result<Option<Link>, OutOfMemory>
     ensures { IfOk result (IsHeadVerdictUnder head.now size root.now checkpoint.now) }
 {
-    if !is_signed(alloc, head, checkpoint)? {
+    if !has_accepted_signature(alloc, head, checkpoint)? {
         return Ok(Some(Link::NoteKey));
     }
     if !is_matched(size, root, checkpoint) {
@@ -57,12 +57,12 @@ fn failing_link_under(
 }
 
 /// Whether one of the checkpoint's signatures over its note is accepted under the log's scheme and key.
-fn is_signed(
+fn has_accepted_signature(
     alloc: Global,
     head: &SignedHead,
     checkpoint: &SignedCheckpoint,
 ) -> Result<bool, OutOfMemory>
-    ensures { IfOk result (λ signed. IsTrue signed ↔ IsSigned head.now checkpoint.now) }
+    ensures { IfOk result (λ signed. IsTrue signed ↔ HasAcceptedSignature head.now checkpoint.now) }
 {
     let der = head.key.as_slice();
     // Both calls fail otherwise only if out of memory.

@@ -10,6 +10,8 @@ sigverify - decides without a network whether a signed artifact may be trusted
 usage: sigverify log < REQUEST
        sigverify verify < REQUEST
        sigverify consistency < REQUEST
+       sigverify questions log < REQUEST
+       sigverify questions verify < REQUEST
        sigverify --help | --version
 
 commands:
@@ -63,6 +65,16 @@ commands:
            consistent OLD NEW  the log of now begins with all entries of then
            refused LINK        the first that fails: request, checkpoint,
                                note-key, note-match or consistency
+
+  questions log, questions verify
+         Which signatures can the reply of log, or of verify, rest on? The
+         request is the command's own, and its accepted is ignored. The reply is
+         a JSON list in the form of accepted, of every signature that has to be
+         checked; or
+           refused LINK        the first that fails whatever is accepted; request
+                               also for a list of more than 2^24 bytes
+         Those that are genuine are what accepted needs: no other signature
+         matters.
 
 docs/LINKS.md says of each link what was tested, and what to look at first.
 

@@ -1,6 +1,6 @@
 //! The command `log`: is this entry in the log, and does the log vouch for it?
 ghost use Rattle.std.specs.Prelude.{◌↔◌, IfOk, IsTrue};
-ghost use Rattle.sigverify.specs.Link.{IsLogged, IsVerdict};
+ghost use Rattle.sigverify.specs.Link.{IsLogged, IsLogVerdict};
 ghost use Rattle.sigverify.specs.Reply.{IsLoggedReply, IsReply};
 ghost use Rattle.sigverify.specs.declared.command.Command.TheVariants.{Log};
 
@@ -46,7 +46,7 @@ fn logged(alloc: Global, request: &LogRequest) -> Result<Reply, OutOfMemory>
 /// The first link that fails of a request, or none.
 #[tactic(auto, using(crate::proofs::LogVerdicts::verdicts))]
 fn failing_link(alloc: Global, request: &LogRequest) -> Result<Option<Link>, OutOfMemory>
-    ensures { IfOk result (IsVerdict request.now) }
+    ensures { IfOk result (IsLogVerdict request.now) }
 {
     let proof = &request.proof;
     if let Some(link) = failing_link_of(alloc, &request.head, proof.tree_size, &proof.root_hash)? {

@@ -10,18 +10,22 @@ mod consistency_request;
 mod digest_text;
 mod head;
 mod help;
+mod laws;
 mod log;
+mod log_questions;
 mod policy_rule;
 mod read;
 mod reply;
 mod request;
 mod row;
+mod rows_text;
 mod run;
 mod second_line;
 mod std_stream;
 #[cfg(test)]
 mod tests;
 mod verify;
+mod verify_questions;
 mod verify_request;
 #[cfg(test)]
 mod verify_tests;

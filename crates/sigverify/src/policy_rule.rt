@@ -9,7 +9,7 @@ ghost use Rattle.sig_base.specs.Answers.{Answers};
 ghost use Rattle.sig_json.specs.Data.{Data};
 ghost use Rattle.sig_json.specs.OrMember.{or_member};
 ghost use Rattle.sig_json.specs.Tree.{tree};
-ghost use Rattle.sigverify.specs.Policy.{exactly_one, issuer_policy, one_at_most, one_of_five, policy_of};
+ghost use Rattle.sigverify.specs.Policy.{exactly_one, issuer_policy, one_at_most, one_of_five, request_policy_of};
 ghost use Rattle.sigverify.specs.Policy.{name_is, ref_is, repository_is, rule_of, rules_under, sha_is, trigger_is};
 ghost use Rattle.sigverify.specs.Policy.{workflow_policy};
 
@@ -198,9 +198,9 @@ pub enum PolicyReader {}
 impl ElementReader for PolicyReader {
     type Item = RequestPolicy;
 
-    ghost meaning = { policy_of };
+    ghost meaning = { request_policy_of };
 
-    #[tactic(auto, unfolding(crate::specs::Policy::policy_of))]
+    #[tactic(auto, unfolding(crate::specs::Policy::request_policy_of))]
     fn read(alloc: Global, json: Json<'_>) -> Result<RequestPolicy, MemberError> {
         match rules_under(alloc, json, "all", "any") {
             Ok(rules) => Ok(RequestPolicy::All(rules)),

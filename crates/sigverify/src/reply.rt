@@ -18,12 +18,12 @@ pub struct Reply {
 }
 
 impl Reply {
-    ghost use Rattle.sigverify.specs.Reply.{consistent, logged, refusal, verified};
+    ghost use Rattle.sigverify.specs.Reply.{consistent, listed, logged, refusal_reply, verified};
 
     /// Returns `refused NAME`, for the first link that fails, with status 2 for the link `request`, else 1. Fails if
     /// out of memory alone.
     pub fn refused(alloc: Global, link: Link) -> Result<Reply, OutOfMemory>
-        ensures { IfOk result (λ reply. reply ≡ refusal link) }
+        ensures { IfOk result (λ reply. reply ≡ refusal_reply link) }
     {
         let status = match link {
             Link::Request => 2,
@@ -73,6 +73,15 @@ impl Reply {
         let old = request.old_size;
         let new = request.tree_size;
         let text = Text::from(format!(in alloc; "consistent {old} {new}\n")?);
+        Ok(Reply { status: 0, text })
+    }
+
+    /// Returns the document of a list of signatures, and a newline, with status 0. Fails if out of memory alone.
+    pub fn listed(alloc: Global, document: &Text) -> Result<Reply, OutOfMemory>
+        ensures { IfOk result (λ reply. reply ≡ listed document.now) }
+    {
+        let document = document.as_str();
+        let text = Text::from(format!(in alloc; "{document}\n")?);
         Ok(Reply { status: 0, text })
     }
 }

@@ -8,13 +8,18 @@ ghost use Rattle.sigverify.specs.Reply.{IsReply};
 ghost use Rattle.sigverify.specs.Run.{RepliesTo, Answered, ReadFaulted, WriteFaulted, HandsRests, WritesRests};
 ghost use Rattle.sigverify.specs.Run.{usage_line};
 ghost use Rattle.sigverify.specs.Status.{usage_status, memory_status, fault_status};
+ghost use Rattle.sigverify.specs.Suffice.{LogQuestionsSuffice, VerifyQuestionsSuffice};
+ghost use Rattle.sigverify.specs.VerifyQuestions.{RefusesForAll};
 
 use crate::command::Command;
 use crate::consistency::consistency_reply;
+use crate::laws::lists;
 use crate::log::log_reply;
+use crate::log_questions::log_questions;
 use crate::read::{ReadFault, read_request};
 use crate::reply::{Reply, USAGE_LINE};
 use crate::verify::verify_reply;
+use crate::verify_questions::verify_questions;
 use crate::write::write_reply;
 use sig_base::{OutOfMemory, Sink, Source, Text};
 use sig_verify::Link;
@@ -54,8 +59,14 @@ impl From<OutOfMemory> for NoReply {
 /// command holds, else `refused NAME` for the first that fails, with status 1, or 2 for the link `request`. With
 /// status 0 of `log` or `verify` a second line follows if the request gives the log's entries: if they have the size
 /// and the RFC 6962 root of the proof, `entry I`, and the logged body is the entry at the index I, or
-/// `collision HEX HEX`, two different byte strings of equal SHA-256; else `other list`. The reply is whole before its
-/// first byte is written, and each write is handed all that is left of it. Other statuses:
+/// `collision HEX HEX`, two different byte strings of equal SHA-256; else `other list`.
+///
+/// `questions log` and `questions verify` read a request of `log` or `verify`, and list the signatures that its reply
+/// can rest on, as a JSON list in the form of `accepted`, with status 0; else `refused NAME` for the first link that
+/// fails whatever signatures are accepted, and `refused request` for a list that has more than 2^24 bytes.
+///
+/// The reply is whole before its first byte is written, and each write is handed all that is left of it. Other
+/// statuses:
 ///
 /// - 64: the words name no command. Nothing is read, no memory is taken (no call on the way has the allocator), and
 ///   `usage` is written.
@@ -82,7 +93,16 @@ pub fn run<S: Source, K: Sink>(alloc: Global, words: &[Text], source: &mut S, si
     ensures pieces { WritesRests words.now (S.left source.old) (S.left source.new) (K.handed sink.old)
         (K.handed sink.new) }
     ensures later { (S.faults source.old ≤ S.faults source.new) × (K.faults sink.old ≤ K.faults sink.new) }
+
+    // Nothing else matters: of the accepted signatures of a request of `log`, those decide its reply that
+    // `questions log` lists, and of a request of `verify` those that `questions verify` lists.
+    ensures suffice { LogQuestionsSuffice × VerifyQuestionsSuffice }
+
+    // A link other than `request` is the first that fails in `questions verify` if and only if it is the first that
+    // fails in `verify`, whatever signatures are accepted and whatever the policy says.
+    ensures refusals { RefusesForAll }
 {
+    lists();
     let Some(command) = Command::named(words) else {
         return finish(sink, USAGE, USAGE_LINE.as_bytes());
     };
@@ -117,6 +137,8 @@ fn reply_of(alloc: Global, command: Command, request: &[u8]) -> Result<Reply, Ou
         Command::Log => log_reply(alloc, request),
         Command::Verify => verify_reply(alloc, request),
         Command::Consistency => consistency_reply(alloc, request),
+        Command::LogQuestions => log_questions(alloc, request),
+        Command::VerifyQuestions => verify_questions(alloc, request),
     }
 }
 

@@ -14,6 +14,11 @@ const FIRST: &str = r#"{"entry":"TDEyMzQ1Ng==","logIndex":0,"treeSize":1,
 {"operation":"message","scheme":"ECDSA_P256_SHA256_ASN1","key":"a2V5",
 "message":"bG9nLmV4YW1wbGUKMQpPVnFnWktwTUtmY0JDcy9qOGwyNVNGdTlTNUdKZTJyWHJWUjJPU1VyVFZZPQo=","signature":"c2ln"}]}"#;
 
+/// What `questions log` lists of it.
+const LISTED: &str = "[{\"key\":\"a2V5\",\
+\"message\":\"bG9nLmV4YW1wbGUKMQpPVnFnWktwTUtmY0JDcy9qOGwyNVNGdTlTNUdKZTJyWHJWUjJPU1VyVFZZPQo=\",\
+\"operation\":\"message\",\"scheme\":\"ECDSA_P256_SHA256_ASN1\",\"signature\":\"c2ln\"}]\n";
+
 /// What a run over these bytes returns, writes and leaves unread, up to a few bytes.
 #[derive(Drop)]
 struct Ran {
@@ -58,7 +63,7 @@ fn run_over(alloc: Global, words: &str, held: Bytes, streams: Streams) -> Result
     let words = words_of(alloc, words)?;
     let pieces = (streams.source_piece.max(1), streams.sink_piece.max(1));
     let mut source = MemorySource::new(held, pieces.0, call_of(alloc, streams.source_fails)?);
-    let mut sink = MemorySink::new(alloc, 64, pieces.1, call_of(alloc, streams.sink_fails)?)?;
+    let mut sink = MemorySink::new(alloc, 256, pieces.1, call_of(alloc, streams.sink_fails)?)?;
     let status = run(alloc, words.as_slice(), &mut source, &mut sink);
     let mut few = [0; 16];
     let left = source.read(&mut few).unwrap_or(99);
@@ -93,6 +98,13 @@ fn a_request_of_full_size_is_read(rt: HostRuntime) -> Result<(), Fail> {
 }
 
 #[test]
+fn the_signature_of_the_checkpoint_is_listed(rt: HostRuntime) -> Result<(), Fail> {
+    let held = Bytes::copy_of(rt.alloc(), FIRST.as_bytes())?;
+    assert!(rt; run_over(rt.alloc(), "questions log", held, STEADY)?.is(0, LISTED, 0));
+    Ok(())
+}
+
+#[test]
 fn no_byte_past_the_limit_is_read(rt: HostRuntime) -> Result<(), Fail> {
     let held = padded(rt.alloc(), READ_LIMIT)?;
     assert!(rt; run_over(rt.alloc(), "log", held, STEADY)?.is(2, "refused request\n", 0));
@@ -104,7 +116,7 @@ fn no_byte_past_the_limit_is_read(rt: HostRuntime) -> Result<(), Fail> {
 #[test]
 fn other_words_are_a_usage_error(rt: HostRuntime) -> Result<(), Fail> {
     let alloc = rt.alloc();
-    for words in ",log x,log verify,LOG,--help".split(',') {
+    for words in ",log x,log verify,LOG,questions,questions x,--help".split(',') {
         let held = Bytes::copy_of(alloc, b"12345")?;
         assert!(rt; run_over(alloc, words, held, STEADY)?.is(64, "usage\n", 5));
     }

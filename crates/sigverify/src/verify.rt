@@ -2,7 +2,7 @@
 ghost use Rattle.std.specs.Prelude.{◌≡◌, ◌↔◌, IfOk};
 ghost use Rattle.sig_base.specs.Answers.{UnlessMemory};
 ghost use Rattle.sig_verify.specs.Judged.{Judged};
-ghost use Rattle.sig_verify.specs.Links.{links as chain_links};
+ghost use Rattle.sig_verify.specs.Links.{chain_links};
 ghost use Rattle.sigverify.specs.Link.{EveryLinkHolds};
 ghost use Rattle.sigverify.specs.Reply.{IsEntryIn, IsReply, IsVerifiedReply};
 ghost use Rattle.sigverify.specs.ProofOf.{IsProofOf};
@@ -11,7 +11,7 @@ ghost use Rattle.sigverify.specs.declared.command.Command.TheVariants.{Verify};
 
 use crate::reply::Reply;
 use crate::second_line::second_line;
-use crate::verify_request::VerifyRequest;
+use crate::verify_request::{VerifyRequest, time_of};
 use sig_base::OutOfMemory;
 use sig_verify::{Link, Offline, OfflineError, verify_offline};
 use std::alloc::Global;
@@ -74,11 +74,4 @@ fn verify_chain(alloc: Global, request: &VerifyRequest) -> Result<Offline, Offli
         &request.policy,
         &request.accepted,
     )
-}
-
-/// The time of the request, in whole seconds since 1970.
-fn time_of(request: &VerifyRequest) -> i64
-    ensures { result ≡ request.entry.now.now }
-{
-    request.now
 }

@@ -11,7 +11,7 @@
 //!   "entries": null
 //! }
 //! ```
-ghost use Rattle.std.specs.Prelude.{IfOk};
+ghost use Rattle.std.specs.Prelude.{◌≡◌, IfOk};
 ghost use Rattle.sig_base.specs.Answers.{Answers};
 ghost use Rattle.sig_json.specs.Record.{record_in};
 ghost use Rattle.sigverify.specs.VerifyRequest.{verify_request};
@@ -116,4 +116,11 @@ impl VerifyRequest {
             Err(JsonError::OutOfMemory) => Err(OutOfMemory),
         }
     }
+}
+
+/// The time of the request, in whole seconds since 1970.
+pub fn time_of(request: &VerifyRequest) -> i64
+    ensures { result ≡ request.entry.now.now }
+{
+    request.now
 }

@@ -7,8 +7,8 @@ use sig_cases::{Answer, Arguments, CaseError};
 use sig_verify::{VerificationResult, Verifier};
 use std::alloc::Global;
 
-/// `verify NOW BYTES PIECE FAILING POLICY ROOT BUNDLE ROW ..`, of a source that gives the bytes in pieces, and whose call
-/// with the number `FAILING` fails: `ok`, or the error.
+/// `verify NOW BYTES PIECE FAILING POLICY ROOT BUNDLE ROW ..`, of a source that gives the bytes in pieces, and whose
+/// call with the number `FAILING` fails: `ok`, or the error.
 pub(crate) fn source_answer(
     alloc: Global,
     arguments: &mut Arguments<'_>,

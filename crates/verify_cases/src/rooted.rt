@@ -52,8 +52,8 @@ pub(crate) fn entry_answer(
     }
 }
 
-/// The trust root of the next arguments, `CERTIFICATES KEYS KEYS`: those of the authorities, a list, and the keys of logs
-/// and of Certificate Transparency logs.
+/// The trust root of the next arguments, `CERTIFICATES KEYS KEYS`: those of the authorities, a list, and the keys of
+/// logs and of Certificate Transparency logs.
 pub(crate) fn root(
     alloc: Global,
     arguments: &mut Arguments<'_>,

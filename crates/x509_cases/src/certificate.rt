@@ -68,12 +68,9 @@ fn with_fields(answer: Answer, read: &Certificate) -> Result<Answer, CaseError> 
 
 /// Adds the number of extensions, and each of them.
 fn with_extensions(answer: Answer, read: &Certificate) -> Result<Answer, CaseError> {
-    let count = read.extension_count();
-    let mut answer = answer.value(&count)?;
-    for place in 0..count {
-        if let Some(found) = read.extension_at(place) {
-            answer = with_extension(answer, found)?;
-        }
+    let mut answer = answer.value(&read.extension_count())?;
+    for found in read.extensions() {
+        answer = with_extension(answer, found)?;
     }
     Ok(answer)
 }

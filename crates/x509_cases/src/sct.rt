@@ -63,7 +63,7 @@ fn vouched(alloc: Global, arguments: &mut Arguments<'_>) -> Result<Answer, CaseE
 fn embedded(alloc: Global, arguments: &mut Arguments<'_>) -> Result<Answer, CaseError> {
     let leaf = certificate(alloc, arguments)?;
     let spki = arguments.hex(alloc)?;
-    signed(
+    sct_fields(
         alloc,
         CertificateEmbeddedSCT::new_with_verified_path(alloc, &leaf, &spki),
     )
@@ -76,11 +76,11 @@ fn embedded_of_chain(alloc: Global, arguments: &mut Arguments<'_>) -> Result<Ans
     for der in &arguments.hex_list(alloc)? {
         chain.push(certificate_of(alloc, der)?)?;
     }
-    signed(alloc, CertificateEmbeddedSCT::new(alloc, &leaf, &chain))
+    sct_fields(alloc, CertificateEmbeddedSCT::new(alloc, &leaf, &chain))
 }
 
 /// The fields of what an SCT signs: log id, time, SHA-256 of the issuer's SPKI, TBSCertificate, extensions, signature.
-fn signed(
+fn sct_fields(
     alloc: Global,
     found: Result<CertificateEmbeddedSCT, SCTError>,
 ) -> Result<Answer, CaseError> {

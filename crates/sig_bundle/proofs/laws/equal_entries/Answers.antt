@@ -1,5 +1,5 @@
 use Rattle.sig_base.proofs.Decisions.{decides_result}
-use Rattle.sig_bundle.proofs.Equality.{entry_eq-tells}
+use Rattle.sig_bundle.specs.EntryEqualityProofs.{entry_eq-tells}
 use Rattle.sig_bundle.proofs.laws.equal_entries.Goals as goal
 
 pub returns : goal.returns

@@ -1,5 +1,5 @@
 use Rattle.sig_base.proofs.Decisions.{decides_result}
-use Rattle.sig_bundle.proofs.Equality.{kind_eq-tells}
+use Rattle.sig_bundle.specs.EntryEqualityProofs.{kind_eq-tells}
 use Rattle.sig_bundle.proofs.laws.equal_kinds.Goals as goal
 
 pub returns : goal.returns

@@ -1,5 +1,5 @@
 use Rattle.sig_base.proofs.Decisions.{decides_result}
-use Rattle.sig_bundle.proofs.Equality.{proof_eq-tells}
+use Rattle.sig_bundle.specs.EntryEqualityProofs.{proof_eq-tells}
 use Rattle.sig_bundle.proofs.laws.equal_proofs.Goals as goal
 
 pub returns : goal.returns

@@ -1,11 +1,13 @@
-use Rattle.std.proofs.Common.{◌≡◌, Err, rules}
-use Rattle.sig_bundle.proofs.SigningCertificateLaws.{behind_refused, certificates_more}
+use Rattle.std.proofs.Common.{◌≡◌, Err, refl, rules}
+use Rattle.sig_base.proofs.Zipped.{zip_more}
+use Rattle.sig_bundle.proofs.SigningCertificateLaws.{behind_refused}
+use Rattle.sig_certificate.specs.Certificate.{IsCertificate}
 use Rattle.sig_bundle.proofs.signing_certificate.read_later.Goals as goal
 
 pub ders-preserved : goal.ders-preserved
 ders-preserved c =
-    certificates_more c.args.ders.now c.ders.index c.as_slice.result.now c.index-ders-index.result
-    c.in_ok-certificate.certificate c.ders.later c.push.new.self c.ders-test.true c.index-ders-index.is
+    zip_more IsCertificate c.args.ders.now c.args.ders.now c.ders.index c.as_slice.result.now c.index-ders-index.result
+    c.in_ok-certificate.certificate c.ders.later c.push.new.self refl c.ders-test.true c.index-ders-index.is
     c.as_slice.ensures c.in_ok-certificate.ensures.found c.in_ok-push.ensures.ok c.ders.invariant
 
 pub returns-in_err-certificate-clause-refused : goal.returns-in_err-certificate-clause-refused

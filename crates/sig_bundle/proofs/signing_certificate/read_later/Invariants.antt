@@ -1,5 +1,5 @@
 use Rattle.std.proofs.Common.{take}
-use Rattle.sig_bundle.specs.SigningCertificate.{AreCertificates}
+use Rattle.sig_certificate.specs.Certificates.{AreCertificates}
 use Rattle.sig_bundle.proofs.signing_certificate.read_later.Given as goal
 
 -- the certificates so far are those of the encodings so far

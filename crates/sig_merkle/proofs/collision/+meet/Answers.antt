@@ -32,7 +32,8 @@ meet-requires t c = (
 pub meet-requires-else-index-left : goal.meet-requires-else-index-left
 meet-requires-else-index-left t c =
     let lengths = halves-length _ _ _ c.halves.ensures in
-    let count : length c.halves.result.1.now ≡ length c.args.entries.now - length c.halves.result.0.now = omega arith in (
+    let count : length c.halves.result.1.now ≡ length c.args.entries.now - length c.halves.result.0.now =
+    omega arith in (
       omega (arith, c.in-Some.ensures.cases.1),
       (
         omega (arith, c.if-index-left.false, c.requires.index),

@@ -14,21 +14,25 @@ pub loop-policy-preserved : goal.loop-policy-preserved
 loop-policy-preserved g c =
     elim c.match-branch-2.branch [
       | in-Some+in_ok-push w ↦
-          are_more (λ p. g.S.Subject.holds c.args.subject.now p) (λ p. g.S.Subject.refusal c.args.subject.now p)
+          are_more (λ p. g.S.PolicySubject.holds c.args.subject.now p)
+          (λ p. g.S.PolicySubject.refusal c.args.subject.now p)
           c.args.policies.now c.loop-policy.policy-index c.policy-item.result (Some w.in-Some.error)
           (failures c.loop-policy.errors)
           (failures c.match-branch-2.errors) (omega (arith, c.loop-policy-test.true)) c.policy-item.is
           (subst (λ (o : Option PolicyError). IsRefusalOf
-          (refused (λ p. g.S.Subject.holds c.args.subject.now p) (λ p. g.S.Subject.refusal c.args.subject.now p)
+          (refused (λ p. g.S.PolicySubject.holds c.args.subject.now p)
+          (λ p. g.S.PolicySubject.refusal c.args.subject.now p)
           c.policy-item.result) o)
           w.in-Some.is c.in_ok-error.ensures)
           (ap (λ (es : PolicyErrors). failures es) w.errors-is ∙ w.in_ok-push.ensures.ok) c.loop-policy.invariant
       | in_default w ↦
-          are_more (λ p. g.S.Subject.holds c.args.subject.now p) (λ p. g.S.Subject.refusal c.args.subject.now p)
+          are_more (λ p. g.S.PolicySubject.holds c.args.subject.now p)
+          (λ p. g.S.PolicySubject.refusal c.args.subject.now p)
           c.args.policies.now c.loop-policy.policy-index c.policy-item.result None (failures c.loop-policy.errors)
           (failures c.match-branch-2.errors) (omega (arith, c.loop-policy-test.true)) c.policy-item.is
           (subst (λ (o : Option PolicyError). IsRefusalOf
-          (refused (λ p. g.S.Subject.holds c.args.subject.now p) (λ p. g.S.Subject.refusal c.args.subject.now p)
+          (refused (λ p. g.S.PolicySubject.holds c.args.subject.now p)
+          (λ p. g.S.PolicySubject.refusal c.args.subject.now p)
           c.policy-item.result) o)
           w.in_default.is c.in_ok-error.ensures)
           (ap (λ (es : PolicyErrors). failures es) w.errors-is ∙ sym (append-nil (failures c.loop-policy.errors)))

@@ -9,6 +9,6 @@ abbrev pub invariant-loop-policy : goal.invariant-loop-policy
 invariant-loop-policy g l =
     AreRefusals
     (refusals_of
-    (refusals (λ p. g.S.Subject.holds l.subject p) (λ p. g.S.Subject.refusal l.subject p)
+    (refusals (λ p. g.S.PolicySubject.holds l.subject p) (λ p. g.S.PolicySubject.refusal l.subject p)
     (take l.policy-index l.policies)))
     (failures l.errors)

@@ -4,4 +4,5 @@ use Rattle.sig_policy.proofs.request.verify_any.Given as goal
 
 -- no policy so far holds
 abbrev pub invariant-loop-policy : goal.invariant-loop-policy
-invariant-loop-policy g l = list_any (λ p. g.S.Subject.holds l.subject p) (take l.policy-index l.policies) ≡ false
+invariant-loop-policy g l = list_any (λ p. g.S.PolicySubject.holds l.subject p) (take l.policy-index l.policies)
+    ≡ false

@@ -1,20 +1,19 @@
--- One turn of the loop over the extensions.
-use Rattle.std.proofs.Common.{◌<◌, length, sym, arith}
+-- One more extension, and its DER if it is kept.
+use Rattle.sig_certificate.specs.ExtensionsLeft.{extensions_left}
 use Rattle.sig_certificate.specs.Lookups.{borrowed_extension}
-use Rattle.sig_timestamp.proofs.PrecertLaws.{kept_more, within_list}
+use Rattle.sig_timestamp.proofs.PrecertLaws.{kept_ends, kept_passes}
 use Rattle.sig_timestamp.proofs.precert.kept_extensions.Goals as goal
-use Rattle.sig_timestamp.proofs.precert.kept_extensions.Goals.{in-Some+in_ok-push_kept, in_default}
 
-pub loop-index-preserved : goal.loop-index-preserved
-loop-index-preserved c =
-    elim c.match-extension_at.branch [
-      | in-Some+in_ok-push_kept w ↦
-          rw w.kept-is
-          (kept_more c.args.leaf.now.extensions c.loop-index.index (borrowed_extension w.in-Some.extension)
-          c.loop-index.kept.items w.push_kept.new.kept.items (sym w.in-Some.ensures) w.in_ok-push_kept.ensures
-          c.loop-index.invariant)
-      | in_default w ↦
-          let lt : c.loop-index.index < length c.args.leaf.now.extensions = omega arith in
-          let none = rw w.in_default.is at c.extension_at.ensures in
-          absurd (within_list c.args.leaf.now.extensions c.loop-index.index lt (sym none))
-    ]
+pub loop-extension-preserved : goal.loop-extension-preserved
+loop-extension-preserved c = (
+  tt,
+  tt,
+  kept_passes _ c.loop-extension.kept.items _ (extensions_left c.loop-extension.extension-iterator)
+      (extensions_left c.next.new.self) (borrowed_extension c.in-Some.extension) c.loop-extension.invariant.2
+      c.in-Some.ensures.steps c.in_ok-push_kept.ensures,
+)
+
+pub returns : goal.returns
+returns c =
+    kept_ends _ c.loop-extension.kept.items (extensions_left c.loop-extension.extension-iterator)
+    c.loop-extension.invariant.2 c.in-None.ensures.steps.0

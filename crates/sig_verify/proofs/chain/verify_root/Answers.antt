@@ -4,7 +4,7 @@ use Rattle.std.proofs.Math.Facts.{to_z-of_z}
 use Rattle.sig_root.specs.declared.record.TransparencyLogInstance.{TransparencyLogInstance}
 use Rattle.sig_verify.proofs.Chains.{root_read}
 use Rattle.sig_verify.proofs.OfflineBytes.{are_read, inputs}
-use Rattle.sig_verify.specs.OfflineLaws.{HasRawBytes}
+use Rattle.sig_root.specs.OfBytes.{HasRawBytes}
 use Rattle.sig_verify.specs.Verdict.{checker_of, policy_of}
 use Rattle.sig_verify.proofs.chain.verify_root.Goals as goal
 

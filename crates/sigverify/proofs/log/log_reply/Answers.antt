@@ -1,6 +1,6 @@
 -- The reply to what was read, and to the verdict on it.
 use Rattle.std.proofs.Common.{subst}
-use Rattle.sigverify.specs.Link.{IsVerdict}
+use Rattle.sigverify.specs.Link.{IsLogVerdict}
 use Rattle.sigverify.proofs.Replies.{unread-replied, refused-replied, vouched-replied}
 use Rattle.sigverify.proofs.log.log_reply.Goals as goal
 
@@ -23,4 +23,4 @@ returns c =
 
 -- the last of the links holds
 pub logged-requires : goal.logged-requires
-logged-requires c = (subst (IsVerdict c.in-Some.request) c.in-None.is c.in_ok-link.ensures).1.1.1.1.0
+logged-requires c = (subst (IsLogVerdict c.in-Some.request) c.in-None.is c.in_ok-link.ensures).1.1.1.1.0

@@ -16,6 +16,10 @@ pub returns : goal.returns
 returns c =
     let same : c.root_of.result ≡ c.args.proof.now.root_hash = search rules in
     let count : length c.args.entries.now ≡ c.args.proof.now.tree_size = omega arith in (
-      λ held. (count, sym (whole_list c.args.entries.now c.len-2.result c.len-2.ensures) ∙ sym c.root_of.ensures ∙ same),
+      λ held. (
+        count,
+        sym (whole_list c.args.entries.now c.len-2.result c.len-2.ensures) ∙ sym c.root_of.ensures
+            ∙ same,
+      ),
       λ are. refl,
     )

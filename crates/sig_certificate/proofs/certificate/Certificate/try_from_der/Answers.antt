@@ -14,7 +14,7 @@ use Rattle.sig_der.specs.Taking.{many_at}
 use Rattle.sig_certificate.specs.Places.{parts_of, extension_of, placed_certificate, ArePlaces, AreSpans}
 use Rattle.sig_certificate.specs.declared.listed.Listed.{Listed}
 use Rattle.sig_certificate.specs.Held.{HoldsCertificate, IsRecorded}
-use Rattle.sig_certificate.specs.Cutting.{Parts, extension_at, IsCut}
+use Rattle.sig_certificate.specs.Cutting.{Parts, extension_at, HasCertificateParts}
 use Rattle.sig_certificate.proofs.CertificateLaws.{certificate_takes}
 use Rattle.sig_certificate.proofs.Readings.{no_parts, no_list, read_is, all_wider, IsCutAs}
 use Rattle.sig_certificate.proofs.certificate.Certificate.try_from_der.Goals as goal
@@ -92,7 +92,7 @@ read_some None es e = absurd cc
 -- the certificate that is answered
 is_read : (text : List ℕ) (p : Places) (a b x y : ℤ) (es : List ExtensionPlaces) (items : List ℕ) → IsBytes text
     → items ≡ text → x ≡ a → y ≡ b
-    → IsCut text (parts_of text p) a b
+    → HasCertificateParts text (parts_of text p) a b
     → many_at extension_at (parts_of text p).list ≡ Some (map (extension_of text) es)
     → IsCertificate text (placed_certificate items p x y es)
 is_read text p a b x y es items fits e f g cut read =

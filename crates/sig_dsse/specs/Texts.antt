@@ -1,6 +1,0 @@
--- For private clauses: the texts of strings.
-use Rattle.std.specs.Prelude.{ℕ, List, map, String, string_bytes}
-use Rattle.std.specs.declared.alloc.Global.{Global}
-
-abbrev pub texts_of : List (String Global) → List (List ℕ)
-texts_of = map string_bytes

@@ -1,0 +1,120 @@
+-- What each call says of the list.
+use Rattle.std.proofs.Common.{◌≡◌, ◌↔◌, ◌⊎◌, ℕ, ℤ, List, Result, Ok, Err, IfOk, OnOk, inl, inr, refl, sym}
+use Rattle.std.proofs.Common.{subst, ◌∙◌}
+use Rattle.std.specs.Prelude.{Contains}
+use Rattle.sig_base.proofs.ResultSteps.{ok_is}
+use Rattle.sig_base.specs.Answers.{UnlessMemory}
+use Rattle.sig_base.specs.Rules.{FailsFirst}
+use Rattle.sig_base.specs.declared.checker.AcceptedRow.{AcceptedRow}
+use Rattle.sig_base.specs.declared.error.SigstoreError.{SigstoreError}
+use Rattle.sig_base.specs.declared.fault.TrustPart.TheVariants as part
+use Rattle.sig_bundle.specs.Checked.{Checked, IsChecked}
+use Rattle.sig_bundle.specs.Passed.{IsPassed}
+use Rattle.sig_certificate.specs.Certificates.{AreCertificates}
+use Rattle.sig_bundle.specs.declared.bundle.Bundle.{Bundle}
+use Rattle.sig_bundle.specs.declared.bundle_error.BundleErrorKind.{BundleErrorKind}
+use Rattle.sig_bundle.specs.declared.bundle_error.BundleErrorKind.TheVariants as bundle
+use Rattle.sig_dsse.specs.declared.artifact_digest.ArtifactDigest.{ArtifactDigest}
+use Rattle.sig_root.specs.Picked.{keys_of}
+use Rattle.sig_root.specs.declared.record.TrustedRoot.{TrustedRoot}
+use Rattle.sig_verify.proofs.OfflineBytes.{inputs}
+use Rattle.sig_verify.proofs.RootVerdicts.{some_given}
+use Rattle.sig_verify.specs.EntryLinks.{IsOfBytes, LogKeys}
+use Rattle.sig_verify.specs.LinkLaws.{IsReadCertificate}
+use Rattle.sig_verify.specs.Links.{Inputs}
+use Rattle.sig_verify.specs.OfflineVerdict.{authorities_of, ct_keys_of}
+use Rattle.sig_verify.specs.RootLinks.{authorities, ct_keys}
+use Rattle.sig_verify.specs.Verifier.{HasKeys}
+use Rattle.sig_questions.proofs.Suffices.{rows_suffice}
+use Rattle.sig_questions.specs.Asked.{IsAskedBy}
+use Rattle.sig_questions.specs.Front.{IsFrontTold}
+use Rattle.sig_questions.specs.Listed.{AreListed, AreListedOf, AreListedText, GivesTrust, IsAnswered}
+use Rattle.sig_questions.specs.Listed.{ListedTextsAreAnswered, Listing, ReadIfOk, trust_in}
+use Rattle.sig_questions.specs.Questions.{AreQuestions, HoldsUnasked, IsDecided, QuestionsSuffice, Suffices}
+use Rattle.sig_questions.specs.Questions.{question_links}
+use Rattle.sig_questions.specs.declared.listing.NoQuestions.{NoQuestions}
+use Rattle.sig_questions.specs.declared.listing.NoQuestions.TheVariants.{Link, TooLong, OutOfMemory}
+use Rattle.sig_questions.specs.declared.listing.TrustParts.{TrustParts}
+
+-- what a root gives
+pub trust_given : (root : TrustedRoot) (now time : ℤ) (certificates : List (List ℕ)) (keys : LogKeys)
+    (parts : TrustParts) → time ≡ now → authorities_of root time ≡ Ok certificates → ct_keys_of root time ≡ Ok keys
+    → ◌≡◌ {A = Result LogKeys SigstoreError} (Ok (keys_of time root.tlogs)) (Ok parts.log_keys)
+    → AreCertificates certificates parts.anchors → HasKeys keys parts.keyring → GivesTrust root now parts
+trust_given root now time certificates keys parts same given logs log_keys anchors ring =
+    subst (λ (t : ℤ). GivesTrust root t parts) same (record {
+      anchors = subst (λ (ders : List (List ℕ)). AreCertificates ders parts.anchors)
+          (sym (some_given part.Fulcio (authorities root time) certificates given).1) anchors;
+      ring = subst (λ (k : LogKeys). HasKeys k parts.keyring)
+          (sym (some_given part.Ctfe (ct_keys root time) keys logs).1) ring;
+      keys = sym (ok_is (keys_of time root.tlogs) parts.log_keys log_keys);
+    })
+
+read_of : (parts : TrustParts) (c : Checked) (result : Listing) → OnOk result (IsReadCertificate c)
+    → OnOk result (IsOfBytes parts.log_keys c.entry) → ReadIfOk parts c result
+read_of parts c (Ok rows) read bytes = (read, bytes)
+read_of parts c (Err error) read bytes = tt
+
+-- of a bundle that was checked
+pub checked_listed : ((b : Bundle) (c : Checked) → IsChecked b (Ok c) ↔ IsPassed b c) → (root : TrustedRoot)
+    (now time : ℤ) (d : ArtifactDigest) (b : Bundle) (most : ℕ) (parts : TrustParts) (c : Checked) (result : Listing)
+    → time ≡ now → GivesTrust root time parts
+    → (◌≡◌ {A = Result Checked BundleErrorKind} (Ok c) (Err bundle.OutOfMemory)) ⊎ IsChecked b (Ok c)
+    → AreListed d (trust_in parts) parts.log_keys c most result → OnOk result (IsReadCertificate c)
+    → OnOk result (IsOfBytes parts.log_keys c.entry)
+    → UnlessMemory OutOfMemory result (AreListedOf root now d b most result)
+checked_listed law root now time d b most parts c result same gives (inl memory) listed read bytes = absurd cc
+checked_listed law root now time d b most parts c result same gives (inr checked) listed read bytes = inr (record {
+  parts = parts;
+  gives = subst (λ (t : ℤ). GivesTrust root t parts) same gives;
+  checked = c;
+  passed = (law b c).0 checked;
+  listed = listed;
+  read = read_of parts c result read bytes;
+})
+
+-- ---- all of it
+
+nothing_told : (i : Inputs) (most : ℕ) (result : Listing) → result ≡ Err OutOfMemory → IsAnswered i most result
+nothing_told i most result memory = record {
+  asked = λ rows same. absurd (let wrong : ◌≡◌ {A = Listing} (Ok rows) (Err OutOfMemory) = sym same ∙ memory in cc);
+  decided = subst (λ (r : Listing). IsDecided i most r) (sym memory) tt;
+}
+
+pub all_told : ListedTextsAreAnswered → (root : List ℕ) (now time : ℤ) (d : ArtifactDigest) (bundle : List ℕ)
+    (most : ℕ) (result : Listing) → time ≡ now → IsFrontTold (inputs root time d bundle) (Ok tt)
+    → UnlessMemory OutOfMemory result (AreListedText root time d bundle most result)
+    → IsAnswered (inputs root now d bundle) most result
+all_told law root now time d bundle most result same front (inl memory) =
+    nothing_told (inputs root now d bundle) most result memory
+all_told law root now time d bundle most result same front (inr listed) =
+    subst (λ (t : ℤ). IsAnswered (inputs root t d bundle) most result) same
+    (law (inputs root time d bundle) most result front listed)
+
+if_ok : (result : Listing) (P : List AcceptedRow → Type 0) → ((rows : List AcceptedRow) → result ≡ Ok rows → P rows)
+    → IfOk result P
+if_ok (Ok rows) P each = each rows refl
+if_ok (Err error) P each = tt
+
+order_of : (i : Inputs) (most : ℕ) (result : Listing) → IsDecided i most result → IfOk result (AreQuestions i)
+order_of i most (Ok rows) decided = decided.1
+order_of i most (Err error) decided = tt
+
+module _ (i : Inputs) (most : ℕ) (result : Listing) (told : IsAnswered i most result) where
+  pub told_asked : IfOk result (λ rows. (row : AcceptedRow) → Contains rows row ↔ IsAskedBy i row)
+  told_asked = if_ok result (λ rows. (row : AcceptedRow) → Contains rows row ↔ IsAskedBy i row) told.asked
+
+  pub told_suffice : QuestionsSuffice → IfOk result (λ rows. Suffices (Contains rows) i)
+  told_suffice law = if_ok result (λ rows. Suffices (Contains rows) i)
+      (λ rows same. rows_suffice law i (Contains rows) (λ row asks. (told.asked rows same row).1 asks))
+
+  pub told_order : IfOk result (AreQuestions i)
+  told_order = order_of i most result told.decided
+
+-- a link of those before `issuer`
+pub front_decided : (root : List ℕ) (now time : ℤ) (d : ArtifactDigest) (bundle : List ℕ) (most : ℕ) (e : NoQuestions)
+    → time ≡ now → IsFrontTold (inputs root time d bundle) (Err e) → IsDecided (inputs root now d bundle) most (Err e)
+front_decided root now time d bundle most (Link link) same told =
+    subst (λ (t : ℤ). FailsFirst (HoldsUnasked (inputs root t d bundle)) question_links link) same told
+front_decided root now time d bundle most TooLong same told = absurd told
+front_decided root now time d bundle most OutOfMemory same told = tt

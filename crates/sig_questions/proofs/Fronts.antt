@@ -1,0 +1,159 @@
+-- The links before `issuer`, which ask for no signature, and the links that fail whatever the checker says.
+use Rattle.std.proofs.Common.{◌≡◌, ◌⊎◌, ◌↔◌, ℕ, ℤ, Bool, true, false, List, [], ◌∷◌, ◌++◌, Option, Some, Result, Err}
+use Rattle.std.proofs.Common.{inl, inr, refl, sym, ap, subst, ◌∙◌}
+use Rattle.std.specs.List.{AllByRecursion}
+use Rattle.sig_base.specs.Rules.{FailsFirst}
+use Rattle.sig_dsse.specs.declared.artifact_digest.ArtifactDigest.{ArtifactDigest}
+use Rattle.sig_policy.specs.Refusals.{not_found}
+use Rattle.sig_verify.proofs.JudgedLaws.{Alike, all_as}
+use Rattle.sig_verify.proofs.OfflineBytes.{inputs}
+use Rattle.sig_verify.specs.Judged.{IsOfFirst}
+use Rattle.sig_verify.specs.Links.{HoldsOf, Inputs, IsFirstFailing, Outside, chain_links}
+use Rattle.sig_verify.specs.OfflineErrors.{link_of}
+use Rattle.sig_verify.specs.declared.link.Link.{Link}
+use Rattle.sig_verify.specs.declared.link.Link.TheVariants.{Issuer, Sct, Policy, Key, Signature, Subject, Body, Time}
+use Rattle.sig_verify.specs.declared.link.Link.TheVariants.{LogKey, Promise, Proof, Checkpoint, NoteKey, NoteMatch}
+use Rattle.sig_verify.specs.declared.link.Link.TheVariants.{Inclusion}
+use Rattle.sig_verify.specs.declared.offline.Offline.{Offline}
+use Rattle.sig_verify.specs.declared.offline_error.OfflineError.{OfflineError}
+use Rattle.sig_verify.specs.declared.offline_error.OfflineError.TheVariants.{OutOfMemory}
+use Rattle.sig_questions.proofs.Issuers.{may_be, some_first}
+use Rattle.sig_questions.specs.Asked.{every_signature}
+use Rattle.sig_questions.specs.Front.{IsFrontTold, front_result}
+use Rattle.sig_questions.specs.Questions.{HoldsUnasked, RefusalsAreForAll, accepting, front_links, question_links}
+
+-- ---- rules up to one
+
+abbrev is_issuer : Link → Bool
+is_issuer Issuer = true
+is_issuer other = false
+
+held_before : (Holds : Link → Type 0) (xs ys : List Link) → AllByRecursion (λ l. is_issuer l ≡ false) xs
+    → FailsFirst Holds (xs ++ Issuer ∷ ys) Issuer → AllByRecursion Holds xs
+held_before Holds [] ys apart fails = tt
+held_before Holds (x ∷ xs) ys apart (inl now) =
+    absurd (let wrong : true ≡ false = ap is_issuer now.1 ∙ apart.0 in cc)
+held_before Holds (x ∷ xs) ys apart (inr later) = (later.0, held_before Holds xs ys apart.1 later.1)
+
+pub stops_behind : (Holds : Link → Type 0) (xs ys : List Link) (stop : Link) → AllByRecursion Holds xs
+    → ¬ Holds stop → FailsFirst Holds (xs ++ stop ∷ ys) stop
+stops_behind Holds [] ys stop all denied = inl (denied, refl)
+stops_behind Holds (x ∷ xs) ys stop all denied = inr (all.0, stops_behind Holds xs ys stop all.1 denied)
+
+pub all_and : (Holds : Link → Type 0) (xs : List Link) (last : Link) → AllByRecursion Holds xs → Holds last
+    → AllByRecursion Holds (xs ++ last ∷ [])
+all_and Holds [] last all holds = (holds, tt)
+all_and Holds (x ∷ xs) last all holds = (all.0, all_and Holds xs last all.1 holds)
+
+fails_not : (Holds : Link → Type 0) (xs : List Link) (link : Link) → FailsFirst Holds xs link → ¬ Holds link
+fails_not Holds [] link fails holds = fails
+fails_not Holds (x ∷ xs) link (inl now) holds = now.0 (subst Holds now.1 holds)
+fails_not Holds (x ∷ xs) link (inr later) holds = fails_not Holds xs link later.1 holds
+
+-- rules that hold alike up to one: the first that fails of these fails first of all
+among_all : (P Q : Link → Type 0) (xs ys : List Link) (stop link : Link) → Alike P Q xs → (Q stop → P stop)
+    → FailsFirst P (xs ++ stop ∷ []) link → FailsFirst Q (xs ++ stop ∷ ys) link
+among_all P Q [] ys stop link alike too (inl now) = inl ((λ q. now.0 (too q)), now.1)
+among_all P Q [] ys stop link alike too (inr later) = absurd later.1
+among_all P Q (x ∷ xs) ys stop link alike too (inl now) = inl ((λ q. now.0 (alike.0.1 q)), now.1)
+among_all P Q (x ∷ xs) ys stop link alike too (inr later) =
+    inr (alike.0.0 later.0, among_all P Q xs ys stop link alike.1 too later.1)
+
+-- and the first of all that fails fails first of these, since that one does not hold
+among_first : (P Q : Link → Type 0) (xs ys : List Link) (stop link : Link) → Alike P Q xs → ¬ Q stop
+    → (link ≡ stop → ¬ P stop) → FailsFirst Q (xs ++ stop ∷ ys) link → FailsFirst P (xs ++ stop ∷ []) link
+among_first P Q [] ys stop link alike denied never (inl now) = inl (never now.1, now.1)
+among_first P Q [] ys stop link alike denied never (inr later) = absurd (denied later.0)
+among_first P Q (x ∷ xs) ys stop link alike denied never (inl now) = inl ((λ p. now.0 (alike.0.0 p)), now.1)
+among_first P Q (x ∷ xs) ys stop link alike denied never (inr later) =
+    inr (alike.0.1 later.0, among_first P Q xs ys stop link alike.1 denied never later.1)
+
+-- ---- the links
+
+abbrev rest : List Link
+rest =
+    Sct ∷ Policy ∷ Key ∷ Signature ∷ Subject ∷ Body ∷ Time
+    ∷ LogKey ∷ Promise ∷ Proof ∷ Checkpoint ∷ NoteKey ∷ NoteMatch ∷ Inclusion ∷ []
+
+apart : AllByRecursion (λ (l : Link). is_issuer l ≡ false) front_links
+apart =
+    (refl, (refl, (refl, (refl, (refl, (refl, (refl, (refl, (refl, (refl, (refl, (refl, (refl, (refl, tt))))))))))))))
+
+same : {A : Type 0} → A ↔ A
+same = ((λ x. x), (λ x. x))
+
+-- no checker is asked
+front_alike : (o p : Outside) (i : Inputs) → Alike (HoldsOf o i) (HoldsOf p i) front_links
+front_alike o p i =
+    (same, (same, (same, (same, (same, (same, (same, (same, (same, (same, (same, (same, (same, (same, tt))))))))))))))
+
+-- a checker that accepts no certificate has no issuer
+pub silent : (o : Outside) (i : Inputs)
+    → ((issuer algorithm tbs signature : List ℕ) → o.checker.cert issuer algorithm tbs signature ≡ false)
+    → ¬ HoldsOf o i Issuer
+silent o i denied (root, root_is, (anchors, are, (b, b_is, (c, passed, of)))) =
+    let x = of.first.anchor in
+    let wrong : true ≡ false = sym of.first.issued.signed.genuine
+    ∙ denied x.spki c.certificate.algorithm c.certificate.tbs c.certificate.signature in cc
+
+-- an anchor that issued it may have done so
+issuer_unasked : (o : Outside) (i : Inputs) → HoldsOf o i Issuer → HoldsUnasked i Issuer
+issuer_unasked o i (root, root_is, (anchors, are, (b, b_is, (c, passed, of)))) =
+    let some = some_first every_signature c.certificate c.certificate.not_before anchors of.index of.first.anchor
+    of.first.there (may_be o.checker.cert c.certificate of.first.anchor of.first.issued) in
+    (root, root_is, (anchors, are, (b, b_is, (c, passed, record { index = some.0; first = some.1; holds = tt }))))
+
+abbrev denying : Outside
+denying = record {
+  checker = record {
+    spki = λ scheme spki message signature. false;
+    prehash = λ scheme spki digest signature. false;
+    point = λ point message signature. false;
+    cert = λ issuer algorithm tbs signature. false;
+  };
+  policy = record { holds = λ c. true; refusal = λ c. not_found };
+}
+
+-- a link fails first without a question if and only if it does so whatever the checker says
+pub refusals_for_all : RefusalsAreForAll
+refusals_for_all i link = (
+  (λ fails o. among_all (HoldsUnasked i) (HoldsOf o i) front_links rest Issuer link (front_alike accepting o i)
+      (issuer_unasked o i) fails),
+  (λ all. among_first (HoldsUnasked i) (HoldsOf denying i) front_links rest Issuer link
+      (front_alike accepting denying i) (silent denying i (λ issuer algorithm tbs signature. refl))
+      (λ is. fails_not (HoldsUnasked i) chain_links Issuer
+      (subst (λ (l : Link). FailsFirst (HoldsUnasked i) chain_links l) is (all accepting))) (all denying)),
+)
+
+-- ---- what is told of them
+
+module _ (o : Outside) (i : Inputs) where
+  told_link : ¬ HoldsOf o i Issuer → (link : Link) → IsFirstFailing o i link
+      → IsFrontTold i (front_result (Some link))
+  told_link denied Issuer fails =
+      all_as (HoldsOf o i) (HoldsUnasked i) front_links (front_alike o accepting i)
+      (held_before (HoldsOf o i) front_links rest apart fails)
+  told_link denied link fails =
+      among_first (HoldsUnasked i) (HoldsOf o i) front_links rest Issuer link (front_alike accepting o i) denied
+      (λ is p. cc) fails
+
+abbrev Outcome : Type 0
+Outcome = Result Offline OfflineError
+
+same_error : (a b : OfflineError) → ◌≡◌ {A = Outcome} (Err a) (Err b) → a ≡ b
+same_error a b e = cc
+
+-- what the error of the first link that fails says, under a checker that accepts no certificate
+pub front_told : (o : Outside) (root : List ℕ) (now time : ℤ) (d : ArtifactDigest) (bundle : List ℕ)
+    (error : OfflineError) → time ≡ now
+    → ((issuer algorithm tbs signature : List ℕ) → o.checker.cert issuer algorithm tbs signature ≡ false)
+    → (◌≡◌ {A = Outcome} (Err error) (Err OutOfMemory)) ⊎ IsOfFirst
+    (HoldsOf o (inputs root time d bundle)) chain_links error
+    → IsFrontTold (inputs root now d bundle) (front_result (link_of error))
+front_told o root now time d bundle error at denied (inl memory) =
+    subst (λ (e : OfflineError). IsFrontTold (inputs root now d bundle) (front_result (link_of e)))
+    (sym (same_error error OutOfMemory memory)) tt
+front_told o root now time d bundle error at denied (inr (link, is, fails)) =
+    subst (λ (l : Option Link). IsFrontTold (inputs root now d bundle) (front_result l)) (sym is)
+    (subst (λ (t : ℤ). IsFrontTold (inputs root t d bundle) (front_result (Some link))) at
+    (told_link o (inputs root time d bundle) (silent o (inputs root time d bundle) denied) link fails))

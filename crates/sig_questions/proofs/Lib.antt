@@ -1,0 +1,13 @@
+pub mod Issuers
+pub mod Agreement
+pub mod Suffices
+pub mod RowLaws
+pub mod AnchorRows
+pub mod EntryRows
+pub mod Schemes
+pub mod Mattering
+pub mod Told
+pub mod Writing
+pub mod Fronts
+pub mod Named
+pub mod Calls

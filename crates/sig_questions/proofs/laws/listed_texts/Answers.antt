@@ -1,0 +1,7 @@
+use Rattle.sig_questions.proofs.Told.{listed_told}
+use Rattle.sig_questions.proofs.laws.listed_texts.Goals as goal
+
+pub returns : goal.returns
+returns c =
+    listed_told c.certificates.ensures
+    (record { text = c.promises.ensures.text; too_large = c.promises.ensures.too_large })

@@ -1,0 +1,21 @@
+-- The links before `issuer`, which ask for no signature: all hold, or the first that fails is told.
+use Rattle.std.specs.Prelude.{Option, Some, None, Result, Ok, Err}
+use Rattle.std.specs.List.{AllByRecursion}
+use Rattle.sig_base.specs.Rules.{FailsFirst}
+use Rattle.sig_verify.specs.Links.{Inputs}
+use Rattle.sig_verify.specs.declared.link.Link.{Link as LinkType}
+use Rattle.sig_verify.specs.declared.link.Link.TheVariants.{Issuer}
+use Rattle.sig_questions.specs.Questions.{HoldsUnasked, front_links, question_links}
+use Rattle.sig_questions.specs.declared.listing.NoQuestions.{NoQuestions}
+use Rattle.sig_questions.specs.declared.listing.NoQuestions.TheVariants.{Link, TooLong, OutOfMemory}
+
+abbrev pub front_result : Option LinkType → Result (Unit {0}) NoQuestions
+front_result (Some Issuer) = Ok tt
+front_result (Some link) = Err (Link link)
+front_result None = Err OutOfMemory
+
+abbrev pub IsFrontTold : Inputs → Result (Unit {0}) NoQuestions → Type 0
+IsFrontTold i (Ok done) = AllByRecursion (HoldsUnasked i) front_links
+IsFrontTold i (Err (Link link)) = FailsFirst (HoldsUnasked i) question_links link
+IsFrontTold i (Err TooLong) = ⊥
+IsFrontTold i (Err OutOfMemory) = Unit {0}

@@ -1,0 +1,151 @@
+-- The questions in their order: those of each group, one behind the other.
+use Rattle.std.specs.Prelude.{ℕ, ◌-◌, ◌^◌, Bool, nat_lt, if◌then◌else◌, List, [], ◌∷◌, ◌++◌, length}
+use Rattle.std.specs.Prelude.{flat_map, Option, Some, None, Result, Ok, Err}
+use Rattle.hex.specs.Hex.{encode_lower}
+use Rattle.sig_base.specs.ByText.{text_lookup}
+use Rattle.sig_base.specs.declared.checker.AcceptedRow.{AcceptedRow}
+use Rattle.sig_base.specs.declared.fault.CheckpointFault.{CheckpointFault}
+use Rattle.sig_base.specs.declared.scheme.VerifyScheme.{VerifyScheme}
+use Rattle.sig_bundle.specs.Checked.{Checked}
+use Rattle.sig_bundle.specs.Promise.{promise_tree_of}
+use Rattle.sig_bundle.specs.declared.content_check.CheckedContent.{CheckedContent}
+use Rattle.sig_bundle.specs.declared.content_check.CheckedContent.TheVariants.{MessageSignature, Dsse}
+use Rattle.sig_bundle.specs.declared.material.ProofFields.{ProofFields}
+use Rattle.sig_bundle.specs.declared.material.TransparencyLogEntry.{TransparencyLogEntry}
+use Rattle.sig_certificate.specs.Certificate.{Cert}
+use Rattle.sig_dsse.specs.declared.artifact_digest.ArtifactDigest.{ArtifactDigest}
+use Rattle.sig_dsse.specs.declared.artifact_digest.ArtifactDigest.TheVariants.{Sha256, Sha512}
+use Rattle.sig_json.specs.Canonical.{canonical_of}
+use Rattle.sig_json.specs.declared.error.CanonicalError.{CanonicalError}
+use Rattle.sig_key.specs.Kind.{key_kind}
+use Rattle.sig_key.specs.declared.kind.KeyKind.{KeyKind}
+use Rattle.sig_key.specs.declared.kind.KeyKind.TheVariants.{NoKeyInfo, Unsupported, Scheme}
+use Rattle.sig_rekor.specs.CheckpointText.{checkpoint_of}
+use Rattle.sig_rekor.specs.NoteText.{note_text}
+use Rattle.sig_rekor.specs.declared.checkpoint.CheckpointSignature.{CheckpointSignature}
+use Rattle.sig_rekor.specs.declared.checkpoint.SignedCheckpoint.{SignedCheckpoint}
+use Rattle.sig_timestamp.specs.Embedded.{ready}
+use Rattle.sig_timestamp.specs.SctBytes.{signed_bytes}
+use Rattle.sig_timestamp.specs.Timestamps.{sct_of}
+use Rattle.sig_timestamp.specs.declared.sct_error.SCTError.{SCTError}
+use Rattle.sig_timestamp.specs.declared.signed.DigitallySigned.{DigitallySigned}
+use Rattle.sig_verify.specs.CertificateLinks.{Trust}
+use Rattle.sig_verify.specs.EntryLinks.{LogKeys}
+use Rattle.sig_x509.specs.Issuance.{is_issued}
+use Rattle.sig_questions.specs.Asked.{every_signature}
+use Rattle.sig_questions.specs.Rows.{certificate_row, message_row, point_row, prehash_row}
+
+-- ---- the certificate under an anchor
+
+abbrev pub may_be_issuer : Cert → Cert → Bool
+may_be_issuer c x = is_issued every_signature c c.not_before x
+
+abbrev pub certificate_questions : Cert → Cert → List AcceptedRow
+certificate_questions c x =
+    if may_be_issuer c x then certificate_row x.spki c.algorithm c.tbs c.signature ∷ [] else []
+
+-- ---- its SCT under an anchor
+
+abbrev pub pointed_questions : Option (List ℕ) → DigitallySigned → List AcceptedRow
+pointed_questions None d = []
+pointed_questions (Some point) d = point_row point (signed_bytes d) d.signature ∷ []
+
+abbrev pub signed_questions : (List ℕ → Option (List ℕ)) → DigitallySigned → List AcceptedRow
+signed_questions points d =
+    if nat_lt (2 ^ 24 - 1) (length d.tbs_certificate) then []
+    else if nat_lt (2 ^ 16 - 1) (length d.extensions) then []
+    else pointed_questions (points d.log_id) d
+
+abbrev pub embedded_questions : (List ℕ → Option (List ℕ)) → Result DigitallySigned SCTError → List AcceptedRow
+embedded_questions points (Ok d) = signed_questions points d
+embedded_questions points (Err e) = []
+
+abbrev pub sct_questions : (List ℕ → Option (List ℕ)) → Cert → Cert → List AcceptedRow
+sct_questions points c x = if may_be_issuer c x then embedded_questions points (ready c x.spki (sct_of c)) else []
+
+-- ---- the signature over the content
+
+-- under the scheme of a key, if it has one
+abbrev pub if_scheme : KeyKind → (VerifyScheme → List AcceptedRow) → List AcceptedRow
+if_scheme (Scheme scheme) rows = rows scheme
+if_scheme NoKeyInfo rows = []
+if_scheme Unsupported rows = []
+
+abbrev pub content_questions_under
+    : VerifyScheme → List ℕ → ArtifactDigest → CheckedContent → List ℕ → List AcceptedRow
+content_questions_under scheme spki d (Dsse pae digests envelope payload) signature =
+    message_row scheme spki pae signature ∷ []
+content_questions_under scheme spki (Sha256 bytes) MessageSignature signature =
+    prehash_row scheme spki bytes signature ∷ []
+content_questions_under scheme spki (Sha512 bytes) MessageSignature signature = []
+
+abbrev pub content_questions : ArtifactDigest → Checked → List AcceptedRow
+content_questions d c = if_scheme (key_kind c.certificate.spki)
+    (λ scheme. content_questions_under scheme c.certificate.spki d c.content c.signature)
+
+-- ---- the promise
+
+abbrev pub promise_questions_over : VerifyScheme → List ℕ → List ℕ → Result (List ℕ) CanonicalError → List AcceptedRow
+promise_questions_over scheme spki promise (Ok text) = message_row scheme spki text promise ∷ []
+promise_questions_over scheme spki promise (Err e) = []
+
+abbrev pub promise_questions_by : VerifyScheme → List ℕ → TransparencyLogEntry → Option (List ℕ) → List AcceptedRow
+promise_questions_by scheme spki e None = []
+promise_questions_by scheme spki e (Some promise) =
+    promise_questions_over scheme spki promise (canonical_of (promise_tree_of e))
+
+abbrev pub promise_questions : VerifyScheme → List ℕ → TransparencyLogEntry → List AcceptedRow
+promise_questions scheme spki e = promise_questions_by scheme spki e e.inclusion_promise
+
+-- ---- the note
+
+abbrev pub note_question : VerifyScheme → List ℕ → List ℕ → CheckpointSignature → List AcceptedRow
+note_question scheme spki message s = message_row scheme spki message s.raw ∷ []
+
+abbrev pub note_questions_of : VerifyScheme → List ℕ → SignedCheckpoint → List AcceptedRow
+note_questions_of scheme spki n = flat_map (note_question scheme spki (note_text n.note)) n.signatures
+
+abbrev pub checkpoint_questions : VerifyScheme → List ℕ → Result SignedCheckpoint CheckpointFault → List AcceptedRow
+checkpoint_questions scheme spki (Ok n) = note_questions_of scheme spki n
+checkpoint_questions scheme spki (Err fault) = []
+
+abbrev pub text_questions : VerifyScheme → List ℕ → Option (List ℕ) → List AcceptedRow
+text_questions scheme spki None = []
+text_questions scheme spki (Some text) = checkpoint_questions scheme spki (checkpoint_of text)
+
+abbrev pub checkpoint_in : Option ProofFields → Option (List ℕ)
+checkpoint_in None = None
+checkpoint_in (Some p) = p.checkpoint
+
+-- the text of the entry's checkpoint
+abbrev pub text_of_proof : TransparencyLogEntry → Option (List ℕ)
+text_of_proof e = checkpoint_in e.inclusion_proof
+
+abbrev pub note_questions : VerifyScheme → List ℕ → TransparencyLogEntry → List AcceptedRow
+note_questions scheme spki e = text_questions scheme spki (text_of_proof e)
+
+-- ---- both, under the key of the entry's log
+
+abbrev pub spki_named : LogKeys → Option (List ℕ) → Option (List ℕ)
+spki_named keys None = None
+spki_named keys (Some id) = text_lookup (encode_lower id) keys
+
+abbrev pub entry_questions_under : TransparencyLogEntry → Option (List ℕ) → List AcceptedRow
+entry_questions_under e None = []
+entry_questions_under e (Some spki) =
+    if_scheme (key_kind spki) (λ scheme. promise_questions scheme spki e ++ note_questions scheme spki e)
+
+abbrev pub entry_questions : LogKeys → TransparencyLogEntry → List AcceptedRow
+entry_questions keys e = entry_questions_under e (spki_named keys e.log_id)
+
+-- ---- all of them
+
+-- behind the certificate's under each anchor
+abbrev pub questions_behind : ArtifactDigest → Trust → LogKeys → Checked → List AcceptedRow
+questions_behind d trust keys c =
+    flat_map (sct_questions trust.points c.certificate) trust.anchors
+    ++ (content_questions d c ++ entry_questions keys c.entry)
+
+abbrev pub questions_of : ArtifactDigest → Trust → LogKeys → Checked → List AcceptedRow
+questions_of d trust keys c =
+    flat_map (certificate_questions c.certificate) trust.anchors ++ questions_behind d trust keys c

@@ -1,0 +1,15 @@
+//! What is read of a certificate whose text is bytes.
+ghost use Rattle.sig_verify.specs.LinkLaws.{IsReadCertificate};
+
+use sig_base::laws::are_bytes;
+use sig_bundle::CheckedBundle;
+
+/// The key of a bundle's certificate is bytes, and the reader of SCTs says what the certificate has. Its call does
+/// nothing.
+pub(crate) fn is_read_as(bundle: &CheckedBundle)
+    ensures { IsReadCertificate bundle.now }
+{
+    let certificate = bundle.certificate();
+    certificate.is_certificate();
+    are_bytes(certificate.der());
+}

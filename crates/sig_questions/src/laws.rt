@@ -1,0 +1,46 @@
+//! What the definitions mean. The laws here have no code; each call is a law.
+ghost use Rattle.sig_questions.specs.Listed.{ListedTextsAreAnswered};
+ghost use Rattle.sig_questions.specs.Matters.{EachQuestionMatters};
+ghost use Rattle.sig_questions.specs.Questions.{QuestionsAreOneList, QuestionsHaveSchemes};
+ghost use Rattle.sig_questions.specs.Questions.{QuestionsSuffice, RefusalsAreForAll};
+
+use sig_bundle::laws::promises;
+use sig_certificate::laws::certificates;
+
+/// Two checkers that say the same of each question have the same links that hold, under every policy.
+pub fn questions_suffice()
+    ensures { QuestionsSuffice }
+{
+    certificates();
+}
+
+/// With the row of a question in a table some link holds that does not hold without it.
+pub fn each_matters()
+    ensures { EachQuestionMatters }
+{}
+
+/// Inputs have one list of questions.
+pub fn one_list()
+    ensures { QuestionsAreOneList }
+{
+    certificates();
+}
+
+/// Each question has a scheme that its operation may have.
+pub fn schemes()
+    ensures { QuestionsHaveSchemes }
+{}
+
+/// A link before a question is the first that fails if and only if it is so whatever the checker and the policy say.
+pub fn refusals()
+    ensures { RefusalsAreForAll }
+{}
+
+/// What is listed of texts of which the links before `issuer` hold are the questions, in order, or none where no trust
+/// anchor may have issued the certificate.
+pub(crate) fn listed_texts()
+    ensures { ListedTextsAreAnswered }
+{
+    certificates();
+    promises();
+}

@@ -1,0 +1,302 @@
+//! The questions of a chain of trust, listed.
+ghost use Rattle.std.specs.Prelude.{◌≡◌, ◌↔◌, ◌++◌, Contains, IfOk, OnOk};
+ghost use Rattle.sig_base.specs.Answers.{UnlessMemory};
+ghost use Rattle.sig_base.specs.declared.checker.AcceptedRow.{AcceptedRow as row_type};
+ghost use Rattle.sig_certificate.specs.Certificates.{AreCertificates};
+ghost use Rattle.sig_root.specs.Picked.{keys_of};
+ghost use Rattle.sig_timestamp.specs.RingKey.{point_at};
+ghost use Rattle.sig_verify.specs.EntryLinks.{IsOfBytes};
+ghost use Rattle.sig_verify.specs.LinkLaws.{IsReadCertificate};
+ghost use Rattle.sig_verify.specs.Verifier.{HasKeys, values_of};
+ghost use Rattle.sig_questions.specs.Asked.{IsAskedBy};
+ghost use Rattle.sig_questions.specs.Listed.{GivesTrust, AreListed, AreListedIn, AreListedOf, AreListedText, trust_in};
+ghost use Rattle.sig_questions.specs.Lists.{content_questions, entry_questions, questions_behind};
+ghost use Rattle.sig_questions.specs.Questions.{AreQuestions, IsDecided, Suffices};
+ghost use Rattle.sig_questions.specs.Written.{AddsRows};
+
+use crate::anchors::{push_certificates, read_anchors};
+use crate::bytes::is_read_as;
+use crate::content::push_content;
+use crate::entry::push_entry;
+use crate::front::check_front;
+use crate::laws::{listed_texts, questions_suffice};
+use crate::points::push_points;
+use crate::rows::Rows;
+use sig_base::{AcceptedRow, Entries, KeyMap, OutOfMemory, Register};
+use sig_bundle::laws::passed_bundles;
+use sig_bundle::{ArtifactDigest, Bundle, CheckedBundle, read_bundle};
+use sig_certificate::Certificate;
+use sig_root::{SigstoreTrustRoot, TrustRoot, read_trusted_root};
+use sig_timestamp::Keyring;
+use sig_verify::Link;
+use std::alloc::{AllocError, Global};
+use std::fmt;
+use thiserror::Error;
+
+/// Why there are no questions.
+#[derive(Clone, Copy, PartialEq, Eq, Error)]
+pub enum NoQuestions {
+    /// This link is the first that fails, whatever the checker and the policy say.
+    #[error("Link")]
+    Link(Link),
+    /// The rows have more bytes than they may.
+    #[error("TooLong")]
+    TooLong,
+    /// Out of memory.
+    #[error("OutOfMemory")]
+    OutOfMemory,
+}
+
+impl fmt::Debug for NoQuestions {
+    fn fmt<W: fmt::Write>(&self, f: &mut fmt::Formatter<W>) -> fmt::Result {
+        fmt::Display::fmt(self, f)
+    }
+}
+
+impl From<OutOfMemory> for NoQuestions {
+    ghost use Rattle.std.specs.Prelude.{◌≡◌};
+    ghost use Rattle.sig_questions.specs.declared.listing.NoQuestions.TheVariants.{OutOfMemory as Memory};
+
+    ghost from_gives = { λ _ e. e ≡ Memory };
+
+    fn from(_error: OutOfMemory) -> NoQuestions {
+        NoQuestions::OutOfMemory
+    }
+}
+
+impl From<AllocError> for NoQuestions {
+    ghost use Rattle.std.specs.Prelude.{◌≡◌};
+    ghost use Rattle.sig_questions.specs.declared.listing.NoQuestions.TheVariants.{OutOfMemory as Memory};
+
+    ghost from_gives = { λ _ e. e ≡ Memory };
+
+    fn from(_error: AllocError) -> NoQuestions {
+        NoQuestions::OutOfMemory
+    }
+}
+
+/// Lists the signatures that the chain of trust of a bundle can rest on, as rows of a table of accepted signatures. A
+/// caller asks its cryptography of each row whether the signature is genuine, makes a
+/// [`TableChecker`](sig_base::TableChecker) of the rows that are, and calls
+/// [`verify_offline`](sig_verify::verify_offline) with it: no other row matters, whatever the policy.
+///
+/// `trusted_root` and `bundle` are the texts of a Sigstore trusted root and of a bundle, `now` is in seconds since
+/// 1970, `digest` is that of the artifact, and `most` is how many bytes all parts of all rows may have together. The
+/// rows come in the order in which the links ask:
+///
+/// - the certificate, under the key of each trust anchor that may have issued it (RFC 5280 section 6.1.3);
+/// - what its SCT signs, under the point of the SCT's log, as issued by each of these (RFC 6962 section 3.2);
+/// - the encoding of the envelope (DSSE protocol), or the SHA-256 digest of the artifact, under the certificate's key;
+/// - the text of the log's promise (Rekor's signed entry timestamp), under the key of the entry's log;
+/// - the note of the entry's checkpoint, with each of its signatures, under that key.
+///
+/// A part that is not there, or that no checker is asked about, has no row. Errors:
+///
+/// - `Link`: this link is the first that fails, whatever is accepted: one of those up to `issuance`, or `issuer` if no
+///   trust anchor may have issued the certificate;
+/// - `TooLong`: no link is, and the rows have more than `most` bytes. A row for which there is no room is not copied;
+/// - `OutOfMemory`.
+pub fn questions(
+    alloc: Global,
+    trusted_root: &[u8],
+    now: i64,
+    digest: &ArtifactDigest,
+    bundle: &[u8],
+    most: usize,
+) -> Result<Register<AcceptedRow>, NoQuestions>
+    // A row is listed if and only if a link asks it.
+    ensures asked { IfOk result (λ rows. (row : row_type) → Contains rows row ↔ IsAskedBy
+        (record { root = trusted_root.now; now = now; digest = digest.now; bundle = bundle.now }) row) }
+    // Nothing else matters: checkers that say the same of each row have the same links that hold, under each policy.
+    ensures suffice { IfOk result (λ rows. Suffices (Contains rows)
+        (record { root = trusted_root.now; now = now; digest = digest.now; bundle = bundle.now })) }
+    // The rows are those of each group of links, one behind the other.
+    ensures order { IfOk result (AreQuestions
+        (record { root = trusted_root.now; now = now; digest = digest.now; bundle = bundle.now })) }
+    // A link is refused if and only if it is the first of those up to `issuer` that fails whatever the checker and the
+    // policy say; where none is, the rows are returned if and only if they have at most so many bytes.
+    ensures decided { IsDecided
+        (record { root = trusted_root.now; now = now; digest = digest.now; bundle = bundle.now }) most result }
+{
+    questions_suffice();
+    listed_texts();
+    check_front(alloc, trusted_root, now, digest, bundle)?;
+    list_text(alloc, trusted_root, now, digest, bundle, most)
+}
+
+/// The rows of texts of which the links up to `issuance` hold; so no text is refused but if memory runs out.
+fn list_text(
+    alloc: Global,
+    trusted_root: &[u8],
+    now: i64,
+    digest: &ArtifactDigest,
+    bundle: &[u8],
+    most: usize,
+) -> Result<Register<AcceptedRow>, NoQuestions>
+    ensures { UnlessMemory NoQuestions.OutOfMemory result (AreListedText trusted_root.now now digest.now bundle.now
+        most result) }
+{
+    match read_trusted_root(alloc, trusted_root) {
+        Ok(root) => {
+            let root = SigstoreTrustRoot::of(root);
+            list_bundle(alloc, &root, now, digest, bundle, most)
+        }
+        Err(_) => Err(NoQuestions::OutOfMemory),
+    }
+}
+
+/// The rows under a trusted root.
+fn list_bundle(
+    alloc: Global,
+    root: &SigstoreTrustRoot,
+    now: i64,
+    digest: &ArtifactDigest,
+    bundle: &[u8],
+    most: usize,
+) -> Result<Register<AcceptedRow>, NoQuestions>
+    ensures { UnlessMemory NoQuestions.OutOfMemory result (AreListedIn root.now now digest.now bundle.now most
+        result) }
+{
+    match read_bundle(alloc, bundle) {
+        Ok(bundle) => list_checked(alloc, root, now, digest, &bundle, most),
+        Err(_) => Err(NoQuestions::OutOfMemory),
+    }
+}
+
+/// The rows of a bundle.
+fn list_checked(
+    alloc: Global,
+    root: &SigstoreTrustRoot,
+    now: i64,
+    digest: &ArtifactDigest,
+    bundle: &Bundle,
+    most: usize,
+) -> Result<Register<AcceptedRow>, NoQuestions>
+    ensures { UnlessMemory NoQuestions.OutOfMemory result (AreListedOf root.now now digest.now bundle.now most
+        result) }
+{
+    passed_bundles();
+    let trust = read_trust(alloc, root, now)?;
+    match CheckedBundle::try_from_bundle(alloc, bundle) {
+        Ok(checked) => list(alloc, &trust, digest, &checked, most),
+        Err(_) => Err(NoQuestions::OutOfMemory),
+    }
+}
+
+/// What a root gives at a time.
+#[derive(Drop)]
+pub(crate) struct TrustParts {
+    pub(crate) anchors: Register<Certificate>,
+    pub(crate) keyring: Keyring,
+    pub(crate) log_keys: KeyMap,
+}
+
+/// What the root gives at the time; it has certificates and keys.
+fn read_trust(alloc: Global, root: &SigstoreTrustRoot, now: i64) -> Result<TrustParts, OutOfMemory>
+    ensures { IfOk result (GivesTrust root.now now) }
+{
+    let Ok(certificates) = root.fulcio_certs(alloc, now) else {
+        return Err(OutOfMemory);
+    };
+    let Ok(ct_keys) = root.ctfe_keys(alloc, now) else {
+        return Err(OutOfMemory);
+    };
+    let Ok(log_keys) = root.rekor_keys(alloc, now) else {
+        return Err(OutOfMemory);
+    };
+    Ok(TrustParts {
+        anchors: read_anchors(alloc, &certificates)?,
+        keyring: keyring_of(alloc, &ct_keys)?,
+        log_keys,
+    })
+}
+
+/// Returns the keyring of the keys of a map.
+fn keyring_of(alloc: Global, keys: &KeyMap) -> Result<Keyring, OutOfMemory>
+    ensures { IfOk result (HasKeys keys.now) }
+{
+    let values = values_of(alloc, keys)?;
+    match Keyring::new(alloc, &values) {
+        Ok(keyring) => Ok(keyring),
+        Err(_) => Err(OutOfMemory),
+    }
+}
+
+/// Returns the values of a map in order.
+fn values_of(alloc: Global, keys: &KeyMap) -> Result<Entries, OutOfMemory>
+    ensures { IfOk result (λ values. values ≡ values_of keys.now) }
+{
+    let mut values = Entries::new(alloc);
+    'entries: for (_, value) in keys.iter() {
+        values.push(value)?;
+    }
+    Ok(values)
+}
+
+/// The rows.
+fn list(
+    alloc: Global,
+    trust: &TrustParts,
+    digest: &ArtifactDigest,
+    bundle: &CheckedBundle,
+    most: usize,
+) -> Result<Register<AcceptedRow>, NoQuestions>
+    ensures listed { AreListed digest.now (trust_in trust.now) trust.now.log_keys bundle.now most result }
+    ensures read { OnOk result (IsReadCertificate bundle.now) }
+    ensures bytes { OnOk result (IsOfBytes trust.now.log_keys bundle.now.entry) }
+{
+    is_read_as(bundle);
+    let mut rows = Rows {
+        rows: Register::new(alloc),
+        room: most,
+    };
+    push_certificates(
+        &mut rows,
+        alloc,
+        bundle.certificate(),
+        trust.anchors.as_slice(),
+    )?;
+    if rows.rows.len() == 0 {
+        return Err(NoQuestions::Link(Link::Issuer));
+    }
+    push_behind(&mut rows, alloc, trust, digest, bundle)?;
+    Ok(rows.rows)
+}
+
+/// The rows behind those of the certificate.
+fn push_behind(
+    rows: &mut Rows,
+    alloc: Global,
+    trust: &TrustParts,
+    digest: &ArtifactDigest,
+    bundle: &CheckedBundle,
+) -> Result<(), NoQuestions>
+    ensures written { AddsRows rows.old (questions_behind digest.now (trust_in trust.now) trust.now.log_keys
+        bundle.now) result rows.new }
+    ensures bytes { OnOk result (IsOfBytes trust.now.log_keys bundle.now.entry) }
+{
+    push_points(
+        rows,
+        alloc,
+        bundle.certificate(),
+        trust.anchors.as_slice(),
+        &trust.keyring,
+    )?;
+    push_last(rows, alloc, &trust.log_keys, digest, bundle)
+}
+
+/// The rows of the content and of the log entry.
+fn push_last(
+    rows: &mut Rows,
+    alloc: Global,
+    log_keys: &KeyMap,
+    digest: &ArtifactDigest,
+    bundle: &CheckedBundle,
+) -> Result<(), NoQuestions>
+    ensures written { AddsRows rows.old (content_questions digest.now bundle.now
+        ++ entry_questions log_keys.now bundle.now.entry) result rows.new }
+    ensures bytes { OnOk result (IsOfBytes log_keys.now bundle.now.entry) }
+{
+    push_content(rows, alloc, bundle, digest)?;
+    push_entry(rows, alloc, bundle.entry(), log_keys)
+}

@@ -1,0 +1,237 @@
+-- The derived `==` of entries to propose and their parts is equality of all that is seen of them.
+use Rattle.std.proofs.Common.{◌≡◌, ◌&&◌, ℕ, List, [], Bool, refl, ap}
+use Rattle.std.proofs.lemmas.Bool.Decides.{Decides-and}
+use Rattle.std.specs.Bool.{Decides}
+use Rattle.std.specs.Cmp.Lexicographic.{pointwise}
+use Rattle.std.specs.Prelude.{nat_eq}
+use Rattle.sig_base.proofs.Decisions.{decides_bytes, decides_result, decides_same}
+use Rattle.sig_json.specs.Data.{Data as Tree, string, object, member}
+use Rattle.sig_json.specs.SameTree.{same_tree}
+use Rattle.sig_json.specs.Tree.{document_tree}
+use Rattle.sig_json.specs.declared.document.Document.{Document}
+use Rattle.sig_rekor_models.proofs.EntryEquality.{document_eq-tells}
+use Rattle.sig_rekor_models.specs.Body.{Body}
+use Rattle.sig_rekor_models.specs.HashedrekordTree.{algorithm_name, hash_tree, data_tree, signature_tree, spec_tree}
+use Rattle.sig_rekor_models.specs.ProposedTree.{seen_proposed}
+use Rattle.sig_rekor_models.specs.contracts.entry_kind.EntryKindPartialEq.TheImpl as kind_eq
+use Rattle.sig_rekor_models.specs.contracts.hashedrekord.AlgorithmKindPartialEq.TheImpl as algorithm_eq
+use Rattle.sig_rekor_models.specs.contracts.hashedrekord.DataPartialEq.TheImpl as data_eq
+use Rattle.sig_rekor_models.specs.contracts.hashedrekord.HashPartialEq.TheImpl as hash_eq
+use Rattle.sig_rekor_models.specs.contracts.hashedrekord.HashedrekordPartialEq.TheImpl as hashedrekord_eq
+use Rattle.sig_rekor_models.specs.contracts.hashedrekord.SignaturePartialEq.TheImpl as signature_eq
+use Rattle.sig_rekor_models.specs.contracts.hashedrekord.SpecPartialEq.TheImpl as spec_eq
+use Rattle.sig_rekor_models.specs.contracts.proposed_entry.ProposedEntryPartialEq.TheImpl as proposed_eq
+use Rattle.sig_rekor_models.specs.contracts.public_key.PublicKeyPartialEq.TheImpl as key_eq
+use Rattle.sig_rekor_models.specs.declared.entry_kind.EntryKind.{EntryKind}
+use Rattle.sig_rekor_models.specs.declared.entry_kind.EntryKind.TheVariants as kinds
+use Rattle.sig_rekor_models.specs.declared.hashedrekord.AlgorithmKind.{AlgorithmKind}
+use Rattle.sig_rekor_models.specs.declared.hashedrekord.AlgorithmKind.TheVariants.{sha256, sha1}
+use Rattle.sig_rekor_models.specs.declared.hashedrekord.Data.{Data}
+use Rattle.sig_rekor_models.specs.declared.hashedrekord.Hash.{Hash}
+use Rattle.sig_rekor_models.specs.declared.hashedrekord.Hashedrekord.{Hashedrekord}
+use Rattle.sig_rekor_models.specs.declared.hashedrekord.Signature.{Signature}
+use Rattle.sig_rekor_models.specs.declared.hashedrekord.Spec.{Spec}
+use Rattle.sig_rekor_models.specs.declared.proposed_entry.ProposedEntry.{ProposedEntry}
+use Rattle.sig_rekor_models.specs.declared.proposed_entry.ProposedEntry.TheVariants as entries
+use Rattle.sig_rekor_models.specs.declared.public_key.PublicKey.{PublicKey}
+
+-- ---- kinds
+
+kind_eq-tells : (a b : EntryKind) → Decides ((kind_eq.ghosts).eq a b) (a ≡ b)
+kind_eq-tells kinds.Alpine kinds.Alpine = (λ e. refl, λ e. refl)
+kind_eq-tells kinds.Hashedrekord kinds.Hashedrekord = (λ e. refl, λ e. refl)
+kind_eq-tells kinds.Helm kinds.Helm = (λ e. refl, λ e. refl)
+kind_eq-tells kinds.Intoto kinds.Intoto = (λ e. refl, λ e. refl)
+kind_eq-tells kinds.Jar kinds.Jar = (λ e. refl, λ e. refl)
+kind_eq-tells kinds.Rekord kinds.Rekord = (λ e. refl, λ e. refl)
+kind_eq-tells kinds.Rfc3161 kinds.Rfc3161 = (λ e. refl, λ e. refl)
+kind_eq-tells kinds.Rpm kinds.Rpm = (λ e. refl, λ e. refl)
+kind_eq-tells kinds.Tuf kinds.Tuf = (λ e. refl, λ e. refl)
+kind_eq-tells a b = (λ e. absurd cc, λ e. absurd cc)
+
+pub kind_law : (a b : EntryKind) (r : Bool) → r ≡ (kind_eq.ghosts).eq a b → Decides r (a ≡ b)
+kind_law a b r is = decides_result r _ is (kind_eq-tells a b)
+
+-- ---- what an entry of kind `hashedrekord` says
+
+algorithm_eq-tells : (a b : AlgorithmKind) → Decides ((algorithm_eq.ghosts).eq a b) (a ≡ b)
+algorithm_eq-tells sha256 sha256 = (λ e. refl, λ e. refl)
+algorithm_eq-tells sha256 sha1 = (λ e. absurd cc, λ e. absurd cc)
+algorithm_eq-tells sha1 sha256 = (λ e. absurd cc, λ e. absurd cc)
+algorithm_eq-tells sha1 sha1 = (λ e. refl, λ e. refl)
+
+key-of_parts : (c d : List ℕ) → c ≡ d → ◌≡◌ {A = PublicKey} (record { content = c }) (record { content = d })
+key-of_parts c d e = rw e refl
+
+key_eq-tells : (a b : PublicKey) → Decides ((key_eq.ghosts).eq a b) (a ≡ b)
+key_eq-tells a b =
+    decides_same _ (key-of_parts a.content b.content) (λ e. ap (λ (k : PublicKey). k.content) e)
+    (decides_bytes a.content b.content)
+
+hash-of_parts : (k l : AlgorithmKind) → (v w : List ℕ) → (k ≡ l) × (v ≡ w)
+    → ◌≡◌ {A = Hash} (record { algorithm = k; value = v }) (record { algorithm = l; value = w })
+hash-of_parts k l v w e = rw (e.0, e.1) refl
+
+hash_eq-tells : (a b : Hash) → Decides ((hash_eq.ghosts).eq a b) (a ≡ b)
+hash_eq-tells a b =
+    decides_same _ (hash-of_parts a.algorithm b.algorithm a.value b.value)
+    (λ e. (ap (λ (h : Hash). h.algorithm) e, ap (λ (h : Hash). h.value) e))
+    (Decides-and _ _ (algorithm_eq-tells a.algorithm b.algorithm) (decides_bytes a.value b.value))
+
+data-of_parts : (h g : Hash) → h ≡ g → ◌≡◌ {A = Data} (record { hash = h }) (record { hash = g })
+data-of_parts h g e = rw e refl
+
+data_eq-tells : (a b : Data) → Decides ((data_eq.ghosts).eq a b) (a ≡ b)
+data_eq-tells a b =
+    decides_same _ (data-of_parts a.hash b.hash) (λ e. ap (λ (d : Data). d.hash) e) (hash_eq-tells a.hash b.hash)
+
+signature-of_parts : (c d : List ℕ) → (k l : PublicKey) → (c ≡ d) × (k ≡ l)
+    → ◌≡◌ {A = Signature} (record { content = c; public_key = k }) (record { content = d; public_key = l })
+signature-of_parts c d k l e = rw (e.0, e.1) refl
+
+signature_eq-tells : (a b : Signature) → Decides ((signature_eq.ghosts).eq a b) (a ≡ b)
+signature_eq-tells a b =
+    decides_same _ (signature-of_parts a.content b.content a.public_key b.public_key)
+    (λ e. (ap (λ (s : Signature). s.content) e, ap (λ (s : Signature). s.public_key) e))
+    (Decides-and _ _ (decides_bytes a.content b.content) (key_eq-tells a.public_key b.public_key))
+
+spec-of_parts : (s t : Signature) → (d f : Data) → (s ≡ t) × (d ≡ f)
+    → ◌≡◌ {A = Spec} (record { signature = s; logged_data = d }) (record { signature = t; logged_data = f })
+spec-of_parts s t d f e = rw (e.0, e.1) refl
+
+spec_eq-tells : (a b : Spec) → Decides ((spec_eq.ghosts).eq a b) (a ≡ b)
+spec_eq-tells a b =
+    decides_same _ (spec-of_parts a.signature b.signature a.logged_data b.logged_data)
+    (λ e. (ap (λ (s : Spec). s.signature) e, ap (λ (s : Spec). s.logged_data) e))
+    (Decides-and _ _ (signature_eq-tells a.signature b.signature) (data_eq-tells a.logged_data b.logged_data))
+
+hashedrekord-of_parts : (k l v w : List ℕ) → (s t : Spec) → (k ≡ l) × ((v ≡ w) × (s ≡ t))
+    → ◌≡◌ {A = Hashedrekord} (record { kind = k; api_version = v; spec = s })
+    (record { kind = l; api_version = w; spec = t })
+hashedrekord-of_parts k l v w s t e = rw (e.0, e.1.0, e.1.1) refl
+
+hashedrekord_eq-tells : (a b : Hashedrekord) → Decides ((hashedrekord_eq.ghosts).eq a b) (a ≡ b)
+hashedrekord_eq-tells a b =
+    decides_same _ (hashedrekord-of_parts a.kind b.kind a.api_version b.api_version a.spec b.spec)
+    (λ e. (
+      ap (λ (h : Hashedrekord). h.kind) e,
+      (ap (λ (h : Hashedrekord). h.api_version) e, ap (λ (h : Hashedrekord). h.spec) e),
+    ))
+    (Decides-and _ _ (decides_bytes a.kind b.kind)
+    (Decides-and _ _ (decides_bytes a.api_version b.api_version) (spec_eq-tells a.spec b.spec)))
+
+pub algorithm_law : (a b : AlgorithmKind) (r : Bool) → r ≡ (algorithm_eq.ghosts).eq a b → Decides r (a ≡ b)
+algorithm_law a b r is = decides_result r _ is (algorithm_eq-tells a b)
+
+pub key_law : (a b : PublicKey) (r : Bool) → r ≡ (key_eq.ghosts).eq a b → Decides r (a ≡ b)
+key_law a b r is = decides_result r _ is (key_eq-tells a b)
+
+pub hash_law : (a b : Hash) (r : Bool) → r ≡ (hash_eq.ghosts).eq a b → Decides r (a ≡ b)
+hash_law a b r is = decides_result r _ is (hash_eq-tells a b)
+
+pub data_law : (a b : Data) (r : Bool) → r ≡ (data_eq.ghosts).eq a b → Decides r (a ≡ b)
+data_law a b r is = decides_result r _ is (data_eq-tells a b)
+
+pub signature_law : (a b : Signature) (r : Bool) → r ≡ (signature_eq.ghosts).eq a b → Decides r (a ≡ b)
+signature_law a b r is = decides_result r _ is (signature_eq-tells a b)
+
+pub spec_law : (a b : Spec) (r : Bool) → r ≡ (spec_eq.ghosts).eq a b → Decides r (a ≡ b)
+spec_law a b r is = decides_result r _ is (spec_eq-tells a b)
+
+pub hashedrekord_law : (a b : Hashedrekord) (r : Bool) → r ≡ (hashedrekord_eq.ghosts).eq a b → Decides r (a ≡ b)
+hashedrekord_law a b r is = decides_result r _ is (hashedrekord_eq-tells a b)
+
+-- ---- what is said is told by its JSON
+
+abbrev text_in : Tree → List ℕ
+text_in (string text) = text
+text_in _ = []
+
+abbrev first_in : Tree → Tree
+first_in (object (member name value rest)) = value
+first_in tree = tree
+
+abbrev second_in : Tree → Tree
+second_in (object (member name value (member other next rest))) = next
+second_in tree = tree
+
+algorithm-from_name : (k l : AlgorithmKind) → algorithm_name k ≡ algorithm_name l → k ≡ l
+algorithm-from_name sha256 sha256 e = refl
+algorithm-from_name sha256 sha1 e = absurd cc
+algorithm-from_name sha1 sha256 e = absurd cc
+algorithm-from_name sha1 sha1 e = refl
+
+hash-from_tree : (a b : Hash) → hash_tree a ≡ hash_tree b → a ≡ b
+unfolding hash_tree
+hash-from_tree a b e =
+    hash-of_parts a.algorithm b.algorithm a.value b.value
+    (algorithm-from_name a.algorithm b.algorithm (ap (λ t. text_in (first_in t)) e), ap (λ t. text_in (second_in t)) e)
+
+data-from_tree : (a b : Data) → data_tree a ≡ data_tree b → a ≡ b
+unfolding data_tree
+data-from_tree a b e = data-of_parts a.hash b.hash (hash-from_tree a.hash b.hash (ap first_in e))
+
+signature-from_tree : (a b : Signature) → signature_tree a ≡ signature_tree b → a ≡ b
+unfolding signature_tree
+signature-from_tree a b e =
+    signature-of_parts a.content b.content a.public_key b.public_key (
+      ap (λ t. text_in (first_in t)) e,
+      key-of_parts a.public_key.content b.public_key.content (ap (λ t. text_in (first_in (second_in t))) e),
+    )
+
+spec-from_tree : (a b : Spec) → spec_tree a ≡ spec_tree b → a ≡ b
+unfolding spec_tree
+spec-from_tree a b e =
+    spec-of_parts a.signature b.signature a.logged_data b.logged_data (
+      signature-from_tree a.signature b.signature (ap second_in e),
+      data-from_tree a.logged_data b.logged_data (ap first_in e),
+    )
+
+said_eq-tells : (a b : Spec) → Decides ((spec_eq.ghosts).eq a b) (spec_tree a ≡ spec_tree b)
+said_eq-tells a b = decides_same _ (λ e. ap spec_tree e) (spec-from_tree a b) (spec_eq-tells a b)
+
+-- ---- entries to propose
+
+proposed-of_parts : (k : EntryKind) → (v w : List ℕ) → (d f : Tree) → (v ≡ w) × (d ≡ f)
+    → ◌≡◌ {A = Body} (record { kind = k; api_version = v; spec = d }) (record { kind = k; api_version = w; spec = f })
+proposed-of_parts k v w d f e = rw (e.0, e.1) refl
+
+proposed_parts : (a b : Body) → a ≡ b → (a.api_version ≡ b.api_version) × (a.spec ≡ b.spec)
+proposed_parts a b e = (ap (λ (x : Body). x.api_version) e, ap (λ (x : Body). x.spec) e)
+
+of_kind-tells : (k : EntryKind) → (v w : List ℕ) → (d f : Document)
+    → Decides (pointwise nat_eq v w && same_tree (document_tree d) (document_tree f))
+    (◌≡◌ {A = Body} (record { kind = k; api_version = v; spec = document_tree d })
+    (record { kind = k; api_version = w; spec = document_tree f }))
+of_kind-tells k v w d f =
+    decides_same _ (proposed-of_parts k v w (document_tree d) (document_tree f)) (λ e. proposed_parts _ _ e)
+    (Decides-and _ _ (decides_bytes v w) (document_eq-tells d f))
+
+proposed_eq-tells : (a b : ProposedEntry) → Decides ((proposed_eq.ghosts).eq a b) (seen_proposed a ≡ seen_proposed b)
+proposed_eq-tells (entries.Alpine v x) (entries.Alpine w y) = of_kind-tells kinds.Alpine v w x y
+proposed_eq-tells (entries.Hashedrekord v x) (entries.Hashedrekord w y) =
+    decides_same _ (proposed-of_parts kinds.Hashedrekord v w (spec_tree x) (spec_tree y)) (λ e. proposed_parts _ _ e)
+    (Decides-and _ _ (decides_bytes v w) (said_eq-tells x y))
+proposed_eq-tells (entries.Helm v x) (entries.Helm w y) = of_kind-tells kinds.Helm v w x y
+proposed_eq-tells (entries.Intoto v x) (entries.Intoto w y) = of_kind-tells kinds.Intoto v w x y
+proposed_eq-tells (entries.Jar v x) (entries.Jar w y) = of_kind-tells kinds.Jar v w x y
+proposed_eq-tells (entries.Rekord v x) (entries.Rekord w y) = of_kind-tells kinds.Rekord v w x y
+proposed_eq-tells (entries.Rfc3161 v x) (entries.Rfc3161 w y) = of_kind-tells kinds.Rfc3161 v w x y
+proposed_eq-tells (entries.Rpm v x) (entries.Rpm w y) = of_kind-tells kinds.Rpm v w x y
+proposed_eq-tells (entries.Tuf v x) (entries.Tuf w y) = of_kind-tells kinds.Tuf v w x y
+proposed_eq-tells a b = (λ e. absurd cc, λ e. absurd (let kind = ap (λ (body : Body). body.kind) e in cc))
+
+pub proposed_law : (a b : ProposedEntry) (r : Bool) → r ≡ (proposed_eq.ghosts).eq a b
+    → Decides r (seen_proposed a ≡ seen_proposed b)
+proposed_law a b r is = decides_result r _ is (proposed_eq-tells a b)
+
+pub ruleset equal_proposed = (
+  kind_law,
+  algorithm_law,
+  key_law,
+  hash_law,
+  data_law,
+  signature_law,
+  spec_law,
+  hashedrekord_law,
+)

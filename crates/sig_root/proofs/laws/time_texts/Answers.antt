@@ -1,5 +1,0 @@
-use Rattle.sig_root.proofs.Times.{second_found, second_only}
-use Rattle.sig_root.proofs.laws.time_texts.Goals as goal
-
-pub returns : goal.returns
-returns c = λ text second. (second_found text second, second_only text second)

@@ -1,0 +1,38 @@
+-- The reply to what was read and to what is listed.
+use Rattle.std.proofs.Common.{Err, subst}
+use Rattle.sig_questions.specs.Questions.{IsDecided}
+use Rattle.sig_questions.specs.declared.listing.NoQuestions.{NoQuestions}
+use Rattle.sigverify.proofs.VerifyQuestionReplies.{all-schemes, listed-replied, past-replied, refused-replied}
+use Rattle.sigverify.proofs.VerifyQuestionReplies.{unread-replied}
+use Rattle.sigverify.specs.Limit.{most_bytes}
+use Rattle.sigverify.specs.VerifyLink.{inputs}
+use Rattle.sigverify.proofs.verify_questions.reply_to_text.Goals as goal
+
+pub returns-in_default : goal.returns-in_default
+returns-in_default c =
+    unread-replied c.args.request.now c.in_ok-request.field-0 c.refused.result c.refused.ensures c.in_default.is
+    c.in_ok-request.ensures
+
+pub listed-requires : goal.listed-requires
+listed-requires c =
+    all-schemes c.schemes.ensures c.in-Some.request c.in-Ok.rows c.in-Ok.ensures.decided.1
+
+pub returns-in-Ok : goal.returns-in-Ok
+returns-in-Ok c =
+    listed-replied c.args.request.now c.in_ok-request.field-0 c.in-Some.request c.listed.result c.in-Some.is
+    c.in_ok-request.ensures c.in-Ok.rows c.one_list.ensures c.listed.ensures c.in-Ok.ensures.decided
+    c.in-Ok.ensures.asked
+
+pub returns-in-Err-Link : goal.returns-in-Err-Link
+returns-in-Err-Link c =
+    refused-replied c.args.request.now c.in_ok-request.field-0 c.in-Some.request c.refused-in-Err-Link.result
+    c.in-Some.is c.in_ok-request.ensures c.in-Err-Link.link c.refused-in-Err-Link.ensures
+    (subst (λ (e : NoQuestions). IsDecided (inputs c.in-Some.request) most_bytes (Err e)) c.in-Err-Link.field-0-is
+    c.in-Err-Link.ensures.decided)
+
+pub returns-in-Err-TooLong : goal.returns-in-Err-TooLong
+returns-in-Err-TooLong c =
+    past-replied c.args.request.now c.in_ok-request.field-0 c.in-Some.request c.refused-in-Err-TooLong.result
+    c.in-Some.is c.in_ok-request.ensures c.schemes.ensures c.refused-in-Err-TooLong.ensures
+    (subst (λ (e : NoQuestions). IsDecided (inputs c.in-Some.request) most_bytes (Err e)) c.in-Err-TooLong.field-0-is
+    c.in-Err-TooLong.ensures.decided)

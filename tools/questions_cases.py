@@ -1,0 +1,194 @@
+#!/usr/bin/env python3
+"""The replies of `questions`, beside the program: what a reader of its own says, and that nothing else matters.
+
+    tools/questions_cases.py                  writes the examples/questions-*.expected
+    tools/questions_cases.py check PROGRAM    runs the program on each request of examples/log.requests and of the rows of `verify`, and
+                                              compares its reply with this reader's. Where it lists signatures, the command has to have
+                                              the same reply with those of the accepted signatures alone that are listed, and that of
+                                              the second implementation with all that are listed; where it names a link of the chain
+                                              of trust, `verify` has to name it too, with and without accepted signatures
+
+The reader of a request of `log` is that of tools/log_requests.py. That of a request of `verify` asks the links of tools/verify_links.py: those
+before `issuer` for the first that fails, and the others for the signatures that they look up, under one trust anchor at a time.
+"""
+import base64
+import json
+import pathlib
+import subprocess
+import sys
+
+TOP = pathlib.Path(__file__).resolve().parent.parent
+sys.dont_write_bytecode = True
+sys.path.insert(0, str(TOP / "tools"))
+import fixture  # noqa: E402
+import log_requests  # noqa: E402
+import verify_cases  # noqa: E402
+import verify_links as links  # noqa: E402
+import verify_rows  # noqa: E402
+from log_requests import NoRequest, rekor  # noqa: E402
+
+MOST_BYTES = 2**24
+LOG = ["log", "log-entries", "log-rekor-staging", "log-wrong-path"]
+VERIFY = ["verify", "verify-refused"]
+
+
+def document(rows):
+    """The rows without white space, their members in the order of their names."""
+    return json.dumps(rows, separators=(",", ":"), sort_keys=True)
+
+
+def in_base64(found):
+    return base64.b64encode(found).decode()
+
+
+def note_rows(request):
+    """Each signature of the checkpoint, over the note, under the log's scheme and key."""
+    note, signatures = rekor.read_checkpoint(request["checkpoint"])
+    message = in_base64(rekor.note_text(note).encode())
+    key = in_base64(request["key"])
+    return [{"operation": "message", "scheme": request["scheme"], "key": key, "message": message, "signature": in_base64(raw)}
+            for _, _, raw in signatures]
+
+
+def log_reply(text):
+    """The reply of `questions log` and its status."""
+    try:
+        found = document(note_rows(log_requests.read_request(text)))
+    except NoRequest:
+        return "refused request", 2
+    except rekor.Fault:
+        return "refused checkpoint", 1
+    return (found, 0) if len(found) <= MOST_BYTES else ("refused request", 2)
+
+
+class Asked(list):
+    """The signatures that are looked up in it, in order. Each is genuine, or none is."""
+
+    def __init__(self, genuine):
+        super().__init__()
+        self.genuine = genuine
+
+    def __contains__(self, row):
+        self.append(row)
+        return self.genuine
+
+
+def asked(case, *names, genuine=True):
+    """What these links look up, up to the first that fails."""
+    case.request.accepted = Asked(genuine)
+    try:
+        for name in names:
+            links.LINKS[name](case)
+    except (links.Fails, KeyError):
+        pass
+    return case.request.accepted
+
+
+def verify_questions(case):
+    """What the links ask of a case of which those before `issuer` hold."""
+    anchors, certificates, points = case.anchors, [], []
+    for anchor in anchors:
+        case.anchors = [anchor]
+        under = asked(case, "issuer")
+        certificates += under
+        points += asked(case, "sct") if under else []
+    content, promise = asked(case, "key", "signature"), asked(case, "log-key", "promise")
+    # Where the first look-up of a link says that a signature is genuine, no other of the note is looked up.
+    return certificates, points + content + promise + asked(case, "log-key", "checkpoint", "note-key", genuine=False)
+
+
+def written(row):
+    """A row of a second reader as a row of `accepted`."""
+    operation, scheme, *values = row
+    if operation == "certificate":
+        scheme = in_base64(scheme)
+    members = {"operation": operation, "scheme": scheme, **dict(zip(("key", "message", "signature"), map(in_base64, values)))}
+    return {name: value for name, value in members.items() if value is not None}
+
+
+def verify_reply(text):
+    """The reply of `questions verify` and its status."""
+    try:
+        case = links.SimpleNamespace(request=links.read_request(text.encode()))
+    except NoRequest:
+        return "refused request", 2
+    for name, link in links.LINKS.items():
+        if name == "issuer":
+            break
+        try:
+            link(case)
+        except links.Fails:
+            return "refused " + name, 1
+    certificates, others = verify_questions(case)
+    if not certificates:
+        return "refused issuer", 1
+    found = document(list(map(written, certificates + others)))
+    return (found, 0) if len(found) <= MOST_BYTES else ("refused request", 2)
+
+
+def write():
+    for names, reply in ((LOG, log_reply), (VERIFY, verify_reply)):
+        for name in names:
+            text, status = reply((TOP / f"examples/{name}.json").read_text())
+            (TOP / f"examples/questions-{name}.expected").write_text(f"{text}\nstatus {status}\n")
+
+
+def run(program, text, *words):
+    """The reply, its lines in one, and the status."""
+    done = subprocess.run([program, *words], input=text, text=True, capture_output=True)
+    return done.stdout.removesuffix("\n").replace("\n", " "), done.returncode
+
+
+def with_accepted(text, rows):
+    return json.dumps({**json.loads(text), "accepted": rows})
+
+
+def verify_second(text):
+    reply = links.verify(text.encode())[0]
+    return reply.replace("\n", " "), verify_cases.status_of(reply)
+
+
+def is_same(program, command, text, wanted, second):
+    """Whether the program lists what this reader lists of a request, and nothing else matters to its command."""
+    said = run(program, text, "questions", command)
+    if said != wanted:
+        return False
+    reply = run(program, text, command)
+    if said[1] == 2:
+        return True
+    if said[1] == 1:
+        return said == reply == run(program, with_accepted(text, []), command)
+    listed = json.loads(said[0])
+    read = [log_requests.row_of(row) for row in listed]
+    kept = [row for row in json.loads(text).get("accepted") or [] if log_requests.row_of(row) in read]
+    every = with_accepted(text, listed)
+    return run(program, with_accepted(text, kept), command) == reply and run(program, every, command) == second(every)
+
+
+def log_texts():
+    lines = (TOP / "examples/log.requests").read_text().split("\n")
+    return [line for line in lines if line.startswith((" ", "{", "[", "\ufeff"))]
+
+
+def verify_texts():
+    for group in verify_rows.GROUPS:
+        group()
+    return [row.text for row in verify_cases.ROWS]
+
+
+def check(program):
+    failed = 0
+    for command, texts, reader, second in (("log", log_texts(), log_reply, log_requests.reply), ("verify", verify_texts(), verify_reply, verify_second)):
+        for text in texts:
+            wanted = reader(text)
+            if not is_same(program, command, text, wanted, second):
+                failed += 1
+                print(f"{command} of {text[:200]}\n  is not {wanted[0][:200]} {wanted[1]}", file=sys.stderr)
+        print(f"questions {command}: {len(texts)} requests", file=sys.stderr)
+    return failed
+
+
+if __name__ == "__main__":
+    if sys.argv[1:2] == ["check"]:
+        sys.exit(min(check(sys.argv[2]), 1))
+    write()
