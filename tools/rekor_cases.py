@@ -119,6 +119,10 @@ def checkpoint_line(checkpoint):
     return " ".join((note_line(checkpoint[0]), *("signature " + signature_line(s) for s in checkpoint[1])))
 
 
+def borrowed_line(checkpoint):
+    return " ".join((debug(note_text(checkpoint[0])), *("signature " + signature_line(s) for s in checkpoint[1])))
+
+
 READERS = {
     "note": lambda text: note_line(read_note(text)),
     "note_text": lambda text: debug(note_text(read_note(text))),
@@ -126,6 +130,8 @@ READERS = {
     "signature_text": lambda text: debug(signature_text(read_signature(text))),
     "checkpoint": lambda text: checkpoint_line(read_checkpoint(text)),
     "checkpoint_text": lambda text: debug(checkpoint_text(read_checkpoint(text))),
+    "borrowed_text": lambda text: debug(note_text(read_note(text))),
+    "borrowed": lambda text: borrowed_line(read_checkpoint(text)),
 }
 
 TABLE = Table("rekor_cases")
@@ -238,12 +244,12 @@ def proof(entry, index, root, size, path, rows, text):
     TABLE.case(line + ("" if text is None else " " + quoted(text)), answer)
 
 
-def tree(text, root, size):
-    TABLE.case(f"tree {quoted(text)} {root.hex()} {size}", of_tree(read_checkpoint(text), root, size) or "ok")
+def tree(text, root, size, call="tree"):
+    TABLE.case(f"{call} {quoted(text)} {root.hex()} {size}", of_tree(read_checkpoint(text), root, size) or "ok")
 
 
-def asked(text, rows):
-    TABLE.case(f"signed {quoted(text)} {table(rows)}", signed(read_checkpoint(text), rows) or "ok")
+def asked(text, rows, call="signed"):
+    TABLE.case(f"{call} {quoted(text)} {table(rows)}", signed(read_checkpoint(text), rows) or "ok")
 
 
 def coded(size):
@@ -344,6 +350,16 @@ for size in (0, 1, 2, 2**64 - 1):
     for root in (ROOT, bytes(32), ROOT[:31] + bytes([ROOT[31] ^ 1]), bytes([ROOT[0] ^ 128]) + ROOT[1:]):
         tree(ONE, root, size)
     tree(EMPTY, hashlib.sha256(b"").digest(), size)
+say("borrowed_text TEXT: what Note::read and Note::marshal make of a note: without lines behind the hash, with some, and with empty ones.")
+case("borrowed_text", BANANA, BANANA + "\n", BANANA + "foo", BANANA + "foo\n", BANANA + "\nfoo", BANANA + "foo\nk: v: w\n: ", BANANA + "foo\n\nk: v\n\n\nbar\n\n", "o")
+say("borrowed TEXT: what SignedNote::decode reads: the text that is signed, and each signature. Then its checks, as of signed and tree.")
+case("borrowed", ONE, BANANA + "foo\nk: v\n\n" + LINE + "\n" + LINE.replace("log", "witness"), "foo")
+asked(ONE, ROW, "borrowed_signed")
+asked(NOTE + "x\n\n" + LINE, ROW, "borrowed_signed")
+asked(NOTE + "x\n\n" + LINE, [(MESSAGE + b"x\n", b"sig")], "borrowed_signed")
+for size in (0, 1, 2):
+    tree(ONE, ROOT, size, "borrowed_tree")
+tree(ONE, bytes(32), 1, "borrowed_tree")
 say("proof ENTRY INDEX ROOT SIZE HASHES NOTES SIGNATURES CHECKPOINT: no checkpoint, no accepted signature, another tree, another path, in this order.")
 for entry, index, size, path, rows, text in itertools.product((b"L123456", b""), (0, 1), (1, 2), ([], [bytes(32)]), (ROW, []), (ONE, None)):
     proof(entry, index, ROOT, size, path, rows, text)

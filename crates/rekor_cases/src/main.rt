@@ -6,11 +6,13 @@
 //! for the checkpoints and roots that it begins with.
 #![tactic(auto)]
 
+mod borrowed;
 mod growth;
 mod models;
 mod proof;
 mod shown;
 
+use borrowed::{borrowed, borrowed_signed, borrowed_text, borrowed_tree};
 use growth::{consistency, consistency_from_rekor, grown, log_info};
 use models::{
     entry, entry_inclusion, hashedrekord, inclusion_proof_from_rekor, proposed, public_key,
@@ -39,6 +41,10 @@ impl Cases for RekorCases {
             "counts" => counts(alloc, arguments.hex(alloc)?),
             "signed" => answer_of_signature(alloc, arguments),
             "tree" => answer_of_tree(alloc, arguments),
+            "borrowed_text" => borrowed_text(alloc, arguments.text(alloc)?.as_str()),
+            "borrowed" => borrowed(alloc, arguments.text(alloc)?.as_str()),
+            "borrowed_signed" => borrowed_signed(alloc, arguments),
+            "borrowed_tree" => borrowed_tree(alloc, arguments),
             "proof" => answer_of_proof(alloc, arguments),
             "from_rekor" => inclusion_proof_from_rekor(alloc, arguments),
             "log_info" => log_info(alloc, arguments),

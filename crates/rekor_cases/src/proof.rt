@@ -25,7 +25,7 @@ fn read_checkpoint(
 }
 
 /// Reads a hash of 32 bytes.
-fn read_hash(alloc: Global, arguments: &mut Arguments<'_>) -> Result<[u8; 32], CaseError> {
+pub fn read_hash(alloc: Global, arguments: &mut Arguments<'_>) -> Result<[u8; 32], CaseError> {
     let bytes = arguments.hex(alloc)?;
     <[u8; 32]>::try_from(bytes.as_slice()).map_err(|_| CaseError::BadLine)
 }

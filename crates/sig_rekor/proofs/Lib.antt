@@ -1,6 +1,7 @@
 pub mod Cutting
 pub mod Notes
 pub mod Signatures
+pub mod WrittenLines
 pub mod Steps
 pub mod NoteLaws
 pub mod SignatureLaws

@@ -22,22 +22,30 @@ unfoldable pub has_accepted_signature : (List ℕ → List ℕ → Bool) → Sig
 has_accepted_signature accepts checkpoint =
     list_any (λ signature. accepts (note_text checkpoint.note) signature.raw) checkpoint.signatures
 
--- the note speaks of the tree of this size and root
-abbrev pub IsOfTree : SignedCheckpoint → List ℕ → ℕ → Type 0
-IsOfTree checkpoint root size = (checkpoint.note.size ≡ size) × (checkpoint.note.hash ≡ root)
+abbrev pub answer_if_signed : Bool → Result (Unit {0}) SigstoreError
+answer_if_signed signed = if signed then Ok tt else Err CheckpointSignatureVerificationError
 
 abbrev pub signed_answer : (List ℕ → List ℕ → Bool) → SignedCheckpoint → Result (Unit {0}) SigstoreError
-signed_answer accepts checkpoint =
-    if has_accepted_signature accepts checkpoint then Ok tt else Err CheckpointSignatureVerificationError
+signed_answer accepts checkpoint = answer_if_signed (has_accepted_signature accepts checkpoint)
+
+-- a note of these is of the tree of this size and root
+abbrev pub IsHeadOf : ℕ → List ℕ → List ℕ → ℕ → Type 0
+IsHeadOf note_size note_hash root size = (note_size ≡ size) × (note_hash ≡ root)
+
+-- the note speaks of the tree of this size and root
+abbrev pub IsOfTree : SignedCheckpoint → List ℕ → ℕ → Type 0
+IsOfTree checkpoint root size = IsHeadOf checkpoint.note.size checkpoint.note.hash root size
 
 -- a larger note, a smaller one, and one of the same size with another root
+abbrev pub head_answer : ℕ → List ℕ → List ℕ → ℕ → Result (Unit {0}) SigstoreError
+head_answer note_size note_hash root size =
+    if nat_lt size note_size then Err (ConsistencyProofError (NewTreeSmaller size note_size)) else
+    if nat_lt note_size size then Err (ConsistencyProofError UnexpectedEmptyProof) else
+    if bytes_eq note_hash root then Ok tt else
+    Err (ConsistencyProofError (MismatchedRoot (record { root = note_hash }) (record { root = root })))
+
 abbrev pub tree_answer : SignedCheckpoint → List ℕ → ℕ → Result (Unit {0}) SigstoreError
-tree_answer checkpoint root size =
-    if nat_lt size checkpoint.note.size then Err (ConsistencyProofError (NewTreeSmaller size checkpoint.note.size))
-    else
-    if nat_lt checkpoint.note.size size then Err (ConsistencyProofError UnexpectedEmptyProof) else
-    if bytes_eq checkpoint.note.hash root then Ok tt else
-    Err (ConsistencyProofError (MismatchedRoot (record { root = checkpoint.note.hash }) (record { root = root })))
+tree_answer checkpoint root size = head_answer checkpoint.note.size checkpoint.note.hash root size
 
 -- the error of the proof as this crate's error
 abbrev pub as_inclusion : Result (Unit {0}) MerkleProofError → Result (Unit {0}) SigstoreError

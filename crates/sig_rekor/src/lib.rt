@@ -1,8 +1,9 @@
 //! Models of the transparency log Rekor: signed checkpoints, and inclusion proofs that carry one.
 //!
-//! The layer above uses two facts. [`SignedCheckpoint::decode`] returns the checkpoint that its text means, or the
-//! first rule that the text breaks. [`InclusionProof::verify`] fails with the first condition that does not hold, in
-//! this order: a checkpoint, an accepted signature, a note of the same tree, inclusion.
+//! The layer above uses two facts. [`SignedNote::decode`] returns the checkpoint that its text means, or the first rule
+//! that the text breaks; [`SignedCheckpoint::decode`] returns the same in memory of its own. [`InclusionProof::verify`]
+//! fails with the first condition that does not hold, in this order: a checkpoint, an accepted signature, a note of the
+//! same tree, inclusion.
 //!
 //! The format is transparency-dev's checkpoint (C2SP tlog-checkpoint) in a signed note (C2SP signed-note):
 //!
@@ -18,16 +19,19 @@
 
 mod checkpoint;
 mod coding;
+mod contents;
 mod cuts;
 mod different;
 mod fault;
 mod hash_text;
 mod inclusion_proof;
 pub mod laws;
+mod marshal;
 mod note;
 mod rekor_proof;
 mod signature;
 mod signed;
+mod signed_note;
 mod verify;
 
 pub use checkpoint::{
@@ -37,4 +41,6 @@ pub use checkpoint::{
 pub use fault::ParseCheckpointError;
 pub use hash_text::{decode_hash, decode_hashes};
 pub use inclusion_proof::InclusionProof;
+pub use note::Note;
 pub use rekor_proof::RekorInclusionProof;
+pub use signed_note::SignedNote;

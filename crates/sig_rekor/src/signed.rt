@@ -1,37 +1,21 @@
-//! A signed checkpoint as text: a note, an empty line, and signatures between empty lines.
-//!
-//! ```text
-//! log.example
-//! 1
-//! OVqgZKpMKfcBCs/j8l25SFu9S5GJe2rXrVR2OSUrTVY=
-//!
-//! — log.example AAAAAXNpZw==
-//! ```
-ghost use Rattle.std.specs.Prelude.{◌≡◌, ◌++◌, ◌∷◌, [], Ok, IfOk, OnOk, string_bytes};
+//! A signed checkpoint as text, read into memory of its own and written.
+ghost use Rattle.std.specs.Prelude.{◌≡◌, ◌++◌, Ok, IfOk, OnOk, string_bytes};
 ghost use Rattle.std.specs.List.{AllByRecursion, join_by, flat_map};
-ghost use Rattle.std.specs.Option.{option_to_list};
 ghost use Rattle.sig_rekor.specs.declared.checkpoint.SignedCheckpoint.{SignedCheckpoint as Signed};
-ghost use Rattle.sig_rekor.specs.Cut.{parts_between};
 ghost use Rattle.sig_rekor.specs.Reading.{Reads};
 ghost use Rattle.sig_rekor.specs.NoteText.{newline};
 ghost use Rattle.sig_rekor.specs.SignatureText.{signature_text};
-ghost use Rattle.sig_rekor.specs.CheckpointText.{empty_line, signatures_by, signatures_on, checkpoint_of};
-ghost use Rattle.sig_rekor.specs.CheckpointText.{checkpoint_text, IsCheckpoint};
+ghost use Rattle.sig_rekor.specs.CheckpointText.{checkpoint_of, checkpoint_text, IsCheckpoint};
 ghost use Rattle.sig_rekor.specs.ReadBack.{IsNoteValue, IsSignatureValue, ReadsBack};
 
-use crate::checkpoint::{Checkpoint, CheckpointSignature, CheckpointSignatures, SignedCheckpoint};
-use crate::cuts::{cut, is_blank, trimmed};
+use crate::checkpoint::{CheckpointSignature, SignedCheckpoint};
 use crate::fault::ParseCheckpointError;
-use sig_base::{CheckpointFault, OutOfMemory, Text};
+use crate::signed_note::SignedNote;
+use sig_base::{OutOfMemory, Text};
 use std::alloc::Global;
 
 impl SignedCheckpoint {
-    /// Reads a signed checkpoint. Quotation marks at both ends are dropped, and so is what is between two empty lines
-    /// and only white space.
-    ///
-    /// Errors, the first whose rule is broken: `Format` where no empty line ends a note, then those of
-    /// [`CheckpointSignature::decode`] for the signatures from the left, then those of [`Checkpoint::unmarshal`] for
-    /// the note.
+    /// Reads a signed checkpoint, in memory of its own. Fails as [`SignedNote::decode`].
     pub fn decode(alloc: Global, s: &str) -> Result<SignedCheckpoint, ParseCheckpointError>
         ensures found { IfOk result (λ checkpoint. IsCheckpoint s.now checkpoint) }
         ensures only { (checkpoint : Signed) → IsCheckpoint s.now checkpoint → Reads (λ x. x) result (Ok checkpoint) }
@@ -63,47 +47,11 @@ impl SignedCheckpoint {
     }
 }
 
-#[tactic(auto, unfolding(crate::specs::CheckpointText::checkpoint_of))]
 fn read_checkpoint(alloc: Global, text: &str) -> Result<SignedCheckpoint, ParseCheckpointError>
     ensures { Reads (λ x. x) result (checkpoint_of text.now) }
 {
-    let Some((note, rest)) = cut(trimmed(text, '"'), "\n\n") else {
-        return Err(ParseCheckpointError::DecodeError(CheckpointFault::Format));
-    };
-    let signatures = read_signatures(alloc, rest)?;
-    let note = Checkpoint::unmarshal(alloc, note)?;
-    Ok(SignedCheckpoint { note, signatures })
-}
-
-#[tactic(auto, using(crate::proofs::Signatures::all_signatures))]
-fn read_signatures(alloc: Global, text: &str) -> Result<CheckpointSignatures, ParseCheckpointError>
-    ensures { Reads (λ x. x) result (signatures_by (parts_between empty_line text.now)) }
-{
-    let mut signatures = CheckpointSignatures::new(alloc);
-    let mut rest = text;
-    'pieces: while let Some((piece, after)) = cut(rest, "\n\n") {
-        add_signature(alloc, piece, &mut signatures)?;
-        rest = after;
-    }
-    add_signature(alloc, rest, &mut signatures)?;
-    Ok(signatures)
-}
-
-/// Adds the signature of a piece, unless the piece is only white space.
-#[tactic(auto, using(crate::proofs::Signatures::one_signature))]
-fn add_signature(
-    alloc: Global,
-    piece: &str,
-    signatures: &mut CheckpointSignatures,
-) -> Result<(), ParseCheckpointError>
-    ensures { Reads (λ _. signatures.new) result (signatures_on signatures.old (piece.now ∷ [])) }
-{
-    if is_blank(piece) {
-        return Ok(());
-    }
-    let signature = CheckpointSignature::decode(alloc, piece)?;
-    signatures.push(signature)?;
-    Ok(())
+    let note = SignedNote::decode(alloc, text)?;
+    Ok(note.copy(alloc)?)
 }
 
 /// Writes signatures with a newline between each two.

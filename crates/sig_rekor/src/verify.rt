@@ -1,19 +1,21 @@
 //! What a checkpoint vouches for: a tree, under the log's key.
-ghost use Rattle.std.specs.Prelude.{◌≡◌, ◌<◌, ◌↔◌, IsOk, OnOk, IfOk, IsTrue, Ok, Err};
+ghost use Rattle.std.specs.Prelude.{◌≡◌, ◌↔◌, IsOk, OnOk, IfOk, IsTrue};
 ghost use Rattle.std.specs.List.{list_any};
 ghost use Rattle.sig_base.specs.Answers.{Answers};
 ghost use Rattle.sig_base.specs.declared.error.SigstoreError.TheVariants.{OutOfMemory as Memory};
 ghost use Rattle.sig_key.specs.Key.{key_accepts};
-ghost use Rattle.sig_rekor.specs.NoteText.{note_text};
-ghost use Rattle.sig_rekor.specs.Verify.{has_accepted_signature, IsOfTree, signed_answer, tree_answer};
+ghost use Rattle.sig_rekor.specs.Verify.{has_accepted_signature, signed_answer, answer_if_signed};
+ghost use Rattle.sig_rekor.specs.Verify.{IsOfTree, tree_answer, IsHeadOf, head_answer};
 
 use crate::checkpoint::{CheckpointSignature, SignedCheckpoint};
 use crate::different::different;
+use crate::signed_note::SignedNote;
 use sig_base::{MerkleProofError, OutOfMemory, Result, RootHex, SignatureChecker, SigstoreError};
 use sig_key::CosignVerificationKey;
 use std::alloc::Global;
 
-impl SignedCheckpoint {
+#[tactic(auto, unfolding(crate::specs::Verify::has_accepted_signature))]
+impl SignedNote<'_> {
     /// Checks that one of the signatures is the log's over the marshalled note. Fails with
     /// `CheckpointSignatureVerificationError` if and only if the checker accepts none of them.
     ///
@@ -34,28 +36,15 @@ impl SignedCheckpoint {
             (key_accepts (C.spki_accepts checker.now) rekor_key.now)
             self.now)) }
     {
-        if self.has_accepted_signature(alloc, rekor_key, checker)? {
-            Ok(())
-        } else {
-            Err(SigstoreError::CheckpointSignatureVerificationError)
-        }
-    }
-
-    /// Whether one of the signatures is the key's over the marshalled note.
-    #[tactic(auto, unfolding(crate::specs::Verify::has_accepted_signature))]
-    fn has_accepted_signature<C: SignatureChecker>(
-        &self,
-        alloc: Global,
-        key: &CosignVerificationKey,
-        checker: &C,
-    ) -> std::result::Result<bool, OutOfMemory>
-        ensures { IfOk result (λ signed. signed ≡ has_accepted_signature
-            (key_accepts (C.spki_accepts checker.now) key.now)
-            self.now) }
-    {
         let note = self.note.marshal(alloc)?;
         let message = note.as_str().as_bytes();
-        accepts_one(alloc, self.signatures.as_slice(), message, key, checker)
+        check_signatures(
+            alloc,
+            message,
+            self.signatures.as_slice(),
+            rekor_key,
+            checker,
+        )
     }
 
     /// Checks that the note is of a proof's tree, whose root and number of leaves these are. It takes no memory.
@@ -71,27 +60,92 @@ impl SignedCheckpoint {
         ensures ok { IsOk result ↔ IsOfTree self.now proof_root_hash.now proof_tree_size }
     {
         let note = &self.note;
-        if proof_tree_size < note.size {
-            return Err(SigstoreError::ConsistencyProofError(MerkleProofError::NewTreeSmaller {
-                new: proof_tree_size,
-                old: note.size,
-            }));
-        }
-        if note.size < proof_tree_size {
-            return Err(SigstoreError::ConsistencyProofError(
-                MerkleProofError::UnexpectedEmptyProof,
-            ));
-        }
-        if note.hash == *proof_root_hash {
-            return Ok(());
-        }
-        Err(SigstoreError::ConsistencyProofError(MerkleProofError::MismatchedRoot {
-            expected: RootHex { root: note.hash },
-            got: RootHex {
-                root: *proof_root_hash,
-            },
-        }))
+        check_tree(note.size, &note.hash, proof_root_hash, proof_tree_size)
     }
+}
+
+#[tactic(auto, unfolding(crate::specs::Verify::has_accepted_signature))]
+impl SignedCheckpoint {
+    /// Checks that one of the signatures is the log's over the marshalled note, as [`SignedNote::verify_signature`].
+    pub fn verify_signature<C: SignatureChecker>(
+        &self,
+        alloc: Global,
+        rekor_key: &CosignVerificationKey,
+        checker: &C,
+    ) -> Result<()>
+        ensures answer { Answers Memory (λ x. x) result
+            (signed_answer (key_accepts (C.spki_accepts checker.now) rekor_key.now) self.now) }
+        ensures ok { OnOk result (IsTrue (has_accepted_signature
+            (key_accepts (C.spki_accepts checker.now) rekor_key.now)
+            self.now)) }
+    {
+        let note = self.note.marshal(alloc)?;
+        let message = note.as_str().as_bytes();
+        check_signatures(
+            alloc,
+            message,
+            self.signatures.as_slice(),
+            rekor_key,
+            checker,
+        )
+    }
+
+    /// Checks that the note is of a proof's tree, as [`SignedNote::is_valid_for_proof`].
+    pub fn is_valid_for_proof(&self, proof_root_hash: &[u8; 32], proof_tree_size: u64) -> Result<()>
+        ensures answer { result ≡ tree_answer self.now proof_root_hash.now proof_tree_size }
+        ensures ok { IsOk result ↔ IsOfTree self.now proof_root_hash.now proof_tree_size }
+    {
+        let note = &self.note;
+        check_tree(note.size, &note.hash, proof_root_hash, proof_tree_size)
+    }
+}
+
+/// Checks that the checker accepts one of the signatures over the message as the key's.
+fn check_signatures<C: SignatureChecker>(
+    alloc: Global,
+    message: &[u8],
+    signatures: &[CheckpointSignature],
+    key: &CosignVerificationKey,
+    checker: &C,
+) -> Result<()>
+    ensures { Answers Memory (λ x. x) result (answer_if_signed
+        (list_any (λ s. key_accepts (C.spki_accepts checker.now) key.now message.now s.raw) signatures.now)) }
+{
+    if accepts_one(alloc, signatures, message, key, checker)? {
+        Ok(())
+    } else {
+        Err(SigstoreError::CheckpointSignatureVerificationError)
+    }
+}
+
+/// Checks that a note of this size and root is of a proof's tree.
+fn check_tree(
+    size: u64,
+    hash: &[u8; 32],
+    proof_root_hash: &[u8; 32],
+    proof_tree_size: u64,
+) -> Result<()>
+    ensures answer { result ≡ head_answer size hash.now proof_root_hash.now proof_tree_size }
+    ensures ok { IsOk result ↔ IsHeadOf size hash.now proof_root_hash.now proof_tree_size }
+{
+    if proof_tree_size < size {
+        return Err(SigstoreError::ConsistencyProofError(MerkleProofError::NewTreeSmaller {
+            new: proof_tree_size,
+            old: size,
+        }));
+    }
+    if size < proof_tree_size {
+        return Err(SigstoreError::ConsistencyProofError(MerkleProofError::UnexpectedEmptyProof));
+    }
+    if *hash == *proof_root_hash {
+        return Ok(());
+    }
+    Err(SigstoreError::ConsistencyProofError(MerkleProofError::MismatchedRoot {
+        expected: RootHex { root: *hash },
+        got: RootHex {
+            root: *proof_root_hash,
+        },
+    }))
 }
 
 /// Whether the checker accepts one of the signatures over the message as the key's.

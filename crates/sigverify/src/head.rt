@@ -4,7 +4,7 @@ ghost use Rattle.sigverify.specs.Head.{IsHeadVerdict, IsHeadVerdictUnder, IsMatc
 
 use sig_base::{Bytes, OutOfMemory, SigningScheme, SigstoreError, TableChecker, Text};
 use sig_key::CosignVerificationKey;
-use sig_rekor::{ParseCheckpointError, SignedCheckpoint};
+use sig_rekor::{ParseCheckpointError, SignedNote};
 use sig_verify::Link;
 use std::alloc::Global;
 
@@ -30,7 +30,7 @@ pub fn failing_link_of(
 ) -> Result<Option<Link>, OutOfMemory>
     ensures { IfOk result (IsHeadVerdict head.now size root.now) }
 {
-    match SignedCheckpoint::decode(alloc, head.checkpoint.as_str()) {
+    match SignedNote::decode(alloc, head.checkpoint.as_str()) {
         Ok(checkpoint) => failing_link_under(alloc, head, size, root, &checkpoint),
         Err(ParseCheckpointError::DecodeError(_)) => Ok(Some(Link::Checkpoint)),
         Err(ParseCheckpointError::OutOfMemory) => Err(OutOfMemory),
@@ -43,7 +43,7 @@ fn failing_link_under(
     head: &SignedHead,
     size: u64,
     root: &[u8; 32],
-    checkpoint: &SignedCheckpoint,
+    checkpoint: &SignedNote<'_>,
 ) -> Result<Option<Link>, OutOfMemory>
     ensures { IfOk result (IsHeadVerdictUnder head.now size root.now checkpoint.now) }
 {
@@ -60,7 +60,7 @@ fn failing_link_under(
 fn has_accepted_signature(
     alloc: Global,
     head: &SignedHead,
-    checkpoint: &SignedCheckpoint,
+    checkpoint: &SignedNote<'_>,
 ) -> Result<bool, OutOfMemory>
     ensures { IfOk result (λ signed. IsTrue signed ↔ HasAcceptedSignature head.now checkpoint.now) }
 {
@@ -77,7 +77,7 @@ fn has_accepted_signature(
 }
 
 /// Whether the checkpoint's note speaks of a tree of this size and root.
-fn is_matched(size: u64, root: &[u8; 32], checkpoint: &SignedCheckpoint) -> bool
+fn is_matched(size: u64, root: &[u8; 32], checkpoint: &SignedNote<'_>) -> bool
     ensures { IsTrue result ↔ IsMatched size root.now checkpoint.now }
 {
     checkpoint.is_valid_for_proof(root, size).is_ok()

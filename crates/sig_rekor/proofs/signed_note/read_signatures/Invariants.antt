@@ -3,7 +3,7 @@ use denote.Text.{Utf8}
 use Rattle.std.proofs.Common.{◌≡◌, length}
 use Rattle.sig_rekor.specs.Cut.{parts_between}
 use Rattle.sig_rekor.specs.CheckpointText.{empty_line, signatures_by, signatures_on}
-use Rattle.sig_rekor.proofs.signed.read_signatures.Given as goal
+use Rattle.sig_rekor.proofs.signed_note.read_signatures.Given as goal
 
 -- the signatures so far and those of what is left are those of the text
 abbrev pub invariant-pieces : goal.invariant-pieces

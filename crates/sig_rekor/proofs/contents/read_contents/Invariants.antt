@@ -3,7 +3,7 @@ use denote.Text.{Utf8}
 use Rattle.std.proofs.Common.{◌≡◌, ◌++◌, length}
 use Rattle.sig_rekor.specs.Cut.{parts_between}
 use Rattle.sig_rekor.specs.NoteText.{newline, contents_of}
-use Rattle.sig_rekor.proofs.note.read_contents.Given as goal
+use Rattle.sig_rekor.proofs.contents.read_contents.Given as goal
 
 -- the contents so far and those of what is left are those of the text
 abbrev pub invariant-lines : goal.invariant-lines

@@ -2,7 +2,7 @@
 use Rattle.std.proofs.Common.{◌≡◌, Err, arith}
 use Rattle.std.proofs.lemmas.Grind.{common_steps}
 use Rattle.sig_rekor.proofs.Signatures.{ends_at_cut}
-use Rattle.sig_rekor.proofs.signed.read_signatures.Goals as goal
+use Rattle.sig_rekor.proofs.signed_note.read_signatures.Goals as goal
 
 pub returns-in_err-add_signature : goal.returns-in_err-add_signature
 returns-in_err-add_signature c =

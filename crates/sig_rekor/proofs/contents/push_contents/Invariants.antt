@@ -1,7 +1,7 @@
 use Rattle.std.proofs.Common.{◌≡◌, ◌++◌, take, string_bytes}
 use Rattle.std.specs.List.{flat_map}
 use Rattle.sig_rekor.specs.NoteText.{content_line}
-use Rattle.sig_rekor.proofs.note.push_contents.Given as goal
+use Rattle.sig_rekor.proofs.contents.push_contents.Given as goal
 
 -- the contents so far are written
 abbrev pub invariant-loop-content : goal.invariant-loop-content
