@@ -13,7 +13,7 @@ use sig_base::{KeyMap, Operation, Text, VerifyScheme};
 use sig_bundle::{TransparencyLogEntry, promise_text};
 use sig_json::CanonicalError;
 use sig_key::{KeyKind, key_kind};
-use sig_rekor::{CheckpointSignature, ParseCheckpointError, SignedCheckpoint};
+use sig_rekor::{CheckpointSignature, ParseCheckpointError, SignedNote};
 use std::alloc::Global;
 
 /// A key of a log.
@@ -110,7 +110,7 @@ fn push_note(
     let Some(text) = text_of(entry) else {
         return Ok(());
     };
-    match SignedCheckpoint::decode(alloc, text) {
+    match SignedNote::decode(alloc, text) {
         Ok(checkpoint) => push_checkpoint(rows, alloc, &checkpoint, key),
         Err(ParseCheckpointError::DecodeError(_)) => Ok(()),
         Err(ParseCheckpointError::OutOfMemory) => Err(NoQuestions::OutOfMemory),
@@ -134,17 +134,17 @@ fn text_of(entry: &TransparencyLogEntry) -> Option<&str>
 fn push_checkpoint(
     rows: &mut Rows,
     alloc: Global,
-    checkpoint: &SignedCheckpoint,
+    checkpoint: &SignedNote<'_>,
     key: &LogKey<'_>,
 ) -> Result<(), NoQuestions>
     ensures { AddsRows rows.old (note_questions_of key.now.scheme key.now.spki.now checkpoint.now) result rows.new }
 {
-    let note = checkpoint.note.marshal(alloc)?;
+    let note = checkpoint.marshal(alloc)?;
     push_signatures(
         rows,
         alloc,
         note.as_str().as_bytes(),
-        checkpoint.signatures.as_slice(),
+        checkpoint.signatures(),
         key,
     )
 }

@@ -14,7 +14,7 @@ use crate::request::LogRequest;
 use crate::rows_text::add_row;
 use sig_base::{AcceptedRow, Bytes, Operation, OutOfMemory, Text};
 use sig_json::{Document, compact};
-use sig_rekor::{CheckpointSignature, ParseCheckpointError, SignedCheckpoint};
+use sig_rekor::{CheckpointSignature, ParseCheckpointError, SignedNote};
 use sig_verify::Link;
 use std::alloc::Global;
 
@@ -46,10 +46,10 @@ fn reply_to_text(alloc: Global, request: &[u8]) -> Result<Reply, OutOfMemory>
 }
 
 /// The checkpoint of a head, `None` if and only if its text is none.
-fn checkpoint_of(alloc: Global, head: &SignedHead) -> Result<Option<SignedCheckpoint>, OutOfMemory>
+fn checkpoint_of(alloc: Global, head: &SignedHead) -> Result<Option<SignedNote<'_>>, OutOfMemory>
     ensures { IfOk result (IsCheckpointOf head.now) }
 {
-    match SignedCheckpoint::decode(alloc, head.checkpoint.as_str()) {
+    match SignedNote::decode(alloc, head.checkpoint.as_str()) {
         Ok(checkpoint) => Ok(Some(checkpoint)),
         Err(ParseCheckpointError::DecodeError(_)) => Ok(None),
         Err(ParseCheckpointError::OutOfMemory) => Err(OutOfMemory),
@@ -60,7 +60,7 @@ fn checkpoint_of(alloc: Global, head: &SignedHead) -> Result<Option<SignedCheckp
 fn listed(
     alloc: Global,
     head: &SignedHead,
-    checkpoint: &SignedCheckpoint,
+    checkpoint: &SignedNote<'_>,
 ) -> Result<Reply, OutOfMemory>
     ensures { IfOk result (IsListingOf (head_rows head.now checkpoint.now)) }
 {
@@ -74,14 +74,14 @@ fn listed(
 fn note_document(
     alloc: Global,
     head: &SignedHead,
-    checkpoint: &SignedCheckpoint,
+    checkpoint: &SignedNote<'_>,
 ) -> Result<Option<Text>, OutOfMemory>
     ensures { IfOk result (IsDocumentOf (head_rows head.now checkpoint.now)) }
 {
-    let note = checkpoint.note.marshal(alloc)?;
+    let note = checkpoint.marshal(alloc)?;
     let mut list = Document::list(alloc);
     let mut size = 0;
-    'signatures: for signature in checkpoint.signatures.as_slice() {
+    'signatures: for signature in checkpoint.signatures() {
         let row = head_row(alloc, head, checkpoint, &note, signature)?;
         let Some(sum) = add_row(alloc, &mut list, size, &row)? else {
             return Ok(None);
@@ -95,7 +95,7 @@ fn note_document(
 fn head_row(
     alloc: Global,
     head: &SignedHead,
-    checkpoint: &SignedCheckpoint,
+    checkpoint: &SignedNote<'_>,
     note: &Text,
     signature: &CheckpointSignature,
 ) -> Result<AcceptedRow, OutOfMemory>

@@ -15,14 +15,14 @@ signatures-init c =
 pub signatures-preserved : goal.signatures-preserved
 signatures-preserved c =
     let rows = head_rows c.args.head.now c.args.checkpoint.now in
-    let items = c.as_slice-signature-items.result.now in
+    let items = c.signatures-signature-items.result.now in
     let below : c.signatures.signature-index < length items = omega (arith, c.signatures-test.true) in
-    let long = rows-length c.args.head.now c.args.checkpoint.now items c.as_slice-signature-items.ensures in
+    let long = rows-length c.args.head.now c.args.checkpoint.now items c.signatures-signature-items.ensures in
     let in_range : c.signatures.signature-index < length rows = omega (arith, below, long) in
     listed-more rows c.signatures.signature-index c.in_ok-row.row (document_tree c.signatures.list)
     (document_tree c.add_row.new.list) c.signatures.size c.in-Some.sum in_range
     (row-at c.args.head.now c.args.checkpoint.now items c.signatures.signature-index c.signature-item.result
-    c.in_ok-row.row c.as_slice-signature-items.ensures below c.signature-item.is c.in_ok-row.ensures)
+    c.in_ok-row.row c.signatures-signature-items.ensures below c.signature-item.is c.in_ok-row.ensures)
     c.signatures.invariant c.in_ok-sum.ensures.back
     (subst (AddsRow (document_tree c.signatures.list)
     (document_tree c.add_row.new.list) c.signatures.size c.in_ok-row.row)
@@ -31,14 +31,14 @@ signatures-preserved c =
 pub returns-in_default : goal.returns-in_default
 returns-in_default c =
     let rows = head_rows c.args.head.now c.args.checkpoint.now in
-    let items = c.as_slice-signature-items.result.now in
+    let items = c.signatures-signature-items.result.now in
     let below : c.signatures.signature-index < length items = omega (arith, c.signatures-test.true) in
-    let long = rows-length c.args.head.now c.args.checkpoint.now items c.as_slice-signature-items.ensures in
+    let long = rows-length c.args.head.now c.args.checkpoint.now items c.signatures-signature-items.ensures in
     let in_range : c.signatures.signature-index < length rows = omega (arith, below, long) in
     listed-past rows c.signatures.signature-index c.in_ok-row.row (document_tree c.signatures.list)
     (document_tree c.add_row.new.list) c.signatures.size in_range
     (row-at c.args.head.now c.args.checkpoint.now items c.signatures.signature-index c.signature-item.result
-    c.in_ok-row.row c.as_slice-signature-items.ensures below c.signature-item.is c.in_ok-row.ensures)
+    c.in_ok-row.row c.signatures-signature-items.ensures below c.signature-item.is c.in_ok-row.ensures)
     c.signatures.invariant
     (subst (AddsRow (document_tree c.signatures.list)
     (document_tree c.add_row.new.list) c.signatures.size c.in_ok-row.row)
@@ -47,8 +47,8 @@ returns-in_default c =
 pub returns : goal.returns
 returns c =
     let rows = head_rows c.args.head.now c.args.checkpoint.now in
-    let items = c.as_slice-signature-items.result.now in
-    let long = rows-length c.args.head.now c.args.checkpoint.now items c.as_slice-signature-items.ensures in
+    let items = c.signatures-signature-items.result.now in
+    let long = rows-length c.args.head.now c.args.checkpoint.now items c.signatures-signature-items.ensures in
     let all : length rows ≤ c.signatures.signature-index = omega (arith, c.signatures-test.false, long) in
     listed-whole rows c.signatures.signature-index (document_tree c.signatures.list) (tree c.view.result)
     c.signatures.size c.in_ok-compact.field-0 all c.signatures.invariant c.view.ensures c.in_ok-compact.ensures.text
