@@ -23,27 +23,27 @@ operation_at-code Certificate = refl
 pub same_operation : (a b : Operation) → operation_code a ≡ operation_code b → a ≡ b
 same_operation a b e = sym (operation_at-code a) ∙ ap operation_at e ∙ operation_at-code b
 
-abbrev pub row_with : Operation → List ℕ → List ℕ → List ℕ → List ℕ → AcceptedRow
-row_with operation scheme key message signature =
+abbrev pub as_row : Operation → List ℕ → List ℕ → List ℕ → List ℕ → AcceptedRow
+as_row operation scheme key message signature =
     record { operation = operation; scheme = scheme; key = key; message = message; signature = signature }
 
 -- a row matches exactly where it is the row of the five parts
 matches-row : (operation : Operation) (scheme key message signature : List ℕ) (row : AcceptedRow)
-    → matches operation scheme key message signature row ≡ true → row ≡ row_with operation scheme key message signature
+    → matches operation scheme key message signature row ≡ true → row ≡ as_row operation scheme key message signature
 matches-row operation scheme key message signature row e =
     let a = and_parts _ _ e in
     let b = and_parts _ _ a.1 in
     let c = and_parts _ _ b.1 in
     let d = and_parts _ _ c.1 in
-    ap (λ o. row_with o row.scheme row.key row.message row.signature)
+    ap (λ o. as_row o row.scheme row.key row.message row.signature)
     (same_operation row.operation operation (eqb-true _ _ a.0))
-    ∙ ap (λ s. row_with operation s row.key row.message row.signature) ((bytes_eq-Decides row.scheme scheme).0 b.0)
-    ∙ ap (λ k. row_with operation scheme k row.message row.signature) ((bytes_eq-Decides row.key key).0 c.0)
-    ∙ ap (λ m. row_with operation scheme key m row.signature) ((bytes_eq-Decides row.message message).0 d.0)
-    ∙ ap (λ g. row_with operation scheme key message g) ((bytes_eq-Decides row.signature signature).0 d.1)
+    ∙ ap (λ s. as_row operation s row.key row.message row.signature) ((bytes_eq-Decides row.scheme scheme).0 b.0)
+    ∙ ap (λ k. as_row operation scheme k row.message row.signature) ((bytes_eq-Decides row.key key).0 c.0)
+    ∙ ap (λ m. as_row operation scheme key m row.signature) ((bytes_eq-Decides row.message message).0 d.0)
+    ∙ ap (λ g. as_row operation scheme key message g) ((bytes_eq-Decides row.signature signature).0 d.1)
 
 row-matches : (operation : Operation) (scheme key message signature : List ℕ)
-    → matches operation scheme key message signature (row_with operation scheme key message signature) ≡ true
+    → matches operation scheme key message signature (as_row operation scheme key message signature) ≡ true
 row-matches operation scheme key message signature =
     let o : nat_eq (operation_code operation) (operation_code operation) ≡ true = grind arith in
     let s = (bytes_eq-Decides scheme scheme).1 refl in
@@ -63,7 +63,7 @@ pub accepted-rows : (rows : List AcceptedRow) (operation : Operation) (scheme ke
     })
 accepted-rows rows operation scheme key message signature =
     let test : AcceptedRow → Bool = matches operation scheme key message signature in
-    let row = row_with operation scheme key message signature in (
+    let row = as_row operation scheme key message signature in (
       λ e. let some : Any (λ x. test x ≡ true) rows = Any-from_list_any test rows e in
           let same : some.1 ≡ row = matches-row operation scheme key message signature some.1 some.4 in
           let P : AcceptedRow → Type 0 = λ x. get_or rows some.0 x ≡ x in

@@ -15,3 +15,6 @@ pub mod ByteLists
 pub mod Zipped
 pub mod PartEquality
 pub mod IntOrders
+pub mod EachFrom
+pub mod Utf8Texts
+pub mod Base64Texts

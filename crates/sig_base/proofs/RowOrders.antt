@@ -19,7 +19,7 @@ use Rattle.sig_base.specs.Checker.{operation_code}
 use Rattle.sig_base.specs.RowOrder.{row_order, IsOrderOf}
 use Rattle.sig_base.specs.declared.checker.AcceptedRow.{AcceptedRow}
 use Rattle.sig_base.proofs.Orderings.{both_tie}
-use Rattle.sig_base.proofs.AcceptedRows.{row_with, same_operation}
+use Rattle.sig_base.proofs.AcceptedRows.{as_row, same_operation}
 
 pub row_order_total : IsTotalOrder row_order
 unfolding row_order
@@ -51,12 +51,12 @@ same_row a b e =
     let k = both_tie _ _ m.0 in
     let s = both_tie _ _ k.0 in
     let o = both_tie _ _ s.0 in
-    ap (λ operation. row_with operation a.scheme a.key a.message a.signature)
+    ap (λ operation. as_row operation a.scheme a.key a.message a.signature)
     (same_operation a.operation b.operation (exact_unsigned _ _ o.1))
-    ∙ ap (λ scheme. row_with b.operation scheme a.key a.message a.signature) (exact_bytes a.scheme b.scheme s.1)
-    ∙ ap (λ key. row_with b.operation b.scheme key a.message a.signature) (exact_bytes a.key b.key k.1)
-    ∙ ap (λ message. row_with b.operation b.scheme b.key message a.signature) (exact_bytes a.message b.message m.1)
-    ∙ ap (λ signature. row_with b.operation b.scheme b.key b.message signature)
+    ∙ ap (λ scheme. as_row b.operation scheme a.key a.message a.signature) (exact_bytes a.scheme b.scheme s.1)
+    ∙ ap (λ key. as_row b.operation b.scheme key a.message a.signature) (exact_bytes a.key b.key k.1)
+    ∙ ap (λ message. as_row b.operation b.scheme b.key message a.signature) (exact_bytes a.message b.message m.1)
+    ∙ ap (λ signature. as_row b.operation b.scheme b.key b.message signature)
     (exact_bytes a.signature b.signature o.0)
 
 module _ (rows : List AcceptedRow) (row : AcceptedRow) where

@@ -31,6 +31,10 @@ pub record HandsOver (old new : Option (List ℕ)) (bytes : List ℕ) : Type 0 w
 abbrev pub TookCount : Option (List ℕ) → Option (List ℕ) → ℕ → Type 0
 TookCount old new count = (bytes : List ℕ) × Consumes old new bytes × (length bytes ≡ count)
 
+-- at most this many bytes were taken, from the front of those that were left
+abbrev pub TookAtMost : ℕ → Option (List ℕ) → Option (List ℕ) → Type 0
+TookAtMost n old new = (bytes : List ℕ) × Consumes old new bytes × (length bytes ≤ n)
+
 -- the bytes that were taken are all that were left, or, where those are more, the first n of them: then the others are
 -- still left
 abbrev pub TakesUpTo : ℕ → Option (List ℕ) → Option (List ℕ) → List ℕ → Type 0

@@ -5,15 +5,15 @@ use Rattle.std.specs.Bool.{one_answer}
 use Rattle.std.proofs.lemmas.Fn.{always_returns_same}
 use Rattle.sig_base.specs.declared.checker.AcceptedRow.{AcceptedRow}
 use Rattle.sig_base.specs.RowOrder.{IsOrderOf}
-use Rattle.sig_base.proofs.AcceptedRows.{accepted-rows, row_with}
+use Rattle.sig_base.proofs.AcceptedRows.{accepted-rows, as_row}
 use Rattle.sig_base.proofs.RowOrders.{finds_row, sought}
 use Rattle.sig_base.proofs.checker.TableChecker.accepts.Goals as goal
 
 found : (c : goal.After-is_ok) → (c.is_ok.result ≡ true)
-    ↔ Contains c.args.self.now (row_with c.args.operation c.args.scheme.now c.args.key.now c.args.message.now
+    ↔ Contains c.args.self.now (as_row c.args.operation c.args.scheme.now c.args.key.now c.args.message.now
     c.args.signature.now)
 found c =
-    let row : AcceptedRow = row_with c.args.operation c.args.scheme.now c.args.key.now c.args.message.now
+    let row : AcceptedRow = as_row c.args.operation c.args.scheme.now c.args.key.now c.args.message.now
     c.args.signature.now in
     let order : IsOrderOf c.self.inside.rows c.as_slice.result.now =
     subst (λ (indices : List ℕ). IsOrderOf c.self.inside.rows indices)
