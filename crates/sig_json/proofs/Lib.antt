@@ -12,6 +12,8 @@ pub mod Floatless
 pub mod Lists
 pub mod Numerals
 pub mod Elements
+pub mod Requiring
+pub mod Staying
 pub mod Records
 pub mod Parts
 pub mod Building

@@ -11,7 +11,7 @@ use Rattle.sig_json.specs.View.{view, items_view, members_view}
 use Rattle.sig_json.specs.declared.tree.Tree.{Tree}
 use Rattle.sig_json.specs.List.{items_list, list_of}
 
-length-items_list : (values : List Tree) → length (items_list (items_view values)) ≡ length values
+pub length-items_list : (values : List Tree) → length (items_list (items_view values)) ≡ length values
 length-items_list [] = refl
 length-items_list (value ∷ values) = ap suc (length-items_list values)
 

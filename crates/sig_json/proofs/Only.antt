@@ -213,15 +213,23 @@ floatless-put k d (member l e ms) one rest =
 
 -- ---- a whole value
 
+-- what holds of a value beside itself, and of an object beside what is kept of it, holds of every value beside what is
+-- kept
+by_kept : (P : Data → Data → Type 0) (names : List (List ℕ)) → ((d : Data) → P d d)
+    → ((ms : Members) → P (object ms) (object (members_where (is_among names) ms))) → (d : Data) → P d (only names d)
+unfolding only
+by_kept P names same kept null = same null
+by_kept P names same kept (boolean b) = same (boolean b)
+by_kept P names same kept (number n) = same (number n)
+by_kept P names same kept (string s) = same (string s)
+by_kept P names same kept (array ds) = same (array ds)
+by_kept P names same kept (object ms) = kept ms
+
 pub get-only : (names : List (List ℕ)) (name : List ℕ) (d : Data) → is_among names name ≡ true
     → get name (only names d) ≡ get name d
-unfolding only
-get-only names name null listed = refl
-get-only names name (boolean b) listed = refl
-get-only names name (number n) listed = refl
-get-only names name (string s) listed = refl
-get-only names name (array ds) listed = refl
-get-only names name (object ms) listed = get_member-where (is_among names) name ms listed
+get-only names name d listed =
+    by_kept (λ whole kept. get name kept ≡ get name whole) names (λ whole. refl)
+    (λ ms. get_member-where (is_among names) name ms listed) d
 
 pub get-none : (names : List (List ℕ)) (name : List ℕ) (d : Data) → is_among names name ≡ false
     → get name (only names d) ≡ None
@@ -234,45 +242,28 @@ get-none names name (array ds) other = refl
 get-none names name (object ms) other = get_member-none (is_among names) name ms other
 
 pub only-same : (names : List (List ℕ)) (d : Data) → as_object d ≡ None → only names d ≡ d
-unfolding only
-only-same names null none = refl
-only-same names (boolean b) none = refl
-only-same names (number n) none = refl
-only-same names (string text) none = refl
-only-same names (array ds) none = refl
-only-same names (object ms) none = absurd cc
+only-same names d none =
+    by_kept (λ whole kept. as_object whole ≡ None → kept ≡ whole) names (λ whole other. refl)
+    (λ ms other. absurd cc) d none
 
 pub named-only : (names : List (List ℕ)) (d : Data) → IsNamed d → IsNamed (only names d)
-unfolding only
-named-only names null named = tt
-named-only names (boolean b) named = tt
-named-only names (number n) named = tt
-named-only names (string s) named = tt
-named-only names (array ds) named = named
-named-only names (object ms) named =
-    (names-where (is_among names) ms named.0, values-where (is_among names) ms named.1)
+named-only names d named =
+    by_kept (λ whole kept. IsNamed whole → IsNamed kept) names (λ whole is. is)
+    (λ ms is. (names-where (is_among names) ms is.0, values-where (is_among names) ms is.1)) d named
 
 pub floatless-only : (names : List (List ℕ)) (d : Data) → has_float d ≡ false → has_float (only names d) ≡ false
-unfolding only
-floatless-only names null none = none
-floatless-only names (boolean b) none = none
-floatless-only names (number n) none = none
-floatless-only names (string s) none = none
-floatless-only names (array ds) none = none
-floatless-only names (object ms) none = floatless-where (is_among names) ms none
+floatless-only names d none =
+    by_kept (λ whole kept. has_float whole ≡ false → has_float kept ≡ false) names (λ whole free. free)
+    (λ ms free. floatless-where (is_among names) ms free) d none
 
 -- ---- the rows of a member table
 
 pub member_of-only : (names : List (List ℕ)) (name : List ℕ) (d : Data) → is_among names name ≡ true
     → member_of name (only names d) ≡ member_of name d
-unfolding only member_of
-member_of-only names name null listed = refl
-member_of-only names name (boolean b) listed = refl
-member_of-only names name (number n) listed = refl
-member_of-only names name (string s) listed = refl
-member_of-only names name (array ds) listed = refl
-member_of-only names name (object ms) listed = ap (λ found. Some (found >>= not_null))
-    (get_member-where (is_among names) name ms listed)
+unfolding member_of
+member_of-only names name d listed =
+    by_kept (λ whole kept. member_of name kept ≡ member_of name whole) names (λ whole. refl)
+    (λ ms. ap (λ found. Some (found >>= not_null)) (get_member-where (is_among names) name ms listed)) d
 
 pub required-only : {A : Type 0} (kind : Data → Option A) (names : List (List ℕ)) (name : List ℕ) (d : Data)
     → is_among names name ≡ true → required kind name (only names d) ≡ required kind name d

@@ -10,7 +10,8 @@ use Rattle.sig_json.specs.Gathered.{Entry}
 use Rattle.sig_json.specs.View.{view, items_view, members_view}
 use Rattle.sig_json.specs.declared.tree.Tree.{Tree}
 use Rattle.sig_json.proofs.ByKind.{as_null_is, as_bool_is, as_number_is, as_str_is, as_array_is, as_object_is}
-use Rattle.sig_json.proofs.Lists.{items_from, members_from}
+use Rattle.sig_json.proofs.Lists.{items_from, length-items_list, members_from}
+use Rattle.sig_json.specs.List.{items_list}
 
 -- ---- numbers without floats
 
@@ -52,15 +53,9 @@ SameFrom-other P xs ys i x y h k xis yis other so_far p =
     let b = items_from ys i y k yis in
     let whole : SameFrom xs ys i = so_far.0 p in other cc
 
-length-items_view : (xs ys : List Tree) → items_view xs ≡ items_view ys → length xs ≡ length ys
-length-items_view [] [] e = refl
-length-items_view [] (b ∷ ys) e = cc
-length-items_view (a ∷ xs) [] e = cc
-length-items_view (a ∷ xs) (b ∷ ys) e =
-    let rest : items_view xs ≡ items_view ys = cc in ap suc (length-items_view xs ys rest)
-
 pub other_lengths : (xs ys : List Tree) → (length xs ≡ length ys → ⊥) → items_view xs ≡ items_view ys → ⊥
-other_lengths xs ys other e = other (length-items_view xs ys e)
+other_lengths xs ys other e =
+    other (sym (length-items_list xs) ∙ ap (λ items. length (items_list items)) e ∙ length-items_list ys)
 
 pub SameFrom-end : (P : Type 0) (xs ys : List Tree) (i : ℕ) → i ≡ length xs → length xs ≡ length ys
     → (P ↔ SameFrom xs ys i) → P

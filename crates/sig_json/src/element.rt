@@ -8,7 +8,7 @@ ghost use Rattle.sig_json.specs.SeenAs.{SeenAs, itself};
 ghost use Rattle.sig_json.specs.Tree.{tree};
 
 use crate::error::MemberError;
-use crate::member::find_member;
+use crate::member::{find_member, require_member};
 use crate::view::Json;
 use sig_base::Register;
 use std::alloc::Global;
@@ -50,7 +50,7 @@ pub fn read_list<T: ElementReader>(
 
 /// A required member of one kind. Fails with `Member` if the value is no object, or the member is absent, null or not
 /// of the kind.
-#[tactic(auto, unfolding(crate::specs::Member::required))]
+#[tactic(auto, using(crate::proofs::Requiring::required_members))]
 pub fn required<T: ElementReader>(
     alloc: Global,
     json: Json<'_>,
@@ -59,10 +59,7 @@ pub fn required<T: ElementReader>(
     ensures { Answers MemberError.OutOfMemory T.seen_as.item result
         (or_member (required T.meaning name.now (tree json.entry))) }
 {
-    match find_member(json, name)? {
-        Some(value) => T::read(alloc, value),
-        None => Err(MemberError::Member),
-    }
+    T::read(alloc, require_member(json, name)?)
 }
 
 /// An optional member of one kind; `None` if it is absent or null. Fails with `Member` if the value is no object or
@@ -84,7 +81,7 @@ pub fn optional<T: ElementReader>(
 
 /// A required list of one kind. Fails with `Member` if the value is no object, the member is absent, null or no list,
 /// or an element is not of the kind; a null in the list is an element as any other.
-#[tactic(auto, unfolding(crate::specs::Member::required))]
+#[tactic(auto, using(crate::proofs::Requiring::required_members))]
 pub fn required_list<T: ElementReader>(
     alloc: Global,
     json: Json<'_>,
@@ -93,10 +90,7 @@ pub fn required_list<T: ElementReader>(
     ensures { Answers MemberError.OutOfMemory T.seen_as.list result
         (or_member (required_list T.meaning name.now (tree json.entry))) }
 {
-    match find_member(json, name)? {
-        Some(value) => read_list::<T>(alloc, value),
-        None => Err(MemberError::Member),
-    }
+    read_list::<T>(alloc, require_member(json, name)?)
 }
 
 /// An optional list of one kind; empty if it is absent or null. Fails with `Member` if the value is no object, the

@@ -1,7 +1,8 @@
 //! Members by the rows of a table: a name, a kind, and whether the member is required. Null is the same as absent.
-ghost use Rattle.std.specs.Prelude.{◌≡◌, IfErr, option_map};
+ghost use Rattle.std.specs.Prelude.{◌≡◌, Some, IfErr, option_map};
 ghost use Rattle.sig_json.specs.Member.{member_of, optional_i64, optional_u64, optional_text, optional_bytes};
-ghost use Rattle.sig_json.specs.Member.{required_i64, required_u64, required_text, required_bytes, required_hash};
+ghost use Rattle.sig_json.specs.Member.{required, required_i64, required_u64, required_text, required_bytes};
+ghost use Rattle.sig_json.specs.Member.{required_hash};
 ghost use Rattle.sig_base.specs.Answers.{Answers};
 ghost use Rattle.sig_json.specs.OrMember.{or_member};
 ghost use Rattle.sig_json.specs.Tree.{tree};
@@ -28,6 +29,16 @@ pub(crate) fn find_member<'a>(json: Json<'a>, name: &str) -> Result<Option<Json<
         Some(value) if !value.is_null() => Ok(Some(value)),
         _ => Ok(None),
     }
+}
+
+/// The member of an object. Fails with `Member` if the value is no object, or the member is absent or null.
+#[tactic(auto, unfolding(crate::specs::Member::required))]
+pub(crate) fn require_member<'a>(json: Json<'a>, name: &str) -> Result<Json<'a>, MemberError>
+    ensures value { Answers MemberError.OutOfMemory tree result
+        (or_member (required Some name.now (tree json.entry))) }
+    ensures no_memory { IfErr result (λ e. e ≡ MemberError.Member) }
+{
+    find_member(json, name)?.ok_or(MemberError::Member)
 }
 
 /// An integer from -2^63 to 2^63 - 1: a whole JSON number, or a text of an optional `-` and digits; 0 if the member is
@@ -84,44 +95,35 @@ pub fn read_bytes(alloc: Global, json: Json<'_>, name: &str) -> Result<Bytes, Me
 
 /// A required integer from -2^63 to 2^63 - 1. Fails with `Member` if the value is no object, or the member is absent,
 /// null or no such integer. It takes no memory.
-#[tactic(auto, unfolding(crate::specs::Member::required))]
+#[tactic(auto, using(crate::proofs::Requiring::required_members))]
 pub fn required_i64(json: Json<'_>, name: &str) -> Result<i64, MemberError>
     ensures value { Answers MemberError.OutOfMemory (λ x. x) result
         (or_member (required_i64 name.now (tree json.entry))) }
     ensures no_memory { IfErr result (λ e. e ≡ MemberError.Member) }
 {
-    match find_member(json, name)? {
-        Some(value) => i64_of(value).ok_or(MemberError::Member),
-        None => Err(MemberError::Member),
-    }
+    i64_of(require_member(json, name)?).ok_or(MemberError::Member)
 }
 
 /// A required integer from 0 to 2^64 - 1. Fails with `Member` if the value is no object, or the member is absent, null
 /// or no such integer. It takes no memory.
-#[tactic(auto, unfolding(crate::specs::Member::required))]
+#[tactic(auto, using(crate::proofs::Requiring::required_members))]
 pub fn required_u64(json: Json<'_>, name: &str) -> Result<u64, MemberError>
     ensures value { Answers MemberError.OutOfMemory (λ x. x) result
         (or_member (required_u64 name.now (tree json.entry))) }
     ensures no_memory { IfErr result (λ e. e ≡ MemberError.Member) }
 {
-    match find_member(json, name)? {
-        Some(value) => u64_of(value).ok_or(MemberError::Member),
-        None => Err(MemberError::Member),
-    }
+    u64_of(require_member(json, name)?).ok_or(MemberError::Member)
 }
 
 /// A required hash: 64 hexadecimal digits in either case. Fails with `Member` if the value is no object, or the member
 /// is absent, null or no such text. It takes no memory.
-#[tactic(auto, unfolding(crate::specs::Member::required))]
+#[tactic(auto, using(crate::proofs::Requiring::required_members))]
 pub fn required_hash(json: Json<'_>, name: &str) -> Result<[u8; 32], MemberError>
     ensures value { Answers MemberError.OutOfMemory (λ x. x) result
         (or_member (required_hash name.now (tree json.entry))) }
     ensures no_memory { IfErr result (λ e. e ≡ MemberError.Member) }
 {
-    match find_member(json, name)? {
-        Some(value) => hash(value).ok_or(MemberError::Member),
-        None => Err(MemberError::Member),
-    }
+    hash(require_member(json, name)?).ok_or(MemberError::Member)
 }
 
 /// A required text. Fails with `Member` if the value is no object, or the member is absent, null or no text.
