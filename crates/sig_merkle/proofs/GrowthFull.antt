@@ -5,7 +5,7 @@ use Rattle.std.proofs.Math.Nat.{pow-suc}
 use Rattle.std.proofs.lemmas.Nat.{pow_pos}
 use Rattle.std.proofs.lemmas.Bool.{cases_lt, cases_eq}
 use Rattle.sig_merkle.specs.Consistency.{roots_of}
-use Rattle.sig_merkle.specs.Walk.{inner_fold}
+use Rattle.sig_merkle.specs.Walk.{bit_fold, inner_fold}
 use Rattle.sig_merkle.specs.GrowthWalk.{shift_of, mask_of, right_fold}
 use Rattle.sig_merkle.proofs.ConsistencyLaws.{roots_of-left, roots_of-right}
 use Rattle.sig_merkle.proofs.WalkFolds.{inner_fold-left, inner_fold-right}
@@ -59,7 +59,7 @@ climbs-right m e known old front seed rest last fits above below count led =
 climbs-whole : (m e : ℕ) (known : Bool) (old : List ℕ) (hashes : List (List ℕ)) (seed : List ℕ)
     (rest : List (List ℕ)) → e < 64 → m ≡ 2 ^ e → length rest ≡ e - shift_of m
     → IsStart known m old hashes seed rest → Climbs m (2 ^ e) known old hashes seed rest
-unfolding right_fold inner_fold
+unfolding bit_fold
 climbs-whole m e known old hashes seed [] few same count start =
     let shift : shift_of m ≡ e = ap shift_of same ∙ shift-power e few in
     let power : m ≡ 2 ^ shift_of m = same ∙ ap (λ k. 2 ^ k) (sym shift) in

@@ -1,12 +1,12 @@
 -- The walk to two roots as the code takes it: one hash after another, and the parts of a proof.
-use Rattle.std.proofs.Common.{◌≡◌, ℕ, ◌+◌, ◌-◌, ◌/◌, ◌%◌, ◌^◌, ◌<◌, ◌≤◌, true, false, Some, List, [], ◌∷◌, length, take}
-use Rattle.std.proofs.Common.{drop, get_or, refl, ◌∙◌, arith}
+use Rattle.std.proofs.Common.{◌≡◌, ℕ, ◌-◌, ◌/◌, ◌^◌, ◌<◌, ◌≤◌, true, false, Some, List, ◌∷◌, length, take}
+use Rattle.std.proofs.Common.{drop, refl, ◌∙◌, arith}
 use Rattle.std.specs.Prelude.{nat_eq}
 use Rattle.std.specs.Int.{w64, trailing_zeros}
-use Rattle.std.proofs.lemmas.List.{drop_more, drop_all, length-drop}
+use Rattle.std.proofs.lemmas.List.{length-drop}
 use Rattle.sig_merkle.specs.Consistency.{roots_of, roots_len}
 use Rattle.sig_merkle.specs.Walk.{inner_len, inner_fold, border_fold}
-use Rattle.sig_merkle.specs.GrowthWalk.{shift_of, mask_of, kept_by_bit, right_fold, seed_len, seed_of}
+use Rattle.sig_merkle.specs.GrowthWalk.{shift_of, mask_of, right_fold, seed_len, seed_of}
 use Rattle.sig_merkle.specs.GrowthWalk.{growth_inner_len, walk_roots}
 use Rattle.sig_merkle.proofs.ConsistencyLens.{roots_len-within}
 use Rattle.sig_merkle.proofs.GrowthBits.{shift-below}
@@ -47,21 +47,6 @@ unfolding seed_of
 seed_of-taken m old first rest taken = rw taken refl
 
 pub ruleset takes_seed = (seed_len-full, seed_len-taken, seed_of-full, seed_of-taken)
-
--- one hash more, and none
-
-pub right_fold-step : (value : List ℕ) (hashes : List (List ℕ)) (i bits : ℕ) → i < length hashes
-    → right_fold value (drop i hashes) bits
-    ≡ right_fold (kept_by_bit (bits % 2) value (get_or hashes i [])) (drop (i + 1) hashes) (bits / 2)
-unfolding right_fold
-right_fold-step value hashes i bits within = rw (drop_more hashes i [] within) refl
-
-pub right_fold-done : (value : List ℕ) (hashes : List (List ℕ)) (i bits : ℕ) → length hashes ≤ i
-    → right_fold value (drop i hashes) bits ≡ value
-unfolding right_fold
-right_fold-done value hashes i bits all = rw (drop_all i hashes all) refl
-
-pub ruleset follows_right = (right_fold-step, right_fold-done)
 
 -- a walk's end
 

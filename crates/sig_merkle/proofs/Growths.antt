@@ -6,18 +6,18 @@ use Rattle.std.proofs.lemmas.Bool.{cases_lt, cases_eq, eq-eqb, ne_eqb}
 use Rattle.std.proofs.lemmas.List.{length-drop, length-replicate, length-take-le, take_all, drop_all}
 use Rattle.std.proofs.lemmas.List.{take-append-le, drop-append-le}
 use Rattle.sig_merkle.specs.Consistency.{roots_of, roots_len}
-use Rattle.sig_merkle.specs.Walk.{inner_len, border_len, inner_fold, border_fold}
-use Rattle.sig_merkle.specs.GrowthWalk.{shift_of, mask_of, right_fold, seed_len, seed_of, growth_inner_len}
+use Rattle.sig_merkle.specs.Walk.{inner_len, border_len, node_by_bit, inner_fold, border_fold}
+use Rattle.sig_merkle.specs.GrowthWalk.{shift_of, mask_of, kept_by_bit, right_fold, seed_len, seed_of, growth_inner_len}
 use Rattle.sig_merkle.specs.GrowthWalk.{climb_old, climb_new, walk_roots}
 use Rattle.sig_merkle.proofs.Levels.{by_power}
 use Rattle.sig_merkle.proofs.ConsistencyLaws.{roots_of-right}
 use Rattle.sig_merkle.proofs.ConsistencyLens.{roots_of-some}
 use Rattle.sig_merkle.proofs.WalkBits.{inner_len-left, border_len-left, inner_len-right, border_len-right}
 use Rattle.sig_merkle.proofs.WalkBits.{inner_len-low}
-use Rattle.sig_merkle.proofs.WalkFolds.{inner_fold-above, border_fold-last}
+use Rattle.sig_merkle.proofs.BitFolds.{bit_fold-above}
+use Rattle.sig_merkle.proofs.WalkFolds.{border_fold-last}
 use Rattle.sig_merkle.proofs.Walks.{split_at, narrow}
 use Rattle.sig_merkle.proofs.GrowthBits.{shift-within, shift-above, mask-above}
-use Rattle.sig_merkle.proofs.GrowthFolds.{right_fold-above}
 use Rattle.sig_merkle.proofs.GrowthStarts.{IsStart}
 use Rattle.sig_merkle.proofs.GrowthFull.{Climbs, last-left, last-right, climbs-ends, climbs-left, climbs-full}
 
@@ -112,8 +112,8 @@ walks-right m n e known old front seed lower last fits right older largest count
       growth_inner_len-right m n e fits largest right older,
       take-append-le inner lower (last ∷ []) inside,
       drop-append-le inner lower (last ∷ []) inside,
-      right_fold-above (e - shift_of m) seed (take inner lower) (mask_of m) taken above,
-      inner_fold-above (e - shift_of m) seed (take inner lower) (mask_of m) taken above,
+      bit_fold-above kept_by_bit (e - shift_of m) seed (take inner lower) (mask_of m) taken above,
+      bit_fold-above node_by_bit (e - shift_of m) seed (take inner lower) (mask_of m) taken above,
       rest_mask,
       border_fold-last (right_fold seed (take inner lower) (mask_of (m - 2 ^ e))) (drop inner lower) last,
       border_fold-last (inner_fold seed (take inner lower) (mask_of (m - 2 ^ e))) (drop inner lower) last,

@@ -13,6 +13,7 @@ pub mod SubproofLaws
 pub mod SubproofSteps
 pub mod SubproofAccepted
 pub mod WalkBits
+pub mod BitFolds
 pub mod WalkFolds
 pub mod Walks
 pub mod WalkSteps

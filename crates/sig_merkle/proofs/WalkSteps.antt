@@ -1,12 +1,12 @@
 -- The walk as the code takes it: one hash after another, and the parts of a path.
-use Rattle.std.proofs.Common.{◌≡◌, ℕ, ◌+◌, ◌-◌, ◌/◌, ◌%◌, ◌^◌, ◌<◌, ◌≤◌, List, [], length, take, drop, Some}
+use Rattle.std.proofs.Common.{◌≡◌, ℕ, ◌+◌, ◌-◌, ◌/◌, ◌^◌, ◌<◌, ◌≤◌, List, [], length, take, drop, Some}
 use Rattle.std.proofs.Common.{get_or, refl, ◌∙◌, arith}
 use Rattle.std.specs.Prelude.{bit_xor, count_ones}
 use Rattle.std.specs.Int.{w64, leading_zeros}
 use Rattle.std.proofs.lemmas.List.{drop_more, drop_all}
 use Rattle.sig_merkle.specs.Root.{node_of}
 use Rattle.sig_merkle.specs.Path.{path_root, path_len}
-use Rattle.sig_merkle.specs.Walk.{bit_len, inner_len, border_len, node_by_bit, inner_fold, border_fold, walk_root}
+use Rattle.sig_merkle.specs.Walk.{bit_len, inner_len, border_len, inner_fold, border_fold, walk_root}
 use Rattle.sig_merkle.proofs.PathLaws.{path_len-within}
 use Rattle.sig_merkle.proofs.WalkBits.{no_ones_above}
 use Rattle.sig_merkle.proofs.Walks.{walk_lens, walk_leads}
@@ -26,19 +26,6 @@ pub ruleset counts_ones = (no_ones_above)
 pub ruleset parts_path = (inner_len-computed, border_len-computed, walk_lens, path_len-within)
 
 -- one hash more, and none
-
-pub inner_fold-step : (value : List ℕ) (hashes : List (List ℕ)) (i bits : ℕ) → i < length hashes
-    → inner_fold value (drop i hashes) bits
-    ≡ inner_fold (node_by_bit (bits % 2) value (get_or hashes i [])) (drop (i + 1) hashes) (bits / 2)
-unfolding inner_fold
-inner_fold-step value hashes i bits within = rw (drop_more hashes i [] within) refl
-
-pub inner_fold-done : (value : List ℕ) (hashes : List (List ℕ)) (i bits : ℕ) → length hashes ≤ i
-    → inner_fold value (drop i hashes) bits ≡ value
-unfolding inner_fold
-inner_fold-done value hashes i bits all = rw (drop_all i hashes all) refl
-
-pub ruleset follows_inner = (inner_fold-step, inner_fold-done)
 
 pub border_fold-step : (value : List ℕ) (hashes : List (List ℕ)) (i : ℕ) → i < length hashes
     → border_fold value (drop i hashes) ≡ border_fold (node_of (get_or hashes i []) value) (drop (i + 1) hashes)

@@ -8,13 +8,14 @@ use Rattle.std.proofs.lemmas.Bool.{cases_lt}
 use Rattle.sig_merkle.specs.Split.{IsSplit}
 use Rattle.sig_merkle.specs.Root.{node_of}
 use Rattle.sig_merkle.specs.Path.{path_root, path_len}
-use Rattle.sig_merkle.specs.Walk.{inner_len, border_len, inner_fold, border_fold, walk_root}
+use Rattle.sig_merkle.specs.Walk.{inner_len, border_len, node_by_bit, bit_fold, inner_fold, border_fold, walk_root}
 use Rattle.sig_merkle.proofs.Levels.{by_power, exponent_le}
 use Rattle.sig_merkle.proofs.PathLaws.{path_len-one, path_len-left, path_len-right, path_root-one}
 use Rattle.sig_merkle.proofs.PathLaws.{path_root-left, path_root-right}
 use Rattle.sig_merkle.proofs.WalkBits.{inner_len-left, border_len-left, inner_len-right, border_len-right}
 use Rattle.sig_merkle.proofs.WalkBits.{inner_len-one, border_len-one, inner_len-low}
-use Rattle.sig_merkle.proofs.WalkFolds.{inner_fold-left, inner_fold-right, inner_fold-above, border_fold-last}
+use Rattle.sig_merkle.proofs.BitFolds.{bit_fold-above}
+use Rattle.sig_merkle.proofs.WalkFolds.{inner_fold-left, inner_fold-right, border_fold-last}
 
 -- a list that is not empty has a last element
 pub last_of : (hashes : List (List ℕ)) (n : ℕ) → length hashes ≡ n + 1
@@ -74,7 +75,7 @@ full_root-more e index leaf rest last within count below =
 
 pub full_root : (e index : ℕ) (leaf : List ℕ) (hashes : List (List ℕ)) → index < 2 ^ e → length hashes ≡ e
     → path_root index leaf (2 ^ e) hashes ≡ Some (inner_fold leaf hashes index)
-unfolding inner_fold
+unfolding bit_fold
 full_root zero index leaf [] within count =
     let first : index ≡ 0 = omega arith in
     rw first (path_root-one leaf)
@@ -170,7 +171,7 @@ walk_root-right size e index leaf rest last fits below largest right within coun
       inner_len-right index size e within largest right,
       take-append-le inner rest (last ∷ []) few,
       drop-append-le inner rest (last ∷ []) few,
-      inner_fold-above e leaf (take inner rest) index taken right,
+      bit_fold-above node_by_bit e leaf (take inner rest) index taken right,
     )
     (border_fold-last (inner_fold leaf (take inner rest) (index - 2 ^ e)) (drop inner rest) last)
 
@@ -201,7 +202,7 @@ leads-more size e below largest leads index leaf hashes fits within count =
     ]
 
 leads-one : Leads 1
-unfolding walk_root inner_fold border_fold
+unfolding walk_root bit_fold border_fold
 leads-one index leaf [] fits within count =
     let first : index ≡ 0 = omega arith in
     rw (first, inner_len-one) (path_root-one leaf)

@@ -3,10 +3,10 @@
 -- on: the zeros at the end of m say how high it is.
 --
 -- The law `consistency_walks` says that a walk leads to the roots of RFC 6962 section 2.1.2.
-use Rattle.std.specs.Prelude.{ℕ, ◌-◌, ◌/◌, ◌%◌, ◌^◌, ◌==◌, List, [], ◌∷◌, take, drop, slice_index_or, if◌then◌else◌}
+use Rattle.std.specs.Prelude.{ℕ, ◌-◌, ◌/◌, ◌^◌, ◌==◌, List, take, drop, slice_index_or, if◌then◌else◌}
 use Rattle.std.specs.Int.{w64, trailing_zeros}
 use Rattle.sig_merkle.specs.Root.{node_of}
-use Rattle.sig_merkle.specs.Walk.{inner_len, border_len, inner_fold, border_fold}
+use Rattle.sig_merkle.specs.Walk.{inner_len, border_len, bit_fold, inner_fold, border_fold}
 
 -- the level of the last node that m leaves fill
 unfoldable pub shift_of : ℕ → ℕ
@@ -21,9 +21,8 @@ abbrev pub kept_by_bit : ℕ → List ℕ → List ℕ → List ℕ
 kept_by_bit bit value hash = if bit == 0 then value else node_of hash value
 
 -- from a value up along those hashes that lie on the left: the first does where the lowest bit of the index is 1
-unfoldable pub right_fold : List ℕ → List (List ℕ) → ℕ → List ℕ
-right_fold value [] index = value
-right_fold value (hash ∷ rest) index = right_fold (kept_by_bit (index % 2) value hash) rest (index / 2)
+abbrev pub right_fold : List ℕ → List (List ℕ) → ℕ → List ℕ
+right_fold = bit_fold kept_by_bit
 
 -- the hashes of a proof before the first of the walk: none where the m leaves fill one node, whose hash is the old
 -- root, and else the hash of the last node that they fill

@@ -25,10 +25,14 @@ border_len index size = count_ones (index / 2 ^ inner_len index size)
 abbrev pub node_by_bit : ℕ → List ℕ → List ℕ → List ℕ
 node_by_bit bit value hash = if bit == 0 then node_of value hash else node_of hash value
 
+-- from a value up along the hashes: a step takes each in turn, by the next bit of the index from the lowest on
+unfoldable pub bit_fold : (ℕ → List ℕ → List ℕ → List ℕ) → List ℕ → List (List ℕ) → ℕ → List ℕ
+bit_fold step value [] index = value
+bit_fold step value (hash ∷ rest) index = bit_fold step (step (index % 2) value hash) rest (index / 2)
+
 -- from a value up along the hashes, the side of the first by the lowest bit of the index
-unfoldable pub inner_fold : List ℕ → List (List ℕ) → ℕ → List ℕ
-inner_fold value [] index = value
-inner_fold value (hash ∷ rest) index = inner_fold (node_by_bit (index % 2) value hash) rest (index / 2)
+abbrev pub inner_fold : List ℕ → List (List ℕ) → ℕ → List ℕ
+inner_fold = bit_fold node_by_bit
 
 -- from a value up along the hashes, all of them on the left
 unfoldable pub border_fold : List ℕ → List (List ℕ) → List ℕ
