@@ -143,22 +143,22 @@ said_usage c d k (e, (u, (one, (is, bits)))) = (
 -- ---- extended key usage
 
 pub purposes_absent : (c : Cert) → code_signing c ≡ Ok None → purpose_lists c ≡ []
-purposes_absent c e = held_is purposes_of (λ x p. has_purpose oid.code_signing p) (purpose_lists c) (Ok None) e
+purposes_absent c e = held_is purposes_of (λ x p. has_purpose oid.code_signing_purpose p) (purpose_lists c) (Ok None) e
 
 pub purposes_bad : (c : Cert) (x : CertificateValidationError) → code_signing c ≡ Err x → (x ≡ Malformed)
     × SayNothing (purpose_lists c) purposes_of
-purposes_bad c x e = held_is purposes_of (λ x p. has_purpose oid.code_signing p) (purpose_lists c) (Err x) e
+purposes_bad c x e = held_is purposes_of (λ x p. has_purpose oid.code_signing_purpose p) (purpose_lists c) (Err x) e
 
 pub purposes_say : (c : Cert) (is : Bool) → code_signing c ≡ said is → SaysCodeSigning c is
-purposes_say c is e = held_is purposes_of (λ x p. has_purpose oid.code_signing p) (purpose_lists c) (said is) e
+purposes_say c is e = held_is purposes_of (λ x p. has_purpose oid.code_signing_purpose p) (purpose_lists c) (said is) e
 
 pub no_purposes : (c : Cert) → purpose_lists c ≡ [] → code_signing c ≡ Ok None
-no_purposes c e = held_again purposes_of (λ x p. has_purpose oid.code_signing p) (purpose_lists c) (Ok None) e
+no_purposes c e = held_again purposes_of (λ x p. has_purpose oid.code_signing_purpose p) (purpose_lists c) (Ok None) e
 
 pub bad_purposes : (c : Cert) → SayNothing (purpose_lists c) purposes_of → code_signing c ≡ Err Malformed
 bad_purposes c bad =
-    held_again purposes_of (λ x p. has_purpose oid.code_signing p) (purpose_lists c) (Err Malformed) (refl, bad)
+    held_again purposes_of (λ x p. has_purpose oid.code_signing_purpose p) (purpose_lists c) (Err Malformed) (refl, bad)
 
 pub said_purposes : (c : Cert) (is : Bool) → SaysCodeSigning c is → code_signing c ≡ said is
 said_purposes c is says =
-    held_again purposes_of (λ x p. has_purpose oid.code_signing p) (purpose_lists c) (said is) says
+    held_again purposes_of (λ x p. has_purpose oid.code_signing_purpose p) (purpose_lists c) (said is) says

@@ -49,7 +49,7 @@ usage c = held (λ e. key_usage_of e.value) (with_oid oid.key_usage c.extensions
 -- whether code signing is among the purposes
 abbrev pub code_signing : Cert → Held Bool
 code_signing c =
-    held (λ e. option_map (has_purpose oid.code_signing) (purposes_of e.value))
+    held (λ e. option_map (has_purpose oid.code_signing_purpose) (purposes_of e.value))
     (with_oid oid.extended_key_usage c.extensions)
 
 -- whether they are critical, and what they say

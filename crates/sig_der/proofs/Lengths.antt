@@ -46,6 +46,10 @@ pub record TakesLength (bytes : List ℕ) (y : ℕ × List ℕ) : Type 0 where
 takes_length : (bytes : List ℕ) (x y : ℕ × List ℕ) → x ≡ y → TakesLength bytes x → TakesLength bytes y
 takes_length bytes x y e t = subst (λ (w : ℕ × List ℕ). TakesLength bytes w) e t
 
+-- bytes that end early stay so
+stays_cut : {A : Type 0} {P : Type 0} (b : Bool) (y : A) → cond b (Err Length) (Err Truncated) ≡ Ok y → P
+stays_cut b y e = absurd (let no = (guard_ok b Length (Err Truncated) y e).1 in cc)
+
 one_at_takes : (bytes : List ℕ) → IsBytes bytes → (y : ℕ × List ℕ) → one_byte bytes ≡ Ok y
     → TakesLength (129 ∷ bytes) y
 unfolding one_byte
@@ -62,7 +66,7 @@ two_at_takes : (bytes : List ℕ) → IsBytes bytes → (y : ℕ × List ℕ) �
     → TakesLength (130 ∷ bytes) y
 unfolding two_bytes
 two_at_takes [] fits y e = absurd cc
-two_at_takes (a ∷ []) fits y e = absurd (let g = guard_ok (eqb a 0) Length (Err Truncated) y e in let no = g.1 in cc)
+two_at_takes (a ∷ []) fits y e = stays_cut (eqb a 0) y e
 two_at_takes (a ∷ b ∷ rest) fits y e =
     let g = guard_ok (eqb a 0) Length (Ok (a * 256 + b, rest)) y e in
     let n = a * 256 + b in
@@ -80,9 +84,8 @@ three_at_takes : (bytes : List ℕ) → IsBytes bytes → (y : ℕ × List ℕ) 
     → TakesLength (131 ∷ bytes) y
 unfolding three_bytes
 three_at_takes [] fits y e = absurd cc
-three_at_takes (a ∷ []) fits y e = absurd (let g = guard_ok (eqb a 0) Length (Err Truncated) y e in let no = g.1 in cc)
-three_at_takes (a ∷ b ∷ []) fits y e =
-    absurd (let g = guard_ok (eqb a 0) Length (Err Truncated) y e in let no = g.1 in cc)
+three_at_takes (a ∷ []) fits y e = stays_cut (eqb a 0) y e
+three_at_takes (a ∷ b ∷ []) fits y e = stays_cut (eqb a 0) y e
 three_at_takes (a ∷ b ∷ c ∷ rest) fits y e =
     let g = guard_ok (eqb a 0) Length (Ok (a * 65536 + b * 256 + c, rest)) y e in
     let n = a * 65536 + b * 256 + c in
@@ -102,11 +105,9 @@ four_at_takes : (bytes : List ℕ) → IsBytes bytes → (y : ℕ × List ℕ) �
     → TakesLength (132 ∷ bytes) y
 unfolding four_bytes
 four_at_takes [] fits y e = absurd cc
-four_at_takes (a ∷ []) fits y e = absurd (let g = guard_ok (eqb a 0) Length (Err Truncated) y e in let no = g.1 in cc)
-four_at_takes (a ∷ b ∷ []) fits y e =
-    absurd (let g = guard_ok (eqb a 0) Length (Err Truncated) y e in let no = g.1 in cc)
-four_at_takes (a ∷ b ∷ c ∷ []) fits y e =
-    absurd (let g = guard_ok (eqb a 0) Length (Err Truncated) y e in let no = g.1 in cc)
+four_at_takes (a ∷ []) fits y e = stays_cut (eqb a 0) y e
+four_at_takes (a ∷ b ∷ []) fits y e = stays_cut (eqb a 0) y e
+four_at_takes (a ∷ b ∷ c ∷ []) fits y e = stays_cut (eqb a 0) y e
 four_at_takes (a ∷ b ∷ c ∷ d ∷ rest) fits y e =
     let g = guard_ok (eqb a 0) Length (Ok (a * 16777216 + b * 65536 + c * 256 + d, rest)) y e in
     let n = a * 16777216 + b * 65536 + c * 256 + d in
@@ -216,9 +217,6 @@ short_two : {A : Type 0} (b : Bool) (x y : A × List ℕ) (n : ℕ) → cond b (
     → length y.1 < n
 short_two {A = A} b x y n e less =
     subst (λ (w : A × List ℕ). length w.1 < n) (ok_is x y (guard_ok b Length (Ok x) y e).1) less
-
-stays_cut : {A : Type 0} {P : Type 0} (b : Bool) (y : A) → cond b (Err Length) (Err Truncated) ≡ Ok y → P
-stays_cut b y e = absurd (let no = (guard_ok b Length (Err Truncated) y e).1 in cc)
 
 one_at_shorter : (bytes : List ℕ) (y : ℕ × List ℕ) → one_byte bytes ≡ Ok y → length y.1 < length bytes
 unfolding one_byte

@@ -20,8 +20,8 @@ abbrev pub extended_key_usage : List ℕ
 extended_key_usage = object_identifier (2 ∷ 5 ∷ 29 ∷ 37 ∷ [])
 
 -- id-kp-codeSigning (RFC 5280 section 4.2.1.12)
-abbrev pub code_signing : List ℕ
-code_signing = object_identifier (1 ∷ 3 ∷ 6 ∷ 1 ∷ 5 ∷ 5 ∷ 7 ∷ 3 ∷ 3 ∷ [])
+abbrev pub code_signing_purpose : List ℕ
+code_signing_purpose = object_identifier (1 ∷ 3 ∷ 6 ∷ 1 ∷ 5 ∷ 5 ∷ 7 ∷ 3 ∷ 3 ∷ [])
 
 -- ---- Certificate Transparency: RFC 6962
 

@@ -18,7 +18,7 @@ pub fn object_identifiers()
     ensures basic_constraints { oid.BASIC_CONSTRAINTS.now ≡ dotted.basic_constraints }
     ensures name_constraints { oid.NAME_CONSTRAINTS.now ≡ dotted.name_constraints }
     ensures extended_key_usage { oid.EXTENDED_KEY_USAGE.now ≡ dotted.extended_key_usage }
-    ensures code_signing { oid.CODE_SIGNING.now ≡ dotted.code_signing }
+    ensures code_signing { oid.CODE_SIGNING.now ≡ dotted.code_signing_purpose }
     ensures precertificate_signing { oid.PRECERTIFICATE_SIGNING.now ≡ dotted.precertificate_signing }
     ensures sct_list { oid.SCT_LIST.now ≡ dotted.sct_list }
     ensures fulcio_issuer { oid.FULCIO_ISSUER.now ≡ dotted.fulcio 1 }
