@@ -38,17 +38,7 @@ note-of_parts o p s t h g cs ds e = rw (e.0, e.1.0, e.1.1.0, e.1.1.1) refl
 pub note_eq-tells : (a b : Checkpoint) → Decides ((note_eq.ghosts).eq a b) (a ≡ b)
 note_eq-tells a b =
     decides_same _ (note-of_parts a.origin b.origin a.size b.size a.hash b.hash a.other_content b.other_content)
-    (λ e. (
-      ap (λ (n : Checkpoint). n.origin) e,
-      (
-        ap (λ (n : Checkpoint). n.size) e,
-        (
-          ap (λ (n : Checkpoint). n.hash) e,
-          ap
-              (λ (n : Checkpoint). n.other_content) e,
-        ),
-      ),
-    ))
+    (λ e. rw e (refl, (refl, (refl, refl))))
     (Decides-and _ _ (decides_bytes a.origin b.origin) (Decides-and _ _ (unsigned_Decides a.size b.size)
     (Decides-and _ _ (decides_bytes a.hash b.hash)
     (slice_eq-Decides content_eq-tells a.other_content b.other_content _ refl))))
@@ -63,10 +53,7 @@ signature-of_parts f g r s n m e = rw (e.0, e.1.0, e.1.1) refl
 signature_eq-tells : (a b : CheckpointSignature) → Decides ((signature_eq.ghosts).eq a b) (a ≡ b)
 signature_eq-tells a b =
     decides_same _ (signature-of_parts a.key_fingerprint b.key_fingerprint a.raw b.raw a.name b.name)
-    (λ e. (
-      ap (λ (s : CheckpointSignature). s.key_fingerprint) e,
-      (ap (λ (s : CheckpointSignature). s.raw) e, ap (λ (s : CheckpointSignature). s.name) e),
-    ))
+    (λ e. rw e (refl, (refl, refl)))
     (Decides-and _ _ (decides_bytes a.key_fingerprint b.key_fingerprint)
     (Decides-and _ _ (decides_bytes a.raw b.raw) (decides_bytes a.name b.name)))
 
@@ -77,7 +64,7 @@ checkpoint-of_parts n m ss zs e = rw (e.0, e.1) refl
 pub checkpoint_eq-tells : (a b : SignedCheckpoint) → Decides ((checkpoint_eq.ghosts).eq a b) (a ≡ b)
 checkpoint_eq-tells a b =
     decides_same _ (checkpoint-of_parts a.note b.note a.signatures b.signatures)
-    (λ e. (ap (λ (c : SignedCheckpoint). c.note) e, ap (λ (c : SignedCheckpoint). c.signatures) e))
+    (λ e. rw e (refl, refl))
     (Decides-and _ _ (note_eq-tells a.note b.note)
     (slice_eq-Decides signature_eq-tells a.signatures b.signatures _ refl))
 
@@ -94,20 +81,7 @@ pub proof_eq-tells : (a b : InclusionProof) → Decides ((proof_eq.ghosts).eq a 
 proof_eq-tells a b =
     decides_same _ (proof-of_parts a.log_index b.log_index a.root_hash b.root_hash a.tree_size b.tree_size a.hashes
     b.hashes a.checkpoint b.checkpoint)
-    (λ e. (
-      ap (λ (p : InclusionProof). p.log_index) e,
-      (
-        ap (λ (p : InclusionProof). p.root_hash) e,
-        (
-          ap (λ (p : InclusionProof). p.tree_size) e,
-          (
-            ap (λ (p : InclusionProof). p.hashes) e,
-            ap
-                (λ (p : InclusionProof). p.checkpoint) e,
-          ),
-        ),
-      ),
-    ))
+    (λ e. rw e (refl, (refl, (refl, (refl, refl)))))
     (Decides-and _ _ (Decides-int_eq a.log_index b.log_index)
     (Decides-and _ _ (decides_bytes a.root_hash b.root_hash)
     (Decides-and _ _ (unsigned_Decides a.tree_size b.tree_size)
@@ -125,16 +99,7 @@ pub api_proof_eq-tells : (a b : RekorInclusionProof) → Decides ((api_proof_eq.
 api_proof_eq-tells a b =
     decides_same _ (api_proof-of_parts a.hashes b.hashes a.log_index b.log_index a.root_hash b.root_hash a.tree_size
     b.tree_size a.checkpoint b.checkpoint)
-    (λ e. (
-      ap (λ (p : RekorInclusionProof). p.hashes) e,
-      (
-        ap (λ (p : RekorInclusionProof). p.log_index) e,
-        (
-          ap (λ (p : RekorInclusionProof). p.root_hash) e,
-          (ap (λ (p : RekorInclusionProof). p.tree_size) e, ap (λ (p : RekorInclusionProof). p.checkpoint) e),
-        ),
-      ),
-    ))
+    (λ e. rw e (refl, (refl, (refl, (refl, refl)))))
     (Decides-and _ _ (decides_texts a.hashes b.hashes)
     (Decides-and _ _ (Decides-int_eq a.log_index b.log_index)
     (Decides-and _ _ (decides_bytes a.root_hash b.root_hash)

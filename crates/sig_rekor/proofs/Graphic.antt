@@ -1,6 +1,6 @@
 -- Texts of graphic ASCII characters: decimals and base64. They hold no white space, and none is trimmed off.
-use Rattle.std.proofs.Common.{◌≡◌, ◌≢◌, ℕ, zero, suc, ◌+◌, ◌*◌, ◌/◌, ◌%◌, ◌<◌, ◌≤◌, ◌^◌, Bool, true, false, ◌&&◌}
-use Rattle.std.proofs.Common.{nat_lt, List, [], ◌∷◌, ◌++◌, length, replicate, get_or, slice_index, refl, sym, ◌∙◌, ap}
+use Rattle.std.proofs.Common.{◌≡◌, ◌≢◌, ℕ, zero, suc, ◌<◌, ◌≤◌, ◌^◌, Bool, true, false, ◌&&◌}
+use Rattle.std.proofs.Common.{nat_lt, List, [], ◌∷◌, refl, sym, ◌∙◌, ap}
 use Rattle.std.proofs.Common.{subst, arith, Ok, Some}
 use Rattle.std.proofs.lemmas.Bool.{and_parts, and_from, lt-ltb, ltb-true, ne_eqb}
 use Rattle.std.proofs.lemmas.Bool.Decides.{nat_tests}
@@ -12,13 +12,12 @@ use Rattle.std.specs.Char.{digit_value, is_whitespace}
 use Rattle.std.specs.List.{list_all, AllByRecursion}
 use Rattle.std.specs.Str.{IsAscii, trim_end, drop_trailing_whitespace, encode_utf8_all}
 use Rattle.std.specs.Str.Parse.{AllDigits, IsNumeral, digits_value, without_leading_plus}
-use Rattle.base64.specs.GeneralPurpose.{IsBytes, engine_symbols}
+use Rattle.base64.specs.GeneralPurpose.{IsBytes}
 use Rattle.base64.specs.Engines.{standard}
-use Rattle.base64.specs.Rfc4648.{encode_symbols, encode_group, padding_len}
 use Rattle.base64.proofs.EngineFacts.{decode_of-encode_of}
+use Rattle.sig_base.proofs.Base64Texts.{all_base64}
 use Rattle.sig_base.proofs.ByteLists.{each_byte}
 use Rattle.sig_base.specs.Base64.{base64_text, base64_bytes}
-use Rattle.sig_base.specs.ByteLists.{AreBytes}
 use Rattle.sig_rekor.specs.NoteText.{tree_size_of}
 use Rattle.sig_rekor.proofs.Notes.{tree_size_of-numeral}
 
@@ -28,12 +27,6 @@ is_graphic b = nat_lt 32 b && nat_lt b 127
 
 abbrev pub IsGraphic : List ℕ → Type 0
 IsGraphic t = list_all is_graphic t ≡ true
-
-graphic-append : (a b : List ℕ) → IsGraphic a → IsGraphic b → IsGraphic (a ++ b)
-graphic-append [] b g h = h
-graphic-append (x ∷ a) b g h =
-    let both = and_parts (is_graphic x) (list_all is_graphic a) g in
-    and_from (is_graphic x) (list_all is_graphic (a ++ b)) both.0 (graphic-append a b both.1 h)
 
 graphic_byte : (b : ℕ) → is_graphic b ≡ true → (32 < b) × (b < 127)
 graphic_byte b g =
@@ -81,42 +74,8 @@ tree_size_of-decimal n small =
     (is.0, subst (λ v. v < 2 ^ 64) (sym is.1) small)) (sym is.1 ∙ ap (digits_value 10) (sym plain))
 
 -- base64
-table_at : (xs : List ℕ) (i : ℕ) → list_all is_graphic xs ≡ true → i < length xs → is_graphic (get_or xs i 0) ≡ true
-table_at [] i all in_range = absurd (omega arith)
-table_at (x ∷ xs) zero all in_range = (and_parts (is_graphic x) (list_all is_graphic xs) all).0
-table_at (x ∷ xs) (suc i) all in_range =
-    table_at xs i (and_parts (is_graphic x) (list_all is_graphic xs) all).1 (omega arith)
-
-abbrev alphabet : List ℕ
-alphabet = engine_symbols standard
-
-symbol : (i : ℕ) → i < 64 → is_graphic (slice_index alphabet i) ≡ true
-symbol i small = table_at alphabet i refl small
-
-symbols : (m : List ℕ) → AreBytes m → IsGraphic (encode_symbols alphabet m)
-unfolding encode_symbols
-symbols [] all = refl
-symbols (a ∷ []) all =
-    and_from _ _ (symbol (a / 4) (omega arith)) (and_from _ _ (symbol (a % 4 * 16) (omega arith)) refl)
-symbols (a ∷ b ∷ []) all =
-    and_from _ _ (symbol (a / 4) (omega arith))
-    (and_from _ _ (symbol (a % 4 * 16 + b / 16) (omega arith)) (and_from _ _ (symbol (b % 16 * 4) (omega arith)) refl))
-symbols (a ∷ b ∷ c ∷ rest) all =
-    graphic-append (encode_group alphabet a b c) (encode_symbols alphabet rest)
-    (and_from _ _ (symbol (a / 4) (omega arith)) (and_from _ _ (symbol (a % 4 * 16 + b / 16) (omega arith))
-    (and_from _ _ (symbol (b % 16 * 4 + c / 64) (omega arith))
-    (and_from _ _ (symbol (c % 64) (omega arith)) refl))))
-    (symbols rest all.1.1.1)
-
-pads : (n : ℕ) → IsGraphic (replicate n 61)
-pads zero = refl
-pads (suc n) = and_from (is_graphic 61) (list_all is_graphic (replicate n 61)) refl (pads n)
-
 pub base64-graphic : (m : List ℕ) → IsBytes m → IsGraphic (base64_text m)
-unfolding base64_text
-base64-graphic m all =
-    graphic-append (encode_symbols alphabet m) (replicate (padding_len (length m)) 61) (symbols m (each_byte m all))
-    (pads (padding_len (length m)))
+base64-graphic m all = all_base64 is_graphic refl refl m (each_byte m all)
 
 pub base64-again : (m : List ℕ) → IsBytes m → base64_bytes (base64_text m) ≡ Some m
 unfolding base64_text base64_bytes

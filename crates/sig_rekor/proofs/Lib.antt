@@ -16,4 +16,3 @@ pub mod NoteFaults
 pub mod SignatureFaults
 pub mod CheckpointFaults
 pub mod WhiteSpace
-mod HashTexts

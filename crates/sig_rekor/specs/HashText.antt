@@ -1,12 +1,12 @@
 -- A hash in Rekor's API: 64 hexadecimal digits in either case (RFC 4648 section 8), and the error of a text that is
 -- none.
-use Rattle.std.specs.Prelude.{ℕ, ◌+◌, ◌%◌, ◌==◌, ◌&&◌, Bool, if◌then◌else◌, List, [], ◌∷◌, length, Result, Ok, Err}
+use Rattle.std.specs.Prelude.{ℕ, ◌%◌, ◌==◌, ◌&&◌, Bool, if◌then◌else◌, List, length, Result, Err}
 use Rattle.std.specs.Char.{is_ascii_hexdigit}
 use Rattle.std.specs.List.{list_all}
 use Rattle.std.specs.Option.{ok_or}
 use Rattle.std.specs.Result.{result_ok}
 use Rattle.hex.specs.Hex.{decode_sized}
-use Rattle.sig_base.specs.ResultSteps.{◌>>=◌}
+use Rattle.sig_base.specs.ResultSteps.{each_from}
 use Rattle.sig_base.specs.declared.error.SigstoreError.{SigstoreError}
 use Rattle.sig_base.specs.declared.error.SigstoreError.TheVariants.{HexDecodeError, UnexpectedError}
 use Rattle.sig_base.specs.declared.unexpected.UnexpectedKind.{UnexpectedKind}
@@ -23,10 +23,10 @@ hash_in other_length text =
     if is_hex text then ok_or (result_ok (decode_sized text hash_len)) (UnexpectedError other_length)
     else Err HexDecodeError
 
+-- the hash that the text at this index is
+abbrev pub hash_at : ℕ → List ℕ → Result (List ℕ) SigstoreError
+hash_at index = hash_in (HashLength index)
+
 -- the hashes that texts are, or the error of the first that is none; the texts are counted from this index on
 abbrev pub hashes_from : ℕ → List (List ℕ) → Result (List (List ℕ)) SigstoreError
-hashes_from index [] = Ok []
-hashes_from index (text ∷ texts) = do
-  hash ← hash_in (HashLength index) text
-  hashes ← hashes_from (index + 1) texts
-  Ok (hash ∷ hashes)
+hashes_from = each_from hash_at
