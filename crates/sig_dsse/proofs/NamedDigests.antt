@@ -72,47 +72,41 @@ parted (d ∷ ds) (e ∷ u) v all =
 names-differ : codes "sha256" ≢ codes "sha512"
 names-differ same = let f : ◌≡◌ {A = ℕ} 50 53 = cc in omega arith
 
--- what the text decodes to, as the definition says it
-abbrev Reads : {E : Type 0} → Result (List ℕ) E → List ℕ → ℕ → Type 0
-Reads decoded text size = (bytes : List ℕ) → (decoded ≡ Ok bytes) ↔ (decode_sized text size ≡ Ok bytes)
+-- a digest of an entry of this name is of the name's kind
+only_sha256 : (name text : List ℕ) → name ≡ codes "sha256" → (d : ArtifactDigest) → IsEntryOf d (name, text)
+    → (bytes : List ℕ) × (d ≡ Sha256 bytes)
+only_sha256 name text is (Sha256 bytes) entry = (bytes, refl)
+only_sha256 name text is (Sha512 bytes) entry = absurd (names-differ (sym is ∙ entry.0))
 
-sha256-taken : {E : Type 0} → (name text : List ℕ) (decoded : Result (List ℕ) E) → name ≡ codes "sha256"
-    → Reads decoded text 32
-    → (ds : List ArtifactDigest) → digest_or_malformed NamedSha256 Sha256 decoded ≡ Ok ds
-    → AreEntriesOf ds ((name, text) ∷ [])
-sha256-taken name text (Err e) is reads ds taken = cc
-sha256-taken name text (Ok bytes) is reads ds taken =
-    subst (λ x. AreEntriesOf x ((name, text) ∷ [])) (ok_is (Sha256 bytes ∷ []) ds taken)
-    ((is, (reads bytes).0 refl), tt)
+only_sha512 : (name text : List ℕ) → name ≡ codes "sha512" → (d : ArtifactDigest) → IsEntryOf d (name, text)
+    → (bytes : List ℕ) × (d ≡ Sha512 bytes)
+only_sha512 name text is (Sha512 bytes) entry = (bytes, refl)
+only_sha512 name text is (Sha256 bytes) entry = absurd (names-differ (sym entry.0 ∙ is))
 
-sha256-takes : {E : Type 0} → (name text : List ℕ) (decoded : Result (List ℕ) E) → name ≡ codes "sha256"
-    → Reads decoded text 32
-    → (ds : List ArtifactDigest) → AreEntriesOf ds ((name, text) ∷ [])
-    → digest_or_malformed NamedSha256 Sha256 decoded ≡ Ok ds
-sha256-takes name text decoded is reads [] all = absurd all
-sha256-takes name text decoded is reads (Sha256 bytes ∷ ds) all =
-    let one = one-only (Sha256 bytes) ds (name, text) all in rw ((reads bytes).1 one.0.1, one.1) refl
-sha256-takes name text decoded is reads (Sha512 bytes ∷ ds) all =
-    absurd (names-differ (sym is ∙ (one-only (Sha512 bytes) ds (name, text) all).0.0))
+-- what the text of an entry decodes to are the bytes of a digest of this kind
+abbrev Reads : {E : Type 0} → (List ℕ → ArtifactDigest) → Result (List ℕ) E → Entry → Type 0
+Reads kind decoded entry = (bytes : List ℕ) → (decoded ≡ Ok bytes) ↔ IsEntryOf (kind bytes) entry
 
-sha512-taken : {E : Type 0} → (name text : List ℕ) (decoded : Result (List ℕ) E) → name ≡ codes "sha512"
-    → Reads decoded text 64
-    → (ds : List ArtifactDigest) → digest_or_malformed NamedSha512 Sha512 decoded ≡ Ok ds
-    → AreEntriesOf ds ((name, text) ∷ [])
-sha512-taken name text (Err e) is reads ds taken = cc
-sha512-taken name text (Ok bytes) is reads ds taken =
-    subst (λ x. AreEntriesOf x ((name, text) ∷ [])) (ok_is (Sha512 bytes ∷ []) ds taken)
-    ((is, (reads bytes).0 refl), tt)
+digest-taken : {E : Type 0} → (label : DigestName) (kind : List ℕ → ArtifactDigest) (decoded : Result (List ℕ) E)
+    (entry : Entry) → Reads kind decoded entry → (ds : List ArtifactDigest)
+    → digest_or_malformed label kind decoded ≡ Ok ds → AreEntriesOf ds (entry ∷ [])
+digest-taken label kind (Err e) entry reads ds taken = cc
+digest-taken label kind (Ok bytes) entry reads ds taken =
+    subst (λ x. AreEntriesOf x (entry ∷ [])) (ok_is (kind bytes ∷ []) ds taken) ((reads bytes).0 refl, tt)
 
-sha512-takes : {E : Type 0} → (name text : List ℕ) (decoded : Result (List ℕ) E) → name ≡ codes "sha512"
-    → Reads decoded text 64
-    → (ds : List ArtifactDigest) → AreEntriesOf ds ((name, text) ∷ [])
-    → digest_or_malformed NamedSha512 Sha512 decoded ≡ Ok ds
-sha512-takes name text decoded is reads [] all = absurd all
-sha512-takes name text decoded is reads (Sha512 bytes ∷ ds) all =
-    let one = one-only (Sha512 bytes) ds (name, text) all in rw ((reads bytes).1 one.0.1, one.1) refl
-sha512-takes name text decoded is reads (Sha256 bytes ∷ ds) all =
-    absurd (names-differ (sym (one-only (Sha256 bytes) ds (name, text) all).0.0 ∙ is))
+one_digest : (d other : ArtifactDigest) (ds : List ArtifactDigest) → d ≡ other → ds ≡ []
+    → ◌≡◌ {A = Collected} (Ok (other ∷ [])) (Ok (d ∷ ds))
+one_digest d other ds same none = rw (same, none) refl
+
+digest-takes : {E : Type 0} → (label : DigestName) (kind : List ℕ → ArtifactDigest) (decoded : Result (List ℕ) E)
+    (entry : Entry) → Reads kind decoded entry
+    → ((d : ArtifactDigest) → IsEntryOf d entry → (bytes : List ℕ) × (d ≡ kind bytes)) → (ds : List ArtifactDigest)
+    → AreEntriesOf ds (entry ∷ []) → digest_or_malformed label kind decoded ≡ Ok ds
+digest-takes label kind decoded entry reads only [] all = absurd all
+digest-takes label kind decoded entry reads only (d ∷ ds) all =
+    let one = one-only d ds entry all in
+    let (bytes, is) = only d one.0 in
+    rw ((reads bytes).1 (subst (λ x. IsEntryOf x entry) is one.0)) (one_digest d (kind bytes) ds is one.1)
 
 -- the entry, where its name is known
 abbrev known : Entry → List Entry
@@ -124,18 +118,16 @@ by_tests : (name text : List ℕ) (short long : Bool) → Decides short (name �
     (cond long (digest_or_malformed NamedSha512 Sha512 (decode_sized text 64)) (Ok [])) ≡ Ok ds)
     ↔ AreEntriesOf ds (cond (short || long) ((name, text) ∷ []) [])
 by_tests name text true long told_short told_long ds =
-    let reads : Reads (decode_sized text 32) text 32 = λ bytes. ((λ e. e), (λ e. e)) in
-    let is = told_short.0 refl in (
-      sha256-taken name text (decode_sized text 32) is reads ds,
-      sha256-takes name text (decode_sized text 32) is
-          reads ds,
+    let is = told_short.0 refl in
+    let reads : Reads Sha256 (decode_sized text 32) (name, text) = λ bytes. ((λ e. (is, e)), (λ entry. entry.1)) in (
+      digest-taken NamedSha256 Sha256 (decode_sized text 32) (name, text) reads ds,
+      digest-takes NamedSha256 Sha256 (decode_sized text 32) (name, text) reads (only_sha256 name text is) ds,
     )
 by_tests name text false true told_short told_long ds =
-    let reads : Reads (decode_sized text 64) text 64 = λ bytes. ((λ e. e), (λ e. e)) in
-    let is = told_long.0 refl in (
-      sha512-taken name text (decode_sized text 64) is reads ds,
-      sha512-takes name text (decode_sized text 64) is
-          reads ds,
+    let is = told_long.0 refl in
+    let reads : Reads Sha512 (decode_sized text 64) (name, text) = λ bytes. ((λ e. (is, e)), (λ entry. entry.1)) in (
+      digest-taken NamedSha512 Sha512 (decode_sized text 64) (name, text) reads ds,
+      digest-takes NamedSha512 Sha512 (decode_sized text 64) (name, text) reads (only_sha512 name text is) ds,
     )
 by_tests name text false false told_short told_long ds =
     ((λ e. subst (λ x. AreEntriesOf x []) (ok_is [] ds e) tt), (λ all. rw (none-only ds all) refl))
