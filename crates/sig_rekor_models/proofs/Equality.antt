@@ -29,7 +29,7 @@ proof-of_parts r q h g e = rw (e.0, e.1) refl
 proof_eq-tells : (a b : ConsistencyProof) → Decides ((proof_eq.ghosts).eq a b) (a ≡ b)
 proof_eq-tells a b =
     decides_same _ (proof-of_parts a.root_hash b.root_hash a.hashes b.hashes)
-    (λ e. (ap (λ (p : ConsistencyProof). p.root_hash) e, ap (λ (p : ConsistencyProof). p.hashes) e))
+    (λ e. rw e (refl, refl))
     (Decides-and _ _ (decides_bytes a.root_hash b.root_hash) (decides_texts a.hashes b.hashes))
 
 api_proof-of_parts : (r q : List ℕ) → (h g : List (List ℕ)) → (r ≡ q) × (h ≡ g)
@@ -39,7 +39,7 @@ api_proof-of_parts r q h g e = rw (e.0, e.1) refl
 api_proof_eq-tells : (a b : RekorConsistencyProof) → Decides ((api_proof_eq.ghosts).eq a b) (a ≡ b)
 api_proof_eq-tells a b =
     decides_same _ (api_proof-of_parts a.root_hash b.root_hash a.hashes b.hashes)
-    (λ e. (ap (λ (p : RekorConsistencyProof). p.root_hash) e, ap (λ (p : RekorConsistencyProof). p.hashes) e))
+    (λ e. rw e (refl, refl))
     (Decides-and _ _ (decides_bytes a.root_hash b.root_hash) (decides_texts a.hashes b.hashes))
 
 pub proof_law : (a b : ConsistencyProof) (r : Bool) → r ≡ (proof_eq.ghosts).eq a b → Decides r (a ≡ b)
@@ -60,13 +60,7 @@ shard_eq-tells : (a b : InactiveShardLogInfo) → Decides ((shard_eq.ghosts).eq 
 shard_eq-tells a b =
     decides_same _ (shard-of_parts a.root_hash b.root_hash a.signed_tree_head b.signed_tree_head a.tree_id b.tree_id
     a.tree_size b.tree_size)
-    (λ e. (
-      ap (λ (s : InactiveShardLogInfo). s.root_hash) e,
-      (
-        ap (λ (s : InactiveShardLogInfo). s.signed_tree_head) e,
-        (ap (λ (s : InactiveShardLogInfo). s.tree_id) e, ap (λ (s : InactiveShardLogInfo). s.tree_size) e),
-      ),
-    ))
+    (λ e. rw e (refl, (refl, (refl, refl))))
     (Decides-and _ _ (decides_bytes a.root_hash b.root_hash)
     (Decides-and _ _ (decides_bytes a.signed_tree_head b.signed_tree_head)
     (Decides-and _ _ (decides_bytes a.tree_id b.tree_id) (unsigned_Decides a.tree_size b.tree_size))))
@@ -85,16 +79,7 @@ head_eq-tells : (a b : LogInfo) → Decides ((head_eq.ghosts).eq a b) (a ≡ b)
 head_eq-tells a b =
     decides_same _ (head-of_parts a.root_hash b.root_hash a.tree_size b.tree_size a.signed_tree_head b.signed_tree_head
     a.tree_id b.tree_id a.inactive_shards b.inactive_shards)
-    (λ e. (
-      ap (λ (l : LogInfo). l.root_hash) e,
-      (
-        ap (λ (l : LogInfo). l.tree_size) e,
-        (
-          ap (λ (l : LogInfo). l.signed_tree_head) e,
-          (ap (λ (l : LogInfo). l.tree_id) e, ap (λ (l : LogInfo). l.inactive_shards) e),
-        ),
-      ),
-    ))
+    (λ e. rw e (refl, (refl, (refl, (refl, refl)))))
     (Decides-and _ _ (decides_bytes a.root_hash b.root_hash)
     (Decides-and _ _ (unsigned_Decides a.tree_size b.tree_size)
     (Decides-and _ _ (checkpoint_eq-tells a.signed_tree_head b.signed_tree_head)
@@ -112,16 +97,7 @@ api_head_eq-tells : (a b : RekorLogInfo) → Decides ((api_head_eq.ghosts).eq a 
 api_head_eq-tells a b =
     decides_same _ (api_head-of_parts a.root_hash b.root_hash a.tree_size b.tree_size a.signed_tree_head
     b.signed_tree_head a.tree_id b.tree_id a.inactive_shards b.inactive_shards)
-    (λ e. (
-      ap (λ (l : RekorLogInfo). l.root_hash) e,
-      (
-        ap (λ (l : RekorLogInfo). l.tree_size) e,
-        (
-          ap (λ (l : RekorLogInfo). l.signed_tree_head) e,
-          (ap (λ (l : RekorLogInfo). l.tree_id) e, ap (λ (l : RekorLogInfo). l.inactive_shards) e),
-        ),
-      ),
-    ))
+    (λ e. rw e (refl, (refl, (refl, (refl, refl)))))
     (Decides-and _ _ (decides_bytes a.root_hash b.root_hash)
     (Decides-and _ _ (unsigned_Decides a.tree_size b.tree_size)
     (Decides-and _ _ (checkpoint_eq-tells a.signed_tree_head b.signed_tree_head)

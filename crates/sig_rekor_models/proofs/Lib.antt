@@ -1,4 +1,3 @@
-mod Utf8Texts
 mod VouchedEntries
 mod Equality
 mod EntryEquality

@@ -75,7 +75,7 @@ hash-of_parts k l v w e = rw (e.0, e.1) refl
 hash_eq-tells : (a b : Hash) → Decides ((hash_eq.ghosts).eq a b) (a ≡ b)
 hash_eq-tells a b =
     decides_same _ (hash-of_parts a.algorithm b.algorithm a.value b.value)
-    (λ e. (ap (λ (h : Hash). h.algorithm) e, ap (λ (h : Hash). h.value) e))
+    (λ e. rw e (refl, refl))
     (Decides-and _ _ (algorithm_eq-tells a.algorithm b.algorithm) (decides_bytes a.value b.value))
 
 data-of_parts : (h g : Hash) → h ≡ g → ◌≡◌ {A = Data} (record { hash = h }) (record { hash = g })
@@ -92,7 +92,7 @@ signature-of_parts c d k l e = rw (e.0, e.1) refl
 signature_eq-tells : (a b : Signature) → Decides ((signature_eq.ghosts).eq a b) (a ≡ b)
 signature_eq-tells a b =
     decides_same _ (signature-of_parts a.content b.content a.public_key b.public_key)
-    (λ e. (ap (λ (s : Signature). s.content) e, ap (λ (s : Signature). s.public_key) e))
+    (λ e. rw e (refl, refl))
     (Decides-and _ _ (decides_bytes a.content b.content) (key_eq-tells a.public_key b.public_key))
 
 spec-of_parts : (s t : Signature) → (d f : Data) → (s ≡ t) × (d ≡ f)
@@ -102,7 +102,7 @@ spec-of_parts s t d f e = rw (e.0, e.1) refl
 spec_eq-tells : (a b : Spec) → Decides ((spec_eq.ghosts).eq a b) (a ≡ b)
 spec_eq-tells a b =
     decides_same _ (spec-of_parts a.signature b.signature a.logged_data b.logged_data)
-    (λ e. (ap (λ (s : Spec). s.signature) e, ap (λ (s : Spec). s.logged_data) e))
+    (λ e. rw e (refl, refl))
     (Decides-and _ _ (signature_eq-tells a.signature b.signature) (data_eq-tells a.logged_data b.logged_data))
 
 hashedrekord-of_parts : (k l v w : List ℕ) → (s t : Spec) → (k ≡ l) × ((v ≡ w) × (s ≡ t))
@@ -113,10 +113,7 @@ hashedrekord-of_parts k l v w s t e = rw (e.0, e.1.0, e.1.1) refl
 hashedrekord_eq-tells : (a b : Hashedrekord) → Decides ((hashedrekord_eq.ghosts).eq a b) (a ≡ b)
 hashedrekord_eq-tells a b =
     decides_same _ (hashedrekord-of_parts a.kind b.kind a.api_version b.api_version a.spec b.spec)
-    (λ e. (
-      ap (λ (h : Hashedrekord). h.kind) e,
-      (ap (λ (h : Hashedrekord). h.api_version) e, ap (λ (h : Hashedrekord). h.spec) e),
-    ))
+    (λ e. rw e (refl, (refl, refl)))
     (Decides-and _ _ (decides_bytes a.kind b.kind)
     (Decides-and _ _ (decides_bytes a.api_version b.api_version) (spec_eq-tells a.spec b.spec)))
 
