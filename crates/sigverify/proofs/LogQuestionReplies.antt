@@ -10,18 +10,19 @@ use Rattle.sig_rekor.specs.declared.fault.ParseCheckpointError.TheVariants.{Deco
 use Rattle.sig_rekor.specs.declared.checkpoint.SignedCheckpoint.{SignedCheckpoint}
 use Rattle.sig_verify.specs.declared.link.Link.TheVariants.{Request, Checkpoint}
 use Rattle.sigverify.proofs.HeadVerdicts.{no_fault, same_reading}
-use Rattle.sigverify.proofs.Replies.{every-of_text, every-reply, first-of_text, first-reply, one_request}
-use Rattle.sigverify.proofs.Replies.{unread-log_questions}
+use Rattle.sigverify.proofs.Replies.{every-of_text, every-reply, first-of_text, first-reply, replied}
+use Rattle.sigverify.proofs.RequestTexts.{one_request}
 use Rattle.sigverify.specs.Limit.{most_bytes}
 use Rattle.sigverify.specs.LogQuestions.{HoldsOfLogQuestions, IsCheckpointOf, LogQuestionsFit, log_question_links}
 use Rattle.sigverify.specs.LogQuestions.{head_rows}
 use Rattle.sigverify.specs.Reply.{IsListingOf, IsLogQuestionsReply, IsReply, refusal_reply}
-use Rattle.sigverify.specs.Request.{IsReadFrom, IsRequest}
+use Rattle.sigverify.specs.Request.{log_request}
 use Rattle.sigverify.specs.RowsText.{rows_text}
 use Rattle.sigverify.specs.declared.command.Command.TheVariants.{LogQuestions}
 use Rattle.sigverify.specs.declared.head.SignedHead.{SignedHead}
 use Rattle.sigverify.specs.declared.reply.Reply.{Reply}
 use Rattle.sigverify.specs.declared.request.LogRequest.{LogRequest}
+use Rattle.sigverify.specs.ReadFrom.{IsReadFrom, IsRequestOf}
 
 -- ---- what the reader of checkpoints says
 
@@ -47,11 +48,13 @@ no-checkpoint head text fault same none other is =
 -- ---- the reply to a request
 
 -- the checkpoint has no reading
-unchecked-reply : (text : List ℕ) (request : LogRequest) → IsRequest text request → IsCheckpointOf request.head None
+unchecked-reply : (text : List ℕ) (request : LogRequest) → IsRequestOf log_request text request
+    → IsCheckpointOf request.head None
     → IsReply LogQuestions text (refusal_reply Checkpoint)
 unchecked-reply text request is none =
     first-reply LogQuestions text Checkpoint
-    (first-of_text (IsRequest text) HoldsOfLogQuestions (one_request text) request log_question_links Checkpoint is
+    (first-of_text (IsRequestOf log_request text) HoldsOfLogQuestions
+    (one_request log_request text) request log_question_links Checkpoint is
     (inr (λ checkpoint read. absurd (none checkpoint read), inl (λ holds. none holds.0 holds.1, refl))))
 
 -- the list of the one checkpoint is short enough, or too long
@@ -62,49 +65,40 @@ fits request checkpoint is short other read =
     subst P (sym (is.1 other read)) short
 
 listed-reply : (text : List ℕ) (request : LogRequest) (checkpoint : SignedCheckpoint) (reply : Reply)
-    → IsRequest text request → IsCheckpointOf request.head (Some checkpoint)
+    → IsRequestOf log_request text request → IsCheckpointOf request.head (Some checkpoint)
     → IsListingOf (head_rows request.head checkpoint) reply → IsReply LogQuestions text reply
 listed-reply text request checkpoint reply is read (inl made) =
     let its : IsLogQuestionsReply request reply =
     (head_rows request.head checkpoint, (checkpoint, read.0, refl), made.1, made.2) in
     every-reply LogQuestions text reply (ap (λ (r : Reply). r.status) made.2)
     (λ other other_is. subst (λ (r : LogRequest). IsLogQuestionsReply r reply)
-    (one_request text request other is other_is) its)
-    (every-of_text (IsRequest text) HoldsOfLogQuestions request log_question_links is
+    (one_request log_request text request other is other_is) its)
+    (every-of_text (IsRequestOf log_request text) HoldsOfLogQuestions request log_question_links is
     (fits request checkpoint read made.0, ((checkpoint, read.0, tt), tt)))
 listed-reply text request checkpoint reply is read (inr made) =
     subst (IsReply LogQuestions text) (sym made.1)
     (first-reply LogQuestions text Request
-    (first-of_text (IsRequest text) HoldsOfLogQuestions (one_request text) request log_question_links Request is
+    (first-of_text (IsRequestOf log_request text) HoldsOfLogQuestions
+    (one_request log_request text) request log_question_links Request is
     (inl (λ short. omega (arith, short checkpoint read.0, made.0), refl))))
 
 -- ---- the replies of a call
 
--- a reply that is made as this one
-replied : (text : List ℕ) (wanted : Reply) (r : Result Reply OutOfMemory) → IfOk r (λ reply. reply ≡ wanted)
-    → IsReply LogQuestions text wanted → IfOk r (IsReply LogQuestions text)
-replied text wanted (Ok reply) is meant = subst (IsReply LogQuestions text) (sym is) meant
-replied text wanted (Err memory) is meant = tt
-
-pub unread-replied : (text : List ℕ) (found : Option LogRequest) (r : Result Reply OutOfMemory)
-    → IfOk r (λ reply. reply ≡ refusal_reply Request) → found ≡ None → IsReadFrom text found
-    → IfOk r (IsReply LogQuestions text)
-unread-replied text found r is none read =
-    replied text (refusal_reply Request) r is (unread-log_questions text (subst (IsReadFrom text) none read))
-
 pub unchecked-replied : (text : List ℕ) (found : Option LogRequest) (request : LogRequest)
     (checkpoint : Option SignedCheckpoint) (r : Result Reply OutOfMemory)
-    → IfOk r (λ reply. reply ≡ refusal_reply Checkpoint) → found ≡ Some request → IsReadFrom text found
+    → IfOk r (λ reply. reply ≡ refusal_reply Checkpoint) → found ≡ Some request → IsReadFrom log_request text found
     → checkpoint ≡ None → IsCheckpointOf request.head checkpoint → IfOk r (IsReply LogQuestions text)
 unchecked-replied text found request checkpoint r is some read none missing =
-    replied text (refusal_reply Checkpoint) r is (unchecked-reply text request (subst (IsReadFrom text) some read)
+    replied LogQuestions text (refusal_reply Checkpoint) r is (unchecked-reply text request (subst
+    (IsReadFrom log_request text) some read)
     (subst (IsCheckpointOf request.head) none missing))
 
 pub listed-replied : (text : List ℕ) (found : Option LogRequest) (request : LogRequest)
     (had : Option SignedCheckpoint) (checkpoint : SignedCheckpoint) (r : Result Reply OutOfMemory)
-    → IfOk r (IsListingOf (head_rows request.head checkpoint)) → found ≡ Some request → IsReadFrom text found
+    → IfOk r (IsListingOf (head_rows request.head checkpoint)) → found ≡ Some request
+    → IsReadFrom log_request text found
     → had ≡ Some checkpoint → IsCheckpointOf request.head had → IfOk r (IsReply LogQuestions text)
 listed-replied text found request had checkpoint r made some read which is =
     IfOk-weaker r (IsListingOf (head_rows request.head checkpoint)) (IsReply LogQuestions text)
-    (λ reply. listed-reply text request checkpoint reply (subst (IsReadFrom text) some read)
+    (λ reply. listed-reply text request checkpoint reply (subst (IsReadFrom log_request text) some read)
     (subst (IsCheckpointOf request.head) which is)) made

@@ -1,4 +1,4 @@
--- One reply is meant: a text is one request, and one link is the first that fails.
+-- One reply is meant: one link is the first that fails.
 use Rattle.std.proofs.Common.{◌≡◌, ◌<◌, ℕ, inl, inr, List, [], ◌∷◌, length, Option, Some, None, Result, Ok, Err, IfOk}
 use Rattle.std.proofs.Common.{ap, refl, sym, subst, arith}
 use Rattle.std.proofs.lemmas.Result.{IfOk-weaker}
@@ -6,23 +6,16 @@ use Rattle.std.specs.List.{AllByRecursion}
 use Rattle.sig_base.specs.declared.memory.OutOfMemory.{OutOfMemory}
 use Rattle.sig_base.proofs.RuleLaws.{one_fails, none_fails}
 use Rattle.sig_base.specs.Rules.{FailsFirst}
-use Rattle.sigverify.specs.declared.command.Command.{Command}
-use Rattle.sigverify.specs.declared.command.Command.TheVariants.{Log, Verify, Consistency, LogQuestions}
-use Rattle.sigverify.specs.declared.command.Command.TheVariants.{VerifyQuestions}
+use Rattle.sig_json.specs.Data.{Data}
 use Rattle.sig_verify.specs.declared.link.Link.{Link}
 use Rattle.sig_verify.specs.declared.link.Link.TheVariants.{Request}
-use Rattle.sigverify.specs.declared.reply.Reply.{Reply}
-use Rattle.sigverify.specs.declared.request.LogRequest.{LogRequest}
 use Rattle.sigverify.specs.Limit.{most_bytes}
-use Rattle.sigverify.specs.Request.{IsRequest, IsReadFrom}
-use Rattle.sigverify.specs.VerifyRequest.{IsVerifyReadFrom}
-use Rattle.sigverify.specs.ConsistencyRequest.{IsConsistencyReadFrom}
-use Rattle.sigverify.specs.Link.{log_links, links, HoldsOfLog, Holds, EveryLinkHolds, IsFirstFailing, IsLogVerdict}
-use Rattle.sigverify.specs.Reply.{IsLoggedReply, IsReply, Succeeds, refusal_reply, status_of}
-
--- a text is one request
-pub one_request : (text : List ℕ) (a b : LogRequest) → IsRequest text a → IsRequest text b → a ≡ b
-one_request text a b p q = let e = p.members in let f = q.members in cc
+use Rattle.sigverify.specs.Link.{links, Holds, EveryLinkHolds, IsFirstFailing}
+use Rattle.sigverify.specs.ReadFrom.{IsReadFrom, IsRequestOf}
+use Rattle.sigverify.specs.Reply.{IsReply, Succeeds, refusal_reply, status_of}
+use Rattle.sigverify.specs.declared.command.Command.{Command}
+use Rattle.sigverify.specs.declared.command.Command.TheVariants.{Log}
+use Rattle.sigverify.specs.declared.reply.Reply.{Reply}
 
 -- a refusal has no status 0
 refused-status : (link : Link) → status_of link ≡ 0 → ⊥
@@ -73,78 +66,60 @@ first-of_text {R = R} IsIt Of one request (l ∷ ls) link is (inl here) = inl (
 first-of_text IsIt Of one request (l ∷ ls) link is (inr later) =
     inr ((request, is, later.0), first-of_text IsIt Of one request ls link is later.1)
 
--- of no text that is no request the link `request` holds
-pub unread-reply : (text : List ℕ) → IsReadFrom text None → IsReply Log text (refusal_reply Request)
-unread-reply text none = first-reply Log text Request (inl (λ holds. none holds.0 holds.1, refl))
+-- the request is the first link of each command
+unmet-request : (command : Command) (text : List ℕ) → ¬ Holds command text Request
+    → IsFirstFailing command text Request
+unmet-request Log text fails = inl (fails, refl)
+unmet-request other text fails = inl (fails, refl)
 
-pub unread-verify : (text : List ℕ) → IsVerifyReadFrom text None → IsReply Verify text (refusal_reply Request)
-unread-verify text none = first-reply Verify text Request (inl (λ holds. none holds.0 holds.1, refl))
+unread-reply : (command : Command) (text : List ℕ) → ¬ Holds command text Request
+    → IsReply command text (refusal_reply Request)
+unread-reply command text fails = first-reply command text Request (unmet-request command text fails)
 
-pub unread-consistency : (text : List ℕ) → IsConsistencyReadFrom text None
-    → IsReply Consistency text (refusal_reply Request)
-unread-consistency text none = first-reply Consistency text Request (inl (λ holds. none holds.0 holds.1, refl))
-
-pub unread-log_questions : (text : List ℕ) → IsReadFrom text None → IsReply LogQuestions text (refusal_reply Request)
-unread-log_questions text none = first-reply LogQuestions text Request (inl (λ holds. none holds.0 holds.1, refl))
-
-pub unread-verify_questions : (text : List ℕ) → IsVerifyReadFrom text None
-    → IsReply VerifyQuestions text (refusal_reply Request)
-unread-verify_questions text none = first-reply VerifyQuestions text Request (inl (λ holds. none holds.0 holds.1, refl))
-
--- nor of one that is too long
+-- a text that is too long is no request
 pub long-reply : (command : Command) (text : List ℕ) → most_bytes < length text
     → IsReply command text (refusal_reply Request)
-long-reply Log text long = unread-reply text (λ request is. absurd (omega (arith, is.short, long)))
-long-reply Verify text long = unread-verify text (λ request is. absurd (omega (arith, is.short, long)))
-long-reply Consistency text long = unread-consistency text (λ request is. absurd (omega (arith, is.short, long)))
-long-reply LogQuestions text long = unread-log_questions text (λ request is. absurd (omega (arith, is.short, long)))
-long-reply VerifyQuestions text long =
-    unread-verify_questions text (λ request is. absurd (omega (arith, is.short, long)))
+long-reply Log text long = unread-reply Log text (λ holds. omega (arith, holds.1.short, long))
+long-reply other text long = unread-reply other text (λ holds. omega (arith, holds.1.short, long))
 
-pub vouched-reply : (text : List ℕ) (request : LogRequest) (reply : Reply) → IsReadFrom text (Some request)
-    → IsLogVerdict request None → IsLoggedReply request reply → IsReply Log text reply
-vouched-reply text request reply is every made =
-    every-reply Log text reply (ap (λ (r : Reply). r.status) made.2)
-    (λ other other_is. subst (λ (r : LogRequest). IsLoggedReply r reply) (one_request text request other is other_is)
-    made) (every-of_text (IsRequest text) HoldsOfLog request log_links is every)
+-- ---- the replies of a call
 
-pub refused-reply : (text : List ℕ) (request : LogRequest) (link : Link) → IsReadFrom text (Some request)
-    → IsLogVerdict request (Some link)
-    → IsReply Log text (refusal_reply link)
-refused-reply text request link is first =
-    first-reply Log text link
-    (first-of_text (IsRequest text) HoldsOfLog (one_request text) request log_links link is first)
+-- a reply that is made as this one
+pub replied : (command : Command) (text : List ℕ) (wanted : Reply) (r : Result Reply OutOfMemory)
+    → IfOk r (λ reply. reply ≡ wanted) → IsReply command text wanted → IfOk r (IsReply command text)
+replied command text wanted (Ok reply) is meant = subst (IsReply command text) (sym is) meant
+replied command text wanted (Err memory) is meant = tt
 
--- the replies of a call
-unread-replied_by : (text : List ℕ) (r : Result Reply OutOfMemory) → IfOk r (λ reply. reply ≡ refusal_reply Request)
-    → IsReadFrom text None → IfOk r (IsReply Log text)
-unread-replied_by text (Ok reply) is none = subst (IsReply Log text) (sym is) (unread-reply text none)
-unread-replied_by text (Err memory) is none = tt
+-- no request was read, of a text of which the command's request holds only if it is one
+pub unread-replied : {R : Type 0} (command : Command) (meaning : Data → Option R) (text : List ℕ)
+    (found : Option R) (r : Result Reply OutOfMemory)
+    → (Holds command text Request → (request : R) × IsRequestOf meaning text request)
+    → IfOk r (λ reply. reply ≡ refusal_reply Request) → found ≡ None → IsReadFrom meaning text found
+    → IfOk r (IsReply command text)
+unread-replied {R} command meaning text found r needs is none read =
+    let no_request : (request : R) → ¬ IsRequestOf meaning text request = subst (IsReadFrom meaning text) none read in
+    replied command text (refusal_reply Request) r is (unread-reply command text
+    (λ holds. let its = needs holds in no_request its.0 its.1))
 
-pub unread-replied : (text : List ℕ) (found : Option LogRequest) (r : Result Reply OutOfMemory)
-    → IfOk r (λ reply. reply ≡ refusal_reply Request) → found ≡ None → IsReadFrom text found → IfOk r
-    (IsReply Log text)
-unread-replied text found r is none read = unread-replied_by text r is (subst (IsReadFrom text) none read)
+-- a request was read, and its links have a verdict
+module _ {R : Type 0} (command : Command) (meaning : Data → Option R) (Of : R → Option Link → Type 0)
+    (text : List ℕ) (found : Option R) (request : R) (verdict : Option Link) (r : Result Reply OutOfMemory)
+    (some : found ≡ Some request) (read : IsReadFrom meaning text found) (judged : Of request verdict) where
+  its_request : IsRequestOf meaning text request
+  its_request = subst (IsReadFrom meaning text) some read
 
-refused-replied_by : (text : List ℕ) (request : LogRequest) (link : Link) (r : Result Reply OutOfMemory)
-    → IfOk r (λ reply. reply ≡ refusal_reply link) → IsReadFrom text (Some request) → IsLogVerdict request (Some link)
-    → IfOk r (IsReply Log text)
-refused-replied_by text request link (Ok reply) is read first =
-    subst (IsReply Log text) (sym is) (refused-reply text request link read first)
-refused-replied_by text request link (Err memory) is read first = tt
+  -- a link failed
+  pub refused-replied : (link : Link)
+      → (IsRequestOf meaning text request → Of request (Some link) → IsReply command text (refusal_reply link))
+      → IfOk r (λ reply. reply ≡ refusal_reply link) → verdict ≡ Some link → IfOk r (IsReply command text)
+  refused-replied link refused is which =
+      replied command text (refusal_reply link) r is (refused its_request (subst (Of request) which judged))
 
-pub refused-replied : (text : List ℕ) (found : Option LogRequest) (request : LogRequest) (verdict : Option Link)
-    (link : Link) (r : Result Reply OutOfMemory)
-    → IfOk r (λ reply. reply ≡ refusal_reply link) → found ≡ Some request → IsReadFrom text found → verdict ≡ Some link
-    → IsLogVerdict request verdict → IfOk r (IsReply Log text)
-refused-replied text found request verdict link r is some read which first =
-    refused-replied_by text request link r is (subst (IsReadFrom text) some read)
-    (subst (IsLogVerdict request) which first)
-
-pub vouched-replied : (text : List ℕ) (found : Option LogRequest) (request : LogRequest) (verdict : Option Link)
-    (r : Result Reply OutOfMemory)
-    → IfOk r (IsLoggedReply request) → found ≡ Some request → IsReadFrom text found → verdict ≡ None
-    → IsLogVerdict request verdict → IfOk r (IsReply Log text)
-vouched-replied text found request verdict r made some read none every =
-    IfOk-weaker r (IsLoggedReply request) (IsReply Log text) (λ reply. vouched-reply text request reply
-    (subst (IsReadFrom text) some read) (subst (IsLogVerdict request) none every)) made
+  -- every link holds
+  pub vouched-replied : (Made : Reply → Type 0)
+      → ((reply : Reply) → IsRequestOf meaning text request → Of request None → Made reply
+      → IsReply command text reply)
+      → IfOk r Made → verdict ≡ None → IfOk r (IsReply command text)
+  vouched-replied Made vouched made none =
+      IfOk-weaker r Made (IsReply command text)
+      (λ reply. vouched reply its_request (subst (Of request) none judged)) made

@@ -12,18 +12,19 @@ use Rattle.sig_rekor.specs.declared.checkpoint.CheckpointSignature.{CheckpointSi
 use Rattle.sig_rekor.specs.declared.checkpoint.SignedCheckpoint.{SignedCheckpoint}
 use Rattle.sig_verify.specs.declared.link.Link.{Link}
 use Rattle.sig_verify.specs.declared.link.Link.TheVariants.{Checkpoint, NoteKey, NoteMatch, Inclusion}
-use Rattle.sigverify.proofs.Replies.{one_request}
+use Rattle.sigverify.proofs.RequestTexts.{one_request}
 use Rattle.sigverify.specs.Head.{HasAcceptedSignature, head_row}
 use Rattle.sigverify.specs.Link.{Holds, HoldsOfLog, links}
 use Rattle.sigverify.specs.LogQuestions.{AreLogQuestions, head_rows}
 use Rattle.sigverify.specs.Reply.{IsLoggedReply, IsReply, Succeeds}
-use Rattle.sigverify.specs.Request.{IsRequest}
+use Rattle.sigverify.specs.Request.{log_request}
 use Rattle.sigverify.specs.Suffice.{AgreeOn, LogQuestionsSuffice, with_accepted}
 use Rattle.sigverify.specs.declared.command.Command.{Command}
 use Rattle.sigverify.specs.declared.command.Command.TheVariants.{Log}
 use Rattle.sigverify.specs.declared.head.SignedHead.{SignedHead}
 use Rattle.sigverify.specs.declared.reply.Reply.{Reply}
 use Rattle.sigverify.specs.declared.request.LogRequest.{LogRequest}
+use Rattle.sigverify.specs.ReadFrom.{IsRequestOf}
 
 -- ---- texts of which the same links hold have the same reply
 
@@ -122,8 +123,9 @@ holds-same request rows agree NoteMatch = (λ h. h, λ h. h)
 holds-same request rows agree Inclusion = (λ h. h, λ h. h)
 holds-same request rows agree other = (λ h. tt, λ h. tt)
 
-log-alike : (text other : List ℕ) (request : LogRequest) (rows : List AcceptedRow) → IsRequest text request
-    → IsRequest other (with_accepted request rows) → AgreeOnListed request rows → AreAlike Log text other
+log-alike : (text other : List ℕ) (request : LogRequest) (rows : List AcceptedRow)
+    → IsRequestOf log_request text request
+    → IsRequestOf log_request other (with_accepted request rows) → AgreeOnListed request rows → AreAlike Log text other
 log-alike text other request rows is other_is agree =
     let changed : LogRequest = with_accepted request rows in
     record {
@@ -132,19 +134,22 @@ log-alike text other request rows is other_is agree =
           changed,
           other_is,
           (holds-same request rows agree link).0
-              (subst (λ (r : LogRequest). HoldsOfLog r link) (one_request text h.0 request h.1 is) h.2),
+              (subst (λ (r : LogRequest). HoldsOfLog r link) (one_request log_request text h.0 request h.1 is) h.2),
         ),
         λ h. (
           request,
           is,
           (holds-same request rows agree link).1
-              (subst (λ (r : LogRequest). HoldsOfLog r link) (one_request other h.0 changed h.1 other_is) h.2),
+              (subst (λ (r : LogRequest). HoldsOfLog r link)
+              (one_request log_request other h.0 changed h.1 other_is) h.2),
         ),
       );
       succeeds = λ reply. (
-        λ s. λ r r_is. subst (λ (q : LogRequest). IsLoggedReply q reply) (one_request other changed r other_is r_is)
+        λ s. λ r r_is. subst (λ (q : LogRequest). IsLoggedReply q reply)
+            (one_request log_request other changed r other_is r_is)
             (s request is),
-        λ s. λ r r_is. subst (λ (q : LogRequest). IsLoggedReply q reply) (one_request text request r is r_is)
+        λ s. λ r r_is. subst (λ (q : LogRequest). IsLoggedReply q reply)
+            (one_request log_request text request r is r_is)
             (s changed other_is),
       );
     }

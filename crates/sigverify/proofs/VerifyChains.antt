@@ -1,27 +1,25 @@
 -- All links of `verify` are the request and the trust chain.
-use Rattle.std.proofs.Common.{◌≡◌, ℕ, List, [], ◌∷◌, subst}
+use Rattle.std.proofs.Common.{ℕ, List, [], ◌∷◌, subst}
 use Rattle.std.specs.List.{AllByRecursion}
 use Rattle.sig_verify.proofs.ChainLaws.{all_links_are_the_trust_chain}
 use Rattle.sig_verify.specs.Links.{chain_links}
 use Rattle.sig_verify.specs.declared.link.Link.{Link}
 use Rattle.sigverify.proofs.Replies.{every-of_text}
+use Rattle.sigverify.proofs.RequestTexts.{one_request}
 use Rattle.sigverify.specs.VerifyLink.{AllVerifyLinksAreTheTrustChain, HoldsOfVerify, HoldsVerify, IsTrusted}
 use Rattle.sigverify.specs.VerifyLink.{inputs, outside, verify_links}
-use Rattle.sigverify.specs.VerifyRequest.{IsVerifyRequest}
+use Rattle.sigverify.specs.VerifyRequest.{verify_request}
 use Rattle.sigverify.specs.declared.verify_request.VerifyRequest.{VerifyRequest}
-
--- a text is one request
-pub one_verify_request : (text : List ℕ) (a b : VerifyRequest) → IsVerifyRequest text a → IsVerifyRequest text b
-    → a ≡ b
-one_verify_request text a b p q = let e = p.members in let f = q.members in cc
+use Rattle.sigverify.specs.ReadFrom.{IsRequestOf}
 
 -- what holds of a text holds of the one request that it is
-every-of_request : (text : List ℕ) (request : VerifyRequest) (ls : List Link) → IsVerifyRequest text request
+every-of_request : (text : List ℕ) (request : VerifyRequest) (ls : List Link) → IsRequestOf verify_request text request
     → AllByRecursion (HoldsVerify text) ls → AllByRecursion (HoldsOfVerify request) ls
 every-of_request text request [] is every = tt
 every-of_request text request (link ∷ ls) is every =
     let here = every.0 in (
-      subst (λ (r : VerifyRequest). HoldsOfVerify r link) (one_verify_request text here.0 request here.1 is) here.2,
+      subst (λ (r : VerifyRequest). HoldsOfVerify r link)
+          (one_request verify_request text here.0 request here.1 is) here.2,
       every-of_request text request ls is every.1,
     )
 
@@ -34,7 +32,7 @@ trusted-from text every =
 
 trusted-to : (text : List ℕ) → IsTrusted text → AllByRecursion (HoldsVerify text) verify_links
 trusted-to text is =
-    every-of_text (IsVerifyRequest text) HoldsOfVerify is.request verify_links is.meant
+    every-of_text (IsRequestOf verify_request text) HoldsOfVerify is.request verify_links is.meant
     (tt, (all_links_are_the_trust_chain (outside is.request) (inputs is.request)).1 (is.valid, is.chain))
 
 pub all_verify_links_are_the_trust_chain : AllVerifyLinksAreTheTrustChain

@@ -16,21 +16,21 @@ use Rattle.sig_questions.specs.declared.listing.NoQuestions.{NoQuestions}
 use Rattle.sig_questions.specs.declared.listing.NoQuestions.TheVariants.{Link as Refused, TooLong}
 use Rattle.sig_verify.specs.declared.link.Link.{Link}
 use Rattle.sig_verify.specs.declared.link.Link.TheVariants.{Request}
-use Rattle.sigverify.proofs.Replies.{every-of_text, every-reply, first-of_text, first-reply}
-use Rattle.sigverify.proofs.Replies.{unread-verify_questions}
+use Rattle.sigverify.proofs.Replies.{every-of_text, every-reply, first-of_text, first-reply, replied}
+use Rattle.sigverify.proofs.RequestTexts.{one_request}
 use Rattle.sigverify.proofs.RowSizes.{too-long}
 use Rattle.sigverify.proofs.Sufficing.{fails-more}
-use Rattle.sigverify.proofs.VerifyChains.{one_verify_request}
 use Rattle.sigverify.specs.Limit.{most_bytes}
 use Rattle.sigverify.specs.Reply.{IsListingOf, IsReply, IsVerifyQuestionsReply, refusal_reply}
 use Rattle.sigverify.specs.RowsText.{rows_text}
 use Rattle.sigverify.specs.VerifyLink.{inputs}
 use Rattle.sigverify.specs.VerifyQuestions.{HoldsOfVerifyQuestions, HoldsVerifyQuestions, IsOpen, RefusesForAll}
 use Rattle.sigverify.specs.VerifyQuestions.{VerifyQuestionsFit, verify_question_links}
-use Rattle.sigverify.specs.VerifyRequest.{IsVerifyReadFrom, IsVerifyRequest}
+use Rattle.sigverify.specs.VerifyRequest.{verify_request}
 use Rattle.sigverify.specs.declared.command.Command.TheVariants.{VerifyQuestions}
 use Rattle.sigverify.specs.declared.reply.Reply.{Reply}
 use Rattle.sigverify.specs.declared.verify_request.VerifyRequest.{VerifyRequest}
+use Rattle.sigverify.specs.ReadFrom.{IsReadFrom, IsRequestOf}
 
 -- ---- the reply to a request
 
@@ -51,65 +51,56 @@ fits request rows one are short none_fail other other_are =
     subst P (one (inputs request) rows other are other_are) short
 
 -- the list of a request is too long
-past-reply : (text : List ℕ) (request : VerifyRequest) (rows : List AcceptedRow) → IsVerifyRequest text request
+past-reply : (text : List ℕ) (request : VerifyRequest) (rows : List AcceptedRow)
+    → IsRequestOf verify_request text request
     → IsOpen request → AreQuestions (inputs request) rows → most_bytes < length (rows_text rows)
     → IsReply VerifyQuestions text (refusal_reply Request)
 past-reply text request rows is none_fail are long =
     first-reply VerifyQuestions text Request
-    (first-of_text (IsVerifyRequest text) HoldsOfVerifyQuestions (one_verify_request text) request
+    (first-of_text (IsRequestOf verify_request text) HoldsOfVerifyQuestions (one_request verify_request text) request
     verify_question_links Request is (inl (λ fit. omega (arith, fit none_fail rows are, long), refl)))
 
 listed-reply : (text : List ℕ) (request : VerifyRequest) (rows : List AcceptedRow) (reply : Reply)
-    → QuestionsAreOneList → IsVerifyRequest text request → IsOpen request → AreQuestions (inputs request) rows
+    → QuestionsAreOneList → IsRequestOf verify_request text request → IsOpen request
+    → AreQuestions (inputs request) rows
     → AreAsked request rows → IsListingOf rows reply → IsReply VerifyQuestions text reply
 listed-reply text request rows reply one is none_fail are asked (inl made) =
     let its : IsVerifyQuestionsReply request reply = (rows, are, asked, made.1, made.2) in
     every-reply VerifyQuestions text reply (ap (λ (r : Reply). r.status) made.2)
     (λ other other_is. subst (λ (r : VerifyRequest). IsVerifyQuestionsReply r reply)
-    (one_verify_request text request other is other_is) its)
-    (every-of_text (IsVerifyRequest text) HoldsOfVerifyQuestions request verify_question_links is
+    (one_request verify_request text request other is other_is) its)
+    (every-of_text (IsRequestOf verify_request text) HoldsOfVerifyQuestions request verify_question_links is
     (fits request rows one are made.0, none_fail))
 listed-reply text request rows reply one is none_fail are asked (inr made) =
     subst (IsReply VerifyQuestions text) (sym made.1) (past-reply text request rows is none_fail are made.0)
 
 -- a link that fails whatever is accepted is the first that fails of the text
-fails-of_text : (text : List ℕ) (request : VerifyRequest) (link : Link) → IsVerifyRequest text request
+fails-of_text : (text : List ℕ) (request : VerifyRequest) (link : Link) → IsRequestOf verify_request text request
     → FailsFirst (HoldsUnasked (inputs request)) question_links link
     → FailsFirst (HoldsVerifyQuestions text) verify_question_links link
 fails-of_text text request link is first =
-    first-of_text (IsVerifyRequest text) HoldsOfVerifyQuestions (one_verify_request text) request
+    first-of_text (IsRequestOf verify_request text) HoldsOfVerifyQuestions (one_request verify_request text) request
     verify_question_links link is
     (inr (λ none_fail. absurd (none_fails (HoldsUnasked (inputs request)) question_links link none_fail first), first))
 
 -- ---- the replies of a call
 
--- a reply that is made as this one
-replied : (text : List ℕ) (wanted : Reply) (r : Result Reply OutOfMemory) → IfOk r (λ reply. reply ≡ wanted)
-    → IsReply VerifyQuestions text wanted → IfOk r (IsReply VerifyQuestions text)
-replied text wanted (Ok reply) is meant = subst (IsReply VerifyQuestions text) (sym is) meant
-replied text wanted (Err memory) is meant = tt
-
-pub unread-replied : (text : List ℕ) (found : Option VerifyRequest) (r : Result Reply OutOfMemory)
-    → IfOk r (λ reply. reply ≡ refusal_reply Request) → found ≡ None → IsVerifyReadFrom text found
-    → IfOk r (IsReply VerifyQuestions text)
-unread-replied text found r is none read =
-    replied text (refusal_reply Request) r is (unread-verify_questions text (subst (IsVerifyReadFrom text) none read))
-
 module _ (text : List ℕ) (found : Option VerifyRequest) (request : VerifyRequest) (r : Result Reply OutOfMemory)
-    (some : found ≡ Some request) (read : IsVerifyReadFrom text found) where
-  its_request : IsVerifyRequest text request
-  its_request = subst (IsVerifyReadFrom text) some read
+    (some : found ≡ Some request) (read : IsReadFrom verify_request text found) where
+  its_request : IsRequestOf verify_request text request
+  its_request = subst (IsReadFrom verify_request text) some read
 
   pub refused-replied : (link : Link) → IfOk r (λ reply. reply ≡ refusal_reply link)
       → IsDecided (inputs request) most_bytes (Err (Refused link)) → IfOk r (IsReply VerifyQuestions text)
   refused-replied link is first =
-      replied text (refusal_reply link) r is
+      replied VerifyQuestions text (refusal_reply link) r is
       (first-reply VerifyQuestions text link (fails-of_text text request link its_request first))
 
   pub past-replied : QuestionsHaveSchemes → IfOk r (λ reply. reply ≡ refusal_reply Request)
       → IsDecided (inputs request) most_bytes (Err TooLong) → IfOk r (IsReply VerifyQuestions text)
   past-replied have is (none_fail, long) =
-      replied text (refusal_reply Request) r is (past-reply text request long.0 its_request none_fail long.1
+      replied VerifyQuestions text (refusal_reply Request) r is
+      (past-reply text request long.0 its_request none_fail long.1
       (too-long long.0 (all-schemes have request long.0 long.1) long.2))
 
   pub listed-replied : (rows : List AcceptedRow) → QuestionsAreOneList → IfOk r (IsListingOf rows)
@@ -121,10 +112,11 @@ module _ (text : List ℕ) (found : Option VerifyRequest) (request : VerifyReque
 -- ---- a link that is named
 
 -- what fails first of a text does so of the one request that it is
-of-request : (text : List ℕ) (request : VerifyRequest) (link : Link) → IsVerifyRequest text request
+of-request : (text : List ℕ) (request : VerifyRequest) (link : Link) → IsRequestOf verify_request text request
     → HoldsVerifyQuestions text link ↔ HoldsOfVerifyQuestions request link
 of-request text request link is = (
-  λ h. subst (λ (r : VerifyRequest). HoldsOfVerifyQuestions r link) (one_verify_request text h.0 request h.1 is) h.2,
+  λ h. subst (λ (r : VerifyRequest). HoldsOfVerifyQuestions r link)
+      (one_request verify_request text h.0 request h.1 is) h.2,
   λ h. (request, is, h),
 )
 

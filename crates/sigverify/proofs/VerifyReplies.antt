@@ -7,63 +7,51 @@ use Rattle.sig_verify.specs.Judged.{Judged}
 use Rattle.sig_verify.specs.Links.{chain_links}
 use Rattle.sig_verify.specs.OfflineErrors.{link_of}
 use Rattle.sig_verify.specs.declared.link.Link.{Link}
-use Rattle.sig_verify.specs.declared.link.Link.TheVariants.{Request}
 use Rattle.sig_verify.specs.declared.offline.Offline.{Offline}
 use Rattle.sig_verify.specs.declared.offline_error.OfflineError.{OfflineError}
 use Rattle.sig_verify.specs.declared.offline_error.OfflineError.TheVariants.{OutOfMemory as Memory}
 use Rattle.std.proofs.lemmas.Result.{IfOk-weaker}
 use Rattle.sigverify.proofs.Included.{every-included}
-use Rattle.sigverify.proofs.Replies.{every-of_text, every-reply, first-of_text, first-reply, unread-verify}
-use Rattle.sigverify.proofs.VerifyChains.{one_verify_request}
+use Rattle.sigverify.proofs.Replies.{every-of_text, every-reply, first-of_text, first-reply, replied}
+use Rattle.sigverify.proofs.RequestTexts.{one_request}
 use Rattle.sigverify.specs.Reply.{IsEntryIn, IsReply, IsVerifiedReply, refusal_reply}
 use Rattle.sigverify.specs.ProofOf.{IsProofOf}
 use Rattle.sigverify.specs.VerifyLink.{HoldsOfVerify, inputs, outside, verify_links}
-use Rattle.sigverify.specs.VerifyRequest.{IsVerifyReadFrom, IsVerifyRequest}
+use Rattle.sigverify.specs.VerifyRequest.{verify_request}
 use Rattle.sigverify.specs.declared.command.Command.TheVariants.{Verify}
 use Rattle.sigverify.specs.declared.reply.Reply.{Reply}
 use Rattle.sigverify.specs.declared.verify_request.VerifyRequest.{VerifyRequest}
+use Rattle.sigverify.specs.ReadFrom.{IsReadFrom, IsRequestOf}
 
 -- every link of the chain holds
 pub verified-reply : (text : List ℕ) (request : VerifyRequest) (offline : Offline) (reply : Reply)
-    → IsVerifyRequest text request → Judged {A = Offline} (HoldsOfVerify request) chain_links (Ok offline)
+    → IsRequestOf verify_request text request → Judged {A = Offline} (HoldsOfVerify request) chain_links (Ok offline)
     → IsEntryIn request offline → IsVerifiedReply request offline reply → IsReply Verify text reply
 verified-reply text request offline reply is judged kept made =
     every-reply Verify text reply (ap (λ (r : Reply). r.status) made.2)
     (λ other other_is.
-    let same = one_verify_request text request other is other_is in (
+    let same = one_request verify_request text request other is other_is in (
       offline,
       subst (λ (r : VerifyRequest). IsEntryIn r offline) same kept,
       subst (λ (r : VerifyRequest). IsVerifiedReply r offline reply) same made,
     ))
-    (every-of_text (IsVerifyRequest text) HoldsOfVerify request verify_links is (tt, judged))
+    (every-of_text (IsRequestOf verify_request text) HoldsOfVerify request verify_links is (tt, judged))
 
 same_link : (a b : Link) → ◌≡◌ {A = Option Link} (Some a) (Some b) → a ≡ b
 same_link a b e = cc
 
 -- the link of the error is the first that fails
 pub refused-verify : (text : List ℕ) (request : VerifyRequest) (error : OfflineError) (link : Link)
-    → IsVerifyRequest text request → link_of error ≡ Some link
+    → IsRequestOf verify_request text request → link_of error ≡ Some link
     → Judged {A = Offline} (HoldsOfVerify request) chain_links (Err error) → IsReply Verify text (refusal_reply link)
 refused-verify text request error link is named judged =
     let same : judged.0 ≡ link = same_link judged.0 link (sym judged.1 ∙ named) in
     subst (λ (l : Link). IsReply Verify text (refusal_reply l)) same
-    (first-reply Verify text judged.0 (first-of_text (IsVerifyRequest text) HoldsOfVerify
-    (one_verify_request text) request
+    (first-reply Verify text judged.0 (first-of_text (IsRequestOf verify_request text) HoldsOfVerify
+    (one_request verify_request text) request
     verify_links judged.0 is (inr (tt, judged.2))))
 
 -- ---- the replies of a call
-
--- a reply that is made as this one
-replied : (text : List ℕ) (wanted : Reply) (r : Result Reply OutOfMemory) → IfOk r (λ reply. reply ≡ wanted)
-    → IsReply Verify text wanted → IfOk r (IsReply Verify text)
-replied text wanted (Ok reply) is meant = subst (IsReply Verify text) (sym is) meant
-replied text wanted (Err memory) is meant = tt
-
-pub unread-verify-replied : (text : List ℕ) (found : Option VerifyRequest) (r : Result Reply OutOfMemory)
-    → IfOk r (λ reply. reply ≡ refusal_reply Request) → found ≡ None → IsVerifyReadFrom text found
-    → IfOk r (IsReply Verify text)
-unread-verify-replied text found r is none read =
-    replied text (refusal_reply Request) r is (unread-verify text (subst (IsVerifyReadFrom text) none read))
 
 -- what the chain of trust says of a request
 abbrev pub IsChainOf : VerifyRequest → Result Offline OfflineError → Type 0
@@ -97,16 +85,16 @@ chain-included request offline chain kept =
 
 pub verified-replied : (text : List ℕ) (found : Option VerifyRequest) (request : VerifyRequest) (offline : Offline)
     (r : Result Reply OutOfMemory)
-    → IfOk r (IsVerifiedReply request offline) → found ≡ Some request → IsVerifyReadFrom text found
+    → IfOk r (IsVerifiedReply request offline) → found ≡ Some request → IsReadFrom verify_request text found
     → IsChainOf request (Ok offline) → IsEntryIn request offline → IfOk r (IsReply Verify text)
 verified-replied text found request offline r made some read chain kept =
     IfOk-weaker r (IsVerifiedReply request offline) (IsReply Verify text) (λ reply. verified-reply text request offline
-    reply (subst (IsVerifyReadFrom text) some read) (chain_held request offline chain) kept) made
+    reply (subst (IsReadFrom verify_request text) some read) (chain_held request offline chain) kept) made
 
 pub refused-verify-replied : (text : List ℕ) (found : Option VerifyRequest) (request : VerifyRequest)
     (error : OfflineError) (link : Link) (r : Result Reply OutOfMemory)
-    → IfOk r (λ reply. reply ≡ refusal_reply link) → found ≡ Some request → IsVerifyReadFrom text found
+    → IfOk r (λ reply. reply ≡ refusal_reply link) → found ≡ Some request → IsReadFrom verify_request text found
     → link_of error ≡ Some link → IsChainOf request (Err error) → IfOk r (IsReply Verify text)
 refused-verify-replied text found request error link r is some read named chain =
-    replied text (refusal_reply link) r is (refused-verify text request error link
-    (subst (IsVerifyReadFrom text) some read) named (chain_failed request error link named chain))
+    replied Verify text (refusal_reply link) r is (refused-verify text request error link
+    (subst (IsReadFrom verify_request text) some read) named (chain_failed request error link named chain))

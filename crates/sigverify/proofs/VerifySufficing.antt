@@ -14,14 +14,15 @@ use Rattle.sig_verify.specs.declared.link.Link.{Link}
 use Rattle.sig_verify.specs.declared.offline.Offline.{Offline}
 use Rattle.sigverify.proofs.RowsTexts.{as_row}
 use Rattle.sigverify.proofs.Sufficing.{AreAlike, alike-other, alike-reply}
-use Rattle.sigverify.proofs.VerifyChains.{one_verify_request}
+use Rattle.sigverify.proofs.RequestTexts.{one_request}
 use Rattle.sigverify.specs.Reply.{IsEntryIn, IsVerifiedReply}
 use Rattle.sigverify.specs.Suffice.{AgreeOnAsked, VerifyQuestionsSuffice, verify_with_accepted}
 use Rattle.sigverify.specs.VerifyLink.{HoldsOfVerify, checker, inputs, policy}
-use Rattle.sigverify.specs.VerifyRequest.{IsVerifyRequest}
+use Rattle.sigverify.specs.VerifyRequest.{verify_request}
 use Rattle.sigverify.specs.declared.command.Command.TheVariants.{Verify}
 use Rattle.sigverify.specs.declared.reply.Reply.{Reply}
 use Rattle.sigverify.specs.declared.verify_request.VerifyRequest.{VerifyRequest}
+use Rattle.sigverify.specs.ReadFrom.{IsRequestOf}
 
 -- ---- the checkers of two lists that agree on what is asked
 
@@ -70,7 +71,7 @@ abbrev Shows : Reply → VerifyRequest → Type 0
 Shows reply request = (offline : Offline) × IsEntryIn request offline × IsVerifiedReply request offline reply
 
 verify-alike : (text other : List ℕ) (request : VerifyRequest) (rows : List AcceptedRow) → QuestionsSuffice
-    → IsVerifyRequest text request → IsVerifyRequest other (verify_with_accepted request rows)
+    → IsRequestOf verify_request text request → IsRequestOf verify_request other (verify_with_accepted request rows)
     → AgreeOnAsked request rows → AreAlike Verify text other
 verify-alike text other request rows suffice is other_is same =
     let changed : VerifyRequest = verify_with_accepted request rows in
@@ -80,19 +81,20 @@ verify-alike text other request rows suffice is other_is same =
           changed,
           other_is,
           (holds-same request rows suffice same link).0
-              (subst (λ (r : VerifyRequest). HoldsOfVerify r link) (one_verify_request text h.0 request h.1 is) h.2),
+              (subst (λ (r : VerifyRequest). HoldsOfVerify r link)
+              (one_request verify_request text h.0 request h.1 is) h.2),
         ),
         λ h. (
           request,
           is,
           (holds-same request rows suffice same link).1
               (subst (λ (r : VerifyRequest). HoldsOfVerify r link)
-              (one_verify_request other h.0 changed h.1 other_is) h.2),
+              (one_request verify_request other h.0 changed h.1 other_is) h.2),
         ),
       );
       succeeds = λ reply. (
-        λ s. λ r r_is. subst (Shows reply) (one_verify_request other changed r other_is r_is) (s request is),
-        λ s. λ r r_is. subst (Shows reply) (one_verify_request text request r is r_is) (s changed other_is),
+        λ s. λ r r_is. subst (Shows reply) (one_request verify_request other changed r other_is r_is) (s request is),
+        λ s. λ r r_is. subst (Shows reply) (one_request verify_request text request r is r_is) (s changed other_is),
       );
     }
 

@@ -1,13 +1,13 @@
 -- What the links of `consistency` ask of its request.
-use Rattle.std.specs.Prelude.{ℕ, List, [], ◌∷◌, Option, Some, None}
-use Rattle.std.specs.List.{AllByRecursion}
+use Rattle.std.specs.Prelude.{ℕ, List, [], ◌∷◌, Option}
 use Rattle.sig_merkle.specs.ConsistencyAnswer.{IsConsistent}
-use Rattle.sig_base.specs.Rules.{FailsFirst}
 use Rattle.sig_verify.specs.declared.link.Link.{Link}
 use Rattle.sig_verify.specs.declared.link.Link.TheVariants.{Request, Checkpoint, NoteKey, NoteMatch, Consistency}
-use Rattle.sigverify.specs.ConsistencyRequest.{IsConsistencyRequest}
+use Rattle.sigverify.specs.ConsistencyRequest.{consistency_request}
 use Rattle.sigverify.specs.Head.{HoldsOfHead}
 use Rattle.sigverify.specs.declared.consistency_request.ConsistencyRequest.{ConsistencyRequest}
+use Rattle.sigverify.specs.ReadFrom.{IsRequestOf}
+use Rattle.sigverify.specs.Verdict.{IsVerdict}
 
 -- the links of `consistency`
 abbrev pub consistency_links : List Link
@@ -33,9 +33,8 @@ HoldsOfConsistency request other = Unit {0}
 -- a link holds of a text: the text is a request of `consistency`, and the link holds of it
 abbrev pub HoldsConsistency : List ℕ → Link → Type 0
 HoldsConsistency text link =
-    (request : ConsistencyRequest) × IsConsistencyRequest text request × HoldsOfConsistency request link
+    (request : ConsistencyRequest) × IsRequestOf consistency_request text request × HoldsOfConsistency request link
 
 -- the first failing link of a request, or none
 abbrev pub IsConsistencyVerdict : ConsistencyRequest → Option Link → Type 0
-IsConsistencyVerdict request None = AllByRecursion (HoldsOfConsistency request) consistency_links
-IsConsistencyVerdict request (Some link) = FailsFirst (HoldsOfConsistency request) consistency_links link
+IsConsistencyVerdict request = IsVerdict (HoldsOfConsistency request) consistency_links

@@ -1,6 +1,5 @@
 -- The links on the head of a log: its checkpoint has to vouch for the size and the root that a proof leads to.
 use Rattle.std.specs.Prelude.{◌≡◌, ℕ, List, [], ◌∷◌, Any, Contains, Option, Some, None}
-use Rattle.std.specs.List.{AllByRecursion}
 use Rattle.sig_base.specs.declared.checker.AcceptedRow.{AcceptedRow}
 use Rattle.sig_base.specs.declared.checker.Operation.TheVariants.{Message}
 use Rattle.sig_base.specs.Scheme.{name_of, scheme_of}
@@ -8,10 +7,10 @@ use Rattle.sig_rekor.specs.declared.checkpoint.CheckpointSignature.{CheckpointSi
 use Rattle.sig_rekor.specs.declared.checkpoint.SignedCheckpoint.{SignedCheckpoint}
 use Rattle.sig_rekor.specs.CheckpointText.{IsCheckpoint}
 use Rattle.sig_rekor.specs.NoteText.{note_text}
-use Rattle.sig_base.specs.Rules.{FailsFirst}
 use Rattle.sig_verify.specs.declared.link.Link.{Link}
 use Rattle.sig_verify.specs.declared.link.Link.TheVariants.{Checkpoint, NoteKey, NoteMatch}
 use Rattle.sigverify.specs.declared.head.SignedHead.{SignedHead}
+use Rattle.sigverify.specs.Verdict.{IsVerdict}
 
 -- the links on a head, in their order
 abbrev pub head_links : List Link
@@ -49,8 +48,7 @@ HoldsOfHead head size root other = Unit {0}
 
 -- the first failing link of a head, or none
 abbrev pub IsHeadVerdict : SignedHead → ℕ → List ℕ → Option Link → Type 0
-IsHeadVerdict head size root None = AllByRecursion (HoldsOfHead head size root) head_links
-IsHeadVerdict head size root (Some link) = FailsFirst (HoldsOfHead head size root) head_links link
+IsHeadVerdict head size root = IsVerdict (HoldsOfHead head size root) head_links
 
 -- the first failing link behind the checkpoint, or none, where this is the checkpoint's reading
 abbrev pub IsHeadVerdictUnder : SignedHead → ℕ → List ℕ → SignedCheckpoint → Option Link → Type 0

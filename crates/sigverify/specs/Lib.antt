@@ -3,10 +3,12 @@ pub mod ConsistencyLink
 pub mod ConsistencyRequest
 pub mod DigestText
 pub mod Head
+pub mod HeadMembers
 pub mod Limit
 pub mod Link
 pub mod LogQuestions
 pub mod Policy
+pub mod ReadFrom
 pub mod Reply
 pub mod Request
 pub mod Row
@@ -14,6 +16,7 @@ pub mod RowsText
 pub mod Run
 pub mod Status
 pub mod Suffice
+pub mod Verdict
 pub mod VerifyLink
 pub mod VerifyQuestions
 pub mod VerifyRequest

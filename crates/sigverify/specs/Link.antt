@@ -1,5 +1,5 @@
 -- The links of each command, in their order.
-use Rattle.std.specs.Prelude.{ℕ, List, [], ◌∷◌, Option, Some, None}
+use Rattle.std.specs.Prelude.{ℕ, List, [], ◌∷◌, Option}
 use Rattle.std.specs.List.{AllByRecursion}
 use Rattle.sig_base.specs.Rules.{FailsFirst}
 use Rattle.sigverify.specs.declared.command.Command.{Command}
@@ -10,11 +10,13 @@ use Rattle.sig_verify.specs.declared.link.Link.TheVariants.{Request, Checkpoint,
 use Rattle.sigverify.specs.declared.request.LogRequest.{LogRequest}
 use Rattle.sigverify.specs.Head.{HoldsOfHead}
 use Rattle.sigverify.specs.ProofOf.{IsProofOf}
-use Rattle.sigverify.specs.Request.{IsRequest}
+use Rattle.sigverify.specs.Request.{log_request}
 use Rattle.sigverify.specs.VerifyLink.{HoldsVerify, verify_links}
 use Rattle.sigverify.specs.ConsistencyLink.{HoldsConsistency, consistency_links}
 use Rattle.sigverify.specs.LogQuestions.{HoldsLogQuestions, log_question_links}
 use Rattle.sigverify.specs.VerifyQuestions.{HoldsVerifyQuestions, verify_question_links}
+use Rattle.sigverify.specs.ReadFrom.{IsRequestOf}
+use Rattle.sigverify.specs.Verdict.{IsVerdict}
 
 -- the links of `log`
 abbrev pub log_links : List Link
@@ -45,7 +47,7 @@ HoldsOfLog request other = Unit {0}
 
 -- a link holds of a text: the text is a request of the command, and the link holds of it
 abbrev pub Holds : Command → List ℕ → Link → Type 0
-Holds Log text link = (request : LogRequest) × IsRequest text request × HoldsOfLog request link
+Holds Log text link = (request : LogRequest) × IsRequestOf log_request text request × HoldsOfLog request link
 Holds Verify text link = HoldsVerify text link
 Holds Consistency text link = HoldsConsistency text link
 Holds LogQuestions text link = HoldsLogQuestions text link
@@ -61,5 +63,4 @@ IsFirstFailing command text link = FailsFirst (Holds command text) (links comman
 
 -- the first failing link of a request, or none
 abbrev pub IsLogVerdict : LogRequest → Option Link → Type 0
-IsLogVerdict request None = AllByRecursion (HoldsOfLog request) log_links
-IsLogVerdict request (Some link) = FailsFirst (HoldsOfLog request) log_links link
+IsLogVerdict request = IsVerdict (HoldsOfLog request) log_links

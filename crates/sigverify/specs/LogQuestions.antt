@@ -7,10 +7,11 @@ use Rattle.sig_verify.specs.declared.link.Link.{Link}
 use Rattle.sig_verify.specs.declared.link.Link.TheVariants.{Request, Checkpoint}
 use Rattle.sigverify.specs.Head.{OfHeadCheckpoint, head_row}
 use Rattle.sigverify.specs.Limit.{most_bytes}
-use Rattle.sigverify.specs.Request.{IsRequest}
+use Rattle.sigverify.specs.Request.{log_request}
 use Rattle.sigverify.specs.RowsText.{rows_text}
 use Rattle.sigverify.specs.declared.head.SignedHead.{SignedHead}
 use Rattle.sigverify.specs.declared.request.LogRequest.{LogRequest}
+use Rattle.sigverify.specs.ReadFrom.{IsRequestOf}
 
 -- each signature of the checkpoint over its note, under the log's scheme and key, in order
 abbrev pub head_rows : SignedHead → SignedCheckpoint → List AcceptedRow
@@ -39,7 +40,7 @@ HoldsOfLogQuestions request other = Unit {0}
 -- a link holds of a text: the text is a request of `log`, and the link holds of it
 abbrev pub HoldsLogQuestions : List ℕ → Link → Type 0
 HoldsLogQuestions text link =
-    (request : LogRequest) × IsRequest text request × HoldsOfLogQuestions request link
+    (request : LogRequest) × IsRequestOf log_request text request × HoldsOfLogQuestions request link
 
 -- the one checkpoint that the text of a head is, or none
 abbrev pub IsCheckpointOf : SignedHead → Option SignedCheckpoint → Type 0

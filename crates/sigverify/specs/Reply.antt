@@ -15,18 +15,19 @@ use Rattle.sig_verify.specs.declared.link.Link.TheVariants.{Request}
 use Rattle.sig_verify.specs.declared.offline.Offline.{Offline}
 use Rattle.sigverify.specs.declared.request.LogRequest.{LogRequest}
 use Rattle.sigverify.specs.declared.reply.Reply.{Reply}
-use Rattle.sigverify.specs.Request.{IsRequest}
+use Rattle.sigverify.specs.Request.{log_request}
 use Rattle.sigverify.specs.SecondLine.{IsSecondLine}
-use Rattle.sigverify.specs.ConsistencyRequest.{IsConsistencyRequest}
+use Rattle.sigverify.specs.ConsistencyRequest.{consistency_request}
 use Rattle.sigverify.specs.declared.consistency_request.ConsistencyRequest.{ConsistencyRequest}
 use Rattle.sigverify.specs.VerifyLink.{inputs}
-use Rattle.sigverify.specs.VerifyRequest.{IsVerifyRequest}
+use Rattle.sigverify.specs.VerifyRequest.{verify_request}
 use Rattle.sigverify.specs.declared.verify_request.VerifyRequest.{VerifyRequest}
 use Rattle.sigverify.specs.Link.{EveryLinkHolds, IsFirstFailing}
 use Rattle.sig_base.specs.declared.checker.AcceptedRow.{AcceptedRow}
 use Rattle.sigverify.specs.Limit.{most_bytes}
 use Rattle.sigverify.specs.LogQuestions.{AreLogQuestions}
 use Rattle.sigverify.specs.RowsText.{IsReadBack, rows_text}
+use Rattle.sigverify.specs.ReadFrom.{IsRequestOf}
 
 -- status 2 for the link `request`, 1 for every other
 abbrev pub status_of : Link → ℕ
@@ -107,16 +108,16 @@ IsVerifyQuestionsReply request reply =
 -- command asks for
 abbrev pub Succeeds : Command → List ℕ → Reply → Type 0
 Succeeds Log text reply =
-    (request : LogRequest) → IsRequest text request → IsLoggedReply request reply
+    (request : LogRequest) → IsRequestOf log_request text request → IsLoggedReply request reply
 Succeeds Verify text reply =
-    (request : VerifyRequest) → IsVerifyRequest text request
+    (request : VerifyRequest) → IsRequestOf verify_request text request
     → (offline : Offline) × IsEntryIn request offline × IsVerifiedReply request offline reply
 Succeeds Consistency text reply =
-    (request : ConsistencyRequest) → IsConsistencyRequest text request → reply ≡ consistent request
+    (request : ConsistencyRequest) → IsRequestOf consistency_request text request → reply ≡ consistent request
 Succeeds LogQuestions text reply =
-    (request : LogRequest) → IsRequest text request → IsLogQuestionsReply request reply
+    (request : LogRequest) → IsRequestOf log_request text request → IsLogQuestionsReply request reply
 Succeeds VerifyQuestions text reply =
-    (request : VerifyRequest) → IsVerifyRequest text request → IsVerifyQuestionsReply request reply
+    (request : VerifyRequest) → IsRequestOf verify_request text request → IsVerifyQuestionsReply request reply
 
 -- the reply to a request's text: the success line if and only if every link of the command holds, else the first link
 -- that fails

@@ -1,14 +1,12 @@
--- The request of `log`: what its text means.
-use Rattle.std.specs.Prelude.{◌≡◌, ℕ, ◌≤◌, List, length, codes, Option, Some, None, Ok}
+-- The request of `log`: what its members mean.
+use Rattle.std.specs.Prelude.{codes, Option, Some, None}
 use Rattle.sig_base.specs.OptionSteps.{◌>>=◌}
 use Rattle.sig_json.specs.Data.{Data}
-use Rattle.sig_json.specs.Document.{document_of}
 use Rattle.sig_json.specs.Kinds.{hash_of}
-use Rattle.sig_json.specs.Member.{required, required_bytes, required_hash, required_i64, required_text, required_u64}
-use Rattle.sig_json.specs.Member.{optional, optional_list}
+use Rattle.sig_json.specs.Member.{optional, optional_list, required_bytes, required_hash, required_i64, required_u64}
 use Rattle.sigverify.specs.declared.request.LogRequest.{LogRequest}
-use Rattle.sigverify.specs.Limit.{most_bytes}
-use Rattle.sigverify.specs.Row.{entries_of, row_of, scheme_kind}
+use Rattle.sigverify.specs.HeadMembers.{head_of}
+use Rattle.sigverify.specs.Row.{entries_of}
 
 -- the members of a request
 unfoldable pub log_request : Data → Option LogRequest
@@ -18,10 +16,7 @@ log_request d = do
   tree_size ← required_u64 (codes "treeSize") d
   root_hash ← required_hash (codes "rootHash") d
   hashes ← optional_list hash_of (codes "hashes") d
-  checkpoint ← required_text (codes "checkpoint") d
-  scheme ← required scheme_kind (codes "scheme") d
-  key ← required_bytes (codes "key") d
-  accepted ← optional_list row_of (codes "accepted") d
+  head ← head_of d
   entries ← optional entries_of (codes "entries") d
   Some (record {
     entry = entry;
@@ -32,18 +27,6 @@ log_request d = do
       hashes = hashes;
       checkpoint = None;
     };
-    head = record { checkpoint = checkpoint; scheme = scheme; key = key; accepted = accepted };
+    head = head;
     entries = entries;
   })
-
--- the text is this request: it has at most 2^24 bytes, it is a document, and its members are these
-pub record IsRequest (text : List ℕ) (request : LogRequest) : Type 0 where
-  pub tree : Data
-  pub short : length text ≤ most_bytes
-  pub document : document_of text ≡ Ok tree
-  pub members : log_request tree ≡ Some request
-
--- a request, if and only if the text is one
-abbrev pub IsReadFrom : List ℕ → Option LogRequest → Type 0
-IsReadFrom text None = (request : LogRequest) → ¬ IsRequest text request
-IsReadFrom text (Some request) = IsRequest text request

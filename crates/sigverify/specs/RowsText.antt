@@ -1,5 +1,5 @@
 -- The document that `questions` writes: a list of signatures, in the form of `accepted`.
-use Rattle.std.specs.Prelude.{◌≡◌, ℕ, ◌+◌, ◌<◌, ◌≤◌, List, [], ◌∷◌, codes, length, Option, Some, None, Ok, ⊤}
+use Rattle.std.specs.Prelude.{◌≡◌, ℕ, ◌+◌, ◌<◌, ◌≤◌, List, [], ◌∷◌, codes, length, Option, Some, None, Ok}
 use Rattle.sig_base.specs.Scheme.{name_of}
 use Rattle.sig_base.specs.declared.scheme.VerifyScheme.{VerifyScheme}
 use Rattle.sig_base.specs.declared.checker.AcceptedRow.{AcceptedRow}

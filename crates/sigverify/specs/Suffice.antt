@@ -4,13 +4,14 @@ use Rattle.sig_base.specs.declared.checker.AcceptedRow.{AcceptedRow}
 use Rattle.sig_questions.specs.Asked.{IsAskedBy}
 use Rattle.sigverify.specs.LogQuestions.{AreLogQuestions}
 use Rattle.sigverify.specs.Reply.{IsReply}
-use Rattle.sigverify.specs.Request.{IsRequest}
+use Rattle.sigverify.specs.Request.{log_request}
 use Rattle.sigverify.specs.VerifyLink.{inputs}
-use Rattle.sigverify.specs.VerifyRequest.{IsVerifyRequest}
+use Rattle.sigverify.specs.VerifyRequest.{verify_request}
 use Rattle.sigverify.specs.declared.command.Command.TheVariants.{Log, Verify}
 use Rattle.sigverify.specs.declared.reply.Reply.{Reply}
 use Rattle.sigverify.specs.declared.request.LogRequest.{LogRequest}
 use Rattle.sigverify.specs.declared.verify_request.VerifyRequest.{VerifyRequest}
+use Rattle.sigverify.specs.ReadFrom.{IsRequestOf}
 
 -- the request with these accepted signatures in place of its own
 abbrev pub with_accepted : LogRequest → List AcceptedRow → LogRequest
@@ -35,7 +36,7 @@ AgreeOn rows one other = (row : AcceptedRow) → Contains rows row → Contains 
 abbrev pub LogQuestionsSuffice : Type 0
 LogQuestionsSuffice =
     (text other : List ℕ) (request : LogRequest) (rows : List AcceptedRow)
-    → IsRequest text request → IsRequest other (with_accepted request rows)
+    → IsRequestOf log_request text request → IsRequestOf log_request other (with_accepted request rows)
     → ((asked : List AcceptedRow) → AreLogQuestions request asked → AgreeOn asked request.head.accepted rows)
     → (reply : Reply) → IsReply Log text reply ↔ IsReply Log other reply
 
@@ -61,6 +62,6 @@ AgreeOnAsked request rows =
 abbrev pub VerifyQuestionsSuffice : Type 0
 VerifyQuestionsSuffice =
     (text other : List ℕ) (request : VerifyRequest) (rows : List AcceptedRow)
-    → IsVerifyRequest text request → IsVerifyRequest other (verify_with_accepted request rows)
+    → IsRequestOf verify_request text request → IsRequestOf verify_request other (verify_with_accepted request rows)
     → AgreeOnAsked request rows
     → (reply : Reply) → IsReply Verify text reply ↔ IsReply Verify other reply

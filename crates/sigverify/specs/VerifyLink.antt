@@ -11,8 +11,9 @@ use Rattle.sig_verify.specs.TrustChain.{IsValid, TrustChain}
 use Rattle.sig_verify.specs.Verdict.{Checker, PolicyOf}
 use Rattle.sig_verify.specs.declared.link.Link.{Link}
 use Rattle.sig_verify.specs.declared.link.Link.TheVariants.{Request}
-use Rattle.sigverify.specs.VerifyRequest.{IsVerifyRequest}
+use Rattle.sigverify.specs.VerifyRequest.{verify_request}
 use Rattle.sigverify.specs.declared.verify_request.VerifyRequest.{VerifyRequest}
+use Rattle.sigverify.specs.ReadFrom.{IsRequestOf}
 
 abbrev pub inputs : VerifyRequest → Inputs
 inputs request = record {
@@ -47,12 +48,12 @@ verify_links = Request ∷ chain_links
 
 -- a link holds of a text: the text is a request of `verify`, and the link holds of it
 abbrev pub HoldsVerify : List ℕ → Link → Type 0
-HoldsVerify text link = (request : VerifyRequest) × IsVerifyRequest text request × HoldsOfVerify request link
+HoldsVerify text link = (request : VerifyRequest) × IsRequestOf verify_request text request × HoldsOfVerify request link
 
 -- the text is a request whose inputs are valid, and the chain of trust of its bundle holds
 pub record IsTrusted (text : List ℕ) : Type 0 where
   pub request : VerifyRequest
-  pub meant : IsVerifyRequest text request
+  pub meant : IsRequestOf verify_request text request
   pub valid : IsValid (outside request) (inputs request)
   pub chain : TrustChain (outside request) (inputs request)
 

@@ -9,8 +9,9 @@ use Rattle.sig_verify.specs.declared.link.Link.TheVariants.{Request}
 use Rattle.sigverify.specs.Limit.{most_bytes}
 use Rattle.sigverify.specs.RowsText.{rows_text}
 use Rattle.sigverify.specs.VerifyLink.{inputs}
-use Rattle.sigverify.specs.VerifyRequest.{IsVerifyRequest}
+use Rattle.sigverify.specs.VerifyRequest.{verify_request}
 use Rattle.sigverify.specs.declared.verify_request.VerifyRequest.{VerifyRequest}
+use Rattle.sigverify.specs.ReadFrom.{IsRequestOf}
 
 -- no link fails whatever signatures are accepted
 abbrev pub IsOpen : VerifyRequest → Type 0
@@ -36,11 +37,11 @@ HoldsOfVerifyQuestions request other = HoldsUnasked (inputs request) other
 -- a link holds of a text: the text is a request of `verify`, and the link holds of it
 abbrev pub HoldsVerifyQuestions : List ℕ → Link → Type 0
 HoldsVerifyQuestions text link =
-    (request : VerifyRequest) × IsVerifyRequest text request × HoldsOfVerifyQuestions request link
+    (request : VerifyRequest) × IsRequestOf verify_request text request × HoldsOfVerifyQuestions request link
 
 -- Of a request of `verify` a link other than `request` is the first that fails in `questions verify` if and only if it
 -- is the first that fails in the chain of trust, whatever signatures are accepted and whatever the policy says.
 abbrev pub RefusesForAll : Type 0
 RefusesForAll =
-    (text : List ℕ) (request : VerifyRequest) (link : Link) → IsVerifyRequest text request → link ≢ Request
+    (text : List ℕ) (request : VerifyRequest) (link : Link) → IsRequestOf verify_request text request → link ≢ Request
     → FailsFirst (HoldsVerifyQuestions text) verify_question_links link ↔ FailsForAll (inputs request) link

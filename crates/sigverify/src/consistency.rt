@@ -28,7 +28,7 @@ pub fn consistency_reply(alloc: Global, request: &[u8]) -> Result<Reply, OutOfMe
 }
 
 /// The first link that fails of a request, or none.
-#[tactic(auto, using(crate::proofs::ConsistencyReplies::verdicts))]
+#[tactic(auto, using(crate::proofs::ConsistencyVerdicts::verdicts))]
 fn failing_link(alloc: Global, request: &ConsistencyRequest) -> Result<Option<Link>, OutOfMemory>
     ensures { IfOk result (IsConsistencyVerdict request.now) }
 {

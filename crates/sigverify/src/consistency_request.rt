@@ -14,17 +14,15 @@
 //! }
 //! ```
 ghost use Rattle.std.specs.Prelude.{IfOk};
-ghost use Rattle.sig_base.specs.Answers.{Answers};
-ghost use Rattle.sig_json.specs.Record.{record_in};
-ghost use Rattle.sigverify.specs.ConsistencyRequest.{consistency_request};
 
 use crate::head::SignedHead;
-use crate::read::MOST_BYTES;
-use crate::row::{AbsentReader, RowReader, SchemeReader};
-use sig_base::{Hashes, OutOfMemory, TableChecker};
+use crate::head_members::HeadReader;
+use crate::request_text::read_listed;
+use crate::row::AbsentReader;
+use sig_base::{Hashes, OutOfMemory};
 use sig_json::{
-    ElementReader, HashReader, Json, JsonError, MemberError, optional, optional_list,
-    read_record_with, required, required_bytes, required_hash, required_text, required_u64,
+    ElementReader, HashReader, Json, MemberError, optional, optional_list, required_hash,
+    required_u64,
 };
 use std::alloc::Global;
 
@@ -76,52 +74,28 @@ impl ElementReader for ConsistencyRequestReader {
         let tree_size = required_u64(json, "treeSize")?;
         let root_hash = required_hash(json, "rootHash")?;
         let hashes = optional_list::<HashReader>(alloc, json, "hashes")?;
-        let checkpoint = required_text(alloc, json, "checkpoint")?;
-        let scheme = required::<SchemeReader>(alloc, json, "scheme")?;
-        let key = required_bytes(alloc, json, "key")?;
-        let accepted = optional_list::<RowReader>(alloc, json, "accepted")?;
+        let head = HeadReader::read(alloc, json)?;
         let _ = optional::<AbsentReader>(alloc, json, "entries")?;
-        let accepted = TableChecker::from_rows(alloc, accepted)?;
         Ok(ConsistencyRequest {
             old_size,
             old_root,
             tree_size,
             root_hash,
             hashes,
-            head: SignedHead {
-                checkpoint,
-                scheme,
-                key,
-                accepted,
-            },
+            head,
         })
     }
 }
 
-/// The record of a request, as if its whole text were read: `MEMBERS` has every name that its table has.
-fn read_listed(alloc: Global, text: &[u8]) -> Result<ConsistencyRequest, JsonError>
-    ensures { Answers JsonError.OutOfMemory (λ request. request) result
-        (record_in consistency_request text.now) }
-{
-    read_record_with::<ConsistencyRequestReader>(alloc, text, &MEMBERS)
-}
-
 impl ConsistencyRequest {
-    ghost use Rattle.sigverify.specs.ConsistencyRequest.{IsConsistencyReadFrom};
+    ghost use Rattle.sigverify.specs.ReadFrom.{IsReadFrom};
+    ghost use Rattle.sigverify.specs.ConsistencyRequest.{consistency_request};
 
     /// Reads a request; `None` if and only if the text has more than 2^24 bytes, is no JSON document without floats,
     /// or does not have the members of a request. Fails if out of memory alone.
-    #[tactic(auto, using(crate::proofs::ConsistencyRequests::unread))]
     pub fn read(alloc: Global, text: &[u8]) -> Result<Option<ConsistencyRequest>, OutOfMemory>
-        ensures { IfOk result (IsConsistencyReadFrom text.now) }
+        ensures { IfOk result (IsReadFrom consistency_request text.now) }
     {
-        if text.len() > MOST_BYTES {
-            return Ok(None);
-        }
-        match read_listed(alloc, text) {
-            Ok(request) => Ok(Some(request)),
-            Err(JsonError::NotJson | JsonError::Float | JsonError::Member) => Ok(None),
-            Err(JsonError::OutOfMemory) => Err(OutOfMemory),
-        }
+        read_listed::<ConsistencyRequestReader>(alloc, text, &MEMBERS)
     }
 }

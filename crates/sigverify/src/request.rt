@@ -23,18 +23,15 @@
 //! }
 //! ```
 ghost use Rattle.std.specs.Prelude.{IfOk};
-ghost use Rattle.sig_base.specs.Answers.{Answers};
-ghost use Rattle.sig_json.specs.Record.{record_in};
-ghost use Rattle.sigverify.specs.Request.{log_request};
 
 use crate::head::SignedHead;
-use crate::read::MOST_BYTES;
-use crate::row::{EntriesReader, RowReader, SchemeReader};
-use sig_base::{Bytes, Entries, OutOfMemory, TableChecker};
+use crate::head_members::HeadReader;
+use crate::request_text::read_listed;
+use crate::row::EntriesReader;
+use sig_base::{Bytes, Entries, OutOfMemory};
 use sig_json::{
-    ElementReader, HashReader, Json, JsonError, MemberError, optional, optional_list,
-    read_record_with, required, required_bytes, required_hash, required_i64, required_text,
-    required_u64,
+    ElementReader, HashReader, Json, MemberError, optional, optional_list, required_bytes,
+    required_hash, required_i64, required_u64,
 };
 use sig_rekor::InclusionProof;
 use std::alloc::Global;
@@ -83,49 +80,26 @@ impl ElementReader for LogRequestReader {
         let tree_size = required_u64(json, "treeSize")?;
         let root_hash = required_hash(json, "rootHash")?;
         let hashes = optional_list::<HashReader>(alloc, json, "hashes")?;
-        let checkpoint = required_text(alloc, json, "checkpoint")?;
-        let scheme = required::<SchemeReader>(alloc, json, "scheme")?;
-        let key = required_bytes(alloc, json, "key")?;
-        let accepted = optional_list::<RowReader>(alloc, json, "accepted")?;
+        let head = HeadReader::read(alloc, json)?;
         let entries = optional::<EntriesReader>(alloc, json, "entries")?;
-        let accepted = TableChecker::from_rows(alloc, accepted)?;
         Ok(LogRequest {
             entry,
             proof: InclusionProof::new(log_index, root_hash, tree_size, hashes, None),
-            head: SignedHead {
-                checkpoint,
-                scheme,
-                key,
-                accepted,
-            },
+            head,
             entries,
         })
     }
 }
 
-/// The record of a request, as if its whole text were read: `MEMBERS` has every name that its table has.
-fn read_listed(alloc: Global, text: &[u8]) -> Result<LogRequest, JsonError>
-    ensures { Answers JsonError.OutOfMemory (λ request. request) result (record_in log_request text.now) }
-{
-    read_record_with::<LogRequestReader>(alloc, text, &MEMBERS)
-}
-
 impl LogRequest {
-    ghost use Rattle.sigverify.specs.Request.{IsReadFrom};
+    ghost use Rattle.sigverify.specs.ReadFrom.{IsReadFrom};
+    ghost use Rattle.sigverify.specs.Request.{log_request};
 
     /// Reads a request; `None` if and only if the text has more than 2^24 bytes, is no JSON document without floats,
     /// or does not have the members of a request. Fails if out of memory alone.
-    #[tactic(auto, using(crate::proofs::Requests::unread))]
     pub fn read(alloc: Global, text: &[u8]) -> Result<Option<LogRequest>, OutOfMemory>
-        ensures { IfOk result (IsReadFrom text.now) }
+        ensures { IfOk result (IsReadFrom log_request text.now) }
     {
-        if text.len() > MOST_BYTES {
-            return Ok(None);
-        }
-        match read_listed(alloc, text) {
-            Ok(request) => Ok(Some(request)),
-            Err(JsonError::NotJson | JsonError::Float | JsonError::Member) => Ok(None),
-            Err(JsonError::OutOfMemory) => Err(OutOfMemory),
-        }
+        read_listed::<LogRequestReader>(alloc, text, &MEMBERS)
     }
 }

@@ -12,19 +12,16 @@
 //! }
 //! ```
 ghost use Rattle.std.specs.Prelude.{◌≡◌, IfOk};
-ghost use Rattle.sig_base.specs.Answers.{Answers};
-ghost use Rattle.sig_json.specs.Record.{record_in};
-ghost use Rattle.sigverify.specs.VerifyRequest.{verify_request};
 
 use crate::digest_text::DigestReader;
 use crate::policy_rule::PolicyReader;
-use crate::read::MOST_BYTES;
+use crate::request_text::read_listed;
 use crate::row::{EntriesReader, RowReader};
 use sig_base::{Entries, OutOfMemory, TableChecker, Text};
 use sig_dsse::ArtifactDigest;
 use sig_json::{
-    ElementReader, Json, JsonError, MemberError, optional, optional_list, read_record_with,
-    required, required_i64, required_text,
+    ElementReader, Json, MemberError, optional, optional_list, required, required_i64,
+    required_text,
 };
 use sig_policy::RequestPolicy;
 use std::alloc::Global;
@@ -91,30 +88,16 @@ impl ElementReader for VerifyRequestReader {
     }
 }
 
-/// The record of a request, as if its whole text were read: `MEMBERS` has every name that its table has.
-fn read_named(alloc: Global, text: &[u8]) -> Result<VerifyRequest, JsonError>
-    ensures { Answers JsonError.OutOfMemory (λ request. request) result (record_in verify_request text.now) }
-{
-    read_record_with::<VerifyRequestReader>(alloc, text, &MEMBERS)
-}
-
 impl VerifyRequest {
-    ghost use Rattle.sigverify.specs.VerifyRequest.{IsVerifyReadFrom};
+    ghost use Rattle.sigverify.specs.ReadFrom.{IsReadFrom};
+    ghost use Rattle.sigverify.specs.VerifyRequest.{verify_request};
 
     /// Reads a request; `None` if and only if the text has more than 2^24 bytes, is no JSON document without floats,
     /// or does not have the members of a request. Fails if out of memory alone.
-    #[tactic(auto, using(crate::proofs::VerifyRequests::unread))]
     pub fn read(alloc: Global, text: &[u8]) -> Result<Option<VerifyRequest>, OutOfMemory>
-        ensures { IfOk result (IsVerifyReadFrom text.now) }
+        ensures { IfOk result (IsReadFrom verify_request text.now) }
     {
-        if text.len() > MOST_BYTES {
-            return Ok(None);
-        }
-        match read_named(alloc, text) {
-            Ok(request) => Ok(Some(request)),
-            Err(JsonError::NotJson | JsonError::Float | JsonError::Member) => Ok(None),
-            Err(JsonError::OutOfMemory) => Err(OutOfMemory),
-        }
+        read_listed::<VerifyRequestReader>(alloc, text, &MEMBERS)
     }
 }
 

@@ -1,19 +1,30 @@
 -- The reply to what was read, and to the verdict on it.
-use Rattle.sigverify.proofs.ConsistencyReplies.{unread-replied, refused-replied, consistent-replied}
+use Rattle.std.proofs.Common.{◌≡◌}
+use Rattle.sigverify.proofs.ConsistencyReplies.{consistent-reply, refused-consistency}
+use Rattle.sigverify.proofs.Replies.{unread-replied, refused-replied, vouched-replied}
+use Rattle.sigverify.specs.ConsistencyLink.{IsConsistencyVerdict}
+use Rattle.sigverify.specs.ConsistencyRequest.{consistency_request}
+use Rattle.sigverify.specs.Reply.{consistent}
+use Rattle.sigverify.specs.declared.command.Command.TheVariants.{Consistency}
+use Rattle.sigverify.specs.declared.reply.Reply.{Reply}
 use Rattle.sigverify.proofs.consistency.consistency_reply.Goals as goal
 
 pub returns-in_default : goal.returns-in_default
 returns-in_default c =
-    unread-replied c.args.request.now c.in_ok-request.field-0 c.refused.result c.refused.ensures c.in_default.is
-    c.in_ok-request.ensures
+    unread-replied Consistency consistency_request c.args.request.now c.in_ok-request.field-0 c.refused.result
+    (λ holds. (holds.0, holds.1)) c.refused.ensures c.in_default.is c.in_ok-request.ensures
 
 pub returns-in-Some-2 : goal.returns-in-Some-2
 returns-in-Some-2 c =
-    refused-replied c.args.request.now c.in_ok-request.field-0 c.in-Some.request c.in_ok-link.field-0 c.in-Some-2.link
-    c.refused-in-Some-2.result c.refused-in-Some-2.ensures
-    c.in-Some.is c.in_ok-request.ensures c.in-Some-2.is c.in_ok-link.ensures
+    refused-replied Consistency consistency_request IsConsistencyVerdict c.args.request.now c.in_ok-request.field-0
+    c.in-Some.request c.in_ok-link.field-0 c.refused-in-Some-2.result c.in-Some.is c.in_ok-request.ensures
+    c.in_ok-link.ensures c.in-Some-2.link
+    (refused-consistency c.args.request.now c.in-Some.request c.in-Some-2.link)
+    c.refused-in-Some-2.ensures c.in-Some-2.is
 
 pub returns : goal.returns
 returns c =
-    consistent-replied c.args.request.now c.in_ok-request.field-0 c.in-Some.request c.in_ok-link.field-0
-    c.consistent.result c.consistent.ensures c.in-Some.is c.in_ok-request.ensures c.in-None.is c.in_ok-link.ensures
+    vouched-replied Consistency consistency_request IsConsistencyVerdict c.args.request.now c.in_ok-request.field-0
+    c.in-Some.request c.in_ok-link.field-0 c.consistent.result c.in-Some.is c.in_ok-request.ensures
+    c.in_ok-link.ensures (λ (reply : Reply). reply ≡ consistent c.in-Some.request)
+    (consistent-reply c.args.request.now c.in-Some.request) c.consistent.ensures c.in-None.is

@@ -1,11 +1,14 @@
 -- The reply to what was read.
-use Rattle.sigverify.proofs.LogQuestionReplies.{listed-replied, unchecked-replied, unread-replied}
+use Rattle.sigverify.proofs.LogQuestionReplies.{listed-replied, unchecked-replied}
+use Rattle.sigverify.proofs.Replies.{unread-replied}
+use Rattle.sigverify.specs.Request.{log_request}
+use Rattle.sigverify.specs.declared.command.Command.TheVariants.{LogQuestions}
 use Rattle.sigverify.proofs.log_questions.reply_to_text.Goals as goal
 
 pub returns-in_default : goal.returns-in_default
 returns-in_default c =
-    unread-replied c.args.request.now c.in_ok-request.field-0 c.refused.result c.refused.ensures c.in_default.is
-    c.in_ok-request.ensures
+    unread-replied LogQuestions log_request c.args.request.now c.in_ok-request.field-0 c.refused.result
+    (λ holds. (holds.0, holds.1)) c.refused.ensures c.in_default.is c.in_ok-request.ensures
 
 pub returns-in_default-2 : goal.returns-in_default-2
 returns-in_default-2 c =

