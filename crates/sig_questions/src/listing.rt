@@ -7,7 +7,6 @@ ghost use Rattle.sig_root.specs.Picked.{keys_of};
 ghost use Rattle.sig_timestamp.specs.RingKey.{point_at};
 ghost use Rattle.sig_verify.specs.EntryLinks.{IsOfBytes};
 ghost use Rattle.sig_verify.specs.LinkLaws.{IsReadCertificate};
-ghost use Rattle.sig_verify.specs.Verifier.{HasKeys, values_of};
 ghost use Rattle.sig_questions.specs.Asked.{IsAskedBy};
 ghost use Rattle.sig_questions.specs.Listed.{GivesTrust, AreListed, AreListedIn, AreListedOf, AreListedText, trust_in};
 ghost use Rattle.sig_questions.specs.Lists.{content_questions, entry_questions, questions_behind};
@@ -22,13 +21,13 @@ use crate::front::check_front;
 use crate::laws::{listed_texts, questions_suffice};
 use crate::points::push_points;
 use crate::rows::Rows;
-use sig_base::{AcceptedRow, Entries, KeyMap, OutOfMemory, Register};
+use sig_base::{AcceptedRow, KeyMap, OutOfMemory, Register};
 use sig_bundle::laws::passed_bundles;
 use sig_bundle::{ArtifactDigest, Bundle, CheckedBundle, read_bundle};
 use sig_certificate::Certificate;
 use sig_root::{SigstoreTrustRoot, TrustRoot, read_trusted_root};
 use sig_timestamp::Keyring;
-use sig_verify::Link;
+use sig_verify::{Link, keyring_of};
 use std::alloc::{AllocError, Global};
 use std::fmt;
 use thiserror::Error;
@@ -209,28 +208,6 @@ fn read_trust(alloc: Global, root: &SigstoreTrustRoot, now: i64) -> Result<Trust
         keyring: keyring_of(alloc, &ct_keys)?,
         log_keys,
     })
-}
-
-/// Returns the keyring of the keys of a map.
-fn keyring_of(alloc: Global, keys: &KeyMap) -> Result<Keyring, OutOfMemory>
-    ensures { IfOk result (HasKeys keys.now) }
-{
-    let values = values_of(alloc, keys)?;
-    match Keyring::new(alloc, &values) {
-        Ok(keyring) => Ok(keyring),
-        Err(_) => Err(OutOfMemory),
-    }
-}
-
-/// Returns the values of a map in order.
-fn values_of(alloc: Global, keys: &KeyMap) -> Result<Entries, OutOfMemory>
-    ensures { IfOk result (λ values. values ≡ values_of keys.now) }
-{
-    let mut values = Entries::new(alloc);
-    'entries: for (_, value) in keys.iter() {
-        values.push(value)?;
-    }
-    Ok(values)
 }
 
 /// The rows.

@@ -34,4 +34,4 @@ pub use sig_root::{
     CertificateAuthority, ManualTrustRoot, PublicKey, SigstoreTrustRoot, TimeRange,
     TransparencyLogInstance, TrustRoot, TrustedRoot, read_trusted_root,
 };
-pub use verifier::Verifier;
+pub use verifier::{Verifier, keyring_of};

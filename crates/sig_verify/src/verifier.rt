@@ -59,8 +59,8 @@ fn pool_of(alloc: Global, certs: &Entries) -> sig_base::Result<CertificatePool>
     }
 }
 
-/// Returns the keyring of the keys of a map. Fails if out of memory alone.
-fn keyring_of(alloc: Global, keys: &KeyMap) -> Result<Keyring, OutOfMemory>
+/// Returns the keyring of the keys of a map; of keys with one id it has the last. Fails if out of memory alone.
+pub fn keyring_of(alloc: Global, keys: &KeyMap) -> Result<Keyring, OutOfMemory>
     ensures { IfOk result (HasKeys keys.now) }
 {
     let values = values_of(alloc, keys)?;
