@@ -18,7 +18,7 @@ pub struct Reply {
 }
 
 impl Reply {
-    ghost use Rattle.sigverify.specs.Reply.{consistent, listed, logged, refusal_reply, verified};
+    ghost use Rattle.sigverify.specs.Reply.{consistent, listed, logged, refusal_reply, success, verified};
 
     /// Returns `refused NAME`, for the first link that fails, with status 2 for the link `request`, else 1. Fails if
     /// out of memory alone.
@@ -43,11 +43,7 @@ impl Reply {
     ) -> Result<Reply, OutOfMemory>
         ensures { IfOk result (λ reply. reply ≡ logged proof.now second.now) }
     {
-        let index = proof.log_index;
-        let size = proof.tree_size;
-        let second = second.as_str();
-        let text = Text::from(format!(in alloc; "logged {index} {size}\n{second}")?);
-        Ok(Reply { status: 0, text })
+        Reply::success(alloc, "logged ", proof, second)
     }
 
     /// Returns `verified I N`, the index and the size of the inclusion proof, and the second line behind it, with
@@ -59,10 +55,22 @@ impl Reply {
     ) -> Result<Reply, OutOfMemory>
         ensures { IfOk result (λ reply. reply ≡ verified proof.now second.now) }
     {
+        Reply::success(alloc, "verified ", proof, second)
+    }
+
+    /// The word, the index and the size of the inclusion proof, and the second line behind them, with status 0.
+    fn success(
+        alloc: Global,
+        word: &str,
+        proof: &InclusionProof,
+        second: &Text,
+    ) -> Result<Reply, OutOfMemory>
+        ensures { IfOk result (λ reply. reply ≡ success word.now proof.now second.now) }
+    {
         let index = proof.log_index;
         let size = proof.tree_size;
         let second = second.as_str();
-        let text = Text::from(format!(in alloc; "verified {index} {size}\n{second}")?);
+        let text = Text::from(format!(in alloc; "{word}{index} {size}\n{second}")?);
         Ok(Reply { status: 0, text })
     }
 
