@@ -12,6 +12,40 @@ use std::sync::ledger::{Blank, Ledger};
 /// The hash of the leaf of each made-up path, and the old root of each made-up consistency proof.
 const LEAF: [u8; 32] = [255; 32];
 
+/// So many made-up proofs in a tree of this size, from an index or an older size on.
+struct Sweep {
+    size: u64,
+    first: u64,
+    count: u64,
+    hashes: Vec<[u8; 32]>,
+}
+
+impl Sweep {
+    /// Reads `SIZE FIRST COUNT`.
+    fn read(alloc: Global, arguments: &mut Arguments<'_>) -> Result<Sweep, CaseError> {
+        Ok(Sweep {
+            size: arguments.natural()?,
+            first: arguments.natural()?,
+            count: arguments.natural()?,
+            hashes: made_up_hashes(alloc)?,
+        })
+    }
+
+    /// The first of the hashes, as many as a proof has.
+    fn first_hashes(&self, wanted: u64) -> Result<&[[u8; 32]], CaseError> {
+        self.hashes.get(..wanted as usize).ok_or(CaseError::BadLine)
+    }
+}
+
+/// As many hashes as the longest proof has, each of one byte: its place.
+fn made_up_hashes(alloc: Global) -> Result<Vec<[u8; 32]>, CaseError> {
+    let mut hashes = Vec::new(alloc);
+    for place in 0..65u8 {
+        hashes.push([place; 32])?;
+    }
+    Ok(hashes)
+}
+
 /// The line for a call on walks.
 pub fn answer(
     alloc: Global,
@@ -39,31 +73,12 @@ fn decomposed(alloc: Global, arguments: &mut Arguments<'_>) -> Result<Answer, Ca
 
 /// `SIZE FIRST COUNT`: the roots of made-up paths for so many indices of a tree of this size.
 fn both_ways(alloc: Global, arguments: &mut Arguments<'_>) -> Result<Answer, CaseError> {
-    let size = arguments.natural()?;
-    let first = arguments.natural()?;
-    let count = arguments.natural()?;
-    let hashes = made_up_hashes(alloc)?;
-    both_ways_on::<Brand>(alloc, Blank::new(1), size, first, count, hashes.as_slice())
-}
-
-/// As many hashes as the longest proof has, each of one byte: its place.
-fn made_up_hashes(alloc: Global) -> Result<Vec<[u8; 32]>, CaseError> {
-    let mut hashes = Vec::new(alloc);
-    for place in 0..65u8 {
-        hashes.push([place; 32])?;
-    }
-    Ok(hashes)
+    let sweep = Sweep::read(alloc, arguments)?;
+    both_ways_on::<Brand>(alloc, Blank::new(1), &sweep)
 }
 
 /// The digests of the roots by the walk and by the recursion, on a ledger.
-fn both_ways_on<L: Ledger>(
-    alloc: Global,
-    blank: Blank,
-    size: u64,
-    first: u64,
-    count: u64,
-    hashes: &[[u8; 32]],
-) -> Result<Answer, CaseError>
+fn both_ways_on<L: Ledger>(alloc: Global, blank: Blank, sweep: &Sweep) -> Result<Answer, CaseError>
     requires name { blank.name ≡ L.name }
     requires parts { blank.parts ≡ L.parts }
     requires some { 0 < blank.parts }
@@ -71,19 +86,17 @@ fn both_ways_on<L: Ledger>(
     let mut steps = Steps::<L>::new(blank);
     let mut walked = Vec::new(alloc);
     let mut recursed = Vec::new(alloc);
-    for offset in 0..count {
-        let index = first.checked_add(offset).ok_or(CaseError::BadLine)?;
-        if index >= size {
+    for offset in 0..sweep.count {
+        let index = sweep.first.checked_add(offset).ok_or(CaseError::BadLine)?;
+        if index >= sweep.size {
             return Err(CaseError::BadLine);
         }
-        let path = hashes
-            .get(..proof_len(index, size) as usize)
-            .ok_or(CaseError::BadLine)?;
-        match root_from_inclusion_proof(index, &LEAF, size, path, &mut steps) {
+        let path = sweep.first_hashes(proof_len(index, sweep.size))?;
+        match root_from_inclusion_proof(index, &LEAF, sweep.size, path, &mut steps) {
             Ok(root) => walked.extend_from_slice(&root)?,
             Err(error) => return Answer::error(alloc, &error),
         }
-        recursed.extend_from_slice(&fold_path(index, &LEAF, size, path, &mut steps))?;
+        recursed.extend_from_slice(&fold_path(index, &LEAF, sweep.size, path, &mut steps))?;
     }
     let walked = sha256(walked.as_slice());
     let recursed = sha256(recursed.as_slice());
@@ -92,21 +105,15 @@ fn both_ways_on<L: Ledger>(
 
 /// `SIZE FIRST COUNT`: the roots of made-up consistency proofs from so many older trees to a tree of this size.
 fn both_growths(alloc: Global, arguments: &mut Arguments<'_>) -> Result<Answer, CaseError> {
-    let size = arguments.natural()?;
-    let first = arguments.natural()?;
-    let count = arguments.natural()?;
-    let hashes = made_up_hashes(alloc)?;
-    both_growths_on::<Brand>(alloc, Blank::new(1), size, first, count, hashes.as_slice())
+    let sweep = Sweep::read(alloc, arguments)?;
+    both_growths_on::<Brand>(alloc, Blank::new(1), &sweep)
 }
 
 /// The digest of the roots by the recursion, each of which the walk accepts, on a ledger.
 fn both_growths_on<L: Ledger>(
     alloc: Global,
     blank: Blank,
-    size: u64,
-    first: u64,
-    count: u64,
-    hashes: &[[u8; 32]],
+    sweep: &Sweep,
 ) -> Result<Answer, CaseError>
     requires name { blank.name ≡ L.name }
     requires parts { blank.parts ≡ L.parts }
@@ -114,16 +121,15 @@ fn both_growths_on<L: Ledger>(
 {
     let mut steps = Steps::<L>::new(blank);
     let mut roots = Vec::new(alloc);
-    for offset in 0..count {
-        let old_size = first.checked_add(offset).ok_or(CaseError::BadLine)?;
-        if old_size == 0 || old_size >= size {
+    for offset in 0..sweep.count {
+        let old_size = sweep.first.checked_add(offset).ok_or(CaseError::BadLine)?;
+        if old_size == 0 || old_size >= sweep.size {
             return Err(CaseError::BadLine);
         }
-        let wanted = growth_len(old_size, size, true) as usize;
-        let proof = hashes.get(..wanted).ok_or(CaseError::BadLine)?;
-        let led = fold_roots(old_size, size, true, &LEAF, proof, &mut steps);
+        let proof = sweep.first_hashes(growth_len(old_size, sweep.size, true))?;
+        let led = fold_roots(old_size, sweep.size, true, &LEAF, proof, &mut steps);
         if let Err(error) = verify_consistency(
-            old_size, size, proof, &led.old, &led.new, &mut steps,
+            old_size, sweep.size, proof, &led.old, &led.new, &mut steps,
         ) {
             return Answer::error(alloc, &error);
         }

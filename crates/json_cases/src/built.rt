@@ -16,7 +16,7 @@ struct BuiltObject {
     ghost is_object: { IsSome (as_object (document_tree document)) },
 }
 
-#[tactic(auto, using(crate::proofs::Parts::parts))]
+#[tactic(auto, using(sig_json::proofs::Staying::staying))]
 impl BuiltObject {
     fn new(alloc: Global) -> BuiltObject {
         BuiltObject {
@@ -39,7 +39,7 @@ struct BuiltList {
     ghost is_list: { IsSome (as_array (document_tree document)) },
 }
 
-#[tactic(auto, using(crate::proofs::Parts::parts))]
+#[tactic(auto, using(sig_json::proofs::Staying::staying))]
 impl BuiltList {
     fn new(alloc: Global) -> BuiltList {
         BuiltList {

@@ -24,6 +24,5 @@ pub mod MaterialBack
 pub mod Nesting
 pub mod Objects
 pub mod PayloadDigests
-pub mod ProofHashes
 pub mod Values
 pub mod Listed

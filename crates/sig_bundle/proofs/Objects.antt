@@ -1,6 +1,7 @@
 -- Objects, as a document holds them.
 use Rattle.std.proofs.Common.{◌≡◌, ℕ, List, refl}
 use Rattle.std.specs.Prelude.{IsSome}
+use Rattle.sig_json.proofs.Staying.{is_object-with_member}
 use Rattle.sig_json.specs.Data.{Data, null, boolean, number, string, array, object, put}
 use Rattle.sig_json.specs.Find.{as_object}
 use Rattle.sig_bundle.specs.Written.{members_in}
@@ -22,14 +23,5 @@ members_in-with_member name value (number n) h = absurd cc
 members_in-with_member name value (string s) h = absurd cc
 members_in-with_member name value (array ds) h = absurd cc
 members_in-with_member name value (object ms) h = refl
-
-pub is_object-with_member : (name : List ℕ) (value d : Data) → IsSome (as_object d)
-    → IsSome (as_object (with_member name value d))
-is_object-with_member name value null h = h
-is_object-with_member name value (boolean b) h = h
-is_object-with_member name value (number n) h = h
-is_object-with_member name value (string s) h = h
-is_object-with_member name value (array ds) h = h
-is_object-with_member name value (object ms) h = h
 
 pub ruleset objects = (object-members_in, members_in-with_member, is_object-with_member)

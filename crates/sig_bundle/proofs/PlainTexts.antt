@@ -1,14 +1,12 @@
 -- Texts that JSON writes as they are: those of base64 and of hexadecimal digits.
-use Rattle.std.proofs.Common.{◌≡◌, ℕ, zero, suc, ◌+◌, ◌*◌, ◌/◌, ◌%◌, ◌<◌, Bool, true, false}
-use Rattle.std.proofs.Common.{◌&&◌, ◌==◌, nat_lt, not, List, [], ◌∷◌, ◌++◌, length, replicate, get_or}
+use Rattle.std.proofs.Common.{◌≡◌, ℕ, ◌/◌, ◌%◌, ◌<◌, Bool, true, false}
+use Rattle.std.proofs.Common.{◌&&◌, ◌==◌, nat_lt, not, List, [], ◌∷◌, ◌++◌}
 use Rattle.std.proofs.Common.{slice_index, refl, ap, arith}
 use Rattle.std.proofs.lemmas.Bool.{and_parts, and_from, ltb-true, ne_eqb}
 use Rattle.std.proofs.lemmas.Bool.Decides.{nat_tests}
 use Rattle.std.specs.List.{list_all, flat_map}
-use Rattle.base64.specs.GeneralPurpose.{engine_symbols}
-use Rattle.base64.specs.Engines.{standard}
-use Rattle.base64.specs.Rfc4648.{encode_symbols, encode_group, padding_len}
 use Rattle.hex.specs.Hex.{encode_lower, encode_with, lower_digits}
+use Rattle.sig_base.proofs.Base64Texts.{all_at, all_base64}
 use Rattle.sig_base.specs.Base64.{base64_text}
 use Rattle.sig_json.specs.Canonical.{canon_string, escape_of}
 use Rattle.sig_base.specs.ByteLists.{AreBytes}
@@ -53,59 +51,15 @@ canon_plain : (t : List ℕ) → IsPlain t → canon_string t ≡ 34 ∷ (t ++ 3
 unfolding canon_string
 canon_plain t plain = ap (λ s. 34 ∷ (s ++ 34 ∷ [])) (plain_escapes t plain)
 
--- ---- the symbols of an alphabet
-
-plain-append : (a b : List ℕ) → IsPlain a → IsPlain b → IsPlain (a ++ b)
-plain-append [] b g h = h
-plain-append (x ∷ a) b g h =
-    let both = and_parts (is_plain x) (list_all is_plain a) g in
-    and_from (is_plain x) (list_all is_plain (a ++ b)) both.0 (plain-append a b both.1 h)
-
-plain_at : (xs : List ℕ) (i : ℕ) → list_all is_plain xs ≡ true → i < length xs → is_plain (get_or xs i 0) ≡ true
-plain_at [] i all in_range = absurd (omega arith)
-plain_at (x ∷ xs) zero all in_range = (and_parts (is_plain x) (list_all is_plain xs) all).0
-plain_at (x ∷ xs) (suc i) all in_range =
-    plain_at xs i (and_parts (is_plain x) (list_all is_plain xs) all).1 (omega arith)
-
 -- ---- base64 (RFC 4648 section 4)
 
-abbrev alphabet : List ℕ
-alphabet = engine_symbols standard
-
-symbol : (i : ℕ) → i < 64 → is_plain (slice_index alphabet i) ≡ true
-symbol i small = plain_at alphabet i refl small
-
-symbols : (m : List ℕ) → AreBytes m → IsPlain (encode_symbols alphabet m)
-unfolding encode_symbols
-symbols [] all = refl
-symbols (a ∷ []) all =
-    and_from _ _ (symbol (a / 4) (omega arith)) (and_from _ _ (symbol (a % 4 * 16) (omega arith)) refl)
-symbols (a ∷ b ∷ []) all =
-    and_from _ _ (symbol (a / 4) (omega arith))
-    (and_from _ _ (symbol (a % 4 * 16 + b / 16) (omega arith))
-    (and_from _ _ (symbol (b % 16 * 4) (omega arith)) refl))
-symbols (a ∷ b ∷ c ∷ rest) all =
-    plain-append (encode_group alphabet a b c) (encode_symbols alphabet rest)
-    (and_from _ _ (symbol (a / 4) (omega arith))
-    (and_from _ _ (symbol (a % 4 * 16 + b / 16) (omega arith))
-    (and_from _ _ (symbol (b % 16 * 4 + c / 64) (omega arith))
-    (and_from _ _ (symbol (c % 64) (omega arith)) refl))))
-    (symbols rest all.1.1.1)
-
-pads : (n : ℕ) → IsPlain (replicate n 61)
-pads zero = refl
-pads (suc n) = and_from (is_plain 61) (list_all is_plain (replicate n 61)) refl (pads n)
-
 pub base64-plain : (m : List ℕ) → AreBytes m → canon_string (base64_text m) ≡ 34 ∷ (base64_text m ++ 34 ∷ [])
-unfolding base64_text
-base64-plain m all =
-    canon_plain _ (plain-append (encode_symbols alphabet m) (replicate (padding_len (length m)) 61) (symbols m all)
-    (pads (padding_len (length m))))
+base64-plain m all = canon_plain _ (all_base64 is_plain refl refl m all)
 
 -- ---- hexadecimal digits (RFC 4648 section 8)
 
 digit : (i : ℕ) → i < 16 → is_plain (slice_index lower_digits i) ≡ true
-digit i small = plain_at lower_digits i refl small
+digit i small = all_at is_plain lower_digits i refl small
 
 digits : (m : List ℕ) → AreBytes m → IsPlain (encode_lower m)
 unfolding encode_with

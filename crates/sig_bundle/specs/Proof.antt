@@ -1,9 +1,9 @@
 -- *Proof of an entry*: what the members of an inclusion proof have to be so that an audit path can be followed
 -- (Sigstore bundle format, InclusionProof; RFC 6962 section 2.1.1), and the first of them that is not.
-use Rattle.std.specs.Prelude.{◌≡◌, ℕ, ◌+◌, ◌==◌, ℤ, pos, negsuc, if◌then◌else◌}
-use Rattle.std.specs.Prelude.{List, [], ◌∷◌, ◌++◌, length, Option, Some, None, Result, Ok, Err}
+use Rattle.std.specs.Prelude.{◌≡◌, ℕ, ◌==◌, ℤ, pos, negsuc, if◌then◌else◌}
+use Rattle.std.specs.Prelude.{List, ◌∷◌, ◌++◌, length, Option, Some, None, Result, Ok, Err}
 use Rattle.std.specs.List.{AllByRecursion}
-use Rattle.sig_base.specs.ResultSteps.{◌>>=◌}
+use Rattle.sig_base.specs.ResultSteps.{◌>>=◌, each_from}
 use Rattle.sig_base.specs.declared.fault.CheckpointFault.{CheckpointFault}
 use Rattle.sig_rekor.specs.CheckpointText.{IsCheckpoint, checkpoint_of}
 use Rattle.sig_rekor.specs.Faults.{IsCheckpointFault}
@@ -78,13 +78,12 @@ IsProofOrFault fields (Err e) = IsProofFault fields e
 abbrev pub hash_or : ProofFieldsError → List ℕ → Result (List ℕ) ProofFieldsError
 hash_or e bytes = if length bytes == 32 then Ok bytes else Err e
 
+abbrev pub hash_at : ℕ → List ℕ → Result (List ℕ) ProofFieldsError
+hash_at index = hash_or (HashLength index)
+
 -- the hashes, counted from this index on
 abbrev pub hashes_from : ℕ → List (List ℕ) → Result (List (List ℕ)) ProofFieldsError
-hashes_from index [] = Ok []
-hashes_from index (bytes ∷ others) = do
-  hash ← hash_or (HashLength index) bytes
-  hashes ← hashes_from (index + 1) others
-  Ok (hash ∷ hashes)
+hashes_from = each_from hash_at
 
 abbrev pub size_or_fault : ℤ → Result ℕ ProofFieldsError
 size_or_fault (pos size) = Ok size

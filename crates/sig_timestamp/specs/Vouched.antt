@@ -5,6 +5,7 @@ use Rattle.sig_timestamp.specs.RingKey.{RingKey, point_at}
 use Rattle.sig_timestamp.specs.Vectors.{IsShort, IsLong}
 use Rattle.sig_timestamp.specs.SctBytes.{signed_bytes}
 
+-- the signatures over messages that a checker accepts under a point of P-256
 abbrev pub AcceptsPoint : Type 0
 AcceptsPoint = List ℕ → List ℕ → List ℕ → Bool
 

@@ -10,7 +10,8 @@ use Rattle.sig_timestamp.specs.Timestamps.{sct_of}
 use Rattle.sig_timestamp.specs.declared.sct_error.SCTError.{SCTError}
 use Rattle.sig_timestamp.specs.declared.sct_error.SCTError.TheVariants.{OutOfMemory}
 use Rattle.sig_timestamp.specs.declared.signed.DigitallySigned.{DigitallySigned}
-use Rattle.sig_verify.specs.IssuerCheck.{AcceptsPoint, sct_answer}
+use Rattle.sig_timestamp.specs.Vouched.{AcceptsPoint}
+use Rattle.sig_verify.specs.IssuerCheck.{sct_answer}
 
 pub sct_judged : (accepts : AcceptsPoint) (ring : List (List ℕ × RingKey)) (c : Cert) (spki : List ℕ)
     (embedded signed : DigitallySigned) (r : Result (Unit {0}) SCTError)

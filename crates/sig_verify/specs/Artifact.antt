@@ -12,10 +12,6 @@ use Rattle.sig_verify.specs.declared.error.VerificationError.TheVariants.{Input}
 abbrev pub most_artifact_bytes : ℕ
 most_artifact_bytes = 2 ^ 40
 
--- at most this many bytes were taken, from the front of those that were left
-abbrev pub TookAtMost : ℕ → Option (List ℕ) → Option (List ℕ) → Type 0
-TookAtMost n old new = (bytes : List ℕ) × Consumes old new bytes × (length bytes ≤ n)
-
 -- all the bytes that were left were taken, no more than an artifact may have, and of them this holds
 pub record OfRest (old new : Option (List ℕ)) (P : List ℕ → Type 0) : Type 0 where
   pub bytes : List ℕ

@@ -10,6 +10,7 @@ use Rattle.sig_timestamp.specs.Embedded.{ready}
 use Rattle.sig_timestamp.specs.RingKey.{RingKey}
 use Rattle.sig_timestamp.specs.SctBytes.{judged}
 use Rattle.sig_timestamp.specs.Timestamps.{sct_of}
+use Rattle.sig_timestamp.specs.Vouched.{AcceptsPoint}
 use Rattle.sig_timestamp.specs.declared.sct_error.SCTError.{SCTError}
 use Rattle.sig_x509.specs.Issuance.{Accepts, issuer_of}
 use Rattle.sig_verify.specs.Errors.{of_pool, of_sct}
@@ -17,10 +18,6 @@ use Rattle.sig_verify.specs.Verifier.{Trusted}
 use Rattle.sig_verify.specs.declared.error.CertificateErrorKind.TheVariants.{VerificationFailed}
 use Rattle.sig_verify.specs.declared.error.VerificationError.{VerificationError}
 use Rattle.sig_verify.specs.declared.error.VerificationError.TheVariants.{Certificate}
-
--- the signatures over messages that a checker accepts under a point of P-256
-abbrev pub AcceptsPoint : Type 0
-AcceptsPoint = List ℕ → List ℕ → List ℕ → Bool
 
 abbrev pub from_pool : Result ℕ PoolError → Result ℕ VerificationError
 from_pool (Ok place) = Ok place

@@ -14,7 +14,8 @@ use Rattle.sig_policy.specs.declared.failure.PolicyError.{PolicyError}
 use Rattle.sig_policy.specs.declared.policy.VerificationPolicy as verification_policy
 use Rattle.sig_x509.specs.Issuance.{Accepts}
 use Rattle.sig_verify.specs.ContentCheck.{AcceptsSpki, content_answer, time_answer}
-use Rattle.sig_verify.specs.IssuerCheck.{AcceptsPoint, issued_answer}
+use Rattle.sig_timestamp.specs.Vouched.{AcceptsPoint}
+use Rattle.sig_verify.specs.IssuerCheck.{issued_answer}
 use Rattle.sig_verify.specs.Verifier.{Trusted}
 use Rattle.sig_verify.specs.declared.error.SignatureErrorKind.TheVariants.{Transparency}
 use Rattle.sig_verify.specs.declared.error.VerificationError.{VerificationError}

@@ -1,8 +1,8 @@
 //! The SHA-256 digest of an artifact whose bytes a source gives.
 ghost use Rattle.std.specs.Prelude.{◌≡◌, ◌⊎◌, ◌+◌, ◌≤◌, Err, IfOk, IsErrOf};
 ghost use Rattle.sig_base.specs.Sha256.{sha256};
-ghost use Rattle.sig_base.specs.Stream.{Rose, TookCount};
-ghost use Rattle.sig_verify.specs.Artifact.{OfRest, TookAtMost, most_artifact_bytes};
+ghost use Rattle.sig_base.specs.Stream.{Rose, TookAtMost, TookCount};
+ghost use Rattle.sig_verify.specs.Artifact.{OfRest, most_artifact_bytes};
 
 use sha2::{Digest, Sha256};
 use sig_base::{Failed, Source};

@@ -2,9 +2,9 @@
 ghost use Rattle.std.specs.Prelude.{◌≡◌, ◌⊎◌, ◌+◌, ◌≤◌, ◌++◌, Err, IsErrOf};
 ghost use Rattle.sig_base.specs.Answers.{UnlessMemory};
 ghost use Rattle.sig_base.specs.Sha256.{sha256};
-ghost use Rattle.sig_base.specs.Stream.{Rose, TookCount};
+ghost use Rattle.sig_base.specs.Stream.{Rose, TookAtMost, TookCount};
 ghost use Rattle.sig_dsse.specs.declared.artifact_digest.ArtifactDigest.TheVariants.{Sha256 as Sha256Digest};
-ghost use Rattle.sig_verify.specs.Artifact.{IsUnread, OfRest, TookAtMost, most_artifact_bytes};
+ghost use Rattle.sig_verify.specs.Artifact.{IsUnread, OfRest, most_artifact_bytes};
 ghost use Rattle.sig_verify.specs.BundleLinks.{bundle_links};
 ghost use Rattle.sig_verify.specs.CertificateLinks.{certificate_links};
 ghost use Rattle.sig_verify.specs.Judged.{Judged};

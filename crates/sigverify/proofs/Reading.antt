@@ -2,7 +2,7 @@
 use Rattle.std.proofs.Common.{ℕ, ◌≤◌, ◌+◌, List, [], ◌++◌, length, take, Option, None, Some, ◌∙◌, refl, ap}
 use Rattle.std.proofs.Common.{append_assoc, length-append, length-take, arith, sym}
 use Rattle.std.specs.Io.KnownBytes.{Consumes, Keeps}
-use Rattle.sigverify.specs.Limit.{TookAtMost}
+use Rattle.sig_base.specs.Stream.{TookAtMost}
 
 -- no byte is taken at first
 pub Consumes-none : (left : Option (List ℕ)) → Consumes left left []

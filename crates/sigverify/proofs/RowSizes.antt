@@ -16,7 +16,8 @@ use Rattle.sig_bundle.specs.Written.{bytes_tree, members_into}
 use Rattle.sig_json.specs.Data.{Data, Members, member, no_members}
 use Rattle.sig_json.specs.Written.{comma_if, compact_text, members_text}
 use Rattle.sig_questions.specs.Rows.{HasScheme, IsSchemeUnder, bytes_of_rows, row_bytes}
-use Rattle.sigverify.proofs.RowsTexts.{as_row, rows_text-length}
+use Rattle.sig_base.proofs.AcceptedRows.{as_row}
+use Rattle.sigverify.proofs.RowsTexts.{rows_text-length}
 use Rattle.sigverify.specs.Limit.{most_bytes}
 use Rattle.sigverify.specs.RowsText.{operation_word, row_members, row_tree, rows_size, rows_text}
 

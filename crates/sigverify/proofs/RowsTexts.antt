@@ -3,6 +3,7 @@ use Rattle.std.proofs.Common.{◌≡◌, ◌<◌, ◌≤◌, ◌+◌, ℕ, List,
 use Rattle.std.proofs.Common.{Option, Some, None, Ok, refl, sym, ap, subst, ◌∙◌, arith, length-append}
 use Rattle.std.specs.Prelude.{IsSome}
 use Rattle.std.proofs.lemmas.List.{take-append-drop, take_all, take_more}
+use Rattle.sig_base.proofs.AcceptedRows.{as_row}
 use Rattle.sig_base.specs.OptionSteps.{◌>>=◌}
 use Rattle.sig_base.specs.Scheme.{name_of, scheme_of}
 use Rattle.sig_base.specs.declared.checker.AcceptedRow.{AcceptedRow}
@@ -56,10 +57,6 @@ optional-absent : {A : Type 0} → (kind : Data → Option A) (name : List ℕ) 
     → optional kind name d ≡ Some None
 unfolding optional_or
 optional-absent kind name d there = rw there refl
-
-abbrev pub as_row : Operation → List ℕ → List ℕ → List ℕ → List ℕ → AcceptedRow
-as_row operation scheme key message signature =
-    record { operation = operation; scheme = scheme; key = key; message = message; signature = signature }
 
 scheme-back : (named : VerifyScheme) → (scheme_kind (string (name_of named)) >>= λ scheme. Some (name_of
     (scheme_of scheme))) ≡ Some (name_of named)

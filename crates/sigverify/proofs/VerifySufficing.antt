@@ -12,7 +12,7 @@ use Rattle.sig_questions.specs.Questions.{AgreeWhere, QuestionsSuffice}
 use Rattle.sig_questions.specs.Rows.{certificate_row, message_row, point_row, prehash_row}
 use Rattle.sig_verify.specs.declared.link.Link.{Link}
 use Rattle.sig_verify.specs.declared.offline.Offline.{Offline}
-use Rattle.sigverify.proofs.RowsTexts.{as_row}
+use Rattle.sig_base.proofs.AcceptedRows.{as_row}
 use Rattle.sigverify.proofs.Sufficing.{AreAlike, alike-other, alike-reply}
 use Rattle.sigverify.proofs.RequestTexts.{one_request}
 use Rattle.sigverify.specs.Reply.{IsEntryIn, IsVerifiedReply}

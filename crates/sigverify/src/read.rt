@@ -1,7 +1,7 @@
 //! Reading a request.
 ghost use Rattle.std.specs.Prelude.{◌≡◌, ◌+◌, ◌<◌, ◌≤◌, length, IfOk, IsErrOf};
-ghost use Rattle.sig_base.specs.Stream.{HandsOver, TookCount, Rose};
-ghost use Rattle.sigverify.specs.Limit.{TookAtMost, most_bytes};
+ghost use Rattle.sig_base.specs.Stream.{HandsOver, TookCount, Rose, TookAtMost};
+ghost use Rattle.sigverify.specs.Limit.{most_bytes};
 
 use sig_base::{Bytes, Failed, Source};
 use std::alloc::{AllocError, Global};

@@ -1,9 +1,9 @@
 //! The program but for its words and streams: it reads a request, and makes and writes the reply.
 ghost use Rattle.std.specs.Prelude.{◌≡◌, ◌⊎◌, ◌+◌, ◌<◌, ◌≤◌, IfOk, IsErrOf};
 ghost use Rattle.std.specs.Io.KnownBytes.{Appends};
-ghost use Rattle.sig_base.specs.Stream.{Rose, AppendsFront};
+ghost use Rattle.sig_base.specs.Stream.{Rose, AppendsFront, TookAtMost};
 ghost use Rattle.sigverify.specs.Command.{IsCommand};
-ghost use Rattle.sigverify.specs.Limit.{TookAtMost, most_bytes};
+ghost use Rattle.sigverify.specs.Limit.{most_bytes};
 ghost use Rattle.sigverify.specs.Reply.{IsReply};
 ghost use Rattle.sigverify.specs.Run.{RepliesTo, Answered, ReadFaulted, WriteFaulted, HandsRests, WritesRests};
 ghost use Rattle.sigverify.specs.Run.{usage_line};

@@ -1,7 +1,6 @@
 //! Bundles of artifacts that are handed in by their bytes, or by their SHA-256.
 
-use crate::policy::policy;
-use crate::rooted::{bundle, root};
+use crate::parts::{Parts, read_parts};
 use sig_base::{Bytes, MemorySource, Numbers};
 use sig_cases::{Answer, Arguments, CaseError};
 use sig_verify::{VerificationResult, Verifier};
@@ -14,6 +13,13 @@ pub(crate) fn source_answer(
     arguments: &mut Arguments<'_>,
 ) -> Result<Answer, CaseError> {
     let now = arguments.integer()?;
+    let mut source = source(alloc, arguments)?;
+    let parts = read_parts(alloc, arguments)?;
+    of_source(alloc, now, &mut source, &parts)
+}
+
+/// The source of the next arguments, `BYTES PIECE FAILING`. `BadLine` where a piece has no byte.
+fn source(alloc: Global, arguments: &mut Arguments<'_>) -> Result<MemorySource, CaseError> {
     let bytes = arguments.hex(alloc)?;
     let piece = arguments.natural()? as usize;
     let mut failing = Numbers::new(alloc);
@@ -21,18 +27,28 @@ pub(crate) fn source_answer(
     if piece == 0 {
         return Err(CaseError::BadLine);
     }
-    let mut source = MemorySource::new(Bytes::from(bytes), piece, failing);
-    let policy = policy(alloc, arguments)?;
-    let root = root(alloc, arguments)?;
-    let bundle = bundle(alloc, arguments)?;
-    let checker = arguments.checker(alloc)?;
-    match Verifier::new(alloc, &root, now) {
-        Ok(verifier) => {
-            said(
+    Ok(MemorySource::new(Bytes::from(bytes), piece, failing))
+}
+
+/// The line of an artifact that is read from a source.
+fn of_source(
+    alloc: Global,
+    now: i64,
+    source: &mut MemorySource,
+    parts: &Parts,
+) -> Result<Answer, CaseError> {
+    match Verifier::new(alloc, &parts.root, now) {
+        Ok(verifier) => said(
+            alloc,
+            verifier.verify(
                 alloc,
-                verifier.verify(alloc, &mut source, &bundle, &policy, true, &checker),
-            )
-        }
+                source,
+                &parts.bundle,
+                &parts.policy,
+                true,
+                &parts.checker,
+            ),
+        ),
         Err(error) => Answer::error(alloc, &error),
     }
 }
@@ -43,19 +59,36 @@ pub(crate) fn digest_answer(
     arguments: &mut Arguments<'_>,
 ) -> Result<Answer, CaseError> {
     let now = arguments.integer()?;
+    let digest = sha256(alloc, arguments)?;
+    let parts = read_parts(alloc, arguments)?;
+    of_digest(alloc, now, digest, &parts)
+}
+
+/// The SHA-256 of the next argument. `BadLine` where it has other than 32 bytes.
+fn sha256(alloc: Global, arguments: &mut Arguments<'_>) -> Result<[u8; 32], CaseError> {
     let bytes = arguments.hex(alloc)?;
-    let digest: [u8; 32] = bytes.as_slice().try_into().map_err(|_| CaseError::BadLine)?;
-    let policy = policy(alloc, arguments)?;
-    let root = root(alloc, arguments)?;
-    let bundle = bundle(alloc, arguments)?;
-    let checker = arguments.checker(alloc)?;
-    match Verifier::new(alloc, &root, now) {
-        Ok(verifier) => {
-            said(
+    bytes.as_slice().try_into().map_err(|_| CaseError::BadLine)
+}
+
+/// The line of an artifact of this SHA-256.
+fn of_digest(
+    alloc: Global,
+    now: i64,
+    digest: [u8; 32],
+    parts: &Parts,
+) -> Result<Answer, CaseError> {
+    match Verifier::new(alloc, &parts.root, now) {
+        Ok(verifier) => said(
+            alloc,
+            verifier.verify_digest(
                 alloc,
-                verifier.verify_digest(alloc, digest, &bundle, &policy, true, &checker),
-            )
-        }
+                digest,
+                &parts.bundle,
+                &parts.policy,
+                true,
+                &parts.checker,
+            ),
+        ),
         Err(error) => Answer::error(alloc, &error),
     }
 }

@@ -7,6 +7,7 @@
 #![tactic(auto)]
 
 mod artifact;
+mod parts;
 mod policy;
 mod rooted;
 mod verified;

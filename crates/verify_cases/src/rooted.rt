@@ -1,11 +1,11 @@
 //! Bundles and log entries under a trust root that is handed in.
 
-use crate::policy::policy;
-use crate::verified::{digest, failed};
-use sig_base::KeyMap;
-use sig_bundle::{Bundle, TransparencyLogEntry, read_bundle};
+use crate::parts::{Parts, bundle, keys, read_parts, signed};
+use crate::verified::{digest, known};
+use sig_base::{KeyMap, TableChecker};
+use sig_bundle::{ArtifactDigest, Bundle, TransparencyLogEntry};
 use sig_cases::{Answer, Arguments, CaseError};
-use sig_verify::{ManualTrustRoot, TrustRoot, Verifier, verify_log_entry};
+use sig_verify::{TrustRoot, Verifier, verify_log_entry};
 use std::alloc::Global;
 
 /// `verify_digest_with NOW DIGEST POLICY ROOT BUNDLE ROW ..`, by a verifier of the trust root: `ok`, and how many log
@@ -16,20 +16,31 @@ pub(crate) fn bundle_answer(
 ) -> Result<Answer, CaseError> {
     let now = arguments.integer()?;
     let digest = digest(alloc, arguments)?;
-    let policy = policy(alloc, arguments)?;
-    let root = root(alloc, arguments)?;
-    let bundle = bundle(alloc, arguments)?;
-    let checker = arguments.checker(alloc)?;
-    let verifier = match Verifier::new(alloc, &root, now) {
+    let parts = read_parts(alloc, arguments)?;
+    of_bundle(alloc, now, &digest, &parts)
+}
+
+fn of_bundle(
+    alloc: Global,
+    now: i64,
+    digest: &ArtifactDigest,
+    parts: &Parts,
+) -> Result<Answer, CaseError> {
+    let verifier = match Verifier::new(alloc, &parts.root, now) {
         Ok(verifier) => verifier,
         Err(error) => return Answer::error(alloc, &error),
     };
-    let keys = match root.rekor_keys(alloc, now) {
-        Ok(keys) => keys,
-        Err(error) => return Answer::error(alloc, &error),
-    };
-    match verifier.verify_digest_with(alloc, &digest, &bundle, &policy, true, &checker) {
-        Ok(()) => Answer::ok(alloc)?.value(&keys.len()),
+    let (policy, checker) = (&parts.policy, &parts.checker);
+    match verifier.verify_digest_with(alloc, digest, &parts.bundle, policy, true, checker) {
+        Ok(()) => log_keys(alloc, now, parts),
+        Err(error) => Answer::error(alloc, &error),
+    }
+}
+
+/// `ok`, and how many log keys the root has.
+fn log_keys(alloc: Global, now: i64, parts: &Parts) -> Result<Answer, CaseError> {
+    match parts.root.rekor_keys(alloc, now) {
+        Ok(keys) => Answer::ok(alloc)?.value(&keys.len()),
         Err(error) => Answer::error(alloc, &error),
     }
 }
@@ -41,39 +52,19 @@ pub(crate) fn entry_answer(
     arguments: &mut Arguments<'_>,
 ) -> Result<Answer, CaseError> {
     let keys = keys(alloc, arguments)?;
-    let bundle = bundle(alloc, arguments)?;
-    let checker = arguments.checker(alloc)?;
-    let entry = first_entry(&bundle)?;
-    match verify_log_entry(alloc, entry, &keys, &checker) {
-        Ok(known) => Answer::ok(alloc)?
-            .value(&known.proof.log_index)?
-            .value(&known.proof.tree_size),
-        Err(error) => failed(alloc, &error),
-    }
+    let (text, checker) = signed(alloc, arguments)?;
+    let bundle = bundle(alloc, &text)?;
+    of_entry(alloc, &keys, &bundle, &checker)
 }
 
-/// The trust root of the next arguments, `CERTIFICATES KEYS KEYS`: those of the authorities, a list, and the keys of
-/// logs and of Certificate Transparency logs.
-pub(crate) fn root(
+fn of_entry(
     alloc: Global,
-    arguments: &mut Arguments<'_>,
-) -> Result<ManualTrustRoot, CaseError> {
-    Ok(ManualTrustRoot {
-        fulcio_certs: arguments.entries(alloc)?,
-        rekor_keys: keys(alloc, arguments)?,
-        ctfe_keys: keys(alloc, arguments)?,
-    })
-}
-
-/// The keys of the next arguments, `COUNT ID KEY ..`.
-fn keys(alloc: Global, arguments: &mut Arguments<'_>) -> Result<KeyMap, CaseError> {
-    let mut keys = KeyMap::new(alloc);
-    for _ in 0..arguments.natural()? {
-        let id = arguments.word()?;
-        let key = arguments.hex(alloc)?;
-        keys.insert(id, key.as_slice())?;
-    }
-    Ok(keys)
+    keys: &KeyMap,
+    bundle: &Bundle,
+    checker: &TableChecker,
+) -> Result<Answer, CaseError> {
+    let entry = first_entry(bundle)?;
+    known(alloc, verify_log_entry(alloc, entry, keys, checker))
 }
 
 /// The bundle's first log entry. `BadLine` where it has none.
@@ -82,10 +73,4 @@ fn first_entry(bundle: &Bundle) -> Result<&TransparencyLogEntry, CaseError> {
         Some(material) => material.tlog_entries.get(0).ok_or(CaseError::BadLine),
         None => Err(CaseError::BadLine),
     }
-}
-
-/// The bundle of the next argument, a text. `BadLine` where it is none.
-pub(crate) fn bundle(alloc: Global, arguments: &mut Arguments<'_>) -> Result<Bundle, CaseError> {
-    let text = arguments.text(alloc)?;
-    read_bundle(alloc, text.as_str().as_bytes()).map_err(|_| CaseError::BadLine)
 }

@@ -3,7 +3,7 @@
 use crate::policy::policy;
 use sig_bundle::ArtifactDigest;
 use sig_cases::{Answer, Arguments, CaseError};
-use sig_verify::{OfflineError, verify_offline};
+use sig_verify::{Offline, OfflineError, verify_offline};
 use std::alloc::Global;
 
 /// `verify_offline NOW DIGEST POLICY ROOT BUNDLE ROW ..`: `ok`, and index and tree size of the proof; or the name of
@@ -16,7 +16,18 @@ pub(crate) fn answer(alloc: Global, arguments: &mut Arguments<'_>) -> Result<Ans
     let bundle = arguments.text(alloc)?;
     let checker = arguments.checker(alloc)?;
     let (root, bundle) = (root.as_str().as_bytes(), bundle.as_str().as_bytes());
-    match verify_offline(alloc, root, now, &digest, bundle, &policy, &checker) {
+    known(
+        alloc,
+        verify_offline(alloc, root, now, &digest, bundle, &policy, &checker),
+    )
+}
+
+/// `ok`, and index and tree size of the proof; or the name of the first link that fails, and the error.
+pub(crate) fn known(
+    alloc: Global,
+    answer: Result<Offline, OfflineError>,
+) -> Result<Answer, CaseError> {
+    match answer {
         Ok(known) => Answer::ok(alloc)?
             .value(&known.proof.log_index)?
             .value(&known.proof.tree_size),
@@ -25,7 +36,7 @@ pub(crate) fn answer(alloc: Global, arguments: &mut Arguments<'_>) -> Result<Ans
 }
 
 /// The name of the link that fails, and the error.
-pub(crate) fn failed(alloc: Global, error: &OfflineError) -> Result<Answer, CaseError> {
+fn failed(alloc: Global, error: &OfflineError) -> Result<Answer, CaseError> {
     match error.link() {
         Some(link) => {
             let shown = Answer::error(alloc, error)?;
