@@ -2,6 +2,7 @@
 -- means where it is absent.
 use Rattle.std.specs.Prelude.{ℕ, List, [], ◌∷◌, codes, Option, Some, option_map, Result, ⊤}
 use Rattle.sig_base.specs.OptionSteps.{◌>>=◌}
+use Rattle.sig_common.specs.CommonRecord.{certificate_of, chain_of, log_id_of}
 use Rattle.sig_json.specs.Data.{Data}
 use Rattle.sig_json.specs.Find.{as_object}
 use Rattle.sig_bundle.specs.declared.bundle.Bundle.{Bundle}
@@ -22,13 +23,7 @@ use Rattle.sig_json.specs.Member.{optional, optional_bytes, optional_i64, option
 use Rattle.sig_json.specs.Record.{record_in}
 use Rattle.sig_json.specs.declared.error.JsonError.{JsonError}
 
--- ---- the certificates
-
-abbrev pub certificate_of : Data → Option (List ℕ)
-certificate_of = optional_bytes (codes "rawBytes")
-
-abbrev pub chain_of : Data → Option (List (List ℕ))
-chain_of = optional_list certificate_of (codes "certificates")
+-- ---- whose signature it is
 
 -- any object, of which nothing is read
 abbrev pub key_hint_of : Data → Option ⊤
@@ -43,9 +38,6 @@ material_content_of d = do
       option_map (λ _. material.PublicKey) hint ∷ [])
 
 -- ---- an entry of a log
-
-abbrev pub log_id_of : Data → Option (List ℕ)
-log_id_of = optional_bytes (codes "keyId")
 
 abbrev pub promise_of : Data → Option (List ℕ)
 promise_of = optional_bytes (codes "signedEntryTimestamp")

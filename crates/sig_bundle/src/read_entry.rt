@@ -1,7 +1,7 @@
 //! Readers of the entries of transparency logs.
 ghost use Rattle.std.specs.Prelude.{Option};
 ghost use Rattle.sig_json.specs.Data.{Data};
-ghost use Rattle.sig_bundle.specs.BundleRecord.{checkpoint_envelope_of, entry_of, kind_version_of, log_id_of};
+ghost use Rattle.sig_bundle.specs.BundleRecord.{checkpoint_envelope_of, entry_of, kind_version_of};
 ghost use Rattle.sig_bundle.specs.BundleRecord.{promise_of};
 ghost use Rattle.sig_bundle.specs.BundleRecord.{proof_of};
 ghost use Rattle.sig_json.specs.Tree.{tree};
@@ -9,24 +9,12 @@ ghost use Rattle.sig_json.specs.Tree.{tree};
 use crate::log_entries::SparseEntry;
 use crate::material::{KindVersion, ProofFields, TransparencyLogEntry};
 use sig_base::{Bytes, Entries, Text};
+use sig_common::LogIdReader;
 use sig_json::{
     BytesReader, ElementReader, Json, MemberError, optional, optional_list, read_bytes, read_i64,
     read_text,
 };
 use std::alloc::Global;
-
-/// Reads the ids of logs.
-enum LogIdReader {}
-
-impl ElementReader for LogIdReader {
-    type Item = Bytes;
-
-    ghost meaning = { log_id_of };
-
-    fn read(alloc: Global, json: Json<'_>) -> Result<Bytes, MemberError> {
-        read_bytes(alloc, json, "keyId")
-    }
-}
 
 /// Reads promises of inclusion.
 enum PromiseReader {}

@@ -1,7 +1,7 @@
 //! Readers of what a bundle brings to check its signature with.
 ghost use Rattle.std.specs.Prelude.{Option};
 ghost use Rattle.sig_json.specs.Data.{Data};
-ghost use Rattle.sig_bundle.specs.BundleRecord.{certificate_of, chain_of, key_hint_of, material_of};
+ghost use Rattle.sig_bundle.specs.BundleRecord.{key_hint_of, material_of};
 ghost use Rattle.sig_bundle.specs.BundleRecord.{material_content_of};
 ghost use Rattle.sig_base.specs.Answers.{Answers};
 ghost use Rattle.sig_json.specs.OrMember.{or_member};
@@ -10,36 +10,9 @@ ghost use Rattle.sig_json.specs.Tree.{tree};
 use crate::log_entries::LogEntries;
 use crate::material::{MaterialContent, VerificationMaterial};
 use crate::read_entry::SparseEntryReader;
-use sig_base::{Bytes, Entries};
-use sig_json::{ElementReader, Json, MemberError, optional, optional_list, read_bytes};
+use sig_common::{CertificateReader, ChainReader};
+use sig_json::{ElementReader, Json, MemberError, optional, optional_list};
 use std::alloc::Global;
-
-/// Reads certificates.
-enum CertificateReader {}
-
-impl ElementReader for CertificateReader {
-    type Item = Bytes;
-
-    ghost meaning = { certificate_of };
-
-    fn read(alloc: Global, json: Json<'_>) -> Result<Bytes, MemberError> {
-        read_bytes(alloc, json, "rawBytes")
-    }
-}
-
-/// Reads chains of certificates.
-enum ChainReader {}
-
-impl ElementReader for ChainReader {
-    type Item = Entries;
-
-    ghost meaning = { chain_of };
-
-    fn read(alloc: Global, json: Json<'_>) -> Result<Entries, MemberError> {
-        let certificates = optional_list::<CertificateReader>(alloc, json, "certificates")?;
-        Ok(Entries::of(alloc, certificates))
-    }
-}
 
 /// Reads hints at keys: objects whose members are not looked at.
 enum KeyHintReader {}

@@ -4,9 +4,10 @@ use Rattle.std.specs.Prelude.{ℕ, ℤ, List, codes, Option, Some, Result, Ok, E
 use Rattle.sig_base.specs.OptionSteps.{◌>>=◌}
 use Rattle.sig_base.specs.declared.error.SigstoreError.{SigstoreError}
 use Rattle.sig_base.specs.declared.error.SigstoreError.TheVariants.{SerdeJsonError}
+use Rattle.sig_common.specs.CommonRecord.{chain_of, log_id_of}
 use Rattle.sig_json.specs.Data.{Data}
 use Rattle.sig_json.specs.Kinds.{bytes_of, text_of}
-use Rattle.sig_json.specs.Member.{optional, optional_bytes, optional_list}
+use Rattle.sig_json.specs.Member.{optional, optional_list}
 use Rattle.sig_json.specs.Record.{record_in}
 use Rattle.sig_json.specs.declared.error.JsonError.{JsonError}
 use Rattle.sig_der.specs.StampSecond.{second_in}
@@ -28,12 +29,6 @@ range_of d = do
 
 -- ---- the authorities
 
-abbrev pub certificate_of : Data → Option (List ℕ)
-certificate_of = optional_bytes (codes "rawBytes")
-
-abbrev pub chain_of : Data → Option (List (List ℕ))
-chain_of = optional_list certificate_of (codes "certificates")
-
 unfoldable pub authority_of : Data → Option CertificateAuthority
 authority_of d = do
   cert_chain ← optional chain_of (codes "certChain") d
@@ -47,9 +42,6 @@ public_key_of d = do
   raw_bytes ← optional bytes_of (codes "rawBytes") d
   valid_for ← optional range_of (codes "validFor") d
   Some (record { raw_bytes = raw_bytes; valid_for = valid_for })
-
-abbrev pub log_id_of : Data → Option (List ℕ)
-log_id_of = optional_bytes (codes "keyId")
 
 unfoldable pub instance_of : Data → Option TransparencyLogInstance
 instance_of d = do

@@ -3,18 +3,17 @@ ghost use Rattle.std.specs.Prelude.{Option};
 ghost use Rattle.sig_base.specs.Answers.{Answers};
 ghost use Rattle.sig_json.specs.Data.{Data};
 ghost use Rattle.sig_json.specs.Tree.{tree};
-ghost use Rattle.sig_root.specs.RootRecord.{authority_of, certificate_of, chain_of, instance_of, log_id_of};
+ghost use Rattle.sig_root.specs.RootRecord.{authority_of, instance_of};
 ghost use Rattle.sig_root.specs.RootRecord.{public_key_of};
 ghost use Rattle.sig_root.specs.RootRecord.{range_of, time_of, trusted_root_in, trusted_root_of};
 
 use crate::record::{
     CertificateAuthority, PublicKey, TimeRange, TransparencyLogInstance, TrustedRoot,
 };
-use sig_base::{Bytes, Entries};
+use sig_common::{ChainReader, LogIdReader};
 use sig_der::rfc3339_second;
 use sig_json::{
-    BytesReader, ElementReader, Json, JsonError, MemberError, optional, optional_list, read_bytes,
-    read_record,
+    BytesReader, ElementReader, Json, JsonError, MemberError, optional, optional_list, read_record,
 };
 use std::alloc::Global;
 
@@ -55,33 +54,6 @@ impl ElementReader for RangeReader {
     }
 }
 
-/// Reads certificates.
-enum CertificateReader {}
-
-impl ElementReader for CertificateReader {
-    type Item = Bytes;
-
-    ghost meaning = { certificate_of };
-
-    fn read(alloc: Global, json: Json<'_>) -> Result<Bytes, MemberError> {
-        read_bytes(alloc, json, "rawBytes")
-    }
-}
-
-/// Reads chains of certificates.
-enum ChainReader {}
-
-impl ElementReader for ChainReader {
-    type Item = Entries;
-
-    ghost meaning = { chain_of };
-
-    fn read(alloc: Global, json: Json<'_>) -> Result<Entries, MemberError> {
-        let certificates = optional_list::<CertificateReader>(alloc, json, "certificates")?;
-        Ok(Entries::of(alloc, certificates))
-    }
-}
-
 /// Reads authorities.
 enum AuthorityReader {}
 
@@ -113,19 +85,6 @@ impl ElementReader for PublicKeyReader {
             raw_bytes: optional::<BytesReader>(alloc, json, "rawBytes")?,
             valid_for: optional::<RangeReader>(alloc, json, "validFor")?,
         })
-    }
-}
-
-/// Reads the ids of logs.
-enum LogIdReader {}
-
-impl ElementReader for LogIdReader {
-    type Item = Bytes;
-
-    ghost meaning = { log_id_of };
-
-    fn read(alloc: Global, json: Json<'_>) -> Result<Bytes, MemberError> {
-        read_bytes(alloc, json, "keyId")
     }
 }
 

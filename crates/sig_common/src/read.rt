@@ -1,0 +1,55 @@
+//! Readers of the records, each of one kind of value.
+ghost use Rattle.std.specs.Prelude.{Option};
+ghost use Rattle.sig_json.specs.Data.{Data};
+ghost use Rattle.sig_json.specs.Tree.{tree};
+ghost use Rattle.sig_common.specs.CommonRecord.{certificate_of, chain_of, log_id_of};
+
+use sig_base::{Bytes, Entries};
+use sig_json::{ElementReader, Json, MemberError, optional_list, read_bytes};
+use std::alloc::Global;
+
+/// Reads certificates (X509Certificate), as their DER: `rawBytes`.
+pub enum CertificateReader {}
+
+impl ElementReader for CertificateReader {
+    ghost use Rattle.sig_common.specs.CommonRecord.{certificate_of};
+
+    type Item = Bytes;
+
+    ghost meaning = { certificate_of };
+
+    fn read(alloc: Global, json: Json<'_>) -> Result<Bytes, MemberError> {
+        read_bytes(alloc, json, "rawBytes")
+    }
+}
+
+/// Reads chains of certificates (X509CertificateChain), as the DER of each in order: `certificates`.
+pub enum ChainReader {}
+
+impl ElementReader for ChainReader {
+    ghost use Rattle.sig_common.specs.CommonRecord.{chain_of};
+
+    type Item = Entries;
+
+    ghost meaning = { chain_of };
+
+    fn read(alloc: Global, json: Json<'_>) -> Result<Entries, MemberError> {
+        let certificates = optional_list::<CertificateReader>(alloc, json, "certificates")?;
+        Ok(Entries::of(alloc, certificates))
+    }
+}
+
+/// Reads ids of logs (LogId): `keyId`.
+pub enum LogIdReader {}
+
+impl ElementReader for LogIdReader {
+    ghost use Rattle.sig_common.specs.CommonRecord.{log_id_of};
+
+    type Item = Bytes;
+
+    ghost meaning = { log_id_of };
+
+    fn read(alloc: Global, json: Json<'_>) -> Result<Bytes, MemberError> {
+        read_bytes(alloc, json, "keyId")
+    }
+}
