@@ -61,7 +61,7 @@ SaysConstraints c critical ca =
 
 -- extended key usage: whether code signing is among the purposes
 abbrev pub SaysCodeSigning : Cert → Bool → Type 0
-SaysCodeSigning c is = Says (purpose_lists c) purposes_of (λ e purposes. has_purpose oid.code_signing_purpose purposes ≡ is)
+SaysCodeSigning c is = Says (purpose_lists c) purposes_of (λ e ids. has_purpose oid.code_signing_purpose ids ≡ is)
 
 -- ---- authorities
 

@@ -43,8 +43,8 @@ pub row_written : (row : AcceptedRow) (start one two three four whole : Data) (o
     → four ≡ with_member (codes "message") message three → whole ≡ with_member (codes "signature") signature four
     → whole ≡ row_tree row
 unfolding row_tree
-row_written row start one two three four whole operation key message signature scheme o s k m g a b c d e f =
-    rw (f, e, d, c, b, a, o, s, k, m, g, with_some-object (codes "scheme") (scheme_tree row.operation row.scheme) _) refl
+row_written r start one two three four whole operation key message signature scheme o s k m g a b c d e f =
+    rw (f, e, d, c, b, a, o, s, k, m, g, with_some-object (codes "scheme") (scheme_tree r.operation r.scheme) _) refl
 
 -- ---- a signature is read back
 
@@ -136,7 +136,8 @@ scheme-read Prehash s k m g read =
     ∙ subst (λ (t : List ℕ). (scheme_kind (string t) >>= λ scheme. Some (name_of (scheme_of scheme))) ≡ Some t)
     (sym read.1) (scheme-back read.0)
 scheme-read Point s k m g read =
-    rw (optional-absent no_kind (codes "scheme") (row_tree (as_row Point s k m g)) (has_scheme Point s k m g), read) refl
+    let tree : Data = row_tree (as_row Point s k m g) in
+    rw (optional-absent no_kind (codes "scheme") tree (has_scheme Point s k m g), read) refl
 scheme-read Certificate s k m g read =
     required-there bytes_of (codes "scheme") (row_tree (as_row Certificate s k m g)) (bytes_tree s) s
     (has_scheme Certificate s k m g) read.0
@@ -234,7 +235,8 @@ pub listed-array : (rows : List AcceptedRow) (count : ℕ) (list : Data) (size :
     → IsSome (as_array list)
 listed-array rows count list size listed = rw listed.tree refl
 
-size-more : (rows : List AcceptedRow) (count : ℕ) (row : AcceptedRow) → count < length rows → row ≡ get_or rows count row
+size-more : (rows : List AcceptedRow) (count : ℕ) (row : AcceptedRow) → count < length rows
+    → row ≡ get_or rows count row
     → rows_size (take (count + 1) rows) ≡ rows_size (take count rows) + rows_size (row ∷ [])
 size-more rows count row below is =
     ap rows_size (take_more rows count row below ∙ ap (λ y. take count rows ++ y ∷ []) (sym is))
@@ -274,7 +276,8 @@ listed-whole rows count list shown size text all listed same written reads =
     let short : rows_size rows < most_bytes = omega (arith, listed.taken, ap rows_size whole, listed.room) in
     let shallow : depth shown ≤ max_depth =
     (let P : Data → Type 0 = λ d. depth d ≤ max_depth in subst P (sym tree) (rows_shallow rows)) in
-    let read : document_of (rows_text rows) ≡ Ok (rows_tree rows) = sym (ap document_of is) ∙ reads shallow ∙ ap Ok tree in
+    let read : document_of (rows_text rows) ≡ Ok (rows_tree rows) =
+    sym (ap document_of is) ∙ reads shallow ∙ ap Ok tree in
     let back = (let P : List AcceptedRow → Type 0 = λ r. IsReadAs (list_each row_of) (rows_tree r) r in
     subst P whole listed.back) in (
       is,

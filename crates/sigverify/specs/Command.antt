@@ -1,7 +1,8 @@
 -- The commands, by their words.
 use Rattle.std.specs.Prelude.{◌≡◌, ℕ, List, [], ◌∷◌, codes}
 use Rattle.sigverify.specs.declared.command.Command.{Command}
-use Rattle.sigverify.specs.declared.command.Command.TheVariants.{Log, Verify, Consistency, LogQuestions, VerifyQuestions}
+use Rattle.sigverify.specs.declared.command.Command.TheVariants.{Log, Verify, Consistency}
+use Rattle.sigverify.specs.declared.command.Command.TheVariants.{LogQuestions, VerifyQuestions}
 
 abbrev pub words_of : Command → List (List ℕ)
 words_of Log = codes "log" ∷ []
