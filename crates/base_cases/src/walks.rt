@@ -13,6 +13,7 @@ use std::sync::ledger::{Blank, Ledger};
 const LEAF: [u8; 32] = [255; 32];
 
 /// So many made-up proofs in a tree of this size, from an index or an older size on.
+#[derive(Drop)]
 struct Sweep {
     size: u64,
     first: u64,

@@ -15,7 +15,7 @@ use Rattle.sig_rekor.specs.CheckpointText.{IsCheckpoint, checkpoint_of}
 use Rattle.sig_rekor.specs.declared.checkpoint.SignedCheckpoint.{SignedCheckpoint}
 use Rattle.sig_rekor.specs.declared.inclusion_proof.InclusionProof.{InclusionProof}
 use Rattle.sig_bundle.specs.Proof.{IsHash, HasRoot, HasHashes, HasSize, IsFirstOther, IsProof, IsProofFault}
-use Rattle.sig_bundle.specs.Proof.{IsProofOrFault, hash_or, hashes_from, size_or_fault, checkpoint_or_fault}
+use Rattle.sig_bundle.specs.Proof.{IsProofOrFault, hash_or, path_hashes_from, size_or_fault, checkpoint_or_fault}
 use Rattle.sig_bundle.specs.Proof.{under_proof_name, proof_or_fault}
 use Rattle.sig_bundle.specs.declared.material.ProofFields.{ProofFields}
 use Rattle.sig_bundle.specs.declared.proof_error.ProofFieldsError.{ProofFieldsError}
@@ -64,17 +64,17 @@ hash_or-only_fails e bytes wrong =
 same_lists : (a b : List ℕ) (cs ds : List (List ℕ)) → a ≡ b → cs ≡ ds → a ∷ cs ≡ b ∷ ds
 same_lists a b cs ds e f = rw (e, f) refl
 
-hashes-found : (place : ℕ) (all hashes : List (List ℕ)) → hashes_from place all ≡ Ok hashes
+hashes-found : (place : ℕ) (all hashes : List (List ℕ)) → path_hashes_from place all ≡ Ok hashes
     → (hashes ≡ all) × AllByRecursion IsHash all
 hashes-found place [] hashes e = (cc, tt)
 hashes-found place (bytes ∷ others) hashes e =
     let a = bind_ok (hash_or (HashLength place) bytes) _ hashes e in
-    let b = bind_ok (hashes_from (place + 1) others) _ hashes a.2 in
+    let b = bind_ok (path_hashes_from (place + 1) others) _ hashes a.2 in
     let first = hash_or-found (HashLength place) bytes a.0 a.1 in
     let rest = hashes-found (place + 1) others b.0 b.1 in
     (sym (ok_is (a.0 ∷ b.0) hashes b.2) ∙ same_lists a.0 bytes b.0 others first.0 rest.0, (first.1, rest.1))
 
-hashes-only : (place : ℕ) (all : List (List ℕ)) → AllByRecursion IsHash all → hashes_from place all ≡ Ok all
+hashes-only : (place : ℕ) (all : List (List ℕ)) → AllByRecursion IsHash all → path_hashes_from place all ≡ Ok all
 hashes-only place [] is = refl
 hashes-only place (bytes ∷ others) is =
     rw (hash_or-only (HashLength place) bytes is.0, hashes-only (place + 1) others is.1) refl
@@ -85,7 +85,7 @@ record Fails (place : ℕ) (all : List (List ℕ)) (e : ProofFieldsError) : Type
   named : e ≡ HashLength (place + index)
   first : IsFirstOther all index
 
-hashes-fail : (place : ℕ) (all : List (List ℕ)) (e : ProofFieldsError) → hashes_from place all ≡ Err e
+hashes-fail : (place : ℕ) (all : List (List ℕ)) (e : ProofFieldsError) → path_hashes_from place all ≡ Err e
     → Fails place all e
 hashes-fail place [] e is = absurd cc
 hashes-fail place (bytes ∷ others) e is =
@@ -108,7 +108,7 @@ hashes-fail place (bytes ∷ others) e is =
           }
       | inr good ↦
           let h = hash_or-found (HashLength place) bytes good.0 good.1 in
-          elim (bind_err (hashes_from (place + 1) others) _ e good.2) [
+          elim (bind_err (path_hashes_from (place + 1) others) _ e good.2) [
             | inl later ↦
                 let r = hashes-fail (place + 1) others e later in
                 let there : place + 1 + r.index ≡ place + suc r.index = omega arith in
@@ -131,7 +131,7 @@ hashes-fail place (bytes ∷ others) e is =
 
 fails_behind : (place : ℕ) (before : List (List ℕ)) (other : List ℕ) (after : List (List ℕ))
     → AllByRecursion IsHash before → ¬ IsHash other
-    → hashes_from place (before ++ other ∷ after) ≡ Err (HashLength (place + length before))
+    → path_hashes_from place (before ++ other ∷ after) ≡ Err (HashLength (place + length before))
 fails_behind place [] other after sound wrong =
     let here : place ≡ place + 0 = omega arith in
     rw (hash_or-only_fails (HashLength place) other wrong) (ap (λ n. Err (HashLength n)) here)
@@ -141,7 +141,7 @@ fails_behind place (bytes ∷ before) other after sound wrong =
     (ap (λ n. Err (HashLength n)) there)
 
 hashes-only_fail : (all : List (List ℕ)) (index : ℕ) → IsFirstOther all index
-    → hashes_from 0 all ≡ Err (HashLength index)
+    → path_hashes_from 0 all ≡ Err (HashLength index)
 hashes-only_fail all index is =
     let there : 0 + length is.before ≡ index = (let p = is.place in omega arith) in
     rw (is.split, fails_behind 0 is.before is.other is.after is.sound is.wrong) (ap (λ n. Err (HashLength n)) there)
@@ -186,7 +186,7 @@ pub proof-found : (fields : ProofFields) (proof : InclusionProof) → proof_or_f
     → IsProof fields proof
 proof-found fields proof e =
     let a = bind_ok (hash_or RootLength fields.root_hash) _ proof e in
-    let b = bind_ok (hashes_from 0 fields.hashes) _ proof a.2 in
+    let b = bind_ok (path_hashes_from 0 fields.hashes) _ proof a.2 in
     let s = bind_ok (size_or_fault fields.tree_size) _ proof b.2 in
     let k = bind_ok (checkpoint_or_fault fields.checkpoint) _ proof s.2 in
     let root = hash_or-found RootLength fields.root_hash a.0 a.1 in
@@ -243,7 +243,7 @@ proof-fails fields e is =
           let h = hash_or-fails RootLength e fields.root_hash wrong in subst (IsProofFault fields) (sym h.0) h.1
       | inr a ↦
           let root = (hash_or-found RootLength fields.root_hash a.0 a.1).1 in
-          elim (bind_err (hashes_from 0 fields.hashes) _ e a.2) [
+          elim (bind_err (path_hashes_from 0 fields.hashes) _ e a.2) [
             | inl wrong ↦
                 let h = hashes-fail 0 fields.hashes e wrong in
                 let same : 0 + h.index ≡ h.index = omega arith in

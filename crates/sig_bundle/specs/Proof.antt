@@ -78,12 +78,12 @@ IsProofOrFault fields (Err e) = IsProofFault fields e
 abbrev pub hash_or : ProofFieldsError → List ℕ → Result (List ℕ) ProofFieldsError
 hash_or e bytes = if length bytes == 32 then Ok bytes else Err e
 
-abbrev pub hash_at : ℕ → List ℕ → Result (List ℕ) ProofFieldsError
-hash_at index = hash_or (HashLength index)
+abbrev pub path_hash_at : ℕ → List ℕ → Result (List ℕ) ProofFieldsError
+path_hash_at index = hash_or (HashLength index)
 
 -- the hashes, counted from this index on
-abbrev pub hashes_from : ℕ → List (List ℕ) → Result (List (List ℕ)) ProofFieldsError
-hashes_from = each_from hash_at
+abbrev pub path_hashes_from : ℕ → List (List ℕ) → Result (List (List ℕ)) ProofFieldsError
+path_hashes_from = each_from path_hash_at
 
 abbrev pub size_or_fault : ℤ → Result ℕ ProofFieldsError
 size_or_fault (pos size) = Ok size
@@ -100,7 +100,7 @@ checkpoint_or_fault (Some text) = under_proof_name (checkpoint_of text)
 abbrev pub proof_or_fault : ProofFields → Result InclusionProof ProofFieldsError
 proof_or_fault fields = do
   root ← hash_or RootLength fields.root_hash
-  hashes ← hashes_from 0 fields.hashes
+  hashes ← path_hashes_from 0 fields.hashes
   size ← size_or_fault fields.tree_size
   checkpoint ← checkpoint_or_fault fields.checkpoint
   Ok (record {

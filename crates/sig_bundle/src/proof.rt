@@ -1,7 +1,7 @@
 //! The members of an inclusion proof as the proof that they are.
 ghost use Rattle.std.specs.Prelude.{◌≡◌, ◌∷◌, [], IfOk, Ok};
 ghost use Rattle.sig_base.specs.Answers.{Answers, AnswersOnly};
-ghost use Rattle.sig_bundle.specs.Proof.{IsProofOrFault, proof_or_fault, hash_or, hashes_from, size_or_fault};
+ghost use Rattle.sig_bundle.specs.Proof.{IsProofOrFault, proof_or_fault, hash_or, path_hashes_from, size_or_fault};
 ghost use Rattle.sig_bundle.specs.Proof.{checkpoint_or_fault};
 
 use crate::material::ProofFields;
@@ -60,7 +60,7 @@ fn hash_of(bytes: &[u8], error: ProofFieldsError) -> Result<[u8; 32], ProofField
 /// The hashes of an audit path. Fails with `HashLength` of the first that has not 32 bytes.
 #[tactic(auto, using(sig_base::proofs::EachFrom::each_left))]
 fn hashes_of(alloc: Global, entries: &Entries) -> Result<Hashes, ProofFieldsError>
-    ensures { Answers ProofFieldsError.OutOfMemory (λ hashes. hashes) result (hashes_from 0 entries.now) }
+    ensures { Answers ProofFieldsError.OutOfMemory (λ hashes. hashes) result (path_hashes_from 0 entries.now) }
 {
     let mut hashes = Hashes::new(alloc);
     'hashes: for (place, bytes) in entries.as_slice().iter().enumerate() {

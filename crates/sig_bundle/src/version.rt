@@ -1,7 +1,7 @@
 //! `Version`: the versions of the bundle format, by their media types.
 
 ghost use Rattle.std.specs.Prelude.{Some};
-ghost use Rattle.sig_bundle.specs.Version.{media_type, IsReadOf};
+ghost use Rattle.sig_bundle.specs.Version.{media_type, IsVersionRead};
 
 use std::fmt;
 use std::str::FromStr;
@@ -37,7 +37,7 @@ impl fmt::Display for Version {
 impl FromStr for Version {
     type Err = ();
 
-    ghost from_str_gives = { λ text read. IsReadOf text read };
+    ghost from_str_gives = { λ text read. IsVersionRead text read };
 
     #[tactic(auto, using(crate::proofs::VersionLaws::unnamed))]
     fn from_str(text: &str) -> Result<Version, ()> {

@@ -7,14 +7,14 @@ use Rattle.sig_dsse.specs.declared.envelope.DsseEnvelope.{DsseEnvelope}
 use Rattle.sig_dsse.specs.declared.envelope.DsseSignature.{DsseSignature}
 
 -- a member: its name in quotation marks, a colon, the text of its value
-abbrev pub member_text : List ℕ → List ℕ → List ℕ
-member_text name value = canon_string name ++ (codes ":" ++ value)
+abbrev pub envelope_member : List ℕ → List ℕ → List ℕ
+envelope_member name value = canon_string name ++ (codes ":" ++ value)
 
 -- the member of a text, none where the text is empty; quoted and escaped as in canonical JSON (RFC 8785 section
 -- 3.2.2.2)
 abbrev pub text_member : List ℕ → List ℕ → List (List ℕ)
 text_member name [] = []
-text_member name (c ∷ cs) = member_text name (canon_string (c ∷ cs)) ∷ []
+text_member name (c ∷ cs) = envelope_member name (canon_string (c ∷ cs)) ∷ []
 
 -- the member of bytes, in base64 (RFC 4648 section 4)
 abbrev pub bytes_member : List ℕ → List ℕ → List (List ℕ)
@@ -23,7 +23,7 @@ bytes_member name bytes = text_member name (base64_text bytes)
 -- the member of a list of texts of JSON, none where the list is empty
 abbrev pub list_member : List ℕ → List (List ℕ) → List (List ℕ)
 list_member name [] = []
-list_member name (text ∷ texts) = member_text name (in_brackets (text ∷ texts)) ∷ []
+list_member name (text ∷ texts) = envelope_member name (in_brackets (text ∷ texts)) ∷ []
 
 unfoldable pub envelope_signature_text : DsseSignature → List ℕ
 envelope_signature_text signature =

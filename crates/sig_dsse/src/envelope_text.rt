@@ -3,7 +3,7 @@ ghost use Rattle.std.specs.Prelude.{◌≡◌, ◌++◌, [], ◌∷◌, map, cod
 ghost use Rattle.sig_base.specs.Base64.{base64_text};
 ghost use Rattle.sig_json.specs.Canonical.{canon_string, in_braces, in_brackets};
 ghost use Rattle.sig_json.specs.Spells.{texts_of};
-ghost use Rattle.sig_dsse.specs.EnvelopeText.{member_text, text_member, bytes_member, list_member};
+ghost use Rattle.sig_dsse.specs.EnvelopeText.{envelope_member, text_member, bytes_member, list_member};
 ghost use Rattle.sig_dsse.specs.EnvelopeText.{envelope_signature_text};
 ghost use Rattle.sig_dsse.specs.EnvelopeText.{envelope_text};
 
@@ -111,7 +111,7 @@ fn signature_texts(alloc: Global, signatures: &DsseSignatures) -> Result<Vec<Str
 
 /// A member: its name in quotation marks, a colon, and the text of its value.
 fn member_json(alloc: Global, name: &str, value: &str) -> Result<String, OutOfMemory>
-    ensures { IfOk result (λ text. string_bytes text ≡ member_text name.now value.now) }
+    ensures { IfOk result (λ text. string_bytes text ≡ envelope_member name.now value.now) }
 {
     let name = quoted(alloc, name)?;
     Ok(format!(in alloc; "{}:{value}", name.as_str())?)

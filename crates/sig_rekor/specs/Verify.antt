@@ -37,15 +37,15 @@ abbrev pub IsOfTree : SignedCheckpoint → List ℕ → ℕ → Type 0
 IsOfTree checkpoint root size = IsHeadOf checkpoint.note.size checkpoint.note.hash root size
 
 -- a larger note, a smaller one, and one of the same size with another root
-abbrev pub head_answer : ℕ → List ℕ → List ℕ → ℕ → Result (Unit {0}) SigstoreError
-head_answer note_size note_hash root size =
+abbrev pub size_and_root_answer : ℕ → List ℕ → List ℕ → ℕ → Result (Unit {0}) SigstoreError
+size_and_root_answer note_size note_hash root size =
     if nat_lt size note_size then Err (ConsistencyProofError (NewTreeSmaller size note_size)) else
     if nat_lt note_size size then Err (ConsistencyProofError UnexpectedEmptyProof) else
     if bytes_eq note_hash root then Ok tt else
     Err (ConsistencyProofError (MismatchedRoot (record { root = note_hash }) (record { root = root })))
 
 abbrev pub tree_answer : SignedCheckpoint → List ℕ → ℕ → Result (Unit {0}) SigstoreError
-tree_answer checkpoint root size = head_answer checkpoint.note.size checkpoint.note.hash root size
+tree_answer checkpoint root size = size_and_root_answer checkpoint.note.size checkpoint.note.hash root size
 
 -- the error of the proof as this crate's error
 abbrev pub as_inclusion : Result (Unit {0}) MerkleProofError → Result (Unit {0}) SigstoreError

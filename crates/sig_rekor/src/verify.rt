@@ -5,7 +5,7 @@ ghost use Rattle.sig_base.specs.Answers.{Answers};
 ghost use Rattle.sig_base.specs.declared.error.SigstoreError.TheVariants.{OutOfMemory as Memory};
 ghost use Rattle.sig_key.specs.Key.{key_accepts};
 ghost use Rattle.sig_rekor.specs.Verify.{has_accepted_signature, signed_answer, answer_if_signed};
-ghost use Rattle.sig_rekor.specs.Verify.{IsOfTree, tree_answer, IsHeadOf, head_answer};
+ghost use Rattle.sig_rekor.specs.Verify.{IsOfTree, tree_answer, IsHeadOf, size_and_root_answer};
 
 use crate::checkpoint::{CheckpointSignature, SignedCheckpoint};
 use crate::different::different;
@@ -125,7 +125,7 @@ fn check_tree(
     proof_root_hash: &[u8; 32],
     proof_tree_size: u64,
 ) -> Result<()>
-    ensures answer { result ≡ head_answer size hash.now proof_root_hash.now proof_tree_size }
+    ensures answer { result ≡ size_and_root_answer size hash.now proof_root_hash.now proof_tree_size }
     ensures ok { IsOk result ↔ IsHeadOf size hash.now proof_root_hash.now proof_tree_size }
 {
     if proof_tree_size < size {

@@ -11,8 +11,8 @@ use Rattle.sig_json.specs.declared.document.Document.{Document}
 use Rattle.sig_rekor.proofs.Equality.{api_proof_eq-tells}
 use Rattle.sig_rekor.specs.declared.rekor_proof.RekorInclusionProof.{RekorInclusionProof}
 use Rattle.sig_base.proofs.PartEquality.{decides_option}
-use Rattle.sig_rekor_models.specs.Body.{Body, Content, seen_body, seen_content}
-use Rattle.sig_rekor_models.specs.LogEntry.{LogEntry, seen}
+use Rattle.sig_rekor_models.specs.Body.{Body, Content, seen_body, seen_body_content}
+use Rattle.sig_rekor_models.specs.LogEntry.{LogEntry, seen_entry}
 use Rattle.sig_rekor_models.specs.contracts.body.BodyContentPartialEq.TheImpl as content_eq
 use Rattle.sig_rekor_models.specs.contracts.body.BodyPartialEq.TheImpl as body_eq
 use Rattle.sig_rekor_models.specs.contracts.log_entry.AttestationPartialEq.TheImpl as attestation_eq
@@ -72,7 +72,8 @@ content-of_parts : (v w : List ℕ) → (d f : Data) → (v ≡ w) × (d ≡ f)
     → ◌≡◌ {A = Content} (record { api_version = v; spec = d }) (record { api_version = w; spec = f })
 content-of_parts v w d f e = rw (e.0, e.1) refl
 
-content_eq-tells : (a b : BodyContent) → Decides ((content_eq.ghosts).eq a b) (seen_content a ≡ seen_content b)
+content_eq-tells : (a b : BodyContent)
+    → Decides ((content_eq.ghosts).eq a b) (seen_body_content a ≡ seen_body_content b)
 content_eq-tells a b =
     decides_same _ (content-of_parts a.api_version b.api_version (document_tree a.spec) (document_tree b.spec))
     (λ e. (ap (λ (c : Content). c.api_version) e, ap (λ (c : Content). c.spec) e))
@@ -86,7 +87,7 @@ without_kind body = record { api_version = body.api_version; spec = body.spec }
 
 -- of bodies of one kind
 same_kind : (kind : EntryKind) (a b : BodyContent)
-    → Decides ((content_eq.ghosts).eq a b) (of_kind kind (seen_content a) ≡ of_kind kind (seen_content b))
+    → Decides ((content_eq.ghosts).eq a b) (of_kind kind (seen_body_content a) ≡ of_kind kind (seen_body_content b))
 same_kind kind a b =
     decides_same _ (λ e. ap (of_kind kind) e) (λ e. ap without_kind e) (content_eq-tells a b)
 
@@ -103,7 +104,7 @@ body_eq-tells (tuf x) (tuf y) = same_kind kinds.Tuf x y
 body_eq-tells a b = (λ e. absurd cc, λ e. absurd (let kind = ap (λ (body : Body). body.kind) e in cc))
 
 pub content_law : (a b : BodyContent) (r : Bool) → r ≡ (content_eq.ghosts).eq a b
-    → Decides r (seen_content a ≡ seen_content b)
+    → Decides r (seen_body_content a ≡ seen_body_content b)
 content_law a b r is = decides_result r _ is (content_eq-tells a b)
 
 pub body_law : (a b : HeldBody) (r : Bool) → r ≡ (body_eq.ghosts).eq a b → Decides r (seen_body a ≡ seen_body b)
@@ -136,7 +137,7 @@ entry-of_parts : (u v : Option (List ℕ)) → (p q : Option Attestation) → (b
 entry-of_parts u v p q b c s t i j l m f g e =
     rw (e.0, e.1.0, e.1.1.0, e.1.1.1.0, e.1.1.1.1.0, e.1.1.1.1.1.0, e.1.1.1.1.1.1) refl
 
-entry_eq-tells : (a b : HeldEntry) → Decides ((entry_eq.ghosts).eq a b) (seen a ≡ seen b)
+entry_eq-tells : (a b : HeldEntry) → Decides ((entry_eq.ghosts).eq a b) (seen_entry a ≡ seen_entry b)
 entry_eq-tells a b =
     decides_same _ (entry-of_parts a.uuid b.uuid a.attestation b.attestation (seen_body a.body) (seen_body b.body)
     a.integrated_time b.integrated_time a.log_index b.log_index a.log_i_d b.log_i_d a.verification b.verification)
@@ -162,7 +163,7 @@ entry_eq-tells a b =
     (Decides-and _ _ (decides_bytes a.log_i_d b.log_i_d) (Decides-and _ _ (Decides-int_eq a.log_index b.log_index)
     (verification_eq-tells a.verification b.verification)))))))
 
-pub entry_law : (a b : HeldEntry) (r : Bool) → r ≡ (entry_eq.ghosts).eq a b → Decides r (seen a ≡ seen b)
+pub entry_law : (a b : HeldEntry) (r : Bool) → r ≡ (entry_eq.ghosts).eq a b → Decides r (seen_entry a ≡ seen_entry b)
 entry_law a b r is = decides_result r _ is (entry_eq-tells a b)
 
 pub ruleset equal_entries = (attestation_law, verification_law, content_law)

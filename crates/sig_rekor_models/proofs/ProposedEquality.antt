@@ -11,7 +11,7 @@ use Rattle.sig_json.specs.Tree.{document_tree}
 use Rattle.sig_json.specs.declared.document.Document.{Document}
 use Rattle.sig_rekor_models.proofs.EntryEquality.{document_eq-tells}
 use Rattle.sig_rekor_models.specs.Body.{Body}
-use Rattle.sig_rekor_models.specs.HashedrekordTree.{algorithm_name, hash_tree, data_tree, signature_tree, spec_tree}
+use Rattle.sig_rekor_models.specs.HashedrekordTree.{algorithm_name, hash_json, data_json, signature_json, spec_json}
 use Rattle.sig_rekor_models.specs.ProposedTree.{seen_proposed}
 use Rattle.sig_rekor_models.specs.contracts.entry_kind.EntryKindPartialEq.TheImpl as kind_eq
 use Rattle.sig_rekor_models.specs.contracts.hashedrekord.AlgorithmKindPartialEq.TheImpl as algorithm_eq
@@ -158,34 +158,34 @@ algorithm-from_name sha256 sha1 e = absurd cc
 algorithm-from_name sha1 sha256 e = absurd cc
 algorithm-from_name sha1 sha1 e = refl
 
-hash-from_tree : (a b : Hash) → hash_tree a ≡ hash_tree b → a ≡ b
-unfolding hash_tree
+hash-from_tree : (a b : Hash) → hash_json a ≡ hash_json b → a ≡ b
+unfolding hash_json
 hash-from_tree a b e =
     hash-of_parts a.algorithm b.algorithm a.value b.value
     (algorithm-from_name a.algorithm b.algorithm (ap (λ t. text_in (first_in t)) e), ap (λ t. text_in (second_in t)) e)
 
-data-from_tree : (a b : Data) → data_tree a ≡ data_tree b → a ≡ b
-unfolding data_tree
+data-from_tree : (a b : Data) → data_json a ≡ data_json b → a ≡ b
+unfolding data_json
 data-from_tree a b e = data-of_parts a.hash b.hash (hash-from_tree a.hash b.hash (ap first_in e))
 
-signature-from_tree : (a b : Signature) → signature_tree a ≡ signature_tree b → a ≡ b
-unfolding signature_tree
+signature-from_tree : (a b : Signature) → signature_json a ≡ signature_json b → a ≡ b
+unfolding signature_json
 signature-from_tree a b e =
     signature-of_parts a.content b.content a.public_key b.public_key (
       ap (λ t. text_in (first_in t)) e,
       key-of_parts a.public_key.content b.public_key.content (ap (λ t. text_in (first_in (second_in t))) e),
     )
 
-spec-from_tree : (a b : Spec) → spec_tree a ≡ spec_tree b → a ≡ b
-unfolding spec_tree
+spec-from_tree : (a b : Spec) → spec_json a ≡ spec_json b → a ≡ b
+unfolding spec_json
 spec-from_tree a b e =
     spec-of_parts a.signature b.signature a.logged_data b.logged_data (
       signature-from_tree a.signature b.signature (ap second_in e),
       data-from_tree a.logged_data b.logged_data (ap first_in e),
     )
 
-said_eq-tells : (a b : Spec) → Decides ((spec_eq.ghosts).eq a b) (spec_tree a ≡ spec_tree b)
-said_eq-tells a b = decides_same _ (λ e. ap spec_tree e) (spec-from_tree a b) (spec_eq-tells a b)
+said_eq-tells : (a b : Spec) → Decides ((spec_eq.ghosts).eq a b) (spec_json a ≡ spec_json b)
+said_eq-tells a b = decides_same _ (λ e. ap spec_json e) (spec-from_tree a b) (spec_eq-tells a b)
 
 -- ---- entries to propose
 
@@ -207,7 +207,7 @@ of_kind-tells k v w d f =
 proposed_eq-tells : (a b : ProposedEntry) → Decides ((proposed_eq.ghosts).eq a b) (seen_proposed a ≡ seen_proposed b)
 proposed_eq-tells (entries.Alpine v x) (entries.Alpine w y) = of_kind-tells kinds.Alpine v w x y
 proposed_eq-tells (entries.Hashedrekord v x) (entries.Hashedrekord w y) =
-    decides_same _ (proposed-of_parts kinds.Hashedrekord v w (spec_tree x) (spec_tree y)) (λ e. proposed_parts _ _ e)
+    decides_same _ (proposed-of_parts kinds.Hashedrekord v w (spec_json x) (spec_json y)) (λ e. proposed_parts _ _ e)
     (Decides-and _ _ (decides_bytes v w) (said_eq-tells x y))
 proposed_eq-tells (entries.Helm v x) (entries.Helm w y) = of_kind-tells kinds.Helm v w x y
 proposed_eq-tells (entries.Intoto v x) (entries.Intoto w y) = of_kind-tells kinds.Intoto v w x y

@@ -8,7 +8,7 @@ use Rattle.sig_json.specs.Member.{required, required_text}
 use Rattle.sig_json.specs.Record.{record_in}
 use Rattle.sig_json.specs.Tree.{document_tree}
 use Rattle.sig_rekor_models.specs.EntryKind.{kind_name, kind_named}
-use Rattle.sig_rekor_models.specs.EntryTree.{entry_tree}
+use Rattle.sig_rekor_models.specs.EntryTree.{entry_json}
 use Rattle.sig_rekor_models.specs.declared.body.Body.{Body as HeldBody}
 use Rattle.sig_rekor_models.specs.declared.body.Body.TheVariants.{alpine, hashedrekord, helm, intoto, jar, rekord}
 use Rattle.sig_rekor_models.specs.declared.body.Body.TheVariants.{rfc3161, rpm, tuf}
@@ -50,8 +50,8 @@ body_content_of (rfc3161 content) = content
 body_content_of (rpm content) = content
 body_content_of (tuf content) = content
 
-abbrev pub seen_content : BodyContent → Content
-seen_content content = record { api_version = content.api_version; spec = document_tree content.spec }
+abbrev pub seen_body_content : BodyContent → Content
+seen_body_content content = record { api_version = content.api_version; spec = document_tree content.spec }
 
 abbrev pub seen_body : HeldBody → Body
 seen_body body = record {
@@ -64,7 +64,7 @@ seen_body body = record {
 
 -- the object of `apiVersion`, `kind` and `spec`
 abbrev pub body_tree : Body → Data
-body_tree body = entry_tree (kind_name body.kind) body.api_version body.spec
+body_tree body = entry_json (kind_name body.kind) body.api_version body.spec
 
 abbrev pub entry_kind_of : Data → Option EntryKind
 entry_kind_of d = text_of d >>= kind_named

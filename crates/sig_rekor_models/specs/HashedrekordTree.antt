@@ -2,7 +2,7 @@
 -- by object; the members of each come in the byte order of their names.
 use Rattle.std.specs.Prelude.{ℕ, List, codes}
 use Rattle.sig_json.specs.Data.{Data, object, string, member, no_members}
-use Rattle.sig_rekor_models.specs.EntryTree.{entry_tree}
+use Rattle.sig_rekor_models.specs.EntryTree.{entry_json}
 use Rattle.sig_rekor_models.specs.PublicKey.{key_text}
 use Rattle.sig_rekor_models.specs.declared.hashedrekord.AlgorithmKind.{AlgorithmKind}
 use Rattle.sig_rekor_models.specs.declared.hashedrekord.AlgorithmKind.TheVariants.{sha256, sha1}
@@ -17,26 +17,26 @@ abbrev pub algorithm_name : AlgorithmKind → List ℕ
 algorithm_name sha256 = codes "sha256"
 algorithm_name sha1 = codes "sha1"
 
-unfoldable pub hash_tree : Hash → Data
-hash_tree hash =
+unfoldable pub hash_json : Hash → Data
+hash_json hash =
     object (member (codes "algorithm") (string (algorithm_name hash.algorithm))
     (member (codes "value") (string hash.value) no_members))
 
-unfoldable pub data_tree : LoggedData → Data
-data_tree logged = object (member (codes "hash") (hash_tree logged.hash) no_members)
+unfoldable pub data_json : LoggedData → Data
+data_json logged = object (member (codes "hash") (hash_json logged.hash) no_members)
 
-abbrev pub public_key_tree : PublicKey → Data
-public_key_tree key = object (member (codes "content") (string (key_text key)) no_members)
+abbrev pub public_key_json : PublicKey → Data
+public_key_json key = object (member (codes "content") (string (key_text key)) no_members)
 
-unfoldable pub signature_tree : Signature → Data
-signature_tree signature =
+unfoldable pub signature_json : Signature → Data
+signature_json signature =
     object (member (codes "content") (string signature.content)
-    (member (codes "publicKey") (public_key_tree signature.public_key) no_members))
+    (member (codes "publicKey") (public_key_json signature.public_key) no_members))
 
-unfoldable pub spec_tree : Spec → Data
-spec_tree spec =
-    object (member (codes "data") (data_tree spec.logged_data)
-    (member (codes "signature") (signature_tree spec.signature) no_members))
+unfoldable pub spec_json : Spec → Data
+spec_json spec =
+    object (member (codes "data") (data_json spec.logged_data)
+    (member (codes "signature") (signature_json spec.signature) no_members))
 
-abbrev pub hashedrekord_tree : Hashedrekord → Data
-hashedrekord_tree entry = entry_tree entry.kind entry.api_version (spec_tree entry.spec)
+abbrev pub hashedrekord_json : Hashedrekord → Data
+hashedrekord_json entry = entry_json entry.kind entry.api_version (spec_json entry.spec)

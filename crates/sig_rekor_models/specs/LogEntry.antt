@@ -31,8 +31,8 @@ pub record LogEntry : Type 0 where
   pub verification : Verification
 
 -- the entry that a value of the code is
-abbrev pub seen : HeldEntry → LogEntry
-seen entry = record {
+abbrev pub seen_entry : HeldEntry → LogEntry
+seen_entry entry = record {
   uuid = entry.uuid;
   attestation = entry.attestation;
   body = seen_body entry.body;

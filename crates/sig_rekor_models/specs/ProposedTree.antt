@@ -2,7 +2,7 @@
 use Rattle.sig_json.specs.Data.{Data}
 use Rattle.sig_json.specs.Tree.{document_tree}
 use Rattle.sig_rekor_models.specs.Body.{Body, body_tree}
-use Rattle.sig_rekor_models.specs.HashedrekordTree.{spec_tree}
+use Rattle.sig_rekor_models.specs.HashedrekordTree.{spec_json}
 use Rattle.sig_rekor_models.specs.declared.entry_kind.EntryKind.TheVariants as kinds
 use Rattle.sig_rekor_models.specs.declared.proposed_entry.ProposedEntry.{ProposedEntry}
 use Rattle.sig_rekor_models.specs.declared.proposed_entry.ProposedEntry.TheVariants.{Alpine, Hashedrekord, Helm}
@@ -14,7 +14,7 @@ abbrev pub seen_proposed : ProposedEntry → Body
 seen_proposed (Alpine version spec) =
     record { kind = kinds.Alpine; api_version = version; spec = document_tree spec }
 seen_proposed (Hashedrekord version spec) =
-    record { kind = kinds.Hashedrekord; api_version = version; spec = spec_tree spec }
+    record { kind = kinds.Hashedrekord; api_version = version; spec = spec_json spec }
 seen_proposed (Helm version spec) =
     record { kind = kinds.Helm; api_version = version; spec = document_tree spec }
 seen_proposed (Intoto version spec) =

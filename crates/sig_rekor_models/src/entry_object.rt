@@ -2,7 +2,7 @@
 ghost use Rattle.std.specs.Prelude.{◌≡◌, IfOk};
 ghost use Rattle.sig_json.specs.Data.{object, no_members, put};
 ghost use Rattle.sig_json.specs.Tree.{document_tree};
-ghost use Rattle.sig_rekor_models.specs.EntryTree.{entry_tree};
+ghost use Rattle.sig_rekor_models.specs.EntryTree.{entry_json};
 
 use sig_base::OutOfMemory;
 use sig_json::Document;
@@ -39,7 +39,7 @@ pub(crate) fn object_of_two(
 }
 
 /// The object of an entry of this kind, version and spec.
-#[tactic(auto, unfolding(crate::specs::EntryTree::entry_tree))]
+#[tactic(auto, unfolding(crate::specs::EntryTree::entry_json))]
 pub(crate) fn entry_object(
     alloc: Global,
     kind: &str,
@@ -47,7 +47,7 @@ pub(crate) fn entry_object(
     spec: Document,
 ) -> Result<Document, OutOfMemory>
     ensures { IfOk result (λ made. document_tree made
-        ≡ entry_tree kind.now api_version.now (document_tree spec)) }
+        ≡ entry_json kind.now api_version.now (document_tree spec)) }
 {
     let kind = Document::of_text(alloc, kind)?;
     let api_version = Document::of_text(alloc, api_version)?;

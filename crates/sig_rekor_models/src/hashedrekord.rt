@@ -72,7 +72,7 @@ impl Hashedrekord {
     ghost use Rattle.sig_base.specs.Answers.{Answers};
     ghost use Rattle.sig_base.specs.declared.error.SigstoreError.TheVariants.{OutOfMemory as Memory};
     ghost use Rattle.sig_json.specs.Tree.{document_tree};
-    ghost use Rattle.sig_rekor_models.specs.HashedrekordTree.{hashedrekord_tree};
+    ghost use Rattle.sig_rekor_models.specs.HashedrekordTree.{hashedrekord_json};
 
     /// The entry of these parts.
     pub fn new(kind: Text, api_version: Text, spec: Spec) -> Self
@@ -87,7 +87,7 @@ impl Hashedrekord {
 
     /// Returns the object of the members `apiVersion`, `kind` and `spec`. Fails if out of memory alone.
     pub fn json(&self, alloc: Global) -> Result<Document>
-        ensures { Answers Memory document_tree result (Ok (hashedrekord_tree self.now)) }
+        ensures { Answers Memory document_tree result (Ok (hashedrekord_json self.now)) }
     {
         let spec = self.spec.json(alloc)?;
         Ok(entry_object(alloc, self.kind.as_str(), self.api_version.as_str(), spec)?)
@@ -97,7 +97,7 @@ impl Hashedrekord {
 impl Spec {
     ghost use Rattle.std.specs.Prelude.{◌≡◌, IfOk};
     ghost use Rattle.sig_json.specs.Tree.{document_tree};
-    ghost use Rattle.sig_rekor_models.specs.HashedrekordTree.{spec_tree};
+    ghost use Rattle.sig_rekor_models.specs.HashedrekordTree.{spec_json};
 
     /// What is said by this signature over this data.
     pub fn new(signature: Signature, logged_data: Data) -> Self
@@ -110,9 +110,9 @@ impl Spec {
     }
 
     /// The object of the members `data` and `signature`.
-    #[tactic(auto, unfolding(crate::specs::HashedrekordTree::spec_tree))]
+    #[tactic(auto, unfolding(crate::specs::HashedrekordTree::spec_json))]
     pub(crate) fn json(&self, alloc: Global) -> std::result::Result<Document, OutOfMemory>
-        ensures { IfOk result (λ document. document_tree document ≡ spec_tree self.now) }
+        ensures { IfOk result (λ document. document_tree document ≡ spec_json self.now) }
     {
         let data = self.logged_data.json(alloc)?;
         let signature = self.signature.json(alloc)?;
@@ -123,7 +123,7 @@ impl Spec {
 impl Signature {
     ghost use Rattle.std.specs.Prelude.{◌≡◌, IfOk};
     ghost use Rattle.sig_json.specs.Tree.{document_tree};
-    ghost use Rattle.sig_rekor_models.specs.HashedrekordTree.{signature_tree};
+    ghost use Rattle.sig_rekor_models.specs.HashedrekordTree.{signature_json};
 
     /// The signature of this text, which this key verifies.
     pub fn new(content: Text, public_key: PublicKey) -> Self
@@ -136,9 +136,9 @@ impl Signature {
     }
 
     /// The object of the members `content` and `publicKey`.
-    #[tactic(auto, unfolding(crate::specs::HashedrekordTree::signature_tree))]
+    #[tactic(auto, unfolding(crate::specs::HashedrekordTree::signature_json))]
     fn json(&self, alloc: Global) -> std::result::Result<Document, OutOfMemory>
-        ensures { IfOk result (λ document. document_tree document ≡ signature_tree self.now) }
+        ensures { IfOk result (λ document. document_tree document ≡ signature_json self.now) }
     {
         let content = Document::of_text(alloc, self.content.as_str())?;
         let key = Document::of_text(alloc, self.public_key.content())?;
@@ -150,7 +150,7 @@ impl Signature {
 impl Data {
     ghost use Rattle.std.specs.Prelude.{◌≡◌, IfOk};
     ghost use Rattle.sig_json.specs.Tree.{document_tree};
-    ghost use Rattle.sig_rekor_models.specs.HashedrekordTree.{data_tree};
+    ghost use Rattle.sig_rekor_models.specs.HashedrekordTree.{data_json};
 
     /// The artifact of this hash.
     pub fn new(hash: Hash) -> Self
@@ -160,9 +160,9 @@ impl Data {
     }
 
     /// The object of the member `hash`.
-    #[tactic(auto, unfolding(crate::specs::HashedrekordTree::data_tree))]
+    #[tactic(auto, unfolding(crate::specs::HashedrekordTree::data_json))]
     fn json(&self, alloc: Global) -> std::result::Result<Document, OutOfMemory>
-        ensures { IfOk result (λ document. document_tree document ≡ data_tree self.now) }
+        ensures { IfOk result (λ document. document_tree document ≡ data_json self.now) }
     {
         let hash = self.hash.json(alloc)?;
         object_of_one(alloc, "hash", hash)
@@ -172,7 +172,7 @@ impl Data {
 impl Hash {
     ghost use Rattle.std.specs.Prelude.{◌≡◌, IfOk};
     ghost use Rattle.sig_json.specs.Tree.{document_tree};
-    ghost use Rattle.sig_rekor_models.specs.HashedrekordTree.{hash_tree};
+    ghost use Rattle.sig_rekor_models.specs.HashedrekordTree.{hash_json};
 
     /// The hash of this value, computed so.
     pub fn new(algorithm: AlgorithmKind, value: Text) -> Self
@@ -182,9 +182,9 @@ impl Hash {
     }
 
     /// The object of the members `algorithm` and `value`.
-    #[tactic(auto, unfolding(crate::specs::HashedrekordTree::hash_tree))]
+    #[tactic(auto, unfolding(crate::specs::HashedrekordTree::hash_json))]
     fn json(&self, alloc: Global) -> std::result::Result<Document, OutOfMemory>
-        ensures { IfOk result (λ document. document_tree document ≡ hash_tree self.now) }
+        ensures { IfOk result (λ document. document_tree document ≡ hash_json self.now) }
     {
         let algorithm = Document::of_text(alloc, self.algorithm.name())?;
         let value = Document::of_text(alloc, self.value.as_str())?;

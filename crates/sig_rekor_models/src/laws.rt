@@ -1,7 +1,7 @@
 //! What equality is. Of types that hold documents it is equality of what is seen of them, the trees of the documents.
 ghost use Rattle.std.specs.Prelude.{◌≡◌, ◌↔◌, IsTrue};
-ghost use Rattle.sig_rekor_models.specs.Body.{seen_body, seen_content};
-ghost use Rattle.sig_rekor_models.specs.LogEntry.{seen};
+ghost use Rattle.sig_rekor_models.specs.Body.{seen_body, seen_body_content};
+ghost use Rattle.sig_rekor_models.specs.LogEntry.{seen_entry};
 ghost use Rattle.sig_rekor_models.specs.ProposedTree.{seen_proposed};
 
 use crate::body::{Body, BodyContent};
@@ -81,7 +81,7 @@ pub fn equal_kinds(one: &EntryKind, other: &EntryKind) -> bool
 /// Whether the contents of two bodies are equal: if and only if their versions are, and what they say is one tree.
 #[tactic(auto, using(crate::proofs::EntryEquality::equal_entries))]
 pub fn equal_contents(one: &BodyContent, other: &BodyContent) -> bool
-    ensures { IsTrue result ↔ (seen_content one.now ≡ seen_content other.now) }
+    ensures { IsTrue result ↔ (seen_body_content one.now ≡ seen_body_content other.now) }
 {
     one == other
 }
@@ -95,7 +95,7 @@ pub fn equal_bodies(one: &Body, other: &Body) -> bool
 
 /// Whether two log entries are equal: if and only if all their parts are.
 pub fn equal_entries(one: &LogEntry, other: &LogEntry) -> bool
-    ensures { IsTrue result ↔ (seen one.now ≡ seen other.now) }
+    ensures { IsTrue result ↔ (seen_entry one.now ≡ seen_entry other.now) }
 {
     one == other
 }

@@ -6,7 +6,7 @@
 ghost use Rattle.std.specs.Prelude.{◌≡◌, IfOk};
 ghost use Rattle.sig_json.specs.Tree.{document_tree};
 ghost use Rattle.sig_rekor_models.specs.EntryKind.{kind_name};
-ghost use Rattle.sig_rekor_models.specs.EntryTree.{entry_tree};
+ghost use Rattle.sig_rekor_models.specs.EntryTree.{entry_json};
 ghost use Rattle.sig_rekor_models.specs.ProposedTree.{proposed_tree};
 
 use crate::entry_kind::EntryKind;
@@ -128,7 +128,7 @@ fn with_copy(
     spec: &Document,
 ) -> std::result::Result<Document, OutOfMemory>
     ensures { IfOk result (λ document. document_tree document
-        ≡ entry_tree (kind_name kind) api_version.now (document_tree spec.now)) }
+        ≡ entry_json (kind_name kind) api_version.now (document_tree spec.now)) }
 {
     let spec = spec.view().copy(alloc)?;
     entry_object(alloc, kind.name(), api_version.as_str(), spec)

@@ -9,7 +9,7 @@ ghost use Rattle.sig_json.specs.SeenAs.{value_by};
 ghost use Rattle.sig_json.specs.Tree.{tree};
 ghost use Rattle.sig_rekor_models.specs.LogEntry.{attestation_of, beside_of, entry_members_of, log_entry_of};
 ghost use Rattle.sig_rekor_models.specs.LogEntry.{entry_or_error, logged_of};
-ghost use Rattle.sig_rekor_models.specs.LogEntry.{placed_of, rekor_proof_of, seen, verification_of};
+ghost use Rattle.sig_rekor_models.specs.LogEntry.{placed_of, rekor_proof_of, seen_entry, verification_of};
 
 use crate::log_entry::{Attestation, LogEntry, Verification};
 use crate::read_body::CodedBodyReader;
@@ -183,7 +183,7 @@ pub(crate) enum LogEntryReader {}
 impl ElementReader for LogEntryReader {
     type Item = LogEntry;
 
-    ghost seen_as = { value_by seen };
+    ghost seen_as = { value_by seen_entry };
 
     ghost meaning = { log_entry_of };
 
@@ -199,7 +199,7 @@ impl ElementReader for LogEntryReader {
 /// The entry of these members.
 #[tactic(auto, unfolding(crate::specs::LogEntry::entry_members_of))]
 fn read_members(alloc: Global, json: Json<'_>) -> Result<LogEntry, MemberError>
-    ensures { Answers MemberError.OutOfMemory seen result (or_member (entry_members_of (tree json.entry))) }
+    ensures { Answers MemberError.OutOfMemory seen_entry result (or_member (entry_members_of (tree json.entry))) }
 {
     let logged = LoggedReader::read(alloc, json)?;
     let placed = PlacedReader::read(alloc, json)?;
@@ -227,7 +227,7 @@ impl LogEntry {
     /// entry itself may have no other members; those of the objects in it are ignored.
     #[tactic(auto, unfolding(crate::specs::LogEntry::entry_in))]
     pub fn from_json_text(alloc: Global, text: &str) -> Answer<LogEntry>
-        ensures { Answers Memory seen result (entry_or_error text.now) }
+        ensures { Answers Memory seen_entry result (entry_or_error text.now) }
     {
         match read_record::<LogEntryReader>(alloc, text.as_bytes()) {
             Ok(entry) => Ok(entry),

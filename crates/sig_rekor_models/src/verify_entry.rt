@@ -5,7 +5,7 @@ ghost use Rattle.sig_base.specs.declared.error.SigstoreError.TheVariants.{OutOfM
 ghost use Rattle.sig_key.specs.Key.{key_accepts};
 ghost use Rattle.sig_rekor_models.specs.Body.{seen_body};
 ghost use Rattle.sig_rekor_models.specs.Inclusion.{IsVouchedEntry, carried_proof, entry_answer, logged_bytes};
-ghost use Rattle.sig_rekor_models.specs.LogEntry.{seen};
+ghost use Rattle.sig_rekor_models.specs.LogEntry.{seen_entry};
 
 use crate::body::Body;
 use crate::log_entry::LogEntry;
@@ -31,10 +31,10 @@ impl LogEntry {
         checker: &C,
     ) -> Result<()>
         ensures answer { Answers Memory (λ x. x) result
-            (entry_answer (key_accepts (C.spki_accepts checker.now) rekor_key.now) (seen self.now)) }
+            (entry_answer (key_accepts (C.spki_accepts checker.now) rekor_key.now) (seen_entry self.now)) }
         ensures ok { OnOk result (IsVouchedEntry (key_accepts (C.spki_accepts checker.now) rekor_key.now)
-            (seen self.now)) }
-        ensures only { IsVouchedEntry (key_accepts (C.spki_accepts checker.now) rekor_key.now) (seen self.now)
+            (seen_entry self.now)) }
+        ensures only { IsVouchedEntry (key_accepts (C.spki_accepts checker.now) rekor_key.now) (seen_entry self.now)
             → IsOkUnless result Memory }
     {
         self.check(alloc, rekor_key, checker)
@@ -48,7 +48,7 @@ impl LogEntry {
         checker: &C,
     ) -> Result<()>
         ensures { Answers Memory (λ x. x) result
-            (entry_answer (key_accepts (C.spki_accepts checker.now) rekor_key.now) (seen self.now)) }
+            (entry_answer (key_accepts (C.spki_accepts checker.now) rekor_key.now) (seen_entry self.now)) }
     {
         let proof = self.proof(alloc)?;
         let leaf = canonical_body(alloc, &self.body)?;
@@ -57,7 +57,7 @@ impl LogEntry {
 
     /// The proof that the entry carries.
     fn proof(&self, alloc: Global) -> Result<InclusionProof>
-        ensures { Answers Memory (λ proof. proof) result (carried_proof (seen self.now)) }
+        ensures { Answers Memory (λ proof. proof) result (carried_proof (seen_entry self.now)) }
     {
         let Some(api) = &self.verification.inclusion_proof else {
             return Err(SigstoreError::UnexpectedError(UnexpectedKind::ProofMissing));

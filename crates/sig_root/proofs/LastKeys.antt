@@ -7,7 +7,7 @@ use Rattle.std.specs.Cmp.Lexicographic.{bytes_decides}
 use Rattle.sig_base.specs.ByText.{KeysAscend, text_lookup, text_put}
 use Rattle.sig_base.proofs.TextEntries.{put_ascends, put_found, put_others}
 use Rattle.sig_base.proofs.OptionSteps.{some_is}
-use Rattle.sig_root.specs.Picked.{key_at, keys_of, put_each, put_instance, put_key}
+use Rattle.sig_root.specs.Picked.{key_at, keys_of, put_instances, put_instance, put_key}
 use Rattle.sig_root.specs.PickedLaws.{GivesAt, IsLastKey}
 use Rattle.sig_root.specs.declared.record.TransparencyLogInstance.{TransparencyLogInstance as Instance}
 
@@ -30,7 +30,7 @@ other_put id (Some k) keys apart =
     put_others k.0 id k.1 keys (λ same. apart k.1 (ap (λ (t : List ℕ). Some (t, k.1)) (sym same)))
 
 kept : (now : ℤ) (is : List Instance) (id : List ℕ) (keys : Keys) → NoneGives now is id
-    → text_lookup id (put_each now is keys) ≡ text_lookup id keys
+    → text_lookup id (put_instances now is keys) ≡ text_lookup id keys
 kept now [] id keys none = refl
 kept now (i ∷ is) id keys none =
     kept now is id (put_instance now i keys) (none_behind now i is id none)
@@ -38,12 +38,12 @@ kept now (i ∷ is) id keys none =
 
 -- the last instance of the id is found
 pub last_found : (now : ℤ) (is : List Instance) (id key : List ℕ) (keys : Keys) → (last : IsLastKey now is id key)
-    → text_lookup id (put_each now is keys) ≡ Some key
+    → text_lookup id (put_instances now is keys) ≡ Some key
 last_found now is id key keys last = at now is id key keys last.index last.gives last.last
   where
     at : (now : ℤ) (is : List Instance) (id key : List ℕ) (keys : Keys) (index : ℕ) → GivesAt now is index id key
         → ((later : ℕ) (other : List ℕ) → index < later → ¬ GivesAt now is later id other)
-        → text_lookup id (put_each now is keys) ≡ Some key
+        → text_lookup id (put_instances now is keys) ≡ Some key
     at now [] id key keys index gives last = absurd (let no = gives.1 in cc)
     at now (i ∷ is) id key keys zero gives last =
         let same : i ≡ gives.0 = some_is _ _ gives.1 in
@@ -97,7 +97,7 @@ module _ (now : ℤ) (i : Instance) (is : List Instance) (id key : List ℕ) (no
           )
 
 pub found_last : (now : ℤ) (is : List Instance) (id key : List ℕ) (keys : Keys)
-    → text_lookup id (put_each now is keys) ≡ Some key
+    → text_lookup id (put_instances now is keys) ≡ Some key
     → Found now is id key keys
 found_last now [] id key keys found = inr ((λ index other gives. let no = gives.1 in cc), found)
 found_last now (i ∷ is) id key keys found = by (found_last now is id key (put_instance now i keys) found)
@@ -124,7 +124,8 @@ pub none_ascend : KeysAscend {V = List ℕ} []
 unfolding IsStrictlySortedBy
 none_ascend = tt
 
-pub each_ascends : (now : ℤ) (is : List Instance) (keys : Keys) → KeysAscend keys → KeysAscend (put_each now is keys)
+pub each_ascends : (now : ℤ) (is : List Instance) (keys : Keys) → KeysAscend keys
+    → KeysAscend (put_instances now is keys)
 each_ascends now [] keys up = up
 each_ascends now (i ∷ is) keys up = each_ascends now is (put_instance now i keys)
     (put_key_ascends (key_at now i) keys up)

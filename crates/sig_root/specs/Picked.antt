@@ -73,13 +73,13 @@ abbrev pub put_instance : ℤ → TransparencyLogInstance → List (List ℕ × 
 put_instance now instance keys = put_key (key_at now instance) keys
 
 -- one instance after another, so that of equal log ids the last one stands
-abbrev pub put_each : ℤ → List TransparencyLogInstance → List (List ℕ × List ℕ) → List (List ℕ × List ℕ)
-put_each now [] keys = keys
-put_each now (instance ∷ instances) keys = put_each now instances (put_instance now instance keys)
+abbrev pub put_instances : ℤ → List TransparencyLogInstance → List (List ℕ × List ℕ) → List (List ℕ × List ℕ)
+put_instances now [] keys = keys
+put_instances now (instance ∷ instances) keys = put_instances now instances (put_instance now instance keys)
 
 -- the keys by their log ids; `laws::picked_keys` says which they are
 abbrev pub keys_of : ℤ → List TransparencyLogInstance → List (List ℕ × List ℕ)
-keys_of now instances = put_each now instances []
+keys_of now instances = put_instances now instances []
 
 -- ---- a list or a map that has to have something
 

@@ -28,7 +28,7 @@ use Rattle.sig_verify.specs.Links.{HoldsOf, Inputs, OfPassed, Outside, chain_lin
 use Rattle.sig_verify.specs.LinkLaws.{IsKept}
 use Rattle.sig_verify.specs.OfflineLaws.{AreReadInputs, HasEntryOfBytes, IsOfBundleOfBytes, IsOutcomeOf}
 use Rattle.sig_verify.specs.OfflineLaws.{OutcomesAreJudged}
-use Rattle.sig_verify.specs.OfflineVerdict.{IsOffline, Outcome, entry_among}
+use Rattle.sig_verify.specs.OfflineVerdict.{IsOffline, Outcome, only_entry_among}
 use Rattle.sig_verify.specs.RootLinks.{rekor_keys}
 use Rattle.sig_verify.specs.declared.offline_error.OfflineError.TheVariants.{OutOfMemory}
 
@@ -88,7 +88,7 @@ pub are_read : (i : Inputs) (root : TrustedRoot) → trusted_root_in i.root ≡ 
 are_read i root root_is all bytes = record {
   checked = λ other b c other_is bundle_is is. read_of_bundle b (bytes b bundle_is).0 c is;
   logged = λ other b c other_is bundle_is is.
-      (let entry = (bytes b bundle_is).1 c.entry (ap entry_among is.brought ∙ ap only_entry is.logged) in
+      (let entry = (bytes b bundle_is).1 c.entry (ap only_entry_among is.brought ∙ ap only_entry is.logged) in
       record {
         body = entry.0;
         id = entry.1;

@@ -32,7 +32,7 @@ use Rattle.sig_verify.specs.LogEntry.{log_entry_answer}
 use Rattle.sig_verify.specs.OfflineErrors.{of_root, of_verification}
 use Rattle.sig_verify.specs.OfflineLaws.{AreReadInputs, IsOutcomeOf}
 use Rattle.sig_verify.specs.OfflineVerdict.{AfterAnswer, AfterRead, IsOffline, IsOfflineIn, IsOfflineOf}
-use Rattle.sig_verify.specs.OfflineVerdict.{IsVouchedIn, Outcome, authorities_of, ct_keys_of, entry_among}
+use Rattle.sig_verify.specs.OfflineVerdict.{IsVouchedIn, Outcome, authorities_of, ct_keys_of, only_entry_among}
 use Rattle.sig_verify.specs.OfflineVerdict.{only_entry_of}
 use Rattle.sig_verify.specs.RootLinks.{HoldsOfRoot, rekor_keys, root_links}
 use Rattle.sig_verify.specs.Verdict.{Answer, IsVerdict}
@@ -61,7 +61,7 @@ one_entry : (b : BundleType) (c : Checked) (e : TransparencyLogEntry) → IsPass
     → c.entry ≡ e
 one_entry b c e is only =
     some_is c.entry e
-    (sym (ap entry_among is.brought ∙ ap only_entry is.logged) ∙ only)
+    (sym (ap only_entry_among is.brought ∙ ap only_entry is.logged) ∙ only)
 
 module _ (laws : Groups) (o : Outside) (i : Inputs) (read : AreReadInputs i) (result : Outcome) where
   abbrev Holds : Link → Type 0

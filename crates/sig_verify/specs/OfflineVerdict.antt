@@ -49,13 +49,13 @@ ct_keys_of root now = unless_empty Ctfe (keys_of now root.ctlogs)
 
 -- ---- the entry
 
-abbrev pub entry_among : Option VerificationMaterial → Option TransparencyLogEntry
-entry_among None = None
-entry_among (Some material) = only_entry material.tlog_entries
+abbrev pub only_entry_among : Option VerificationMaterial → Option TransparencyLogEntry
+only_entry_among None = None
+only_entry_among (Some material) = only_entry material.tlog_entries
 
 -- the only log entry of a bundle
 abbrev pub only_entry_of : BundleType → Option TransparencyLogEntry
-only_entry_of bundle = entry_among bundle.verification_material
+only_entry_of bundle = only_entry_among bundle.verification_material
 
 -- what was lent
 abbrev pub lent_entry : Option (Bor TransparencyLogEntry) → Option TransparencyLogEntry

@@ -7,7 +7,7 @@ use Rattle.sigverify.specs.ConsistencyRequest.{consistency_request}
 use Rattle.sigverify.specs.Head.{HoldsOfHead}
 use Rattle.sigverify.specs.declared.consistency_request.ConsistencyRequest.{ConsistencyRequest}
 use Rattle.sigverify.specs.ReadFrom.{IsRequestOf}
-use Rattle.sigverify.specs.Verdict.{IsVerdict}
+use Rattle.sigverify.specs.Verdict.{IsLinkVerdict}
 
 -- the links of `consistency`
 abbrev pub consistency_links : List Link
@@ -37,4 +37,4 @@ HoldsConsistency text link =
 
 -- the first failing link of a request, or none
 abbrev pub IsConsistencyVerdict : ConsistencyRequest → Option Link → Type 0
-IsConsistencyVerdict request = IsVerdict (HoldsOfConsistency request) consistency_links
+IsConsistencyVerdict request = IsLinkVerdict (HoldsOfConsistency request) consistency_links

@@ -10,7 +10,7 @@ use Rattle.sig_rekor.specs.NoteText.{note_text}
 use Rattle.sig_verify.specs.declared.link.Link.{Link}
 use Rattle.sig_verify.specs.declared.link.Link.TheVariants.{Checkpoint, NoteKey, NoteMatch}
 use Rattle.sigverify.specs.declared.head.SignedHead.{SignedHead}
-use Rattle.sigverify.specs.Verdict.{IsVerdict}
+use Rattle.sigverify.specs.Verdict.{IsLinkVerdict}
 
 -- the links on a head, in their order
 abbrev pub head_links : List Link
@@ -48,7 +48,7 @@ HoldsOfHead head size root other = Unit {0}
 
 -- the first failing link of a head, or none
 abbrev pub IsHeadVerdict : SignedHead → ℕ → List ℕ → Option Link → Type 0
-IsHeadVerdict head size root = IsVerdict (HoldsOfHead head size root) head_links
+IsHeadVerdict head size root = IsLinkVerdict (HoldsOfHead head size root) head_links
 
 -- the first failing link behind the checkpoint, or none, where this is the checkpoint's reading
 abbrev pub IsHeadVerdictUnder : SignedHead → ℕ → List ℕ → SignedCheckpoint → Option Link → Type 0

@@ -16,7 +16,7 @@ use Rattle.sigverify.specs.ConsistencyLink.{HoldsConsistency, consistency_links}
 use Rattle.sigverify.specs.LogQuestions.{HoldsLogQuestions, log_question_links}
 use Rattle.sigverify.specs.VerifyQuestions.{HoldsVerifyQuestions, verify_question_links}
 use Rattle.sigverify.specs.ReadFrom.{IsRequestOf}
-use Rattle.sigverify.specs.Verdict.{IsVerdict}
+use Rattle.sigverify.specs.Verdict.{IsLinkVerdict}
 
 -- the links of `log`
 abbrev pub log_links : List Link
@@ -63,4 +63,4 @@ IsFirstFailing command text link = FailsFirst (Holds command text) (links comman
 
 -- the first failing link of a request, or none
 abbrev pub IsLogVerdict : LogRequest → Option Link → Type 0
-IsLogVerdict request = IsVerdict (HoldsOfLog request) log_links
+IsLogVerdict request = IsLinkVerdict (HoldsOfLog request) log_links

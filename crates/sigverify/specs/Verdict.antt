@@ -5,6 +5,6 @@ use Rattle.sig_base.specs.Rules.{FailsFirst}
 use Rattle.sig_verify.specs.declared.link.Link.{Link}
 
 -- the first of the links that fails, or none
-abbrev pub IsVerdict : (Link → Type 0) → List Link → Option Link → Type 0
-IsVerdict Holds links None = AllByRecursion Holds links
-IsVerdict Holds links (Some link) = FailsFirst Holds links link
+abbrev pub IsLinkVerdict : (Link → Type 0) → List Link → Option Link → Type 0
+IsLinkVerdict Holds links None = AllByRecursion Holds links
+IsLinkVerdict Holds links (Some link) = FailsFirst Holds links link

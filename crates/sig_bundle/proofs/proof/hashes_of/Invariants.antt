@@ -1,8 +1,8 @@
 use Rattle.std.proofs.Common.{◌≡◌}
 use Rattle.sig_base.proofs.EachFrom.{with_left}
-use Rattle.sig_bundle.specs.Proof.{hash_at, hashes_from}
+use Rattle.sig_bundle.specs.Proof.{path_hash_at, path_hashes_from}
 use Rattle.sig_bundle.proofs.proof.hashes_of.Given as goal
 
 -- the hashes so far and the byte strings that are left are what is meant
 abbrev pub invariant-hashes : goal.invariant-hashes
-invariant-hashes l = hashes_from 0 l.fn.entries ≡ with_left hash_at l.hashes l.place l.fn.entries
+invariant-hashes l = path_hashes_from 0 l.fn.entries ≡ with_left path_hash_at l.hashes l.place l.fn.entries
