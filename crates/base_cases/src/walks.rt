@@ -1,5 +1,5 @@
 //! The walks of sig_merkle over bits, beside the recursions.
-ghost use Rattle.std.specs.Prelude.{◌≡◌, ◌<◌};
+ghost use Rattle.std.specs.Prelude.{◌≡◌, ◌<◌, length, IfOk};
 
 use sig_base::{Steps, sha256};
 use sig_cases::{Answer, Arguments, CaseError};
@@ -33,7 +33,9 @@ impl Sweep {
     }
 
     /// The first of the hashes, as many as a proof has.
-    fn first_hashes(&self, wanted: u64) -> Result<&[[u8; 32]], CaseError> {
+    fn first_hashes(&self, wanted: u64) -> Result<&[[u8; 32]], CaseError>
+        ensures { IfOk result (λ hashes. length hashes.now ≡ wanted) }
+    {
         self.hashes.get(..wanted as usize).ok_or(CaseError::BadLine)
     }
 }
