@@ -1,6 +1,7 @@
 //! What is read of a note and of a signed checkpoint that are borrowed from their texts.
 use crate::proof::{KEY, answer_to, make_key, read_hash, read_table};
 use crate::shown::add_signatures;
+use sig_base::TableChecker;
 use sig_cases::{Answer, Arguments, CaseError};
 use sig_rekor::{Note, SignedNote};
 use std::alloc::Global;
@@ -29,12 +30,18 @@ pub fn borrowed_signed(alloc: Global, arguments: &mut Arguments<'_>) -> Result<A
     let text = arguments.text(alloc)?;
     let table = read_table(alloc, arguments, KEY)?;
     match SignedNote::decode(alloc, text.as_str()) {
-        Ok(note) => answer_to(
-            alloc,
-            note.verify_signature(alloc, &make_key(alloc, KEY)?, &table),
-        ),
+        Ok(note) => of_signature(alloc, &note, &table),
         Err(error) => Answer::error(alloc, &error),
     }
+}
+
+fn of_signature(
+    alloc: Global,
+    note: &SignedNote<'_>,
+    table: &TableChecker,
+) -> Result<Answer, CaseError> {
+    let key = make_key(alloc, KEY)?;
+    answer_to(alloc, note.verify_signature(alloc, &key, table))
 }
 
 /// `borrowed_tree CHECKPOINT ROOT SIZE`: whether the checkpoint is of that tree.

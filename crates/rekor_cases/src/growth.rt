@@ -2,7 +2,7 @@
 use crate::models::add_text;
 use crate::proof::{KEY, answer_to, make_key, read_table};
 use crate::shown::{add_note, add_signatures};
-use sig_base::{SigstoreError, Text};
+use sig_base::{SigstoreError, TableChecker, Text};
 use sig_cases::{Answer, Arguments, CaseError};
 use sig_rekor::SignedCheckpoint;
 use sig_rekor_models::{
@@ -147,19 +147,24 @@ pub fn grown(alloc: Global, arguments: &mut Arguments<'_>) -> Result<Answer, Cas
     let old_root = arguments.digest(alloc)?;
     let api = read_proof(alloc, arguments)?;
     match read_both(alloc, head, &api) {
-        Ok((info, proof)) => answer_to(
-            alloc,
-            info.verify_consistency(
-                alloc,
-                old_size,
-                &old_root,
-                &proof,
-                &make_key(alloc, KEY)?,
-                &table,
-            ),
-        ),
+        Ok((info, proof)) => of_growth(alloc, &info, old_size, &old_root, &proof, &table),
         Err(error) => Answer::error(alloc, &error),
     }
+}
+
+fn of_growth(
+    alloc: Global,
+    info: &LogInfo,
+    old_size: u64,
+    old_root: &[u8; 32],
+    proof: &ConsistencyProof,
+    table: &TableChecker,
+) -> Result<Answer, CaseError> {
+    let key = make_key(alloc, KEY)?;
+    answer_to(
+        alloc,
+        info.verify_consistency(alloc, old_size, old_root, proof, &key, table),
+    )
 }
 
 /// The head and the proof that the API's are.

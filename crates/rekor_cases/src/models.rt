@@ -1,7 +1,7 @@
 //! What Rekor's models are read from and written as.
 use crate::proof::{answer_to, make_key, read_table};
 use crate::shown::{add_note, add_signatures};
-use sig_base::{Entries, SigstoreError, Text};
+use sig_base::{Entries, SigstoreError, TableChecker, Text};
 use sig_cases::{Answer, Arguments, CaseError};
 use sig_json::{Document, compact};
 use sig_rekor::{InclusionProof, RekorInclusionProof, SignedCheckpoint};
@@ -134,12 +134,19 @@ pub fn entry_inclusion(alloc: Global, arguments: &mut Arguments<'_>) -> Result<A
     let table = read_table(alloc, arguments, key.as_slice())?;
     let text = arguments.text(alloc)?;
     match LogEntry::from_json_text(alloc, text.as_str()) {
-        Ok(entry) => answer_to(
-            alloc,
-            entry.verify_inclusion(alloc, &make_key(alloc, key.as_slice())?, &table),
-        ),
+        Ok(entry) => of_inclusion(alloc, &entry, key.as_slice(), &table),
         Err(_) => Err(CaseError::BadLine),
     }
+}
+
+fn of_inclusion(
+    alloc: Global,
+    entry: &LogEntry,
+    key: &[u8],
+    table: &TableChecker,
+) -> Result<Answer, CaseError> {
+    let key = make_key(alloc, key)?;
+    answer_to(alloc, entry.verify_inclusion(alloc, &key, table))
 }
 
 /// `public_key TEXT`: what `PublicKey::decode` reads.

@@ -69,10 +69,16 @@ pub fn answer_of_signature(
 ) -> Result<Answer, CaseError> {
     let checkpoint = read_checkpoint(alloc, arguments)?;
     let table = read_table(alloc, arguments, KEY)?;
-    answer_to(
-        alloc,
-        checkpoint.verify_signature(alloc, &make_key(alloc, KEY)?, &table),
-    )
+    of_signature(alloc, &checkpoint, &table)
+}
+
+fn of_signature(
+    alloc: Global,
+    checkpoint: &SignedCheckpoint,
+    table: &TableChecker,
+) -> Result<Answer, CaseError> {
+    let key = make_key(alloc, KEY)?;
+    answer_to(alloc, checkpoint.verify_signature(alloc, &key, table))
 }
 
 /// `tree CHECKPOINT ROOT SIZE`: whether the checkpoint is of that tree.
@@ -97,10 +103,17 @@ pub fn answer_of_proof(alloc: Global, arguments: &mut Arguments<'_>) -> Result<A
         false => Some(read_checkpoint(alloc, arguments)?),
     };
     let proof = InclusionProof::new(index, root, size, hashes, checkpoint);
-    answer_to(
-        alloc,
-        proof.verify(alloc, entry.as_slice(), &make_key(alloc, KEY)?, &table),
-    )
+    of_proof(alloc, entry.as_slice(), &proof, &table)
+}
+
+fn of_proof(
+    alloc: Global,
+    entry: &[u8],
+    proof: &InclusionProof,
+    table: &TableChecker,
+) -> Result<Answer, CaseError> {
+    let key = make_key(alloc, KEY)?;
+    answer_to(alloc, proof.verify(alloc, entry, &key, table))
 }
 
 /// Reads an audit path.

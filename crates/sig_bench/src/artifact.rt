@@ -3,7 +3,7 @@ ghost use Rattle.std.specs.Prelude.{None};
 
 use sha2::{Digest, Sha256};
 use sig_base::{Entries, Failed, KeyMap, Source, TableChecker};
-use sig_bundle::read_bundle;
+use sig_bundle::{Bundle, read_bundle};
 use sig_verify::{ManualTrustRoot, VerificationError, Verifier};
 use sig_x509::{OIDCIssuer, SingleX509ExtPolicy};
 use std::alloc::Global;
@@ -44,11 +44,16 @@ pub fn hashed(count: u64) -> u64 {
 /// `None` if the text is no bundle, or the artifact could not be read.
 pub fn verified(alloc: Global, text: &[u8], count: u64) -> Option<u64> {
     let bundle = read_bundle(alloc, text).ok()?;
+    untrusted(alloc, &bundle, count)
+}
+
+/// The same of a bundle.
+fn untrusted(alloc: Global, bundle: &Bundle, count: u64) -> Option<u64> {
     let policy = OIDCIssuer::new(alloc, "https://issuer.example").ok()?;
     let verifier = Verifier::new(alloc, &nothing(alloc), 0).ok()?;
     let checker = TableChecker::new(alloc);
     let mut zeros = Zeros { left: count };
-    match verifier.verify(alloc, &mut zeros, &bundle, &policy, true, &checker) {
+    match verifier.verify(alloc, &mut zeros, bundle, &policy, true, &checker) {
         Ok(()) | Err(VerificationError::Input(_) | VerificationError::OutOfMemory) => None,
         Err(_) => Some(0),
     }
