@@ -14,9 +14,3 @@ UnlessMemory memory result P = (result ≡ Err memory) ⊎ P
 -- A result comes only where P holds, and where P holds no other comes, unless memory ran out.
 abbrev pub ComesWhere : {X E : Type 0} → E → Result X E → Result X E → Type 0 → Type 0
 ComesWhere memory result answer P = (result ≡ answer → P) × (P → UnlessMemory memory result (result ≡ answer))
-
--- A relation of results in place of one: what comes meets it, and what meets it comes, unless memory ran out.
-abbrev pub AnswersOnly : {X E : Type 0} → E → (Result X E → Type 0) → Result X E → Type 0
-AnswersOnly {X} {E} memory Means result =
-    UnlessMemory memory result (Means result)
-    × ((meant : Result X E) → Means meant → UnlessMemory memory result (result ≡ meant))

@@ -1,8 +1,8 @@
 -- What a source gives and a sink takes, and what a fault of either rests on. A source means the bytes that it has
 -- left, a sink those that it took so far, where they are told; and each a count of faults.
-use Rattle.std.specs.Prelude.{◌≡◌, ℕ, ◌+◌, ◌-◌, ◌^◌, ◌<◌, ◌≤◌, min, List, [], ◌∷◌, ◌++◌, length, drop, ⊤, Option, None}
+use Rattle.std.specs.Prelude.{◌≡◌, ℕ, ◌+◌, ◌-◌, ◌^◌, ◌<◌, ◌≤◌, min, List, [], ◌∷◌, ◌++◌, length, ⊤, Option, None}
 use Rattle.std.specs.Prelude.{Some, Result, IfOk, OnErr}
-use Rattle.std.specs.Io.KnownBytes.{Consumes, Appends, IsAtEnd}
+use Rattle.std.specs.Io.KnownBytes.{Consumes, IsAtEnd}
 
 -- the count of faults rose, or stood at its greatest value
 abbrev pub Rose : ℕ → ℕ → Type 0
@@ -34,13 +34,3 @@ TookCount old new count = (bytes : List ℕ) × Consumes old new bytes × (lengt
 -- at most this many bytes were taken, from the front of those that were left
 abbrev pub TookAtMost : ℕ → Option (List ℕ) → Option (List ℕ) → Type 0
 TookAtMost n old new = (bytes : List ℕ) × Consumes old new bytes × (length bytes ≤ n)
-
--- the bytes that were taken are all that were left, or, where those are more, the first n of them: then the others are
--- still left
-abbrev pub TakesUpTo : ℕ → Option (List ℕ) → Option (List ℕ) → List ℕ → Type 0
-TakesUpTo n None new bytes = ⊤
-TakesUpTo n (Some all) new bytes = (bytes ≡ all) × (new ≡ Some (drop n all))
-
--- a prefix of the bytes was written, and nothing else
-abbrev pub AppendsFront : Option (List ℕ) → Option (List ℕ) → List ℕ → Type 0
-AppendsFront old new bytes = (front : List ℕ) × (rest : List ℕ) × (bytes ≡ front ++ rest) × Appends old new front

@@ -1,6 +1,7 @@
 -- The checks behind the certificate's, where the certificate is known.
 use Rattle.std.proofs.Common.{◌≡◌, ◌⊎◌, inl, inr, Option, Some, None, Result, Ok, Err, refl, sym, ap, subst, ◌∙◌}
-use Rattle.sig_base.specs.Answers.{Answers, AnswersOnly, UnlessMemory}
+use Rattle.sig_base.specs.Answers.{Answers, UnlessMemory}
+use Rattle.sig_bundle.specs.AnswersOnly.{AnswersOnly}
 use Rattle.sig_certificate.specs.Certificate.{Cert}
 use Rattle.sig_bundle.specs.Checked.{Checked, checked, IsCheckedWith}
 use Rattle.sig_bundle.specs.SigningCertificate.{IsSigningCertificate}

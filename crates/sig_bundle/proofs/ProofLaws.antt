@@ -6,7 +6,8 @@ use Rattle.std.proofs.Common.{refl, sym, ap, subst, ◌∙◌, arith}
 use Rattle.std.proofs.lemmas.Bool.{eq-eqb, eqb-true}
 use Rattle.std.specs.List.{AllByRecursion}
 use Rattle.sig_base.proofs.ResultSteps.{ok_is, bind_ok, when_ok}
-use Rattle.sig_base.specs.Answers.{Answers, AnswersOnly}
+use Rattle.sig_base.specs.Answers.{Answers}
+use Rattle.sig_bundle.specs.AnswersOnly.{AnswersOnly}
 use Rattle.sig_base.specs.ResultSteps.{◌>>=◌}
 use Rattle.sig_base.specs.declared.fault.CheckpointFault.{CheckpointFault}
 use Rattle.sig_rekor.proofs.CheckpointFaults.{checkpoint-fails, checkpoint-only_fails}

@@ -4,7 +4,8 @@ use Rattle.std.proofs.Common.{true, false, Option, Some, None, Result, Ok, Err, 
 use Rattle.std.proofs.Common.{add-one}
 use Rattle.std.specs.List.{list_any}
 use Rattle.std.specs.Prelude.{IfErr}
-use Rattle.sig_base.specs.Answers.{AnswersOnly, ComesWhere}
+use Rattle.sig_base.specs.Answers.{ComesWhere}
+use Rattle.sig_bundle.specs.AnswersOnly.{AnswersOnly}
 use Rattle.sig_base.specs.ResultSteps.{◌>>=◌}
 use Rattle.sig_certificate.specs.Certificate.{Cert, IsCertificate}
 use Rattle.sig_certificate.specs.Certificates.{AreCertificates}

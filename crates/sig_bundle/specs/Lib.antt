@@ -1,3 +1,4 @@
+pub mod AnswersOnly
 pub mod BundleRecord
 pub mod Checked
 pub mod Content

@@ -1,7 +1,8 @@
 //! `CheckedBundle`: a bundle that passed its own checks.
 
 ghost use Rattle.std.specs.Prelude.{◌≡◌, ◌↔◌, Some, Ok, IfOk, IfSome, IsSome};
-ghost use Rattle.sig_base.specs.Answers.{Answers, AnswersOnly};
+ghost use Rattle.sig_base.specs.Answers.{Answers};
+ghost use Rattle.sig_bundle.specs.AnswersOnly.{AnswersOnly};
 ghost use Rattle.sig_bundle.specs.Checked.{Checked, checked, IsChecked, IsCheckedWith};
 ghost use Rattle.sig_bundle.specs.LogBody.{IsLogBody, NeedsNoFetch};
 

@@ -1,6 +1,7 @@
 //! The members of an inclusion proof as the proof that they are.
 ghost use Rattle.std.specs.Prelude.{◌≡◌, ◌∷◌, [], IfOk, Ok};
-ghost use Rattle.sig_base.specs.Answers.{Answers, AnswersOnly};
+ghost use Rattle.sig_base.specs.Answers.{Answers};
+ghost use Rattle.sig_bundle.specs.AnswersOnly.{AnswersOnly};
 ghost use Rattle.sig_bundle.specs.Proof.{IsProofOrFault, proof_or_fault, hash_or, path_hashes_from, size_or_fault};
 ghost use Rattle.sig_bundle.specs.Proof.{checkpoint_or_fault};
 

@@ -16,7 +16,8 @@ use Rattle.sig_certificate.specs.declared.profile_error.ExtensionErrorKind.TheVa
 use Rattle.sig_certificate.specs.declared.profile_error.PartName.TheVariants.{KeyUsageDigitalSignature}
 use Rattle.sig_certificate.specs.Certificate.{Cert}
 use Rattle.sig_certificate.specs.Profile.{Held, usage, constraints, code_signing, agreement, authority, of_version_3}
-use Rattle.sig_certificate.specs.Profile.{ca_refusal, signs_code, signer, unless_authority, leaf_refusal, or_else}
+use Rattle.sig_certificate.specs.Profile.{ca_refusal, signs_code, signer, unless_authority, leaf_refusal}
+use Rattle.sig_base.specs.OptionSteps.{or_else}
 use Rattle.sig_certificate.specs.Profile.{root_refusal}
 use Rattle.sig_certificate.specs.Faults.{SaysUsage, SaysConstraints, IsAuthority, IsAuthorityFault, other_version}
 use Rattle.sig_certificate.specs.Faults.{constraints_malformed, constraints_missing, constraints_not_critical}

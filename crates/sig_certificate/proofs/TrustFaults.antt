@@ -16,7 +16,8 @@ use Rattle.sig_certificate.specs.declared.values.KeyUsage.{KeyUsage as Usage}
 use Rattle.sig_certificate.specs.Certificate.{Extension, Cert}
 use Rattle.sig_certificate.specs.Lookups.{with_oid}
 use Rattle.sig_certificate.specs.Names.{Name, general_names_of}
-use Rattle.sig_certificate.specs.Profile.{Held, usage, code_signing, or_else}
+use Rattle.sig_certificate.specs.Profile.{Held, usage, code_signing}
+use Rattle.sig_base.specs.OptionSteps.{or_else}
 use Rattle.sig_certificate.specs.Trust.{may_sign, may_sign_code, is_named, usages_refusal, names_refusal}
 use Rattle.sig_certificate.specs.Trust.{validity_refusal, expiration_refusal, trust_refusal}
 use Rattle.sig_certificate.specs.Faults.{Says, SaysUsage, MaySign, MaySignCode, IsNamed, IsUsagesFault, may_not_sign}

@@ -2,6 +2,7 @@
 use Rattle.std.specs.Prelude.{List, [], ◌∷◌, Bool, true, false, Option, Some, None, option_map, Result, Ok, Err, ◌==◌}
 use Rattle.std.specs.Prelude.{if◌then◌else◌}
 use Rattle.std.specs.Str.{bytes_eq}
+use Rattle.sig_base.specs.OptionSteps.{or_else}
 use Rattle.sig_der.specs.ObjectIdentifiers as oid
 use Rattle.sig_certificate.specs.declared.values.KeyUsage.{KeyUsage as Usage}
 use Rattle.sig_certificate.specs.declared.values.BasicConstraints.{BasicConstraints as Constraints}
@@ -105,10 +106,6 @@ unless_authority (Some e) other = other
 -- the first cause against a leaf
 abbrev pub leaf_refusal : Cert → Option CertificateValidationError
 leaf_refusal c = of_version_3 c (unless_authority (ca_refusal c) (signer (usage c) (code_signing c)))
-
-abbrev pub or_else : {E : Type 0} → Option E → Option E → Option E
-or_else (Some e) other = Some e
-or_else None other = other
 
 -- the first cause against a root
 abbrev pub root_refusal : Cert → Option CertificateValidationError

@@ -13,7 +13,8 @@ use Rattle.sig_certificate.specs.declared.values.KeyUsage.{KeyUsage as Usage}
 use Rattle.sig_certificate.specs.Certificate.{Extension, Cert}
 use Rattle.sig_certificate.specs.Lookups.{with_oid}
 use Rattle.sig_certificate.specs.Names.{general_names_of}
-use Rattle.sig_certificate.specs.Profile.{Held, or_else, usage, code_signing}
+use Rattle.sig_base.specs.OptionSteps.{or_else}
+use Rattle.sig_certificate.specs.Profile.{Held, usage, code_signing}
 
 abbrev pub may_sign : Held Usage → Bool
 may_sign (Err e) = false

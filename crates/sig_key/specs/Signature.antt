@@ -1,6 +1,7 @@
 -- The bytes of a signature that is handed as bytes or as base64 text.
 use Rattle.std.specs.Prelude.{ℕ, Bool, not, ◌||◌, ◌==◌, List, filter, Option, Some, None}
 use Rattle.sig_base.specs.Base64.{base64_bytes}
+use Rattle.sig_base.specs.OptionSteps.{or_else}
 use Rattle.sig_key.specs.declared.signature.Signature.{Signature}
 use Rattle.sig_key.specs.declared.signature.Signature.TheVariants.{Raw, Base64Encoded}
 
@@ -10,11 +11,6 @@ is_no_line_end byte = not (byte == 10 || byte == 13)
 
 abbrev pub without_line_ends : List ℕ → List ℕ
 without_line_ends text = filter is_no_line_end text
-
--- the first, or else the second
-abbrev pub or_else : Option (List ℕ) → Option (List ℕ) → Option (List ℕ)
-or_else (Some bytes) other = Some bytes
-or_else None other = other
 
 -- the bytes of a text in base64 (RFC 4648 section 4), or else of the text without its line ends
 unfoldable pub text_bytes : List ℕ → Option (List ℕ)

@@ -3,7 +3,7 @@ use Rattle.std.proofs.Common.{◌≡◌, ◌<◌, ◌≤◌, ℕ, inl, inr, List
 use Rattle.std.proofs.Common.{sym, ◌∙◌, refl, subst, arith, get_or, lit<, lit≤, length-append}
 use Rattle.std.proofs.lemmas.List.{append-nil, drop_all}
 use Rattle.std.proofs.Math.Seq.{drop-append_seam}
-use Rattle.sig_base.specs.Stream.{HandsOver, TookCount, TakesUpTo, Rose, AppendsFront}
+use Rattle.sig_base.specs.Stream.{HandsOver, TookCount, Rose}
 use Rattle.sig_verify.specs.declared.link.Link.{Link}
 use Rattle.sig_verify.specs.declared.link.Link.TheVariants.{Request}
 use Rattle.sigverify.specs.declared.reply.Reply.{Reply}
@@ -12,7 +12,8 @@ use Rattle.sigverify.specs.declared.command.Command.{Command}
 use Rattle.sigverify.specs.declared.command.Command.TheVariants.{Log, Verify, Consistency, LogQuestions}
 use Rattle.sigverify.specs.declared.command.Command.TheVariants.{VerifyQuestions}
 use Rattle.sigverify.specs.Command.{words_of, Names, IsCommand}
-use Rattle.sigverify.specs.Run.{RepliesTo, WriteFaulted, HandsRests, WritesRests, usage_line}
+use Rattle.sigverify.specs.Limit.{TakesUpTo}
+use Rattle.sigverify.specs.Run.{RepliesTo, WriteFaulted, AppendsFront, HandsRests, WritesRests, usage_line}
 use Rattle.sigverify.proofs.Replies.{long-reply}
 
 -- all that was left, fewer than n bytes

@@ -2,7 +2,7 @@
 use Rattle.std.specs.Prelude.{◌≡◌, ℕ, ◌⊎◌, List, [], ◌∷◌, ◌++◌, Option, None, Some, codes, ⊤}
 use Rattle.std.specs.Io.KnownBytes.{Appends}
 use Rattle.std.specs.List.{AllByRecursion}
-use Rattle.sig_base.specs.Stream.{Rose, AppendsFront}
+use Rattle.sig_base.specs.Stream.{Rose}
 use Rattle.sigverify.specs.Command.{IsCommand, Names}
 use Rattle.sigverify.specs.Limit.{TakesRequest}
 use Rattle.sigverify.specs.Reply.{IsReply}
@@ -42,6 +42,10 @@ IsOutput words left_old left_new bytes =
     ((command : Command) × Names words command × ((reply : Reply) × RepliesTo command left_old left_new reply
     × (bytes ≡ reply.text)))
     ⊎ (¬ IsCommand words × (bytes ≡ usage_line))
+
+-- a prefix of the bytes was written, and nothing else
+abbrev pub AppendsFront : Option (List ℕ) → Option (List ℕ) → List ℕ → Type 0
+AppendsFront old new bytes = (front : List ℕ) × (rest : List ℕ) × (bytes ≡ front ++ rest) × Appends old new front
 
 -- a write failed: the sink's count of faults rose, and a prefix of the output was written
 pub record WriteFaulted (words : List (List ℕ)) (left_old left_new : Option (List ℕ)) (before now : ℕ)

@@ -1,12 +1,12 @@
 //! The program but for its words and streams: it reads a request, and makes and writes the reply.
 ghost use Rattle.std.specs.Prelude.{◌≡◌, ◌⊎◌, ◌+◌, ◌<◌, ◌≤◌, IfOk, IsErrOf};
 ghost use Rattle.std.specs.Io.KnownBytes.{Appends};
-ghost use Rattle.sig_base.specs.Stream.{Rose, AppendsFront, TookAtMost};
+ghost use Rattle.sig_base.specs.Stream.{Rose, TookAtMost};
 ghost use Rattle.sigverify.specs.Command.{IsCommand};
 ghost use Rattle.sigverify.specs.Limit.{most_bytes};
 ghost use Rattle.sigverify.specs.Reply.{IsReply};
 ghost use Rattle.sigverify.specs.Run.{RepliesTo, Answered, ReadFaulted, WriteFaulted, HandsRests, WritesRests};
-ghost use Rattle.sigverify.specs.Run.{usage_line};
+ghost use Rattle.sigverify.specs.Run.{AppendsFront, usage_line};
 ghost use Rattle.sigverify.specs.Status.{usage_status, memory_status, fault_status};
 ghost use Rattle.sigverify.specs.Suffice.{LogQuestionsSuffice, VerifyQuestionsSuffice};
 ghost use Rattle.sigverify.specs.VerifyQuestions.{RefusesForAll};

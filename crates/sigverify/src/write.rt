@@ -1,8 +1,8 @@
 //! Writing a reply.
 ghost use Rattle.std.specs.Prelude.{OnOk, OnErr};
 ghost use Rattle.std.specs.Io.KnownBytes.{Appends};
-ghost use Rattle.sig_base.specs.Stream.{AppendsFront, HasCause};
-ghost use Rattle.sigverify.specs.Run.{HandsRests};
+ghost use Rattle.sig_base.specs.Stream.{HasCause};
+ghost use Rattle.sigverify.specs.Run.{AppendsFront, HandsRests};
 
 use sig_base::{Failed, Sink};
 
