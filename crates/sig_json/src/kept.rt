@@ -72,7 +72,7 @@ fn read_whole(alloc: Global, text: &str, names: &[&str]) -> Result<Document, Doc
 
 /// Drops the members of other names of an object.
 #[tactic(auto, using(crate::proofs::KeptReading::cut))]
-fn keep_only(tree: Tree, names: &[&str]) -> Tree
+pub(crate) fn keep_only(tree: Tree, names: &[&str]) -> Tree
     ensures { view result ≡ only (names_of names.now) (view tree) }
 {
     match tree {

@@ -50,6 +50,7 @@ mod kind;
 pub mod laws;
 mod member;
 mod members;
+mod members_and_list;
 mod named_member;
 mod number;
 mod number_kind;
