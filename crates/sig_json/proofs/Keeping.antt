@@ -31,8 +31,8 @@ abbrev others : List (List ℕ) → List ℕ → Bool
 others names name = not (is_among names name)
 
 -- the object is what was read, put one after another, and what the tokens that are left put into it
-pub record KeptSoFar (names : List (List ℕ)) (depth : ℕ) (start left : List Token) (found : List Entry) : Type 0 where
-  pub all : Members
+pub record KeptAt (names : List (List ℕ)) (depth : ℕ) (start left : List Token) (all : Members) (found : List Entry)
+    : Type 0 where
   pub turns : ℕ
   pub enough : length left ≤ turns
   pub meant : object_meant depth (length start) start no_members ≡ object_meant depth turns left all
@@ -41,12 +41,11 @@ pub record KeptSoFar (names : List (List ℕ)) (depth : ℕ) (start left : List 
   pub ascend : NamesAscend (gathered found)
   pub named : HasNamedValues (gathered found)
 
-pub kept_start : (names : List (List ℕ)) (depth : ℕ) (start : List Token) (found : List Entry) → found ≡ []
-    → KeptSoFar names depth start start found
+pub at_start : (names : List (List ℕ)) (depth : ℕ) (start : List Token) (found : List Entry) → found ≡ []
+    → KeptAt names depth start start no_members found
 unfolding IsStrictlySortedBy
-kept_start names depth start found none =
+at_start names depth start found none =
     rw none (record {
-      all = no_members;
       turns = length start;
       enough = omega arith;
       meant = refl;
@@ -57,21 +56,19 @@ kept_start names depth start found none =
     })
 
 -- one more, of a name that is listed
-pub kept_more : (names : List (List ℕ)) (depth : ℕ) (start left inner next : List Token) (found more : List Entry)
-    (k : List ℕ) (name : String Global) (tree : Tree) → KeptSoFar names depth start left found
+pub at_more : (names : List (List ℕ)) (depth : ℕ) (start left inner next : List Token) (all : Members)
+    (found more : List Entry) (k : List ℕ) (name : String Global) (tree : Tree)
+    → KeptAt names depth start left all found
     → read_key left ≡ Some (Some k, inner) → is_among names k ≡ true → string_bytes name ≡ k
     → Means depth inner next (view tree) → length next < length inner → IsNamed (view tree)
-    → more ≡ found ++ (name, tree) ∷ []
-    → KeptSoFar names depth start next more
-kept_more names depth start left inner next found more k name tree so_far key listed same means less one pushed =
+    → more ≡ found ++ (name, tree) ∷ [] → KeptAt names depth start next (put k (view tree) all) more
+at_more names depth start left inner next all found more k name tree so_far key listed same means less one pushed =
     let d = view tree in
-    let all = so_far.all in
     let within = read_key-shorter left (Some k) inner key in
     let put_in : gathered more ≡ put k d (gathered found) = rw
     (pushed, gathered_more found (name, tree) no_members, same) refl in
     let utf8 = subst IsUtf8 same (IsUtf8-string_bytes name) in
     record {
-      all = put k d all;
       turns = so_far.turns - 1;
       enough = omega (arith, so_far.enough);
       meant = so_far.meant
@@ -89,17 +86,15 @@ kept_more names depth start left inner next found more k name tree so_far key li
     }
 
 -- one more, of another name
-pub kept_same : (names : List (List ℕ)) (depth : ℕ) (start left inner next : List Token) (found : List Entry)
-    (k : List ℕ) → KeptSoFar names depth start left found
-    → read_key left ≡ Some (Some k, inner) → is_among names k ≡ false → PassesValue depth inner next
-    → length next < length inner → KeptSoFar names depth start next found
-kept_same names depth start left inner next found k so_far key other passed less =
+pub at_same : (names : List (List ℕ)) (depth : ℕ) (start left inner next : List Token) (all : Members)
+    (found : List Entry) (k : List ℕ) → KeptAt names depth start left all found
+    → read_key left ≡ Some (Some k, inner) → is_among names k ≡ false → (passed : PassesValue depth inner next)
+    → length next < length inner → KeptAt names depth start next (put k passed.value all) found
+at_same names depth start left inner next all found k so_far key other passed less =
     let d = passed.value in
-    let all = so_far.all in
     let within = read_key-shorter left (Some k) inner key in
     let goes_in = where_put_yes (others names) k d all (not_from_false (is_among names k) other) so_far.part.ascend in
     record {
-      all = put k d all;
       turns = so_far.turns - 1;
       enough = omega (arith, so_far.enough);
       meant = so_far.meant
@@ -116,16 +111,66 @@ kept_same names depth start left inner next found k so_far key other passed less
       named = so_far.named;
     }
 
+pub at_end : (names : List (List ℕ)) (depth : ℕ) (start left rest : List Token) (all : Members) (found : List Entry)
+    → KeptAt names depth start left all found → read_key left ≡ Some (None, rest)
+    → members_meant depth start ≡ Some (all, rest)
+at_end names depth start left rest all found so_far end = so_far.meant
+    ∙ members_over (value depth) all so_far.turns left rest so_far.enough end
+
+pub at_part : (names : List (List ℕ)) (depth : ℕ) (start left : List Token) (all : Members)
+    (found ordered : List Entry) → KeptAt names depth start left all found → members_view ordered ≡ gathered found
+    → AreKeptMembers names all (members_view ordered)
+at_part names depth start left all found ordered so_far same =
+    record { ascend = so_far.part.ascend; are = so_far.part.are ∙ sym same; whole = so_far.part.whole }
+
+pub at_named : (names : List (List ℕ)) (depth : ℕ) (start left : List Token) (all : Members)
+    (found ordered : List Entry) → KeptAt names depth start left all found → members_view ordered ≡ gathered found
+    → NamesAscend (members_view ordered) × HasNamedValues (members_view ordered)
+at_named names depth start left all found ordered so_far same = rw same (so_far.ascend, so_far.named)
+
+-- ---- the same of some object
+
+pub record KeptSoFar (names : List (List ℕ)) (depth : ℕ) (start left : List Token) (found : List Entry) : Type 0 where
+  pub all : Members
+  pub at : KeptAt names depth start left all found
+
+pub kept_start : (names : List (List ℕ)) (depth : ℕ) (start : List Token) (found : List Entry) → found ≡ []
+    → KeptSoFar names depth start start found
+kept_start names depth start found none = record { all = no_members; at = at_start names depth start found none }
+
+pub kept_more : (names : List (List ℕ)) (depth : ℕ) (start left inner next : List Token) (found more : List Entry)
+    (k : List ℕ) (name : String Global) (tree : Tree) → KeptSoFar names depth start left found
+    → read_key left ≡ Some (Some k, inner) → is_among names k ≡ true → string_bytes name ≡ k
+    → Means depth inner next (view tree) → length next < length inner → IsNamed (view tree)
+    → more ≡ found ++ (name, tree) ∷ []
+    → KeptSoFar names depth start next more
+kept_more names depth start left inner next found more k name tree so_far key listed same means less one pushed =
+    record {
+      all = put k (view tree) so_far.all;
+      at = at_more names depth start left inner next so_far.all found more k name tree so_far.at key listed same
+          means less one pushed;
+    }
+
+pub kept_same : (names : List (List ℕ)) (depth : ℕ) (start left inner next : List Token) (found : List Entry)
+    (k : List ℕ) → KeptSoFar names depth start left found
+    → read_key left ≡ Some (Some k, inner) → is_among names k ≡ false → PassesValue depth inner next
+    → length next < length inner → KeptSoFar names depth start next found
+kept_same names depth start left inner next found k so_far key other passed less =
+    record {
+      all = put k passed.value so_far.all;
+      at = at_same names depth start left inner next so_far.all found k so_far.at key other passed less;
+    }
+
 pub kept_key_fault : (names : List (List ℕ)) (depth : ℕ) (start left : List Token) (found : List Entry)
     → KeptSoFar names depth start left found → read_key left ≡ None → members_meant depth start ≡ None
-kept_key_fault names depth start left found so_far none = so_far.meant
-    ∙ key_refused (value depth) so_far.all so_far.turns left none
+kept_key_fault names depth start left found so_far none = so_far.at.meant
+    ∙ key_refused (value depth) so_far.all so_far.at.turns left none
 
 pub kept_member_fault : (names : List (List ℕ)) (depth : ℕ) (start left inner : List Token) (found : List Entry)
     (k : List ℕ) → KeptSoFar names depth start left found → read_key left ≡ Some (Some k, inner)
     → value_meant depth inner ≡ None → members_meant depth start ≡ None
-kept_member_fault names depth start left inner found k so_far key none = so_far.meant
-    ∙ member_refused (value depth) so_far.all so_far.turns k left inner key none
+kept_member_fault names depth start left inner found k so_far key none = so_far.at.meant
+    ∙ member_refused (value depth) so_far.all so_far.at.turns k left inner key none
 
 pub kept_end : (names : List (List ℕ)) (depth : ℕ) (start left rest : List Token) (found ordered : List Entry)
     → KeptSoFar names depth start left found → read_key left ≡ Some (None, rest)
@@ -134,14 +179,15 @@ pub kept_end : (names : List (List ℕ)) (depth : ℕ) (start left rest : List T
 kept_end names depth start left rest found ordered so_far end same =
     record {
       all = so_far.all;
-      are = so_far.meant ∙ members_over (value depth) so_far.all so_far.turns left rest so_far.enough end;
-      part = record { ascend = so_far.part.ascend; are = so_far.part.are ∙ sym same; whole = so_far.part.whole };
+      are = at_end names depth start left rest so_far.all found so_far.at end;
+      part = at_part names depth start left so_far.all found ordered so_far.at same;
     }
 
 pub kept_named : (names : List (List ℕ)) (depth : ℕ) (start left : List Token) (found ordered : List Entry)
     → KeptSoFar names depth start left found → members_view ordered ≡ gathered found
     → NamesAscend (members_view ordered) × HasNamedValues (members_view ordered)
-kept_named names depth start left found ordered so_far same = rw same (so_far.ascend, so_far.named)
+kept_named names depth start left found ordered so_far same = at_named names depth start left so_far.all found ordered
+    so_far.at same
 
 pub ruleset kept = (
   kept_start,

@@ -29,6 +29,7 @@ pub mod Only
 pub mod Skipping
 pub mod Keeping
 pub mod KeptReading
+pub mod Streaming
 pub mod MemberTexts
 pub mod Large
 -- what is found in a tree that members were put into

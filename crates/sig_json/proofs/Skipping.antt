@@ -56,14 +56,20 @@ pub number_none : (depth : ℕ) (ts rest : List Token) (s : List ℕ) → ts ≡
     → value_meant depth ts ≡ None
 number_none depth ts rest s is none = number_refused depth ts rest s is (sym none)
 
+pub array_is : (depth : ℕ) (ts inner rest : List Token) (ds : Items) → 0 < depth → ts ≡ Token.begin_array ∷ inner
+    → items_meant (depth - 1) inner ≡ Some (ds, rest) → value_meant depth ts ≡ Some (array ds, rest)
+array_is depth ts inner rest ds some is meant =
+    ap (λ us. converted of_json (value depth us)) is ∙ ap (converted of_json) (value-begin_array depth inner some)
+    ∙ converted-array (items (value (depth - 1)) (length inner) inner) ∙ ap (parse_map array) meant
+
 pub array_passed : (depth : ℕ) (ts inner rest : List Token) → 0 < depth → ts ≡ Token.begin_array ∷ inner
     → PassesItems (depth - 1) inner rest → PassesValue depth ts rest
-array_passed depth ts inner rest some is passed = record {
-  value = array passed.items;
-  is = ap (λ us. converted of_json (value depth us)) is ∙ ap (converted of_json) (value-begin_array depth inner some)
-      ∙ converted-array (items (value (depth - 1)) (length inner) inner) ∙ ap (parse_map array) passed.are;
-  whole = passed.whole;
-}
+array_passed depth ts inner rest some is passed =
+    record {
+      value = array passed.items;
+      is = array_is depth ts inner rest passed.items some is passed.are;
+      whole = passed.whole;
+    }
 
 pub object_is : (depth : ℕ) (ts inner rest : List Token) (ms : Members) → 0 < depth → ts ≡ Token.begin_object ∷ inner
     → members_meant (depth - 1) inner ≡ Some (ms, rest) → value_meant depth ts ≡ Some (object ms, rest)
@@ -103,18 +109,16 @@ twice f g None = refl
 twice f g (Some p) = refl
 
 -- the list is what was passed and then what the tokens that are left mean
-pub record ListPassed (depth : ℕ) (start left : List Token) : Type 0 where
-  pub behind : Items → Items
+pub record ListAt (depth : ℕ) (start left : List Token) (behind : Items → Items) : Type 0 where
   pub turns : ℕ
   pub enough : length left ≤ turns
   pub meant : list_meant depth (length start) start ≡ parse_map behind (list_meant depth turns left)
   pub below : length left ≤ length start
   pub whole : (ds : Items) → items_have_float ds ≡ false → items_have_float (behind ds) ≡ false
 
-pub list_start : (depth : ℕ) (start : List Token) → ListPassed depth start start
-list_start depth start =
+pub list_at_start : (depth : ℕ) (start : List Token) → ListAt depth start start (λ ds. ds)
+list_at_start depth start =
     record {
-      behind = λ ds. ds;
       turns = length start;
       enough = omega arith;
       meant = as_it_is (list_meant depth (length start) start);
@@ -122,34 +126,55 @@ list_start depth start =
       whole = λ ds none. none;
     }
 
-pub list_step : (depth : ℕ) (start left next : List Token) → ListPassed depth start left → after_end_array left ≡ None
-    → PassesValue depth left next → length next < length left → ListPassed depth start next
-list_step depth start left next so_far going passed less =
+pub list_at_step : (depth : ℕ) (start left next : List Token) (behind : Items → Items)
+    → ListAt depth start left behind → after_end_array left ≡ None → (passed : PassesValue depth left next)
+    → length next < length left → ListAt depth start next (λ ds. behind (item passed.value ds))
+list_at_step depth start left next behind so_far going passed less =
     let d = passed.value in
     record {
-      behind = λ ds. so_far.behind (item d ds);
       turns = so_far.turns - 1;
       enough = omega (arith, so_far.enough);
       meant = so_far.meant
-          ∙ ap (parse_map so_far.behind)
+          ∙ ap (parse_map behind)
           (item_read (value depth) so_far.turns left next d (omega (arith, so_far.enough)) going passed.is)
-          ∙ twice so_far.behind (item d) (list_meant depth (so_far.turns - 1) next);
+          ∙ twice behind (item d) (list_meant depth (so_far.turns - 1) next);
       below = omega (arith, so_far.below);
       whole = λ ds none. so_far.whole (item d ds) (or_from (has_float d) (items_have_float ds) passed.whole none);
+    }
+
+pub list_at_end : (depth : ℕ) (start left rest : List Token) (behind : Items → Items)
+    → ListAt depth start left behind → after_end_array left ≡ Some rest
+    → items_meant depth start ≡ Some (behind no_items, rest)
+list_at_end depth start left rest behind so_far end = so_far.meant
+    ∙ ap (parse_map behind) (items_over (value depth) so_far.turns left rest so_far.enough end)
+
+-- some values were passed
+pub record ListPassed (depth : ℕ) (start left : List Token) : Type 0 where
+  pub behind : Items → Items
+  pub at : ListAt depth start left behind
+
+pub list_start : (depth : ℕ) (start : List Token) → ListPassed depth start start
+list_start depth start = record { behind = λ ds. ds; at = list_at_start depth start }
+
+pub list_step : (depth : ℕ) (start left next : List Token) → ListPassed depth start left → after_end_array left ≡ None
+    → PassesValue depth left next → length next < length left → ListPassed depth start next
+list_step depth start left next so_far going passed less =
+    record {
+      behind = λ ds. so_far.behind (item passed.value ds);
+      at = list_at_step depth start left next so_far.behind so_far.at going passed less;
     }
 
 pub list_fault : (depth : ℕ) (start left : List Token) → ListPassed depth start left → after_end_array left ≡ None
     → value_meant depth left ≡ None → items_meant depth start ≡ None
 list_fault depth start left so_far going none =
-    so_far.meant ∙ ap (parse_map so_far.behind) (item_refused (value depth) so_far.turns left going none)
+    so_far.at.meant ∙ ap (parse_map so_far.behind) (item_refused (value depth) so_far.at.turns left going none)
 
 pub list_passed : (depth : ℕ) (start left rest : List Token) → ListPassed depth start left
     → after_end_array left ≡ Some rest → PassesItems depth start rest
 list_passed depth start left rest so_far end = record {
   items = so_far.behind no_items;
-  are = so_far.meant
-      ∙ ap (parse_map so_far.behind) (items_over (value depth) so_far.turns left rest so_far.enough end);
-  whole = so_far.whole no_items refl;
+  are = list_at_end depth start left rest so_far.behind so_far.at end;
+  whole = so_far.at.whole no_items refl;
 }
 
 pub ruleset lists = (list_start, list_step, list_fault, list_passed, after_end_array-shorter)

@@ -18,6 +18,10 @@ abbrev pub cause_of_skipping : ReadError → SkipError
 cause_of_skipping reading.NotJson = skipping.NotJson
 cause_of_skipping reading.OutOfMemory = skipping.OutOfMemory
 
+abbrev pub cause_of_streaming : MemberError → SkipError
+cause_of_streaming member.Member = skipping.Unsure
+cause_of_streaming member.OutOfMemory = skipping.OutOfMemory
+
 abbrev pub cause_of_document : DocumentError → JsonError
 cause_of_document document.NotJson = NotJson
 cause_of_document document.Float = Float

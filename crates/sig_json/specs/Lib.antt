@@ -24,6 +24,7 @@ pub mod SameTree
 pub mod SameTreeProofs
 pub mod SeenAs
 pub mod Skipped
+pub mod Streamed
 pub mod Spells
 pub mod Tree
 pub mod View

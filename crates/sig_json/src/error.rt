@@ -153,6 +153,20 @@ impl From<ReadError> for SkipError {
     }
 }
 
+impl From<MemberError> for SkipError {
+    ghost use Rattle.std.specs.Prelude.{◌≡◌};
+    ghost use Rattle.sig_json.specs.Causes.{cause_of_streaming};
+
+    ghost from_gives = { λ cause e. e ≡ cause_of_streaming cause };
+
+    fn from(error: MemberError) -> SkipError {
+        match error {
+            MemberError::Member => SkipError::Unsure,
+            MemberError::OutOfMemory => SkipError::OutOfMemory,
+        }
+    }
+}
+
 impl From<ReadError> for DocumentError {
     ghost use Rattle.std.specs.Prelude.{◌≡◌};
     ghost use Rattle.sig_json.specs.Causes.{cause_of_reading};

@@ -21,7 +21,7 @@ use json::{Reader, Scratch, Token};
 use std::alloc::Global;
 
 /// How deep lists and objects nest at most in a member of the whole text.
-const MEMBER_DEPTH: usize = MAX_DEPTH - 1;
+pub(crate) const MEMBER_DEPTH: usize = MAX_DEPTH - 1;
 
 impl Document {
     /// Reads a text as `read` does, but of an object (RFC 8259 section 4) keeps the members of these names alone; any

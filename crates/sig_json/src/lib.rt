@@ -58,6 +58,7 @@ mod order;
 mod read;
 mod record;
 mod skip;
+mod stream;
 mod tree;
 mod view;
 

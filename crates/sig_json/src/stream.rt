@@ -1,0 +1,144 @@
+//! A list that is read as it comes: each element is read when its tokens have come, and no tree is made of the list.
+ghost use Rattle.std.specs.Prelude.{◌≡◌, ◌<◌, false, length, map, IfOk, OnOk};
+ghost use Rattle.sig_json.specs.Member.{list_each};
+ghost use Rattle.sig_json.specs.Named.{NamesAscend, HasNamedValues};
+ghost use Rattle.sig_json.specs.Only.{is_among, names_of};
+ghost use Rattle.sig_json.specs.Streamed.{StreamsValue, StreamsItems, StreamsMembers, StreamsOf};
+ghost use Rattle.sig_json.specs.View.{members_view};
+
+use crate::element::ElementReader;
+use crate::error::SkipError;
+use crate::floats::is_float_in;
+use crate::kept::{MEMBER_DEPTH, is_among};
+use crate::order::in_order;
+use crate::read::{add, read_value};
+use crate::skip::skip_value;
+use crate::tree::Tree;
+use crate::view::Json;
+use json::{Reader, Scratch, Token};
+use sig_base::Register;
+use std::alloc::Global;
+
+/// The members of these names of a text that is an object, and the elements of the list of the name `list`. It says
+/// nothing of a text that it fails for, unless memory ran out: the whole tree tells.
+#[tactic(auto, using(crate::proofs::Streaming::text_streamed))]
+pub(crate) fn stream_text<E: ElementReader>(
+    alloc: Global,
+    text: &str,
+    names: &[&str],
+    list: &str,
+) -> Result<(Vec<(String, Tree)>, Register<E::Item>), SkipError>
+    requires { is_among (names_of names.now) list.now ≡ false }
+    ensures ok { IfOk result (λ parts. StreamsOf E.meaning (names_of names.now) list.now text.now
+        (members_view parts.0.items) (map E.seen_as.item parts.1)) }
+    ensures named { IfOk result (λ parts. NamesAscend (members_view parts.0.items)
+        × HasNamedValues (members_view parts.0.items)) }
+{
+    let mut scratch = Scratch::new(alloc);
+    let mut reader = Reader::new(text, &mut scratch)?;
+    let Some(Token::BeginObject) = reader.next() else {
+        return Err(SkipError::Unsure);
+    };
+    let parts = stream_members::<E>(alloc, &mut reader, MEMBER_DEPTH, names, list)?;
+    match reader.next() {
+        Some(_) => Err(SkipError::Unsure),
+        None => Ok(parts),
+    }
+}
+
+/// The same behind the opening brace. A second list of that name is not read: of the two the last would count.
+#[tactic(auto, using(crate::proofs::Streaming::parts))]
+fn stream_members<E: ElementReader>(
+    alloc: Global,
+    reader: &mut Reader<'_>,
+    depth: usize,
+    names: &[&str],
+    list: &str,
+) -> Result<(Vec<(String, Tree)>, Register<E::Item>), SkipError>
+    requires { is_among (names_of names.now) list.now ≡ false }
+    ensures ok { IfOk result (λ parts. StreamsMembers E.meaning (names_of names.now) list.now depth reader.old
+        reader.new (members_view parts.0.items) (map E.seen_as.item parts.1)) }
+    ensures named { IfOk result (λ parts. NamesAscend (members_view parts.0.items)
+        × HasNamedValues (members_view parts.0.items)) }
+{
+    let mut found = Vec::new(alloc);
+    let mut elements = Register::new(alloc);
+    let mut is_listed = false;
+    'members: while let Some(name) = reader.next_key()? {
+        if name == list {
+            if is_listed {
+                return Err(SkipError::Unsure);
+            }
+            elements = stream_list::<E>(alloc, reader, depth)?;
+            is_listed = true;
+            continue;
+        }
+        if !is_among(names, name) {
+            skip_value(reader, depth)?;
+            continue;
+        }
+        let key = String::from_str(alloc, name)?;
+        let value = read_value(alloc, reader, depth)?;
+        add(&mut found, (key, value))?;
+    }
+    let mut ordered = in_order(alloc, found)?;
+    ordered.shrink_to_fit();
+    Ok((ordered, elements))
+}
+
+/// The next value, which has to be a list.
+#[tactic(auto, using(crate::proofs::Streaming::list_streamed))]
+fn stream_list<E: ElementReader>(
+    alloc: Global,
+    reader: &mut Reader<'_>,
+    depth: usize,
+) -> Result<Register<E::Item>, SkipError>
+    ensures ok { IfOk result (λ found. StreamsValue (list_each E.meaning) depth reader.old reader.new
+        (map E.seen_as.item found)) }
+    ensures shorter { OnOk result (length reader.new < length reader.old) }
+{
+    let Some(Token::BeginArray) = reader.next() else {
+        return Err(SkipError::Unsure);
+    };
+    if depth == 0 {
+        return Err(SkipError::Unsure);
+    }
+    stream_items::<E>(alloc, reader, depth - 1)
+}
+
+/// The elements of a list, behind its opening bracket.
+#[tactic(auto, using(crate::proofs::Streaming::items))]
+fn stream_items<E: ElementReader>(
+    alloc: Global,
+    reader: &mut Reader<'_>,
+    depth: usize,
+) -> Result<Register<E::Item>, SkipError>
+    ensures ok { IfOk result (λ found. StreamsItems E.meaning depth reader.old reader.new
+        (map E.seen_as.item found)) }
+    ensures shorter { OnOk result (length reader.new < length reader.old) }
+{
+    let mut found = Register::new(alloc);
+    'elements: while !reader.take_end_array() {
+        let element = stream_element::<E>(alloc, reader, depth)?;
+        found.push(element)?;
+    }
+    Ok(found)
+}
+
+/// The next value as an element of the list. Its tree is dropped at once.
+#[tactic(auto, using(crate::proofs::Streaming::element_streamed))]
+fn stream_element<E: ElementReader>(
+    alloc: Global,
+    reader: &mut Reader<'_>,
+    depth: usize,
+) -> Result<E::Item, SkipError>
+    ensures ok { IfOk result (λ x. StreamsValue E.meaning depth reader.old reader.new (E.seen_as.item x)) }
+    ensures shorter { OnOk result (length reader.new < length reader.old) }
+{
+    let value = read_value(alloc, reader, depth)?;
+    if is_float_in(&value) {
+        return Err(SkipError::Unsure);
+    }
+    let element = E::read(alloc, Json { value: &value })?;
+    Ok(element)
+}
