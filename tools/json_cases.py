@@ -269,15 +269,28 @@ def read_case(data, words=None):
     case("read " + (words or document(data)), answer(lambda: compact(tree(data))))
 
 
+def only(names, value):
+    """An object with its members of these names alone."""
+    return {name: item for name, item in value.items() if name in names} if isinstance(value, dict) else value
+
+
+def counted(names):
+    return [str(len(names))] + [percent(name) for name in names]
+
+
 def members_of_names_case(names, data, words=None):
+    case(" ".join(["read_members", *counted(names), words or document(data)]), answer(lambda: compact(only(names, tree(data)))))
+
+
+def members_and_list_case(word, name, names, data, words=None):
+    kind, show = KINDS[word]
+
     def make():
         value = tree(data)
-        if isinstance(value, dict):
-            value = {name: item for name, item in value.items() if name in names}
-        return compact(value)
+        items = optional(each(kind), value, name, [])
+        return compact(only(names, value)) + " " + list_words(show, items)
 
-    arguments = [str(len(names))] + [percent(name) for name in names] + [words or document(data)]
-    case("read_members " + " ".join(arguments), answer(make))
+    case(" ".join(["members_and_list", word, percent(name), *counted(names), words or document(data)]), answer(make))
 
 
 def back_case(data, words=None):
@@ -519,6 +532,39 @@ def members_of_names():
         for begin, end in [("[", "]"), ('{"a":', "}"), ("[", "")]:
             text, words = nested(depth, begin, end, "1")
             members_of_names_case(["k"], '{"x":' + text + "}", "hex 7b2278223a+%s+7d" % words[4:].replace("+*%d" % depth, ""))
+
+
+def members_beside_a_list():
+    say("members_and_list KIND LIST COUNT NAME.. DOCUMENT: as read_members, and beside it each element of the list of one name, none where it is absent or null.")
+    for text in NO_OBJECTS + ["{}", '{"l":null}', '{"l":[]}', '{"l":{}}', '{"l":7}', '{"l":"a"}', '{"l":["a","b"],"k":1}', '{"k":1,"l":["a"],"x":2}', '{"x":[1],"\\u006c":["a"],"k":1}', '{"L":["a"]}', '{"l":["a"]} x',
+                              '{"l":["a"]', '{"l":["a"', '{"l":["a",]}', '{"l":[,"a"]}', '{"l":["a" "b"]}', '{"l":["a"}', '{"l":["a"]]}', '{"l":["a"],}', '{"l"["a"]}', '{"l":["a"]}{}', '["l",["a"]]']:
+        members_and_list_case("text", "l", ["k"], text)
+    say("An element of another kind, a float in an element, beside the list or in what is ignored, and which of the faults is told.")
+    for item in VALUES + ["1.5", "[1.5]", '{"a":1.5,"a":1}', '{"a":1,"a":1.5}', "1e999", "nul"]:
+        for word in ("text", "bytes", "any"):
+            members_and_list_case(word, "l", ["k"], '{"k":1,"l":["aGk=",%s],"x":2}' % item)
+        for form in ['{"l":["a"],"k":%s}', '{"x":%s,"l":["a"]}', '{"l":[7],"x":%s}', '{"k":%s,"l":7}']:
+            members_and_list_case("text", "l", ["k"], form % item)
+    say("The list twice: the last counts, whatever it is.")
+    for first, second in itertools.product(['["a"]', '["b","c"]', "[]", "null", "7", "[7]", "[1.5]", "1.5", '["a"', "[1e999]"], repeat=2):
+        members_and_list_case("text", "l", ["k"], '{"l":%s,"k":1,"l":%s}' % (first, second))
+        members_and_list_case("text", "l", ["k"], '{"l":%s,"k":1,"\\u006c":%s}' % (first, second))
+    say("The name of the list among the others, no other name, and each kind.")
+    for names in [["l"], [], ["k", "l"], ["l", "l"], ["k", "k"]]:
+        for text in ['{"k":1,"l":["a"]}', '{"l":["a"],"l":["b"],"k":2}', '{"k":1.5,"l":["a"]}', '{"l":[7],"k":1}', "{}"]:
+            members_and_list_case("text", "l", names, text)
+    for word in KINDS:
+        for item in ['"aGk="', '"%s"' % HASH, '{"a":"b"}', "[1,2]", "null"]:
+            members_and_list_case(word, "", ["k"], '{"":[%s,%s],"k":%s}' % (item, item, item))
+    say("Lists and objects nest to 127, in an element too.")
+    for begin, end in [("[", "]"), ('{"a":', "}")]:
+        for core, inner in [("[]", 1), ("1", 0)]:
+            for depth in (limit - inner for limit in (124, 125, 126, 127)):
+                text, words = nested(depth, begin, end, core)
+                for front, back in [('{"l":[', '],"k":1}'), ('{"l":[1,', "]}")]:
+                    members_and_list_case("any", "l", ["k"], front + text + back, "hex %s+%s+%s" % (front.encode().hex(), words[4:], back.encode().hex()))
+    for count in (31, 32, 33, 1000):
+        members_and_list_case("text", "l", ["k"], '{"l":[%s],"k":1}' % ",".join(['"a"'] * count))
 
 
 def orders():
@@ -790,6 +836,7 @@ def main():
     texts()
     nesting()
     members_of_names()
+    members_beside_a_list()
     orders()
     canonicals()
     views()

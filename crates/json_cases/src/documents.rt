@@ -28,10 +28,7 @@ pub(crate) fn read_members(
     arguments: &mut Arguments<'_>,
 ) -> Result<Answer, CaseError> {
     let names = names(alloc, arguments)?;
-    let mut lent = Vec::new(alloc);
-    for name in &names {
-        lent.push(name.as_str())?;
-    }
+    let lent = lent(alloc, &names)?;
     match Document::read_members(alloc, &bytes(alloc, arguments)?, lent.as_slice()) {
         Ok(document) => with_tree(alloc, Answer::ok(alloc)?, document.view()),
         Err(error) => Answer::error(alloc, &error),
@@ -39,12 +36,23 @@ pub(crate) fn read_members(
 }
 
 /// So many names as the first argument says.
-fn names(alloc: Global, arguments: &mut Arguments<'_>) -> Result<Vec<String>, CaseError> {
+pub(crate) fn names(
+    alloc: Global,
+    arguments: &mut Arguments<'_>,
+) -> Result<Vec<String>, CaseError> {
     let mut names = Vec::new(alloc);
     for _ in 0..arguments.natural()? {
         names.push(arguments.text(alloc)?)?;
     }
     Ok(names)
+}
+
+pub(crate) fn lent<'a>(alloc: Global, names: &'a Vec<String>) -> Result<Vec<&'a str>, CaseError> {
+    let mut lent = Vec::new(alloc);
+    for name in names {
+        lent.push(name.as_str())?;
+    }
+    Ok(lent)
 }
 
 /// `read_back DOCUMENT`: whether its compact text is read as an equal tree, and has itself as its compact text.

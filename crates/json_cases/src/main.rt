@@ -12,6 +12,7 @@ mod documents;
 mod equal;
 mod errors;
 mod kinds;
+mod listed;
 mod readers;
 
 use built::{list, object};
@@ -20,6 +21,7 @@ use documents::{
 };
 use equal::equal;
 use errors::errors;
+use listed::members_and_list;
 use readers::{integers, reader};
 use sig_cases::{Answer, Arguments, CaseError, Cases, run};
 use std::alloc::Global;
@@ -35,6 +37,7 @@ impl Cases for JsonCases {
         match call {
             "read" => read(alloc, arguments),
             "read_members" => read_members(alloc, arguments),
+            "members_and_list" => members_and_list(alloc, arguments),
             "read_back" => read_back(alloc, arguments),
             "canonical" => canonical_text(alloc, arguments),
             "quoted" => quoted_text(alloc, arguments),

@@ -116,21 +116,28 @@ fn optional_of<K: Kind>(
     }
 }
 
-/// How many elements a list has, and each.
+/// What a reader of a list returns.
 fn list_answer<K: Kind>(
     alloc: Global,
     found: Result<Register<K::Item>, MemberError>,
 ) -> Result<Answer, CaseError> {
     match found {
-        Ok(list) => {
-            let mut answer = Answer::ok(alloc)?.value(&list.len())?;
-            for item in list.as_slice() {
-                answer = K::with_item(alloc, answer, item)?;
-            }
-            Ok(answer)
-        }
+        Ok(list) => with_list::<K>(alloc, Answer::ok(alloc)?, &list),
         Err(error) => Answer::error(alloc, &error),
     }
+}
+
+/// The answer, and behind it how many elements a list has, and each.
+pub(crate) fn with_list<K: Kind>(
+    alloc: Global,
+    answer: Answer,
+    list: &Register<K::Item>,
+) -> Result<Answer, CaseError> {
+    let mut answer = answer.value(&list.len())?;
+    for item in list.as_slice() {
+        answer = K::with_item(alloc, answer, item)?;
+    }
+    Ok(answer)
 }
 
 /// `read_text NAME DOCUMENT` and its kin: what a reader of one row returns.
