@@ -20,7 +20,8 @@
 //!   built is the tree that was asked for. In both, an object has each name once. Documents, and views of them, are
 //!   equal if and only if their trees are.
 //! - A document that is read for the members of some names is the whole one without the others, and fails as the whole
-//!   one does. No tree is made of the others, unless they hold a float.
+//!   one does. No tree is made of the others, unless they hold a float. A list beside them is read element by element,
+//!   and no tree is made of the list.
 //! - `Json`, a view, shows what the tree is; the members of an object come in the byte order of their names.
 //! - A reader returns what the member means by its row of a table, and fails with `Member` if and only if the member
 //!   breaks that row.
