@@ -1,18 +1,17 @@
 -- The derived `==` of log entries and their bodies is equality of all that is seen of them.
-use Rattle.std.proofs.Common.{◌≡◌, ℕ, ℤ, List, Bool, Option, refl, ap}
+-- An equality is a path from one side to the other; the path of a record is the record of the paths of its parts.
+use Rattle.std.proofs.Common.{◌≡◌, Bool, refl, ap}
 use Rattle.std.proofs.lemmas.Bool.Decides.{Decides-and, Decides-int_eq}
 use Rattle.std.specs.Bool.{Decides}
 use Rattle.sig_base.proofs.Decisions.{decides_bytes, decides_result, decides_same}
-use Rattle.sig_json.specs.Data.{Data}
 use Rattle.sig_json.specs.SameTree.{same_tree}
 use Rattle.sig_json.specs.SameTreeProofs.{same_tree_exact}
 use Rattle.sig_json.specs.Tree.{document_tree}
 use Rattle.sig_json.specs.declared.document.Document.{Document}
 use Rattle.sig_rekor.proofs.Equality.{api_proof_eq-tells}
-use Rattle.sig_rekor.specs.declared.rekor_proof.RekorInclusionProof.{RekorInclusionProof}
 use Rattle.sig_base.proofs.PartEquality.{decides_option}
 use Rattle.sig_rekor_models.specs.Body.{Body, Content, seen_body, seen_body_content}
-use Rattle.sig_rekor_models.specs.LogEntry.{LogEntry, seen_entry}
+use Rattle.sig_rekor_models.specs.LogEntry.{seen_entry}
 use Rattle.sig_rekor_models.specs.contracts.body.BodyContentPartialEq.TheImpl as content_eq
 use Rattle.sig_rekor_models.specs.contracts.body.BodyPartialEq.TheImpl as body_eq
 use Rattle.sig_rekor_models.specs.contracts.log_entry.AttestationPartialEq.TheImpl as attestation_eq
@@ -30,29 +29,14 @@ use Rattle.sig_rekor_models.specs.declared.log_entry.Verification.{Verification}
 
 -- ---- what a log proves and promises, and what is kept beside it
 
-attestation-of_parts : (d f : Option (List ℕ)) → d ≡ f
-    → ◌≡◌ {A = Attestation} (record { dummy = d }) (record { dummy = f })
-attestation-of_parts d f e = rw e refl
-
 attestation_eq-tells : (a b : Attestation) → Decides ((attestation_eq.ghosts).eq a b) (a ≡ b)
 attestation_eq-tells a b =
-    decides_same _ (attestation-of_parts a.dummy b.dummy) (λ e. ap (λ (x : Attestation). x.dummy) e)
+    decides_same _ (λ e i. record { dummy = e i }) (λ e. rw e refl)
     (decides_option _ decides_bytes a.dummy b.dummy)
-
-verification-of_parts : (p q : Option RekorInclusionProof) → (s t : List ℕ) → (p ≡ q) × (s ≡ t)
-    → ◌≡◌ {A = Verification} (record { inclusion_proof = p; signed_entry_timestamp = s })
-    (record { inclusion_proof = q; signed_entry_timestamp = t })
-verification-of_parts p q s t e = rw (e.0, e.1) refl
 
 verification_eq-tells : (a b : Verification) → Decides ((verification_eq.ghosts).eq a b) (a ≡ b)
 verification_eq-tells a b =
-    decides_same _ (verification-of_parts a.inclusion_proof b.inclusion_proof a.signed_entry_timestamp
-    b.signed_entry_timestamp)
-    (λ e. (
-      ap (λ (v : Verification). v.inclusion_proof) e,
-      ap
-          (λ (v : Verification). v.signed_entry_timestamp) e,
-    ))
+    decides_same _ (λ e i. record { inclusion_proof = e.0 i; signed_entry_timestamp = e.1 i }) (λ e. rw e (refl, refl))
     (Decides-and _ _ (decides_option _ api_proof_eq-tells a.inclusion_proof b.inclusion_proof)
     (decides_bytes a.signed_entry_timestamp b.signed_entry_timestamp))
 
@@ -68,15 +52,11 @@ pub document_eq-tells : (a b : Document)
     → Decides (same_tree (document_tree a) (document_tree b)) (document_tree a ≡ document_tree b)
 document_eq-tells a b = same_tree_exact (document_tree a) (document_tree b) a.without_float
 
-content-of_parts : (v w : List ℕ) → (d f : Data) → (v ≡ w) × (d ≡ f)
-    → ◌≡◌ {A = Content} (record { api_version = v; spec = d }) (record { api_version = w; spec = f })
-content-of_parts v w d f e = rw (e.0, e.1) refl
-
 content_eq-tells : (a b : BodyContent)
     → Decides ((content_eq.ghosts).eq a b) (seen_body_content a ≡ seen_body_content b)
 content_eq-tells a b =
-    decides_same _ (content-of_parts a.api_version b.api_version (document_tree a.spec) (document_tree b.spec))
-    (λ e. (ap (λ (c : Content). c.api_version) e, ap (λ (c : Content). c.spec) e))
+    decides_same _ (λ e i. record { api_version = e.0 i; spec = e.1 i })
+    (λ e. (λ i. (e i).api_version, λ i. (e i).spec))
     (Decides-and _ _ (decides_bytes a.api_version b.api_version) (document_eq-tells a.spec b.spec))
 
 abbrev of_kind : EntryKind → Content → Body
@@ -112,54 +92,34 @@ body_law a b r is = decides_result r _ is (body_eq-tells a b)
 
 -- ---- entries
 
-entry-of_parts : (u v : Option (List ℕ)) → (p q : Option Attestation) → (b c : Body) → (s t i j : ℤ) → (l m : List ℕ)
-    → (f g : Verification)
-    → (u ≡ v) × ((p ≡ q) × ((b ≡ c) × ((s ≡ t) × ((l ≡ m) × ((i ≡ j) × (f ≡ g))))))
-    → ◌≡◌ {A = LogEntry}
-    (record {
-      uuid = u;
-      attestation = p;
-      body = b;
-      integrated_time = s;
-      log_i_d = l;
-      log_index = i;
-      verification = f;
-    })
-    (record {
-      uuid = v;
-      attestation = q;
-      body = c;
-      integrated_time = t;
-      log_i_d = m;
-      log_index = j;
-      verification = g;
-    })
-entry-of_parts u v p q b c s t i j l m f g e =
-    rw (e.0, e.1.0, e.1.1.0, e.1.1.1.0, e.1.1.1.1.0, e.1.1.1.1.1.0, e.1.1.1.1.1.1) refl
-
 entry_eq-tells : (a b : HeldEntry) → Decides ((entry_eq.ghosts).eq a b) (seen_entry a ≡ seen_entry b)
 entry_eq-tells a b =
-    decides_same _ (entry-of_parts a.uuid b.uuid a.attestation b.attestation (seen_body a.body) (seen_body b.body)
-    a.integrated_time b.integrated_time a.log_index b.log_index a.log_i_d b.log_i_d a.verification b.verification)
+    decides_same _ (λ e i. record {
+      uuid = e.0 i;
+      attestation = e.1.0 i;
+      body = e.1.1.0 i;
+      integrated_time = e.1.1.1.0 i;
+      log_i_d = e.1.1.1.1.0 i;
+      log_index = e.1.1.1.1.1.0 i;
+      verification = e.1.1.1.1.1.1 i;
+    })
     (λ e. (
-      ap (λ (x : LogEntry). x.uuid) e,
+      λ i. (e i).uuid,
       (
-        ap (λ (x : LogEntry). x.attestation) e,
+        λ i. (e i).attestation,
         (
-          ap (λ (x : LogEntry). x.body) e,
+          λ i. (e i).body,
           (
-            ap (λ (x : LogEntry). x.integrated_time) e,
-            (
-              ap (λ (x : LogEntry). x.log_i_d) e,
-              (ap (λ (x : LogEntry). x.log_index) e, ap (λ (x : LogEntry). x.verification) e),
-            ),
+            λ i. (e i).integrated_time,
+            (λ i. (e i).log_i_d, (λ i. (e i).log_index, λ i. (e i).verification)),
           ),
         ),
       ),
     ))
     (Decides-and _ _ (decides_option _ decides_bytes a.uuid b.uuid)
     (Decides-and _ _ (decides_option _ attestation_eq-tells a.attestation b.attestation)
-    (Decides-and _ _ (body_eq-tells a.body b.body) (Decides-and _ _ (Decides-int_eq a.integrated_time b.integrated_time)
+    (Decides-and _ _ (body_eq-tells a.body b.body)
+    (Decides-and _ _ (Decides-int_eq a.integrated_time b.integrated_time)
     (Decides-and _ _ (decides_bytes a.log_i_d b.log_i_d) (Decides-and _ _ (Decides-int_eq a.log_index b.log_index)
     (verification_eq-tells a.verification b.verification)))))))
 

@@ -1,4 +1,5 @@
 -- The derived `==` of entries to propose and their parts is equality of all that is seen of them.
+-- An equality is a path from one side to the other; the path of a record is the record of the paths of its parts.
 use Rattle.std.proofs.Common.{◌≡◌, ◌&&◌, ℕ, List, [], Bool, refl, ap}
 use Rattle.std.proofs.lemmas.Bool.Decides.{Decides-and}
 use Rattle.std.specs.Bool.{Decides}
@@ -60,62 +61,37 @@ algorithm_eq-tells sha256 sha1 = (λ e. absurd cc, λ e. absurd cc)
 algorithm_eq-tells sha1 sha256 = (λ e. absurd cc, λ e. absurd cc)
 algorithm_eq-tells sha1 sha1 = (λ e. refl, λ e. refl)
 
-key-of_parts : (c d : List ℕ) → c ≡ d → ◌≡◌ {A = PublicKey} (record { content = c }) (record { content = d })
-key-of_parts c d e = rw e refl
-
 key_eq-tells : (a b : PublicKey) → Decides ((key_eq.ghosts).eq a b) (a ≡ b)
 key_eq-tells a b =
-    decides_same _ (key-of_parts a.content b.content) (λ e. ap (λ (k : PublicKey). k.content) e)
+    decides_same _ (λ e i. record { content = e i }) (λ e. rw e refl)
     (decides_bytes a.content b.content)
-
-hash-of_parts : (k l : AlgorithmKind) → (v w : List ℕ) → (k ≡ l) × (v ≡ w)
-    → ◌≡◌ {A = Hash} (record { algorithm = k; value = v }) (record { algorithm = l; value = w })
-hash-of_parts k l v w e = rw (e.0, e.1) refl
 
 hash_eq-tells : (a b : Hash) → Decides ((hash_eq.ghosts).eq a b) (a ≡ b)
 hash_eq-tells a b =
-    decides_same _ (hash-of_parts a.algorithm b.algorithm a.value b.value)
-    (λ e. rw e (refl, refl))
+    decides_same _ (λ e i. record { algorithm = e.0 i; value = e.1 i }) (λ e. rw e (refl, refl))
     (Decides-and _ _ (algorithm_eq-tells a.algorithm b.algorithm) (decides_bytes a.value b.value))
-
-data-of_parts : (h g : Hash) → h ≡ g → ◌≡◌ {A = Data} (record { hash = h }) (record { hash = g })
-data-of_parts h g e = rw e refl
 
 data_eq-tells : (a b : Data) → Decides ((data_eq.ghosts).eq a b) (a ≡ b)
 data_eq-tells a b =
-    decides_same _ (data-of_parts a.hash b.hash) (λ e. ap (λ (d : Data). d.hash) e) (hash_eq-tells a.hash b.hash)
-
-signature-of_parts : (c d : List ℕ) → (k l : PublicKey) → (c ≡ d) × (k ≡ l)
-    → ◌≡◌ {A = Signature} (record { content = c; public_key = k }) (record { content = d; public_key = l })
-signature-of_parts c d k l e = rw (e.0, e.1) refl
+    decides_same _ (λ e i. record { hash = e i }) (λ e. rw e refl)
+    (hash_eq-tells a.hash b.hash)
 
 signature_eq-tells : (a b : Signature) → Decides ((signature_eq.ghosts).eq a b) (a ≡ b)
 signature_eq-tells a b =
-    decides_same _ (signature-of_parts a.content b.content a.public_key b.public_key)
-    (λ e. rw e (refl, refl))
+    decides_same _ (λ e i. record { content = e.0 i; public_key = e.1 i }) (λ e. rw e (refl, refl))
     (Decides-and _ _ (decides_bytes a.content b.content) (key_eq-tells a.public_key b.public_key))
-
-spec-of_parts : (s t : Signature) → (d f : Data) → (s ≡ t) × (d ≡ f)
-    → ◌≡◌ {A = Spec} (record { signature = s; logged_data = d }) (record { signature = t; logged_data = f })
-spec-of_parts s t d f e = rw (e.0, e.1) refl
 
 spec_eq-tells : (a b : Spec) → Decides ((spec_eq.ghosts).eq a b) (a ≡ b)
 spec_eq-tells a b =
-    decides_same _ (spec-of_parts a.signature b.signature a.logged_data b.logged_data)
-    (λ e. rw e (refl, refl))
+    decides_same _ (λ e i. record { signature = e.0 i; logged_data = e.1 i }) (λ e. rw e (refl, refl))
     (Decides-and _ _ (signature_eq-tells a.signature b.signature) (data_eq-tells a.logged_data b.logged_data))
-
-hashedrekord-of_parts : (k l v w : List ℕ) → (s t : Spec) → (k ≡ l) × ((v ≡ w) × (s ≡ t))
-    → ◌≡◌ {A = Hashedrekord} (record { kind = k; api_version = v; spec = s })
-    (record { kind = l; api_version = w; spec = t })
-hashedrekord-of_parts k l v w s t e = rw (e.0, e.1.0, e.1.1) refl
 
 hashedrekord_eq-tells : (a b : Hashedrekord) → Decides ((hashedrekord_eq.ghosts).eq a b) (a ≡ b)
 hashedrekord_eq-tells a b =
-    decides_same _ (hashedrekord-of_parts a.kind b.kind a.api_version b.api_version a.spec b.spec)
+    decides_same _ (λ e i. record { kind = e.0 i; api_version = e.1.0 i; spec = e.1.1 i })
     (λ e. rw e (refl, (refl, refl)))
-    (Decides-and _ _ (decides_bytes a.kind b.kind)
-    (Decides-and _ _ (decides_bytes a.api_version b.api_version) (spec_eq-tells a.spec b.spec)))
+    (Decides-and _ _ (decides_bytes a.kind b.kind) (Decides-and _ _ (decides_bytes a.api_version b.api_version)
+    (spec_eq-tells a.spec b.spec)))
 
 pub algorithm_law : (a b : AlgorithmKind) (r : Bool) → r ≡ (algorithm_eq.ghosts).eq a b → Decides r (a ≡ b)
 algorithm_law a b r is = decides_result r _ is (algorithm_eq-tells a b)
@@ -161,54 +137,51 @@ algorithm-from_name sha1 sha1 e = refl
 hash-from_tree : (a b : Hash) → hash_json a ≡ hash_json b → a ≡ b
 unfolding hash_json
 hash-from_tree a b e =
-    hash-of_parts a.algorithm b.algorithm a.value b.value
-    (algorithm-from_name a.algorithm b.algorithm (ap (λ t. text_in (first_in t)) e), ap (λ t. text_in (second_in t)) e)
+    let named : algorithm_name a.algorithm ≡ algorithm_name b.algorithm = ap (λ t. text_in (first_in t)) e in
+    let algorithm : a.algorithm ≡ b.algorithm = algorithm-from_name a.algorithm b.algorithm named in
+    λ i. record { algorithm = algorithm i; value = text_in (second_in (e i)) }
 
 data-from_tree : (a b : Data) → data_json a ≡ data_json b → a ≡ b
 unfolding data_json
-data-from_tree a b e = data-of_parts a.hash b.hash (hash-from_tree a.hash b.hash (ap first_in e))
+data-from_tree a b e = λ i. record { hash = hash-from_tree a.hash b.hash (ap first_in e) i }
 
 signature-from_tree : (a b : Signature) → signature_json a ≡ signature_json b → a ≡ b
 unfolding signature_json
-signature-from_tree a b e =
-    signature-of_parts a.content b.content a.public_key b.public_key (
-      ap (λ t. text_in (first_in t)) e,
-      key-of_parts a.public_key.content b.public_key.content (ap (λ t. text_in (first_in (second_in t))) e),
-    )
+signature-from_tree a b e = λ i. record {
+  content = text_in (first_in (e i));
+  public_key = record { content = text_in (first_in (second_in (e i))) };
+}
 
 spec-from_tree : (a b : Spec) → spec_json a ≡ spec_json b → a ≡ b
 unfolding spec_json
-spec-from_tree a b e =
-    spec-of_parts a.signature b.signature a.logged_data b.logged_data (
-      signature-from_tree a.signature b.signature (ap second_in e),
-      data-from_tree a.logged_data b.logged_data (ap first_in e),
-    )
+spec-from_tree a b e = λ i. record {
+  signature = signature-from_tree a.signature b.signature (ap second_in e) i;
+  logged_data = data-from_tree a.logged_data b.logged_data (ap first_in e) i;
+}
 
 said_eq-tells : (a b : Spec) → Decides ((spec_eq.ghosts).eq a b) (spec_json a ≡ spec_json b)
 said_eq-tells a b = decides_same _ (λ e. ap spec_json e) (spec-from_tree a b) (spec_eq-tells a b)
 
 -- ---- entries to propose
 
-proposed-of_parts : (k : EntryKind) → (v w : List ℕ) → (d f : Tree) → (v ≡ w) × (d ≡ f)
-    → ◌≡◌ {A = Body} (record { kind = k; api_version = v; spec = d }) (record { kind = k; api_version = w; spec = f })
-proposed-of_parts k v w d f e = rw (e.0, e.1) refl
-
-proposed_parts : (a b : Body) → a ≡ b → (a.api_version ≡ b.api_version) × (a.spec ≡ b.spec)
-proposed_parts a b e = (ap (λ (x : Body). x.api_version) e, ap (λ (x : Body). x.spec) e)
+with_said : (k : EntryKind) → (v w : List ℕ) → (d f : Tree) → {p q : Bool} → Decides p (v ≡ w) → Decides q (d ≡ f)
+    → Decides (p && q)
+    (◌≡◌ {A = Body} (record { kind = k; api_version = v; spec = d }) (record { kind = k; api_version = w; spec = f }))
+with_said k v w d f version said =
+    decides_same _ (λ e i. record { kind = k; api_version = e.0 i; spec = e.1 i })
+    (λ e. (λ i. (e i).api_version, λ i. (e i).spec)) (Decides-and _ _ version said)
 
 of_kind-tells : (k : EntryKind) → (v w : List ℕ) → (d f : Document)
     → Decides (pointwise nat_eq v w && same_tree (document_tree d) (document_tree f))
     (◌≡◌ {A = Body} (record { kind = k; api_version = v; spec = document_tree d })
     (record { kind = k; api_version = w; spec = document_tree f }))
 of_kind-tells k v w d f =
-    decides_same _ (proposed-of_parts k v w (document_tree d) (document_tree f)) (λ e. proposed_parts _ _ e)
-    (Decides-and _ _ (decides_bytes v w) (document_eq-tells d f))
+    with_said k v w (document_tree d) (document_tree f) (decides_bytes v w) (document_eq-tells d f)
 
 proposed_eq-tells : (a b : ProposedEntry) → Decides ((proposed_eq.ghosts).eq a b) (seen_proposed a ≡ seen_proposed b)
 proposed_eq-tells (entries.Alpine v x) (entries.Alpine w y) = of_kind-tells kinds.Alpine v w x y
 proposed_eq-tells (entries.Hashedrekord v x) (entries.Hashedrekord w y) =
-    decides_same _ (proposed-of_parts kinds.Hashedrekord v w (spec_json x) (spec_json y)) (λ e. proposed_parts _ _ e)
-    (Decides-and _ _ (decides_bytes v w) (said_eq-tells x y))
+    with_said kinds.Hashedrekord v w (spec_json x) (spec_json y) (decides_bytes v w) (said_eq-tells x y)
 proposed_eq-tells (entries.Helm v x) (entries.Helm w y) = of_kind-tells kinds.Helm v w x y
 proposed_eq-tells (entries.Intoto v x) (entries.Intoto w y) = of_kind-tells kinds.Intoto v w x y
 proposed_eq-tells (entries.Jar v x) (entries.Jar w y) = of_kind-tells kinds.Jar v w x y
