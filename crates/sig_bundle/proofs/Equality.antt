@@ -1,5 +1,6 @@
 -- The derived `==` of bundles and their parts is equality of all parts.
-use Rattle.std.proofs.Common.{◌≡◌, ℕ, List, IsTrue, Option, refl, ap}
+-- An equality is a path from one side to the other; the path of a record is the record of the paths of its parts.
+use Rattle.std.proofs.Common.{◌≡◌, IsTrue, refl, ap}
 use Rattle.std.proofs.lemmas.Slice.Eq.{slice_eq-Decides}
 use Rattle.std.specs.Bool.{Decides}
 use Rattle.std.proofs.lemmas.Bool.Decides.{Decides-and}
@@ -43,29 +44,17 @@ signer_eq-tells PublicKey PublicKey = (λ e. refl, λ e. refl)
 signer_eq-tells PublicKey (Certificate y) = (λ e. absurd cc, λ e. absurd cc)
 signer_eq-tells PublicKey (X509CertificateChain y) = (λ e. absurd cc, λ e. absurd cc)
 
-material-of_parts : (c d : Option MaterialContent) → (es fs : List TransparencyLogEntry) → (c ≡ d) × (es ≡ fs)
-    → ◌≡◌ {A = VerificationMaterial} (record { content = c; tlog_entries = es })
-    (record { content = d; tlog_entries = fs })
-material-of_parts c d es fs e = rw (e.0, e.1) refl
-
 pub material_eq-tells : (a b : VerificationMaterial) → Decides ((material_eq.ghosts).eq a b) (a ≡ b)
 material_eq-tells a b =
-    decides_same _ (material-of_parts a.content b.content a.tlog_entries b.tlog_entries)
-    (λ e. (ap (λ (m : VerificationMaterial). m.content) e, ap (λ (m : VerificationMaterial). m.tlog_entries) e))
+    decides_same _ (λ e i. record { content = e.0 i; tlog_entries = e.1 i }) (λ e. rw e (refl, refl))
     (Decides-and _ _ (decides_option _ signer_eq-tells a.content b.content)
     (slice_eq-Decides entry_eq-tells a.tlog_entries b.tlog_entries _ refl))
 
 -- ---- the content
 
-message-of_parts : (s t : List ℕ) → (d f : Option (List ℕ)) → (s ≡ t) × (d ≡ f)
-    → ◌≡◌ {A = MessageSignature} (record { signature = s; message_digest = d })
-    (record { signature = t; message_digest = f })
-message-of_parts s t d f e = rw (e.0, e.1) refl
-
 pub message_eq-tells : (a b : MessageSignature) → Decides ((message_eq.ghosts).eq a b) (a ≡ b)
 message_eq-tells a b =
-    decides_same _ (message-of_parts a.signature b.signature a.message_digest b.message_digest)
-    (λ e. (ap (λ (m : MessageSignature). m.signature) e, ap (λ (m : MessageSignature). m.message_digest) e))
+    decides_same _ (λ e i. record { signature = e.0 i; message_digest = e.1 i }) (λ e. rw e (refl, refl))
     (Decides-and _ _ (decides_bytes a.signature b.signature)
     (decides_option _ decides_bytes a.message_digest b.message_digest))
 
@@ -79,20 +68,10 @@ content_eq-tells (content.DsseEnvelope x) (content.DsseEnvelope y) =
 
 -- ---- the bundle
 
-bundle-of_parts : (s t : List ℕ) → (m n : Option VerificationMaterial) → (c d : Option Content)
-    → (s ≡ t) × ((m ≡ n) × (c ≡ d))
-    → ◌≡◌ {A = Bundle} (record { media_type = s; verification_material = m; content = c })
-    (record { media_type = t; verification_material = n; content = d })
-bundle-of_parts s t m n c d e = rw (e.0, e.1.0, e.1.1) refl
-
 pub bundle_eq-tells : (a b : Bundle) → Decides ((whole_eq.ghosts).eq a b) (a ≡ b)
 bundle_eq-tells a b =
-    decides_same _ (bundle-of_parts a.media_type b.media_type a.verification_material b.verification_material a.content
-    b.content)
-    (λ e. (
-      ap (λ (x : Bundle). x.media_type) e,
-      (ap (λ (x : Bundle). x.verification_material) e, ap (λ (x : Bundle). x.content) e),
-    ))
+    decides_same _ (λ e i. record { media_type = e.0 i; verification_material = e.1.0 i; content = e.1.1 i })
+    (λ e. rw e (refl, (refl, refl)))
     (Decides-and _ _ (decides_bytes a.media_type b.media_type)
     (Decides-and _ _ (decides_option _ material_eq-tells a.verification_material b.verification_material)
     (decides_option _ content_eq-tells a.content b.content)))
