@@ -1,11 +1,11 @@
 -- The ranges of a certificate's parts in its DER, and the parts that they are.
-use Rattle.std.specs.Prelude.{ℕ, ◌<◌, ◌≤◌, ℤ, List, Bool, slice_range, map}
+use Rattle.std.specs.Prelude.{◌≡◌, ℕ, ◌<◌, ◌≤◌, ℤ, List, Bool, slice_range, map}
 use Rattle.std.specs.List.{AllPairs}
 use Rattle.sig_der.specs.declared.place.Place.{Place}
 use Rattle.sig_der.specs.Reading.{Piece}
 use Rattle.sig_der.specs.declared.reader.Reader.{Reader}
 use Rattle.sig_der.specs.Places.{piece_at}
-use Rattle.sig_der.specs.Readers.{left, GoesTo}
+use Rattle.sig_der.specs.Readers.{left}
 use Rattle.sig_certificate.specs.declared.span.Span.{Span}
 use Rattle.sig_certificate.specs.declared.parts.Head.{Head as HeadPlaces}
 use Rattle.sig_certificate.specs.declared.parts.Body.{Body as BodyPlaces}
@@ -14,6 +14,12 @@ use Rattle.sig_certificate.specs.declared.parts.Places.{Places}
 use Rattle.sig_certificate.specs.declared.extensions.ExtensionPlaces.{ExtensionPlaces}
 use Rattle.sig_certificate.specs.Certificate.{Extension, Cert}
 use Rattle.sig_certificate.specs.Cutting.{Head, Body, Outer, Parts, certificate_from_parts}
+
+-- a reader after another, over the same buffer to the same end
+pub record GoesTo (r next : Reader) : Type 0 where
+  pub buffer : next.bytes.now ≡ r.bytes.now
+  pub after : r.at ≤ next.at
+  pub ends : next.end ≡ r.end
 
 abbrev pub part : List ℕ → Span → List ℕ
 part bytes s = slice_range bytes s.start s.end

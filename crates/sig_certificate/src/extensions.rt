@@ -9,8 +9,8 @@
 
 ghost use Rattle.std.specs.Prelude.{◌≡◌, ◌<◌, option_map, IfSome};
 ghost use Rattle.sig_certificate.specs.Cutting.{boolean_of, flag_at, extension_at};
-ghost use Rattle.sig_certificate.specs.Places.{value_read, extension_read, AreSpans};
-ghost use Rattle.sig_der.specs.Readers.{left, GoesOn, GoesTo};
+ghost use Rattle.sig_certificate.specs.Places.{value_read, extension_read, AreSpans, GoesTo};
+ghost use Rattle.sig_der.specs.Readers.{left, GoesOn};
 
 use crate::span::{Span, content_of, whole_of};
 use sig_der::{Reader, tag};

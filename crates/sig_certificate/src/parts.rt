@@ -28,8 +28,8 @@ ghost use Rattle.sig_certificate.specs.Cutting.{version_number, explicit_version
 ghost use Rattle.sig_certificate.specs.Cutting.{body_at, after_ids, list_at, outer_at, parts_at};
 ghost use Rattle.sig_certificate.specs.Places.{value_read, head_read, IsHeadWithin, validity_read, IsValidityRead};
 ghost use Rattle.sig_certificate.specs.Places.{body_read, IsBodyWithin, placed_outer, IsOuterWithin, listed_of};
-ghost use Rattle.sig_certificate.specs.Places.{IsListedWithin, parts_of, ArePlaces};
-ghost use Rattle.sig_der.specs.Readers.{left, GoesTo};
+ghost use Rattle.sig_certificate.specs.Places.{IsListedWithin, parts_of, ArePlaces, GoesTo};
+ghost use Rattle.sig_der.specs.Readers.{left};
 
 use crate::span::{Span, content_of, whole_of};
 use sig_der::{Place, Reader, read_algorithm, read_bits, read_key_info, tag};

@@ -1,5 +1,5 @@
 -- What contracts see of a reader over a range of a buffer, and of what it returns.
-use Rattle.std.specs.Prelude.{◌≡◌, ℕ, ◌≤◌, List, Option, Some, None, option_map, slice_range}
+use Rattle.std.specs.Prelude.{◌≡◌, ℕ, List, Option, Some, None, option_map, slice_range}
 use Rattle.sig_der.specs.declared.place.Place.{Place}
 use Rattle.sig_der.specs.declared.reader.Reader.{Reader}
 use Rattle.sig_der.specs.Reading.{Piece}
@@ -32,9 +32,3 @@ pub record IsRead (r : Reader) (x : Place × Reader) : Type 0 where
 abbrev pub IsReadIf : Reader → Option Place × Reader → Type 0
 IsReadIf r (Some p, next) = IsWithin r.at r.end p × GoesOn r p.end next
 IsReadIf r (None, next) = GoesOn r r.at next
-
--- a reader after another, over the same buffer to the same end
-pub record GoesTo (r next : Reader) : Type 0 where
-  pub buffer : next.bytes.now ≡ r.bytes.now
-  pub after : r.at ≤ next.at
-  pub ends : next.end ≡ r.end

@@ -6,7 +6,7 @@ use Rattle.sig_base.specs.declared.fault.CheckpointFault.{CheckpointFault}
 use Rattle.sig_rekor.specs.declared.checkpoint.Checkpoint.{Checkpoint}
 use Rattle.sig_rekor.specs.declared.checkpoint.CheckpointSignature.{CheckpointSignature}
 use Rattle.sig_rekor.specs.Cut.{cut_at, parts_between, trimmed}
-use Rattle.sig_rekor.specs.Reading.{each}
+use Rattle.sig_rekor.specs.Reading.{read_each}
 use Rattle.sig_rekor.specs.NoteText.{note_of}
 use Rattle.sig_rekor.specs.SignatureText.{signature_of}
 use Rattle.sig_rekor.specs.CheckpointText.{quotation_mark, empty_line, is_written, signatures_by, checkpoint_of}
@@ -19,18 +19,18 @@ use Rattle.sig_rekor.proofs.SignatureLaws.{signature-found, signature-only}
 use Rattle.sig_rekor.proofs.SignatureFaults.{signature-fails, signature-only_fails}
 
 -- the signatures, from the left
-pieces-fail : (pieces : List (List ℕ)) (fault : CheckpointFault) → each signature_of pieces ≡ Err fault
+pieces-fail : (pieces : List (List ℕ)) (fault : CheckpointFault) → read_each signature_of pieces ≡ Err fault
     → IsPieceFault pieces fault
 pieces-fail [] fault e = cc
 pieces-fail (piece ∷ pieces) fault e = first (signature_of piece) refl (pieces-fail pieces fault) where
   first : (r : Result CheckpointSignature CheckpointFault) → signature_of piece ≡ r
-      → (each signature_of pieces ≡ Err fault → IsPieceFault pieces fault) → IsPieceFault (piece ∷ pieces) fault
+      → (read_each signature_of pieces ≡ Err fault → IsPieceFault pieces fault) → IsPieceFault (piece ∷ pieces) fault
   first (Err other) is deeper =
       let f = rw is at e in
       let same : other ≡ fault = cc in
       inl (signature-fails piece fault (is ∙ ap Err same))
-  first (Ok s) is deeper = inr ((s, signature-found piece s is), others (each signature_of pieces) refl) where
-    others : (r : Result (List CheckpointSignature) CheckpointFault) → each signature_of pieces ≡ r
+  first (Ok s) is deeper = inr ((s, signature-found piece s is), others (read_each signature_of pieces) refl) where
+    others : (r : Result (List CheckpointSignature) CheckpointFault) → read_each signature_of pieces ≡ r
         → IsPieceFault pieces fault
     others (Ok ss) these = let f = rw (is, these) at e in cc
     others (Err other) these =
@@ -39,28 +39,28 @@ pieces-fail (piece ∷ pieces) fault e = first (signature_of piece) refl (pieces
         deeper (these ∙ ap Err same)
 
 pieces-only_fail : (pieces : List (List ℕ)) (fault : CheckpointFault) → IsPieceFault pieces fault
-    → each signature_of pieces ≡ Err fault
+    → read_each signature_of pieces ≡ Err fault
 pieces-only_fail [] fault fails = absurd fails
 pieces-only_fail (piece ∷ pieces) fault (inl here) = rw (signature-only_fails piece fault here) refl
 pieces-only_fail (piece ∷ pieces) fault (inr later) =
     rw (signature-only piece later.0.0 later.0.1, pieces-only_fail pieces fault later.1) refl
 
-pieces-stand : (pieces : List (List ℕ)) (ss : List CheckpointSignature) → each signature_of pieces ≡ Ok ss
+pieces-stand : (pieces : List (List ℕ)) (ss : List CheckpointSignature) → read_each signature_of pieces ≡ Ok ss
     → AllByRecursion StandsForSignature pieces
 pieces-stand [] ss e = tt
 pieces-stand (piece ∷ pieces) ss e = first (signature_of piece) refl (pieces-stand pieces) where
   first : (r : Result CheckpointSignature CheckpointFault) → signature_of piece ≡ r
-      → ((zs : List CheckpointSignature) → each signature_of pieces ≡ Ok zs → AllByRecursion StandsForSignature pieces)
+      → ((zs : List CheckpointSignature) → read_each signature_of pieces ≡ Ok zs → AllByRecursion StandsForSignature pieces)
       → AllByRecursion StandsForSignature (piece ∷ pieces)
   first (Err other) is deeper = let f = rw is at e in cc
-  first (Ok s) is deeper = ((s, signature-found piece s is), others (each signature_of pieces) refl) where
-    others : (r : Result (List CheckpointSignature) CheckpointFault) → each signature_of pieces ≡ r
+  first (Ok s) is deeper = ((s, signature-found piece s is), others (read_each signature_of pieces) refl) where
+    others : (r : Result (List CheckpointSignature) CheckpointFault) → read_each signature_of pieces ≡ r
         → AllByRecursion StandsForSignature pieces
     others (Ok zs) these = deeper zs these
     others (Err other) these = let f = rw (is, these) at e in cc
 
 pieces-read : (pieces : List (List ℕ)) → AllByRecursion StandsForSignature pieces
-    → (ss : List CheckpointSignature) × (each signature_of pieces ≡ Ok ss)
+    → (ss : List CheckpointSignature) × (read_each signature_of pieces ≡ Ok ss)
 pieces-read [] all = ([], refl)
 pieces-read (piece ∷ pieces) all =
     let others = pieces-read pieces all.1 in
@@ -84,7 +84,7 @@ checkpoint-fails text fault e = by_cut (cut_at empty_line (trimmed quotation_mar
         ),
         cc,
       )
-  by_cut (Some cut) is = inr (cut.0, written, has, read (each signature_of written) refl) where
+  by_cut (Some cut) is = inr (cut.0, written, has, read (read_each signature_of written) refl) where
     written : List (List ℕ)
     written = filter is_written (parts_between empty_line cut.1)
 
@@ -99,7 +99,7 @@ checkpoint-fails text fault e = by_cut (cut_at empty_line (trimmed quotation_mar
       kept = refl;
     }
 
-    read : (r : Result (List CheckpointSignature) CheckpointFault) → each signature_of written ≡ r
+    read : (r : Result (List CheckpointSignature) CheckpointFault) → read_each signature_of written ≡ r
         → IsPieceFault written fault ⊎ (AllByRecursion StandsForSignature written × IsNoteFault cut.0 fault)
     read (Err other) these =
         let f = rw (is, these) at e in

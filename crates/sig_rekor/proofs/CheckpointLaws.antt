@@ -9,7 +9,7 @@ use Rattle.sig_rekor.specs.CheckpointText.{quotation_mark, empty_line, is_writte
 use Rattle.sig_rekor.specs.CheckpointText.{checkpoint_by, checkpoint_of}
 use Rattle.sig_rekor.proofs.Cutting.{cut_at-some, cut_at-cut, parts_between-found, parts_between-only, trimmed-found}
 use Rattle.sig_rekor.proofs.Cutting.{trimmed-only}
-use Rattle.sig_rekor.proofs.Steps.{each-found, each-only}
+use Rattle.sig_rekor.proofs.Steps.{read_each-found, read_each-only}
 use Rattle.sig_rekor.proofs.NoteLaws.{note-found, note-only}
 use Rattle.sig_rekor.proofs.SignatureLaws.{signature-found, signature-only}
 
@@ -32,7 +32,7 @@ cut-found text checkpoint (Some split) cut e =
       split = cut_at-some empty_line (trimmed quotation_mark text) split.0 split.1 cut;
       between = parts_between-found empty_line split.1 (omega arith);
       signatures =
-          each-found signature_of IsSignature signature-found
+          read_each-found signature_of IsSignature signature-found
           (filter is_written (parts_between empty_line split.1)) a.0 a.1;
       note = note-found split.0 b.0 b.1;
     })
@@ -50,7 +50,7 @@ checkpoint-only text checkpoint is =
       trimmed-only quotation_mark text is.body is.quotes,
       cut_at-cut empty_line is.body is.note_part is.rest (omega arith) is.split,
       parts_between-only empty_line is.rest is.pieces (omega arith) is.between,
-      each-only signature_of IsSignature signature-only
+      read_each-only signature_of IsSignature signature-only
           (filter is_written is.pieces) checkpoint.signatures is.signatures,
       note-only is.note_part checkpoint.note is.note,
     ) refl

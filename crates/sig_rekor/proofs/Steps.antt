@@ -6,7 +6,7 @@ use Rattle.sig_base.specs.declared.fault.CheckpointFault.{CheckpointFault}
 use Rattle.std.specs.List.{AllZip, AllByRecursion}
 use Rattle.sig_base.proofs.ResultSteps.{bind_ok}
 use Rattle.sig_rekor.specs.declared.fault.ParseCheckpointError.{ParseCheckpointError}
-use Rattle.sig_rekor.specs.Reading.{each, as_error, Reads}
+use Rattle.sig_rekor.specs.Reading.{read_each, as_error, Reads}
 
 -- what is appended, piece by piece and element by element
 pub ruleset appended = (append_assoc, flat_map_more, take_more)
@@ -36,22 +36,22 @@ pub reads-only : {X : Type 0} (r : Result X ParseCheckpointError) (read : Result
 reads-only r read x is same = subst (Reads (λ x. x) r) same is
 
 -- each of a list
-pub each-found : {A B : Type 0} (read : A → Result B CheckpointFault) (R : A → B → Type 0)
-    → ((x : A) (y : B) → read x ≡ Ok y → R x y) → (xs : List A) (ys : List B) → each read xs ≡ Ok ys → AllZip R xs ys
-each-found read R found [] [] e = tt
-each-found read R found [] (y ∷ ys) e = cc
-each-found read R found (x ∷ xs) ys e =
+pub read_each-found : {A B : Type 0} (read : A → Result B CheckpointFault) (R : A → B → Type 0)
+    → ((x : A) (y : B) → read x ≡ Ok y → R x y) → (xs : List A) (ys : List B) → read_each read xs ≡ Ok ys → AllZip R xs ys
+read_each-found read R found [] [] e = tt
+read_each-found read R found [] (y ∷ ys) e = cc
+read_each-found read R found (x ∷ xs) ys e =
     let a = bind_ok (read x) _ ys e in
-    let b = bind_ok (each read xs) _ ys a.2 in
+    let b = bind_ok (read_each read xs) _ ys a.2 in
     let same : a.0 ∷ b.0 ≡ ys = (let f = b.2 in cc) in
-    subst (AllZip R (x ∷ xs)) same (found x a.0 a.1, each-found read R found xs b.0 b.1)
+    subst (AllZip R (x ∷ xs)) same (found x a.0 a.1, read_each-found read R found xs b.0 b.1)
 
-pub each-only : {A B : Type 0} (read : A → Result B CheckpointFault) (R : A → B → Type 0)
-    → ((x : A) (y : B) → R x y → read x ≡ Ok y) → (xs : List A) (ys : List B) → AllZip R xs ys → each read xs ≡ Ok ys
-each-only read R only [] [] are = refl
-each-only read R only [] (y ∷ ys) are = absurd are
-each-only read R only (x ∷ xs) [] are = absurd are
-each-only read R only (x ∷ xs) (y ∷ ys) are = rw (only x y are.0, each-only read R only xs ys are.1) refl
+pub read_each-only : {A B : Type 0} (read : A → Result B CheckpointFault) (R : A → B → Type 0)
+    → ((x : A) (y : B) → R x y → read x ≡ Ok y) → (xs : List A) (ys : List B) → AllZip R xs ys → read_each read xs ≡ Ok ys
+read_each-only read R only [] [] are = refl
+read_each-only read R only [] (y ∷ ys) are = absurd are
+read_each-only read R only (x ∷ xs) [] are = absurd are
+read_each-only read R only (x ∷ xs) (y ∷ ys) are = rw (only x y are.0, read_each-only read R only xs ys are.1) refl
 
 -- one more element of which P holds
 pub all_push : {A : Type 0} (P : A → Type 0) (xs : List A) (x : A) → AllByRecursion P xs → P x

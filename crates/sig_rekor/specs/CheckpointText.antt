@@ -7,7 +7,7 @@ use Rattle.sig_base.specs.declared.fault.CheckpointFault.TheVariants.{Format}
 use Rattle.sig_rekor.specs.declared.checkpoint.SignedCheckpoint.{SignedCheckpoint}
 use Rattle.sig_rekor.specs.declared.checkpoint.CheckpointSignature.{CheckpointSignature}
 use Rattle.sig_rekor.specs.Cut.{IsTrimmed, IsCut, IsParts, trimmed, cut_at, parts_between}
-use Rattle.sig_rekor.specs.Reading.{each}
+use Rattle.sig_rekor.specs.Reading.{read_each}
 use Rattle.sig_rekor.specs.NoteText.{newline, is_blank, IsNote, note_of, note_text}
 use Rattle.sig_rekor.specs.SignatureText.{IsSignature, signature_of, signature_text}
 
@@ -37,7 +37,7 @@ pub record IsCheckpoint (text : List ℕ) (checkpoint : SignedCheckpoint) : Type
 
 -- the signatures of the pieces, from the left
 unfoldable pub signatures_by : List (List ℕ) → Result (List CheckpointSignature) CheckpointFault
-signatures_by pieces = each signature_of (filter is_written pieces)
+signatures_by pieces = read_each signature_of (filter is_written pieces)
 
 -- the same behind those that were read before
 abbrev pub signatures_on : List CheckpointSignature → List (List ℕ) → Result (List CheckpointSignature) CheckpointFault

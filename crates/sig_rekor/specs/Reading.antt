@@ -11,11 +11,11 @@ use Rattle.sig_rekor.specs.declared.fault.ParseCheckpointError.{ParseCheckpointE
 use Rattle.sig_rekor.specs.declared.fault.ParseCheckpointError.TheVariants.{DecodeError, OutOfMemory}
 
 -- each of a list read in order
-abbrev pub each : {A B : Type 0} → (A → Result B CheckpointFault) → List A → Result (List B) CheckpointFault
-each read [] = Ok []
-each read (x ∷ xs) = do
+abbrev pub read_each : {A B : Type 0} → (A → Result B CheckpointFault) → List A → Result (List B) CheckpointFault
+read_each read [] = Ok []
+read_each read (x ∷ xs) = do
   first ← read x
-  others ← each read xs
+  others ← read_each read xs
   Ok (first ∷ others)
 
 -- the bytes of a text in base64 (RFC 4648 section 4), or the fault

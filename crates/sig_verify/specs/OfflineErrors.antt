@@ -122,12 +122,12 @@ abbrev pub of_json : Part → JsonError → OfflineError
 of_json part json.OutOfMemory = offline.OutOfMemory
 of_json part why = offline.Json part why
 
-abbrev pub of_pool : PoolError → OfflineError
-of_pool (pool.Anchor place) = offline.Anchor place
-of_pool other = offline.OutOfMemory
+abbrev pub offline_of_pool : PoolError → OfflineError
+offline_of_pool (pool.Anchor place) = offline.Anchor place
+offline_of_pool other = offline.OutOfMemory
 
 -- a trusted root of which no verifier could be made has no others than these
 abbrev pub of_root : SigstoreError → OfflineError
 of_root (sigstore.TufMetadataError lacking) = offline.TrustRoot lacking
-of_root (sigstore.CertificatePoolError error) = of_pool error
+of_root (sigstore.CertificatePoolError error) = offline_of_pool error
 of_root other = offline.OutOfMemory
