@@ -30,7 +30,7 @@ use Rattle.sig_rekor.specs.declared.checkpoint.SignedCheckpoint.{SignedCheckpoin
 use Rattle.sig_base.proofs.ByteLists.{byte_at}
 use Rattle.sig_verify.proofs.EntryPromises.{PromiseLaws}
 use Rattle.sig_verify.specs.EntryLinks.{HasLogKey, IsOfBytes, LogKeys, OfCheckpoint, OfLogKey}
-use Rattle.sig_questions.proofs.RowLaws.{has_both, has_each, empty_has, has_one}
+use Rattle.sig_questions.proofs.RowLaws.{has_each, has_either, empty_has, has_one}
 use Rattle.sig_questions.specs.Asked.{IsContentRow, IsNoteRow, IsNoteRowOf, IsPromiseRow, IsSignatureRow}
 use Rattle.sig_questions.specs.Lists.{checkpoint_in, checkpoint_questions, content_questions}
 use Rattle.sig_questions.specs.Lists.{content_questions_under, entry_questions, entry_questions_under, if_scheme}
@@ -220,16 +220,8 @@ module _ (laws : PromiseLaws) (keys : LogKeys) (e : TransparencyLogEntry) (bytes
   has_under : (scheme : VerifyScheme) (spki : List ℕ)
       → Contains (promise_questions scheme spki e ++ note_questions scheme spki e) row ↔ IsEntryUnder scheme spki
   has_under scheme spki =
-      let both = has_both (promise_questions scheme spki e) (note_questions scheme spki e) row in (
-        (λ has. elim (both.0 has) [
-          | inl promise ↦ inl ((has_promise scheme spki).0 promise)
-          | inr note ↦ inr ((has_note scheme spki).0 note)
-        ]),
-        (λ is. both.1 (elim is [
-          | inl promise ↦ inl ((has_promise scheme spki).1 promise)
-          | inr note ↦ inr ((has_note scheme spki).1 note)
-        ])),
-      )
+      has_either (promise_questions scheme spki e) (note_questions scheme spki e) row (has_promise scheme spki)
+      (has_note scheme spki)
 
   found_as : (id : List ℕ) → e.log_id ≡ Some id → (key : VerifyScheme × List ℕ) → HasLogKey keys e key
       → text_lookup (encode_lower id) keys ≡ Some key.1

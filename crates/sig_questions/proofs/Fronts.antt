@@ -3,10 +3,12 @@ use Rattle.std.proofs.Common.{◌≡◌, ◌⊎◌, ◌↔◌, ℕ, ℤ, Bool, t
 use Rattle.std.proofs.Common.{inl, inr, refl, sym, ap, subst, ◌∙◌}
 use Rattle.std.specs.List.{AllByRecursion}
 use Rattle.sig_base.specs.Rules.{FailsFirst}
+use Rattle.sig_certificate.specs.Certificate.{Cert}
 use Rattle.sig_dsse.specs.declared.artifact_digest.ArtifactDigest.{ArtifactDigest}
 use Rattle.sig_policy.specs.Refusals.{not_found}
 use Rattle.sig_verify.proofs.JudgedLaws.{Alike, all_as}
 use Rattle.sig_verify.proofs.OfflineBytes.{inputs}
+use Rattle.sig_verify.specs.CertificateLinks.{HasIssuer}
 use Rattle.sig_verify.specs.Judged.{IsOfFirst}
 use Rattle.sig_verify.specs.Links.{HoldsOf, Inputs, IsFirstFailing, Outside, chain_links}
 use Rattle.sig_verify.specs.OfflineErrors.{link_of}
@@ -17,10 +19,11 @@ use Rattle.sig_verify.specs.declared.link.Link.TheVariants.{Inclusion}
 use Rattle.sig_verify.specs.declared.offline.Offline.{Offline}
 use Rattle.sig_verify.specs.declared.offline_error.OfflineError.{OfflineError}
 use Rattle.sig_verify.specs.declared.offline_error.OfflineError.TheVariants.{OutOfMemory}
-use Rattle.sig_questions.proofs.Issuers.{may_be, some_first}
+use Rattle.sig_questions.proofs.Issuers.{may_be, some_issuer}
+use Rattle.sig_questions.proofs.Parts.{checked_as, of_checked}
 use Rattle.sig_questions.specs.Asked.{every_signature}
 use Rattle.sig_questions.specs.Front.{IsFrontTold, front_result}
-use Rattle.sig_questions.specs.Questions.{HoldsUnasked, RefusalsAreForAll, accepting, front_links, question_links}
+use Rattle.sig_questions.specs.Questions.{HoldsUnasked, RefusalsAreForAll, accepting, front_links}
 
 -- ---- rules up to one
 
@@ -91,17 +94,19 @@ front_alike o p i =
 pub silent : (o : Outside) (i : Inputs)
     → ((issuer algorithm tbs signature : List ℕ) → o.checker.cert issuer algorithm tbs signature ≡ false)
     → ¬ HoldsOf o i Issuer
-silent o i denied (root, root_is, (anchors, are, (b, b_is, (c, passed, of)))) =
-    let x = of.first.anchor in
+silent o i denied =
+    of_checked i (λ trust c. HasIssuer o.checker trust c.certificate) ⊥ (λ p of.
+    let c : Cert = p.parts.checked.certificate in
     let wrong : true ≡ false = sym of.first.issued.signed.genuine
-    ∙ denied x.spki c.certificate.algorithm c.certificate.tbs c.certificate.signature in cc
+    ∙ denied of.first.anchor.spki c.algorithm c.tbs c.signature in cc)
 
 -- an anchor that issued it may have done so
 issuer_unasked : (o : Outside) (i : Inputs) → HoldsOf o i Issuer → HoldsUnasked i Issuer
-issuer_unasked o i (root, root_is, (anchors, are, (b, b_is, (c, passed, of)))) =
-    let some = some_first every_signature c.certificate c.certificate.not_before anchors of.index of.first.anchor
-    of.first.there (may_be o.checker.cert c.certificate of.first.anchor of.first.issued) in
-    (root, root_is, (anchors, are, (b, b_is, (c, passed, record { index = some.0; first = some.1; holds = tt }))))
+issuer_unasked o i =
+    checked_as i (λ trust c. HasIssuer o.checker trust c.certificate)
+    (λ trust c. HasIssuer accepting.checker trust c.certificate)
+    (λ p of. some_issuer every_signature p.parts.checked.certificate p.anchors of.index of.first.anchor of.first.there
+    (may_be o.checker.cert p.parts.checked.certificate of.first.anchor of.first.issued))
 
 abbrev denying : Outside
 denying = record {

@@ -3,6 +3,7 @@ use Rattle.std.proofs.Common.{◌≡◌, ℕ, zero, suc, ◌<◌, ℤ, Bool, tru
 use Rattle.std.proofs.Common.{subst, arith, ◌∙◌}
 use Rattle.std.specs.Prelude.{slice_get}
 use Rattle.sig_certificate.specs.Certificate.{Cert}
+use Rattle.sig_verify.specs.CertificateLinks.{OfIssuer}
 use Rattle.sig_x509.proofs.IssuedLaws.{issued_from, issued_is}
 use Rattle.sig_x509.specs.Issuance.{Accepts, is_issued}
 use Rattle.sig_x509.specs.Issued.{IsFirstIssuer, IsIssuedBy}
@@ -72,7 +73,7 @@ module _ (accepts : Accepts) (c : Cert) (t : ℤ) where
   FindsFirst anchors x = (n : ℕ) → slice_get anchors n ≡ Some x → (first : ℕ) × IsFirstIssuer accepts c t anchors first
 
   -- where some anchor issued it, one is the first
-  pub some_first : (anchors : List Cert) (index : ℕ) (x : Cert) → slice_get anchors index ≡ Some x
+  some_first : (anchors : List Cert) (index : ℕ) (x : Cert) → slice_get anchors index ≡ Some x
       → IsIssuedBy accepts c t x → (first : ℕ) × IsFirstIssuer accepts c t anchors first
   some_first [] index x there is = absurd cc
   some_first (y ∷ ys) index x there is = by (is_issued accepts c t y) refl (λ n got. some_first ys n x got is)
@@ -102,3 +103,11 @@ module _ (accepts : Accepts) (c : Cert) (t : ℤ) where
             shifted y ys
                 (λ its. let wrong : true ≡ false = sym (issued_is accepts c t y its) ∙ fails in cc) found.0 found.1,
           )
+
+-- where some anchor issued the certificate, it has an issuer
+pub some_issuer : (accepts : Accepts) (c : Cert) (anchors : List Cert) (index : ℕ) (x : Cert)
+    → slice_get anchors index ≡ Some x → IsIssuedBy accepts c c.not_before x
+    → OfIssuer accepts anchors c (λ anchor. Unit {0})
+some_issuer accepts c anchors index x there is =
+    let found = some_first accepts c c.not_before anchors index x there is in
+    record { index = found.0; first = found.1; holds = tt }

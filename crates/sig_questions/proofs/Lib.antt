@@ -1,4 +1,6 @@
 pub mod Issuers
+pub mod Parts
+pub mod AskedRows
 pub mod Agreement
 pub mod Suffices
 pub mod RowLaws

@@ -8,9 +8,9 @@ use Rattle.std.proofs.lemmas.List.Elements.{Contains-append_right}
 use Rattle.sig_base.proofs.AcceptedRows.{accepted-rows}
 use Rattle.sig_base.specs.Checker.{accepted}
 use Rattle.sig_base.specs.declared.checker.AcceptedRow.{AcceptedRow}
-use Rattle.sig_base.specs.declared.checker.Operation.{Operation}
 use Rattle.sig_base.specs.declared.checker.Operation.TheVariants as kinds
 use Rattle.sig_base.specs.declared.scheme.VerifyScheme.{VerifyScheme}
+use Rattle.sig_bundle.specs.Checked.{Checked}
 use Rattle.sig_bundle.specs.Promise.{promise_of_entry}
 use Rattle.sig_bundle.specs.declared.content_check.CheckedContent.{CheckedContent}
 use Rattle.sig_bundle.specs.declared.content_check.CheckedContent.TheVariants.{MessageSignature, Dsse}
@@ -20,23 +20,29 @@ use Rattle.sig_dsse.specs.declared.artifact_digest.ArtifactDigest.TheVariants.{S
 use Rattle.sig_rekor.specs.NoteText.{note_text}
 use Rattle.sig_rekor.specs.Verify.{has_accepted_signature}
 use Rattle.sig_rekor.specs.declared.checkpoint.CheckpointSignature.{CheckpointSignature}
-use Rattle.sig_rekor.specs.declared.checkpoint.SignedCheckpoint.{SignedCheckpoint}
 use Rattle.sig_timestamp.specs.SctBytes.{signed_bytes, signed_of}
-use Rattle.sig_verify.specs.CertificateLinks.{IsContentSignedUnder, OfIssuer}
-use Rattle.sig_verify.specs.Links.{HoldsOf, Inputs, OfChecked, OfLogged}
-use Rattle.sig_verify.specs.Verdict.{PolicyOf}
+use Rattle.sig_verify.specs.CertificateLinks.{HasIssuer, HasSignedBytes, IsContentSignedUnder, IsSignedContent}
+use Rattle.sig_verify.specs.CertificateLinks.{IsVouchedFor}
+use Rattle.sig_verify.specs.EntryLinks.{HasCanonicalPromise, IsNoteSignedBy, IsPromisedBy}
+use Rattle.sig_verify.specs.Links.{Inputs}
+use Rattle.sig_verify.specs.Verdict.{Checker}
 use Rattle.sig_verify.specs.declared.link.Link.TheVariants.{Issuer, Sct, Signature, Promise, NoteKey}
 use Rattle.sig_x509.specs.Issuance.{Accepts}
 use Rattle.sig_x509.specs.Issued.{IsIssuedBy}
 use Rattle.sig_questions.proofs.Fronts.{silent}
-use Rattle.sig_questions.proofs.Issuers.{some_first}
+use Rattle.sig_questions.proofs.Issuers.{some_issuer}
+use Rattle.sig_questions.proofs.Parts.{Parts, AnchoredParts, checked_to, log_keys_of, logged_to, of_checked, of_logged}
+use Rattle.sig_questions.proofs.Parts.{trust_with}
 use Rattle.sig_questions.proofs.RowLaws.{has_one, same_element}
-use Rattle.sig_questions.specs.Asked.{IsAskedBy, IsCertificateRow, IsContentRow, IsNoteRow, IsPointRow, IsPromiseRow}
+use Rattle.sig_questions.specs.Asked.{IsCertificateRow, IsContentRow, IsNoteRow, IsPointRow, IsPromiseRow}
 use Rattle.sig_questions.specs.Asked.{IsSignatureRow, MayBeIssuer}
 use Rattle.sig_questions.specs.Matters.{EachQuestionMatters, Matters, checker_with, table_with}
 use Rattle.sig_questions.specs.Rows.{certificate_row, message_row, point_row, prehash_row}
 
 -- ---- tables
+
+no_truth : false ≡ true → ⊥
+no_truth wrong = cc
 
 in_front : (row : AcceptedRow) (rows : List AcceptedRow)
     → accepted (row ∷ rows) row.operation row.scheme row.key row.message row.signature ≡ true
@@ -72,27 +78,22 @@ issued_with accepts c x may genuine = record {
 
 -- ---- the certificate
 
-module _ (i : Inputs) where
-  certificate_matters : (row : AcceptedRow) → OfChecked i (λ trust c. IsCertificateRow trust c.certificate row)
-      → Matters i row
-  certificate_matters row (root, root_is, (anchors, are, (b, b_is, (c, passed, (index, x, there, (may, is)))))) =
-      let its : AcceptedRow =
-      certificate_row x.spki c.certificate.algorithm c.certificate.tbs c.certificate.signature in
-      let accepts : Accepts = (checker_with (its ∷ [])).cert in
-      let first = some_first accepts c.certificate c.certificate.not_before anchors index x there
-      (issued_with accepts c.certificate x may (in_front its [])) in
-      subst (Matters i) (sym is) (
-        Issuer,
-        [],
-        λ policy. (
-          (
-            root,
-            root_is,
-            (anchors, are, (b, b_is, (c, passed, record { index = first.0; first = first.1; holds = tt }))),
-          ),
-          silent (table_with [] policy) i (λ issuer algorithm tbs signature. refl),
-        ),
-      )
+certificate_matters : {i : Inputs} (p : AnchoredParts i) (row : AcceptedRow)
+    → IsCertificateRow (trust_with p) p.parts.checked.certificate row → Matters i row
+certificate_matters {i} p row (index, x, there, (may, is)) =
+    let c : Cert = p.parts.checked.certificate in
+    let its : AcceptedRow = certificate_row x.spki c.algorithm c.tbs c.signature in
+    let k : Checker = checker_with (its ∷ []) in
+    let issuer : HasIssuer k (trust_with p) c =
+    some_issuer k.cert c p.anchors index x there (issued_with k.cert c x may (in_front its [])) in
+    subst (Matters i) (sym is) (
+      Issuer,
+      [],
+      λ policy. (
+        checked_to p (λ trust d. HasIssuer k trust d.certificate) issuer,
+        silent (table_with [] policy) i (λ issuer algorithm tbs signature. refl),
+      ),
+    )
 
 -- ---- its SCT
 
@@ -124,78 +125,40 @@ module _ (c x : Cert) (point message signature : List ℕ) where
         | inr other ↦ same_key row second_row ((has_one second_row row).0 other)
       ]
 
-module _ (i : Inputs) where
-  point_matters : (row : AcceptedRow) → OfChecked i (λ trust c. IsPointRow trust c.certificate row) → Matters i row
-  point_matters row (
-    root,
-    root_is,
-    (
-      anchors,
-      are,
-      (
-        b,
-        b_is,
+point_matters : {i : Inputs} (p : AnchoredParts i) (row : AcceptedRow)
+    → IsPointRow (trust_with p) p.parts.checked.certificate row → Matters i row
+point_matters {i} p row (index, x, there, (may, (s, has, (long, short, point, at, is)))) =
+    let c : Cert = p.parts.checked.certificate in
+    let its : AcceptedRow = point_row point (signed_bytes (signed_of c x.spki s)) s.signature in
+    let other : AcceptedRow = certificate_row x.spki c.algorithm c.tbs c.signature in
+    let k : Checker = checker_with (its ∷ other ∷ []) in
+    let genuine : k.cert x.spki c.algorithm c.tbs c.signature ≡ true =
+    (accepted-rows (its ∷ other ∷ []) kinds.Certificate c.algorithm x.spki c.tbs c.signature).1
+    (Contains-append_right (its ∷ []) (other ∷ []) other ((has_one other other).1 refl)) in
+    let issuer : HasIssuer k (trust_with p) c =
+    some_issuer k.cert c p.anchors index x there (issued_with k.cert c x may genuine) in
+    let y : Cert = issuer.first.anchor in
+    let key : y.spki ≡ x.spki =
+    key_of_issuer c x point (signed_bytes (signed_of c x.spki s)) s.signature y issuer.first.issued in
+    let vouched : k.point point (signed_bytes (signed_of c y.spki s)) s.signature ≡ true =
+    subst (λ (spki : List ℕ). k.point point (signed_bytes (signed_of c spki s)) s.signature ≡ true) (sym key)
+    (in_front its (other ∷ [])) in
+    subst (Matters i) (sym is) (
+      Sct,
+      other ∷ [],
+      λ policy. (
         (
-          c,
-          passed,
-          (
-            index,
-            x,
-            there,
-            (may, (s, has, (long, short, point, at, is))),
+          checked_to p (λ trust d. HasSignedBytes d.certificate) (s, has, (long, short)),
+          checked_to p (λ trust d. IsVouchedFor k trust d.certificate) (
+            s,
+            has,
+            record { index = issuer.index; first = issuer.first; holds = (point, at, vouched) },
           ),
         ),
+        (λ holds. of_checked i (λ trust d. IsVouchedFor (checker_with (other ∷ [])) trust d.certificate) ⊥
+            (λ q of. no_truth of.2.holds.2) holds.1),
       ),
-    ),
-  ) =
-      let message : List ℕ = signed_bytes (signed_of c.certificate x.spki s) in
-      let its : AcceptedRow = point_row point message s.signature in
-      let other : AcceptedRow =
-      certificate_row x.spki c.certificate.algorithm c.certificate.tbs c.certificate.signature in
-      let accepts : Accepts = (checker_with (its ∷ other ∷ [])).cert in
-      let genuine : accepts x.spki c.certificate.algorithm c.certificate.tbs c.certificate.signature ≡ true =
-      (accepted-rows (its ∷ other ∷ []) kinds.Certificate c.certificate.algorithm x.spki c.certificate.tbs
-      c.certificate.signature).1
-      (Contains-append_right (its ∷ []) (other ∷ []) other ((has_one other other).1 refl)) in
-      let first = some_first accepts c.certificate c.certificate.not_before anchors index x there
-      (issued_with accepts c.certificate x may genuine) in
-      let key : first.1.anchor.spki ≡ x.spki =
-      key_of_issuer c.certificate x point message s.signature first.1.anchor first.1.issued in
-      let accepted_so : accepted (its ∷ other ∷ []) kinds.Point [] point
-      (signed_bytes (signed_of c.certificate first.1.anchor.spki s)) s.signature ≡ true =
-      subst (λ (spki : List ℕ). accepted (its ∷ other ∷ []) kinds.Point [] point
-      (signed_bytes (signed_of c.certificate spki s)) s.signature ≡ true) (sym key) (in_front its (other ∷ [])) in
-      subst (Matters i) (sym is) (
-        Sct,
-        other ∷ [],
-        λ policy. (
-          (
-            (root, root_is, (anchors, are, (b, b_is, (c, passed, (s, has, (long, short)))))),
-            (
-              root,
-              root_is,
-              (
-                anchors,
-                are,
-                (
-                  b,
-                  b_is,
-                  (
-                    c,
-                    passed,
-                    (
-                      s,
-                      has,
-                      record { index = first.0; first = first.1; holds = (point, at, accepted_so) },
-                    ),
-                  ),
-                ),
-              ),
-            ),
-          ),
-          (λ holds. let wrong : false ≡ true = holds.1.2.2.2.2.2.holds.2 in cc),
-        ),
-      )
+    )
 
 -- ---- the content
 
@@ -216,102 +179,76 @@ signed_with scheme spki (Sha512 bytes) MessageSignature signature row is = absur
 
 never_signed : (d : ArtifactDigest) (content : CheckedContent) (signature : List ℕ)
     → IsContentSignedUnder (λ message s. false) (λ digest s. false) d content signature → ⊥
-never_signed d (Dsse pae digests envelope payload) signature signed = let wrong : false ≡ true = signed in cc
-never_signed (Sha256 bytes) MessageSignature signature signed = let wrong : false ≡ true = signed in cc
+never_signed d (Dsse pae digests envelope payload) signature signed = no_truth signed
+never_signed (Sha256 bytes) MessageSignature signature signed = no_truth signed
 never_signed (Sha512 bytes) MessageSignature signature signed = signed
 
-module _ (i : Inputs) where
-  content_matters : (row : AcceptedRow) → OfChecked i (λ trust c. IsContentRow i.digest c row) → Matters i row
-  content_matters row (root, root_is, (anchors, are, (b, b_is, (c, passed, (scheme, kind, is))))) = (
-    Signature,
-    [],
-    λ policy. (
-      (
-        root,
-        root_is,
-        (
-          anchors,
-          are,
-          (
-            b,
-            b_is,
-            (
-              c,
-              passed,
-              (
-                scheme,
-                kind,
-                signed_with scheme c.certificate.spki i.digest c.content c.signature row is,
-              ),
-            ),
-          ),
-        ),
+content_matters : {i : Inputs} (p : AnchoredParts i) (row : AcceptedRow)
+    → IsContentRow i.digest p.parts.checked row → Matters i row
+content_matters {i} p row (scheme, kind, is) =
+    let c : Checked = p.parts.checked in (
+      Signature,
+      [],
+      λ policy. (
+        checked_to p (λ trust d. IsSignedContent (checker_with (row ∷ [])) i.digest d)
+            (scheme, kind, signed_with scheme c.certificate.spki i.digest c.content c.signature row is),
+        of_checked i (λ trust d. IsSignedContent (checker_with []) i.digest d) ⊥
+            (λ q of. never_signed i.digest q.parts.checked.content q.parts.checked.signature of.2),
       ),
-      (λ holds. never_signed i.digest holds.2.2.2.0.content holds.2.2.2.0.signature holds.2.2.2.2.2),
-    ),
-  )
+    )
 
-  -- ---- the log entry
+-- ---- the log entry
 
-  promise_matters : (row : AcceptedRow) → OfLogged i (λ keys e. IsPromiseRow keys e row) → Matters i row
-  promise_matters row (root, root_is, (b, b_is, (c, passed, (key, has_key, (exact, promise, there, is))))) =
-      let its : AcceptedRow = message_row key.0 key.1 (promise_of_entry c.entry) promise in
-      subst (Matters i) (sym is) (
-        Promise,
-        [],
-        λ policy. (
-          (
-            (root, root_is, (b, b_is, (c, passed, (ap is_some there, exact)))),
-            (root, root_is, (b, b_is, (c, passed, (key, has_key, (promise, there, in_front its []))))),
-          ),
-          (λ holds. let wrong : false ≡ true = holds.1.2.2.2.2.2 in cc),
+promise_matters : {i : Inputs} (p : Parts i) (row : AcceptedRow) → IsPromiseRow (log_keys_of p) p.checked.entry row
+    → Matters i row
+promise_matters {i} p row (key, has_key, (exact, promise, there, is)) =
+    let its : AcceptedRow = message_row key.0 key.1 (promise_of_entry p.checked.entry) promise in
+    subst (Matters i) (sym is) (
+      Promise,
+      [],
+      λ policy. (
+        (
+          logged_to p (λ keys e. HasCanonicalPromise e) (ap is_some there, exact),
+          logged_to p (λ keys e. IsPromisedBy (checker_with (its ∷ [])).spki keys e)
+              (key, has_key, (promise, there, in_front its [])),
         ),
-      )
+        (λ holds. of_logged i (λ keys e. IsPromisedBy (checker_with []).spki keys e) ⊥ (λ q of. no_truth of.2.2)
+            holds.1),
+      ),
+    )
 
-  note_matters : (row : AcceptedRow) → OfLogged i (λ keys e. IsNoteRow keys e row) → Matters i row
-  unfolding has_accepted_signature
-  note_matters row
-      (root, root_is, (b, b_is, (c, passed, (key, has_key, (p, proof, (n, text, (index, s, there, is))))))) =
-      let its : AcceptedRow = message_row key.0 key.1 (note_text n.note) s.raw in
-      subst (Matters i) (sym is) (
-        NoteKey,
-        [],
-        λ policy. (
-          (
-            root,
-            root_is,
-            (
-              b,
-              b_is,
-              (
-                c,
-                passed,
-                (
-                  key,
-                  has_key,
-                  (
-                    p,
-                    proof,
-                    (
-                      n,
-                      text,
-                      any_has (λ (g : CheckpointSignature). (checker_with (its ∷ [])).spki key.0 key.1
-                          (note_text n.note) g.raw) n.signatures index s there (in_front its []),
-                    ),
-                  ),
-                ),
-              ),
-            ),
-          ),
-          (λ holds.
-              let m : SignedCheckpoint = holds.2.2.2.2.2.0 in
-              let wrong : false ≡ true = sym (any_none m.signatures) ∙ holds.2.2.2.2.2.2 in cc),
+note_matters : {i : Inputs} (p : Parts i) (row : AcceptedRow) → IsNoteRow (log_keys_of p) p.checked.entry row
+    → Matters i row
+unfolding has_accepted_signature
+note_matters {i} p row (key, has_key, (proof, proof_is, (n, text, (index, s, there, is)))) =
+    let its : AcceptedRow = message_row key.0 key.1 (note_text n.note) s.raw in
+    let signs : CheckpointSignature → Bool =
+    λ g. (checker_with (its ∷ [])).spki key.0 key.1 (note_text n.note) g.raw in
+    subst (Matters i) (sym is) (
+      NoteKey,
+      [],
+      λ policy. (
+        logged_to p (λ keys e. IsNoteSignedBy (checker_with (its ∷ [])).spki keys e) (
+          key,
+          has_key,
+          (proof, proof_is, (n, text, any_has signs n.signatures index s there (in_front its []))),
         ),
-      )
+        of_logged i (λ keys e. IsNoteSignedBy (checker_with []).spki keys e) ⊥
+            (λ q (at, has_at, (found, found_is, (m, read, signed))). no_truth (sym (any_none m.signatures) ∙ signed)),
+      ),
+    )
+
+-- ---- all of them
 
 pub questions_matter : EachQuestionMatters
-questions_matter i row (inl certificate) = certificate_matters i row certificate
-questions_matter i row (inr (inl point)) = point_matters i row point
-questions_matter i row (inr (inr (inl content))) = content_matters i row content
-questions_matter i row (inr (inr (inr (inl promise)))) = promise_matters i row promise
-questions_matter i row (inr (inr (inr (inr note)))) = note_matters i row note
+questions_matter i row (inl certificate) =
+    of_checked i (λ trust c. IsCertificateRow trust c.certificate row) (Matters i row) (λ p. certificate_matters p row)
+    certificate
+questions_matter i row (inr (inl point)) =
+    of_checked i (λ trust c. IsPointRow trust c.certificate row) (Matters i row) (λ p. point_matters p row) point
+questions_matter i row (inr (inr (inl content))) =
+    of_checked i (λ trust c. IsContentRow i.digest c row) (Matters i row) (λ p. content_matters p row) content
+questions_matter i row (inr (inr (inr (inl promise)))) =
+    of_logged i (λ keys e. IsPromiseRow keys e row) (Matters i row) (λ p. promise_matters p row) promise
+questions_matter i row (inr (inr (inr (inr note)))) =
+    of_logged i (λ keys e. IsNoteRow keys e row) (Matters i row) (λ p. note_matters p row) note

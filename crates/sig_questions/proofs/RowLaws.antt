@@ -22,6 +22,21 @@ has_both {X = X} xs ys x = (Contains-append_cases xs ys x, back)
     back (inl has) = Contains-append_left xs ys x has
     back (inr has) = Contains-append_right xs ys x has
 
+-- where of each list these are the elements
+pub has_either : {X P Q : Type 0} (xs ys : List X) (x : X) → Contains xs x ↔ P → Contains ys x ↔ Q
+    → Contains (xs ++ ys) x ↔ (P ⊎ Q)
+has_either {X = X} {P = P} {Q = Q} xs ys x first second =
+    let parts = has_both xs ys x in (
+      (λ has. elim (parts.0 has) [
+        | inl here ↦ inl (first.0 here)
+        | inr there ↦ inr (second.0 there)
+      ]),
+      (λ of. parts.1 (elim of [
+        | inl p ↦ inl (first.1 p)
+        | inr q ↦ inr (second.1 q)
+      ])),
+    )
+
 -- one of the elements gives it
 abbrev pub OfSome : {X Y : Type 0} → List X → (X → Y → Type 0) → Y → Type 0
 OfSome {X} {Y} xs P y = (index : ℕ) × (x : X) × (slice_get xs index ≡ Some x) × P x y

@@ -23,20 +23,18 @@ use Rattle.sig_rekor.specs.CheckpointText.{checkpoint_of}
 use Rattle.sig_rekor.specs.NoteText.{note_text}
 use Rattle.sig_rekor.specs.declared.checkpoint.SignedCheckpoint.{SignedCheckpoint}
 use Rattle.sig_timestamp.specs.Embedded.{ready}
-use Rattle.sig_timestamp.specs.Keyring.{key_of}
 use Rattle.sig_timestamp.specs.SctBytes.{signed_bytes}
 use Rattle.sig_timestamp.specs.Timestamps.{sct_of}
 use Rattle.sig_timestamp.specs.declared.sct_error.SCTError.{SCTError}
 use Rattle.sig_timestamp.specs.declared.signed.DigitallySigned.{DigitallySigned}
 use Rattle.sig_verify.specs.CertificateLinks.{Trust}
 use Rattle.sig_verify.specs.EntryLinks.{LogKeys}
-use Rattle.sig_verify.specs.RootLinks.{ct_keys, rekor_keys}
-use Rattle.sig_verify.specs.Verifier.{values_of}
+use Rattle.sig_questions.proofs.Parts.{log_keys_of, of_parts, trust_with}
 use Rattle.sig_questions.proofs.RowLaws.{empty_has, has_both, has_each, has_one}
 use Rattle.sig_questions.specs.Lists.{certificate_questions, checkpoint_questions, content_questions}
 use Rattle.sig_questions.specs.Lists.{content_questions_under, embedded_questions, entry_questions}
 use Rattle.sig_questions.specs.Lists.{entry_questions_under, if_scheme, may_be_issuer, note_question, note_questions}
-use Rattle.sig_questions.specs.Lists.{note_questions_of, pointed_questions, promise_questions, promise_questions_by}
+use Rattle.sig_questions.specs.Lists.{pointed_questions, promise_questions, promise_questions_by}
 use Rattle.sig_questions.specs.Lists.{promise_questions_over, questions_of, sct_questions, spki_named}
 use Rattle.sig_questions.specs.Lists.{text_of_proof, text_questions}
 use Rattle.sig_questions.specs.Questions.{QuestionsHaveSchemes}
@@ -158,7 +156,7 @@ all_had d trust keys c =
     (entry_under c.entry (spki_named keys c.entry.log_id))))
 
 pub questions_schemed : QuestionsHaveSchemes
-questions_schemed i rows (root, root_is, (anchors, are, (b, b_is, (c, passed, is)))) row has =
-    all_had i.digest (record { anchors = anchors; points = key_of (values_of (ct_keys root i.now)) })
-    (rekor_keys root i.now) c row
-    (subst (λ (rs : List AcceptedRow). Contains rs row) is has)
+questions_schemed i rows are row has =
+    of_parts i (λ trust keys c. rows ≡ questions_of i.digest trust keys c) (HasScheme row)
+    (λ p is. all_had i.digest (trust_with p) (log_keys_of p.parts) p.parts.checked row
+    (subst (λ (rs : List AcceptedRow). Contains rs row) is has)) are

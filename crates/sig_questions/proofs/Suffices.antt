@@ -13,10 +13,10 @@ use Rattle.sig_verify.specs.declared.link.Link.TheVariants.{Issuance, Issuer, Sc
 use Rattle.sig_verify.specs.declared.link.Link.TheVariants.{Body, Time}
 use Rattle.sig_verify.specs.declared.link.Link.TheVariants.{LogKey, Promise, Proof, Checkpoint, NoteKey, NoteMatch}
 use Rattle.sig_verify.specs.declared.link.Link.TheVariants.{Inclusion, Consistency}
-use Rattle.sig_questions.proofs.Agreement.{agree_back, content_too, issuer_too, note_too, promise_too, vouched_too}
+use Rattle.sig_questions.proofs.Agreement.{agree_back, agree_where, content_too, issuer_too, note_too, promise_too}
+use Rattle.sig_questions.proofs.Agreement.{vouched_too}
 use Rattle.sig_questions.specs.Asked.{IsAskedBy}
 use Rattle.sig_questions.specs.Questions.{AgreeWhere, QuestionsSuffice, SameLinks, Suffices}
-use Rattle.sig_questions.specs.Rows.{certificate_row, message_row, point_row, prehash_row}
 
 abbrev outside : Checker → PolicyOf → Outside
 outside k policy = record { checker = k; policy = policy }
@@ -87,9 +87,4 @@ questions_suffice one_certificate i one other policy agree =
 pub rows_suffice : QuestionsSuffice → (i : Inputs) (Holds : AcceptedRow → Type 0)
     → ((row : AcceptedRow) → IsAskedBy i row → Holds row) → Suffices Holds i
 rows_suffice law i Holds has one other policy agree =
-    law i one other policy (record {
-      message = λ s k m g is. agree.message s k m g (has (message_row s k m g) is);
-      prehash = λ s k m g is. agree.prehash s k m g (has (prehash_row s k m g) is);
-      point = λ k m g is. agree.point k m g (has (point_row k m g) is);
-      certificate = λ k a m g is. agree.certificate k a m g (has (certificate_row k a m g) is);
-    })
+    law i one other policy (agree_where has agree)
