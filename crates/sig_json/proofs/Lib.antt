@@ -27,6 +27,7 @@ pub mod MemberOrder
 pub mod Named
 pub mod Only
 pub mod Skipping
+pub mod ShortIntegers
 pub mod Keeping
 pub mod KeptReading
 pub mod Streaming

@@ -1,5 +1,7 @@
 //! A value that is passed over: checked as it would be read, but no tree is made of it.
-ghost use Rattle.std.specs.Prelude.{◌≡◌, ◌<◌, None, Err, length, OnOk};
+ghost use Rattle.std.specs.Prelude.{◌≡◌, ◌<◌, None, Err, length, OnOk, IsTrue};
+ghost use Rattle.std.specs.Char.{is_ascii_digit};
+ghost use Rattle.std.specs.List.{list_all};
 ghost use Rattle.serde_json.specs.Read.{number_of};
 ghost use Rattle.sig_json.specs.Skipped.{IsWhole, PassesValue, PassesItems, PassesMembers};
 ghost use Rattle.sig_json.specs.Skipped.{value_meant, items_meant, members_meant};
@@ -7,6 +9,9 @@ ghost use Rattle.sig_json.specs.Skipped.{value_meant, items_meant, members_meant
 use crate::error::SkipError;
 use crate::number::number_in;
 use json::{Reader, Token};
+
+/// So many decimal digits write a number below 2^64.
+const FEW_DIGITS: usize = 19;
 
 /// Passes over the next value, whose lists and objects nest to at most `depth`. It takes no memory. Fails with
 /// `NotJson` only if there is no such value, and with `Unsure` at the first number that is held as a float: a later
@@ -45,15 +50,31 @@ pub(crate) fn skip_value(reader: &mut Reader<'_>, depth: usize) -> Result<(), Sk
     }
 }
 
+/// A number of few digits is an integer by its looks. Any other is read.
 fn skip_number(text: &str) -> Result<(), SkipError>
     ensures ok { OnOk result (IsWhole text.now) }
     ensures err { result ≡ Err SkipError.NotJson → number_of text.now ≡ None }
 {
+    if is_short_integer(text.as_bytes()) {
+        return Ok(());
+    }
     let number = number_in(text).ok_or(SkipError::NotJson)?;
     if number.is_f64() {
         return Err(SkipError::Unsure);
     }
     Ok(())
+}
+
+fn is_short_integer(text: &[u8]) -> bool
+    ensures { IsTrue result → IsWhole text.now }
+{
+    !text.is_empty() && text.len() <= FEW_DIGITS && are_digits(text)
+}
+
+fn are_digits(text: &[u8]) -> bool
+    ensures { result ≡ list_all is_ascii_digit text.now }
+{
+    text.iter().all(|letter| letter.is_ascii_digit())
 }
 
 /// The elements of a list, behind its opening bracket.
