@@ -1,6 +1,7 @@
 pub mod Trees
 pub mod OrMember
 pub mod Ordered
+pub mod Scanned
 pub mod CompactTexts
 pub mod Copies
 pub mod Converted

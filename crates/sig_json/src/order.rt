@@ -17,16 +17,35 @@ use std::collections::BTreeMap;
 /// So many members are put in order by insertion, and more by a map, whose nodes are large.
 const FEW: usize = 32;
 
+/// Among so few members a name is found soonest by a look at each.
+const SCANNED: usize = 8;
+
 /// The value of a name.
 #[tactic(auto, using(crate::proofs::Ordered::found))]
 pub(crate) fn find<'a>(members: &'a Vec<(String, Tree)>, name: &str) -> Option<&'a Tree>
     requires { InOrder members.now.items }
     ensures { option_map (λ t. view t.now) result ≡ get_member name.now (members_view members.now.items) }
 {
+    if members.len() <= SCANNED {
+        return first_of_name(members.as_slice(), name);
+    }
     match search(members, name) {
         Ok(place) => Some(&members[place].1),
         Err(_) => None,
     }
+}
+
+/// The value of the first member of a name.
+#[tactic(auto, using(crate::proofs::Scanned::scanned))]
+fn first_of_name<'a>(members: &'a [(String, Tree)], name: &str) -> Option<&'a Tree>
+    ensures { option_map (λ t. view t.now) result ≡ get_member name.now (members_view members.now) }
+{
+    'members: for member in members {
+        if member.0.as_str() == name {
+            return Some(&member.1);
+        }
+    }
+    None
 }
 
 /// Where the member of a name is, or else where it would go.
