@@ -2,6 +2,7 @@ pub mod Trees
 pub mod OrMember
 pub mod Ordered
 pub mod Scanned
+pub mod Adding
 pub mod CompactTexts
 pub mod Copies
 pub mod Converted

@@ -47,7 +47,7 @@ at_place P [] i d all within = absurd (omega arith)
 at_place P (e ∷ es) zero d all within = all.0
 at_place P (e ∷ es) (suc i) d all within = at_place P es i d all.1 (omega arith)
 
-ascend_by_place : (es : List Entry) (i j : ℕ) (d : Entry) → InOrder es → i < j → j < length es
+pub ascend_by_place : (es : List Entry) (i j : ℕ) (d : Entry) → InOrder es → i < j → j < length es
     → compare (string_bytes (get_or es i d).0) (string_bytes (get_or es j d).0) ≡ Less
 unfolding IsStrictlySortedBy
 ascend_by_place [] i j d up below within = absurd (omega arith)
@@ -221,7 +221,7 @@ below_from_next name (e ∷ es) up next =
           (at_place (λ other. compare (string_bytes e.0) other ≡ Less) es 0 d up.0 some)),
     )
 
-less_from_is_lt : (o : Ordering) → true ≡ is_lt o → o ≡ Less
+pub less_from_is_lt : (o : Ordering) → true ≡ is_lt o → o ≡ Less
 less_from_is_lt Less is = refl
 less_from_is_lt Equal is = cc
 less_from_is_lt Greater is = cc

@@ -20,9 +20,9 @@ use Rattle.sig_json.proofs.Converted.{as_it_is, converted-array, converted-objec
 use Rattle.sig_json.proofs.Converted.{member_read, member_refused, key_refused, members_over, whole_read}
 use Rattle.sig_json.proofs.Converted.{whole_and_more, whole_refused}
 use Rattle.sig_json.proofs.Named.{ascend-put, values-put}
-use Rattle.sig_json.proofs.Ordered.{gathered_more}
+use Rattle.sig_json.proofs.Ordered.{in_order-none}
 use Rattle.sig_json.proofs.Trees.{view-Null, view-Bool, view-Number, view-Text, view-Array, view-Object}
-use Rattle.sig_json.specs.Gathered.{Entry, gathered}
+use Rattle.sig_json.specs.Gathered.{Entry, gathered, AreInOrderIfFew}
 use Rattle.sig_json.specs.Named.{IsNamed, AreNamed, NamesAscend, HasNamedValues}
 use Rattle.sig_json.specs.View.{view, items_view, members_view}
 use Rattle.sig_json.specs.declared.tree.Tree.{Tree, Null, Bool as Truth, Number as Numeral, Text, Array, Object}
@@ -251,13 +251,12 @@ pub object_step :
     (tree : Tree)
     → ObjectSoFar depth start left found
     → read_key left ≡ Some (Some k, inner) → string_bytes name ≡ k → Means depth inner next (view tree)
-    → length next < length inner → IsNamed (view tree) → more ≡ found ++ (name, tree) ∷ []
-    → ObjectSoFar depth start next more
-object_step depth start left inner next found more k name tree so_far key same means less one pushed =
+    → length next < length inner → IsNamed (view tree)
+    → gathered more ≡ put (string_bytes name) (view tree) (gathered found) → ObjectSoFar depth start next more
+object_step depth start left inner next found more k name tree so_far key same means less one added =
     let old = gathered found in
     let within = read_key-shorter left (Some k) inner key in
-    let put_in : gathered more ≡ put k (view tree) old =
-    rw (pushed, gathered_more found (name, tree) no_members, same) refl in
+    let put_in : gathered more ≡ put k (view tree) old = added ∙ ap (λ k. put k (view tree) old) same in
     let utf8 = subst IsUtf8 same (IsUtf8-string_bytes name) in
     record {
       turns = so_far.turns - 1;
@@ -300,6 +299,10 @@ pub ordered_named : (depth : ℕ) (start left : List Token) (found ordered : Lis
     → NamesAscend (members_view ordered) × HasNamedValues (members_view ordered)
 ordered_named depth start left found ordered so_far same = rw same (so_far.ascend, so_far.named)
 
+-- no member was read yet
+pub none_yet : (found : List Entry) → found ≡ [] → AreInOrderIfFew found
+none_yet found none = rw none (λ few. in_order-none)
+
 pub ruleset objects = (
   object_start,
   object_step,
@@ -307,6 +310,7 @@ pub ruleset objects = (
   object_refused_at_value,
   ordered_end,
   ordered_named,
+  none_yet,
   read_key-shorter,
 )
 

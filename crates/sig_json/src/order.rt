@@ -1,11 +1,11 @@
 //! Members in the byte order of their names: found by a binary search, set at their place, and put in order when they
 //! were read.
-ghost use Rattle.std.specs.Prelude.{◌≡◌, ◌<◌, length, OnOk, OnErr, IfOk, IsTrue, option_map, string_bytes};
+ghost use Rattle.std.specs.Prelude.{◌≡◌, ◌<◌, ◌≤◌, ◌+◌, length, OnOk, OnErr, IfOk, IsTrue, option_map, string_bytes};
 ghost use Rattle.std.specs.Cmp.Lexicographic.{slice_cmp};
 ghost use Rattle.std.specs.Ordering.{nat_cmp, is_lt};
 ghost use Rattle.serde_json.specs.Data.{put as with_member};
 ghost use Rattle.serde_json.specs.Find.{get_member};
-ghost use Rattle.sig_json.specs.Gathered.{gathered, IsPlaceOf, InOrder};
+ghost use Rattle.sig_json.specs.Gathered.{gathered, IsPlaceOf, InOrder, AreInOrderIfFew};
 ghost use Rattle.sig_json.specs.View.{view, members_view};
 
 use crate::tree::Tree;
@@ -14,7 +14,7 @@ use std::alloc::Global;
 use std::cmp::Ordering;
 use std::collections::BTreeMap;
 
-/// So many members are put in order by insertion, and more by a map, whose nodes are large.
+/// So many members are put in order as they are read, and more at the end, by a map, whose nodes are large.
 const FEW: usize = 32;
 
 /// Among so few members a name is found soonest by a look at each.
@@ -87,6 +87,44 @@ pub(crate) fn put(
     }
 }
 
+/// Adds a member as it was read. While the members are few it goes to its place among them, and later it is put behind
+/// them, for `all_in_order`. The first takes room for itself alone, as most objects of a large document have no other.
+#[tactic(auto, using(crate::proofs::Adding::added))]
+pub(crate) fn add_member(
+    members: &mut Vec<(String, Tree)>,
+    name: String,
+    value: Tree,
+) -> Result<(), OutOfMemory>
+    requires { AreInOrderIfFew members.old.items }
+    ensures added { OnOk result (gathered members.new.items
+        ≡ with_member (string_bytes name) (view value) (gathered members.old.items)) }
+    ensures in_order { OnOk result (AreInOrderIfFew members.new.items) }
+{
+    if members.is_empty() {
+        members.reserve_exact(1)?;
+    }
+    if members.len() < FEW {
+        return insert(members, name, value);
+    }
+    members.push((name, value))?;
+    Ok(())
+}
+
+/// The members that `add_member` was given, in the byte order of their names: of equal names the last value counts.
+#[tactic(auto, using(crate::proofs::Ordered::ordered))]
+pub(crate) fn all_in_order(
+    alloc: Global,
+    members: Vec<(String, Tree)>,
+) -> Result<Vec<(String, Tree)>, OutOfMemory>
+    requires { AreInOrderIfFew members.items }
+    ensures { IfOk result (λ ordered. members_view ordered.items ≡ gathered members.items) }
+{
+    if members.len() <= FEW {
+        return Ok(members);
+    }
+    in_order(alloc, members)
+}
+
 /// Members as they were read, in the byte order of their names: of equal names the last value counts. Names that
 /// ascend already, as they mostly do, stay where they are.
 #[tactic(auto, using(crate::proofs::Ordered::ordered))]
@@ -99,34 +137,18 @@ pub(crate) fn in_order(
     if ascends(members.as_slice()) {
         return Ok(members);
     }
-    if members.len() <= FEW {
-        inserted(alloc, members)
-    } else {
-        sorted(alloc, members)
-    }
-}
-
-/// The same, for few members: each goes to its place among those before it.
-#[tactic(auto, using(crate::proofs::Ordered::ordered))]
-fn inserted(alloc: Global, members: Vec<(String, Tree)>) -> Result<Vec<(String, Tree)>, OutOfMemory>
-    ensures { IfOk result (λ ordered. members_view ordered.items ≡ gathered members.items) }
-{
-    let mut ordered = Vec::new(alloc);
-    ordered.reserve_exact(members.len())?;
-    'members: for (name, value) in members {
-        insert(&mut ordered, name, value)?;
-    }
-    Ok(ordered)
+    sorted(alloc, members)
 }
 
 /// Sets the member of a name that is owned, as `put` does. Fails only if memory runs out.
 #[tactic(auto, using(crate::proofs::Ordered::placed))]
 fn insert(members: &mut Vec<(String, Tree)>, name: String, value: Tree) -> Result<(), OutOfMemory>
     requires { InOrder members.old.items }
-    ensures { OnOk result (members_view members.new.items
+    ensures set { OnOk result (members_view members.new.items
         ≡ with_member (string_bytes name) (view value) (members_view members.old.items)) }
+    ensures len { length members.new.items ≤ length members.old.items + 1 }
 {
-    match search(members, name.as_str()) {
+    match place_of(members, name.as_str()) {
         Ok(place) => {
             members[place].1 = value;
             Ok(())
@@ -136,6 +158,22 @@ fn insert(members: &mut Vec<(String, Tree)>, name: String, value: Tree) -> Resul
             Ok(())
         }
     }
+}
+
+/// The same as `search`. That a name goes behind the last, as most do, is told by one comparison.
+#[tactic(auto, using(crate::proofs::Adding::behind))]
+fn place_of(members: &Vec<(String, Tree)>, name: &str) -> Result<usize, usize>
+    requires { InOrder members.now.items }
+    ensures { IsPlaceOf name.now members.now.items result }
+{
+    let count = members.len();
+    if count == 0 {
+        return Err(0);
+    }
+    if is_below(members[count - 1].0.as_str(), name) {
+        return Err(count);
+    }
+    search(members, name)
 }
 
 fn is_below(name: &str, other: &str) -> bool

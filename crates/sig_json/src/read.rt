@@ -9,7 +9,7 @@ ghost use Rattle.sig_json.specs.View.{view, items_view, members_view};
 
 use crate::error::ReadError;
 use crate::number::number_in;
-use crate::order::in_order;
+use crate::order::{add_member, all_in_order};
 use crate::tree::Tree;
 use json::{Reader, Scratch, Token};
 use sig_base::OutOfMemory;
@@ -112,9 +112,9 @@ fn read_members(
     'members: while let Some(name) = reader.next_key()? {
         let key = String::from_str(alloc, name)?;
         let value = read_value(alloc, reader, depth)?;
-        add(&mut found, (key, value))?;
+        add_member(&mut found, key, value)?;
     }
-    let mut ordered = in_order(alloc, found)?;
+    let mut ordered = all_in_order(alloc, found)?;
     ordered.shrink_to_fit();
     Ok(ordered)
 }

@@ -16,27 +16,29 @@ read_items-returns-in_err-item-clause-err t c refused =
 
 pub read_members-returns-in_err-name-clause-err : goal.read_members-returns-in_err-name-clause-err
 read_members-returns-in_err-name-clause-err t c refused =
-    object_refused_at_key _ _ _ _ c.members.invariant c.in_err-name.ensures.value
+    object_refused_at_key _ _ _ _ c.members.invariant.0 c.in_err-name.ensures.value
 
 pub read_members-returns-in_err-value-clause-err : goal.read_members-returns-in_err-value-clause-err
 read_members-returns-in_err-value-clause-err t c refused =
     let l = c.members in
     let key : read_key l.reader ≡ Some (Some c.in-Some.name.now, c.next_key.new.self) = grind arith in
-    object_refused_at_value _ _ _ _ _ _ l.invariant key (c.read_value.ensures.err (grind arith))
+    object_refused_at_value _ _ _ _ _ _ l.invariant.0 key (c.read_value.ensures.err (grind arith))
 
 pub read_members-members-preserved : goal.read_members-members-preserved
 read_members-members-preserved t c =
     let l = c.members in
     let key : read_key l.reader ≡ Some (Some c.in-Some.name.now, c.next_key.new.self) = grind arith in
-    let done = c.in_ok-value.ensures in
-    object_step _ _ _ _ _ l.found.items c.add.new.found.items c.in-Some.name.now c.in_ok-key.key c.in_ok-value.value
-    l.invariant key (search rules) done.ok done.shorter done.named (search rules)
+    let done = c.in_ok-value.ensures in (
+      object_step _ _ _ _ _ l.found.items c.add_member.new.members.items c.in-Some.name.now c.in_ok-key.key
+          c.in_ok-value.value l.invariant.0 key (search rules) done.ok done.shorter done.named (search rules),
+      search rules,
+    )
 
 pub read_members-returns-clause-ok : goal.read_members-returns-clause-ok
 read_members-returns-clause-ok t c =
     let l = c.members in
     let end : read_key l.reader ≡ Some (None, c.next_key.new.self) = grind arith in
-    ordered_end _ _ _ _ _ _ l.invariant end (search rules)
+    ordered_end _ _ _ _ _ _ l.invariant.0 end (search rules)
 
 pub read_value-returns-then-depth-eq0-clause-err : goal.read_value-returns-then-depth-eq0-clause-err
 read_value-returns-then-depth-eq0-clause-err t c never =

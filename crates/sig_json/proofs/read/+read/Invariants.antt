@@ -1,5 +1,6 @@
 use Rattle.std.proofs.Common.{◌+◌, ◌*◌, length}
 use Rattle.sig_json.proofs.Tokens.{ListSoFar, ObjectSoFar}
+use Rattle.sig_json.specs.Gathered.{AreInOrderIfFew}
 use Rattle.sig_json.proofs.read.+read.Given as goal
 
 -- a value is read one level further down than what holds it, and each turn takes a token
@@ -19,7 +20,8 @@ abbrev pub decreases-read_items-items : goal.decreases-read_items-items
 decreases-read_items-items l = length l.reader
 
 abbrev pub invariant-read_members-members : goal.invariant-read_members-members
-invariant-read_members-members l = ObjectSoFar l.depth l.initial.reader l.reader l.found.items
+invariant-read_members-members l =
+    ObjectSoFar l.depth l.initial.reader l.reader l.found.items × AreInOrderIfFew l.found.items
 
 abbrev pub decreases-read_members-members : goal.decreases-read_members-members
 decreases-read_members-members l = length l.reader

@@ -1,0 +1,64 @@
+-- A member that is added to those that were read before it.
+use Rattle.std.proofs.Common.{◌≡◌, ℕ, ◌-◌, ◌<◌, true, List, [], ◌∷◌, ◌++◌, length, get_or, Err, String, Global}
+use Rattle.std.proofs.Common.{string_bytes, inl, inr, sym, ap, subst, ◌∙◌, arith}
+use Rattle.std.proofs.lemmas.Bool.{cases_lt}
+use Rattle.std.proofs.lemmas.Cmp.{nat_list_cmp_total}
+use Rattle.std.proofs.lemmas.List.{get_or_default}
+use Rattle.std.specs.Cmp.Lexicographic.{slice_cmp}
+use Rattle.std.specs.Ordering.{nat_cmp, is_lt}
+use Rattle.std.specs.declared.cmp.Ordering.TheVariants.{Less}
+use Rattle.serde_json.specs.Data.{no_members, put}
+use Rattle.sig_json.proofs.Ordered.{ascend_by_place, ascending_stay, gathered_more, in_order-put}
+use Rattle.sig_json.proofs.Ordered.{less_from_is_lt}
+use Rattle.sig_json.specs.Gathered.{Entry, gathered, InOrder, AreInOrderIfFew, IsPlaceOf}
+use Rattle.sig_json.specs.View.{view, members_view}
+use Rattle.sig_json.specs.declared.tree.Tree.{Tree}
+
+-- ---- a place behind the last
+
+pub behind_none : (name : List ℕ) (es : List Entry) (count : ℕ) → count ≡ length es → count ≡ 0
+    → IsPlaceOf name es (Err count)
+behind_none name es count all none =
+    (omega arith, ((λ i d from within. absurd (omega arith)), (λ i d from within. absurd (omega arith))))
+
+pub behind_last : (name : List ℕ) (es : List Entry) (count : ℕ) (last : Entry) → InOrder es → count ≡ length es
+    → (count ≡ 0 → ⊥) → last ≡ get_or es (count - 1) last
+    → true ≡ is_lt (slice_cmp nat_cmp (string_bytes last.0) name) → IsPlaceOf name es (Err count)
+behind_last name es count last up all some is below = (
+  omega arith,
+  ((λ i d from within. lesser i d (omega arith)), (λ i d from within. absurd (omega arith))),
+) where
+  last_below : (d : Entry) → 0 < count → slice_cmp nat_cmp (string_bytes (get_or es (count - 1) d).0) name ≡ Less
+  last_below d any =
+      subst (λ e. slice_cmp nat_cmp (string_bytes e.0) name ≡ Less)
+      (is ∙ get_or_default es (count - 1) last d (omega arith)) (less_from_is_lt _ below)
+
+  lesser : (i : ℕ) (d : Entry) → i < count → slice_cmp nat_cmp (string_bytes (get_or es i d).0) name ≡ Less
+  lesser i d within =
+      elim (cases_lt i (count - 1)) [
+        | inl before ↦ nat_list_cmp_total.trans _ _ name (ascend_by_place es i (count - 1) d up before (omega arith))
+            (last_below d (omega arith))
+        | inr here ↦ let same : i ≡ count - 1 = omega arith in rw same (last_below d (omega arith))
+      ]
+
+pub ruleset behind = (behind_none, behind_last)
+
+-- ---- one member more
+
+pub few_more : (es others : List Entry) (name : String Global) (value : Tree) → AreInOrderIfFew es → length es < 32
+    → members_view others ≡ put (string_bytes name) (view value) (members_view es)
+    → gathered others ≡ put (string_bytes name) (view value) (gathered es)
+few_more es others name value up few is =
+    let before = up (omega arith) in
+    sym (ascending_stay others (in_order-put es others _ _ before is)) ∙ is
+    ∙ ap (put (string_bytes name) (view value)) (ascending_stay es before)
+
+pub few_stay : (es others : List Entry) (name : String Global) (value : Tree) → AreInOrderIfFew es → length es < 32
+    → members_view others ≡ put (string_bytes name) (view value) (members_view es) → AreInOrderIfFew others
+few_stay es others name value up few is = λ any. in_order-put es others _ _ (up (omega arith)) is
+
+pub many_more : (es others : List Entry) (name : String Global) (value : Tree) → others ≡ es ++ (name, value) ∷ []
+    → gathered others ≡ put (string_bytes name) (view value) (gathered es)
+many_more es others name value is = ap gathered is ∙ gathered_more es (name, value) no_members
+
+pub ruleset added = (few_more, few_stay, many_more)
