@@ -1,10 +1,11 @@
 -- A member that is added to those that were read before it.
-use Rattle.std.proofs.Common.{◌≡◌, ℕ, ◌-◌, ◌<◌, true, List, [], ◌∷◌, ◌++◌, length, get_or, Err, String, Global}
-use Rattle.std.proofs.Common.{string_bytes, inl, inr, sym, ap, subst, ◌∙◌, arith}
+use Rattle.std.proofs.Common.{◌≡◌, ℕ, zero, suc, ◌-◌, ◌<◌, true, List, [], ◌∷◌, ◌++◌, length, get_or, Err, String, Global}
+use Rattle.std.proofs.Common.{string_bytes, refl, inl, inr, sym, ap, subst, ◌∙◌, arith}
 use Rattle.std.proofs.lemmas.Bool.{cases_lt}
 use Rattle.std.proofs.lemmas.Cmp.{nat_list_cmp_total}
 use Rattle.std.proofs.lemmas.List.{get_or_default}
 use Rattle.std.specs.Cmp.Lexicographic.{slice_cmp}
+use Rattle.std.specs.List.{insert}
 use Rattle.std.specs.Ordering.{nat_cmp, is_lt}
 use Rattle.std.specs.declared.cmp.Ordering.TheVariants.{Less}
 use Rattle.serde_json.specs.Data.{no_members, put}
@@ -45,7 +46,14 @@ pub ruleset behind = (behind_none, behind_last)
 
 -- ---- one member more
 
-pub few_more : (es others : List Entry) (name : String Global) (value : Tree) → AreInOrderIfFew es → length es < 32
+pub inserted_behind : (es : List Entry) (place : ℕ) (e : Entry) → place ≡ length es
+    → es ++ e ∷ [] ≡ insert es place e
+inserted_behind [] zero e end = refl
+inserted_behind [] (suc place) e end = absurd (omega arith)
+inserted_behind (first ∷ es) zero e end = absurd (omega arith)
+inserted_behind (first ∷ es) (suc place) e end = ap (λ more. first ∷ more) (inserted_behind es place e (omega arith))
+
+pub few_more : (es others : List Entry) (name : String Global) (value : Tree) → AreInOrderIfFew es → length es < 8
     → members_view others ≡ put (string_bytes name) (view value) (members_view es)
     → gathered others ≡ put (string_bytes name) (view value) (gathered es)
 few_more es others name value up few is =
@@ -53,7 +61,7 @@ few_more es others name value up few is =
     sym (ascending_stay others (in_order-put es others _ _ before is)) ∙ is
     ∙ ap (put (string_bytes name) (view value)) (ascending_stay es before)
 
-pub few_stay : (es others : List Entry) (name : String Global) (value : Tree) → AreInOrderIfFew es → length es < 32
+pub few_stay : (es others : List Entry) (name : String Global) (value : Tree) → AreInOrderIfFew es → length es < 8
     → members_view others ≡ put (string_bytes name) (view value) (members_view es) → AreInOrderIfFew others
 few_stay es others name value up few is = λ any. in_order-put es others _ _ (up (omega arith)) is
 

@@ -35,6 +35,6 @@ IsPlaceOf name es (Err place) =
     (place ≤ length es) × IsPartitionPoint (λ e. slice_cmp nat_cmp (string_bytes e.0) name ≡ Less)
     (λ e. slice_cmp nat_cmp (string_bytes e.0) name ≡ Greater) es place
 
--- up to 32 members are put in order as they come
+-- up to 8 members are in order
 abbrev pub AreInOrderIfFew : List Entry → Type 0
-AreInOrderIfFew es = length es ≤ 32 → InOrder es
+AreInOrderIfFew es = length es ≤ 8 → InOrder es

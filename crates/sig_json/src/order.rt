@@ -1,7 +1,8 @@
-//! Members in the byte order of their names: found by a binary search, set at their place, and put in order when they
-//! were read.
+//! Members in the byte order of their names: found by their names, set at their place, and put in order as they are
+//! read.
 ghost use Rattle.std.specs.Prelude.{◌≡◌, ◌<◌, ◌≤◌, ◌+◌, length, OnOk, OnErr, IfOk, IsTrue, option_map, string_bytes};
 ghost use Rattle.std.specs.Cmp.Lexicographic.{slice_cmp};
+ghost use Rattle.std.specs.List.{insert};
 ghost use Rattle.std.specs.Ordering.{nat_cmp, is_lt};
 ghost use Rattle.serde_json.specs.Data.{put as with_member};
 ghost use Rattle.serde_json.specs.Find.{get_member};
@@ -14,11 +15,11 @@ use std::alloc::Global;
 use std::cmp::Ordering;
 use std::collections::BTreeMap;
 
-/// So many members are put in order as they are read, and more at the end, by a map, whose nodes are large.
-const FEW: usize = 32;
+/// So few members are put in order as they are read, and a name is found among them by a look at each.
+const FEW: usize = 8;
 
-/// Among so few members a name is found soonest by a look at each.
-const SCANNED: usize = 8;
+/// Up to so many members are put in order by insertion, and more by a map, whose nodes are large.
+const BY_INSERTION: usize = 32;
 
 /// The value of a name.
 #[tactic(auto, using(crate::proofs::Ordered::found))]
@@ -26,7 +27,7 @@ pub(crate) fn find<'a>(members: &'a Vec<(String, Tree)>, name: &str) -> Option<&
     requires { InOrder members.now.items }
     ensures { option_map (λ t. view t.now) result ≡ get_member name.now (members_view members.now.items) }
 {
-    if members.len() <= SCANNED {
+    if members.len() <= FEW {
         return first_of_name(members.as_slice(), name);
     }
     match search(members, name) {
@@ -87,8 +88,8 @@ pub(crate) fn put(
     }
 }
 
-/// Adds a member as it was read. While the members are few it goes to its place among them, and later it is put behind
-/// them, for `all_in_order`. The first takes room for itself alone, as most objects of a large document have no other.
+/// Adds a member as it was read: to its place while the members are few, and later behind them, for `all_in_order`. The
+/// first takes room for itself alone: most objects of a large document have no other.
 #[tactic(auto, using(crate::proofs::Adding::added))]
 pub(crate) fn add_member(
     members: &mut Vec<(String, Tree)>,
@@ -137,27 +138,58 @@ pub(crate) fn in_order(
     if ascends(members.as_slice()) {
         return Ok(members);
     }
-    sorted(alloc, members)
+    if members.len() <= BY_INSERTION {
+        inserted(alloc, members)
+    } else {
+        sorted(alloc, members)
+    }
+}
+
+/// The same by insertion: each member goes to its place among those before it.
+#[tactic(auto, using(crate::proofs::Ordered::ordered))]
+fn inserted(alloc: Global, members: Vec<(String, Tree)>) -> Result<Vec<(String, Tree)>, OutOfMemory>
+    ensures { IfOk result (λ ordered. members_view ordered.items ≡ gathered members.items) }
+{
+    let mut ordered = Vec::new(alloc);
+    ordered.reserve_exact(members.len())?;
+    'members: for (name, value) in members {
+        insert(&mut ordered, name, value)?;
+    }
+    Ok(ordered)
 }
 
 /// Sets the member of a name that is owned, as `put` does. Fails only if memory runs out.
 #[tactic(auto, using(crate::proofs::Ordered::placed))]
 fn insert(members: &mut Vec<(String, Tree)>, name: String, value: Tree) -> Result<(), OutOfMemory>
     requires { InOrder members.old.items }
-    ensures set { OnOk result (members_view members.new.items
+    ensures { OnOk result (members_view members.new.items
         ≡ with_member (string_bytes name) (view value) (members_view members.old.items)) }
-    ensures len { length members.new.items ≤ length members.old.items + 1 }
 {
     match place_of(members, name.as_str()) {
         Ok(place) => {
             members[place].1 = value;
             Ok(())
         }
-        Err(place) => {
-            members.insert(place, (name, value))?;
-            Ok(())
-        }
+        Err(place) => insert_at(members, place, (name, value)),
     }
+}
+
+/// `Vec::insert`, which at the end costs more than `Vec::push`.
+#[tactic(auto, using(crate::proofs::Adding::inserted_behind))]
+fn insert_at(
+    members: &mut Vec<(String, Tree)>,
+    place: usize,
+    member: (String, Tree),
+) -> Result<(), OutOfMemory>
+    requires { place ≤ length members.old.items }
+    ensures { OnOk result (members.new.items ≡ insert members.old.items place member) }
+{
+    if place == members.len() {
+        members.push(member)?;
+    } else {
+        members.insert(place, member)?;
+    }
+    Ok(())
 }
 
 /// The same as `search`. That a name goes behind the last, as most do, is told by one comparison.
