@@ -3,13 +3,13 @@ use Rattle.std.proofs.Common.{◌≡◌, ℕ, zero, suc, ◌-◌, ◌<◌, true,
 use Rattle.std.proofs.Common.{string_bytes, refl, inl, inr, sym, ap, subst, ◌∙◌, arith}
 use Rattle.std.proofs.lemmas.Bool.{cases_lt}
 use Rattle.std.proofs.lemmas.Cmp.{nat_list_cmp_total}
-use Rattle.std.proofs.lemmas.List.{get_or_default}
+use Rattle.std.proofs.lemmas.List.{get_or_default, length-append}
 use Rattle.std.specs.Cmp.Lexicographic.{slice_cmp}
 use Rattle.std.specs.List.{insert}
 use Rattle.std.specs.Ordering.{nat_cmp, is_lt}
 use Rattle.std.specs.declared.cmp.Ordering.TheVariants.{Less}
 use Rattle.serde_json.specs.Data.{no_members, put}
-use Rattle.sig_json.proofs.Ordered.{ascend_by_place, ascending_stay, gathered_more, in_order-put}
+use Rattle.sig_json.proofs.Ordered.{ascend_by_place, ascending_stay, gathered_more, in_order-put, put_between}
 use Rattle.sig_json.proofs.Ordered.{less_from_is_lt}
 use Rattle.sig_json.specs.Gathered.{Entry, gathered, InOrder, AreInOrderIfFew, IsPlaceOf}
 use Rattle.sig_json.specs.View.{view, members_view}
@@ -17,14 +17,13 @@ use Rattle.sig_json.specs.declared.tree.Tree.{Tree}
 
 -- ---- a place behind the last
 
-pub behind_none : (name : List ℕ) (es : List Entry) (count : ℕ) → count ≡ length es → count ≡ 0
-    → IsPlaceOf name es (Err count)
-behind_none name es count all none =
+pub behind_none : (name : List ℕ) (es : List Entry) → length es ≡ 0 → IsPlaceOf name es (Err (length es))
+behind_none name es none =
     (omega arith, ((λ i d from within. absurd (omega arith)), (λ i d from within. absurd (omega arith))))
 
 pub behind_last : (name : List ℕ) (es : List Entry) (count : ℕ) (last : Entry) → InOrder es → count ≡ length es
     → (count ≡ 0 → ⊥) → last ≡ get_or es (count - 1) last
-    → true ≡ is_lt (slice_cmp nat_cmp (string_bytes last.0) name) → IsPlaceOf name es (Err count)
+    → true ≡ is_lt (slice_cmp nat_cmp (string_bytes last.0) name) → IsPlaceOf name es (Err (length es))
 behind_last name es count last up all some is below = (
   omega arith,
   ((λ i d from within. lesser i d (omega arith)), (λ i d from within. absurd (omega arith))),
@@ -65,8 +64,19 @@ pub few_stay : (es others : List Entry) (name : String Global) (value : Tree) �
     → members_view others ≡ put (string_bytes name) (view value) (members_view es) → AreInOrderIfFew others
 few_stay es others name value up few is = λ any. in_order-put es others _ _ (up (omega arith)) is
 
+-- one that was put behind them
+pub behind_stay : (es others : List Entry) (name : String Global) (value : Tree) → AreInOrderIfFew es
+    → (length es < 8 → InOrder es → IsPlaceOf (string_bytes name) es (Err (length es)))
+    → others ≡ es ++ (name, value) ∷ [] → AreInOrderIfFew others
+behind_stay es others name value up behind is few =
+    let fewer : length es < 8 = omega (arith, ap length is, length-append es ((name, value) ∷ [])) in
+    let before = up (omega arith) in
+    in_order-put es others (string_bytes name) (view value) before
+    (ap members_view (is ∙ inserted_behind es (length es) (name, value) refl)
+    ∙ put_between name es (length es) value (behind fewer before))
+
 pub many_more : (es others : List Entry) (name : String Global) (value : Tree) → others ≡ es ++ (name, value) ∷ []
     → gathered others ≡ put (string_bytes name) (view value) (gathered es)
 many_more es others name value is = ap gathered is ∙ gathered_more es (name, value) no_members
 
-pub ruleset added = (few_more, few_stay, many_more)
+pub ruleset added = (few_more, few_stay, behind_stay, many_more)

@@ -1,8 +1,7 @@
 //! Members in the byte order of their names: found by their names, set at their place, and put in order as they are
 //! read.
-ghost use Rattle.std.specs.Prelude.{◌≡◌, ◌<◌, ◌≤◌, ◌+◌, length, OnOk, OnErr, IfOk, IsTrue, option_map, string_bytes};
+ghost use Rattle.std.specs.Prelude.{◌≡◌, ◌<◌, length, false, Err, OnOk, OnErr, IfOk, IsTrue, option_map, string_bytes};
 ghost use Rattle.std.specs.Cmp.Lexicographic.{slice_cmp};
-ghost use Rattle.std.specs.List.{insert};
 ghost use Rattle.std.specs.Ordering.{nat_cmp, is_lt};
 ghost use Rattle.serde_json.specs.Data.{put as with_member};
 ghost use Rattle.serde_json.specs.Find.{get_member};
@@ -104,11 +103,26 @@ pub(crate) fn add_member(
     if members.is_empty() {
         members.reserve_exact(1)?;
     }
-    if members.len() < FEW {
+    if goes_among(members, name.as_str()) {
         return insert(members, name, value);
     }
     members.push((name, value))?;
     Ok(())
+}
+
+/// Whether the members are few and the name does not go behind them. Of names that ascend, as they mostly do, none
+/// goes among those before it.
+#[tactic(auto, using(crate::proofs::Adding::behind))]
+fn goes_among(members: &Vec<(String, Tree)>, name: &str) -> bool
+    ensures among { IsTrue result → length members.now.items < 8 }
+    ensures behind { result ≡ false → length members.now.items < 8 → InOrder members.now.items
+        → IsPlaceOf name.now members.now.items (Err (length members.now.items)) }
+{
+    let count = members.len();
+    if count == 0 || count >= FEW {
+        return false;
+    }
+    !is_below(members[count - 1].0.as_str(), name)
 }
 
 /// The members that `add_member` was given, in the byte order of their names: of equal names the last value counts.
@@ -165,47 +179,16 @@ fn insert(members: &mut Vec<(String, Tree)>, name: String, value: Tree) -> Resul
     ensures { OnOk result (members_view members.new.items
         ≡ with_member (string_bytes name) (view value) (members_view members.old.items)) }
 {
-    match place_of(members, name.as_str()) {
+    match search(members, name.as_str()) {
         Ok(place) => {
             members[place].1 = value;
             Ok(())
         }
-        Err(place) => insert_at(members, place, (name, value)),
+        Err(place) => {
+            members.insert(place, (name, value))?;
+            Ok(())
+        }
     }
-}
-
-/// `Vec::insert`, which at the end costs more than `Vec::push`.
-#[tactic(auto, using(crate::proofs::Adding::inserted_behind))]
-fn insert_at(
-    members: &mut Vec<(String, Tree)>,
-    place: usize,
-    member: (String, Tree),
-) -> Result<(), OutOfMemory>
-    requires { place ≤ length members.old.items }
-    ensures { OnOk result (members.new.items ≡ insert members.old.items place member) }
-{
-    if place == members.len() {
-        members.push(member)?;
-    } else {
-        members.insert(place, member)?;
-    }
-    Ok(())
-}
-
-/// The same as `search`. That a name goes behind the last, as most do, is told by one comparison.
-#[tactic(auto, using(crate::proofs::Adding::behind))]
-fn place_of(members: &Vec<(String, Tree)>, name: &str) -> Result<usize, usize>
-    requires { InOrder members.now.items }
-    ensures { IsPlaceOf name.now members.now.items result }
-{
-    let count = members.len();
-    if count == 0 {
-        return Err(0);
-    }
-    if is_below(members[count - 1].0.as_str(), name) {
-        return Err(count);
-    }
-    search(members, name)
 }
 
 fn is_below(name: &str, other: &str) -> bool
