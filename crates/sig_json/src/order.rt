@@ -1,5 +1,4 @@
-//! Members in the byte order of their names: found by their names, set at their place, and put in order as they are
-//! read.
+//! Members in the byte order of their names: found, set at their place, and put in order as they are read.
 ghost use Rattle.std.specs.Prelude.{◌≡◌, ◌<◌, length, false, Err, OnOk, OnErr, IfOk, IsTrue, option_map, string_bytes};
 ghost use Rattle.std.specs.Cmp.Lexicographic.{slice_cmp};
 ghost use Rattle.std.specs.Ordering.{nat_cmp, is_lt};
@@ -110,8 +109,7 @@ pub(crate) fn add_member(
     Ok(())
 }
 
-/// Whether the members are few and the name does not go behind them. Of names that ascend, as they mostly do, none
-/// goes among those before it.
+/// Whether the members are few and the name does not go behind them all, as it does where names ascend.
 #[tactic(auto, using(crate::proofs::Adding::behind))]
 fn goes_among(members: &Vec<(String, Tree)>, name: &str) -> bool
     ensures among { IsTrue result → length members.now.items < 8 }
