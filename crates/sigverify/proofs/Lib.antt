@@ -1,8 +1,6 @@
 pub mod ConsistencyReplies
-pub mod ConsistencyRequests
 pub mod ConsistencyVerdicts
 pub mod DigestTexts
-pub mod HeadMembers
 pub mod HeadSignatures
 pub mod HeadVerdicts
 pub mod Included
@@ -14,7 +12,6 @@ pub mod NoteRows
 pub mod Reading
 pub mod Replies
 pub mod RequestTexts
-pub mod Requests
 pub mod RowSizes
 pub mod RowsTexts
 pub mod Runs
@@ -24,6 +21,5 @@ pub mod Verdicts
 pub mod VerifyChains
 pub mod VerifyQuestionReplies
 pub mod VerifyReplies
-pub mod VerifyRequests
 pub mod VerifySufficing
 pub mod Writing

@@ -1,3 +1,4 @@
+pub mod Accepted
 pub mod Command
 pub mod ConsistencyLink
 pub mod ConsistencyRequest

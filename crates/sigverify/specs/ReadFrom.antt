@@ -2,7 +2,6 @@
 use Rattle.std.specs.Prelude.{◌≡◌, ℕ, ◌≤◌, List, length, Option, Some, None, Ok}
 use Rattle.sig_json.specs.Data.{Data}
 use Rattle.sig_json.specs.Document.{document_of}
-use Rattle.sig_json.specs.Only.{only}
 use Rattle.sigverify.specs.Limit.{most_bytes}
 
 -- the text is this request of a table that means this: it has at most 2^24 bytes, it is a document, and its members
@@ -21,7 +20,3 @@ IsFoundIn view meaning text (Some found) = IsRequestOf meaning text (view found)
 -- a request, if and only if the text is one
 abbrev pub IsReadFrom : {R : Type 0} → (Data → Option R) → List ℕ → Option R → Type 0
 IsReadFrom = IsFoundIn (λ request. request)
-
--- for private clauses: the table asks for members of these names alone
-abbrev pub AsksOnly : {R : Type 0} → List (List ℕ) → (Data → Option R) → Type 0
-AsksOnly names meaning = (tree : Data) → meaning (only names tree) ≡ meaning tree

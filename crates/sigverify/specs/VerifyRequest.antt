@@ -1,22 +1,23 @@
 -- The request of `verify`: what its members mean.
-use Rattle.std.specs.Prelude.{codes, Option, Some}
+use Rattle.std.specs.Prelude.{List, codes, Option, Some}
 use Rattle.sig_base.specs.OptionSteps.{◌>>=◌}
+use Rattle.sig_base.specs.declared.checker.AcceptedRow.{AcceptedRow}
 use Rattle.sig_json.specs.Data.{Data}
-use Rattle.sig_json.specs.Member.{optional, optional_list, required, required_i64, required_text}
+use Rattle.sig_json.specs.Member.{optional, required, required_i64, required_text}
+use Rattle.sigverify.specs.Accepted.{with_rows}
 use Rattle.sigverify.specs.DigestText.{digest_kind}
 use Rattle.sigverify.specs.Policy.{request_policy_of}
-use Rattle.sigverify.specs.Row.{entries_of, row_of}
+use Rattle.sigverify.specs.Row.{entries_of}
 use Rattle.sigverify.specs.declared.verify_request.VerifyRequest.{VerifyRequest}
 
--- the members of a request
-unfoldable pub verify_request : Data → Option VerifyRequest
-verify_request d = do
+-- the members of a request beside its rows of `accepted`
+unfoldable pub verify_members : List AcceptedRow → Data → Option VerifyRequest
+verify_members accepted d = do
   trusted_root ← required_text (codes "trustedRoot") d
   bundle ← required_text (codes "bundle") d
   now ← required_i64 (codes "now") d
   digest ← required digest_kind (codes "digest") d
   policy ← required request_policy_of (codes "policy") d
-  accepted ← optional_list row_of (codes "accepted") d
   entries ← optional entries_of (codes "entries") d
   Some (record {
     trusted_root = trusted_root;
@@ -27,3 +28,7 @@ verify_request d = do
     accepted = accepted;
     entries = entries;
   })
+
+-- what a request means
+abbrev pub verify_request : Data → Option VerifyRequest
+verify_request = with_rows verify_members

@@ -16,13 +16,12 @@
 ghost use Rattle.std.specs.Prelude.{IfOk};
 
 use crate::head::SignedHead;
-use crate::head_members::HeadReader;
-use crate::request_text::read_listed;
+use crate::head_members::read_head;
+use crate::request_text::{RequestReader, read_listed};
 use crate::row::AbsentReader;
-use sig_base::{Hashes, OutOfMemory};
+use sig_base::{Hashes, OutOfMemory, TableChecker};
 use sig_json::{
-    ElementReader, HashReader, Json, MemberError, optional, optional_list, required_hash,
-    required_u64,
+    HashReader, Json, MemberError, optional, optional_list, required_hash, required_u64,
 };
 use std::alloc::Global;
 
@@ -43,8 +42,9 @@ pub struct ConsistencyRequest {
     pub head: SignedHead,
 }
 
-/// The names of the members that a request may have. A member of another name is ignored: no tree is made of it.
-const MEMBERS: [&str; 10] = [
+/// The names of the members that a request may have; `accepted` is read beside them, row by row. A member of another
+/// name is ignored: no tree is made of it.
+const MEMBERS: [&str; 9] = [
     "oldSize",
     "oldRoot",
     "treeSize",
@@ -53,37 +53,35 @@ const MEMBERS: [&str; 10] = [
     "checkpoint",
     "scheme",
     "key",
-    "accepted",
     "entries",
 ];
 
 /// Reads requests of `consistency`.
 enum ConsistencyRequestReader {}
 
-impl ElementReader for ConsistencyRequestReader {
-    ghost use Rattle.sigverify.specs.ConsistencyRequest.{consistency_request};
+impl RequestReader for ConsistencyRequestReader {
+    ghost use Rattle.sigverify.specs.ConsistencyRequest.{consistency_members};
 
     type Item = ConsistencyRequest;
 
-    ghost meaning = { consistency_request };
+    ghost meaning = { consistency_members };
 
-    #[tactic(auto, unfolding(crate::specs::ConsistencyRequest::consistency_request))]
-    fn read(alloc: Global, json: Json<'_>) -> Result<ConsistencyRequest, MemberError> {
-        let old_size = required_u64(json, "oldSize")?;
-        let old_root = required_hash(json, "oldRoot")?;
-        let tree_size = required_u64(json, "treeSize")?;
-        let root_hash = required_hash(json, "rootHash")?;
-        let hashes = optional_list::<HashReader>(alloc, json, "hashes")?;
-        let head = HeadReader::read(alloc, json)?;
+    #[tactic(auto, unfolding(crate::specs::ConsistencyRequest::consistency_members))]
+    fn read(
+        alloc: Global,
+        json: Json<'_>,
+        accepted: TableChecker,
+    ) -> Result<ConsistencyRequest, MemberError> {
+        let request = ConsistencyRequest {
+            old_size: required_u64(json, "oldSize")?,
+            old_root: required_hash(json, "oldRoot")?,
+            tree_size: required_u64(json, "treeSize")?,
+            root_hash: required_hash(json, "rootHash")?,
+            hashes: optional_list::<HashReader>(alloc, json, "hashes")?,
+            head: read_head(alloc, json, accepted)?,
+        };
         let _ = optional::<AbsentReader>(alloc, json, "entries")?;
-        Ok(ConsistencyRequest {
-            old_size,
-            old_root,
-            tree_size,
-            root_hash,
-            hashes,
-            head,
-        })
+        Ok(request)
     }
 }
 

@@ -25,13 +25,13 @@
 ghost use Rattle.std.specs.Prelude.{IfOk};
 
 use crate::head::SignedHead;
-use crate::head_members::HeadReader;
-use crate::request_text::read_listed;
+use crate::head_members::read_head;
+use crate::request_text::{RequestReader, read_listed};
 use crate::row::EntriesReader;
-use sig_base::{Bytes, Entries, OutOfMemory};
+use sig_base::{Bytes, Entries, OutOfMemory, TableChecker};
 use sig_json::{
-    ElementReader, HashReader, Json, MemberError, optional, optional_list, required_bytes,
-    required_hash, required_i64, required_u64,
+    HashReader, Json, MemberError, optional, optional_list, required_bytes, required_hash,
+    required_i64, required_u64,
 };
 use sig_rekor::InclusionProof;
 use std::alloc::Global;
@@ -49,8 +49,9 @@ pub struct LogRequest {
     pub entries: Option<Entries>,
 }
 
-/// The names of the members that a request may have. A member of another name is ignored: no tree is made of it.
-const MEMBERS: [&str; 10] = [
+/// The names of the members that a request may have; `accepted` is read beside them, row by row. A member of another
+/// name is ignored: no tree is made of it.
+const MEMBERS: [&str; 9] = [
     "entry",
     "logIndex",
     "treeSize",
@@ -59,28 +60,31 @@ const MEMBERS: [&str; 10] = [
     "checkpoint",
     "scheme",
     "key",
-    "accepted",
     "entries",
 ];
 
 /// Reads requests of `log`.
 enum LogRequestReader {}
 
-impl ElementReader for LogRequestReader {
-    ghost use Rattle.sigverify.specs.Request.{log_request};
+impl RequestReader for LogRequestReader {
+    ghost use Rattle.sigverify.specs.Request.{log_members};
 
     type Item = LogRequest;
 
-    ghost meaning = { log_request };
+    ghost meaning = { log_members };
 
-    #[tactic(auto, unfolding(crate::specs::Request::log_request))]
-    fn read(alloc: Global, json: Json<'_>) -> Result<LogRequest, MemberError> {
+    #[tactic(auto, unfolding(crate::specs::Request::log_members))]
+    fn read(
+        alloc: Global,
+        json: Json<'_>,
+        accepted: TableChecker,
+    ) -> Result<LogRequest, MemberError> {
         let entry = required_bytes(alloc, json, "entry")?;
         let log_index = required_i64(json, "logIndex")?;
         let tree_size = required_u64(json, "treeSize")?;
         let root_hash = required_hash(json, "rootHash")?;
         let hashes = optional_list::<HashReader>(alloc, json, "hashes")?;
-        let head = HeadReader::read(alloc, json)?;
+        let head = read_head(alloc, json, accepted)?;
         let entries = optional::<EntriesReader>(alloc, json, "entries")?;
         Ok(LogRequest {
             entry,

@@ -11,7 +11,7 @@ ghost use Rattle.sigverify.specs.declared.command.Command.TheVariants.{Verify};
 
 use crate::reply::Reply;
 use crate::second_line::second_line;
-use crate::verify_request::{VerifyRequest, time_of};
+use crate::verify_request::{VerifyRequest, bundle_of, time_of, trusted_root_of};
 use sig_base::OutOfMemory;
 use sig_verify::{Link, Offline, OfflineError, verify_offline};
 use std::alloc::Global;
@@ -67,10 +67,10 @@ fn verify_chain(alloc: Global, request: &VerifyRequest) -> Result<Offline, Offli
     let now = time_of(request);
     verify_offline(
         alloc,
-        request.trusted_root.as_str().as_bytes(),
+        trusted_root_of(request),
         now,
         &request.digest,
-        request.bundle.as_str().as_bytes(),
+        bundle_of(request),
         &request.policy,
         &request.accepted,
     )

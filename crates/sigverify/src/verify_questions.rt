@@ -15,7 +15,7 @@ use crate::laws::lists;
 use crate::read::MOST_BYTES;
 use crate::reply::Reply;
 use crate::rows_text::rows_document;
-use crate::verify_request::{VerifyRequest, time_of};
+use crate::verify_request::{VerifyRequest, bundle_of, time_of, trusted_root_of};
 use sig_base::{AcceptedRow, OutOfMemory, Register};
 use sig_questions::laws::{one_list, schemes};
 use sig_questions::{NoQuestions, questions};
@@ -71,10 +71,10 @@ fn questions_of(
     let now = time_of(request);
     questions(
         alloc,
-        request.trusted_root.as_str().as_bytes(),
+        trusted_root_of(request),
         now,
         &request.digest,
-        request.bundle.as_str().as_bytes(),
+        bundle_of(request),
         MOST_BYTES,
     )
 }

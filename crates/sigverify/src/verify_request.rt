@@ -15,14 +15,11 @@ ghost use Rattle.std.specs.Prelude.{◌≡◌, IfOk};
 
 use crate::digest_text::DigestReader;
 use crate::policy_rule::PolicyReader;
-use crate::request_text::read_listed;
-use crate::row::{EntriesReader, RowReader};
+use crate::request_text::{RequestReader, read_listed};
+use crate::row::EntriesReader;
 use sig_base::{Entries, OutOfMemory, TableChecker, Text};
 use sig_dsse::ArtifactDigest;
-use sig_json::{
-    ElementReader, Json, MemberError, optional, optional_list, required, required_i64,
-    required_text,
-};
+use sig_json::{Json, MemberError, optional, required, required_i64, required_text};
 use sig_policy::RequestPolicy;
 use std::alloc::Global;
 
@@ -45,45 +42,41 @@ pub struct VerifyRequest {
     pub entries: Option<Entries>,
 }
 
-/// The names of the members that a request may have. A member of another name is ignored: no tree is made of it.
-const MEMBERS: [&str; 7] = [
+/// The names of the members that a request may have; `accepted` is read beside them, row by row. A member of another
+/// name is ignored: no tree is made of it.
+const MEMBERS: [&str; 6] = [
     "trustedRoot",
     "bundle",
     "now",
     "digest",
     "policy",
-    "accepted",
     "entries",
 ];
 
 /// Reads requests of `verify`.
 enum VerifyRequestReader {}
 
-impl ElementReader for VerifyRequestReader {
-    ghost use Rattle.sigverify.specs.VerifyRequest.{verify_request};
+impl RequestReader for VerifyRequestReader {
+    ghost use Rattle.sigverify.specs.VerifyRequest.{verify_members};
 
     type Item = VerifyRequest;
 
-    ghost meaning = { verify_request };
+    ghost meaning = { verify_members };
 
-    #[tactic(auto, unfolding(crate::specs::VerifyRequest::verify_request))]
-    fn read(alloc: Global, json: Json<'_>) -> Result<VerifyRequest, MemberError> {
-        let trusted_root = required_text(alloc, json, "trustedRoot")?;
-        let bundle = required_text(alloc, json, "bundle")?;
-        let now = required_i64(json, "now")?;
-        let digest = required::<DigestReader>(alloc, json, "digest")?;
-        let policy = required::<PolicyReader>(alloc, json, "policy")?;
-        let accepted = optional_list::<RowReader>(alloc, json, "accepted")?;
-        let entries = optional::<EntriesReader>(alloc, json, "entries")?;
-        let accepted = TableChecker::from_rows(alloc, accepted)?;
+    #[tactic(auto, unfolding(crate::specs::VerifyRequest::verify_members))]
+    fn read(
+        alloc: Global,
+        json: Json<'_>,
+        accepted: TableChecker,
+    ) -> Result<VerifyRequest, MemberError> {
         Ok(VerifyRequest {
-            trusted_root,
-            bundle,
-            now,
-            digest,
-            policy,
+            trusted_root: required_text(alloc, json, "trustedRoot")?,
+            bundle: required_text(alloc, json, "bundle")?,
+            now: required_i64(json, "now")?,
+            digest: required::<DigestReader>(alloc, json, "digest")?,
+            policy: required::<PolicyReader>(alloc, json, "policy")?,
             accepted,
-            entries,
+            entries: optional::<EntriesReader>(alloc, json, "entries")?,
         })
     }
 }
@@ -99,6 +92,20 @@ impl VerifyRequest {
     {
         read_listed::<VerifyRequestReader>(alloc, text, &MEMBERS)
     }
+}
+
+/// The bytes of the trusted root of the request.
+pub fn trusted_root_of(request: &VerifyRequest) -> &[u8]
+    ensures { result.now ≡ request.entry.now.trusted_root }
+{
+    request.trusted_root.as_str().as_bytes()
+}
+
+/// The bytes of the bundle of the request.
+pub fn bundle_of(request: &VerifyRequest) -> &[u8]
+    ensures { result.now ≡ request.entry.now.bundle }
+{
+    request.bundle.as_str().as_bytes()
 }
 
 /// The time of the request, in whole seconds since 1970.

@@ -1,6 +1,10 @@
--- The names are all that the table asks for.
-use Rattle.sigverify.proofs.ConsistencyRequests.{consistency_request-only}
+-- Members of other names are not asked for.
+use Rattle.sig_json.proofs.Only.{member_of-only}
+use Rattle.sig_json.specs.Member.{required, optional_or}
+use Rattle.sigverify.specs.ConsistencyRequest.{consistency_members}
+use Rattle.sigverify.specs.HeadMembers.{head_of}
 use Rattle.sigverify.proofs.consistency_request.ConsistencyRequest.read.Goals as goal
 
 pub read_listed-requires : goal.read_listed-requires
-read_listed-requires c = consistency_request-only
+unfolding consistency_members head_of required optional_or
+read_listed-requires c accepted tree = simp member_of-only

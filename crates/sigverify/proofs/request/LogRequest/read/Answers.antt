@@ -1,6 +1,10 @@
--- The names are all that the table asks for.
-use Rattle.sigverify.proofs.Requests.{log_request-only}
+-- Members of other names are not asked for.
+use Rattle.sig_json.proofs.Only.{member_of-only}
+use Rattle.sig_json.specs.Member.{required, optional_or}
+use Rattle.sigverify.specs.HeadMembers.{head_of}
+use Rattle.sigverify.specs.Request.{log_members}
 use Rattle.sigverify.proofs.request.LogRequest.read.Goals as goal
 
 pub read_listed-requires : goal.read_listed-requires
-read_listed-requires c = log_request-only
+unfolding log_members head_of required optional_or
+read_listed-requires c accepted tree = simp member_of-only

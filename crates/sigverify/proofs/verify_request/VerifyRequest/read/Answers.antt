@@ -1,6 +1,9 @@
--- The names are all that the table asks for.
-use Rattle.sigverify.proofs.VerifyRequests.{verify_request-only}
+-- Members of other names are not asked for.
+use Rattle.sig_json.proofs.Only.{member_of-only}
+use Rattle.sig_json.specs.Member.{required, optional_or}
+use Rattle.sigverify.specs.VerifyRequest.{verify_members}
 use Rattle.sigverify.proofs.verify_request.VerifyRequest.read.Goals as goal
 
 pub read_listed-requires : goal.read_listed-requires
-read_listed-requires c = verify_request-only
+unfolding verify_members required optional_or
+read_listed-requires c accepted tree = simp member_of-only
