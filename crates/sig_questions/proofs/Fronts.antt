@@ -10,7 +10,7 @@ use Rattle.sig_verify.proofs.JudgedLaws.{Alike, all_as}
 use Rattle.sig_verify.proofs.OfflineBytes.{inputs}
 use Rattle.sig_verify.specs.CertificateLinks.{HasIssuer}
 use Rattle.sig_verify.specs.Judged.{IsOfFirst}
-use Rattle.sig_verify.specs.Links.{HoldsOf, Inputs, IsFirstFailing, Outside, chain_links}
+use Rattle.sig_verify.specs.Links.{HoldsOf, Inputs, FailsFirstInChain, Outside, chain_links}
 use Rattle.sig_verify.specs.OfflineErrors.{link_of}
 use Rattle.sig_verify.specs.declared.link.Link.{Link}
 use Rattle.sig_verify.specs.declared.link.Link.TheVariants.{Issuer, Sct, Policy, Key, Signature, Subject, Body, Time}
@@ -133,7 +133,7 @@ refusals_for_all i link = (
 -- ---- what is told of them
 
 module _ (o : Outside) (i : Inputs) where
-  told_link : ¬ HoldsOf o i Issuer → (link : Link) → IsFirstFailing o i link
+  told_link : ¬ HoldsOf o i Issuer → (link : Link) → FailsFirstInChain o i link
       → IsFrontTold i (front_result (Some link))
   told_link denied Issuer fails =
       all_as (HoldsOf o i) (HoldsUnasked i) front_links (front_alike o accepting i)

@@ -7,7 +7,7 @@ use Rattle.sig_base.specs.Rules.{FailsFirst}
 use Rattle.sig_base.specs.declared.checker.AcceptedRow.{AcceptedRow}
 use Rattle.sig_base.specs.declared.scheme.VerifyScheme.{VerifyScheme}
 use Rattle.sig_policy.specs.Refusals.{not_found}
-use Rattle.sig_verify.specs.Links.{EveryLinkHolds, HoldsOf, Inputs, IsFirstFailing, OfPassed, OfRoot, Outside}
+use Rattle.sig_verify.specs.Links.{EveryChainLinkHolds, HoldsOf, Inputs, FailsFirstInChain, OfPassed, OfRoot, Outside}
 use Rattle.sig_verify.specs.RootLinks.{OfTrust, rekor_keys}
 use Rattle.sig_verify.specs.Verdict.{Checker, PolicyOf}
 use Rattle.sig_verify.specs.declared.link.Link.{Link as LinkType}
@@ -39,8 +39,8 @@ pub record AgreeWhere (Holds : AcceptedRow → Type 0) (one other : Checker) : T
 -- the same links hold, the same is the first that fails, and all hold or not
 pub record SameLinks (i : Inputs) (one other : Outside) : Type 0 where
   pub each : (link : LinkType) → HoldsOf one i link ↔ HoldsOf other i link
-  pub first : (link : LinkType) → IsFirstFailing one i link ↔ IsFirstFailing other i link
-  pub all : EveryLinkHolds one i ↔ EveryLinkHolds other i
+  pub first : (link : LinkType) → FailsFirstInChain one i link ↔ FailsFirstInChain other i link
+  pub all : EveryChainLinkHolds one i ↔ EveryChainLinkHolds other i
 
 -- under every policy, two checkers that say the same of these rows have the same links that hold
 abbrev pub Suffices : (AcceptedRow → Type 0) → Inputs → Type 0
@@ -104,7 +104,7 @@ question_links = front_links ++ Issuer ∷ []
 
 -- whatever the checker and the policy say, the link is the first that fails
 abbrev pub FailsForAll : Inputs → LinkType → Type 0
-FailsForAll i link = (o : Outside) → IsFirstFailing o i link
+FailsForAll i link = (o : Outside) → FailsFirstInChain o i link
 
 -- a law of the definitions: a link of these is the first that fails if and only if it is so whatever the checker and
 -- the policy say

@@ -50,7 +50,8 @@ pieces-stand : (pieces : List (List ℕ)) (ss : List CheckpointSignature) → re
 pieces-stand [] ss e = tt
 pieces-stand (piece ∷ pieces) ss e = first (signature_of piece) refl (pieces-stand pieces) where
   first : (r : Result CheckpointSignature CheckpointFault) → signature_of piece ≡ r
-      → ((zs : List CheckpointSignature) → read_each signature_of pieces ≡ Ok zs → AllByRecursion StandsForSignature pieces)
+      → ((zs : List CheckpointSignature) → read_each signature_of pieces ≡ Ok zs
+      → AllByRecursion StandsForSignature pieces)
       → AllByRecursion StandsForSignature (piece ∷ pieces)
   first (Err other) is deeper = let f = rw is at e in cc
   first (Ok s) is deeper = ((s, signature-found piece s is), others (read_each signature_of pieces) refl) where

@@ -37,7 +37,8 @@ reads-only r read x is same = subst (Reads (λ x. x) r) same is
 
 -- each of a list
 pub read_each-found : {A B : Type 0} (read : A → Result B CheckpointFault) (R : A → B → Type 0)
-    → ((x : A) (y : B) → read x ≡ Ok y → R x y) → (xs : List A) (ys : List B) → read_each read xs ≡ Ok ys → AllZip R xs ys
+    → ((x : A) (y : B) → read x ≡ Ok y → R x y) → (xs : List A) (ys : List B) → read_each read xs ≡ Ok ys
+    → AllZip R xs ys
 read_each-found read R found [] [] e = tt
 read_each-found read R found [] (y ∷ ys) e = cc
 read_each-found read R found (x ∷ xs) ys e =
@@ -47,7 +48,8 @@ read_each-found read R found (x ∷ xs) ys e =
     subst (AllZip R (x ∷ xs)) same (found x a.0 a.1, read_each-found read R found xs b.0 b.1)
 
 pub read_each-only : {A B : Type 0} (read : A → Result B CheckpointFault) (R : A → B → Type 0)
-    → ((x : A) (y : B) → R x y → read x ≡ Ok y) → (xs : List A) (ys : List B) → AllZip R xs ys → read_each read xs ≡ Ok ys
+    → ((x : A) (y : B) → R x y → read x ≡ Ok y) → (xs : List A) (ys : List B) → AllZip R xs ys
+    → read_each read xs ≡ Ok ys
 read_each-only read R only [] [] are = refl
 read_each-only read R only [] (y ∷ ys) are = absurd are
 read_each-only read R only (x ∷ xs) [] are = absurd are

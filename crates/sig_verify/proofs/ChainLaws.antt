@@ -1,9 +1,9 @@
 -- Every link holds if and only if the inputs are valid and the chain of trust holds.
-use Rattle.sig_verify.specs.Links.{EveryLinkHolds, Inputs, Outside}
+use Rattle.sig_verify.specs.Links.{EveryChainLinkHolds, Inputs, Outside}
 use Rattle.sig_verify.specs.TrustChain.{AllLinksAreTheTrustChain, IsValid, TrustChain}
 
 -- the links in their order, group by group
-parts_from : (o : Outside) (i : Inputs) → EveryLinkHolds o i → IsValid o i × TrustChain o i
+parts_from : (o : Outside) (i : Inputs) → EveryChainLinkHolds o i → IsValid o i × TrustChain o i
 parts_from o i (
   root_json,
   (
@@ -117,7 +117,7 @@ parts_from o i (
   },
 )
 
-all_from : (o : Outside) (i : Inputs) → IsValid o i → TrustChain o i → EveryLinkHolds o i
+all_from : (o : Outside) (i : Inputs) → IsValid o i → TrustChain o i → EveryChainLinkHolds o i
 all_from o i valid chain = (
   valid.root_json,
   (

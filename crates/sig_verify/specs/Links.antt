@@ -112,8 +112,8 @@ HoldsOf o i NoteMatch = OfLogged i (λ keys e. OfCheckpoint e IsNoteOf)
 HoldsOf o i Inclusion = OfLogged i (λ keys e. OfProof e IsPlaced) × OfLogged i (λ keys e. OfProof e (IsLed e))
 HoldsOf o i Consistency = Unit {0}
 
-abbrev pub EveryLinkHolds : Outside → Inputs → Type 0
-EveryLinkHolds o i = AllByRecursion (HoldsOf o i) chain_links
+abbrev pub EveryChainLinkHolds : Outside → Inputs → Type 0
+EveryChainLinkHolds o i = AllByRecursion (HoldsOf o i) chain_links
 
-abbrev pub IsFirstFailing : Outside → Inputs → Link → Type 0
-IsFirstFailing o i link = FailsFirst (HoldsOf o i) chain_links link
+abbrev pub FailsFirstInChain : Outside → Inputs → Link → Type 0
+FailsFirstInChain o i link = FailsFirst (HoldsOf o i) chain_links link

@@ -12,7 +12,7 @@ use Rattle.sig_verify.specs.CertificateLinks.{OfScheme}
 use Rattle.sig_verify.specs.EntryLinks.{HasCanonicalPromise, IsLed, IsNoteOf, IsNoteSignedBy, IsPlaced, IsPromisedBy}
 use Rattle.sig_verify.specs.EntryLinks.{IsProofRead}
 use Rattle.sig_verify.specs.EntryLinks.{OfCheckpoint, OfLogKey, OfProof}
-use Rattle.sig_verify.specs.Links.{EveryLinkHolds, Inputs, OfBundle, OfChecked, OfLogged, OfRoot, Outside}
+use Rattle.sig_verify.specs.Links.{EveryChainLinkHolds, Inputs, OfBundle, OfChecked, OfLogged, OfRoot, Outside}
 use Rattle.sig_verify.specs.RootLinks.{IsSomeAnchor, authorities, ct_keys}
 use Rattle.sig_verify.specs.Verdict.{HasBody}
 
@@ -67,4 +67,4 @@ pub record IsValid (o : Outside) (i : Inputs) : Type 0 where
 
 -- every link holds if and only if the inputs are valid and the chain of trust holds
 abbrev pub AllLinksAreTheTrustChain : Type 0
-AllLinksAreTheTrustChain = (o : Outside) (i : Inputs) → EveryLinkHolds o i ↔ (IsValid o i × TrustChain o i)
+AllLinksAreTheTrustChain = (o : Outside) (i : Inputs) → EveryChainLinkHolds o i ↔ (IsValid o i × TrustChain o i)

@@ -4,4 +4,5 @@ use Rattle.sig_root.specs.Picked.{put_instances}
 use Rattle.sig_root.proofs.picked.pick_keys.Given as goal
 
 abbrev pub invariant-instances : goal.invariant-instances
-invariant-instances l = put_instances l.now (drop l.instance-index l.instances) l.keys ≡ put_instances l.now l.instances []
+invariant-instances l =
+    put_instances l.now (drop l.instance-index l.instances) l.keys ≡ put_instances l.now l.instances []
