@@ -1,8 +1,18 @@
 use Rattle.std.proofs.Common.{◌≡◌, Err, rules}
 use Rattle.std.proofs.Math.Facts.{to_z-of_z}
 use Rattle.sig_verify.proofs.OfflineBytes.{inputs}
+use Rattle.sig_verify.specs.Links.{Inputs}
 use Rattle.sig_questions.proofs.Calls.{all_told, front_decided, told_asked, told_order, told_suffice}
+use Rattle.sig_questions.specs.Listed.{IsAnswered}
 use Rattle.sig_questions.proofs.listing.questions.Goals as goal
+
+abbrev its : goal.After-list_text → Inputs
+its c = inputs c.args.trusted_root.now c.args.now c.args.digest.now c.args.bundle.now
+
+answered : (c : goal.After-list_text) → IsAnswered (its c) c.args.most c.list_text.result
+answered c =
+    all_told c.listed_texts.ensures c.args.trusted_root.now c.args.now _ c.args.digest.now c.args.bundle.now
+    c.args.most c.list_text.result (to_z-of_z c.ranges.now) c.in_ok-check_front.ensures c.list_text.ensures
 
 pub returns-in_err-check_front-clause-decided : goal.returns-in_err-check_front-clause-decided
 returns-in_err-check_front-clause-decided c =
@@ -11,28 +21,14 @@ returns-in_err-check_front-clause-decided c =
     c.in_err-check_front.field-0.0 (to_z-of_z c.ranges.now) c.in_err-check_front.ensures)
 
 pub returns-clause-asked : goal.returns-clause-asked
-returns-clause-asked c =
-    told_asked (inputs c.args.trusted_root.now c.args.now c.args.digest.now c.args.bundle.now)
-    c.args.most c.list_text.result
-    (all_told c.listed_texts.ensures c.args.trusted_root.now c.args.now _ c.args.digest.now c.args.bundle.now
-    c.args.most c.list_text.result (to_z-of_z c.ranges.now) c.in_ok-check_front.ensures c.list_text.ensures)
+returns-clause-asked c = told_asked (its c) c.args.most c.list_text.result (answered c)
 
 pub returns-clause-suffice : goal.returns-clause-suffice
 returns-clause-suffice c =
-    told_suffice (inputs c.args.trusted_root.now c.args.now c.args.digest.now c.args.bundle.now)
-    c.args.most c.list_text.result
-    (all_told c.listed_texts.ensures c.args.trusted_root.now c.args.now _ c.args.digest.now c.args.bundle.now
-    c.args.most c.list_text.result (to_z-of_z c.ranges.now) c.in_ok-check_front.ensures c.list_text.ensures)
-    c.questions_suffice.ensures
+    told_suffice (its c) c.args.most c.list_text.result (answered c) c.questions_suffice.ensures
 
 pub returns-clause-order : goal.returns-clause-order
-returns-clause-order c =
-    told_order (inputs c.args.trusted_root.now c.args.now c.args.digest.now c.args.bundle.now)
-    c.args.most c.list_text.result
-    (all_told c.listed_texts.ensures c.args.trusted_root.now c.args.now _ c.args.digest.now c.args.bundle.now
-    c.args.most c.list_text.result (to_z-of_z c.ranges.now) c.in_ok-check_front.ensures c.list_text.ensures)
+returns-clause-order c = told_order (its c) c.args.most c.list_text.result (answered c)
 
 pub returns-clause-decided : goal.returns-clause-decided
-returns-clause-decided c =
-    (all_told c.listed_texts.ensures c.args.trusted_root.now c.args.now _ c.args.digest.now c.args.bundle.now
-    c.args.most c.list_text.result (to_z-of_z c.ranges.now) c.in_ok-check_front.ensures c.list_text.ensures).decided
+returns-clause-decided c = (answered c).decided
