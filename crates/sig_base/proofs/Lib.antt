@@ -18,3 +18,4 @@ pub mod IntOrders
 pub mod EachFrom
 pub mod Utf8Texts
 pub mod Base64Texts
+pub mod Digits

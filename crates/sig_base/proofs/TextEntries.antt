@@ -7,6 +7,7 @@ use Rattle.std.specs.declared.cmp.Ordering.TheVariants.{Less, Equal, Greater}
 use Rattle.std.specs.Ordering.{nat_cmp, is_eq, eq_by_cmp, match_ordering}
 use Rattle.std.specs.Cmp.Lexicographic.{slice_cmp, bytes_decides}
 use Rattle.std.specs.Map.{lookup}
+use Rattle.std.proofs.lemmas.Bool.{false_from_ne_true}
 use Rattle.std.proofs.lemmas.Cmp.{eq_by_cmp_equiv, nat_list_cmp_total}
 use Rattle.std.proofs.lemmas.Map.Keys.{IsDistinct-from_sorted}
 use Rattle.std.proofs.lemmas.Map.Views.{Contains-from_lookup, lookup-from_Contains}
@@ -20,10 +21,6 @@ same text = (bytes_decides text text).1 refl
 -- texts are equal as their order says
 compared : (one other : List ℕ) (o : Ordering) → slice_cmp nat_cmp one other ≡ o → bytes_eq one other ≡ is_eq o
 compared one other o e = sym (is_eq-slice_cmp one other) ∙ ap is_eq e
-
-differs : (b : Bool) → (b ≡ true → ⊥) → b ≡ false
-differs true not = absurd (not refl)
-differs false not = refl
 
 module _ {V : Type 0} where
   found_at : (text : List ℕ) (value : V) (e : List ℕ × V) (es : List (List ℕ × V)) (o : Ordering)
@@ -91,7 +88,7 @@ module _ {V : Type 0} where
   pub put_others : (text other : List ℕ) (value : V) (es : List (List ℕ × V)) → other ≢ text
       → text_lookup other (text_put text value es) ≡ text_lookup other es
   put_others text other value es distinct =
-      put_kept text other value es (differs (bytes_eq other text)
+      put_kept text other value es (false_from_ne_true (bytes_eq other text)
       (λ equal. distinct ((bytes_decides other text).0 equal)))
 
 module _ {V : Type 0} where

@@ -2,26 +2,17 @@
 use Rattle.std.proofs.Common.{◌≡◌, ◌==◌, ◌<◌, ◌≤◌, ◌^◌, ℕ, List, [], ◌∷◌, ◌++◌, length, get_or, true, false}
 use Rattle.std.proofs.Common.{refl, sym, ap, ◌∙◌, arith, append-nil}
 use Rattle.std.proofs.Math.Nat.{pow-le-pow_right}
-use Rattle.std.proofs.lemmas.Bool.{and_parts, lt-ltb, ne_eqb}
-use Rattle.std.proofs.lemmas.Bool.Decides.{nat_tests}
+use Rattle.std.proofs.lemmas.Bool.{lt-ltb, ne_eqb}
 use Rattle.std.proofs.lemmas.Float.Parse.{scan_numeral-text_of}
 use Rattle.std.proofs.lemmas.Int.Digits.{digits_value-lt}
-use Rattle.std.specs.Char.{is_ascii_digit, digit_value}
+use Rattle.std.specs.Char.{is_ascii_digit}
 use Rattle.std.specs.List.{list_all}
 use Rattle.std.specs.Str.Parse.{AllDigits, digits_value}
 use Rattle.fast_float.specs.Text.{Parts, scan}
 use Rattle.serde_json.specs.Data.{unsigned}
 use Rattle.serde_json.specs.Read.{number_of, number_from}
+use Rattle.sig_base.proofs.Digits.{digits_mean}
 use Rattle.sig_json.specs.Skipped.{IsWhole}
-
-digit_means : (c : ℕ) → is_ascii_digit c ≡ true → digit_value c < 10
-digit_means c is = grind (arith, nat_tests)
-
-digits_mean : (ds : List ℕ) → list_all is_ascii_digit ds ≡ true → AllDigits 10 ds
-digits_mean [] all = tt
-digits_mean (d ∷ ds) all =
-    let both = and_parts (is_ascii_digit d) (list_all is_ascii_digit ds) all in
-    (digit_means d both.0, digits_mean ds both.1)
 
 -- digits, and neither a point nor an exponent
 abbrev parts_of : List ℕ → Parts

@@ -1,6 +1,7 @@
 -- A set of texts: what it has after one more, and what the order of its keys finds.
 use Rattle.std.proofs.Common.{◌≡◌, ℕ, ◌+◌, ◌<◌, Bool, true, false, ◌||◌, List, [], ◌∷◌, length, take, get_or}
 use Rattle.std.proofs.Common.{refl, sym, ap, ◌∙◌}
+use Rattle.std.proofs.Math.Bool.{or_self_left}
 use Rattle.std.specs.Borrow.{Bor}
 use Rattle.std.specs.Str.{bytes_eq}
 use Rattle.std.specs.List.{list_any}
@@ -26,10 +27,6 @@ or_swap true true c = refl
 or_swap true false c = refl
 or_swap false true c = refl
 or_swap false false c = refl
-
-or_twice : (a b : Bool) → (a || b) ≡ (a || (a || b))
-or_twice true b = refl
-or_twice false b = refl
 
 -- ---- a look-up
 
@@ -59,7 +56,7 @@ added q k (x ∷ xs) = by_order (added q k xs) (slice_cmp nat_cmp k.now x.now) r
     by_order rest Equal e =
         let same : k.now ≡ x.now =
         (bytes_eq-Decides k.now x.now).0 (sym (is_eq-slice_cmp k.now x.now) ∙ ap is_eq e) in
-        rw same (or_twice (bytes_eq x.now q) (has_text xs q))
+        rw same (sym (or_self_left (bytes_eq x.now q) (has_text xs q)))
     by_order rest Greater e =
         ap (λ (b : Bool). bytes_eq x.now q || b) rest
         ∙ or_swap (bytes_eq x.now q) (bytes_eq k.now q) (has_text xs q)

@@ -1,5 +1,6 @@
 -- A list that is sorted, and in which each element is there once, passes a test as before.
-use Rattle.std.proofs.Common.{◌≡◌, ℕ, Bool, true, false, cond, ◌||◌, List, [], ◌∷◌, map, Bor, bytes_eq, refl, ap}
+use Rattle.std.proofs.Common.{◌≡◌, ℕ, Bool, true, false, cond, ◌||◌, List, [], ◌∷◌, map, Bor, bytes_eq, refl, sym, ap}
+use Rattle.std.proofs.Math.Bool.{or_self_left}
 use Rattle.std.specs.List.{list_any, dedup, dedup_from}
 use Rattle.std.proofs.lemmas.Slice.Eq.{bytes_eq-Decides}
 
@@ -14,10 +15,6 @@ pub any_mapped : {A B : Type 0} (f : A → B) (p : B → Bool) (xs : List A)
 any_mapped f p [] = refl
 any_mapped f p (x ∷ xs) = ap (λ b. p (f x) || b) (any_mapped f p xs)
 
-or_twice : (a b : Bool) → (a || b) ≡ (a || (a || b))
-or_twice true b = refl
-or_twice false b = refl
-
 module _ (test : List ℕ → Bool) where
   abbrev passes : Raw → Bool
   passes raw = test raw.now
@@ -28,7 +25,7 @@ module _ (test : List ℕ → Bool) where
       → list_any passes (cond b kept (k ∷ next)) ≡ (passes k || (passes x || list_any passes xs))
   step x k xs kept next true is one other =
       let equal : passes x ≡ passes k = ap test ((bytes_eq-Decides x.now k.now).0 is) in
-      rw (one, equal) (or_twice (passes k) (list_any passes xs))
+      rw (one, equal) (sym (or_self_left (passes k) (list_any passes xs)))
   step x k xs kept next false is one other = ap (λ b. passes k || b) other
 
   any_from : (xs : List Raw) (k : Raw) → list_any passes (dedup_from same_raw k xs) ≡ (passes k || list_any passes xs)

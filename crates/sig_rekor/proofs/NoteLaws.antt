@@ -11,6 +11,7 @@ use Rattle.sig_rekor.specs.declared.checkpoint.OtherContent.{OtherContent}
 use Rattle.sig_rekor.specs.declared.checkpoint.OtherContent.TheVariants.{KeyValue, Value}
 use Rattle.sig_rekor.specs.Cut.{IsParts, cut_at, parts_between}
 use Rattle.sig_base.specs.Base64.{base64_bytes}
+use Rattle.sig_base.proofs.Digits.{digits_mean}
 use Rattle.sig_base.proofs.ResultSteps.{bind_ok}
 use Rattle.sig_rekor.specs.Reading.{base64_of}
 use Rattle.sig_rekor.specs.NoteText.{newline, colon, is_blank, is_not_empty, IsContent, IsSize, IsNote, content_by}
@@ -18,7 +19,7 @@ use Rattle.sig_rekor.specs.NoteText.{other_content_of, contents_of, origin_of, t
 use Rattle.sig_rekor.specs.NoteText.{note_by, note_of}
 use Rattle.sig_rekor.proofs.Cutting.{cut_at-some, cut_at-none, cut_at-cut, cut_at-lacks, parts_between-found}
 use Rattle.sig_rekor.proofs.Cutting.{parts_between-only}
-use Rattle.sig_rekor.proofs.Notes.{tree_size_of-numeral, digits_mean}
+use Rattle.sig_rekor.proofs.Notes.{tree_size_of-numeral}
 use Rattle.sig_rekor.proofs.Steps.{chosen, ok_or-ok}
 
 -- a content

@@ -6,6 +6,7 @@ use Rattle.std.proofs.lemmas.Bool.Decides.{nat_tests}
 use Rattle.std.specs.Char.{is_ascii_digit, digit_value}
 use Rattle.std.specs.List.{list_all}
 use Rattle.std.specs.Str.Parse.{IsNumeral, AllDigits, digits_value, without_leading_plus}
+use Rattle.sig_base.proofs.Digits.{digits_mean}
 use Rattle.sig_base.specs.declared.fault.CheckpointFault.TheVariants.{NoteFormat, Size}
 use Rattle.sig_rekor.specs.declared.checkpoint.OtherContent.{OtherContent}
 use Rattle.sig_rekor.specs.Cut.{cut_at, parts_between, parts_within}
@@ -18,19 +19,10 @@ use Rattle.sig_rekor.proofs.Cutting.{parts_between-whole, parts_between-cut}
 digit_tells : (c : ℕ) → digit_value c < 10 → is_ascii_digit c ≡ true
 digit_tells c small = grind (arith, nat_tests)
 
-digit_means : (c : ℕ) → is_ascii_digit c ≡ true → digit_value c < 10
-digit_means c is = grind (arith, nat_tests)
-
 digits_tell : (ds : List ℕ) → AllDigits 10 ds → list_all is_ascii_digit ds ≡ true
 digits_tell [] all = refl
 digits_tell (d ∷ ds) all =
     and_from (is_ascii_digit d) (list_all is_ascii_digit ds) (digit_tells d all.0) (digits_tell ds all.1)
-
-pub digits_mean : (ds : List ℕ) → list_all is_ascii_digit ds ≡ true → AllDigits 10 ds
-digits_mean [] all = tt
-digits_mean (d ∷ ds) all =
-    let both = and_parts (is_ascii_digit d) (list_all is_ascii_digit ds) all in
-    (digit_means d both.0, digits_mean ds both.1)
 
 -- what `parse` reads
 pub tree_size_of-numeral : (line : List ℕ) (n : ℕ) → IsNumeral 10 (without_leading_plus line)
