@@ -1,6 +1,7 @@
 -- For private clauses: what is seen of values of the code.
-use Rattle.std.specs.Prelude.{◌≡◌, ◌⊎◌, ℕ, ◌+◌, List, Result, Ok, Err}
+use Rattle.std.specs.Prelude.{◌≡◌, ℕ, ◌+◌, List, Result, Ok, Err}
 use Rattle.std.specs.Borrow.{Bor}
+use Rattle.sig_base.specs.Answers.{OrMemory}
 use Rattle.sig_bundle.specs.Content.{ContentWithSignature}
 use Rattle.sig_bundle.specs.SigningCertificate.{IsFirstMalformed, IsNoCertificate}
 use Rattle.sig_bundle.specs.declared.bundle_error.BundleErrorKind.{BundleErrorKind}
@@ -18,9 +19,9 @@ seen_content s = record { signature = s.signature; content = s.content }
 
 -- why bytes are not read as the certificate at this index
 abbrev pub IsUnreadAt : ℕ → List ℕ → BundleErrorKind → Type 0
-IsUnreadAt index der e = (e ≡ OutOfMemory) ⊎ ((e ≡ CertificateMalformed index) × IsNoCertificate der)
+IsUnreadAt index der e = OrMemory OutOfMemory e ((e ≡ CertificateMalformed index) × IsNoCertificate der)
 
 -- why the encodings behind the first are not read
 abbrev pub AreUnreadBehind : List (List ℕ) → BundleErrorKind → Type 0
 AreUnreadBehind ders e =
-    (e ≡ OutOfMemory) ⊎ ((index : ℕ) × (e ≡ CertificateMalformed (index + 1)) × IsFirstMalformed ders index)
+    OrMemory OutOfMemory e ((index : ℕ) × (e ≡ CertificateMalformed (index + 1)) × IsFirstMalformed ders index)

@@ -1,5 +1,6 @@
 -- For private clauses: digests that are put behind those that were there.
-use Rattle.std.specs.Prelude.{◌≡◌, ◌⊎◌, List, [], ◌∷◌, ◌++◌, Option, Some, None, Result, Ok, Err}
+use Rattle.std.specs.Prelude.{◌≡◌, List, [], ◌∷◌, ◌++◌, Option, Some, None, Result, Ok, Err}
+use Rattle.sig_base.specs.Answers.{OrMemory}
 use Rattle.sig_dsse.specs.declared.artifact_digest.ArtifactDigest.{ArtifactDigest}
 use Rattle.sig_dsse.specs.declared.recognized.SubjectFault.{SubjectFault}
 use Rattle.sig_dsse.specs.declared.recognized.SubjectFault.TheVariants.{OutOfMemory}
@@ -8,7 +9,7 @@ use Rattle.sig_dsse.specs.declared.recognized.SubjectFault.TheVariants.{OutOfMem
 abbrev pub AddsDigests : {A : Type 0} → List ArtifactDigest → List ArtifactDigest → Result A SubjectFault
     → Result (List ArtifactDigest) SubjectFault → Type 0
 AddsDigests before after (Ok x) meant = (more : List ArtifactDigest) × (meant ≡ Ok more) × (after ≡ before ++ more)
-AddsDigests before after (Err e) meant = (e ≡ OutOfMemory) ⊎ (meant ≡ Err e)
+AddsDigests before after (Err e) meant = OrMemory OutOfMemory e (meant ≡ Err e)
 
 abbrev pub listed_digest : Option ArtifactDigest → List ArtifactDigest
 listed_digest None = []

@@ -5,8 +5,10 @@ use Rattle.std.proofs.lemmas.List.{append_assoc, flat_map_more, take_more}
 use Rattle.sig_base.specs.declared.fault.CheckpointFault.{CheckpointFault}
 use Rattle.std.specs.List.{AllZip, AllByRecursion}
 use Rattle.sig_base.proofs.ResultSteps.{bind_ok}
+use Rattle.sig_base.specs.Answers.{Answers}
 use Rattle.sig_rekor.specs.declared.fault.ParseCheckpointError.{ParseCheckpointError}
-use Rattle.sig_rekor.specs.Reading.{read_each, as_error, Reads}
+use Rattle.sig_rekor.specs.declared.fault.ParseCheckpointError.TheVariants.{OutOfMemory}
+use Rattle.sig_rekor.specs.Reading.{read_each, as_error}
 
 -- what is appended, piece by piece and element by element
 pub ruleset appended = (append_assoc, flat_map_more, take_more)
@@ -27,13 +29,13 @@ reads-value y (Err fault) is = absurd cc
 
 -- a reading that gives a value of which P holds
 pub reads-found : {X : Type 0} (P : X → Type 0) (r : Result X ParseCheckpointError) (read : Result X CheckpointFault)
-    → Reads (λ x. x) r read → ((x : X) → read ≡ Ok x → P x) → IfOk r P
+    → Answers OutOfMemory (λ x. x) r (as_error read) → ((x : X) → read ≡ Ok x → P x) → IfOk r P
 reads-found P (Ok x) read is found = found x (reads-value x read is)
 reads-found P (Err error) read is found = tt
 
 pub reads-only : {X : Type 0} (r : Result X ParseCheckpointError) (read : Result X CheckpointFault) (x : X)
-    → Reads (λ x. x) r read → read ≡ Ok x → Reads (λ x. x) r (Ok x)
-reads-only r read x is same = subst (Reads (λ x. x) r) same is
+    → Answers OutOfMemory (λ x. x) r (as_error read) → read ≡ Ok x → Answers OutOfMemory (λ x. x) r (Ok x)
+reads-only r read x is same = subst (λ read. Answers OutOfMemory (λ x. x) r (as_error read)) same is
 
 -- each of a list
 pub read_each-found : {A B : Type 0} (read : A → Result B CheckpointFault) (R : A → B → Type 0)

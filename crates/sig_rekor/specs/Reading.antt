@@ -1,7 +1,6 @@
 -- What a reader of the checkpoint format returns: the value, or the first rule that is broken.
 use Rattle.std.specs.Prelude.{ℕ, Result, Ok, Err, List, [], ◌∷◌}
 use Rattle.std.specs.Option.{ok_or}
-use Rattle.sig_base.specs.Answers.{Answers}
 use Rattle.sig_base.specs.ResultSteps.{◌>>=◌}
 use Rattle.sig_base.specs.Base64.{base64_bytes}
 use Rattle.sig_base.specs.declared.error.SigstoreError.{SigstoreError}
@@ -26,10 +25,6 @@ base64_of fault text = ok_or (base64_bytes text) fault
 abbrev pub as_error : {Y : Type 0} → Result Y CheckpointFault → Result Y ParseCheckpointError
 as_error (Ok y) = Ok y
 as_error (Err fault) = Err (DecodeError fault)
-
--- a result is the value or the fault that reading gives, unless memory ran out
-abbrev pub Reads : {X Y : Type 0} → (X → Y) → Result X ParseCheckpointError → Result Y CheckpointFault → Type 0
-Reads view result read = Answers OutOfMemory view result (as_error read)
 
 -- the same error where a call has the crate's own
 abbrev pub of_parsing : ParseCheckpointError → SigstoreError

@@ -1,5 +1,6 @@
 //! Base64 as checkpoints use it, with the fault of the line.
-ghost use Rattle.sig_rekor.specs.Reading.{Reads, base64_of};
+ghost use Rattle.sig_base.specs.Answers.{Answers};
+ghost use Rattle.sig_rekor.specs.Reading.{as_error, base64_of};
 
 use crate::fault::ParseCheckpointError;
 use sig_base::{Bytes, CheckpointFault};
@@ -12,7 +13,7 @@ pub(crate) fn decode_base64(
     text: &str,
     fault: CheckpointFault,
 ) -> Result<Bytes, ParseCheckpointError>
-    ensures { Reads (λ b. b) result (base64_of fault text.now) }
+    ensures { Answers ParseCheckpointError.OutOfMemory (λ b. b) result (as_error (base64_of fault text.now)) }
 {
     match Bytes::of_base64(alloc, text.as_bytes())? {
         Some(bytes) => Ok(bytes),

@@ -1,7 +1,8 @@
 //! A note as text, read into memory of its own and written.
 ghost use Rattle.std.specs.Prelude.{◌≡◌, IfOk, OnOk, Ok, string_bytes};
 ghost use Rattle.sig_rekor.specs.declared.checkpoint.Checkpoint.{Checkpoint as Note};
-ghost use Rattle.sig_rekor.specs.Reading.{Reads};
+ghost use Rattle.sig_base.specs.Answers.{Answers};
+ghost use Rattle.sig_rekor.specs.Reading.{as_error};
 ghost use Rattle.sig_rekor.specs.NoteText.{note_of, note_text, IsNote};
 ghost use Rattle.sig_rekor.specs.ReadBack.{IsNoteValue};
 
@@ -16,8 +17,9 @@ impl Checkpoint {
     /// Reads a note, in memory of its own. Fails as [`Note::read`].
     pub fn unmarshal(alloc: Global, s: &str) -> Result<Checkpoint, ParseCheckpointError>
         ensures found { IfOk result (λ note. IsNote s.now note) }
-        ensures only { (note : Note) → IsNote s.now note → Reads (λ n. n) result (Ok note) }
-        ensures exact { Reads (λ n. n) result (note_of s.now) }
+        ensures only { (note : Note) → IsNote s.now note →
+            Answers ParseCheckpointError.OutOfMemory (λ n. n) result (Ok note) }
+        ensures exact { Answers ParseCheckpointError.OutOfMemory (λ n. n) result (as_error (note_of s.now)) }
     {
         read_note(alloc, s)
     }
@@ -42,7 +44,7 @@ impl Checkpoint {
 }
 
 fn read_note(alloc: Global, text: &str) -> Result<Checkpoint, ParseCheckpointError>
-    ensures { Reads (λ n. n) result (note_of text.now) }
+    ensures { Answers ParseCheckpointError.OutOfMemory (λ n. n) result (as_error (note_of text.now)) }
 {
     let note = Note::read(alloc, text)?;
     Ok(note.copy(alloc)?)

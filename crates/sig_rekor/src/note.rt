@@ -11,7 +11,8 @@ ghost use Rattle.base64.specs.GeneralPurpose.{IsBytes};
 ghost use Rattle.sig_base.specs.Base64.{base64_text};
 ghost use Rattle.sig_base.specs.declared.fault.CheckpointFault.TheVariants.{NoteFormat};
 ghost use Rattle.sig_rekor.specs.Cut.{parts_between};
-ghost use Rattle.sig_rekor.specs.Reading.{Reads};
+ghost use Rattle.sig_base.specs.Answers.{Answers};
+ghost use Rattle.sig_rekor.specs.Reading.{as_error};
 ghost use Rattle.sig_rekor.specs.NoteText.{newline, origin_of, tree_size_of, root_hash_of, note_by, note_of, note_text};
 
 use crate::checkpoint::Checkpoint;
@@ -55,7 +56,7 @@ impl<'a> Note<'a> {
     /// - `HashBase64`: the third line is not base64;
     /// - `HashLength`: it is not 32 bytes.
     pub fn read(alloc: Global, s: &'a str) -> Result<Note<'a>, ParseCheckpointError>
-        ensures { Reads (λ n. n) result (note_of s.now) }
+        ensures { Answers ParseCheckpointError.OutOfMemory (λ n. n) result (as_error (note_of s.now)) }
     {
         let Some(lines) = lines_of(s) else {
             return Err(ParseCheckpointError::DecodeError(CheckpointFault::NoteFormat));
@@ -127,7 +128,7 @@ fn lines_of(text: &str) -> Option<Lines<'_>>
 
 #[tactic(auto, unfolding(crate::specs::NoteText::origin_of))]
 fn read_origin(line: &str) -> Result<&str, ParseCheckpointError>
-    ensures { Reads (λ t. t.now) result (origin_of line.now) }
+    ensures { Answers ParseCheckpointError.OutOfMemory (λ t. t.now) result (as_error (origin_of line.now)) }
 {
     if is_blank(line) {
         return Err(ParseCheckpointError::DecodeError(CheckpointFault::EmptyOrigin));
@@ -137,7 +138,7 @@ fn read_origin(line: &str) -> Result<&str, ParseCheckpointError>
 
 #[tactic(auto, unfolding(crate::specs::NoteText::tree_size_of))]
 fn read_size(line: &str) -> Result<u64, ParseCheckpointError>
-    ensures { Reads (λ n. n) result (tree_size_of line.now) }
+    ensures { Answers ParseCheckpointError.OutOfMemory (λ n. n) result (as_error (tree_size_of line.now)) }
 {
     match line.parse::<u64>() {
         Ok(size) => Ok(size),
@@ -147,7 +148,7 @@ fn read_size(line: &str) -> Result<u64, ParseCheckpointError>
 
 #[tactic(auto, unfolding(crate::specs::NoteText::root_hash_of))]
 fn read_hash(alloc: Global, line: &str) -> Result<[u8; 32], ParseCheckpointError>
-    ensures { Reads (λ h. h) result (root_hash_of line.now) }
+    ensures { Answers ParseCheckpointError.OutOfMemory (λ h. h) result (as_error (root_hash_of line.now)) }
 {
     let bytes = decode_base64(alloc, line, CheckpointFault::HashBase64)?;
     match <[u8; 32]>::try_from(bytes.as_slice()) {

@@ -10,7 +10,8 @@ ghost use Rattle.sig_base.specs.declared.fault.CheckpointFault.TheVariants.{Sign
 ghost use Rattle.sig_rekor.specs.declared.checkpoint.CheckpointSignature.{CheckpointSignature as Signature};
 ghost use Rattle.sig_rekor.specs.Cut.{parts_between};
 ghost use Rattle.sig_base.specs.Base64.{base64_text};
-ghost use Rattle.sig_rekor.specs.Reading.{Reads};
+ghost use Rattle.sig_base.specs.Answers.{Answers};
+ghost use Rattle.sig_rekor.specs.Reading.{as_error};
 ghost use Rattle.sig_rekor.specs.SignatureText.{space, line_of, name_and_bytes, signature_by, signature_of};
 ghost use Rattle.sig_rekor.specs.SignatureText.{signature_text, fingerprint_and_raw, IsSignature};
 ghost use Rattle.sig_rekor.specs.ReadBack.{IsSignerName, IsSignatureValue};
@@ -32,8 +33,9 @@ impl CheckpointSignature {
     /// - `SignatureLength`: it has fewer than four bytes.
     pub fn decode(alloc: Global, s: &str) -> Result<CheckpointSignature, ParseCheckpointError>
         ensures found { IfOk result (λ signature. IsSignature s.now signature) }
-        ensures only { (signature : Signature) → IsSignature s.now signature → Reads (λ x. x) result (Ok signature) }
-        ensures exact { Reads (λ x. x) result (signature_of s.now) }
+        ensures only { (signature : Signature) → IsSignature s.now signature →
+            Answers ParseCheckpointError.OutOfMemory (λ x. x) result (Ok signature) }
+        ensures exact { Answers ParseCheckpointError.OutOfMemory (λ x. x) result (as_error (signature_of s.now)) }
     {
         read_signature(alloc, s)
     }
@@ -71,7 +73,7 @@ impl CheckpointSignature {
 
 #[tactic(auto, unfolding(crate::specs::SignatureText::signature_of))]
 fn read_signature(alloc: Global, text: &str) -> Result<CheckpointSignature, ParseCheckpointError>
-    ensures { Reads (λ x. x) result (signature_of text.now) }
+    ensures { Answers ParseCheckpointError.OutOfMemory (λ x. x) result (as_error (signature_of text.now)) }
 {
     let line = read_line(text)?;
     let Some((name, coded)) = name_and_bytes(line) else {
@@ -87,7 +89,7 @@ fn make_signature(
     name: &str,
     bytes: &[u8],
 ) -> Result<CheckpointSignature, ParseCheckpointError>
-    ensures { Reads (λ x. x) result (signature_by name.now bytes.now) }
+    ensures { Answers ParseCheckpointError.OutOfMemory (λ x. x) result (as_error (signature_by name.now bytes.now)) }
 {
     let Some((fingerprint, raw)) = bytes.split_first_chunk::<4>() else {
         return Err(ParseCheckpointError::DecodeError(CheckpointFault::SignatureLength));
@@ -102,7 +104,7 @@ fn make_signature(
 /// The line without newlines at its ends, which starts with an em dash.
 #[tactic(auto, using(std::proofs::lemmas::Str::Pattern::starts_text), unfolding(crate::specs::SignatureText::line_of))]
 fn read_line(text: &str) -> Result<&str, ParseCheckpointError>
-    ensures { Reads (λ line. line.now) result (line_of text.now) }
+    ensures { Answers ParseCheckpointError.OutOfMemory (λ line. line.now) result (as_error (line_of text.now)) }
 {
     let line = trimmed(text, '\n');
     if line.starts_with("\u{2014}") {

@@ -2,7 +2,8 @@
 ghost use Rattle.std.specs.Prelude.{◌≡◌, ◌++◌, Ok, IfOk, OnOk, string_bytes};
 ghost use Rattle.std.specs.List.{AllByRecursion, join_by, flat_map};
 ghost use Rattle.sig_rekor.specs.declared.checkpoint.SignedCheckpoint.{SignedCheckpoint as Signed};
-ghost use Rattle.sig_rekor.specs.Reading.{Reads};
+ghost use Rattle.sig_base.specs.Answers.{Answers};
+ghost use Rattle.sig_rekor.specs.Reading.{as_error};
 ghost use Rattle.sig_rekor.specs.NoteText.{newline};
 ghost use Rattle.sig_rekor.specs.SignatureText.{signature_text};
 ghost use Rattle.sig_rekor.specs.CheckpointText.{checkpoint_of, checkpoint_text, IsCheckpoint};
@@ -18,8 +19,9 @@ impl SignedCheckpoint {
     /// Reads a signed checkpoint, in memory of its own. Fails as [`SignedNote::decode`].
     pub fn decode(alloc: Global, s: &str) -> Result<SignedCheckpoint, ParseCheckpointError>
         ensures found { IfOk result (λ checkpoint. IsCheckpoint s.now checkpoint) }
-        ensures only { (checkpoint : Signed) → IsCheckpoint s.now checkpoint → Reads (λ x. x) result (Ok checkpoint) }
-        ensures exact { Reads (λ x. x) result (checkpoint_of s.now) }
+        ensures only { (checkpoint : Signed) → IsCheckpoint s.now checkpoint →
+            Answers ParseCheckpointError.OutOfMemory (λ x. x) result (Ok checkpoint) }
+        ensures exact { Answers ParseCheckpointError.OutOfMemory (λ x. x) result (as_error (checkpoint_of s.now)) }
     {
         read_checkpoint(alloc, s)
     }
@@ -48,7 +50,7 @@ impl SignedCheckpoint {
 }
 
 fn read_checkpoint(alloc: Global, text: &str) -> Result<SignedCheckpoint, ParseCheckpointError>
-    ensures { Reads (λ x. x) result (checkpoint_of text.now) }
+    ensures { Answers ParseCheckpointError.OutOfMemory (λ x. x) result (as_error (checkpoint_of text.now)) }
 {
     let note = SignedNote::decode(alloc, text)?;
     Ok(note.copy(alloc)?)

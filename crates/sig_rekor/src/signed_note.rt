@@ -10,7 +10,8 @@
 ghost use Rattle.std.specs.Prelude.{◌≡◌, ◌∷◌, [], Ok, IfOk};
 ghost use Rattle.sig_rekor.specs.declared.checkpoint.SignedCheckpoint.{SignedCheckpoint as Signed};
 ghost use Rattle.sig_rekor.specs.Cut.{parts_between};
-ghost use Rattle.sig_rekor.specs.Reading.{Reads};
+ghost use Rattle.sig_base.specs.Answers.{Answers};
+ghost use Rattle.sig_rekor.specs.Reading.{as_error};
 ghost use Rattle.sig_rekor.specs.NoteText.{note_text};
 ghost use Rattle.sig_rekor.specs.CheckpointText.{empty_line, signatures_by, signatures_on, checkpoint_of, IsCheckpoint};
 
@@ -45,8 +46,9 @@ impl<'a> SignedNote<'a> {
     /// [`CheckpointSignature::decode`] for the signatures from the left, then those of [`Note::read`] for the note.
     pub fn decode(alloc: Global, s: &'a str) -> Result<SignedNote<'a>, ParseCheckpointError>
         ensures found { IfOk result (λ checkpoint. IsCheckpoint s.now checkpoint) }
-        ensures only { (checkpoint : Signed) → IsCheckpoint s.now checkpoint → Reads (λ x. x) result (Ok checkpoint) }
-        ensures exact { Reads (λ x. x) result (checkpoint_of s.now) }
+        ensures only { (checkpoint : Signed) → IsCheckpoint s.now checkpoint →
+            Answers ParseCheckpointError.OutOfMemory (λ x. x) result (Ok checkpoint) }
+        ensures exact { Answers ParseCheckpointError.OutOfMemory (λ x. x) result (as_error (checkpoint_of s.now)) }
     {
         read_signed_note(alloc, s)
     }
@@ -78,7 +80,7 @@ impl<'a> SignedNote<'a> {
 
 #[tactic(auto, unfolding(crate::specs::CheckpointText::checkpoint_of))]
 fn read_signed_note(alloc: Global, text: &str) -> Result<SignedNote<'_>, ParseCheckpointError>
-    ensures { Reads (λ x. x) result (checkpoint_of text.now) }
+    ensures { Answers ParseCheckpointError.OutOfMemory (λ x. x) result (as_error (checkpoint_of text.now)) }
 {
     let Some((note, rest)) = cut(trimmed(text, '"'), "\n\n") else {
         return Err(ParseCheckpointError::DecodeError(CheckpointFault::Format));
@@ -90,7 +92,8 @@ fn read_signed_note(alloc: Global, text: &str) -> Result<SignedNote<'_>, ParseCh
 
 #[tactic(auto, using(crate::proofs::Signatures::all_signatures))]
 fn read_signatures(alloc: Global, text: &str) -> Result<CheckpointSignatures, ParseCheckpointError>
-    ensures { Reads (λ x. x) result (signatures_by (parts_between empty_line text.now)) }
+    ensures { Answers ParseCheckpointError.OutOfMemory (λ x. x) result
+        (as_error (signatures_by (parts_between empty_line text.now))) }
 {
     let mut signatures = CheckpointSignatures::new(alloc);
     let mut rest = text;
@@ -109,7 +112,8 @@ fn add_signature(
     piece: &str,
     signatures: &mut CheckpointSignatures,
 ) -> Result<(), ParseCheckpointError>
-    ensures { Reads (λ _. signatures.new) result (signatures_on signatures.old (piece.now ∷ [])) }
+    ensures { Answers ParseCheckpointError.OutOfMemory (λ _. signatures.new) result
+        (as_error (signatures_on signatures.old (piece.now ∷ []))) }
 {
     if is_blank(piece) {
         return Ok(());

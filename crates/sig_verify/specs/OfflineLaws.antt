@@ -1,5 +1,6 @@
 -- What the result of offline verification says of the links, all of them in one.
-use Rattle.std.specs.Prelude.{◌≡◌, ◌⊎◌, ℕ, List, [], Some, unwrap_or, Ok, Err}
+use Rattle.std.specs.Prelude.{◌≡◌, ℕ, List, [], Some, unwrap_or, Ok, Err}
+use Rattle.sig_base.specs.Answers.{UnlessMemory}
 use Rattle.sig_base.specs.ByteLists.{AreBytes}
 use Rattle.sig_bundle.specs.BundleRecord.{bundle_in}
 use Rattle.sig_bundle.specs.Checked.{Checked}
@@ -53,4 +54,4 @@ abbrev pub OutcomesAreJudged : Type 0
 OutcomesAreJudged =
     (o : Outside) (i : Inputs) → AreReadInputs i → (result : Outcome)
     → IsOffline o.checker o.policy i.root i.now i.digest i.bundle result
-    → (result ≡ Err OutOfMemory) ⊎ IsOutcomeOf o i result
+    → UnlessMemory OutOfMemory result (IsOutcomeOf o i result)

@@ -1,5 +1,6 @@
 -- What a verifier trusts, and why there is none.
 use Rattle.std.specs.Prelude.{◌≡◌, ◌⊎◌, ℕ, List, map, Result, Ok, Err}
+use Rattle.sig_base.specs.Answers.{OrMemory}
 use Rattle.sig_base.specs.declared.error.SigstoreError.{SigstoreError}
 use Rattle.sig_base.specs.declared.error.SigstoreError.TheVariants.{CertificatePoolError, OutOfMemory}
 use Rattle.sig_base.specs.declared.fault.PoolError.TheVariants.{Anchor}
@@ -38,8 +39,8 @@ pub record IsVerifierOf (authorities : Authorities) (ct_keys : CtKeys) (trusted 
 -- why there is no pool of these certificates
 abbrev pub IsRefusedPool : List (List ℕ) → SigstoreError → Type 0
 IsRefusedPool certificates error =
-    (error ≡ OutOfMemory)
-    ⊎ ((place : ℕ) × (error ≡ CertificatePoolError (Anchor place)) × IsFirstNoAnchor certificates place)
+    OrMemory OutOfMemory error
+    ((place : ℕ) × (error ≡ CertificatePoolError (Anchor place)) × IsFirstNoAnchor certificates place)
 
 -- the first of the certificates that is no anchor has this index
 abbrev pub HasOther : Authorities → ℕ → Type 0
@@ -55,7 +56,6 @@ HasAnchors authorities =
 -- the first of the three that fails, with its error, unless memory ran out
 abbrev pub IsRefusedRoot : Authorities → CtKeys → SigstoreError → Type 0
 IsRefusedRoot authorities ct_keys error =
-    (error ≡ OutOfMemory)
-    ⊎ ((authorities ≡ Err error)
+    OrMemory OutOfMemory error ((authorities ≡ Err error)
     ⊎ (((place : ℕ) × (error ≡ CertificatePoolError (Anchor place)) × HasOther authorities place)
     ⊎ (HasAnchors authorities × (ct_keys ≡ Err error))))
