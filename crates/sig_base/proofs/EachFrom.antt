@@ -8,7 +8,7 @@ use Rattle.sig_base.specs.ResultSteps.{◌>>=◌, each_from}
 abbrev pub with_left : {A B E : Type 0} → (ℕ → A → Result B E) → List B → ℕ → List A → Result (List B) E
 with_left step made index all = each_from step index (drop index all) >>= λ others. Ok (made ++ others)
 
-nothing_before : {B E : Type 0} (found : Result (List B) E) → found ≡ (found >>= λ others. Ok ([] ++ others))
+pub nothing_before : {B E : Type 0} (found : Result (List B) E) → found ≡ (found >>= λ others. Ok ([] ++ others))
 nothing_before (Ok made) = refl
 nothing_before (Err e) = refl
 

@@ -1,5 +1,6 @@
 -- Steps that may refuse: what the last answered tells of each.
-use Rattle.std.proofs.Common.{◌≡◌, Bool, true, false, cond, Result, Ok, Err, refl}
+use Rattle.std.proofs.Common.{◌≡◌, ◌⊎◌, Bool, true, false, cond, Some, Result, Ok, Err, inl, inr, refl, ap}
+use Rattle.std.specs.Result.{result_ok}
 use Rattle.sig_base.specs.ResultSteps.{◌>>=◌}
 
 pub ok_is : {A E : Type 0} (x y : A) → ◌≡◌ {A = Result A E} (Ok x) (Ok y) → x ≡ y
@@ -26,3 +27,17 @@ pub guard_ok : {A E : Type 0} (b : Bool) (d : E) (r : Result A E) (y : A) → co
     → (b ≡ false) × (r ≡ Ok y)
 guard_ok true d r y e = absurd cc
 guard_ok false d r y e = (refl, e)
+
+-- what is found in an answer is answered
+pub ok_from : {A E : Type 0} (r : Result A E) (x : A) → result_ok r ≡ Some x → r ≡ Ok x
+ok_from (Ok y) x e = (let same : y ≡ x = cc in cc)
+ok_from (Err d) x e = cc
+
+pub err_is : {A E : Type 0} (d e : E) → ◌≡◌ {A = Result A E} (Err d) (Err e) → d ≡ e
+err_is d e is = cc
+
+-- which of two steps refused
+pub bind_err : {A B E : Type 0} (r : Result A E) (f : A → Result B E) (e : E) → (r >>= f) ≡ Err e
+    → (r ≡ Err e) ⊎ ((x : A) × (r ≡ Ok x) × (f x ≡ Err e))
+bind_err (Ok x) f e is = inr (x, refl, is)
+bind_err (Err d) f e is = inl (let same : d ≡ e = cc in ap Err same)

@@ -1,15 +1,12 @@
 -- The engine is strict: it decodes what it encodes and nothing else.
-use Rattle.std.proofs.Common.{◌≡◌, Some, Result, Ok, Err, refl, ap}
+use Rattle.std.proofs.Common.{refl, ap}
 use Rattle.std.specs.Result.{result_ok}
 use Rattle.base64.specs.GeneralPurpose.{decode_of}
 use Rattle.base64.specs.Engines.{standard}
 use Rattle.base64.proofs.EngineFacts.{decode_of_iff}
+use Rattle.sig_base.proofs.ResultSteps.{ok_from}
 use Rattle.sig_base.specs.Base64.{base64_bytes, base64_text}
 use Rattle.sig_base.proofs.laws.base64_texts.Goals as goal
-
-ok_from : {A E : Type 0} (r : Result A E) (x : A) → result_ok r ≡ Some x → r ≡ Ok x
-ok_from (Ok y) x e = (let same : y ≡ x = cc in cc)
-ok_from (Err fault) x e = cc
 
 pub returns : goal.returns
 unfolding base64_bytes base64_text
