@@ -3,6 +3,7 @@ use Rattle.std.proofs.Common.{◌≡◌, ◌≢◌, ℕ, ◌+◌, ◌-◌, ◌*�
 use Rattle.std.proofs.Common.{◌∷◌, length, take, drop, Result, Ok, Err, refl, sym, ◌∙◌, arith, inl, inr}
 use Rattle.std.proofs.lemmas.Bool.{cases_Bool, cases_lt, ltb-false, eqb-true, eqb-false, le-ltb, and_left, and_right}
 use Rattle.std.proofs.lemmas.Bool.{cond-true, cond-false}
+use Rattle.sig_base.proofs.ResultSteps.{err_is}
 use Rattle.sig_base.specs.ResultSteps.{◌>>=◌}
 use Rattle.sig_base.specs.declared.fault.DerError.{DerError}
 use Rattle.sig_base.specs.declared.fault.DerError.TheVariants.{Length, LongTag, Truncated}
@@ -90,18 +91,15 @@ length_at_agrees (first ∷ rest) =
       | inr not ↦ rw not (reads_agrees first rest (ltb-false first 128 not))
     ]
 
-err_is : {A : Type 0} (r : Result A DerError) (d e : DerError) → r ≡ Err d → r ≡ Err e → e ≡ d
-err_is r d e was is = cc
-
 after_length : {A B : Type 0} (r : Result A DerError) (bad : Bool) (missing : A → Bool) (made : A → B) (e : DerError)
     → Agrees r bad
     → (r >>= λ n. cond (missing n) (Err Truncated) (Ok (made n))) ≡ Err e → e ≡ cond bad Length Truncated
 after_length {B = B} (Ok n) bad missing made e good is =
     rw good (elim (cases_Bool (missing n)) [
-      | inl out ↦ err_is {A = B} _ Truncated e (cond-true (missing n) (Err Truncated) (Ok (made n)) out) is
+      | inl out ↦ err_is {A = B} e Truncated (sym is ∙ cond-true (missing n) (Err Truncated) (Ok (made n)) out)
       | inr here ↦ absurd (let no = sym (cond-false (missing n) (Err Truncated) (Ok (made n)) here) ∙ is in cc)
     ])
-after_length {B = B} (Err d) bad missing made e agrees is = err_is {A = B} (Err d) d e refl is ∙ agrees
+after_length {B = B} (Err d) bad missing made e agrees is = sym (err_is {A = B} d e is) ∙ agrees
 
 abbrev front_of_parts : ℕ → List ℕ → ℕ × List ℕ → Piece × List ℕ
 front_of_parts tag rest n = (
@@ -115,12 +113,12 @@ front_of_parts tag rest n = (
 
 pub element_at_fault : (bytes : List ℕ) (e : DerError) → element_at bytes ≡ Err e → e ≡ fault_of bytes
 unfolding element_at
-element_at_fault [] e is = err_is {A = Piece × List ℕ} (Err Truncated) Truncated e refl is
+element_at_fault [] e is = sym (err_is {A = Piece × List ℕ} Truncated e is)
 element_at_fault (tag ∷ rest) e is =
     elim (cases_Bool (eqb (tag % 32) 31)) [
       | inl long ↦
-          rw long (err_is {A = Piece × List ℕ} (Err LongTag) LongTag e refl
-          (sym (cond-true (eqb (tag % 32) 31) _ _ long) ∙ is))
+          rw long (sym (err_is {A = Piece × List ℕ} LongTag e
+          (sym (cond-true (eqb (tag % 32) 31) _ _ long) ∙ is)))
       | inr not_long ↦ rw not_long (after_length (length_at rest) (has_bad_length rest) (λ n. ltb (length n.1) n.0)
           (λ n. front_of_parts tag rest n) e (length_at_agrees rest)
           (sym (cond-false (eqb (tag % 32) 31) _ _ not_long) ∙ is))

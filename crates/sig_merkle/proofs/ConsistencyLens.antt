@@ -1,15 +1,16 @@
 -- The law `consistency_lens`: `roots_len` goes down as `roots_of` does, and a proof leads to roots
 -- exactly where it has that many hashes.
 use Rattle.std.proofs.Common.{◌≡◌, ◌≢◌, ℕ, zero, suc, ◌+◌, ◌-◌, ◌*◌, ◌^◌, ◌<◌, ◌≤◌, ◌↔◌, Bool, true, false, Option}
-use Rattle.std.proofs.Common.{Some, None, option_map, MatchOption, IsSome, List, [], ◌∷◌, reverse, length}
+use Rattle.std.proofs.Common.{Some, None, MatchOption, IsSome, List, [], ◌∷◌, reverse, length}
 use Rattle.std.proofs.Common.{refl, sym, ◌∙◌, inl, inr, arith}
 use Rattle.std.proofs.Math.Nat.{pow-suc}
-use Rattle.std.proofs.lemmas.Bool.{le-leb, lt-leb, le-ltb, lt-ltb, eq-eqb, ne_eqb, cases_lt, cases_eq, false≢true}
+use Rattle.std.proofs.lemmas.Bool.{le-leb, lt-leb, le-ltb, lt-ltb, eq-eqb, ne_eqb, cases_lt, cases_eq}
 use Rattle.std.proofs.lemmas.List.{length-reverse}
 use Rattle.sig_merkle.specs.Split.{IsSplit}
 use Rattle.sig_merkle.specs.Consistency.{at_shared, grown_by, beside, with_grown, with_beside, roots_at, roots_of}
 use Rattle.sig_merkle.specs.Consistency.{shared_len, roots_len_at, roots_len}
 use Rattle.sig_merkle.proofs.Levels.{same_level, within_pow, split_of}
+use Rattle.sig_merkle.proofs.PathLaws.{Fits, Fits-map, IsSome-from_fits}
 
 roots_len_at-shared : (e size : ℕ) (known : Bool) → roots_len_at e size size known ≡ shared_len known
 unfolding roots_len_at
@@ -116,15 +117,6 @@ roots_len-within old_size size known fits =
 
 -- a proof leads to roots exactly where the number of its hashes fits
 
--- there are roots where the count is the wanted one, and none elsewhere
-abbrev Fits : Option (List ℕ × List ℕ) → ℕ → ℕ → Type 0
-Fits led count wanted = MatchOption led (count ≢ wanted) (λ _. count ≡ wanted)
-
-Fits-map : (f : List ℕ × List ℕ → List ℕ × List ℕ) (led : Option (List ℕ × List ℕ)) (count wanted : ℕ)
-    → Fits led count wanted → Fits (option_map f led) (suc count) (wanted + 1)
-Fits-map f None count wanted apart = λ same. apart (omega arith)
-Fits-map f (Some roots) count wanted same = omega arith
-
 Fits-grown : (hashes : List (List ℕ)) (below : List (List ℕ) → Option (List ℕ × List ℕ)) (wanted : ℕ)
     → ((rest : List (List ℕ)) → Fits (below rest) (length rest) wanted)
     → Fits (with_grown hashes below) (length hashes) (wanted + 1)
@@ -174,11 +166,6 @@ unfolding roots_of roots_len
 roots_of-fits old_size size known old hashes =
     let fits = roots_at-fits size old_size size known old (reverse hashes) in
     rw (← length-reverse hashes) fits
-
-IsSome-from_fits : (led : Option (List ℕ × List ℕ)) (count wanted : ℕ) → Fits led count wanted
-    → IsSome led ↔ (count ≡ wanted)
-IsSome-from_fits None count wanted apart = (λ some. absurd (false≢true some), λ same. absurd (apart same))
-IsSome-from_fits (Some roots) count wanted same = (λ some. same, λ _. refl)
 
 pub roots_of-some : (old_size size : ℕ) (known : Bool) (old : List ℕ) (hashes : List (List ℕ))
     → IsSome (roots_of old_size size known old hashes) ↔ (length hashes ≡ roots_len old_size size known)

@@ -151,11 +151,11 @@ path_len-seven =
 
 -- a path leads to a root exactly where the number of its hashes fits
 
--- there is a root where the count is the wanted one, and none elsewhere
-abbrev Fits : Option (List ℕ) → ℕ → ℕ → Type 0
+-- something is led to where the count is the wanted one, and nothing elsewhere
+abbrev pub Fits : {A : Type 0} → Option A → ℕ → ℕ → Type 0
 Fits led count wanted = MatchOption led (count ≢ wanted) (λ _. count ≡ wanted)
 
-Fits-map : (f : List ℕ → List ℕ) (led : Option (List ℕ)) (count wanted : ℕ) → Fits led count wanted
+pub Fits-map : {A B : Type 0} (f : A → B) (led : Option A) (count wanted : ℕ) → Fits led count wanted
     → Fits (option_map f led) (suc count) (wanted + 1)
 Fits-map f None count wanted apart = λ same. apart (omega arith)
 Fits-map f (Some root) count wanted same = omega arith
@@ -203,7 +203,8 @@ path_root-fits index size leaf hashes =
     let fits = path_root_at-fits size index leaf size (reverse hashes) in
     rw (← length-reverse hashes) fits
 
-IsSome-from_fits : (led : Option (List ℕ)) (count wanted : ℕ) → Fits led count wanted → IsSome led ↔ (count ≡ wanted)
+pub IsSome-from_fits : {A : Type 0} (led : Option A) (count wanted : ℕ) → Fits led count wanted
+    → IsSome led ↔ (count ≡ wanted)
 IsSome-from_fits None count wanted apart = (λ some. absurd (false≢true some), λ same. absurd (apart same))
 IsSome-from_fits (Some root) count wanted same = (λ some. same, λ _. refl)
 
