@@ -12,11 +12,11 @@ pub nothing_before : {B E : Type 0} (found : Result (List B) E) → found ≡ (f
 nothing_before (Ok made) = refl
 nothing_before (Err e) = refl
 
-one_more : {B E : Type 0} (made : List B) (y : B) (found : Result (List B) E)
-    → ((found >>= λ others. Ok (y ∷ others)) >>= λ others. Ok (made ++ others)) ≡
-    (found >>= λ others. Ok ((made ++ y ∷ []) ++ others))
-one_more made y (Ok others) = ap Ok (sym (append_assoc made (y ∷ []) others))
-one_more made y (Err e) = refl
+pub more_made : {B E : Type 0} (made more : List B) (found : Result (List B) E)
+    → ((found >>= λ others. Ok (more ++ others)) >>= λ others. Ok (made ++ others)) ≡
+    (found >>= λ others. Ok ((made ++ more) ++ others))
+more_made made more (Ok others) = ap Ok (sym (append_assoc made more others))
+more_made made more (Err e) = refl
 
 pub left-all : {A B E : Type 0} (step : ℕ → A → Result B E) (all : List A)
     → each_from step 0 all ≡ with_left step [] 0 all
@@ -36,7 +36,7 @@ pub left-more : {A B E : Type 0} (step : ℕ → A → Result B E) (all : List A
     → whole ≡ with_left step after (index + 1) all
 left-more step all made after index x y whole so_far below here is pushed =
     so_far ∙ left_is step all made index x below here
-    ∙ rw (← is, pushed) (one_more made y (each_from step (index + 1) (drop (index + 1) all)))
+    ∙ rw (← is, pushed) (more_made made (y ∷ []) (each_from step (index + 1) (drop (index + 1) all)))
 
 pub left-fails : {A B E : Type 0} (step : ℕ → A → Result B E) (all : List A) (made : List B) (index : ℕ) (x : A) (e : E)
     (whole : Result (List B) E) → whole ≡ with_left step made index all → index < length all
