@@ -3,9 +3,10 @@
 use Rattle.std.proofs.Common.{◌≡◌, ◌≢◌, ℕ, ◌+◌, ◌*◌, ◌/◌, ◌%◌, ◌^◌, ◌<◌, ◌≤◌, Bool, true, false, true≢false, not, ◌&&◌}
 use Rattle.std.proofs.Common.{ltb, eqb, List, [], ◌∷◌, Some, None, refl, sym, ap, subst, ◌∙◌, arith, inl, inr}
 use Rattle.std.proofs.lemmas.Bool.{cases_Bool, cases_lt, lt-ltb, le-ltb, ltb-true, eqb-true, eqb-false, ne_eqb}
-use Rattle.std.proofs.lemmas.Bool.{cond-true, cond-false, and_left, and_right, and_from}
+use Rattle.std.proofs.lemmas.Bool.{cond-true, cond-false, and_left, and_right, and_from, not-true}
 use Rattle.std.proofs.lemmas.Nat.{pow_pos}
 use Rattle.std.proofs.lemmas.Nat.Bits.{and_pow, bit_at-lt}
+use Rattle.std.specs.Bool.{one_answer}
 use Rattle.std.specs.Prelude.{bit_and}
 use Rattle.sig_base.proofs.OptionSteps.{when_is, unless_is, some, some_is}
 use Rattle.sig_certificate.specs.declared.values.KeyUsage.{KeyUsage}
@@ -14,14 +15,10 @@ use Rattle.sig_certificate.specs.ExtensionValues.{bit, IsKeyUsage, IsNatural}
 
 -- ---- one bit of an octet
 
-not_true : (b : Bool) → not b ≡ true → b ≡ false
-not_true true e = absurd cc
-not_true false e = refl
-
 has_bit_is : (byte k : ℕ) → has_bit byte (2 ^ k) ≡ true → byte / 2 ^ k % 2 ≡ 1
 has_bit_is byte k e =
     let some_left : bit_and byte (2 ^ k) ≢ 0 =
-    eqb-false (bit_and byte (2 ^ k)) 0 (not_true (eqb (bit_and byte (2 ^ k)) 0) e) in
+    eqb-false (bit_and byte (2 ^ k)) 0 (not-true (eqb (bit_and byte (2 ^ k)) 0) e) in
     let small = bit_at-lt byte k in
     elim (cases_lt (byte / 2 ^ k % 2) 1) [
       | inl lt ↦
@@ -69,12 +66,6 @@ same_usage : (k : KeyUsage) (d s : Bool) → k.digital_signature ≡ d → k.key
 same_usage k d s a b =
     ap (λ (w : Bool). usage_with w s) (sym a) ∙ ap (λ (w : Bool). usage_with k.digital_signature w) (sym b)
 
-same_bool : (a b : Bool) {P : Type 0} → (a ≡ true → P) → (P → a ≡ true) → (b ≡ true → P) → (P → b ≡ true) → a ≡ b
-same_bool true true f g h i = refl
-same_bool false false f g h i = refl
-same_bool true false f g h i = sym (i (f refl))
-same_bool false true f g h i = g (h refl)
-
 octets_again : (u : ℕ) (octets : List ℕ) (k : KeyUsage) → IsKeyUsage (u ∷ octets) k → u < 8 → (octets ≡ [] → u ≡ 0)
     → ((k.digital_signature ≡ true → bit octets 0 ≡ 1) × (bit octets 0 ≡ 1 → k.digital_signature ≡ true))
     → ((k.key_cert_sign ≡ true → bit octets 5 ≡ 1) × (bit octets 5 ≡ 1 → k.key_cert_sign ≡ true))
@@ -83,16 +74,16 @@ unfolding usage_of
 octets_again u [] k is few none d s =
     let zero_left : u ≡ 0 = none refl in
     let no_d : k.digital_signature ≡ false =
-    same_bool k.digital_signature false d.0 d.1 (λ h. absurd (true≢false (sym h))) (λ h. absurd cc) in
+    one_answer k.digital_signature false d (λ h. absurd (true≢false (sym h)), λ h. absurd cc) in
     let no_s : k.key_cert_sign ≡ false =
-    same_bool k.key_cert_sign false s.0 s.1 (λ h. absurd (true≢false (sym h))) (λ h. absurd cc) in
+    one_answer k.key_cert_sign false s (λ h. absurd (true≢false (sym h)), λ h. absurd cc) in
     cond-true (eqb u 0) (some (usage_with false false)) None (rw zero_left refl)
     ∙ ap (λ (w : KeyUsage). some w) (same_usage k false false no_d no_s)
 octets_again u (first ∷ rest) k is few none d s =
     let same_d : k.digital_signature ≡ has_bit first 128 =
-    same_bool k.digital_signature (has_bit first 128) d.0 d.1 (has_bit_is first 7) (has_bit_again first 7) in
+    one_answer k.digital_signature (has_bit first 128) d (has_bit_is first 7, has_bit_again first 7) in
     let same_s : k.key_cert_sign ≡ has_bit first 4 =
-    same_bool k.key_cert_sign (has_bit first 4) s.0 s.1 (has_bit_is first 2) (has_bit_again first 2) in
+    one_answer k.key_cert_sign (has_bit first 4) s (has_bit_is first 2, has_bit_again first 2) in
     cond-true (ltb u 8) (some (usage_with (has_bit first 128) (has_bit first 4))) None (lt-ltb u 8 few)
     ∙ ap (λ (w : KeyUsage). some w) (same_usage k (has_bit first 128) (has_bit first 4) same_d same_s)
 

@@ -2,6 +2,7 @@
 use Rattle.std.proofs.Common.{◌≡◌, ℕ, zero, suc, ◌+◌, ◌-◌, ◌<◌, Bool, true, false, ◌&&◌, ◌||◌, ltb, cond, eqb, List}
 use Rattle.std.proofs.Common.{[], ◌∷◌, ◌++◌, length, Some, None, refl, sym, ap, subst, ◌∙◌, arith, inl, inr}
 use Rattle.std.specs.Str.{IsAscii}
+use Rattle.std.proofs.Math.Bool.{or-true}
 use Rattle.std.proofs.lemmas.Bool.{cases_Bool, eqb-true, eqb-false, lt-ltb, le-ltb, ltb-true, cond-true, cond-false}
 use Rattle.std.proofs.lemmas.Bool.{ne_eqb, and_parts}
 use Rattle.std.proofs.lemmas.List.{append-nil}
@@ -23,10 +24,6 @@ use Rattle.sig_der.specs.Tag.{OBJECT_IDENTIFIER, OTHER_NAME, OTHER_NAME_VALUE, R
 use Rattle.sig_der.specs.Tag.{UNIFORM_RESOURCE_IDENTIFIER}
 
 -- ---- ASCII
-
-or_true : (b : Bool) → (b || true) ≡ true
-or_true true = refl
-or_true false = refl
 
 ascii_takes : (bytes : List ℕ) → is_ascii_text bytes ≡ true → IsAscii bytes
 ascii_takes [] e i = omega arith
@@ -103,7 +100,7 @@ primitive_again n low = rw (lt-ltb 127 (128 + n) (omega arith), lt-ltb (128 + n)
 constructed_again : (n : ℕ) → n < 9 → is_context (160 + n) ≡ true
 constructed_again n low =
     rw (le-ltb (160 + n) 137 (omega arith), lt-ltb 159 (160 + n) (omega arith), lt-ltb (160 + n) 169 (omega arith))
-    (or_true (ltb 127 (160 + n) && false))
+    (or-true (ltb 127 (160 + n) && false))
 
 context_again : (tag : ℕ) → IsContext tag → is_context tag ≡ true
 context_again tag is =

@@ -1,7 +1,9 @@
 -- Each fault of a profile comes if and only if the rules before it hold and its own does not.
-use Rattle.std.proofs.Common.{◌≡◌, ◌≢◌, ℕ, Bool, true, false, true≢false, cond, eqb, List, Option, Some, None, Ok, Err}
+use Rattle.std.proofs.Common.{◌≡◌, ◌≢◌, Bool, true, false, true≢false, cond, eqb, Option, Some, None, Ok, Err}
 use Rattle.std.proofs.Common.{refl, sym, ap, subst, ◌∙◌, inl, inr}
 use Rattle.std.proofs.lemmas.Bool.{cases_Bool, eqb-true, eqb-false, ne_eqb, cond-true, cond-false}
+use Rattle.std.proofs.lemmas.Bool.{false_from_ne_true}
+use Rattle.std.proofs.lemmas.Bool.Decides.{not_from_Decides}
 use Rattle.std.specs.Str.{bytes_eq}
 use Rattle.std.proofs.lemmas.Slice.Eq.{bytes_eq-Decides}
 use Rattle.sig_base.proofs.OptionSteps.{some_is}
@@ -266,16 +268,6 @@ leaf_fault_again c e (no_code_signing k v not_so usages says) =
 
 -- ---- roots
 
-bytes_eq-false : (xs ys : List ℕ) → bytes_eq xs ys ≡ false → xs ≢ ys
-bytes_eq-false xs ys not_so same = true≢false (sym ((bytes_eq-Decides xs ys).1 same) ∙ not_so)
-
-bytes_ne : (xs ys : List ℕ) → xs ≢ ys → bytes_eq xs ys ≡ false
-bytes_ne xs ys differ =
-    elim (cases_Bool (bytes_eq xs ys)) [
-      | inl same ↦ absurd (differ ((bytes_eq-Decides xs ys).0 same))
-      | inr not_so ↦ not_so
-    ]
-
 root_fault : (c : Cert) (o : Option CertificateValidationError) → ca_refusal c ≡ o → (e : CertificateValidationError)
     → or_else o (cond (bytes_eq c.issuer c.subject) None (Some (NotCA NotRootCA))) ≡ Some e → IsRootFault c e
 root_fault c (Some x) ca e is =
@@ -289,7 +281,8 @@ root_fault c None ca e is =
       | inr differ ↦
           subst (λ (w : CertificateValidationError). IsRootFault c w)
           (some_is _ e (sym (cond-false (bytes_eq c.issuer c.subject) None (Some (NotCA NotRootCA)) differ) ∙ is))
-          (other_issuer (authority_is c ca) (bytes_eq-false c.issuer c.subject differ))
+          (other_issuer (authority_is c ca)
+          (not_from_Decides (bytes_eq c.issuer c.subject) (bytes_eq-Decides c.issuer c.subject) differ))
     ]
 
 pub root_fault_is : (c : Cert) (e : CertificateValidationError) → root_refusal c ≡ Some e → IsRootFault c e
@@ -302,4 +295,5 @@ root_fault_again c e (no_authority x fault) =
 root_fault_again c e (other_issuer is differ) =
     ap (λ (w : Option CertificateValidationError). or_else w
     (cond (bytes_eq c.issuer c.subject) None (Some (NotCA NotRootCA)))) (authority_again c is)
-    ∙ cond-false (bytes_eq c.issuer c.subject) None (Some (NotCA NotRootCA)) (bytes_ne c.issuer c.subject differ)
+    ∙ cond-false (bytes_eq c.issuer c.subject) None (Some (NotCA NotRootCA))
+    (false_from_ne_true (bytes_eq c.issuer c.subject) (λ same. differ ((bytes_eq-Decides c.issuer c.subject).0 same)))

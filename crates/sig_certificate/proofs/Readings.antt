@@ -1,14 +1,34 @@
 -- What was read at places is the certificate, and what was not read is none.
-use Rattle.std.proofs.Common.{◌≡◌, ℕ, ◌≤◌, ℤ, List, Some, None, refl, sym, ap, ◌∙◌, arith}
+use Rattle.std.proofs.Common.{◌≡◌, ℕ, ◌≤◌, ℤ, List, Some, None, Result, Ok, Err, refl, sym, ap, ◌∙◌, arith}
 use Rattle.std.specs.List.{All}
 use Rattle.sig_base.proofs.OptionSteps.{some_is}
+use Rattle.sig_base.proofs.ResultSteps.{ok_is}
+use Rattle.sig_base.specs.Answers.{ComesWhere}
 use Rattle.sig_der.specs.Taking.{many_at}
 use Rattle.sig_certificate.specs.declared.span.Span.{Span}
+use Rattle.sig_certificate.specs.declared.error.X509ReadError.{X509ReadError}
+use Rattle.sig_certificate.specs.declared.error.X509ReadError.TheVariants.{Der, OutOfMemory}
 use Rattle.sig_certificate.specs.declared.extensions.ExtensionPlaces.{ExtensionPlaces}
 use Rattle.sig_certificate.specs.Certificate.{Extension, Cert, IsCertificate}
 use Rattle.sig_certificate.specs.Cutting.{Parts, extension_at, certificate_from_parts, HasCertificateParts}
 use Rattle.sig_certificate.specs.Places.{IsSpan, AreSpans}
 use Rattle.sig_certificate.proofs.CertificateLaws.{certificate_again}
+
+-- an answer of the reader
+abbrev pub read : Cert → Result Cert X509ReadError
+read c = Ok c
+
+abbrev pub not_read : X509ReadError → Result Cert X509ReadError
+not_read e = Err e
+
+pub read_same : (c d : Cert) → read d ≡ read c → d ≡ c
+read_same c d same = ok_is d c same
+
+-- `Der` says that the text is no certificate
+pub der_only : (text : List ℕ) (e : X509ReadError) → e ≡ Der
+    → ComesWhere OutOfMemory (not_read e) (not_read Der) ((c : Cert) → ¬ IsCertificate text c)
+    → (c : Cert) → ¬ IsCertificate text c
+der_only text e is comes = comes.0 (ap not_read is)
 
 -- a text that is cut into no parts is no certificate
 pub no_parts : (text : List ℕ) → ((p : Parts) (a b : ℤ) → HasCertificateParts text p a b → ⊥) → (c : Cert)

@@ -2,6 +2,7 @@
 use Rattle.std.proofs.Common.{◌≡◌, ℤ, ◌<ℤ◌, ◌≤ℤ◌, int_lt, Bool, true, false, true≢false, cond, List, [], ◌∷◌, Option}
 use Rattle.std.proofs.Common.{Some, None, Ok, Err, refl, sym, ap, subst, ◌∙◌, arith}
 use Rattle.std.specs.Prelude.{is_some}
+use Rattle.std.proofs.lemmas.Bool.{false_from_ne_true, true_from_ne_false}
 use Rattle.std.proofs.lemmas.Int.{ints}
 use Rattle.sig_base.proofs.OptionSteps.{some_is}
 use Rattle.sig_base.specs.declared.error.SigstoreError.{SigstoreError}
@@ -78,17 +79,13 @@ usages_are : (c : Cert) (s k : Bool) → may_sign (usage c) ≡ s → may_sign_c
     (Some CertificateWithoutDigitalSignatureKeyUsage)
 usages_are c s k a b = rw (a, b) refl
 
-unless_true : (b : Bool) → (b ≡ true → ⊥) → b ≡ false
-unless_true true not_so = absurd (not_so refl)
-unless_true false not_so = refl
-
 pub usages_fault_again : (c : Cert) (e : SigstoreError) → IsUsagesFault c e → usages_refusal c ≡ Some e
 usages_fault_again c e (may_not_sign not_so) =
     usages_are c false (may_sign_code (code_signing c))
-    (unless_true (may_sign (usage c)) (λ so. not_so (may_sign_is c (usage c) refl so))) refl
+    (false_from_ne_true (may_sign (usage c)) (λ so. not_so (may_sign_is c (usage c) refl so))) refl
 usages_fault_again c e (may_not_sign_code so not_so) =
     usages_are c true false (may_sign_again c so)
-    (unless_true (may_sign_code (code_signing c)) (λ is. not_so (may_sign_code_is c (code_signing c) refl is)))
+    (false_from_ne_true (may_sign_code (code_signing c)) (λ is. not_so (may_sign_code_is c (code_signing c) refl is)))
 
 pub usages_none_again : (c : Cert) → MaySign c → MaySignCode c → usages_refusal c ≡ None
 usages_none_again c signs code = usages_are c true true (may_sign_again c signs) (may_sign_code_again c code)
@@ -135,7 +132,7 @@ names_are c b is = rw is refl
 
 pub names_fault_again : (c : Cert) (e : SigstoreError) → IsNamesFault c e → names_refusal c ≡ Some e
 names_fault_again c e (unnamed not_so) =
-    names_are c false (unless_true (is_named (with_oid oid.subject_alternative_name c.extensions))
+    names_are c false (false_from_ne_true (is_named (with_oid oid.subject_alternative_name c.extensions))
     (λ so. not_so (named_is (with_oid oid.subject_alternative_name c.extensions) so)))
 
 pub names_none_again : (c : Cert) → IsNamed c → names_refusal c ≡ None
@@ -150,18 +147,10 @@ not_below : (a b : ℤ) → int_lt a b ≡ false → b ≤ℤ a
 not_below a b e = omega (arith, ints)
 
 lt_is : (a b : ℤ) → a <ℤ b → int_lt a b ≡ true
-lt_is a b lt = by (int_lt a b) refl
-  where
-    by : (t : Bool) → int_lt a b ≡ t → t ≡ true
-    by true e = refl
-    by false e = absurd (omega (arith, ints))
+lt_is a b lt = true_from_ne_false (int_lt a b) (λ e. omega (arith, ints))
 
 le_is : (a b : ℤ) → b ≤ℤ a → int_lt a b ≡ false
-le_is a b le = by (int_lt a b) refl
-  where
-    by : (t : Bool) → int_lt a b ≡ t → t ≡ false
-    by false e = refl
-    by true e = absurd (omega (arith, ints))
+le_is a b le = false_from_ne_true (int_lt a b) (λ e. omega (arith, ints))
 
 pub validity_fault_is : (c : Cert) (now : ℤ) (e : SigstoreError) → validity_refusal c now ≡ Some e
     → IsValidityFault c now e

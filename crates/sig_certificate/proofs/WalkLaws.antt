@@ -1,6 +1,7 @@
 -- Walks over lists of like parts that keep no list: whether the whole is one, and whether a part passes a test.
-use Rattle.std.proofs.Common.{◌≡◌, ℕ, ◌<◌, Bool, true, false, ◌||◌, eqb, List, [], ◌∷◌, length, Option, Some, None}
+use Rattle.std.proofs.Common.{◌≡◌, ℕ, ◌<◌, Bool, ◌||◌, eqb, List, [], ◌∷◌, length, Option, Some, None}
 use Rattle.std.proofs.Common.{refl, sym, ap, subst, ◌∙◌}
+use Rattle.std.proofs.Math.Bool.{or_assoc, or-false}
 use Rattle.std.specs.Prelude.{option_map, is_some}
 use Rattle.std.specs.List.{list_any}
 use Rattle.sig_base.specs.OptionSteps.{◌>>=◌}
@@ -47,10 +48,6 @@ is_list_more {A = A} read shrinks bytes y is =
 abbrev pub any_more : {A : Type 0} → (A → Bool) → Bool → Option (List A) → Option Bool
 any_more test so_far rest = option_map (λ xs. so_far || list_any test xs) rest
 
-or_grouped : (a b c : Bool) → ((a || b) || c) ≡ (a || (b || c))
-or_grouped true b c = refl
-or_grouped false b c = refl
-
 pub any_goes_on : {A : Type 0} (read : List ℕ → Option (A × List ℕ)) → Shrinks read
     → (test : A → Bool) (so_far : Bool) (bytes : List ℕ) (y : A × List ℕ) → read bytes ≡ Some y
     → any_more test (so_far || test y.0) (many_at read y.1) ≡ any_more test so_far (many_at read bytes)
@@ -60,12 +57,8 @@ any_goes_on {A = A} read shrinks test so_far bytes y is =
   where
     after : (o : Option (List A))
         → any_more test (so_far || test y.0) o ≡ any_more test so_far (o >>= λ xs. some (y.0 ∷ xs))
-    after (Some xs) = ap (λ (b : Bool). some b) (or_grouped so_far (test y.0) (list_any test xs))
+    after (Some xs) = ap (λ (b : Bool). some b) (or_assoc so_far (test y.0) (list_any test xs))
     after None = refl
-
-or_none : (b : Bool) → (b || false) ≡ b
-or_none true = refl
-or_none false = refl
 
 pub any_ends : {A : Type 0} (read : List ℕ → Option (A × List ℕ)) (test : A → Bool) (so_far : Bool) (bytes : List ℕ)
     → bytes ≡ []
@@ -73,4 +66,4 @@ pub any_ends : {A : Type 0} (read : List ℕ → Option (A × List ℕ)) (test :
 any_ends {A = A} read test so_far bytes none =
     ap (λ (w : List ℕ). any_more test so_far (many_at read w)) none
     ∙ ap (λ (o : Option (List A)). any_more test so_far o) (many_at_none read)
-    ∙ ap (λ (b : Bool). some b) (or_none so_far)
+    ∙ ap (λ (b : Bool). some b) (or-false so_far)

@@ -1,4 +1,4 @@
-use Rattle.std.proofs.Common.{rules, ◌≡◌, ◌⊎◌, inl, inr, List, ℕ, ℤ, map, length, Option, Some, None, Result, Ok, Err}
+use Rattle.std.proofs.Common.{rules, ◌≡◌, ◌⊎◌, inl, inr, List, ℕ, ℤ, map, length, Option, Some, None, Ok, Err}
 use Rattle.std.proofs.Common.{refl, sym, ap, subst, arith}
 use Rattle.sig_base.proofs.OptionSteps.{some}
 use Rattle.sig_der.proofs.Bytes.{IsBytes}
@@ -16,7 +16,7 @@ use Rattle.sig_certificate.specs.declared.listed.Listed.{Listed}
 use Rattle.sig_certificate.specs.Held.{HoldsCertificate, IsRecorded}
 use Rattle.sig_certificate.specs.Cutting.{Parts, extension_at, HasCertificateParts}
 use Rattle.sig_certificate.proofs.CertificateLaws.{certificate_takes}
-use Rattle.sig_certificate.proofs.Readings.{no_parts, no_list, read_is, all_wider, IsCutAs}
+use Rattle.sig_certificate.proofs.Readings.{no_parts, no_list, read, not_read, read_is, all_wider, IsCutAs}
 use Rattle.sig_certificate.proofs.certificate.Certificate.try_from_der.Goals as goal
 
 pub returns-in_default-clause-only : goal.returns-in_default-clause-only
@@ -24,12 +24,6 @@ returns-in_default-clause-only c = λ d is. absurd (no_parts c.args.der.now c.in
 
 pub returns-in_default-clause-refused : goal.returns-in_default-clause-refused
 returns-in_default-clause-refused c = (λ e. no_parts c.args.der.now c.in_default.ensures.only, λ none. inr refl)
-
-abbrev ok : Cert → Result Cert X509ReadError
-ok c = Ok c
-
-abbrev err : X509ReadError → Result Cert X509ReadError
-err e = Err e
 
 -- what an error says of the bytes: memory ran out, or they are no certificate
 abbrev Says : List ℕ → X509ReadError → Type 0
@@ -48,21 +42,21 @@ refused text p a b cut e h =
     ]
 
 only_so : (text : List ℕ) (e : X509ReadError) → Says text e → (c : Cert) → IsCertificate text c
-    → (e ≡ OutOfMemory) ⊎ (ok c ≡ Err e)
+    → (e ≡ OutOfMemory) ⊎ (read c ≡ Err e)
 only_so text e h c is =
     elim h [
       | inl memory ↦ inl memory
       | inr none ↦ absurd (none c is)
     ]
 
-der_so : (text : List ℕ) (e : X509ReadError) → Says text e → err e ≡ err Der → (c : Cert) → IsCertificate text c → ⊥
+der_so : (text : List ℕ) (e : X509ReadError) → Says text e → not_read e ≡ not_read Der → (c : Cert) → IsCertificate text c → ⊥
 der_so text e h is =
     elim h [
       | inl memory ↦ absurd cc
       | inr none ↦ none
     ]
 
-either_error : (e : X509ReadError) → (err e ≡ err OutOfMemory) ⊎ (err e ≡ err Der)
+either_error : (e : X509ReadError) → (not_read e ≡ not_read OutOfMemory) ⊎ (not_read e ≡ not_read Der)
 either_error Der = inr refl
 either_error OutOfMemory = inl refl
 
@@ -141,7 +135,7 @@ invariant_of-result c =
 pub returns-in_ok-from_slice-in-Ok-clause-only : goal.returns-in_ok-from_slice-in-Ok-clause-only
 returns-in_ok-from_slice-in-Ok-clause-only c = λ r is.
     let d = c.in-Some.dated in
-    ap (λ (w : Cert). ok w)
+    ap read
     (read_only c.args.der.now d.places d.not_before d.not_after _ _ c.in-Ok.extensions.places.items
     c.in_ok-from_slice-in-Ok.field-0.items
     c.in_ok-from_slice-in-Ok.ensures.items (search rules)
