@@ -3,6 +3,7 @@ use Rattle.std.proofs.Common.{◌≡◌, ◌≢◌, ℕ, zero, suc, ◌-◌, ◌
 use Rattle.std.proofs.Common.{None, refl, sym, ◌∙◌, ap, subst, inl, inr, arith, add-one, option_map, MatchOption}
 use Rattle.std.proofs.Common.{IfSome, append_assoc, length-append, take-append-drop, reverse, replicate}
 use Rattle.std.proofs.lemmas.List.{drop_at, drop_all, reverse-append, reverse-reverse, replicate_more, append-nil}
+use Rattle.std.proofs.lemmas.Option.{some_pair_parts}
 use Rattle.std.proofs.lemmas.Str.Pattern.{drop_at_char}
 use Rattle.std.proofs.lemmas.Str.{encode_ascii, len_utf8_bounds}
 use denote.Ref.{Bor}
@@ -60,12 +61,6 @@ cut_at-cut separator (b ∷ text) (c ∷ before) after some cut =
     ∙ ap (cut_here b None) (cut_at-cut separator text before after some later)
     ∙ ap (λ x. Some (x ∷ before, after)) same
 
--- the parts of a cut
-same_cut : {a b c d : List ℕ} → ◌≡◌ {A = Option (List ℕ × List ℕ)} (Some (a, b)) (Some (c, d)) → (a ≡ c) × (b ≡ d)
-same_cut {a} {b} {c} {d} e =
-    let both : ◌≡◌ {A = List ℕ × List ℕ} (a, b) (c, d) = cc in
-    (ap (λ (p : List ℕ × List ℕ). p.0) both, ap (λ (p : List ℕ × List ℕ). p.1) both)
-
 -- behind the first byte, where the separator does not stand at it
 cut_behind : (separator text before after : List ℕ) (b : ℕ) → ((rest : List ℕ) → b ∷ text ≢ separator ++ rest)
     → IsCut separator text before after → IsCut separator (b ∷ text) (b ∷ before) after
@@ -88,8 +83,8 @@ cut_at-some separator (b ∷ text) before after e = found _ _ refl refl (cut_at-
       → IsCut separator text x y) → cut_here b here later ≡ Some (before, after)
       → IsCut separator (b ∷ text) before after
   found (Some rest) later h l deeper e =
-      let nothing : [] ≡ before = (same_cut e).0 in
-      let same : rest ≡ after = (same_cut e).1 in
+      let nothing : [] ≡ before = (some_pair_parts _ _ _ _ e).0 in
+      let same : rest ≡ after = (some_pair_parts _ _ _ _ e).1 in
       subst (λ x. IsCut separator (b ∷ text) x after) nothing
       (record {
         whole = after_separator-some separator (b ∷ text) after
@@ -98,8 +93,8 @@ cut_at-some separator (b ∷ text) before after e = found _ _ refl refl (cut_at-
       })
   found None None h l deeper e = cc
   found None (Some cut) h l deeper e =
-      let longer : b ∷ cut.0 ≡ before = (same_cut e).0 in
-      let same : cut.1 ≡ after = (same_cut e).1 in
+      let longer : b ∷ cut.0 ≡ before = (some_pair_parts _ _ _ _ e).0 in
+      let same : cut.1 ≡ after = (some_pair_parts _ _ _ _ e).1 in
       let lacks : (rest : List ℕ) → b ∷ text ≢ separator ++ rest =
       λ rest w. (let at : after_separator separator (b ∷ text) ≡ Some rest = ap (after_separator separator) w
       ∙ after_separator-at separator rest in cc) in

@@ -1,5 +1,5 @@
 -- A list that is sorted, and in which each element is there once, passes a test as before.
-use Rattle.std.proofs.Common.{◌≡◌, ℕ, Bool, true, false, cond, ◌||◌, List, [], ◌∷◌, map, Bor, bytes_eq, refl, sym, ap}
+use Rattle.std.proofs.Common.{◌≡◌, ℕ, Bool, true, false, cond, ◌||◌, List, [], ◌∷◌, Bor, bytes_eq, refl, sym, ap}
 use Rattle.std.proofs.Math.Bool.{or_self_left}
 use Rattle.std.specs.List.{list_any, dedup, dedup_from}
 use Rattle.std.proofs.lemmas.Slice.Eq.{bytes_eq-Decides}
@@ -9,11 +9,6 @@ Raw = Bor (List ℕ)
 
 abbrev pub same_raw : Raw → Raw → Bool
 same_raw a b = bytes_eq a.now b.now
-
-pub any_mapped : {A B : Type 0} (f : A → B) (p : B → Bool) (xs : List A)
-    → list_any p (map f xs) ≡ list_any (λ x. p (f x)) xs
-any_mapped f p [] = refl
-any_mapped f p (x ∷ xs) = ap (λ b. p (f x) || b) (any_mapped f p xs)
 
 module _ (test : List ℕ → Bool) where
   abbrev passes : Raw → Bool

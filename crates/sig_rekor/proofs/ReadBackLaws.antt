@@ -24,6 +24,7 @@ use Rattle.sig_rekor.specs.ReadBack.{IsContentLine, IsSignerName, IsSignatureVal
 use Rattle.sig_rekor.proofs.Cutting.{parts_between-whole, parts_between-cut, parts_between-found, trimmed-only}
 use Rattle.sig_rekor.proofs.NoteLaws.{origin-only, hash-only}
 use Rattle.sig_rekor.proofs.SignatureLaws.{signature-only}
+use Rattle.sig_rekor.proofs.Steps.{head_is}
 use Rattle.sig_rekor.proofs.Signatures.{signatures_by-blank, signatures_by-written, signatures_by-none}
 use Rattle.sig_rekor.proofs.Graphic.{IsFreeOf, graphic-free, decimal-graphic, tree_size_of-decimal, base64-graphic}
 use Rattle.sig_rekor.proofs.Graphic.{base64-again, trim_end-graphic}
@@ -80,9 +81,6 @@ not_last [] [] free w = cc
 not_last [] (r ∷ rest) free w = cc
 not_last (b ∷ t) [] free w = free.0 (let f : b ≡ 10 = cc in f)
 not_last (b ∷ t) (r ∷ rest) free w = not_last t rest free.1 (let f : t ≡ rest ++ 10 ∷ [] = cc in f)
-
-head_is : (b c : ℕ) (t r : List ℕ) → b ∷ t ≡ c ∷ r → b ≡ c
-head_is b c t r w = cc
 
 apart : ◌≡◌ {A = ℕ} 226 10 → ⊥
 apart e = omega arith

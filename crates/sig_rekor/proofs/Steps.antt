@@ -13,6 +13,10 @@ use Rattle.sig_rekor.specs.Reading.{read_each, as_error}
 -- what is appended, piece by piece and element by element
 pub ruleset appended = (append_assoc, flat_map_more, take_more)
 
+-- the first elements of equal lists
+pub head_is : {A : Type 0} (x y : A) (xs ys : List A) → x ∷ xs ≡ y ∷ ys → x ≡ y
+head_is x y xs ys e = cc
+
 -- which way a test went
 pub chosen : {A : Type 0} (b : Bool) (x y z : A) → cond b x y ≡ z → ((b ≡ true) × (x ≡ z)) ⊎ ((b ≡ false) × (y ≡ z))
 chosen true x y z e = inl (refl, e)

@@ -1,7 +1,7 @@
 -- What `trim` takes for white space is Unicode's, and a blank text is nothing else.
-use Rattle.std.proofs.Common.{◌≡◌, ◌≢◌, ℕ, Bool, true, false, ◌&&◌, ◌||◌, ◌==◌, nat_lt, List, [], ◌∷◌, length, refl}
-use Rattle.std.proofs.Common.{sym, ◌∙◌, subst, inl, inr, arith, ◌↔◌, ◌⊎◌, length-append}
-use Rattle.std.proofs.lemmas.Bool.{cases_Bool, cases_eq, ne_eqb, eqb-true, ltb-true, and_parts, false≢true}
+use Rattle.std.proofs.Common.{◌≡◌, ◌≢◌, ℕ, true, false, ◌&&◌, ◌==◌, nat_lt, List, [], ◌∷◌, length, refl}
+use Rattle.std.proofs.Common.{sym, ◌∙◌, subst, inl, inr, arith, ◌↔◌, length-append}
+use Rattle.std.proofs.lemmas.Bool.{cases_Bool, cases_eq, ne_eqb, eqb-true, ltb-true, and_parts, or_cases, false≢true}
 use Rattle.std.proofs.lemmas.Str.{chars-encodes, scalars-chars, length-encode, len_utf8_bounds}
 use Rattle.std.specs.Char.{is_whitespace, char_set_contains, encode_utf8}
 use Rattle.std.specs.List.{list_all}
@@ -12,16 +12,12 @@ use Rattle.sig_rekor.specs.Characters.{white_space, is_white_space, MarksAreUnic
 
 -- ---- the characters
 
-or_parts : (a b : Bool) → (a || b) ≡ true → (a ≡ true) ⊎ (b ≡ true)
-or_parts true b e = inl refl
-or_parts false b e = inr e
-
 listed : (cs : List ℕ) (c : ℕ) → list_all is_whitespace cs ≡ true → char_set_contains cs c ≡ true
     → is_whitespace c ≡ true
 listed [] c all e = absurd (false≢true e)
 listed (d ∷ cs) c all e =
     let both = and_parts (is_whitespace d) (list_all is_whitespace cs) all in
-    elim (or_parts (d == c) (char_set_contains cs c) e) [
+    elim (or_cases (d == c) (char_set_contains cs c) e) [
       | inl here ↦ subst (λ x. is_whitespace x ≡ true) (eqb-true d c here) both.0
       | inr later ↦ listed cs c both.1 later
     ]
@@ -59,25 +55,25 @@ named : (n c : ℕ) → is_white_space n ≡ true → (c == n) ≡ true → is_w
 named n c known e = subst (λ x. is_white_space x ≡ true) (sym (eqb-true c n e)) known
 
 white-only : (c : ℕ) → is_whitespace c ≡ true → is_white_space c ≡ true
-white-only c e = elim (or_parts _ (c == 12288) e) [
+white-only c e = elim (or_cases _ (c == 12288) e) [
   | inr last ↦ named 12288 c refl last
-  | inl a ↦ elim (or_parts _ (c == 8287) a) [
+  | inl a ↦ elim (or_cases _ (c == 8287) a) [
     | inr last ↦ named 8287 c refl last
-    | inl b ↦ elim (or_parts _ (c == 8239) b) [
+    | inl b ↦ elim (or_cases _ (c == 8239) b) [
       | inr last ↦ named 8239 c refl last
-      | inl d ↦ elim (or_parts _ (c == 8233) d) [
+      | inl d ↦ elim (or_cases _ (c == 8233) d) [
         | inr last ↦ named 8233 c refl last
-        | inl f ↦ elim (or_parts _ (c == 8232) f) [
+        | inl f ↦ elim (or_cases _ (c == 8232) f) [
           | inr last ↦ named 8232 c refl last
-          | inl g ↦ elim (or_parts _ (nat_lt 8191 c && nat_lt c 8203) g) [
+          | inl g ↦ elim (or_cases _ (nat_lt 8191 c && nat_lt c 8203) g) [
             | inr last ↦ quad_to_hair c last
-            | inl h ↦ elim (or_parts _ (c == 5760) h) [
+            | inl h ↦ elim (or_cases _ (c == 5760) h) [
               | inr last ↦ named 5760 c refl last
-              | inl i ↦ elim (or_parts _ (c == 160) i) [
+              | inl i ↦ elim (or_cases _ (c == 160) i) [
                 | inr last ↦ named 160 c refl last
-                | inl j ↦ elim (or_parts _ (c == 133) j) [
+                | inl j ↦ elim (or_cases _ (c == 133) j) [
                   | inr last ↦ named 133 c refl last
-                  | inl k ↦ elim (or_parts (nat_lt 8 c && nat_lt c 14) (c == 32) k) [
+                  | inl k ↦ elim (or_cases (nat_lt 8 c && nat_lt c 14) (c == 32) k) [
                     | inr last ↦ named 32 c refl last
                     | inl first ↦ tab_to_return c first
                   ]

@@ -2,7 +2,8 @@ use Rattle.std.proofs.Common.{◌≡◌, Bool, map, sym, ap, ◌∙◌}
 use Rattle.std.specs.List.{list_any}
 use Rattle.std.proofs.lemmas.List.Filters.{dedup_is}
 use Rattle.std.proofs.lemmas.List.Sorted.{list_any-IsPermutation}
-use Rattle.sig_rekor.proofs.Deduped.{Raw, same_raw, any_mapped, any_dedup}
+use Rattle.sig_base.proofs.SeenTexts.{list_any_seen}
+use Rattle.sig_rekor.proofs.Deduped.{Raw, same_raw, any_dedup}
 use Rattle.sig_rekor.proofs.different.different.Goals as goal
 
 -- the sort only moves the raw bytes, and `dedup` keeps one of each
@@ -14,6 +15,6 @@ returns c test =
     rw (dedup_is same_raw _ _ c.dedup.ensures.filtered)
     (any_dedup test c.sort_unstable.new.self.items
     ∙ sym (list_any-IsPermutation passes _ _ c.sort_unstable.ensures.permutation)
-    ∙ sym (any_mapped (λ raw. raw.now) test raws)
+    ∙ sym (list_any_seen test (λ raw. raw.now) raws)
     ∙ ap (list_any test) same
-    ∙ any_mapped (λ s. s.raw) test c.args.signatures.now)
+    ∙ list_any_seen test (λ s. s.raw) c.args.signatures.now)
