@@ -2,6 +2,7 @@
 use Rattle.std.proofs.Common.{◌≡◌, ◌≢◌, ℕ, ◌<◌, ◌≤◌, List, [], ◌∷◌, ◌++◌, length, map, Result, Ok, Err, refl, sym, ap}
 use Rattle.std.proofs.Common.{subst, ◌∙◌, arith, append_assoc, append-nil}
 use Rattle.std.proofs.lemmas.Bool.{lt-ltb, le-ltb}
+use Rattle.sig_base.proofs.EachFrom.{more_made, nothing_before}
 use Rattle.sig_base.specs.ResultSteps.{◌>>=◌}
 use Rattle.sig_base.specs.Answers.{Answers}
 use Rattle.sig_dsse.specs.declared.artifact_digest.ArtifactDigest.{ArtifactDigest}
@@ -15,16 +16,6 @@ use Rattle.sig_dsse.specs.Statement.{DigestTexts, Subject}
 
 abbrev Collected : Type 0
 Collected = Result (List ArtifactDigest) SubjectFault
-
-nothing_before : (found : Collected) → found ≡ (found >>= λ others. Ok ([] ++ others))
-nothing_before (Ok digests) = refl
-nothing_before (Err e) = refl
-
-one_more : (digests more : List ArtifactDigest) (found : Collected)
-    → ((found >>= λ others. Ok (more ++ others)) >>= λ others. Ok (digests ++ others)) ≡
-    (found >>= λ others. Ok ((digests ++ more) ++ others))
-one_more digests more (Ok others) = ap Ok (sym (append_assoc digests more others))
-one_more digests more (Err e) = refl
 
 module _ {A : Type 0} where
   -- these digests, and those of what is left
@@ -53,7 +44,7 @@ module _ {A : Type 0} where
       record {
         more = so_far.more ++ more;
         put = put ∙ ap (λ d. d ++ more) so_far.put ∙ append_assoc before so_far.more more;
-        meant = so_far.meant ∙ rw (here, is) (one_more so_far.more more (digests_of_each f rest));
+        meant = so_far.meant ∙ rw (here, is) (more_made so_far.more more (digests_of_each f rest));
       }
 
   pub so_far-refused : (f : A → Collected) (all left rest : List A) (before after : List ArtifactDigest) (x : A)

@@ -1,6 +1,7 @@
 -- An encoding is read back: its parts are told by the lengths and the spaces.
 use Rattle.std.proofs.Common.{◌≡◌, ◌≢◌, ℕ, ◌<◌, ◌^◌, List, [], ◌∷◌, ◌++◌, length, refl, subst, arith}
 use Rattle.std.proofs.lemmas.Fmt.{decimal_injective, decimal_is_IsNumeral}
+use Rattle.std.proofs.lemmas.List.{append_cancel_left}
 use Rattle.std.specs.Char.{digit_value}
 use Rattle.std.specs.Fmt.{decimal}
 use Rattle.std.specs.List.{AllByRecursion}
@@ -44,19 +45,15 @@ at_length (x ∷ a) (y ∷ b) rest other lengths same =
     let both = at_length a b rest other (omega arith) tails in
     (rw (first, both.0) refl, both.1)
 
-behind : (front a b : List ℕ) → front ++ a ≡ front ++ b → a ≡ b
-behind [] a b same = same
-behind (x ∷ front) a b same = behind front a b (let tails : front ++ a ≡ front ++ b = cc in tails)
-
 pub pae-injective : PaeIsInjective
 unfolding pae
 pae-injective type_1 payload_1 type_2 payload_2 t1 p1 t2 p2 same =
-    let numbered = behind (codes "DSSEv1 ") _ _ same in
+    let numbered = append_cancel_left (codes "DSSEv1 ") _ _ same in
     let typed = at_space (decimal (length type_1)) (decimal (length type_2)) _ _ (decimal-spaceless (length type_1) t1)
     (decimal-spaceless (length type_2) t2) numbered in
     let types = at_length type_1 type_2 _ _ (decimal_injective (length type_1) (length type_2) t1 t2 typed.0)
     typed.1 in
-    let paid = behind (codes " ") _ _ types.1 in
+    let paid = append_cancel_left (codes " ") _ _ types.1 in
     let payloads = at_space (decimal (length payload_1)) (decimal (length payload_2)) _ _
     (decimal-spaceless (length payload_1) p1) (decimal-spaceless (length payload_2) p2) paid in
     (types.0, payloads.1)
