@@ -1,5 +1,5 @@
 -- A walk over names that keeps the identity of each, and texts that are seen through references.
-use Rattle.std.proofs.Common.{◌≡◌, ℕ, List, [], ◌∷◌, ◌++◌, Option, Some, None, refl, sym, ap, ◌∙◌}
+use Rattle.std.proofs.Common.{◌≡◌, ℕ, List, [], ◌∷◌, ◌++◌, Option, None, refl, sym, ap, ◌∙◌}
 use Rattle.std.specs.Prelude.{map}
 use Rattle.std.specs.List.{cons_option, filter_map, flat_map, join_by}
 use Rattle.std.proofs.lemmas.List.{append-nil}

@@ -1,8 +1,8 @@
 -- The text of an extension in words, and when each result of a policy on it comes.
-use Rattle.std.proofs.Common.{◌≡◌, ◌≢◌, ℕ, Bool, true, false, List, [], ◌∷◌, Option, Some, None, Ok, Err, refl}
+use Rattle.std.proofs.Common.{◌≡◌, ◌≢◌, ℕ, true, false, List, [], ◌∷◌, Option, Some, None, Ok, Err, refl}
 use Rattle.std.proofs.Common.{sym, ap, subst, ◌∙◌, inl, inr}
 use Rattle.std.specs.Str.{IsUtf8, is_utf8, bytes_eq}
-use Rattle.std.proofs.lemmas.Bool.{cases_Bool, cond-true, cond-false}
+use Rattle.std.proofs.lemmas.Bool.{cases_Bool, cond-true, cond-false, false_from_ne_true}
 use Rattle.std.proofs.lemmas.Str.{IsUtf8-from_is_utf8}
 use Rattle.std.proofs.lemmas.Slice.Eq.{bytes_eq-Decides}
 use Rattle.sig_base.proofs.OptionSteps.{some_is}
@@ -79,13 +79,10 @@ module _ (name asked : List ℕ) where
   differs_is : (x : Option (List ℕ)) (actual : List ℕ) → x ≡ Some actual → actual ≢ asked
       → (is_asked_text asked x ≡ false) × (single_refusal name asked x ≡ check_failed name asked actual)
   differs_is x actual e other = (
-    ap (λ (y : Option (List ℕ)). is_asked_text asked y) e ∙ unequal (bytes_eq actual asked) refl,
+    ap (λ (y : Option (List ℕ)). is_asked_text asked y) e
+        ∙ false_from_ne_true (bytes_eq actual asked) (λ is. other ((bytes_eq-Decides actual asked).0 is)),
     ap (λ (y : Option (List ℕ)). single_refusal name asked y) e,
   )
-    where
-      unequal : (b : Bool) → bytes_eq actual asked ≡ b → bytes_eq actual asked ≡ false
-      unequal true is = absurd (other ((bytes_eq-Decides actual asked).0 is))
-      unequal false is = is
 
 module _ (name asked oid : List ℕ) (c : Cert) (r : Answer)
     (is : IsPolicyResult (is_asked_text asked (extension_text oid c))
