@@ -1,14 +1,11 @@
 -- How often an object identifier stands, by what a look-up finds; what is left of a list.
 use Rattle.std.proofs.Common.{◌≡◌, ℕ, ◌≤◌, ◌&&◌, Bool, true, false, cond, List, [], ◌∷◌, length}
-use Rattle.std.proofs.Common.{ℤ, Option, Result, Ok, Err, refl, sym, ap, ◌∙◌, arith}
+use Rattle.std.proofs.Common.{ℤ, Option, Err, refl, sym, ap, ◌∙◌, arith}
 use Rattle.std.specs.Prelude.{nat_eq, position}
 use Rattle.std.specs.List.{list_all}
 use Rattle.std.proofs.lemmas.Bool.{ne_eqb}
-use Rattle.sig_certificate.specs.declared.error.X509ReadError.{X509ReadError}
-use Rattle.sig_certificate.specs.declared.error.X509ReadError.TheVariants.{Der, OutOfMemory as NoMemory}
-use Rattle.sig_base.specs.Answers.{ComesWhere}
-use Rattle.sig_base.proofs.ResultSteps.{ok_is}
-use Rattle.sig_certificate.specs.Certificate.{Extension, Cert, IsCertificate}
+use Rattle.sig_certificate.proofs.Readings.{read, read_same}
+use Rattle.sig_certificate.specs.Certificate.{Extension, Cert}
 use Rattle.sig_base.specs.declared.fault.PoolError.TheVariants.{Malformed}
 use Rattle.sig_x509.specs.Issuance.{Accepts, placed, is_issued, is_profiled, issuer_of, is_unconstrained}
 
@@ -41,29 +38,11 @@ all_ends p left b is none = sym (ap (λ (xs : List _). list_all p xs) none) ∙ 
 
 -- ---- what was read is the only certificate of its text
 
--- what reading a certificate returns, and that the bytes are none
-abbrev pub not_read : X509ReadError → Result Cert X509ReadError
-not_read e = Err e
-
-abbrev pub IsNone : List ℕ → Type 0
-IsNone text = (c : Cert) → ¬ IsCertificate text c
-
-abbrev pub read : Cert → Result Cert X509ReadError
-read c = Ok c
-
-pub read_same : (c d : Cert) → read d ≡ read c → d ≡ c
-read_same c d same = ok_is d c same
-
 pub no_anchor : (c d : Cert) (b : Bool) → read d ≡ read c → b ≡ false → b ≡ is_unconstrained c
     → is_unconstrained d ≡ true → ⊥
 no_anchor c d b same answer is un =
     let wrong : true ≡ false = sym un ∙ ap (λ (x : Cert). is_unconstrained x) (read_same c d same) ∙ sym is ∙ answer in
     absurd cc
-
-pub der_only : (text : List ℕ) (e : X509ReadError) → e ≡ Der
-    → ComesWhere NoMemory (not_read e) (not_read Der) (IsNone text)
-    → (d : Cert) → IsCertificate text d → ⊥
-der_only text e is comes = comes.0 (ap not_read is)
 
 -- ---- the issuer
 

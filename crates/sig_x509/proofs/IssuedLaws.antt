@@ -27,45 +27,39 @@ use Rattle.sig_x509.specs.Issued.{MayBeCritical, IsFit, HasProfile, IsIssuedBy, 
 use Rattle.sig_x509.specs.Issued.{HasNoProfile, IsIssuedText, IsUnissuedText, IsJudgedText}
 use Rattle.sig_certificate.proofs.DistinctLaws.{distinct_from, distinct_is}
 
-bytes_same : (xs ys : List ℕ) → bytes_eq xs ys ≡ true → xs ≡ ys
-bytes_same xs ys e = (bytes_eq-Decides xs ys).0 e
-
-same_bytes : (xs ys : List ℕ) → xs ≡ ys → bytes_eq xs ys ≡ true
-same_bytes xs ys e = (bytes_eq-Decides xs ys).1 e
-
 -- ---- extensions
 
 critical_from : (oid : List ℕ) → may_be_critical oid ≡ true → MayBeCritical oid
 critical_from oid is = first (or_cases _ _ is)
   where
     third : (bytes_eq oid basic_constraints ≡ true) ⊎ (bytes_eq oid extended_key_usage ≡ true) → MayBeCritical oid
-    third (inl e) = inr (inr (inl (bytes_same oid basic_constraints e)))
-    third (inr e) = inr (inr (inr (bytes_same oid extended_key_usage e)))
+    third (inl e) = inr (inr (inl ((bytes_eq-Decides oid basic_constraints).0 e)))
+    third (inr e) = inr (inr (inr ((bytes_eq-Decides oid extended_key_usage).0 e)))
 
     second : (bytes_eq oid subject_alternative_name ≡ true)
         ⊎ ((bytes_eq oid basic_constraints || bytes_eq oid extended_key_usage) ≡ true) → MayBeCritical oid
-    second (inl e) = inr (inl (bytes_same oid subject_alternative_name e))
+    second (inl e) = inr (inl ((bytes_eq-Decides oid subject_alternative_name).0 e))
     second (inr e) = third (or_cases _ _ e)
 
     first : (bytes_eq oid key_usage ≡ true)
         ⊎ ((bytes_eq oid subject_alternative_name ||
         (bytes_eq oid basic_constraints || bytes_eq oid extended_key_usage))
         ≡ true) → MayBeCritical oid
-    first (inl e) = inl (bytes_same oid key_usage e)
+    first (inl e) = inl ((bytes_eq-Decides oid key_usage).0 e)
     first (inr e) = second (or_cases _ _ e)
 
 critical_is : (oid : List ℕ) → MayBeCritical oid → may_be_critical oid ≡ true
-critical_is oid (inl e) = rw (same_bytes oid key_usage e) refl
+critical_is oid (inl e) = rw ((bytes_eq-Decides oid key_usage).1 e) refl
 critical_is oid (inr (inl e)) =
-    or_right (bytes_eq oid key_usage) _ (rw (same_bytes oid subject_alternative_name e) refl)
+    or_right (bytes_eq oid key_usage) _ (rw ((bytes_eq-Decides oid subject_alternative_name).1 e) refl)
 critical_is oid (inr (inr (inl e))) =
     or_right (bytes_eq oid key_usage) _
-    (or_right (bytes_eq oid subject_alternative_name) _ (rw (same_bytes oid basic_constraints e) refl))
+    (or_right (bytes_eq oid subject_alternative_name) _ (rw ((bytes_eq-Decides oid basic_constraints).1 e) refl))
 critical_is oid (inr (inr (inr e))) =
     or_right (bytes_eq oid key_usage) _
     (or_right (bytes_eq oid subject_alternative_name) _
     (or_right (bytes_eq oid basic_constraints) (bytes_eq oid extended_key_usage)
-    (same_bytes oid extended_key_usage e)))
+    ((bytes_eq-Decides oid extended_key_usage).1 e)))
 
 understood_one : (critical : Bool) (oid : List ℕ) → (not critical || may_be_critical oid) ≡ true → critical ≡ true
     → MayBeCritical oid
@@ -104,7 +98,7 @@ fit_from c is =
     let e = and_parts _ _ d.1 in
     record {
       version = eqb-true c.version 3 a.0;
-      algorithms = bytes_same c.inner_algorithm c.algorithm b.0;
+      algorithms = (bytes_eq-Decides c.inner_algorithm c.algorithm).0 b.0;
       unconstrained = none_from (with_oid name_constraints c.extensions) d.0;
       understood = understood_from c.extensions e.0;
       single = distinct_from (oids c.extensions) e.1;
@@ -113,7 +107,7 @@ fit_from c is =
 pub fit_is : (c : Cert) → IsFit c → is_fit c ≡ true
 fit_is c is =
     and_from _ _ (eq-eqb c.version 3 is.version)
-    (and_from _ _ (same_bytes c.inner_algorithm c.algorithm is.algorithms)
+    (and_from _ _ ((bytes_eq-Decides c.inner_algorithm c.algorithm).1 is.algorithms)
     (and_from _ _ (ap (λ (es : List Extension). length es == 0) is.unconstrained)
     (and_from _ _ (understood_is c.extensions is.understood) (distinct_is (oids c.extensions) is.single))))
 
@@ -156,7 +150,7 @@ issued_from accepts c t x is =
       begun = le_from c.not_before t d.0;
       lasting = le_from t c.not_after d.1;
       purpose = signs_from (code_signing c) b.1;
-      signed = record { issuer = bytes_same c.issuer x.subject e.0; genuine = e.1 };
+      signed = record { issuer = (bytes_eq-Decides c.issuer x.subject).0 e.0; genuine = e.1 };
     }
 
 pub issued_is : (accepts : Accepts) (c : Cert) (t : ℤ) (x : Cert) → IsIssuedBy accepts c t x
@@ -165,7 +159,7 @@ issued_is accepts c t x is =
     and_from _ _
     (and_from _ _ (and_from _ _ (le_is c.not_before t is.begun) (le_is t c.not_after is.lasting))
     (ap may_sign_code is.purpose))
-    (and_from _ _ (same_bytes c.issuer x.subject is.signed.issuer) is.signed.genuine)
+    (and_from _ _ ((bytes_eq-Decides c.issuer x.subject).1 is.signed.issuer) is.signed.genuine)
 
 -- ---- the first of a list that passes
 

@@ -1,5 +1,6 @@
 use Rattle.std.proofs.Common.{refl}
-use Rattle.sig_x509.proofs.IssuanceLaws.{no_anchor, der_only}
+use Rattle.sig_certificate.proofs.Readings.{der_only}
+use Rattle.sig_x509.proofs.IssuanceLaws.{no_anchor}
 use Rattle.sig_x509.proofs.pool.read_anchor.Goals as goal
 
 pub returns-else-is_unconstrained-clause-refused : goal.returns-else-is_unconstrained-clause-refused

@@ -1,7 +1,7 @@
 -- The certificate of the text is the only one, and its answer is that of its record.
 use Rattle.std.proofs.Common.{inl, inr, refl}
 use Rattle.std.proofs.Math.Facts.{to_z-of_z}
-use Rattle.sig_x509.proofs.IssuanceLaws.{read_same, der_only}
+use Rattle.sig_certificate.proofs.Readings.{read_same, der_only}
 use Rattle.sig_x509.proofs.IssuedLaws.{at_time}
 use Rattle.sig_x509.proofs.pool.CertificatePool.check_der.Goals as goal
 
