@@ -1,5 +1,5 @@
 -- The checks behind the certificate's, where the certificate is known.
-use Rattle.std.proofs.Common.{◌≡◌, ◌⊎◌, inl, inr, Option, Some, None, Result, Ok, Err, refl, sym, ap, subst, ◌∙◌}
+use Rattle.std.proofs.Common.{◌≡◌, ◌⊎◌, inl, inr, Option, Some, Result, Ok, Err, refl, sym, ap, subst, ◌∙◌}
 use Rattle.sig_base.specs.Answers.{Answers, UnlessMemory}
 use Rattle.sig_bundle.specs.AnswersOnly.{AnswersOnly}
 use Rattle.sig_certificate.specs.Certificate.{Cert}
@@ -8,7 +8,6 @@ use Rattle.sig_bundle.specs.SigningCertificate.{IsSigningCertificate}
 use Rattle.sig_bundle.specs.declared.bundle.Bundle.{Bundle}
 use Rattle.sig_bundle.specs.declared.bundle_error.BundleErrorKind.{BundleErrorKind}
 use Rattle.sig_bundle.specs.declared.bundle_error.BundleErrorKind.TheVariants.{OutOfMemory}
-use Rattle.sig_bundle.specs.declared.bundle_error.BundleErrorKind.TheVariants.{VerificationMaterialMissing}
 use Rattle.sig_bundle.specs.declared.material.VerificationMaterial.{VerificationMaterial}
 
 -- the answer is the one that is meant, unless memory ran out
@@ -86,11 +85,3 @@ pub with_material : (b : Bundle) → (o : Option VerificationMaterial) → (m : 
 with_material b o m r is checks =
     let P : Option VerificationMaterial → Type 0 = λ x. AnswersOnly OutOfMemory (IsCheckedWith b x) r in
     subst P (sym is) checks
-
--- and there is none
-pub without_material : (b : Bundle) → (o : Option VerificationMaterial) → o ≡ None
-    → AnswersOnly OutOfMemory (IsCheckedWith b o) (Err VerificationMaterialMissing)
-without_material b o is =
-    let P : Option VerificationMaterial → Type 0 =
-    λ x. AnswersOnly OutOfMemory (IsCheckedWith b x) (Err VerificationMaterialMissing) in
-    subst P (sym is) (inr refl, λ other of. inr (sym of))

@@ -5,6 +5,7 @@ use Rattle.sig_base.specs.OptionSteps.{◌>>=◌}
 use Rattle.sig_common.specs.CommonRecord.{certificate_of, chain_of, log_id_of}
 use Rattle.sig_json.specs.Data.{Data}
 use Rattle.sig_json.specs.Find.{as_object}
+use Rattle.sig_bundle.specs.Oneof.{oneof}
 use Rattle.sig_bundle.specs.declared.bundle.Bundle.{Bundle}
 use Rattle.sig_bundle.specs.declared.bundle.Content.{Content}
 use Rattle.sig_bundle.specs.declared.bundle.Content.TheVariants as content
@@ -17,7 +18,6 @@ use Rattle.sig_bundle.specs.declared.material.TransparencyLogEntry.{Transparency
 use Rattle.sig_bundle.specs.declared.material.VerificationMaterial.{VerificationMaterial}
 use Rattle.sig_dsse.specs.declared.envelope.DsseEnvelope.{DsseEnvelope}
 use Rattle.sig_dsse.specs.declared.envelope.DsseSignature.{DsseSignature}
-use Rattle.sig_json.specs.Choice.{oneof}
 use Rattle.sig_json.specs.Kinds.{bytes_of}
 use Rattle.sig_json.specs.Member.{optional, optional_bytes, optional_i64, optional_list, optional_text}
 use Rattle.sig_json.specs.Record.{record_in}

@@ -8,6 +8,7 @@ pub mod Hashedrekord
 pub mod Lent
 pub mod LogBody
 pub mod LogEntries
+pub mod Oneof
 pub mod Passed
 pub mod Promise
 pub mod Proof

@@ -1,7 +1,6 @@
 pub mod Builders
 pub mod Canonical
 pub mod Causes
-pub mod Choice
 pub mod Document
 pub mod Gathered
 pub mod Integer

@@ -40,9 +40,9 @@ growth_inner_len-right m n e fits largest right older =
       shift-above m e right (omega arith) (omega arith),
     ) refl
 
-growth_border_len-right : (m n e : ℕ) → e < 64 → n ≤ 2 * 2 ^ e → 2 ^ e < m → m < n
+last_border_len-right : (m n e : ℕ) → e < 64 → n ≤ 2 * 2 ^ e → 2 ^ e < m → m < n
     → border_len (m - 1) n ≡ border_len (m - 2 ^ e - 1) (n - 2 ^ e) + 1
-growth_border_len-right m n e few largest right older =
+last_border_len-right m n e few largest right older =
     let last : m - 1 - 2 ^ e ≡ m - 2 ^ e - 1 = omega arith in
     border_len-right (m - 1) n e few (omega arith) largest (omega arith)
     ∙ ap (λ i. border_len i (n - 2 ^ e) + 1) last
@@ -132,7 +132,7 @@ grows-right : (m n e : ℕ) (known : Bool) (old : List ℕ) (hashes : List (List
 grows-right m n e known old hashes seed rest fits right older largest count start grows =
     let few = narrow n e fits (omega arith) in
     let inner = growth_inner_len-right m n e fits largest right older in
-    let border = growth_border_len-right m n e few largest right older in
+    let border = last_border_len-right m n e few largest right older in
     let left_over = growth_inner_len (m - 2 ^ e) (n - 2 ^ e) + border_len (m - 2 ^ e - 1) (n - 2 ^ e) in
     let (front, lower, last, cut, ends, short, started) = last-right m e left_over known old hashes seed rest right
     (omega arith) (omega arith) (omega arith) start in

@@ -6,7 +6,7 @@
 use Rattle.std.specs.Prelude.{ℕ, ◌-◌, ◌/◌, ◌^◌, ◌==◌, List, take, drop, slice_index_or, if◌then◌else◌}
 use Rattle.std.specs.Int.{w64, trailing_zeros}
 use Rattle.sig_merkle.specs.Root.{node_of}
-use Rattle.sig_merkle.specs.Walk.{inner_len, border_len, bit_fold, inner_fold, border_fold}
+use Rattle.sig_merkle.specs.Walk.{inner_len, bit_fold, inner_fold, border_fold}
 
 -- the level of the last node that m leaves fill
 unfoldable pub shift_of : ℕ → ℕ
@@ -33,12 +33,9 @@ seed_len m = if m == 2 ^ shift_of m then 0 else 1
 unfoldable pub seed_of : ℕ → List ℕ → List (List ℕ) → List ℕ
 seed_of m old hashes = if m == 2 ^ shift_of m then old else slice_index_or hashes 0 old
 
--- the numbers of inner hashes and of those along the right border
+-- the number of inner hashes
 unfoldable pub growth_inner_len : ℕ → ℕ → ℕ
 growth_inner_len m n = inner_len (m - 1) n - shift_of m
-
-abbrev pub growth_border_len : ℕ → ℕ → ℕ
-growth_border_len m n = border_len (m - 1) n
 
 -- from a hash of the last filled node up along the hashes: the old root takes those on the left alone
 abbrev pub climb_old : ℕ → List ℕ → ℕ → List (List ℕ) → List ℕ

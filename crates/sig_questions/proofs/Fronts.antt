@@ -10,7 +10,7 @@ use Rattle.sig_verify.proofs.JudgedLaws.{Alike, all_as}
 use Rattle.sig_verify.proofs.OfflineBytes.{inputs}
 use Rattle.sig_verify.specs.CertificateLinks.{HasIssuer}
 use Rattle.sig_verify.specs.Judged.{IsOfFirst}
-use Rattle.sig_verify.specs.Links.{HoldsOf, Inputs, FailsFirstInChain, Outside, chain_links}
+use Rattle.sig_verify.specs.Links.{HoldsOf, Inputs, Outside, chain_links}
 use Rattle.sig_verify.specs.OfflineErrors.{link_of}
 use Rattle.sig_verify.specs.declared.link.Link.{Link}
 use Rattle.sig_verify.specs.declared.link.Link.TheVariants.{Issuer, Sct, Policy, Key, Signature, Subject, Body, Time}
@@ -23,7 +23,7 @@ use Rattle.sig_questions.proofs.Issuers.{may_be, some_issuer}
 use Rattle.sig_questions.proofs.Parts.{checked_as, of_checked}
 use Rattle.sig_questions.specs.Asked.{every_signature}
 use Rattle.sig_questions.specs.Front.{IsFrontTold, front_result}
-use Rattle.sig_questions.specs.Questions.{HoldsUnasked, RefusalsAreForAll, accepting, front_links}
+use Rattle.sig_questions.specs.Questions.{FailsFirstInChain, HoldsUnasked, RefusalsAreForAll, accepting, front_links}
 
 -- ---- rules up to one
 

@@ -7,7 +7,7 @@ use Rattle.sig_base.specs.Rules.{FailsFirst}
 use Rattle.sig_base.specs.declared.checker.AcceptedRow.{AcceptedRow}
 use Rattle.sig_base.specs.declared.scheme.VerifyScheme.{VerifyScheme}
 use Rattle.sig_policy.specs.Refusals.{not_found}
-use Rattle.sig_verify.specs.Links.{EveryChainLinkHolds, HoldsOf, Inputs, FailsFirstInChain, OfPassed, OfRoot, Outside}
+use Rattle.sig_verify.specs.Links.{EveryChainLinkHolds, HoldsOf, Inputs, OfPassed, OfRoot, Outside, chain_links}
 use Rattle.sig_verify.specs.RootLinks.{OfTrust, rekor_keys}
 use Rattle.sig_verify.specs.Verdict.{Checker, PolicyOf}
 use Rattle.sig_verify.specs.declared.link.Link.{Link as LinkType}
@@ -35,6 +35,10 @@ pub record AgreeWhere (Holds : AcceptedRow → Type 0) (one other : Checker) : T
   pub certificate : (issuer algorithm tbs signature : List ℕ)
       → Holds (certificate_row issuer algorithm tbs signature)
       → one.cert issuer algorithm tbs signature ≡ other.cert issuer algorithm tbs signature
+
+-- of the links of the chain of trust this one is the first that fails
+abbrev pub FailsFirstInChain : Outside → Inputs → LinkType → Type 0
+FailsFirstInChain o i link = FailsFirst (HoldsOf o i) chain_links link
 
 -- the same links hold, the same is the first that fails, and all hold or not
 pub record SameLinks (i : Inputs) (one other : Outside) : Type 0 where

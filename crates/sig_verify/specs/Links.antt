@@ -10,7 +10,6 @@ use Rattle.sig_bundle.specs.declared.bundle.Bundle.{Bundle}
 use Rattle.sig_bundle.specs.declared.material.TransparencyLogEntry.{TransparencyLogEntry}
 use Rattle.sig_certificate.specs.Profile.{leaf_refusal}
 use Rattle.sig_dsse.specs.declared.artifact_digest.ArtifactDigest.{ArtifactDigest}
-use Rattle.sig_base.specs.Rules.{FailsFirst}
 use Rattle.sig_root.specs.RootRecord.{trusted_root_in}
 use Rattle.sig_root.specs.declared.record.TrustedRoot.{TrustedRoot}
 use Rattle.sig_x509.specs.Issued.{HasProfile}
@@ -114,6 +113,3 @@ HoldsOf o i Consistency = Unit {0}
 
 abbrev pub EveryChainLinkHolds : Outside → Inputs → Type 0
 EveryChainLinkHolds o i = AllByRecursion (HoldsOf o i) chain_links
-
-abbrev pub FailsFirstInChain : Outside → Inputs → Link → Type 0
-FailsFirstInChain o i link = FailsFirst (HoldsOf o i) chain_links link

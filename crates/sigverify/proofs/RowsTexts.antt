@@ -1,7 +1,6 @@
 -- The document of a list of signatures: how it grows, how long it is, and that it is read back.
 use Rattle.std.proofs.Common.{◌≡◌, ◌<◌, ◌≤◌, ◌+◌, ℕ, List, [], ◌∷◌, ◌++◌, length, take, drop, get_or, codes, true}
 use Rattle.std.proofs.Common.{Option, Some, None, Ok, refl, sym, ap, subst, ◌∙◌, arith, length-append}
-use Rattle.std.specs.Prelude.{IsSome}
 use Rattle.std.proofs.lemmas.List.{take-append-drop, take_all, take_more}
 use Rattle.sig_base.proofs.AcceptedRows.{as_row}
 use Rattle.sig_base.specs.OptionSteps.{◌>>=◌}
@@ -16,7 +15,6 @@ use Rattle.sig_bundle.specs.Written.{IsReadAs, bytes_tree, items_of, put_some}
 use Rattle.sig_json.specs.Builders.{with_member}
 use Rattle.sig_json.specs.Data.{Data, Members, depth, items_depth, no_members, object, string}
 use Rattle.sig_json.specs.Document.{document_of}
-use Rattle.sig_json.specs.Find.{as_array}
 use Rattle.sig_json.specs.Kinds.{bytes_of, text_of}
 use Rattle.sig_json.specs.Member.{list_each, member_of, required, optional, optional_or}
 use Rattle.sig_json.specs.Read.{max_depth}
@@ -230,10 +228,6 @@ listed-none rows list is = record {
   taken = refl;
   room = omega arith;
 }
-
-pub listed-array : (rows : List AcceptedRow) (count : ℕ) (list : Data) (size : ℕ) → IsListed rows count list size
-    → IsSome (as_array list)
-listed-array rows count list size listed = rw listed.tree refl
 
 size-more : (rows : List AcceptedRow) (count : ℕ) (row : AcceptedRow) → count < length rows
     → row ≡ get_or rows count row

@@ -1,13 +1,12 @@
 -- All links of `verify` are the request and the trust chain.
-use Rattle.std.proofs.Common.{ℕ, List, [], ◌∷◌, subst}
+use Rattle.std.proofs.Common.{◌↔◌, ℕ, List, [], ◌∷◌, subst}
 use Rattle.std.specs.List.{AllByRecursion}
 use Rattle.sig_verify.proofs.ChainLaws.{all_links_are_the_trust_chain}
 use Rattle.sig_verify.specs.Links.{chain_links}
 use Rattle.sig_verify.specs.declared.link.Link.{Link}
 use Rattle.sigverify.proofs.Replies.{every-of_text}
 use Rattle.sigverify.proofs.RequestTexts.{one_request}
-use Rattle.sigverify.specs.VerifyLink.{AllVerifyLinksAreTheTrustChain, HoldsOfVerify, HoldsVerify, IsTrusted}
-use Rattle.sigverify.specs.VerifyLink.{inputs, outside, verify_links}
+use Rattle.sigverify.specs.VerifyLink.{HoldsOfVerify, HoldsVerify, IsTrusted, inputs, outside, verify_links}
 use Rattle.sigverify.specs.VerifyRequest.{verify_request}
 use Rattle.sigverify.specs.declared.verify_request.VerifyRequest.{VerifyRequest}
 use Rattle.sigverify.specs.ReadFrom.{IsRequestOf}
@@ -35,5 +34,7 @@ trusted-to text is =
     every-of_text (IsRequestOf verify_request text) HoldsOfVerify is.request verify_links is.meant
     (tt, (all_links_are_the_trust_chain (outside is.request) (inputs is.request)).1 (is.valid, is.chain))
 
-pub all_verify_links_are_the_trust_chain : AllVerifyLinksAreTheTrustChain
+-- every link of `verify` holds of a text if and only if it is a request with valid inputs and a chain of trust
+pub all_verify_links_are_the_trust_chain : (text : List ℕ)
+    → AllByRecursion (HoldsVerify text) verify_links ↔ IsTrusted text
 all_verify_links_are_the_trust_chain text = (trusted-from text, trusted-to text)

@@ -1,7 +1,6 @@
 -- What the links of `verify` ask of its request: the chain of trust of its bundle, where a signature is genuine if and
 -- only if the request has a row of it.
-use Rattle.std.specs.Prelude.{◌↔◌, ℕ, List, [], ◌∷◌}
-use Rattle.std.specs.List.{AllByRecursion}
+use Rattle.std.specs.Prelude.{ℕ, List, [], ◌∷◌}
 use Rattle.sig_base.specs.Checker.{accepted}
 use Rattle.sig_base.specs.Scheme.{name_of}
 use Rattle.sig_base.specs.declared.checker.Operation.TheVariants.{Message, Prehash, Point, Certificate}
@@ -56,7 +55,3 @@ pub record IsTrusted (text : List ℕ) : Type 0 where
   pub meant : IsRequestOf verify_request text request
   pub valid : IsValid (outside request) (inputs request)
   pub chain : TrustChain (outside request) (inputs request)
-
--- every link of `verify` holds of a text if and only if it is a request with valid inputs and a chain of trust
-abbrev pub AllVerifyLinksAreTheTrustChain : Type 0
-AllVerifyLinksAreTheTrustChain = (text : List ℕ) → AllByRecursion (HoldsVerify text) verify_links ↔ IsTrusted text

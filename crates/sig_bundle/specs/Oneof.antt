@@ -1,8 +1,8 @@
--- A choice: members of an object of which at most one is there.
+-- A oneof: members of an object of which at most one is there.
 use Rattle.std.specs.Prelude.{List, [], ◌∷◌, Option, Some, None}
 use Rattle.sig_base.specs.OptionSteps.{◌>>=◌}
 
--- a member that is there, beside what the others of its choice are
+-- a member that is there, beside what the others of its oneof are
 abbrev pub alone : {A : Type 0} → A → Option A → Option (Option A)
 alone x None = Some (Some x)
 alone x (Some y) = None
