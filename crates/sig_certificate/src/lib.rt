@@ -8,8 +8,8 @@
 //! faults that has its cause.
 //!
 //! What other crates use besides: sig_timestamp takes `front`, `is_listed`, `extensions`, `is_certificate` and
-//! `read_purpose`, sig_policy the names of a value, and sig_x509 `extensions`, `are_single`, `basic_constraints` and
-//! `code_signing`.
+//! `read_purpose`, sig_policy the names of a value, sig_x509 `extensions`, `are_single`, `basic_constraints` and
+//! `may_sign_code`, and sig_questions the last of these.
 #![tactic(auto)]
 
 mod certificate;
@@ -39,12 +39,13 @@ pub use general_name::GeneralName;
 pub use general_names::{AlternativeNames, alternative_names};
 pub use lookup::{ExtensionRef, Lookup};
 pub use pem::der_to_pem;
-pub use profile::{basic_constraints, code_signing, is_ca, is_leaf, is_root_ca};
+pub use profile::{basic_constraints, is_ca, is_leaf, is_root_ca};
 pub use profile_error::{
     CertificateValidationError, ExtensionErrorKind, NotCAErrorKind, NotLeafErrorKind, PartName,
 };
 pub use trust::{
-    is_trusted, verify_expiration, verify_has_san, verify_key_usages, verify_validity,
+    is_trusted, may_sign_code, verify_expiration, verify_has_san, verify_key_usages,
+    verify_validity,
 };
 pub use values::{BasicConstraints, KeyUsage};
 pub use walks::read_purpose;

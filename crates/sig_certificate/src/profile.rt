@@ -50,9 +50,11 @@ pub fn basic_constraints(
 }
 
 /// Returns whether code signing is among the purposes of the certificate's extended key usage, `None` if there is
-/// none. Fails with `Malformed` if it is malformed or a duplicate extension. For the pools of sig_x509.
+/// none. Fails with `Malformed` if it is malformed or a duplicate extension.
 #[tactic(auto, using(crate::proofs::HeldLaws::held_laws))]
-pub fn code_signing(certificate: &Certificate) -> Result<Option<bool>, CertificateValidationError>
+pub(crate) fn code_signing(
+    certificate: &Certificate,
+) -> Result<Option<bool>, CertificateValidationError>
     ensures { result ≡ code_signing certificate.now }
 {
     match certificate.extension(EXTENDED_KEY_USAGE) {

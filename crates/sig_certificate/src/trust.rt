@@ -1,7 +1,7 @@
 //! The checks of a certificate that signed what a log has recorded.
 
 ghost use Rattle.std.specs.Prelude.{◌≡◌};
-ghost use Rattle.sig_certificate.specs.Profile.{error_of};
+ghost use Rattle.sig_certificate.specs.Profile.{code_signing, error_of};
 ghost use Rattle.sig_certificate.specs.Trust.{may_sign, may_sign_code, is_named, usages_refusal, names_refusal};
 ghost use Rattle.sig_certificate.specs.Trust.{validity_refusal, expiration_refusal, trust_refusal};
 ghost use Rattle.sig_der.specs.ObjectIdentifiers.{subject_alternative_name};
@@ -25,12 +25,11 @@ fn may_sign(usage: std::result::Result<Option<KeyUsage>, CertificateValidationEr
     }
 }
 
-fn may_sign_code(
-    code_signing: std::result::Result<Option<bool>, CertificateValidationError>,
-) -> bool
-    ensures { result ≡ may_sign_code code_signing }
+/// Whether code signing is among the purposes of the certificate's extended key usage (RFC 5280 section 4.2.1.12).
+pub fn may_sign_code(certificate: &Certificate) -> bool
+    ensures { result ≡ may_sign_code (code_signing certificate.now) }
 {
-    match code_signing {
+    match code_signing(certificate) {
         Ok(Some(found)) => found,
         _ => false,
     }
@@ -49,7 +48,7 @@ pub fn verify_key_usages(certificate: &Certificate) -> Result<()>
     if !may_sign(key_usage(certificate)) {
         return Err(SigstoreError::CertificateWithoutDigitalSignatureKeyUsage);
     }
-    if !may_sign_code(code_signing(certificate)) {
+    if !may_sign_code(certificate) {
         return Err(SigstoreError::CertificateWithoutCodeSigningKeyUsage);
     }
     Ok(())

@@ -2,15 +2,13 @@
 ghost use Rattle.std.specs.Prelude.{◌≡◌, IfOk, flat_map};
 ghost use Rattle.sig_certificate.specs.Certificate.{IsCertificate};
 ghost use Rattle.sig_certificate.specs.Certificates.{AreCertificates};
-ghost use Rattle.sig_certificate.specs.Trust.{may_sign_code};
-ghost use Rattle.sig_certificate.specs.Profile.{code_signing as code_signing_of};
 ghost use Rattle.sig_questions.specs.Lists.{certificate_questions, may_be_issuer};
 ghost use Rattle.sig_questions.specs.Written.{AddsRows};
 
 use crate::listing::NoQuestions;
 use crate::rows::{RowParts, Rows};
 use sig_base::{Entries, Operation, OutOfMemory, Register};
-use sig_certificate::{Certificate, code_signing};
+use sig_certificate::{Certificate, may_sign_code};
 use std::alloc::Global;
 
 /// Reads certificates. Fails if memory runs out, and if one of them is none; those of a trusted root with the link
@@ -36,17 +34,6 @@ fn read_anchor(alloc: Global, der: &[u8]) -> Result<Certificate, OutOfMemory>
     match Certificate::try_from_der(alloc, der) {
         Ok(anchor) => Ok(anchor),
         Err(_) => Err(OutOfMemory),
-    }
-}
-
-/// Whether the certificate may sign code.
-fn may_sign_code(certificate: &Certificate) -> bool
-    ensures { result ≡ may_sign_code (code_signing_of certificate.now) }
-{
-    match code_signing(certificate) {
-        Ok(Some(found)) => found,
-        Ok(None) => false,
-        Err(_) => false,
     }
 }
 

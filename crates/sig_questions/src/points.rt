@@ -9,13 +9,11 @@ use crate::listing::NoQuestions;
 use crate::rows::{RowParts, Rows};
 use sig_base::Operation;
 use sig_certificate::Certificate;
-use sig_timestamp::{CertificateEmbeddedSCT, DigitallySigned, Keyring, SCTError, signed_bytes};
+use sig_timestamp::{
+    CT_EXTENSIONS_MAX, CertificateEmbeddedSCT, DigitallySigned, Keyring, SCTError,
+    TBS_CERTIFICATE_MAX, signed_bytes,
+};
 use std::alloc::Global;
-
-/// The length of the longest `TBSCertificate<1..2^24-1>`.
-const TBS_CERTIFICATE_MAX: usize = 0xff_ffff;
-/// The length of the longest `CtExtensions<0..2^16-1>`.
-const CT_EXTENSIONS_MAX: usize = 0xffff;
 
 /// The rows of all anchors, in order.
 pub(crate) fn push_points(

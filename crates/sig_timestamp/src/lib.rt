@@ -24,4 +24,6 @@ pub use keyring::Keyring;
 pub use keyring_error::KeyringError;
 pub use precert::precert_tbs_der;
 pub use sct_error::{CertificateErrorKind, SCTError};
-pub use signed::{DigitallySigned, signed_bytes, verify_sct};
+pub use signed::{
+    CT_EXTENSIONS_MAX, DigitallySigned, TBS_CERTIFICATE_MAX, signed_bytes, verify_sct,
+};

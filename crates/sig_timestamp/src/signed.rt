@@ -32,9 +32,9 @@ const CERTIFICATE_TIMESTAMP: u8 = 0;
 /// `LogEntryType` (RFC 6962 section 3.1).
 const PRECERT_ENTRY: u16 = 1;
 /// The length of the longest `TBSCertificate<1..2^24-1>`.
-const TBS_CERTIFICATE_MAX: usize = 0xff_ffff;
+pub const TBS_CERTIFICATE_MAX: usize = 0xff_ffff;
 /// The length of the longest `CtExtensions<0..2^16-1>`.
-const CT_EXTENSIONS_MAX: usize = 0xffff;
+pub const CT_EXTENSIONS_MAX: usize = 0xffff;
 
 /// What the SCT of a certificate signs, and its signature.
 #[derive(Drop)]

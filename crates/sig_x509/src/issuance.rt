@@ -2,13 +2,12 @@
 
 ghost use Rattle.std.specs.Prelude.{◌≡◌};
 ghost use Rattle.sig_certificate.specs.Lookups.{borrowed_extension, with_oid};
-ghost use Rattle.sig_certificate.specs.Profile.{constraints, code_signing};
-ghost use Rattle.sig_certificate.specs.Trust.{may_sign_code};
+ghost use Rattle.sig_certificate.specs.Profile.{constraints};
 ghost use Rattle.sig_x509.specs.Issuance.{may_be_critical, is_understood, are_understood, is_unconstrained, is_fit};
 ghost use Rattle.sig_x509.specs.Issuance.{is_no_authority, is_profiled, is_signed_by, signs_code_at};
 
 use sig_base::SignatureChecker;
-use sig_certificate::{Certificate, ExtensionRef, Lookup, basic_constraints, code_signing};
+use sig_certificate::{Certificate, ExtensionRef, Lookup, basic_constraints, may_sign_code};
 use sig_der::oid::{
     BASIC_CONSTRAINTS, EXTENDED_KEY_USAGE, KEY_USAGE, NAME_CONSTRAINTS, SUBJECT_ALTERNATIVE_NAME,
 };
@@ -79,16 +78,6 @@ pub(crate) fn is_profiled(certificate: &Certificate) -> bool
     ensures { result ≡ is_profiled certificate.now }
 {
     is_fit(certificate) && is_no_authority(certificate)
-}
-
-fn may_sign_code(certificate: &Certificate) -> bool
-    ensures { result ≡ may_sign_code (code_signing certificate.now) }
-{
-    match code_signing(certificate) {
-        Ok(Some(found)) => found,
-        Ok(None) => false,
-        Err(_) => false,
-    }
 }
 
 /// Whether the certificate may sign code at the time, in seconds since 1970.
