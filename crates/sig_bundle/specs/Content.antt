@@ -12,7 +12,7 @@ use Rattle.sig_dsse.specs.declared.envelope.DsseSignature.{DsseSignature}
 use Rattle.sig_dsse.specs.declared.recognized.SubjectFault.{SubjectFault}
 use Rattle.sig_dsse.specs.declared.recognized.SubjectFault.TheVariants as fault
 use Rattle.sig_bundle.specs.declared.bundle.Content.{Content}
-use Rattle.sig_bundle.specs.declared.bundle.Content.TheVariants.{MessageSignature as Signed, DsseEnvelope as Envelope}
+use Rattle.sig_bundle.specs.declared.bundle.Content.TheVariants.{MessageSignature as Message, DsseEnvelope as Envelope}
 use Rattle.sig_bundle.specs.declared.bundle.MessageSignature.{MessageSignature}
 use Rattle.sig_bundle.specs.declared.bundle_error.BundleErrorKind.{BundleErrorKind}
 use Rattle.sig_bundle.specs.declared.bundle_error.BundleErrorKind.TheVariants.{SignatureMissing}
@@ -23,7 +23,7 @@ use Rattle.sig_bundle.specs.declared.bundle_error.BundleErrorKind.TheVariants.{D
 use Rattle.sig_bundle.specs.declared.bundle_error.BundleErrorKind.TheVariants.{DsseNoRecognizedSubjectDigest}
 use Rattle.sig_bundle.specs.declared.bundle_error.BundleErrorKind.TheVariants.{OutOfMemory}
 use Rattle.sig_bundle.specs.declared.content_check.CheckedContent.{CheckedContent}
-use Rattle.sig_bundle.specs.declared.content_check.CheckedContent.TheVariants.{MessageSignature as Message, Dsse}
+use Rattle.sig_bundle.specs.declared.content_check.CheckedContent.TheVariants.{MessageSignature as CheckedMessage, Dsse}
 
 -- the one signature of an envelope
 abbrev pub signature_among : List DsseSignature → Result DsseSignature BundleErrorKind
@@ -72,10 +72,10 @@ envelope_content envelope = do
 
 -- a signature over an artifact is over nothing that the bundle holds: it has to be over the artifact's digest
 abbrev pub message_content : MessageSignature → ContentWithSignature
-message_content message = record { signature = message.signature; content = Message }
+message_content message = record { signature = message.signature; content = CheckedMessage }
 
 -- the content with its signature
 abbrev pub content_with_signature : Option Content → Result ContentWithSignature BundleErrorKind
 content_with_signature None = Err SignatureMissing
-content_with_signature (Some (Signed message)) = Ok (message_content message)
+content_with_signature (Some (Message message)) = Ok (message_content message)
 content_with_signature (Some (Envelope envelope)) = envelope_content envelope

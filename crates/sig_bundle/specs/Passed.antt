@@ -17,10 +17,10 @@ use Rattle.sig_bundle.specs.SigningCertificate.{IsNoRoot, encodings_in}
 use Rattle.sig_bundle.specs.Version.{IsMediaType}
 use Rattle.sig_bundle.specs.declared.bundle.Bundle.{Bundle}
 use Rattle.sig_bundle.specs.declared.bundle.Content.{Content}
-use Rattle.sig_bundle.specs.declared.bundle.Content.TheVariants.{MessageSignature as Signed, DsseEnvelope as Envelope}
+use Rattle.sig_bundle.specs.declared.bundle.Content.TheVariants.{MessageSignature as Message, DsseEnvelope as Envelope}
 use Rattle.sig_bundle.specs.declared.bundle.MessageSignature.{MessageSignature}
 use Rattle.sig_bundle.specs.declared.content_check.CheckedContent.{CheckedContent}
-use Rattle.sig_bundle.specs.declared.content_check.CheckedContent.TheVariants.{MessageSignature as Message, Dsse}
+use Rattle.sig_bundle.specs.declared.content_check.CheckedContent.TheVariants.{MessageSignature as CheckedMessage, Dsse}
 use Rattle.sig_bundle.specs.declared.material.MaterialContent.{MaterialContent}
 use Rattle.sig_bundle.specs.declared.material.ProofFields.{ProofFields}
 use Rattle.sig_bundle.specs.declared.material.TransparencyLogEntry.{TransparencyLogEntry}
@@ -40,9 +40,9 @@ pub record HoldsLeaf (content : Option MaterialContent) (certificate : Cert) : T
 -- a signature over an artifact, of which the bundle holds nothing more that the signature has to be over
 pub record IsMessageOf (content : Option Content) (bytes : List ℕ) (kept : CheckedContent) : Type 0 where
   pub message : MessageSignature
-  pub held : content ≡ Some (Signed message)
+  pub held : content ≡ Some (Message message)
   pub same : message.signature ≡ bytes
-  pub over : kept ≡ Message
+  pub over : kept ≡ CheckedMessage
 
 -- an envelope has this signature and no other, its payload is a statement of which digests are taken, and all that the
 -- signature has to be over is kept

@@ -27,18 +27,21 @@ impl ProofFields {
         // The same in one equation.
         ensures answer { Answers ProofFieldsError.OutOfMemory (λ proof. proof) result (proof_or_fault self.now) }
     {
-        proof_of(alloc, self)
+        proof_from_fields(alloc, self)
     }
 }
 
 /// The proof of these members.
-fn proof_of(alloc: Global, fields: &ProofFields) -> Result<InclusionProof, ProofFieldsError>
+fn proof_from_fields(
+    alloc: Global,
+    fields: &ProofFields,
+) -> Result<InclusionProof, ProofFieldsError>
     ensures { Answers ProofFieldsError.OutOfMemory (λ proof. proof) result (proof_or_fault fields.now) }
 {
     let root_hash = hash_of(fields.root_hash.as_slice(), ProofFieldsError::RootLength)?;
     let hashes = hashes_of(alloc, &fields.hashes)?;
     let tree_size = size_of(&fields.tree_size)?;
-    let checkpoint = checkpoint_of(alloc, &fields.checkpoint)?;
+    let checkpoint = decoded_checkpoint(alloc, &fields.checkpoint)?;
     Ok(InclusionProof::new(
         fields.log_index,
         root_hash,
@@ -84,7 +87,10 @@ fn size_of(size: &i64) -> Result<u64, ProofFieldsError>
 
 /// The checkpoint that a text is. Fails with `CheckpointMissing` if there is none, or with `Checkpoint` and the fault
 /// of the text.
-fn checkpoint_of(alloc: Global, text: &Option<Text>) -> Result<SignedCheckpoint, ProofFieldsError>
+fn decoded_checkpoint(
+    alloc: Global,
+    text: &Option<Text>,
+) -> Result<SignedCheckpoint, ProofFieldsError>
     ensures { Answers ProofFieldsError.OutOfMemory (λ checkpoint. checkpoint) result (checkpoint_or_fault text.now) }
 {
     let Some(text) = text else {

@@ -14,12 +14,12 @@ use Rattle.sig_der.proofs.KeyInfos.{bits_of_again}
 use Rattle.sig_der.proofs.Many.{many_at_takes, many_at_again, many_at_none}
 use Rattle.sig_certificate.specs.Certificate.{Extension, Cert, IsCertificate, IsExtension, AreExtensions}
 use Rattle.sig_certificate.specs.Certificate.{IsAlgorithmText}
-use Rattle.sig_certificate.specs.Cutting.{Head, Body, Outer, Parts, before, outer_at, head_at, body_at, after_ids}
+use Rattle.sig_certificate.specs.Cutting.{Head, Binding, Outer, Parts, before, outer_at, head_at, binding_at, after_ids}
 use Rattle.sig_certificate.specs.Cutting.{list_at, parts_at, extension_at, certificate_from_parts, HasCertificateParts}
 use Rattle.sig_certificate.proofs.ExtensionLaws.{extension_reader}
 use Rattle.sig_certificate.proofs.HeadLaws.{after_fits, algorithm_text_again, TakesHead, head_at_takes, head_at_again}
-use Rattle.sig_certificate.proofs.BodyLaws.{TakesBody, body_at_takes, body_at_again, TakesIds, after_ids_takes}
-use Rattle.sig_certificate.proofs.BodyLaws.{after_ids_again, IsListed, list_at_takes, list_at_again}
+use Rattle.sig_certificate.proofs.BindingLaws.{TakesBinding, binding_at_takes, binding_at_again, TakesIds}
+use Rattle.sig_certificate.proofs.BindingLaws.{after_ids_takes, after_ids_again, IsListed, list_at_takes, list_at_again}
 use Rattle.sig_der.specs.Tag.{BIT_STRING, EXTENSIONS, ISSUER_UNIQUE_ID, SEQUENCE, SUBJECT_UNIQUE_ID}
 
 -- ---- the three parts
@@ -129,12 +129,12 @@ are_extensions text true list es fits is read =
 -- every step of the cutting
 pub record TakesParts (text : List ℕ) (p : Parts) : Type 0 where
   pub after_head : List ℕ
-  pub after_body : List ℕ
+  pub after_binding : List ℕ
   pub rest : List ℕ
   pub outer : TakesOuter text p.outer
   pub head : TakesHead p.outer.tbs.content (p.head, after_head)
-  pub body : TakesBody after_head (p.body, after_body)
-  pub ids : TakesIds after_body rest
+  pub binding : TakesBinding after_head (p.binding, after_binding)
+  pub ids : TakesIds after_binding rest
   pub listed : IsListed rest (p.listed, p.list)
   pub front : p.front ≡ before p.outer.tbs.content rest
   pub fits : IsBytes rest
@@ -148,7 +148,7 @@ unfolding parts_at
 parts_takes text fits p e =
     let o = bind_is (outer_at text) _ p e in
     let h = bind_is (head_at o.0.tbs.content) _ p o.2 in
-    let b = bind_is (body_at h.0.1) _ p h.2 in
+    let b = bind_is (binding_at h.0.1) _ p h.2 in
     let r = bind_is (after_ids b.0.1) _ p b.2 in
     let l = bind_is (list_at r.0) _ p r.2 in
     let outer = outer_at_takes text fits o.0 o.1 in
@@ -156,17 +156,17 @@ parts_takes text fits p e =
     let fits_h =
     after_four head.version_text head.serial_text h.0.0.algorithm h.0.0.issuer h.0.1 o.0.tbs.content head.parts
     outer.fits in
-    let body = body_at_takes h.0.1 fits_h b.0 b.1 in
-    let fits_b = after_four [] body.validity_text b.0.0.subject b.0.0.spki b.0.1 h.0.1 body.parts fits_h in
+    let binding = binding_at_takes h.0.1 fits_h b.0 b.1 in
+    let fits_b = after_four [] binding.validity_text b.0.0.subject b.0.0.spki b.0.1 h.0.1 binding.parts fits_h in
     let ids = after_ids_takes b.0.1 fits_b r.0 r.1 in
     let fits_r = after_four [] [] ids.issuer_id_text ids.subject_id_text r.0 b.0.1 ids.parts fits_b in
     subst (λ (w : Parts). TakesParts text w) (some_is _ p l.2) (record {
       after_head = h.0.1;
-      after_body = b.0.1;
+      after_binding = b.0.1;
       rest = r.0;
       outer = outer;
       head = head;
-      body = body;
+      binding = binding;
       ids = ids;
       listed = list_at_takes r.0 fits_r l.0 l.1;
       front = refl;
@@ -181,9 +181,9 @@ certificate_takes text p not_before not_after es fits is read =
     let t = parts_takes text fits p is.cut in
     let content = p.outer.tbs.content in
     let all =
-    gather t.head.version_text t.head.serial_text p.head.algorithm p.head.issuer t.body.validity_text
-    p.body.subject p.body.spki
-    t.ids.issuer_id_text t.ids.subject_id_text t.rest content t.after_head t.after_body t.head.parts t.body.parts
+    gather t.head.version_text t.head.serial_text p.head.algorithm p.head.issuer t.binding.validity_text
+    p.binding.subject p.binding.spki
+    t.ids.issuer_id_text t.ids.subject_id_text t.rest content t.after_head t.after_binding t.head.parts t.binding.parts
     t.ids.parts in
     let front = t.front ∙ before_is _ t.rest content all in
     record {
@@ -193,7 +193,7 @@ certificate_takes text p not_before not_after es fits is read =
       tbs = record {
         version_text = t.head.version_text;
         serial_text = t.head.serial_text;
-        validity_text = t.body.validity_text;
+        validity_text = t.binding.validity_text;
         issuer_id_text = t.ids.issuer_id_text;
         subject_id_text = t.ids.subject_id_text;
         extensions_text = t.rest;
@@ -206,16 +206,26 @@ certificate_takes text p not_before not_after es fits is read =
         algorithm = t.head.algorithm;
         issuer = t.head.issuer;
         validity = record {
-          first = p.body.first.whole;
-          second = p.body.second.whole;
-          is = t.body.validity;
+          first = p.binding.first.whole;
+          second = p.binding.second.whole;
+          is = t.binding.validity;
           begins =
-              record { tag = p.body.first.tag; content = p.body.first.content; is = t.body.first; time = is.begins };
+              record {
+                tag = p.binding.first.tag;
+                content = p.binding.first.content;
+                is = t.binding.first;
+                time = is.begins;
+              };
           ends =
-              record { tag = p.body.second.tag; content = p.body.second.content; is = t.body.second; time = is.ends };
+              record {
+                tag = p.binding.second.tag;
+                content = p.binding.second.content;
+                is = t.binding.second;
+                time = is.ends;
+              };
         };
-        subject = t.body.subject;
-        key = t.body.key;
+        subject = t.binding.subject;
+        key = t.binding.key;
         issuer_id = t.ids.issuer_id;
         subject_id = t.ids.subject_id;
         extensions = are_extensions t.rest p.listed p.list es t.fits t.listed read;
@@ -279,9 +289,9 @@ with_whole c w =
       signature = c.signature;
     }
 
-abbrev some_parts : Outer → Head → Body → Bool → List ℕ → List ℕ → Option Parts
-some_parts outer head body listed list front =
-    Some (record { outer = outer; front = front; head = head; body = body; listed = listed; list = list })
+abbrev some_parts : Outer → Head → Binding → Bool → List ℕ → List ℕ → Option Parts
+some_parts outer head binding listed list front =
+    Some (record { outer = outer; front = front; head = head; binding = binding; listed = listed; list = list })
 
 pub certificate_again : (text : List ℕ) (c : Cert) → IsCertificate text c → IsCertificateOf text c
 unfolding parts_at
@@ -300,14 +310,15 @@ certificate_again text c is =
       signature = c.signature;
     } in
     let head : Head = record { version = c.version; algorithm = c.inner_algorithm; issuer = c.issuer } in
-    let body : Body = record { first = first; second = second; subject = c.subject; spki = c.spki } in
-    let after_body = s.issuer_id_text ++ (s.subject_id_text ++ s.extensions_text) in
-    let after_head = s.validity_text ++ (c.subject ++ (c.spki ++ after_body)) in
+    let binding : Binding = record { first = first; second = second; subject = c.subject; spki = c.spki } in
+    let after_binding = s.issuer_id_text ++ (s.subject_id_text ++ s.extensions_text) in
+    let after_head = s.validity_text ++ (c.subject ++ (c.spki ++ after_binding)) in
     let spelled = ap (λ (w : List ℕ). w ++ s.extensions_text) s.front
     ∙ nine_then s.version_text s.serial_text c.inner_algorithm c.issuer s.validity_text c.subject c.spki
     s.issuer_id_text s.subject_id_text s.extensions_text in
     record {
-      parts = record { outer = outer; front = c.front; head = head; body = body; listed = c.listed; list = has.list };
+      parts =
+          record { outer = outer; front = c.front; head = head; binding = binding; listed = c.listed; list = has.list };
       cut = record {
         cut = bind_of_some (outer_at text) _ outer
             (outer_at_again text c.tbs content c.algorithm c.signature is.signature_text is.whole s.tbs is.algorithm
@@ -321,8 +332,8 @@ certificate_again text c is =
               issuer = s.issuer;
               parts = spelled;
             }))
-            ∙ bind_of_some (body_at after_head) _ (body, after_body)
-            (body_at_again after_head (body, after_body) (record {
+            ∙ bind_of_some (binding_at after_head) _ (binding, after_binding)
+            (binding_at_again after_head (binding, after_binding) (record {
               validity_text = s.validity_text;
               validity = s.validity.is;
               first = s.validity.begins.is;
@@ -331,8 +342,8 @@ certificate_again text c is =
               key = s.key;
               parts = refl;
             }))
-            ∙ bind_of_some (after_ids after_body) _ s.extensions_text
-            (after_ids_again after_body s.extensions_text (record {
+            ∙ bind_of_some (after_ids after_binding) _ s.extensions_text
+            (after_ids_again after_binding s.extensions_text (record {
               issuer_id_text = s.issuer_id_text;
               subject_id_text = s.subject_id_text;
               issuer_id = s.issuer_id;
@@ -341,7 +352,7 @@ certificate_again text c is =
             }) has.no_issuer_id has.no_subject_id)
             ∙ bind_of_some (list_at s.extensions_text) _ (c.listed, has.list)
             (list_at_again s.extensions_text c.listed has.list has.is)
-            ∙ ap (λ (w : List ℕ). some_parts outer head body c.listed has.list w)
+            ∙ ap (λ (w : List ℕ). some_parts outer head binding c.listed has.list w)
             (before_is c.front s.extensions_text content refl);
         begins = s.validity.begins.time;
         ends = s.validity.ends.time;

@@ -1,7 +1,7 @@
 pub mod Fronts
 pub mod ExtensionLaws
 pub mod HeadLaws
-pub mod BodyLaws
+pub mod BindingLaws
 pub mod CertificateLaws
 pub mod Readings
 pub mod HeldLaws

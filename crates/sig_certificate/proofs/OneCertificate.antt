@@ -32,11 +32,13 @@ time_one tag content s t (inr a) (inl b) = absurd (omega (arith, a.0, b.0))
 cut_one : (text : List ℕ) (p : Parts) (a b : ℤ) → HasCertificateParts text p a b → IsCutAs text p a b
 cut_one text p a b is q x y other =
     let same = some_is p q (sym is.cut ∙ other.cut) in
-    let begins = subst (λ (w : Parts). IsTimeOf w.body.first.tag w.body.first.content x) (sym same) other.begins in
-    let ends = subst (λ (w : Parts). IsTimeOf w.body.second.tag w.body.second.content y) (sym same) other.ends in (
+    let begins =
+    subst (λ (w : Parts). IsTimeOf w.binding.first.tag w.binding.first.content x) (sym same) other.begins in
+    let ends =
+    subst (λ (w : Parts). IsTimeOf w.binding.second.tag w.binding.second.content y) (sym same) other.ends in (
       same,
-      time_one p.body.first.tag p.body.first.content a x is.begins begins,
-      time_one p.body.second.tag p.body.second.content b y is.ends ends,
+      time_one p.binding.first.tag p.binding.first.content a x is.begins begins,
+      time_one p.binding.second.tag p.binding.second.content b y is.ends ends,
     )
 
 pub certificate_one : (text : List ℕ) (c d : Cert) → IsCertificate text c → IsCertificate text d → c ≡ d

@@ -125,7 +125,7 @@ AreExtensions text false extensions = (text ≡ []) × (extensions ≡ [])
 -- ---- the whole
 
 -- TBSCertificate, section 4.1.2
-pub record IsSignedPart (c : Cert) : Type 0 where
+pub record IsTbsCertificate (c : Cert) : Type 0 where
   pub version_text : List ℕ
   pub serial_text : List ℕ
   pub validity_text : List ℕ
@@ -153,6 +153,6 @@ pub record IsCertificate (text : List ℕ) (c : Cert) : Type 0 where
   pub signature_text : List ℕ
   pub same : c.whole ≡ text
   pub whole : IsElement text SEQUENCE (c.tbs ++ (c.algorithm ++ signature_text))
-  pub tbs : IsSignedPart c
+  pub tbs : IsTbsCertificate c
   pub algorithm : IsAlgorithmText c.algorithm
   pub signature : IsElement signature_text BIT_STRING (0 ∷ c.signature)

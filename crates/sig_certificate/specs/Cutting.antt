@@ -76,8 +76,8 @@ head_at bytes = do
   if is_empty n.0.content then None
       else Some (record { version = v.0; algorithm = a.0.whole; issuer = i.0.whole }, i.1)
 
--- The parts from the validity to the key; the two times are not read yet.
-pub record Body : Type 0 where
+-- What the TBSCertificate binds: the subject and the key, for a validity, whose two times are not read yet.
+pub record Binding : Type 0 where
   pub first : Piece
   pub second : Piece
   pub subject : List ℕ
@@ -91,8 +91,8 @@ validity_at bytes = do
   a ← take_any b.1
   if is_empty a.1 then Some ((b.0, a.0), x.1) else None
 
-unfoldable pub body_at : List ℕ → Option (Body × List ℕ)
-body_at bytes = do
+unfoldable pub binding_at : List ℕ → Option (Binding × List ℕ)
+binding_at bytes = do
   v ← validity_at bytes
   s ← take_tag SEQUENCE v.1
   k ← key_info_at s.1
@@ -136,7 +136,7 @@ pub record Parts : Type 0 where
   pub outer : Outer
   pub front : List ℕ
   pub head : Head
-  pub body : Body
+  pub binding : Binding
   pub listed : Bool
   pub list : List ℕ
 
@@ -148,10 +148,10 @@ unfoldable pub parts_at : List ℕ → Option Parts
 parts_at bytes = do
   o ← outer_at bytes
   h ← head_at o.tbs.content
-  b ← body_at h.1
+  b ← binding_at h.1
   r ← after_ids b.1
   l ← list_at r
-  Some (record { outer = o; front = before o.tbs.content r; head = h.0; body = b.0; listed = l.0; list = l.1 })
+  Some (record { outer = o; front = before o.tbs.content r; head = h.0; binding = b.0; listed = l.0; list = l.1 })
 
 -- the parts, the times of their validity, and the extensions that their list reads as
 abbrev pub certificate_from_parts : List ℕ → Parts → ℤ → ℤ → List Extension → Cert
@@ -165,8 +165,8 @@ certificate_from_parts text p not_before not_after extensions =
       issuer = p.head.issuer;
       not_before = not_before;
       not_after = not_after;
-      subject = p.body.subject;
-      spki = p.body.spki;
+      subject = p.binding.subject;
+      spki = p.binding.spki;
       listed = p.listed;
       extensions = extensions;
       algorithm = p.outer.algorithm;
@@ -176,5 +176,5 @@ certificate_from_parts text p not_before not_after extensions =
 -- The text is cut into these parts, and the elements of their validity are these times.
 pub record HasCertificateParts (text : List ℕ) (p : Parts) (not_before not_after : ℤ) : Type 0 where
   pub cut : parts_at text ≡ Some p
-  pub begins : IsTimeOf p.body.first.tag p.body.first.content not_before
-  pub ends : IsTimeOf p.body.second.tag p.body.second.content not_after
+  pub begins : IsTimeOf p.binding.first.tag p.binding.first.content not_before
+  pub ends : IsTimeOf p.binding.second.tag p.binding.second.content not_after

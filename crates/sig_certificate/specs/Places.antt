@@ -8,12 +8,12 @@ use Rattle.sig_der.specs.Places.{piece_at}
 use Rattle.sig_der.specs.Readers.{left}
 use Rattle.sig_certificate.specs.declared.span.Span.{Span}
 use Rattle.sig_certificate.specs.declared.parts.Head.{Head as HeadPlaces}
-use Rattle.sig_certificate.specs.declared.parts.Body.{Body as BodyPlaces}
+use Rattle.sig_certificate.specs.declared.parts.Binding.{Binding as BindingPlaces}
 use Rattle.sig_certificate.specs.declared.parts.Outer.{Outer as OuterPlaces}
 use Rattle.sig_certificate.specs.declared.parts.Places.{Places}
 use Rattle.sig_certificate.specs.declared.extensions.ExtensionPlaces.{ExtensionPlaces}
 use Rattle.sig_certificate.specs.Certificate.{Extension, Cert}
-use Rattle.sig_certificate.specs.Cutting.{Head, Body, Outer, Parts, certificate_from_parts}
+use Rattle.sig_certificate.specs.Cutting.{Head, Binding, Outer, Parts, certificate_from_parts}
 
 -- a reader after another, over the same buffer to the same end
 pub record GoesTo (r next : Reader) : Type 0 where
@@ -77,8 +77,8 @@ validity_read bytes x = ((piece_at bytes x.0.0, piece_at bytes x.0.1), left x.1)
 abbrev pub IsValidityRead : Reader → (Place × Place) × Reader → Type 0
 IsValidityRead r x = IsPlace r.end x.0.0 × IsPlace r.end x.0.1 × GoesTo r x.1
 
-abbrev pub placed_body : List ℕ → BodyPlaces → Body
-placed_body bytes b =
+abbrev pub placed_binding : List ℕ → BindingPlaces → Binding
+placed_binding bytes b =
     record {
       first = piece_at bytes b.not_before;
       second = piece_at bytes b.not_after;
@@ -86,10 +86,10 @@ placed_body bytes b =
       spki = part bytes b.spki;
     }
 
-abbrev pub body_read : List ℕ → BodyPlaces × Reader → Body × List ℕ
-body_read bytes x = (placed_body bytes x.0, left x.1)
+abbrev pub binding_read : List ℕ → BindingPlaces × Reader → Binding × List ℕ
+binding_read bytes x = (placed_binding bytes x.0, left x.1)
 
-pub record IsBodyWithin (end : ℕ) (b : BodyPlaces) : Type 0 where
+pub record IsBindingWithin (end : ℕ) (b : BindingPlaces) : Type 0 where
   pub not_before : IsPlace end b.not_before
   pub not_after : IsPlace end b.not_after
   pub subject : IsSpan end b.subject
@@ -121,7 +121,7 @@ parts_of bytes p =
       outer = placed_outer bytes p.outer;
       front = part bytes p.front;
       head = placed_head bytes p.head;
-      body = placed_body bytes p.body;
+      binding = placed_binding bytes p.binding;
       listed = p.listed;
       list = part bytes p.list;
     }
@@ -131,7 +131,7 @@ pub record ArePlaces (end : ℕ) (p : Places) : Type 0 where
   pub outer : IsOuterWithin 0 end p.outer
   pub front : IsSpan end p.front
   pub head : IsHeadWithin end p.head
-  pub body : IsBodyWithin end p.body
+  pub binding : IsBindingWithin end p.binding
   pub list : IsSpan end p.list
 
 -- the certificate of these ranges of its parts and of its extensions

@@ -15,7 +15,7 @@ ghost use Rattle.sig_certificate.specs.Lookups.{with_oid, are_single, Finds};
 
 use crate::error::X509ReadError;
 use crate::extension_walk::Extensions;
-use crate::listed::{Listed, read_listed};
+use crate::listed::{Listed, read_extension_list};
 use crate::lookup::{Lookup, look_up};
 use crate::parts::Places;
 use crate::reading::dated_parts;
@@ -76,7 +76,7 @@ impl Certificate {
             end: list.end,
         };
         // No `?`: what the error says of the bytes is a fact of this arm.
-        match read_listed(alloc, list) {
+        match read_extension_list(alloc, list) {
             Err(e) => Err(e),
             Ok(extensions) => Ok(Certificate {
                 der: Vec::from_slice(alloc, der)?,
@@ -136,14 +136,14 @@ impl Certificate {
     pub fn subject(&self) -> &[u8]
         ensures { result.now ≡ self.now.subject }
     {
-        part(&self.der, self.places.body.subject)
+        part(&self.der, self.places.binding.subject)
     }
 
     /// Returns the SubjectPublicKeyInfo, a whole element.
     pub fn spki(&self) -> &[u8]
         ensures { result.now ≡ self.now.spki }
     {
-        part(&self.der, self.places.body.spki)
+        part(&self.der, self.places.binding.spki)
     }
 
     /// Returns the bits of the signature, without the count of unused bits.

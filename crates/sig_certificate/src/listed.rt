@@ -51,7 +51,10 @@ fn are_single(bytes: &[u8], extensions: &mut [ExtensionPlaces]) -> bool
 }
 
 /// Reads the extensions that are all that is left. Fails with `Der` if anything else is left, and with `OutOfMemory`.
-pub(crate) fn read_listed(alloc: Global, reader: Reader<'_>) -> Result<Listed, X509ReadError>
+pub(crate) fn read_extension_list(
+    alloc: Global,
+    reader: Reader<'_>,
+) -> Result<Listed, X509ReadError>
     ensures exact { Answers X509ReadError.OutOfMemory (λ l. map (extension_of reader.entry.bytes.now) l.places.items)
         result (or_der (many_at extension_at (left reader.entry))) }
     ensures within { IfOk result (λ l. All (AreSpans reader.entry.end) l.places.items) }

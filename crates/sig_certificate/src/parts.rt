@@ -12,7 +12,7 @@
 //!      serialNumber         CertificateSerialNumber,
 //!      signature            AlgorithmIdentifier,
 //!      issuer               Name,
-//!      validity             Validity,                             -- read_body, read_validity
+//!      validity             Validity,                             -- read_binding, read_validity
 //!      subject              Name,
 //!      subjectPublicKeyInfo SubjectPublicKeyInfo,
 //!      issuerUniqueID  [1]  IMPLICIT UniqueIdentifier OPTIONAL,   -- skip_ids
@@ -25,9 +25,9 @@
 
 ghost use Rattle.std.specs.Prelude.{◌≡◌, length, option_map, IfSome};
 ghost use Rattle.sig_certificate.specs.Cutting.{version_number, explicit_version, version_at, head_at, validity_at};
-ghost use Rattle.sig_certificate.specs.Cutting.{body_at, after_ids, list_at, outer_at, parts_at};
+ghost use Rattle.sig_certificate.specs.Cutting.{binding_at, after_ids, list_at, outer_at, parts_at};
 ghost use Rattle.sig_certificate.specs.Places.{value_read, head_read, IsHeadWithin, validity_read, IsValidityRead};
-ghost use Rattle.sig_certificate.specs.Places.{body_read, IsBodyWithin, placed_outer, IsOuterWithin, listed_of};
+ghost use Rattle.sig_certificate.specs.Places.{binding_read, IsBindingWithin, placed_outer, IsOuterWithin, listed_of};
 ghost use Rattle.sig_certificate.specs.Places.{IsListedWithin, parts_of, ArePlaces, GoesTo};
 ghost use Rattle.sig_der.specs.Readers.{left};
 
@@ -42,9 +42,9 @@ pub(crate) struct Head {
     pub(crate) issuer: Span,
 }
 
-/// The fields of the TBSCertificate from the validity to the SubjectPublicKeyInfo.
+/// What the TBSCertificate binds (RFC 5280 section 3.1): the fields from the validity to the SubjectPublicKeyInfo.
 #[derive(Clone, Copy, Debug)]
-pub(crate) struct Body {
+pub(crate) struct Binding {
     pub(crate) not_before: Place,
     pub(crate) not_after: Place,
     pub(crate) subject: Span,
@@ -66,7 +66,7 @@ pub(crate) struct Places {
     /// The elements of the TBSCertificate before its extensions.
     pub(crate) front: Span,
     pub(crate) head: Head,
-    pub(crate) body: Body,
+    pub(crate) binding: Binding,
     /// Whether the extensions are there.
     pub(crate) listed: bool,
     /// The content of their SEQUENCE.
@@ -90,7 +90,7 @@ fn read_certificate(reader: Reader<'_>) -> Option<Places>
     let outer = read_outer(reader)?;
     let tbs = reader.inside(outer.tbs);
     let (head, rest) = read_head(tbs)?;
-    let (body, rest) = read_body(rest)?;
+    let (binding, rest) = read_binding(rest)?;
     let rest = skip_ids(rest)?;
     let (listed, list) = read_list(rest)?;
     let front = Span {
@@ -101,7 +101,7 @@ fn read_certificate(reader: Reader<'_>) -> Option<Places>
         outer,
         front,
         head,
-        body,
+        binding,
         listed,
         list,
     })
@@ -185,21 +185,21 @@ fn version_number(content: &[u8]) -> Option<u8>
 }
 
 /// Reads the fields of the TBSCertificate from the validity to the SubjectPublicKeyInfo. `None` if they are malformed.
-#[tactic(auto, unfolding(crate::specs::Cutting::body_at))]
-fn read_body(reader: Reader<'_>) -> Option<(Body, Reader<'_>)>
-    ensures cut { body_at (left reader.entry) ≡ option_map (body_read reader.entry.bytes.now) result }
-    ensures within { IfSome result (λ x. IsBodyWithin reader.entry.end x.0 × GoesTo reader.entry x.1) }
+#[tactic(auto, unfolding(crate::specs::Cutting::binding_at))]
+fn read_binding(reader: Reader<'_>) -> Option<(Binding, Reader<'_>)>
+    ensures cut { binding_at (left reader.entry) ≡ option_map (binding_read reader.entry.bytes.now) result }
+    ensures within { IfSome result (λ x. IsBindingWithin reader.entry.end x.0 × GoesTo reader.entry x.1) }
 {
     let ((not_before, not_after), rest) = read_validity(reader)?;
     let (subject, rest) = rest.tagged(tag::SEQUENCE)?;
     let (spki, rest) = read_key_info(rest)?;
-    let body = Body {
+    let binding = Binding {
         not_before,
         not_after,
         subject: whole_of(subject),
         spki: whole_of(spki.whole),
     };
-    Some((body, rest))
+    Some((binding, rest))
 }
 
 /// Reads the two elements of the validity, which are not read as times yet. `None` if it is not a SEQUENCE of two.

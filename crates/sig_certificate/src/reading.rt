@@ -35,8 +35,8 @@ pub(crate) fn dated_parts(der: &[u8]) -> Option<Dated>
     ensures within { IfSome result (λ d. ArePlaces (length der.now) d.places) }
 {
     let places = parts_of(der)?;
-    let not_before = second_at(der, places.body.not_before)?;
-    let not_after = second_at(der, places.body.not_after)?;
+    let not_before = second_at(der, places.binding.not_before)?;
+    let not_after = second_at(der, places.binding.not_after)?;
     Some(Dated {
         places,
         not_before,

@@ -65,7 +65,7 @@ pub fn payload_digests(alloc: Global, payload: &[u8]) -> Result<Digests, Payload
 fn read_maps(alloc: Global, payload: &[u8]) -> Result<Register<TextMap>, PayloadFault>
     ensures { Answers PayloadFault.OutOfMemory (λ maps. maps) result (digest_maps_of payload.now) }
 {
-    match read_listed(alloc, payload) {
+    match read_digest_record(alloc, payload) {
         Ok(maps) => Ok(maps),
         Err(JsonError::NotJson | JsonError::Float | JsonError::Member) => Err(
             PayloadFault::NoStatement,
@@ -76,7 +76,7 @@ fn read_maps(alloc: Global, payload: &[u8]) -> Result<Register<TextMap>, Payload
 
 /// The same by the error of a record, as if the whole payload were read: `MEMBERS` has every name but `predicate`, of
 /// which nothing is asked.
-fn read_listed(alloc: Global, payload: &[u8]) -> Result<Register<TextMap>, JsonError>
+fn read_digest_record(alloc: Global, payload: &[u8]) -> Result<Register<TextMap>, JsonError>
     ensures { Answers JsonError.OutOfMemory (λ maps. maps) result (record_in digest_maps_in payload.now) }
 {
     read_record_with::<DigestMapsReader>(alloc, payload, &MEMBERS)

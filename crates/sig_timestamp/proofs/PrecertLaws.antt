@@ -1,4 +1,4 @@
--- The precertificate's signed part: it is one of the same parts, no longer than the certificate's.
+-- The TBSCertificate of the precertificate: it is one of the same parts, no longer than the certificate's.
 use Rattle.std.proofs.Common.{◌≡◌, ℕ, ◌+◌, ◌/◌, ◌%◌, ◌≤◌, Bool, true, false, not, cond, ltb, List, [], ◌∷◌, ◌++◌}
 use Rattle.std.proofs.Common.{length, refl, sym, ap, subst, ◌∙◌, append_assoc, arith, inl, inr}
 use Rattle.std.specs.Prelude.{Result, Ok, Err, IfOk}
@@ -10,7 +10,7 @@ use Rattle.std.proofs.lemmas.List.{length-append, append-nil}
 use Rattle.std.proofs.lemmas.Bool.Decides.{nat_tests}
 use Rattle.sig_der.specs.Element.{IsElement, element, spelled_length}
 use Rattle.sig_der.specs.ObjectIdentifiers.{sct_list}
-use Rattle.sig_certificate.specs.Certificate.{Extension, Cert, IsExtension, IsList, AreExtensions, IsSignedPart}
+use Rattle.sig_certificate.specs.Certificate.{Extension, Cert, IsExtension, IsList, AreExtensions, IsTbsCertificate}
 use Rattle.sig_timestamp.specs.Precert.{without_oid, kept_extensions, kept_of, ders_of, extensions_element}
 use Rattle.sig_timestamp.specs.Precert.{precertificate, HaveSpelling, IsWithoutScts}
 
@@ -99,12 +99,12 @@ element_shorter tag a b le =
     let sb = length-spelled (length b) in
     omega arith
 
--- ---- the signed part
+-- ---- the TBSCertificate
 
-list_of : (c : Cert) (is : IsSignedPart c) → c.listed ≡ true → IsList is.extensions_text c.extensions
+list_of : (c : Cert) (is : IsTbsCertificate c) → c.listed ≡ true → IsList is.extensions_text c.extensions
 list_of c is listed = subst (λ (b : Bool). AreExtensions is.extensions_text b c.extensions) listed is.extensions
 
-pub have_spelling : (c : Cert) → IsSignedPart c → c.listed ≡ true → HaveSpelling c
+pub have_spelling : (c : Cert) → IsTbsCertificate c → c.listed ≡ true → HaveSpelling c
 have_spelling c is listed =
     let l = list_of c is listed in
     let kept = ders_of (kept_extensions c) in
@@ -127,10 +127,10 @@ have_spelling c is listed =
       );
     }
 
-signed_part_of : (c : Cert) (is : IsSignedPart c) (text extensions_text : List ℕ)
+tbs_certificate_of : (c : Cert) (is : IsTbsCertificate c) (text extensions_text : List ℕ)
     → IsElement text 48 (c.front ++ extensions_text)
     → AreExtensions extensions_text c.listed (kept_extensions c) → IsWithoutScts c text
-signed_part_of c is text extensions_text tbs extensions =
+tbs_certificate_of c is text extensions_text tbs extensions =
     record {
       version_text = is.version_text;
       serial_text = is.serial_text;
@@ -152,7 +152,7 @@ signed_part_of c is text extensions_text tbs extensions =
       extensions = extensions;
     }
 
-pub without_scts : (c : Cert) → IsSignedPart c → IsWithoutScts c (precertificate c)
+pub without_scts : (c : Cert) → IsTbsCertificate c → IsWithoutScts c (precertificate c)
 without_scts c is =
     elim (cases_Bool c.listed) [
       | inl listed ↦
@@ -160,7 +160,7 @@ without_scts c is =
           let s = have_spelling c is listed in
           let kept = ders_of (kept_extensions c) in
           subst (λ (w : List ℕ). IsWithoutScts c w) (sym (cond-true c.listed _ _ listed))
-          (signed_part_of c is (element 48 (c.front ++ extensions_element (kept_extensions c)))
+          (tbs_certificate_of c is (element 48 (c.front ++ extensions_element (kept_extensions c)))
           (extensions_element (kept_extensions c))
           (record { tagged = is.tbs.tagged; short = s.body; spelled = refl })
           (subst (λ (b : Bool). AreExtensions (extensions_element (kept_extensions c)) b (kept_extensions c))
@@ -174,12 +174,12 @@ without_scts c is =
       | inr absent ↦
           let none = subst (λ (b : Bool). AreExtensions is.extensions_text b c.extensions) absent is.extensions in
           subst (λ (w : List ℕ). IsWithoutScts c w) (sym (cond-false c.listed _ _ absent))
-          (signed_part_of c is c.tbs is.extensions_text is.tbs
+          (tbs_certificate_of c is c.tbs is.extensions_text is.tbs
           (subst (λ (b : Bool). AreExtensions is.extensions_text b (kept_extensions c)) (sym absent)
           (none.0, ap (λ (es : List Extension). without_oid sct_list es) none.1)))
     ]
 
-pub keeps_of : (c : Cert) → IsSignedPart c → (r : Result (List ℕ) OutOfMemory) → IfOk r (λ t. t ≡ precertificate c)
+pub keeps_of : (c : Cert) → IsTbsCertificate c → (r : Result (List ℕ) OutOfMemory) → IfOk r (λ t. t ≡ precertificate c)
     → IfOk r (IsWithoutScts c)
 keeps_of c is (Ok t) e = subst (λ (w : List ℕ). IsWithoutScts c w) (sym e) (without_scts c is)
 keeps_of c is (Err d) e = tt

@@ -5,7 +5,7 @@ use Rattle.sig_der.specs.Element.{element}
 use Rattle.sig_der.specs.Joined.{joined}
 use Rattle.sig_der.specs.Tag.{SEQUENCE, EXTENSIONS}
 use Rattle.sig_der.specs.ObjectIdentifiers.{sct_list}
-use Rattle.sig_certificate.specs.Certificate.{Extension, Cert, IsSignedPart}
+use Rattle.sig_certificate.specs.Certificate.{Extension, Cert, IsTbsCertificate}
 
 -- the extensions with another object identifier, in order
 abbrev pub without_oid : List ℕ → List Extension → List Extension
@@ -43,4 +43,4 @@ pub record HaveSpelling (c : Cert) : Type 0 where
 
 -- The bytes are the TBSCertificate of a certificate that has every part of this one, but no list of SCTs.
 abbrev pub IsWithoutScts : Cert → List ℕ → Type 0
-IsWithoutScts c tbs = IsSignedPart (record c { tbs = tbs; extensions = kept_extensions c })
+IsWithoutScts c tbs = IsTbsCertificate (record c { tbs = tbs; extensions = kept_extensions c })

@@ -7,7 +7,7 @@
 //! ```
 
 ghost use Rattle.std.specs.Prelude.{◌≡◌, [], ◌∷◌, ◌++◌, IfOk, OnOk};
-ghost use Rattle.sig_certificate.specs.Certificate.{IsSignedPart};
+ghost use Rattle.sig_certificate.specs.Certificate.{IsTbsCertificate};
 ghost use Rattle.sig_certificate.specs.Lookups.{borrowed_extension};
 ghost use Rattle.sig_timestamp.specs.Precert.{precertificate, kept_extensions, kept_of, ders_of, tbs_with};
 ghost use Rattle.sig_timestamp.specs.Precert.{HaveSpelling, IsWithoutScts};
@@ -33,7 +33,7 @@ pub fn precert_tbs_der(alloc: Global, leaf: &Certificate) -> Result<Bytes, OutOf
 }
 
 fn precertificate(alloc: Global, leaf: &Certificate) -> Result<Bytes, OutOfMemory>
-    requires { IsSignedPart leaf.now }
+    requires { IsTbsCertificate leaf.now }
     ensures { IfOk result (λ t. t ≡ precertificate leaf.now) }
 {
     if leaf.is_listed() {

@@ -13,7 +13,7 @@ use Rattle.sig_bundle.specs.Refusals.{IsCause, IsProfileCauseOf, RefusalsHaveThe
 use Rattle.sig_bundle.specs.SigningCertificate.{IsNoRoot, encodings_in}
 use Rattle.sig_bundle.specs.declared.bundle.Bundle.{Bundle}
 use Rattle.sig_bundle.specs.declared.bundle.Content.{Content}
-use Rattle.sig_bundle.specs.declared.bundle.Content.TheVariants.{MessageSignature as Signed, DsseEnvelope as Enveloped}
+use Rattle.sig_bundle.specs.declared.bundle.Content.TheVariants.{MessageSignature as Message, DsseEnvelope as Enveloped}
 use Rattle.sig_bundle.specs.declared.bundle_error.BundleErrorKind.{BundleErrorKind}
 use Rattle.sig_bundle.specs.declared.bundle_error.BundleErrorKind.TheVariants as refusal
 use Rattle.sig_bundle.specs.declared.bundle_error.BundleProfileErrorKind.{BundleProfileErrorKind}
@@ -23,7 +23,7 @@ use Rattle.sig_bundle.specs.declared.bundle_error.Bundle01ProfileErrorKind.TheVa
 use Rattle.sig_bundle.specs.declared.bundle_error.Bundle02ProfileErrorKind.TheVariants.{InclusionProofMissing}
 use Rattle.sig_bundle.specs.declared.bundle_error.Bundle02ProfileErrorKind.TheVariants.{CheckpointMissing}
 use Rattle.sig_bundle.specs.declared.content_check.CheckedContent.{CheckedContent}
-use Rattle.sig_bundle.specs.declared.content_check.CheckedContent.TheVariants.{MessageSignature as Message, Dsse}
+use Rattle.sig_bundle.specs.declared.content_check.CheckedContent.TheVariants.{MessageSignature as CheckedMessage, Dsse}
 use Rattle.sig_bundle.specs.declared.material.ProofFields.{ProofFields}
 use Rattle.sig_bundle.specs.declared.material.TransparencyLogEntry.{TransparencyLogEntry}
 use Rattle.sig_bundle.specs.declared.material.VerificationMaterial.{VerificationMaterial}
@@ -73,8 +73,8 @@ demanded Bundle0_3 e demands met = met
 -- content that is read is kept, with its signature
 kept_of : (content : Content) → IsContentRead content
     → (signature : List ℕ) × (kept : CheckedContent) × IsContentOf (Some content) signature kept
-kept_of (Signed message) read =
-    (message.signature, Message, inl (record { message = message; held = refl; same = refl; over = refl }))
+kept_of (Message message) read =
+    (message.signature, CheckedMessage, inl (record { message = message; held = refl; same = refl; over = refl }))
 kept_of (Enveloped envelope) read = (
   read.signature.sig,
   Dsse (pae envelope.payload_type envelope.payload) read.digests (envelope_text envelope) envelope.payload,
@@ -149,7 +149,7 @@ module _ (b : Bundle) where
 
   content_read : (signature : List ℕ) (kept : CheckedContent) → IsContentOf b.content signature kept
       → OfContent b IsContentRead
-  content_read signature kept (inl message) = (Signed message.message, message.held, tt)
+  content_read signature kept (inl message) = (Message message.message, message.held, tt)
   content_read signature kept (inr envelope) = (
     Enveloped envelope.envelope,
     envelope.held,

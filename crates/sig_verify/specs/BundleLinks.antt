@@ -7,7 +7,7 @@ use Rattle.sig_bundle.specs.SigningCertificate.{IsNoRoot, encodings_in}
 use Rattle.sig_bundle.specs.Version.{IsMediaType}
 use Rattle.sig_bundle.specs.declared.bundle.Bundle.{Bundle}
 use Rattle.sig_bundle.specs.declared.bundle.Content.{Content as ContentType}
-use Rattle.sig_bundle.specs.declared.bundle.Content.TheVariants.{MessageSignature as Signed, DsseEnvelope as Enveloped}
+use Rattle.sig_bundle.specs.declared.bundle.Content.TheVariants.{MessageSignature as Message, DsseEnvelope as Enveloped}
 use Rattle.sig_bundle.specs.declared.material.TransparencyLogEntry.{TransparencyLogEntry}
 use Rattle.sig_bundle.specs.declared.material.VerificationMaterial.{VerificationMaterial}
 use Rattle.sig_bundle.specs.declared.version.Version.{Version}
@@ -64,7 +64,7 @@ pub record IsEnvelopeRead (envelope : DsseEnvelope) : Type 0 where
 
 -- a signature over an artifact needs nothing more
 abbrev pub IsContentRead : ContentType → Type 0
-IsContentRead (Signed message) = Unit {0}
+IsContentRead (Message message) = Unit {0}
 IsContentRead (Enveloped envelope) = IsEnvelopeRead envelope
 
 -- ---- the links

@@ -9,10 +9,10 @@ use sig_base::{Failed, Source};
 use thiserror::Error;
 
 /// No more bytes of an artifact than this are taken, 2^40 + 1: one more than it may have shows that there are too many.
-const READ_LIMIT: u64 = 1_099_511_627_777;
+const ARTIFACT_LIMIT: u64 = 1_099_511_627_777;
 
 /// How many bytes are asked for at a time.
-const PIECE: usize = 65_536;
+const ARTIFACT_PIECE: usize = 65_536;
 
 /// Why an artifact could not be read.
 #[derive(Clone, Copy, Debug, PartialEq, Eq, Error)]
@@ -52,9 +52,9 @@ pub(crate) fn sha256_of_rest<S: Source>(source: &mut S) -> Result<[u8; 32], Inpu
 {
     let mut hasher = Sha256::new();
     let mut taken = 0;
-    let mut buf = [0; PIECE];
-    'turns: while taken < READ_LIMIT {
-        let room = (READ_LIMIT - taken).min(PIECE as u64) as usize;
+    let mut buf = [0; ARTIFACT_PIECE];
+    'turns: while taken < ARTIFACT_LIMIT {
+        let room = (ARTIFACT_LIMIT - taken).min(ARTIFACT_PIECE as u64) as usize;
         let count = source.read(&mut buf[..room])?;
         if count == 0 {
             return Ok(hasher.finalize());

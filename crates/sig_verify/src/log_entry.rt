@@ -89,7 +89,7 @@ fn vouched<C: SignatureChecker>(
         (vouched (key_accepts (C.spki_accepts checker.now) key.now) entry.now) }
 {
     check_promise(alloc, entry, key, checker)?;
-    let proof = proof_of(alloc, &entry.inclusion_proof)?;
+    let proof = entry_proof(alloc, &entry.inclusion_proof)?;
     included(alloc, entry, proof, key, checker)
 }
 
@@ -175,7 +175,7 @@ fn check_promise<C: SignatureChecker>(
 }
 
 /// The links `proof` and `checkpoint`: the entry's proof.
-fn proof_of(alloc: Global, fields: &Option<ProofFields>) -> Result<InclusionProof, OfflineError>
+fn entry_proof(alloc: Global, fields: &Option<ProofFields>) -> Result<InclusionProof, OfflineError>
     ensures { Answers OfflineError.OutOfMemory (λ proof. proof) result (fields_answer fields.now) }
 {
     match fields {

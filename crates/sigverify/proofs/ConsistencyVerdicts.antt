@@ -8,18 +8,18 @@ use Rattle.sigverify.specs.Head.{IsHeadVerdict}
 use Rattle.sigverify.specs.declared.consistency_request.ConsistencyRequest.{ConsistencyRequest}
 
 -- the verdict on the head of the tree of now
-abbrev pub HeadVerdict : ConsistencyRequest → Option Link → Type 0
-HeadVerdict request = IsHeadVerdict request.head request.tree_size request.root_hash
+abbrev pub ConsistencyHeadVerdict : ConsistencyRequest → Option Link → Type 0
+ConsistencyHeadVerdict request = IsHeadVerdict request.head request.tree_size request.root_hash
 
-pub consistency-head-fails : (request : ConsistencyRequest) (link : Link) → HeadVerdict request (Some link)
+pub consistency-head-fails : (request : ConsistencyRequest) (link : Link) → ConsistencyHeadVerdict request (Some link)
     → IsConsistencyVerdict request (Some link)
 consistency-head-fails request = head-fails (HoldsOfConsistency request) tt Consistency
 
-pub not-grown : (request : ConsistencyRequest) → HeadVerdict request None → ¬ IsGrown request
+pub not-grown : (request : ConsistencyRequest) → ConsistencyHeadVerdict request None → ¬ IsGrown request
     → IsConsistencyVerdict request (Some Consistency)
 not-grown request = last-fails (HoldsOfConsistency request) tt Consistency
 
-pub consistency-holds : (request : ConsistencyRequest) → HeadVerdict request None → IsGrown request
+pub consistency-holds : (request : ConsistencyRequest) → ConsistencyHeadVerdict request None → IsGrown request
     → IsConsistencyVerdict request None
 consistency-holds request = all-hold (HoldsOfConsistency request) tt Consistency
 

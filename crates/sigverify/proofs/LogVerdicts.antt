@@ -8,18 +8,18 @@ use Rattle.sigverify.specs.Link.{HoldsOfLog, IsLogged, IsLogVerdict}
 use Rattle.sigverify.specs.declared.request.LogRequest.{LogRequest}
 
 -- the verdict on the head of the proof's tree
-abbrev pub HeadVerdict : LogRequest → Option Link → Type 0
-HeadVerdict request = IsHeadVerdict request.head request.proof.tree_size request.proof.root_hash
+abbrev pub LogHeadVerdict : LogRequest → Option Link → Type 0
+LogHeadVerdict request = IsHeadVerdict request.head request.proof.tree_size request.proof.root_hash
 
-pub log-head-fails : (request : LogRequest) (link : Link) → HeadVerdict request (Some link)
+pub log-head-fails : (request : LogRequest) (link : Link) → LogHeadVerdict request (Some link)
     → IsLogVerdict request (Some link)
 log-head-fails request = head-fails (HoldsOfLog request) tt Inclusion
 
-pub not-logged : (request : LogRequest) → HeadVerdict request None → ¬ IsLogged request
+pub not-logged : (request : LogRequest) → LogHeadVerdict request None → ¬ IsLogged request
     → IsLogVerdict request (Some Inclusion)
 not-logged request = last-fails (HoldsOfLog request) tt Inclusion
 
-pub log-holds : (request : LogRequest) → HeadVerdict request None → IsLogged request → IsLogVerdict request None
+pub log-holds : (request : LogRequest) → LogHeadVerdict request None → IsLogged request → IsLogVerdict request None
 log-holds request = all-hold (HoldsOfLog request) tt Inclusion
 
 pub ruleset verdicts = (log-head-fails, not-logged, log-holds)

@@ -17,7 +17,7 @@ ghost use Rattle.std.specs.Prelude.{IfOk};
 
 use crate::head::SignedHead;
 use crate::head_members::read_head;
-use crate::request_text::{RequestReader, read_listed};
+use crate::request_text::{RequestReader, request_from_text};
 use crate::row::AbsentReader;
 use sig_base::{Hashes, OutOfMemory, TableChecker};
 use sig_json::{
@@ -94,6 +94,6 @@ impl ConsistencyRequest {
     pub fn read(alloc: Global, text: &[u8]) -> Result<Option<ConsistencyRequest>, OutOfMemory>
         ensures { IfOk result (IsReadFrom consistency_request text.now) }
     {
-        read_listed::<ConsistencyRequestReader>(alloc, text, &MEMBERS)
+        request_from_text::<ConsistencyRequestReader>(alloc, text, &MEMBERS)
     }
 }

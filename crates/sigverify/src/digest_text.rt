@@ -61,9 +61,9 @@ pub(crate) fn digest_of(text: &str) -> Option<ArtifactDigest>
 }
 
 /// Reads texts of digests.
-pub enum DigestReader {}
+pub enum ArtifactDigestReader {}
 
-impl ElementReader for DigestReader {
+impl ElementReader for ArtifactDigestReader {
     type Item = ArtifactDigest;
 
     ghost meaning = { digest_kind };

@@ -39,14 +39,14 @@ fn reply_to_text(alloc: Global, request: &[u8]) -> Result<Reply, OutOfMemory>
     let Some(request) = LogRequest::read(alloc, request)? else {
         return Reply::refused(alloc, Link::Request);
     };
-    let Some(checkpoint) = checkpoint_of(alloc, &request.head)? else {
+    let Some(checkpoint) = head_checkpoint(alloc, &request.head)? else {
         return Reply::refused(alloc, Link::Checkpoint);
     };
     listed(alloc, &request.head, &checkpoint)
 }
 
 /// The checkpoint of a head, `None` if and only if its text is none.
-fn checkpoint_of(alloc: Global, head: &SignedHead) -> Result<Option<SignedNote<'_>>, OutOfMemory>
+fn head_checkpoint(alloc: Global, head: &SignedHead) -> Result<Option<SignedNote<'_>>, OutOfMemory>
     ensures { IfOk result (IsCheckpointOf head.now) }
 {
     match SignedNote::decode(alloc, head.checkpoint.as_str()) {

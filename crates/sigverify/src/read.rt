@@ -11,10 +11,10 @@ use thiserror::Error;
 pub const MOST_BYTES: usize = 16_777_216;
 
 /// No more bytes than this are ever taken: one more than a request may have shows that there are too many.
-pub const READ_LIMIT: usize = 16_777_217;
+pub const REQUEST_LIMIT: usize = 16_777_217;
 
 /// How many bytes are asked for at a time.
-const PIECE: usize = 16_384;
+const REQUEST_PIECE: usize = 16_384;
 
 /// Why a request could not be read.
 #[derive(Clone, Copy, Debug, PartialEq, Eq, Error)]
@@ -68,9 +68,9 @@ pub fn read_request<S: Source>(alloc: Global, source: &mut S) -> Result<Bytes, R
     ensures later { S.faults source.old ≤ S.faults source.new }
 {
     let mut bytes = Vec::new(alloc);
-    let mut buf = [0; PIECE];
-    'turns: while bytes.len() < READ_LIMIT {
-        let room = (READ_LIMIT - bytes.len()).min(PIECE);
+    let mut buf = [0; REQUEST_PIECE];
+    'turns: while bytes.len() < REQUEST_LIMIT {
+        let room = (REQUEST_LIMIT - bytes.len()).min(REQUEST_PIECE);
         let count = source.read(&mut buf[..room])?;
         if count == 0 {
             return Ok(Bytes::from(bytes));

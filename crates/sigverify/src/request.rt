@@ -26,7 +26,7 @@ ghost use Rattle.std.specs.Prelude.{IfOk};
 
 use crate::head::SignedHead;
 use crate::head_members::read_head;
-use crate::request_text::{RequestReader, read_listed};
+use crate::request_text::{RequestReader, request_from_text};
 use crate::row::EntriesReader;
 use sig_base::{Bytes, Entries, OutOfMemory, TableChecker};
 use sig_json::{
@@ -104,6 +104,6 @@ impl LogRequest {
     pub fn read(alloc: Global, text: &[u8]) -> Result<Option<LogRequest>, OutOfMemory>
         ensures { IfOk result (IsReadFrom log_request text.now) }
     {
-        read_listed::<LogRequestReader>(alloc, text, &MEMBERS)
+        request_from_text::<LogRequestReader>(alloc, text, &MEMBERS)
     }
 }

@@ -40,7 +40,7 @@ pub trait RequestReader {
 /// 2^24 bytes, is no JSON document without floats, or does not have the members of a request. No tree is made of a
 /// member of another name. Fails if out of memory alone.
 #[tactic(auto, using(crate::proofs::RequestTexts::texts))]
-pub fn read_listed<T: RequestReader>(
+pub fn request_from_text<T: RequestReader>(
     alloc: Global,
     text: &[u8],
     names: &[&str],

@@ -1,6 +1,6 @@
 //! Runs over memory, whose streams give and take pieces, and fail. Requests with their replies are in
 //! `examples/log.requests`.
-use crate::read::{MOST_BYTES, READ_LIMIT};
+use crate::read::{MOST_BYTES, REQUEST_LIMIT};
 use crate::run::run;
 use sig_base::{Bytes, MemorySink, MemorySource, Numbers, OutOfMemory, Source, Text};
 use std::alloc::Global;
@@ -106,9 +106,9 @@ fn the_signature_of_the_checkpoint_is_listed(rt: HostRuntime) -> Result<(), Fail
 
 #[test]
 fn no_byte_past_the_limit_is_read(rt: HostRuntime) -> Result<(), Fail> {
-    let held = padded(rt.alloc(), READ_LIMIT)?;
+    let held = padded(rt.alloc(), REQUEST_LIMIT)?;
     assert!(rt; run_over(rt.alloc(), "log", held, STEADY)?.is(2, "refused request\n", 0));
-    let held = padded(rt.alloc(), READ_LIMIT + 3)?;
+    let held = padded(rt.alloc(), REQUEST_LIMIT + 3)?;
     assert!(rt; run_over(rt.alloc(), "log", held, STEADY)?.is(2, "refused request\n", 3));
     Ok(())
 }

@@ -13,9 +13,9 @@
 //! ```
 ghost use Rattle.std.specs.Prelude.{◌≡◌, IfOk};
 
-use crate::digest_text::DigestReader;
+use crate::digest_text::ArtifactDigestReader;
 use crate::policy_rule::PolicyReader;
-use crate::request_text::{RequestReader, read_listed};
+use crate::request_text::{RequestReader, request_from_text};
 use crate::row::EntriesReader;
 use sig_base::{Entries, OutOfMemory, TableChecker, Text};
 use sig_dsse::ArtifactDigest;
@@ -73,7 +73,7 @@ impl RequestReader for VerifyRequestReader {
             trusted_root: required_text(alloc, json, "trustedRoot")?,
             bundle: required_text(alloc, json, "bundle")?,
             now: required_i64(json, "now")?,
-            digest: required::<DigestReader>(alloc, json, "digest")?,
+            digest: required::<ArtifactDigestReader>(alloc, json, "digest")?,
             policy: required::<PolicyReader>(alloc, json, "policy")?,
             accepted,
             entries: optional::<EntriesReader>(alloc, json, "entries")?,
@@ -90,7 +90,7 @@ impl VerifyRequest {
     pub fn read(alloc: Global, text: &[u8]) -> Result<Option<VerifyRequest>, OutOfMemory>
         ensures { IfOk result (IsReadFrom verify_request text.now) }
     {
-        read_listed::<VerifyRequestReader>(alloc, text, &MEMBERS)
+        request_from_text::<VerifyRequestReader>(alloc, text, &MEMBERS)
     }
 }
 

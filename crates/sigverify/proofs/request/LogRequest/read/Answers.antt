@@ -5,6 +5,6 @@ use Rattle.sigverify.specs.HeadMembers.{head_of}
 use Rattle.sigverify.specs.Request.{log_members}
 use Rattle.sigverify.proofs.request.LogRequest.read.Goals as goal
 
-pub read_listed-requires : goal.read_listed-requires
+pub request_from_text-requires : goal.request_from_text-requires
 unfolding log_members head_of required optional_or
-read_listed-requires c accepted tree = simp member_of-only
+request_from_text-requires c accepted tree = simp member_of-only

@@ -4,6 +4,6 @@ use Rattle.sig_json.specs.Member.{required, optional_or}
 use Rattle.sigverify.specs.VerifyRequest.{verify_members}
 use Rattle.sigverify.proofs.verify_request.VerifyRequest.read.Goals as goal
 
-pub read_listed-requires : goal.read_listed-requires
+pub request_from_text-requires : goal.request_from_text-requires
 unfolding verify_members required optional_or
-read_listed-requires c accepted tree = simp member_of-only
+request_from_text-requires c accepted tree = simp member_of-only

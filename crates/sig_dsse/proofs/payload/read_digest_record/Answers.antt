@@ -2,7 +2,7 @@ use Rattle.std.proofs.Common.{subst}
 use Rattle.sig_base.specs.Answers.{Answers}
 use Rattle.sig_json.specs.declared.error.JsonError.TheVariants.{OutOfMemory}
 use Rattle.sig_dsse.proofs.DigestsAlone.{record-listed}
-use Rattle.sig_dsse.proofs.payload.read_listed.Goals as goal
+use Rattle.sig_dsse.proofs.payload.read_digest_record.Goals as goal
 
 pub returns : goal.returns
 returns c =

@@ -1,7 +1,7 @@
 use Rattle.std.proofs.Common.{rules}
 use Rattle.sigverify.proofs.RequestTexts.{unread-record}
 use Rattle.sigverify.specs.Accepted.{with_rows}
-use Rattle.sigverify.proofs.request_text.read_listed.Goals as goal
+use Rattle.sigverify.proofs.request_text.request_from_text.Goals as goal
 
 pub returns-in-Err-NotJson : goal.returns-in-Err-NotJson
 returns-in-Err-NotJson g c =

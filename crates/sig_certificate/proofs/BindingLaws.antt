@@ -1,4 +1,4 @@
--- The signed part from the validity to the extensions: what the readers take is what the relations build, and what
+-- The TBSCertificate from the validity to the extensions: what the readers take is what the relations build, and what
 -- these build is taken.
 use Rattle.std.proofs.Common.{◌≡◌, ℕ, Bool, true, false, eqb, List, [], ◌++◌, length, Option, Some, None, refl, sym}
 use Rattle.std.proofs.Common.{ap, subst, ◌∙◌, inl, inr}
@@ -15,7 +15,7 @@ use Rattle.sig_der.proofs.Takings.{IsOptional}
 use Rattle.sig_der.proofs.KeyInfos.{content_fits, first_fits, rest_fits, none_left, key_info_at_takes}
 use Rattle.sig_der.proofs.KeyInfos.{key_info_at_again}
 use Rattle.sig_certificate.specs.Certificate.{IsOptionalElement, IsKeyInfoText, IsSequence}
-use Rattle.sig_certificate.specs.Cutting.{Body, validity_at, body_at, after_ids, extension_list_of, list_at}
+use Rattle.sig_certificate.specs.Cutting.{Binding, validity_at, binding_at, after_ids, extension_list_of, list_at}
 use Rattle.sig_certificate.proofs.HeadLaws.{after_fits, before_fits}
 use Rattle.sig_der.specs.Tag.{EXTENSIONS, ISSUER_UNIQUE_ID, SEQUENCE, SUBJECT_UNIQUE_ID}
 
@@ -65,9 +65,9 @@ validity_at_again bytes y t =
     (take_any_again second.whole second.tag second.content [] second.whole t.second
     (sym (append-nil second.whole)))
 
--- ---- the body
+-- ---- validity, subject and key
 
-pub record TakesBody (bytes : List ℕ) (y : Body × List ℕ) : Type 0 where
+pub record TakesBinding (bytes : List ℕ) (y : Binding × List ℕ) : Type 0 where
   pub validity_text : List ℕ
   pub validity : IsElement validity_text SEQUENCE (y.0.first.whole ++ y.0.second.whole)
   pub first : IsElement y.0.first.whole y.0.first.tag y.0.first.content
@@ -76,9 +76,10 @@ pub record TakesBody (bytes : List ℕ) (y : Body × List ℕ) : Type 0 where
   pub key : IsKeyInfoText y.0.spki
   pub parts : bytes ≡ validity_text ++ (y.0.subject ++ (y.0.spki ++ y.1))
 
-pub body_at_takes : (bytes : List ℕ) → IsBytes bytes → (y : Body × List ℕ) → body_at bytes ≡ Some y → TakesBody bytes y
-unfolding body_at
-body_at_takes bytes fits y e =
+pub binding_at_takes : (bytes : List ℕ) → IsBytes bytes → (y : Binding × List ℕ) → binding_at bytes ≡ Some y
+    → TakesBinding bytes y
+unfolding binding_at
+binding_at_takes bytes fits y e =
     let v = bind_is (validity_at bytes) _ y e in
     let s = bind_is (take_tag SEQUENCE v.0.1) _ y v.2 in
     let k = bind_is (key_info_at s.0.1) _ y s.2 in
@@ -86,7 +87,7 @@ body_at_takes bytes fits y e =
     let fits_v = after_fits tv.text v.0.1 bytes tv.parts fits in
     let ts = (take_tag_takes SEQUENCE v.0.1 fits_v s.0 s.1).0 in
     let tk = key_info_at_takes s.0.1 (rest_fits _ _ _ _ v.0.1 ts fits_v) k.0 k.1 in
-    subst (λ (u : Body × List ℕ). TakesBody bytes u) (some_is _ y k.2) (record {
+    subst (λ (u : Binding × List ℕ). TakesBinding bytes u) (some_is _ y k.2) (record {
       validity_text = tv.text;
       validity = tv.is;
       first = tv.first;
@@ -96,13 +97,13 @@ body_at_takes bytes fits y e =
       parts = tv.parts ∙ ap (λ (u : List ℕ). tv.text ++ u) (ts.parts ∙ ap (λ (u : List ℕ). s.0.0.whole ++ u) tk.1);
     })
 
-abbrev some_body : Piece → Piece → List ℕ → List ℕ → List ℕ → Option (Body × List ℕ)
-some_body first second subject spki rest =
+abbrev some_binding : Piece → Piece → List ℕ → List ℕ → List ℕ → Option (Binding × List ℕ)
+some_binding first second subject spki rest =
     Some (record { first = first; second = second; subject = subject; spki = spki }, rest)
 
-pub body_at_again : (bytes : List ℕ) (y : Body × List ℕ) → TakesBody bytes y → body_at bytes ≡ Some y
-unfolding body_at
-body_at_again bytes y t =
+pub binding_at_again : (bytes : List ℕ) (y : Binding × List ℕ) → TakesBinding bytes y → binding_at bytes ≡ Some y
+unfolding binding_at
+binding_at_again bytes y t =
     let b = y.0 in
     let after_subject = b.spki ++ y.1 in
     let after_validity = b.subject ++ after_subject in
@@ -114,7 +115,7 @@ body_at_again bytes y t =
     (take_tag_again b.subject SEQUENCE t.subject.0 after_subject after_validity t.subject.1 refl)
     ∙ bind_of_some (key_info_at after_subject) _ (k.0, y.1)
     (key_info_at_again k.0 y.1 after_subject k.1.0 (ap (λ (u : List ℕ). u ++ y.1) k.1.1))
-    ∙ ap (λ (u : List ℕ). some_body b.first b.second b.subject u y.1) (sym k.1.1)
+    ∙ ap (λ (u : List ℕ). some_binding b.first b.second b.subject u y.1) (sym k.1.1)
 
 -- ---- the unique identifiers
 

@@ -1,6 +1,6 @@
 -- The checkpoint has the one reading that was found, or none.
 use Rattle.sigverify.proofs.LogQuestionReplies.{no-checkpoint, one-checkpoint}
-use Rattle.sigverify.proofs.log_questions.checkpoint_of.Goals as goal
+use Rattle.sigverify.proofs.log_questions.head_checkpoint.Goals as goal
 
 pub returns-in-Ok : goal.returns-in-Ok
 returns-in-Ok c =
