@@ -80,6 +80,9 @@ impl VerificationPolicy for RequestPolicy {
     /// `All`: returns `Ok` if and only if each policy holds, else `AllOf` with the number of policies and the refusals
     /// of those that do not hold, in order. `Any`: returns `Ok` if and only if at least one holds, else `AnyOf` with
     /// the number of policies.
+    ///
+    /// Each refusal has a copy of what the certificate says, so that many of a long text take their product in time
+    /// and in memory. [`holds_of`](RequestPolicy::holds_of) makes none.
     fn verify(&self, alloc: Global, cert: &Certificate) -> PolicyResult {
         // The extensions are looked up once, since whoever makes a certificate chooses how many it has.
         let said = said_by(alloc, cert)?;
@@ -88,6 +91,52 @@ impl VerificationPolicy for RequestPolicy {
             RequestPolicy::Any(policies) => verify_any(alloc, policies.as_slice(), &said),
         }
     }
+}
+
+impl RequestPolicy {
+    /// Whether the policy holds of the certificate. It makes no refusal: time and memory are linear in the certificate
+    /// and in the policies, but for the logarithm of the number of names. Fails only if out of memory.
+    pub fn holds_of(&self, alloc: Global, cert: &Certificate) -> Result<bool, OutOfMemory>
+        ensures { IfOk result (λ b. b ≡ request_holds self.now cert.now) }
+    {
+        let said = said_by(alloc, cert)?;
+        match self {
+            RequestPolicy::All(policies) => all_hold(alloc, policies.as_slice(), &said),
+            RequestPolicy::Any(policies) => any_holds(alloc, policies.as_slice(), &said),
+        }
+    }
+}
+
+/// Whether each policy holds. Fails only if out of memory.
+fn all_hold<P, S: PolicySubject<P>>(
+    alloc: Global,
+    policies: &[P],
+    subject: &S,
+) -> Result<bool, OutOfMemory>
+    ensures { IfOk result (λ b. b ≡ list_all (λ p. S.holds subject.now p) policies.now) }
+{
+    for policy in policies {
+        if !subject.meets(alloc, policy)? {
+            return Ok(false);
+        }
+    }
+    Ok(true)
+}
+
+/// Whether at least one policy holds. Fails only if out of memory.
+fn any_holds<P, S: PolicySubject<P>>(
+    alloc: Global,
+    policies: &[P],
+    subject: &S,
+) -> Result<bool, OutOfMemory>
+    ensures { IfOk result (λ b. b ≡ list_any (λ p. S.holds subject.now p) policies.now) }
+{
+    for policy in policies {
+        if subject.meets(alloc, policy)? {
+            return Ok(true);
+        }
+    }
+    Ok(false)
 }
 
 /// Returns `None` if the policy holds, else its refusal. Fails only if out of memory.
@@ -152,10 +201,8 @@ pub(crate) fn verify_any<P, S: PolicySubject<P>>(
         (any_of (length policies.now))
         result }
 {
-    for policy in policies {
-        if subject.meets(alloc, policy)? {
-            return Ok(());
-        }
+    if any_holds(alloc, policies, subject)? {
+        return Ok(());
     }
     Err(PolicyError::AnyOf {
         total: policies.len(),

@@ -1,6 +1,6 @@
 use Rattle.std.proofs.Common.{◌≡◌, false, take}
 use Rattle.std.specs.List.{list_any}
-use Rattle.sig_policy.proofs.request.verify_any.Given as goal
+use Rattle.sig_policy.proofs.request.any_holds.Given as goal
 
 -- no policy so far holds
 abbrev pub invariant-loop-policy : goal.invariant-loop-policy
