@@ -218,6 +218,18 @@ def any_rule_of_a_long_text(count):
     return written(Signed(held, policy={"any": [{"issuer": "i" * 10}] * count}))
 
 
+def all_rules_of_a_long_text(count):
+    """Rules that all have to hold, and of which none does, over an extension of ten bytes for each rule."""
+    held = fixture.leaf_extensions(issued=extension(fixture.FULCIO["issuer"], b"i" * (10 * count)))
+    return written(Signed(held, policy={"all": [{"issuer": ""}] * count}))
+
+
+def all_other_names(count):
+    """Identities that are each asked for, and of which the leaf has none."""
+    asked = [asked_for(name + "x") for name in names_of(count)]
+    return written(Signed(leaf_of_names(names_of(count)), policy={"all": asked}))
+
+
 # The statement
 
 
@@ -362,6 +374,8 @@ REQUESTS = {
     "refused policy": (
         ("policy, any name, none", no_name),
         ("policy, any rule, a long text", any_rule_of_a_long_text),
+        ("policy, all rules of a long text, none holds", all_rules_of_a_long_text),
+        ("policy, all identities, none holds", all_other_names),
     ),
     "refused envelope": (("signatures of the envelope", envelope_signatures),),
     "refused entry": (("log entries", entries),),

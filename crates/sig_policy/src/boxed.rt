@@ -38,7 +38,8 @@ impl VerificationPolicy for AnyOf {
 
     ghost refusal = { λ p c. any_of (length p.children.items) };
 
-    /// Returns `Ok` if and only if at least one child holds; else `AnyOf` with the number of children.
+    /// Returns `Ok` if and only if at least one child holds; else `AnyOf` with the number of children. It takes the time
+    /// of the children's own calls, and lets go each refusal before the next child is asked.
     fn verify(&self, alloc: Global, cert: &Certificate) -> PolicyResult {
         verify_any(alloc, self.children.as_slice(), cert)
     }
@@ -53,7 +54,7 @@ impl VerificationPolicy for AllOf {
         p.children.items };
 
     /// Returns `Ok` if and only if each child holds; else `AllOf` with the number of children and the refusals of
-    /// those that do not hold, in order.
+    /// those that do not hold, in order. Each refusal may have a copy of what the certificate says.
     fn verify(&self, alloc: Global, cert: &Certificate) -> PolicyResult {
         verify_all(alloc, self.children.as_slice(), cert)
     }

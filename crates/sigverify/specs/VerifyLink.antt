@@ -4,7 +4,8 @@ use Rattle.std.specs.Prelude.{ℕ, List, [], ◌∷◌}
 use Rattle.sig_base.specs.Checker.{accepted}
 use Rattle.sig_base.specs.Scheme.{name_of}
 use Rattle.sig_base.specs.declared.checker.Operation.TheVariants.{Message, Prehash, Point, Certificate}
-use Rattle.sig_policy.specs.Requests.{request_holds, request_refusal}
+use Rattle.sig_policy.specs.Refusals.{any_of}
+use Rattle.sig_policy.specs.Requests.{request_holds}
 use Rattle.sig_verify.specs.Links.{HoldsOf as HoldsOfInputs, Inputs, Outside, chain_links}
 use Rattle.sig_verify.specs.TrustChain.{IsValid, TrustChain}
 use Rattle.sig_verify.specs.Verdict.{Checker, PolicyOf}
@@ -31,8 +32,9 @@ checker request = record {
   cert = λ issuer algorithm tbs signature. accepted request.accepted Certificate algorithm issuer tbs signature;
 }
 
+-- as a list of one policy, of which one has to hold; no link speaks of the refusal
 abbrev pub policy : VerifyRequest → PolicyOf
-policy request = record { holds = request_holds request.policy; refusal = request_refusal request.policy }
+policy request = record { holds = request_holds request.policy; refusal = λ c. any_of 1 }
 
 abbrev pub outside : VerifyRequest → Outside
 outside request = record { checker = checker request; policy = policy request }

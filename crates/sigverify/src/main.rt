@@ -4,6 +4,7 @@
 //! standard streams.
 #![tactic(auto)]
 
+mod brief_policy;
 mod command;
 mod consistency;
 mod consistency_request;

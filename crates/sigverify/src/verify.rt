@@ -9,6 +9,7 @@ ghost use Rattle.sigverify.specs.ProofOf.{IsProofOf};
 ghost use Rattle.sigverify.specs.VerifyLink.{HoldsOfVerify, IsTrusted};
 ghost use Rattle.sigverify.specs.declared.command.Command.TheVariants.{Verify};
 
+use crate::brief_policy::BriefPolicy;
 use crate::reply::Reply;
 use crate::second_line::second_line;
 use crate::verify_request::{VerifyRequest, bundle_of, time_of, trusted_root_of};
@@ -65,13 +66,17 @@ fn verify_chain(alloc: Global, request: &VerifyRequest) -> Result<Offline, Offli
     ensures kept { IfOk result (λ offline. IsEntryIn request.entry.now offline) }
 {
     let now = time_of(request);
+    // A refusal in full is never written, and may be longer than memory has room for.
+    let policy = BriefPolicy {
+        policy: &request.policy,
+    };
     verify_offline(
         alloc,
         trusted_root_of(request),
         now,
         &request.digest,
         bundle_of(request),
-        &request.policy,
+        &policy,
         &request.accepted,
     )
 }
