@@ -11,13 +11,12 @@
 A row of tools/verify_rows.py says what changes of the fixture's request and, by hand, what comes of it. tools/verify_links.py, a second
 implementation of the links, has to say the same; else nothing is written. A line of the requests is a row's name, a tab, and the request; a line
 of what is expected is the name, a tab, the reply, a tab, and the error of the library call `verify_offline` (`-` where there is none, and where
-the request itself is refused, which no library call reads). Such rows are no calls; each other row is one, under a `#` line of its name. A few
-calls of the parts of `verify_offline` follow.
+the request itself is refused, which no library call reads). Such rows are no calls; each other row is one, under a `#` line of its name. The
+calls of tools/verify_calls.py follow.
 """
 import base64
 import collections
 import copy
-import hashlib
 import json
 import os
 import subprocess
@@ -30,7 +29,7 @@ import fixture
 import request_cases
 import verify_links
 from case_table import Table
-from fixture import BIT_STRING, OBJECT_IDENTIFIER, SEQUENCE, compact, der, leaf, leaf_extensions, oid, spelled
+from fixture import BIT_STRING, OBJECT_IDENTIFIER, SEQUENCE, compact, der, leaf, leaf_extensions, oid
 
 ABSENT = object()
 
@@ -289,57 +288,10 @@ def is_call(row):
     return row.expected[0] != "refused request" and (row.name.startswith(CALLED) or not row.name.startswith(NO_CALLS))
 
 
-def keys_words(keys):
-    """Keys by their ids, as arguments of a call."""
-    return " ".join([str(len(keys)), *["%s %s" % (identifier.hex(), spelled(der)) for identifier, der in keys]])
-
-
-def rooted_calls():
-    """Calls of the fixture's bundle and log entry under a trust root that is handed in: titles, calls, and what they return."""
-    made = fixture.Request()
-    bundle_text = text_word(compact(made.bundle(), canonical=True))
-    rows = " ".join(map(request_cases.words_of, made.accepted()))
-    log_keys, ct_keys = [(fixture.LOG_ID, made.log_key)], [(fixture.CERTIFICATE_LOG_ID, fixture.key(fixture.CERTIFICATE_LOG_KEY))]
-
-    def of_bundle(title, expected, anchor=fixture.certificate(made.anchor), ct_keys=ct_keys, digest=made.digest):
-        root = " ".join([spelled(anchor), keys_words(log_keys), keys_words(ct_keys)])
-        words = ["verify_digest_with", str(made.now), digest, *policy_words(made.policy), root, bundle_text, rows]
-        return "a trust root that is handed in: " + title, " ".join(words), expected
-
-    def of_entry(title, expected, log_keys):
-        return "the fixture's log entry: " + title, " ".join(["verify_log_entry", keys_words(log_keys), bundle_text, rows]), expected
-
-    def of_artifact(title, expected, *words, signed=None):
-        sealed = fixture.MessageRequest(**({} if signed is None else {"signed": signed}))
-        root = " ".join([spelled(fixture.certificate(sealed.anchor)), keys_words(log_keys), keys_words(ct_keys)])
-        rows = " ".join(map(request_cases.words_of, sealed.accepted()))
-        words = [words[0], str(sealed.now), *words[1:], *policy_words(sealed.policy), root, text_word(compact(sealed.bundle(), canonical=True)), rows]
-        return "an artifact: " + title, " ".join(words), expected
-
-    never, text = "9", b"hello world"
-    signed = hashlib.sha256(text).digest()
-    return [
-        of_artifact("by its digest", "ok", "verify_digest", fixture.DIGEST),
-        of_artifact("by another digest", "Signature(VerificationFailed)", "verify_digest", "b" * 64),
-        of_artifact("a source that fails at once", "Input(Fault)", "verify", "-", "1", "0"),
-        of_artifact("a source that fails in the middle", "Input(Fault)", "verify", text.hex(), "4", "2", signed=signed),
-        of_artifact("an empty source", "Signature(VerificationFailed)", "verify", "-", "1", never),
-        of_artifact("a source of its bytes", "ok", "verify", text.hex(), "100", never, signed=signed),
-        of_artifact("a source that gives them in pieces", "ok", "verify", text.hex(), "4", never, signed=signed),
-        of_artifact("a source of more than a buffer", "ok", "verify", spelled(bytes(70000)), "100000", never, signed=hashlib.sha256(bytes(70000)).digest()),
-        of_artifact("a source of other bytes", "Signature(VerificationFailed)", "verify", text[1:].hex(), "100", never, signed=signed),
-        of_bundle("the fixture's bundle", "ok 1"),
-        of_bundle("the trust anchor is no certificate", "CertificatePoolError(Anchor(0))", anchor=b"\x30\x00"),
-        of_bundle("no key of a Certificate Transparency log", "Certificate(Sct(Verification(KeyNotFound)))", ct_keys=[]),
-        of_bundle("another artifact", "Signature(SubjectDigestMismatch)", digest="sha256:" + "c" * 64),
-        of_entry("under its log's key", "ok 2 5", log_keys),
-        of_entry("under no key", 'log-key RekorPublicKeyNotFoundError("%s")' % fixture.LOG_ID.hex(), []),
-        of_entry("under another log's key", 'log-key RekorPublicKeyNotFoundError("%s")' % fixture.LOG_ID.hex(), ct_keys)]
-
-
 def write_calls():
+    import verify_calls
     table = Table("verify_cases")
-    calls = [(row.name, call(row.text), returned(*row.expected)) for row in ROWS if is_call(row)] + rooted_calls()
+    calls = [(row.name, call(row.text), returned(*row.expected)) for row in ROWS if is_call(row)] + verify_calls.calls()
     for name, asked, wanted in calls:
         table.note(name)
         table.case(asked, wanted)

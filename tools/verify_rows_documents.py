@@ -59,7 +59,7 @@ def requests():
                             ("sha256:" + "g" * 64, UNREAD), ("a" * 64, UNREAD), ("sha256:", UNREAD), ("SHA256:" + "a" * 64, UNREAD),
                             ("sha512:" + "a" * 64, UNREAD),
                             ("sha256:" + "b" * 128, UNREAD), ("sha384:" + "a" * 96, UNREAD), ("sha256-" + "a" * 64, UNREAD),
-                            (" sha256:" + "a" * 64, UNREAD),
+                            (" sha256:" + "a" * 64, UNREAD), ("sha256:e3b0", UNREAD), ("sha384:", UNREAD),
                             ("sha256: " + "a" * 64, UNREAD), ("sha256:" + "a" * 64 + "\n", UNREAD), ("", UNREAD)):
         small("digest is %s" % compact(value), expected, digest=value)
     policies()
@@ -74,7 +74,10 @@ def policies():
                             ({"All": one}, UNREAD),
                             ({"all": {}}, UNREAD), ({"all": one[0]}, UNREAD), ({"all": "x"}, UNREAD), ({"all": [None]}, UNREAD),
                             ({"all": one + [None]}, UNREAD),
-                            ({"all": [one]}, UNREAD), ({"all": [], "any": one}, UNREAD)):
+                            ({"all": [one]}, UNREAD), ({"all": [], "any": one}, UNREAD), ({"all": one, "any": []}, UNREAD),
+                            ({"any": [{"sha": "a", "name": "b"}]}, UNREAD), ({"any": [{"trigger": 7}]}, UNREAD),
+                            ({"all": [{"identity": "https://example.com/workflow", "issuer": "https://issuer.example"},
+                                      {"repository": "example/artifact", "note": "ignored"}], "any": None}, READ)):
         small("policy is %s" % compact(value), expected, policy=value)
     for name in ("issuer", "trigger", "sha", "name", "repository", "ref"):
         rule("of %s" % name, READ, {name: "x"})

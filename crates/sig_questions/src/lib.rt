@@ -14,7 +14,5 @@ pub mod laws;
 mod listing;
 mod points;
 mod rows;
-#[cfg(test)]
-mod tests;
 
 pub use listing::{NoQuestions, questions};

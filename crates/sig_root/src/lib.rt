@@ -19,8 +19,6 @@ mod picked;
 mod read;
 mod record;
 mod sigstore;
-#[cfg(test)]
-mod tests;
 mod trust_root;
 
 pub use manual::ManualTrustRoot;

@@ -17,8 +17,6 @@ mod link;
 mod log_entry;
 mod offline;
 mod offline_error;
-#[cfg(test)]
-mod tests;
 mod verifier;
 mod verify;
 mod verify_artifact;

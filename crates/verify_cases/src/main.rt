@@ -7,8 +7,11 @@
 #![tactic(auto)]
 
 mod artifact;
+mod errors;
 mod parts;
 mod policy;
+mod questions;
+mod root;
 mod rooted;
 mod verified;
 
@@ -29,6 +32,9 @@ impl Cases for VerifyCases {
             "verify_digest_with" => rooted::bundle_answer(alloc, arguments),
             "verify_log_entry" => rooted::entry_answer(alloc, arguments),
             "verify_offline" => verified::answer(alloc, arguments),
+            "questions" => questions::answer(alloc, arguments),
+            "fulcio_certs" | "rekor_keys" | "ctfe_keys" => root::answer(alloc, call, arguments),
+            "errors" => errors::answer(alloc, arguments),
             _ => Err(CaseError::BadLine),
         }
     }
