@@ -30,8 +30,6 @@ mod tests;
 mod verify;
 mod verify_questions;
 mod verify_request;
-#[cfg(test)]
-mod verify_tests;
 mod words;
 mod write;
 

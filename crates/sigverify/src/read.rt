@@ -5,7 +5,6 @@ ghost use Rattle.sigverify.specs.Limit.{most_bytes};
 
 use sig_base::{Bytes, Failed, Source};
 use std::alloc::{AllocError, Global};
-use thiserror::Error;
 
 /// A request has at most this many bytes, 2^24.
 pub const MOST_BYTES: usize = 16_777_216;
@@ -17,16 +16,13 @@ pub const REQUEST_LIMIT: usize = 16_777_217;
 const REQUEST_PIECE: usize = 16_384;
 
 /// Why a request could not be read.
-#[derive(Clone, Copy, Debug, PartialEq, Eq, Error)]
+#[derive(Clone, Copy, PartialEq, Eq)]
 pub enum ReadFault {
     /// A read failed; the source's count of faults rose.
-    #[error("Failed")]
     Failed,
     /// More than 2^24 bytes were left: 2^24 + 1 of them were taken.
-    #[error("TooLong")]
     TooLong,
     /// Memory ran out.
-    #[error("OutOfMemory")]
     OutOfMemory,
 }
 

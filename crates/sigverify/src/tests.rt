@@ -1,6 +1,4 @@
-//! Runs over memory, whose streams give and take pieces, and fail. Requests with their replies are in
-//! `examples/log.requests`.
-use crate::read::{MOST_BYTES, REQUEST_LIMIT};
+//! Runs over memory, whose streams give and take pieces, and fail. Whole requests are in `examples/`.
 use crate::run::run;
 use sig_base::{Bytes, MemorySink, MemorySource, Numbers, OutOfMemory, Source, Text};
 use std::alloc::Global;
@@ -14,154 +12,137 @@ const FIRST: &str = r#"{"entry":"TDEyMzQ1Ng==","logIndex":0,"treeSize":1,
 {"operation":"message","scheme":"ECDSA_P256_SHA256_ASN1","key":"a2V5",
 "message":"bG9nLmV4YW1wbGUKMQpPVnFnWktwTUtmY0JDcy9qOGwyNVNGdTlTNUdKZTJyWHJWUjJPU1VyVFZZPQo=","signature":"c2ln"}]}"#;
 
-/// What `questions log` lists of it.
-const LISTED: &str = "[{\"key\":\"a2V5\",\
-\"message\":\"bG9nLmV4YW1wbGUKMQpPVnFnWktwTUtmY0JDcy9qOGwyNVNGdTlTNUdKZTJyWHJWUjJPU1VyVFZZPQo=\",\
-\"operation\":\"message\",\"scheme\":\"ECDSA_P256_SHA256_ASN1\",\"signature\":\"c2ln\"}]\n";
+/// How a stream behaves: the pieces that it gives or takes, and the number of its call that fails.
+#[derive(Clone, Copy)]
+struct Stream {
+    piece: usize,
+    fails: usize,
+}
 
-/// What a run over these bytes returns, writes and leaves unread, up to a few bytes.
-#[derive(Drop)]
-struct Ran {
+/// A number that no call comes to.
+const NEVER: usize = 999_999;
+
+/// A stream that does not fail.
+const STEADY: Stream = Stream {
+    piece: 64,
+    fails: NEVER,
+};
+
+/// A stream of a byte at a time.
+const SLOW: Stream = Stream {
+    piece: 1,
+    fails: NEVER,
+};
+
+/// A run of a word over some bytes, and what comes of it: the status, what is written, and how many bytes are left.
+#[derive(Clone, Copy)]
+struct Case<'a> {
+    word: &'a str,
+    held: &'a str,
+    source: Stream,
+    sink: Stream,
     status: u8,
-    written: Bytes,
+    written: &'a str,
     left: usize,
 }
 
-/// How the streams of a run behave: their pieces, and the call of each that fails, if any.
-#[derive(Clone, Copy)]
-struct Streams {
-    source_piece: usize,
-    source_fails: Option<usize>,
-    sink_piece: usize,
-    sink_fails: Option<usize>,
-}
-
-const STEADY: Streams = Streams {
-    source_piece: 65_536,
-    source_fails: None,
-    sink_piece: 64,
-    sink_fails: None,
+/// The first request, over streams that do not fail.
+const LOGGED: Case<'static> = Case {
+    word: "log",
+    held: FIRST,
+    source: STEADY,
+    sink: STEADY,
+    status: 0,
+    written: "logged 0 1\n",
+    left: 0,
 };
 
-fn call_of(alloc: Global, fails: Option<usize>) -> Result<Numbers, OutOfMemory> {
-    let mut numbers = Numbers::new(alloc);
-    if let Some(call) = fails {
-        numbers.push(call)?;
+impl Case<'_> {
+    /// Whether the run comes to that.
+    fn holds(&self, alloc: Global) -> Result<bool, OutOfMemory> {
+        let word = Text::copy_of(alloc, self.word)?;
+        let mut source = source_of(alloc, self.held, self.source)?;
+        let mut sink = sink_of(alloc, self.sink)?;
+        Ok(self.is(alloc, &[word], &mut source, &mut sink))
     }
-    Ok(numbers)
-}
 
-fn words_of(alloc: Global, words: &str) -> Result<Vec<Text>, OutOfMemory> {
-    let mut found = Vec::new(alloc);
-    for word in words.split_whitespace() {
-        found.push(Text::copy_of(alloc, word)?)?;
-    }
-    Ok(found)
-}
-
-fn run_over(alloc: Global, words: &str, held: Bytes, streams: Streams) -> Result<Ran, OutOfMemory> {
-    let words = words_of(alloc, words)?;
-    let pieces = (streams.source_piece.max(1), streams.sink_piece.max(1));
-    let mut source = MemorySource::new(held, pieces.0, call_of(alloc, streams.source_fails)?);
-    let mut sink = MemorySink::new(alloc, 256, pieces.1, call_of(alloc, streams.sink_fails)?)?;
-    let status = run(alloc, words.as_slice(), &mut source, &mut sink);
-    let mut few = [0; 16];
-    let left = source.read(&mut few).unwrap_or(99);
-    let written = Bytes::copy_of(alloc, sink.taken())?;
-    Ok(Ran {
-        status,
-        written,
-        left,
-    })
-}
-
-impl Ran {
-    fn is(&self, status: u8, written: &str, left: usize) -> bool {
-        self.status == status && self.written.as_slice() == written.as_bytes() && self.left == left
+    fn is(
+        &self,
+        alloc: Global,
+        words: &[Text],
+        source: &mut MemorySource,
+        sink: &mut MemorySink,
+    ) -> bool {
+        let status = run(alloc, words, source, sink);
+        let mut few = [0; 16];
+        let left = source.read(&mut few).unwrap_or(99);
+        status == self.status && sink.taken() == self.written.as_bytes() && left == self.left
     }
 }
 
-/// The first request and spaces, of so many bytes.
-fn padded(alloc: Global, len: usize) -> Result<Bytes, OutOfMemory> {
-    let mut bytes = Vec::with_capacity(alloc, len)?;
-    bytes.extend_from_slice(FIRST.as_bytes())?;
-    let spaces = vec![in alloc; 32u8; len.saturating_sub(bytes.len())]?;
-    bytes.extend_from_slice(spaces.as_slice())?;
-    Ok(Bytes::from(bytes))
+fn source_of(alloc: Global, held: &str, stream: Stream) -> Result<MemorySource, OutOfMemory> {
+    let failing = calls(alloc, stream.fails)?;
+    let held = Bytes::copy_of(alloc, held.as_bytes())?;
+    Ok(MemorySource::new(held, stream.piece.max(1), failing))
 }
 
-#[test]
-fn a_request_of_full_size_is_read(rt: HostRuntime) -> Result<(), Fail> {
-    let held = padded(rt.alloc(), MOST_BYTES)?;
-    assert!(rt; run_over(rt.alloc(), "log", held, STEADY)?.is(0, "logged 0 1\n", 0));
-    Ok(())
+fn sink_of(alloc: Global, stream: Stream) -> Result<MemorySink, OutOfMemory> {
+    let failing = calls(alloc, stream.fails)?;
+    MemorySink::new(alloc, 256, stream.piece.max(1), failing)
 }
 
-#[test]
-fn the_signature_of_the_checkpoint_is_listed(rt: HostRuntime) -> Result<(), Fail> {
-    let held = Bytes::copy_of(rt.alloc(), FIRST.as_bytes())?;
-    assert!(rt; run_over(rt.alloc(), "questions log", held, STEADY)?.is(0, LISTED, 0));
-    Ok(())
+fn calls(alloc: Global, number: usize) -> Result<Numbers, OutOfMemory> {
+    let mut calls = Numbers::new(alloc);
+    calls.push(number)?;
+    Ok(calls)
 }
 
-#[test]
-fn no_byte_past_the_limit_is_read(rt: HostRuntime) -> Result<(), Fail> {
-    let held = padded(rt.alloc(), REQUEST_LIMIT)?;
-    assert!(rt; run_over(rt.alloc(), "log", held, STEADY)?.is(2, "refused request\n", 0));
-    let held = padded(rt.alloc(), REQUEST_LIMIT + 3)?;
-    assert!(rt; run_over(rt.alloc(), "log", held, STEADY)?.is(2, "refused request\n", 3));
-    Ok(())
-}
+/// What streams that give pieces, take pieces and fail come to. The last word is one that `main` answers itself.
+const CASES: [Case<'static>; 5] = [
+    Case {
+        source: SLOW,
+        sink: SLOW,
+        ..LOGGED
+    },
+    Case {
+        sink: Stream { piece: 4, fails: 1 },
+        status: 74,
+        written: "logg",
+        ..LOGGED
+    },
+    Case {
+        held: "12345",
+        source: Stream {
+            piece: 64,
+            fails: 0,
+        },
+        status: 74,
+        written: "",
+        left: 5,
+        ..LOGGED
+    },
+    Case {
+        held: "12345",
+        source: Stream { piece: 1, fails: 3 },
+        status: 74,
+        written: "",
+        left: 1,
+        ..LOGGED
+    },
+    Case {
+        word: "--help",
+        held: "12345",
+        status: 64,
+        written: "usage\n",
+        left: 5,
+        ..LOGGED
+    },
+];
 
 #[test]
-fn other_words_are_a_usage_error(rt: HostRuntime) -> Result<(), Fail> {
-    let alloc = rt.alloc();
-    for words in ",log x,log verify,LOG,questions,questions x,--help".split(',') {
-        let held = Bytes::copy_of(alloc, b"12345")?;
-        assert!(rt; run_over(alloc, words, held, STEADY)?.is(64, "usage\n", 5));
+fn streams_give_and_take_pieces_and_fail(rt: HostRuntime) -> Result<(), Fail> {
+    for case in &CASES {
+        assert!(rt; case.holds(rt.alloc())?);
     }
-    Ok(())
-}
-
-#[test]
-fn pieces_make_no_difference(rt: HostRuntime) -> Result<(), Fail> {
-    let streams = Streams {
-        source_piece: 1,
-        sink_piece: 1,
-        ..STEADY
-    };
-    let held = Bytes::copy_of(rt.alloc(), FIRST.as_bytes())?;
-    assert!(rt; run_over(rt.alloc(), "log", held, streams)?.is(0, "logged 0 1\n", 0));
-    Ok(())
-}
-
-#[test]
-fn a_sink_that_fails_keeps_a_front_of_the_reply(rt: HostRuntime) -> Result<(), Fail> {
-    let streams = Streams {
-        sink_piece: 4,
-        sink_fails: Some(1),
-        ..STEADY
-    };
-    let held = Bytes::copy_of(rt.alloc(), FIRST.as_bytes())?;
-    assert!(rt; run_over(rt.alloc(), "log", held, streams)?.is(74, "logg", 0));
-    Ok(())
-}
-
-#[test]
-fn after_a_source_that_fails_nothing_is_written(rt: HostRuntime) -> Result<(), Fail> {
-    let alloc = rt.alloc();
-    let at_once = Streams {
-        source_fails: Some(0),
-        ..STEADY
-    };
-    let held = Bytes::copy_of(alloc, b"12345")?;
-    assert!(rt; run_over(alloc, "log", held, at_once)?.is(74, "", 5));
-    let later = Streams {
-        source_piece: 1,
-        source_fails: Some(3),
-        ..STEADY
-    };
-    let held = Bytes::copy_of(alloc, b"12345")?;
-    assert!(rt; run_over(alloc, "log", held, later)?.is(74, "", 1));
     Ok(())
 }
