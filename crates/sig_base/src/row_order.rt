@@ -37,6 +37,7 @@ impl<'a> Model for RowParts<'a> {
 
 impl Operation {
     /// Returns the index of the operation among the four.
+    #[inline(always)]
     fn code(self) -> u8
         ensures { result ≡ operation_code self }
     {
@@ -51,6 +52,7 @@ impl Operation {
 
 impl<'a> RowParts<'a> {
     /// Returns the parts of a row.
+    #[inline(always)]
     fn of(row: &'a AcceptedRow) -> RowParts<'a>
         ensures { result ≡ row.now }
     {
@@ -65,6 +67,7 @@ impl<'a> RowParts<'a> {
 
     /// Compares two rows: by signature, then operation, scheme, key, message.
     #[tactic(auto, using(crate::proofs::Orderings::steps), unfolding(crate::specs::RowOrder::row_order))]
+    #[inline(always)]
     fn order(&self, other: &RowParts<'_>) -> Ordering
         ensures { result ≡ row_order self.now other.now }
     {
@@ -89,6 +92,7 @@ impl<'a> RowParts<'a> {
 }
 
 /// Compares the row at an index with another row. An index that no row has comes first.
+#[inline(always)]
 pub fn order_to(rows: &[AcceptedRow], index: usize, other: &RowParts<'_>) -> Ordering
     ensures { result ≡ option_cmp row_order (slice_get rows.now index) (Some other.now) }
 {
@@ -99,6 +103,7 @@ pub fn order_to(rows: &[AcceptedRow], index: usize, other: &RowParts<'_>) -> Ord
 }
 
 /// Compares the rows at two indices. An index that no row has comes first.
+#[inline(always)]
 fn order_between(rows: &[AcceptedRow], one: usize, other: usize) -> Ordering
     ensures { result ≡ order_at rows.now one other }
 {
