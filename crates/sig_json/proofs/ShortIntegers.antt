@@ -56,3 +56,8 @@ whole_digits ds some few all =
           ∙ rw (lt-ltb 0 (length ds) some, lt-ltb _ (2 ^ 64) (below ds digits few)) refl;
       whole = refl;
     }
+
+pub one_digit : (ds : List ℕ) → length ds ≡ 1 → is_ascii_digit (get_or ds 0 0) ≡ true → IsWhole ds
+one_digit [] one is = absurd cc
+one_digit (d ∷ []) one is = whole_digits (d ∷ []) (omega arith) (omega arith) (rw is refl)
+one_digit (d ∷ e ∷ ds) one is = absurd (omega (arith, one))

@@ -18,6 +18,7 @@ const FEW_DIGITS: usize = 19;
 /// member of the same name may take the place of the one that it is in, and then the tree has no float.
 #[cycle(skip)]
 #[tactic(auto, using(crate::proofs::Skipping::values))]
+#[inline(always)]
 pub(crate) fn skip_value(reader: &mut Reader<'_>, depth: usize) -> Result<(), SkipError>
     ensures ok { OnOk result (PassesValue depth reader.old reader.new) }
     ensures err { result ≡ Err SkipError.NotJson → value_meant depth reader.old ≡ None }
@@ -50,19 +51,35 @@ pub(crate) fn skip_value(reader: &mut Reader<'_>, depth: usize) -> Result<(), Sk
     }
 }
 
-/// A number of few digits is an integer by its looks. Any other is read.
+/// A number of few digits is an integer by its looks, and most have one. Any other is read.
 fn skip_number(text: &str) -> Result<(), SkipError>
     ensures ok { OnOk result (IsWhole text.now) }
     ensures err { result ≡ Err SkipError.NotJson → number_of text.now ≡ None }
 {
-    if is_short_integer(text.as_bytes()) {
+    let bytes = text.as_bytes();
+    if is_digit(bytes) || is_short_integer(bytes) {
         return Ok(());
     }
+    skip_other_number(text)
+}
+
+#[inline(never)]
+fn skip_other_number(text: &str) -> Result<(), SkipError>
+    ensures ok { OnOk result (IsWhole text.now) }
+    ensures err { result ≡ Err SkipError.NotJson → number_of text.now ≡ None }
+{
     let number = number_in(text).ok_or(SkipError::NotJson)?;
     if number.is_f64() {
         return Err(SkipError::Unsure);
     }
     Ok(())
+}
+
+#[tactic(auto, using(crate::proofs::ShortIntegers::one_digit))]
+fn is_digit(text: &[u8]) -> bool
+    ensures { IsTrue result → IsWhole text.now }
+{
+    text.len() == 1 && text[0].is_ascii_digit()
 }
 
 fn is_short_integer(text: &[u8]) -> bool
@@ -80,6 +97,7 @@ fn are_digits(text: &[u8]) -> bool
 /// The elements of a list, behind its opening bracket.
 #[cycle(skip)]
 #[tactic(auto, using(crate::proofs::Skipping::lists))]
+#[inline(never)]
 fn skip_items(reader: &mut Reader<'_>, depth: usize) -> Result<(), SkipError>
     ensures ok { OnOk result (PassesItems depth reader.old reader.new) }
     ensures err { result ≡ Err SkipError.NotJson → items_meant depth reader.old ≡ None }
@@ -94,6 +112,7 @@ fn skip_items(reader: &mut Reader<'_>, depth: usize) -> Result<(), SkipError>
 /// The members of an object, behind its opening brace.
 #[cycle(skip)]
 #[tactic(auto, using(crate::proofs::Skipping::objects))]
+#[inline(never)]
 fn skip_members(reader: &mut Reader<'_>, depth: usize) -> Result<(), SkipError>
     ensures ok { OnOk result (PassesMembers depth reader.old reader.new) }
     ensures err { result ≡ Err SkipError.NotJson → members_meant depth reader.old ≡ None }
