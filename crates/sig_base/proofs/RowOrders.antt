@@ -16,20 +16,32 @@ use Rattle.std.proofs.lemmas.Map.Lookups.{CmpEqualImpliesEq, exact_unsigned, exa
 use Rattle.std.proofs.lemmas.Bool.{cases_lt}
 use Rattle.std.proofs.lemmas.Option.{slice_get_within, get_or_from_slice_get, slice_get-get_or}
 use Rattle.sig_base.specs.Checker.{operation_code}
-use Rattle.sig_base.specs.RowOrder.{row_order, IsOrderOf}
+use Rattle.sig_base.specs.RowOrder.{ending, ending_order, part_order, row_order, IsOrderOf}
 use Rattle.sig_base.specs.declared.checker.AcceptedRow.{AcceptedRow}
 use Rattle.sig_base.proofs.Orderings.{both_tie}
 use Rattle.sig_base.proofs.AcceptedRows.{as_row, same_operation}
 
-pub row_order_total : IsTotalOrder row_order
-unfolding row_order
-row_order_total =
+ending_order_total : IsTotalOrder ending_order
+unfolding ending_order
+ending_order_total =
+    then_total (then_total
+    (on_total (λ row. ending row.signature) nat_cmp_total)
+    (on_total (λ row. ending row.key) nat_cmp_total))
+    (on_total (λ row. ending row.message) nat_cmp_total)
+
+part_order_total : IsTotalOrder part_order
+unfolding part_order
+part_order_total =
     then_total (then_total (then_total (then_total
     (on_total (λ row. row.signature) nat_list_cmp_total)
     (on_total (λ row. operation_code row.operation) nat_cmp_total))
     (on_total (λ row. row.scheme) nat_list_cmp_total))
     (on_total (λ row. row.key) nat_list_cmp_total))
     (on_total (λ row. row.message) nat_list_cmp_total)
+
+pub row_order_total : IsTotalOrder row_order
+unfolding row_order
+row_order_total = then_total ending_order_total part_order_total
 
 last_held : (n : ℕ) → Contains (n ∷ []) n
 last_held n = (0, omega arith, refl)
@@ -43,10 +55,9 @@ covers_more n xs ys e before k below =
     (λ m h. Contains-append_left xs (n ∷ []) m (before m h))
     (Contains-append_right xs (n ∷ []) n (last_held n)) k below)
 
--- rows that tie are equal
-pub same_row : CmpEqualImpliesEq row_order
-unfolding row_order
-same_row a b e =
+same_parts : CmpEqualImpliesEq part_order
+unfolding part_order
+same_parts a b e =
     let m = both_tie _ _ e in
     let k = both_tie _ _ m.0 in
     let s = both_tie _ _ k.0 in
@@ -58,6 +69,11 @@ same_row a b e =
     ∙ ap (λ message. as_row b.operation b.scheme b.key message a.signature) (exact_bytes a.message b.message m.1)
     ∙ ap (λ signature. as_row b.operation b.scheme b.key b.message signature)
     (exact_bytes a.signature b.signature o.0)
+
+-- rows that tie are equal
+pub same_row : CmpEqualImpliesEq row_order
+unfolding row_order
+same_row a b e = same_parts a b (both_tie (ending_order a b) (part_order a b) e).1
 
 module _ (rows : List AcceptedRow) (row : AcceptedRow) where
   -- what the search asks of each index

@@ -1,5 +1,6 @@
--- The order in which a table of accepted rows is searched: the signature first, the message last.
-use Rattle.std.specs.Prelude.{ℕ, ◌<◌, List, length, slice_get, Contains}
+-- The order in which a table of accepted rows is searched: the last bytes of signature, key and message, then the
+-- signature first, the message last.
+use Rattle.std.specs.Prelude.{ℕ, ◌<◌, ◌+◌, ◌-◌, ◌*◌, nat_lt, if◌then◌else◌, List, length, slice_get, slice_index, Contains}
 use Rattle.std.specs.Option.{option_cmp}
 use Rattle.std.specs.Ordering.{nat_cmp, is_lt, on, then_cmp}
 use Rattle.std.specs.Cmp.Lexicographic.{slice_cmp}
@@ -8,15 +9,33 @@ use Rattle.std.specs.declared.cmp.Ordering.{Ordering}
 use Rattle.sig_base.specs.declared.checker.AcceptedRow.{AcceptedRow}
 use Rattle.sig_base.specs.Checker.{operation_code}
 
+-- the last four bytes as a number, 0 of fewer
+unfoldable pub ending : List ℕ → ℕ
+ending bytes =
+    let at = λ (back : ℕ). slice_index bytes (length bytes - back) in
+    if nat_lt (length bytes) 4 then 0 else (((at 4 * 256 + at 3) * 256 + at 2) * 256 + at 1)
+
+-- one row before another: by the endings of signature, key, message
+unfoldable pub ending_order : AcceptedRow → AcceptedRow → Ordering
+ending_order =
+    then_cmp (then_cmp
+    (on (λ row. ending row.signature) nat_cmp)
+    (on (λ row. ending row.key) nat_cmp))
+    (on (λ row. ending row.message) nat_cmp)
+
 -- one row before another: by signature, then operation, scheme, key, message
-unfoldable pub row_order : AcceptedRow → AcceptedRow → Ordering
-row_order =
+unfoldable pub part_order : AcceptedRow → AcceptedRow → Ordering
+part_order =
     then_cmp (then_cmp (then_cmp (then_cmp
     (on (λ row. row.signature) (slice_cmp nat_cmp))
     (on (λ row. operation_code row.operation) nat_cmp))
     (on (λ row. row.scheme) (slice_cmp nat_cmp)))
     (on (λ row. row.key) (slice_cmp nat_cmp)))
     (on (λ row. row.message) (slice_cmp nat_cmp))
+
+-- one row before another: by the endings, then the parts
+unfoldable pub row_order : AcceptedRow → AcceptedRow → Ordering
+row_order = then_cmp ending_order part_order
 
 -- the row at one index before the row at another
 abbrev pub order_at : List AcceptedRow → ℕ → ℕ → Ordering

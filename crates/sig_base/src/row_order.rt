@@ -1,9 +1,10 @@
-//! The order in which a table of accepted rows is searched: the signature first and the message last, so that a
-//! message is compared only where all else is equal.
+//! The order in which a table of accepted rows is searched: the last bytes of signature, key and message first, which
+//! tell most rows apart at once; then the signature, and the message last, so that a message is compared only where all
+//! else is equal.
 ghost use Rattle.std.specs.Prelude.{◌≡◌, Some, IfOk, slice_get, IsPermutation};
 ghost use Rattle.std.specs.Option.{option_cmp};
 ghost use Rattle.sig_base.specs.Checker.{operation_code};
-ghost use Rattle.sig_base.specs.RowOrder.{row_order, order_at, Ascends, IsOrderOf};
+ghost use Rattle.sig_base.specs.RowOrder.{ending, ending_order, part_order, row_order, order_at, Ascends, IsOrderOf};
 
 use crate::checker::{AcceptedRow, Operation};
 use crate::memory::OutOfMemory;
@@ -65,11 +66,40 @@ impl<'a> RowParts<'a> {
         }
     }
 
-    /// Compares two rows: by signature, then operation, scheme, key, message.
+    /// Compares two rows: by the endings of their parts, then the parts.
     #[tactic(auto, using(crate::proofs::Orderings::steps), unfolding(crate::specs::RowOrder::row_order))]
     #[inline(always)]
     fn order(&self, other: &RowParts<'_>) -> Ordering
         ensures { result ≡ row_order self.now other.now }
+    {
+        match self.ending_order(other) {
+            Ordering::Equal => self.part_order(other),
+            unequal => unequal,
+        }
+    }
+
+    /// Compares two rows by the endings of signature, key, message.
+    #[tactic(auto, using(crate::proofs::Orderings::steps), unfolding(crate::specs::RowOrder::ending_order))]
+    #[inline(always)]
+    fn ending_order(&self, other: &RowParts<'_>) -> Ordering
+        ensures { result ≡ ending_order self.now other.now }
+    {
+        match ending(self.signature).cmp(&ending(other.signature)) {
+            Ordering::Equal => {}
+            unequal => return unequal,
+        }
+        match ending(self.key).cmp(&ending(other.key)) {
+            Ordering::Equal => {}
+            unequal => return unequal,
+        }
+        ending(self.message).cmp(&ending(other.message))
+    }
+
+    /// Compares two rows: by signature, then operation, scheme, key, message.
+    #[tactic(auto, using(crate::proofs::Orderings::steps), unfolding(crate::specs::RowOrder::part_order))]
+    #[inline(never)]
+    fn part_order(&self, other: &RowParts<'_>) -> Ordering
+        ensures { result ≡ part_order self.now other.now }
     {
         match self.signature.cmp(other.signature) {
             Ordering::Equal => {}
@@ -89,6 +119,20 @@ impl<'a> RowParts<'a> {
         }
         self.message.cmp(other.message)
     }
+}
+
+/// The last four bytes as a number, 0 of fewer.
+#[tactic(auto, unfolding(crate::specs::RowOrder::ending))]
+#[inline(always)]
+fn ending(bytes: &[u8]) -> u64
+    ensures { result ≡ ending bytes.now }
+{
+    let length = bytes.len();
+    if length < 4 {
+        return 0;
+    }
+    let high = bytes[length - 4] as u64 * 256 + bytes[length - 3] as u64;
+    (high * 256 + bytes[length - 2] as u64) * 256 + bytes[length - 1] as u64
 }
 
 /// Compares the row at an index with another row. An index that no row has comes first.
