@@ -97,7 +97,7 @@ impl<'a> RowParts<'a> {
 
     /// Compares two rows: by signature, then operation, scheme, key, message.
     #[tactic(auto, using(crate::proofs::Orderings::steps), unfolding(crate::specs::RowOrder::part_order))]
-    #[inline(never)]
+    #[inline(always)]
     fn part_order(&self, other: &RowParts<'_>) -> Ordering
         ensures { result ≡ part_order self.now other.now }
     {
