@@ -1,9 +1,10 @@
 -- A member that is added to those that were read before it.
 use Rattle.std.proofs.Common.{◌≡◌, ℕ, zero, suc, ◌-◌, ◌<◌, true, List, [], ◌∷◌, ◌++◌, length, get_or, Err}
-use Rattle.std.proofs.Common.{String, Global, string_bytes, refl, inl, inr, sym, ap, subst, ◌∙◌, arith}
+use Rattle.std.proofs.Common.{Global, refl, inl, inr, sym, ap, subst, ◌∙◌, arith}
 use Rattle.std.proofs.lemmas.Bool.{cases_lt}
 use Rattle.std.proofs.lemmas.Cmp.{nat_list_cmp_total}
 use Rattle.std.proofs.lemmas.List.{get_or_default, length-append}
+use Rattle.std.specs.Cow.{cow_str_bytes}
 use Rattle.std.specs.Cmp.Lexicographic.{slice_cmp}
 use Rattle.std.specs.List.{insert}
 use Rattle.std.specs.Ordering.{nat_cmp, is_lt}
@@ -11,8 +12,8 @@ use Rattle.std.specs.declared.cmp.Ordering.TheVariants.{Less}
 use Rattle.serde_json.specs.Data.{no_members, put}
 use Rattle.sig_json.proofs.Ordered.{ascend_by_place, ascending_stay, gathered_more, in_order-put, put_between}
 use Rattle.sig_json.proofs.Ordered.{less_from_is_lt}
-use Rattle.sig_json.specs.Gathered.{Entry, gathered, InOrder, AreInOrderIfFew, IsPlaceOf}
-use Rattle.sig_json.specs.View.{view, members_view}
+use Rattle.sig_json.specs.Gathered.{Entry, gathered, InOrder, AreInOrderIfFew, IsPlaceOf, few}
+use Rattle.sig_json.specs.View.{Words, view, members_view}
 use Rattle.sig_json.specs.declared.tree.Tree.{Tree}
 
 -- ---- a place behind the last
@@ -23,17 +24,17 @@ behind_none name es none =
 
 pub behind_last : (name : List ℕ) (es : List Entry) (count : ℕ) (last : Entry) → InOrder es → count ≡ length es
     → (count ≡ 0 → ⊥) → last ≡ get_or es (count - 1) last
-    → true ≡ is_lt (slice_cmp nat_cmp (string_bytes last.0) name) → IsPlaceOf name es (Err (length es))
+    → true ≡ is_lt (slice_cmp nat_cmp (cow_str_bytes last.0) name) → IsPlaceOf name es (Err (length es))
 behind_last name es count last up all some is below = (
   omega arith,
   ((λ i d from within. lesser i d (omega arith)), (λ i d from within. absurd (omega arith))),
 ) where
-  last_below : (d : Entry) → 0 < count → slice_cmp nat_cmp (string_bytes (get_or es (count - 1) d).0) name ≡ Less
+  last_below : (d : Entry) → 0 < count → slice_cmp nat_cmp (cow_str_bytes (get_or es (count - 1) d).0) name ≡ Less
   last_below d any =
-      subst (λ e. slice_cmp nat_cmp (string_bytes e.0) name ≡ Less)
+      subst (λ e. slice_cmp nat_cmp (cow_str_bytes e.0) name ≡ Less)
       (is ∙ get_or_default es (count - 1) last d (omega arith)) (less_from_is_lt _ below)
 
-  lesser : (i : ℕ) (d : Entry) → i < count → slice_cmp nat_cmp (string_bytes (get_or es i d).0) name ≡ Less
+  lesser : (i : ℕ) (d : Entry) → i < count → slice_cmp nat_cmp (cow_str_bytes (get_or es i d).0) name ≡ Less
   lesser i d within =
       elim (cases_lt i (count - 1)) [
         | inl before ↦ nat_list_cmp_total.trans _ _ name (ascend_by_place es i (count - 1) d up before (omega arith))
@@ -52,31 +53,31 @@ inserted_behind [] (suc place) e end = absurd (omega arith)
 inserted_behind (first ∷ es) zero e end = absurd (omega arith)
 inserted_behind (first ∷ es) (suc place) e end = ap (λ more. first ∷ more) (inserted_behind es place e (omega arith))
 
-pub few_more : (es others : List Entry) (name : String Global) (value : Tree) → AreInOrderIfFew es → length es < 8
-    → members_view others ≡ put (string_bytes name) (view value) (members_view es)
-    → gathered others ≡ put (string_bytes name) (view value) (gathered es)
-few_more es others name value up few is =
+pub few_more : (es others : List Entry) (name : Words) (value : Tree) → AreInOrderIfFew es → length es < few
+    → members_view others ≡ put (cow_str_bytes name) (view value) (members_view es)
+    → gathered others ≡ put (cow_str_bytes name) (view value) (gathered es)
+few_more es others name value up below is =
     let before = up (omega arith) in
     sym (ascending_stay others (in_order-put es others _ _ before is)) ∙ is
-    ∙ ap (put (string_bytes name) (view value)) (ascending_stay es before)
+    ∙ ap (put (cow_str_bytes name) (view value)) (ascending_stay es before)
 
-pub few_stay : (es others : List Entry) (name : String Global) (value : Tree) → AreInOrderIfFew es → length es < 8
-    → members_view others ≡ put (string_bytes name) (view value) (members_view es) → AreInOrderIfFew others
-few_stay es others name value up few is = λ any. in_order-put es others _ _ (up (omega arith)) is
+pub few_stay : (es others : List Entry) (name : Words) (value : Tree) → AreInOrderIfFew es → length es < few
+    → members_view others ≡ put (cow_str_bytes name) (view value) (members_view es) → AreInOrderIfFew others
+few_stay es others name value up below is = λ any. in_order-put es others _ _ (up (omega arith)) is
 
 -- one that was put behind them
-pub behind_stay : (es others : List Entry) (name : String Global) (value : Tree) → AreInOrderIfFew es
-    → (length es < 8 → InOrder es → IsPlaceOf (string_bytes name) es (Err (length es)))
+pub behind_stay : (es others : List Entry) (name : Words) (value : Tree) → AreInOrderIfFew es
+    → (length es < few → InOrder es → IsPlaceOf (cow_str_bytes name) es (Err (length es)))
     → others ≡ es ++ (name, value) ∷ [] → AreInOrderIfFew others
-behind_stay es others name value up behind is few =
-    let fewer : length es < 8 = omega (arith, ap length is, length-append es ((name, value) ∷ [])) in
+behind_stay es others name value up goes is any =
+    let fewer : length es < few = omega (arith, ap length is, length-append es ((name, value) ∷ [])) in
     let before = up (omega arith) in
-    in_order-put es others (string_bytes name) (view value) before
+    in_order-put es others (cow_str_bytes name) (view value) before
     (ap members_view (is ∙ inserted_behind es (length es) (name, value) refl)
-    ∙ put_between name es (length es) value (behind fewer before))
+    ∙ put_between name es (length es) value (goes fewer before))
 
-pub many_more : (es others : List Entry) (name : String Global) (value : Tree) → others ≡ es ++ (name, value) ∷ []
-    → gathered others ≡ put (string_bytes name) (view value) (gathered es)
+pub many_more : (es others : List Entry) (name : Words) (value : Tree) → others ≡ es ++ (name, value) ∷ []
+    → gathered others ≡ put (cow_str_bytes name) (view value) (gathered es)
 many_more es others name value is = ap gathered is ∙ gathered_more es (name, value) no_members
 
 pub ruleset added = (few_more, few_stay, behind_stay, many_more)

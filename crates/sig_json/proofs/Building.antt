@@ -1,5 +1,5 @@
 -- What the builders make of a tree.
-use Rattle.std.proofs.Common.{String, Vec, Global, ◌≡◌, ℕ, List, [], ◌∷◌, ◌++◌, Some, None, false, ◌||◌}
+use Rattle.std.proofs.Common.{Vec, Global, ◌≡◌, ℕ, List, [], ◌∷◌, ◌++◌, Some, None, false, ◌||◌}
 use Rattle.std.proofs.Common.{refl, ap}
 use Rattle.std.proofs.lemmas.Bool.{or_parts, or_from}
 use Rattle.std.specs.Cmp.Lexicographic.{slice_cmp}
@@ -7,15 +7,16 @@ use Rattle.std.specs.Ordering.{nat_cmp}
 use Rattle.serde_json.specs.Data.{Data, null, boolean, number, string, array, object, Items, no_items, item, Members}
 use Rattle.serde_json.specs.Data.{no_members, member, put}
 use Rattle.serde_json.specs.Find.{as_array, as_object}
+use Rattle.sig_json.proofs.ByOrdering.{holds_of_choice}
 use Rattle.sig_json.proofs.Trees.{view-Array, view-Object}
 use Rattle.sig_json.specs.View.{view, items_view, members_view}
 use Rattle.serde_json.specs.Written.{has_float, items_have_float, members_have_float}
 use Rattle.sig_json.specs.declared.tree.Tree.{Tree, Array, Object}
 use Rattle.sig_json.proofs.ByKind.{as_object_is}
-use Rattle.sig_json.proofs.ByOrdering.{holds_of_choice}
 use Rattle.sig_json.specs.Builders.{with_member, with_last, items_with_last}
+use Rattle.sig_json.specs.Gathered.{Entry}
 
-put_floatless : (name : List ℕ) (value : Data) (ms : Members) → has_float value ≡ false → members_have_float ms ≡ false
+pub put_floatless : (name : List ℕ) (value : Data) (ms : Members) → has_float value ≡ false → members_have_float ms ≡ false
     → members_have_float (put name value ms) ≡ false
 put_floatless name value no_members one rest = or_from (has_float value) false one refl
 put_floatless name value (member k d ms) one rest =
@@ -83,12 +84,12 @@ pub pushed_in : (before after : Vec Tree Global) (last : Tree) → after.items �
 pushed_in before after last pushes =
     rw (view-Array after, view-Array before, pushes) (ap array (items_view-append before.items last))
 
-pub put_in : (name : List ℕ) (value : Data) (before after : Vec (String Global × Tree) Global)
+pub put_in : (name : List ℕ) (value : Data) (before after : Vec Entry Global)
     → members_view after.items ≡ put name value (members_view before.items)
     → view (Object after) ≡ with_member name value (view (Object before))
 put_in name value before after puts = rw (view-Object after, view-Object before, puts) refl
 
-pub object_unchanged : (before after : Vec (String Global × Tree) Global) → after.items ≡ before.items
+pub object_unchanged : (before after : Vec Entry Global) → after.items ≡ before.items
     → view (Object after) ≡ view (Object before)
 object_unchanged before after same = rw (view-Object after, view-Object before, same) refl
 
@@ -96,13 +97,13 @@ pub list_unchanged : (before after : Vec Tree Global) → after.items ≡ before
     → view (Array after) ≡ view (Array before)
 list_unchanged before after same = rw (view-Array after, view-Array before, same) refl
 
-pub put_in_floatless : (name : List ℕ) (value : Data) (before after : Vec (String Global × Tree) Global)
+pub put_in_floatless : (name : List ℕ) (value : Data) (before after : Vec Entry Global)
     → members_view after.items ≡ put name value (members_view before.items) → has_float (view (Object before)) ≡ false
     → has_float value ≡ false → has_float (view (Object after)) ≡ false
 put_in_floatless name value before after puts whole one =
     rw (put_in name value before after puts) (with_member_floatless name value (view (Object before)) one whole)
 
-pub object_unchanged_floatless : (before after : Vec (String Global × Tree) Global) → after.items ≡ before.items
+pub object_unchanged_floatless : (before after : Vec Entry Global) → after.items ≡ before.items
     → has_float (view (Object before)) ≡ false → has_float (view (Object after)) ≡ false
 object_unchanged_floatless before after same whole = rw (object_unchanged before after same) whole
 

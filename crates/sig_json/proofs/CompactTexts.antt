@@ -1,8 +1,9 @@
 -- The compact text of a tree, token by token, and how it is read back.
 use Rattle.std.proofs.Common.{◌≡◌, ◌<◌, ◌≤◌, ◌+◌, ◌^◌, ℕ, ℤ, pos, negsuc, suc, false, List, [], ◌∷◌, ◌++◌, length}
-use Rattle.std.proofs.Common.{drop, get_or, Some, None, Ok, IsUtf8, string_bytes, option_map}
+use Rattle.std.proofs.Common.{drop, get_or, Some, None, Ok, IsUtf8, option_map}
 use Rattle.std.proofs.Common.{option_and_then, max, refl, sym, ap, ap₂, subst, ◌∙◌, append_assoc, append-nil, arith}
 use Rattle.std.proofs.lemmas.Cmp.{nat_list_cmp_total}
+use Rattle.std.specs.Cow.{cow_str_bytes}
 use Rattle.std.specs.Cmp.Lexicographic.{slice_cmp}
 use Rattle.std.specs.Fmt.{signed_decimal}
 use Rattle.std.specs.List.{AllByRecursion}
@@ -125,7 +126,7 @@ object_written_start start now es is same =
 
 pub object_written_step : (start now named next : Written) (es : List Entry) (i : ℕ) (e : Entry) → i < length es
     → e ≡ get_or es i e → ObjectWritten start es i now
-    → named.tokens ≡ now.tokens ++ Token.key (string_bytes e.0) ∷ [] → named.before ≡ now.before
+    → named.tokens ≡ now.tokens ++ Token.key (cow_str_bytes e.0) ∷ [] → named.before ≡ now.before
     → next.tokens ≡ named.tokens ++ json_tokens (outline (view e.1)) → next.before ≡ named.before → InRange (view e.1)
     → ObjectWritten start es (i + 1) next
 object_written_step start now named next es i e h is so_far key unmoved more same one =
@@ -135,7 +136,7 @@ object_written_step start now named next es i e h is so_far key unmoved more sam
       tokens =
           ap (λ ts. ts ++ object_left es (i + 1)) more
           ∙ append_assoc named.tokens (json_tokens (outline (view e.1))) (object_left es (i + 1))
-          ∙ begun now.tokens named.tokens tail (Token.key (string_bytes e.0)) key
+          ∙ begun now.tokens named.tokens tail (Token.key (cow_str_bytes e.0)) key
           ∙ ap (λ ms. now.tokens ++ members_tokens (members_outline ms)) (sym left) ∙ so_far.tokens;
       before = same ∙ unmoved ∙ so_far.before;
       range = λ rest. so_far.range (subst HasValuesInRange (sym left) (one, rest));

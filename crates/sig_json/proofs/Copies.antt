@@ -1,8 +1,9 @@
 -- Lists and objects copied part by part.
 use Rattle.std.proofs.Common.{◌≡◌, ◌+◌, ◌<◌, ℕ, List, [], ◌∷◌, ◌++◌, length, map, take, get_or}
-use Rattle.std.proofs.Common.{string_bytes, refl, sym, ap, ap₂, ◌∙◌}
+use Rattle.std.proofs.Common.{refl, sym, ap, ap₂, ◌∙◌}
 use Rattle.std.proofs.Math.Seq.{take-length}
 use Rattle.std.proofs.lemmas.List.{map-append, take_more}
+use Rattle.std.specs.Cow.{cow_str_bytes}
 use Rattle.serde_json.specs.Data.{Data, member}
 use Rattle.serde_json.specs.View.{items_of}
 use Rattle.sig_json.proofs.Trees.{view-Null, view-Bool, view-Number, view-Text, view-Array, view-Object}
@@ -12,7 +13,7 @@ use Rattle.sig_json.specs.declared.tree.Tree.{Tree}
 
 -- a member as its name and its data
 abbrev pub seen : Entry → List ℕ × Data
-seen e = (string_bytes e.0, view e.1)
+seen e = (cow_str_bytes e.0, view e.1)
 
 members_from_seen : (es fs : List Entry) → map seen es ≡ map seen fs → members_view es ≡ members_view fs
 members_from_seen [] [] same = refl

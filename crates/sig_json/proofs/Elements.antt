@@ -9,6 +9,7 @@ use Rattle.serde_json.specs.Find.{as_array}
 use Rattle.serde_json.specs.Written.{has_float}
 use Rattle.sig_json.proofs.ByKind.{as_array_is}
 use Rattle.sig_json.proofs.Lists.{items_from, none_left}
+use Rattle.sig_json.proofs.MemberTexts.{items_named_at}
 use Rattle.sig_json.proofs.SameTrees.{items_floatless_at}
 use Rattle.sig_json.specs.List.{items_list}
 use Rattle.sig_json.specs.Member.{each, list_each}
@@ -82,12 +83,6 @@ pub element_floatless : (d : Data) (values : List Tree) (i : ℕ) (value : Tree)
 element_floatless d values i value whole e h is =
     items_floatless_at values i value h is
     (subst (λ t. has_float t ≡ false) (as_array_is d (items_view values) e) whole)
-
-items_named_at : (values : List Tree) (i : ℕ) (value : Tree) → i < length values → value ≡ get_or values i value
-    → AreNamed (items_view values) → IsNamed (view value)
-items_named_at [] i value h is named = absurd (omega arith)
-items_named_at (first ∷ values) zero value h is named = rw is named.0
-items_named_at (first ∷ values) (suc i) value h is named = items_named_at values i value (omega arith) is named.1
 
 pub element_named : (d : Data) (values : List Tree) (i : ℕ) (value : Tree) → IsNamed d
     → Some (items_view values) ≡ as_array d → i < length values → value ≡ get_or values i value

@@ -1,8 +1,8 @@
 -- An object of whose members some are kept, a member at a time, and the text that it is.
 use Rattle.std.proofs.Common.{◌≡◌, ℕ, ◌-◌, ◌<◌, ◌≤◌, Bool, true, false, not, List, [], ◌∷◌, ◌++◌, length, Some, None}
-use Rattle.std.proofs.Common.{String, Global, string_bytes, refl, sym, ap, subst, ◌∙◌, arith}
+use Rattle.std.proofs.Common.{Global, refl, sym, ap, subst, ◌∙◌, arith}
 use Rattle.std.proofs.lemmas.Bool.{not_from_false, not_from_true}
-use Rattle.std.proofs.lemmas.Str.{IsUtf8-string_bytes}
+use Rattle.std.specs.Cow.{cow_str_bytes}
 use Rattle.std.specs.List.Sorted.{IsStrictlySortedBy}
 use Rattle.std.specs.Str.{IsUtf8}
 use Rattle.json.proofs.Grammar.{read_key-shorter}
@@ -12,9 +12,10 @@ use Rattle.json.specs.Token.{Token}
 use Rattle.serde_json.specs.Data.{object, Members, no_members, put}
 use Rattle.serde_json.specs.Read.{max_depth, read}
 use Rattle.serde_json.specs.Written.{members_have_float}
+use Rattle.sig_json.proofs.Building.{put_floatless}
 use Rattle.sig_json.proofs.Converted.{member_read, member_refused, key_refused, members_over}
 use Rattle.sig_json.proofs.Named.{ascend-put, keys-put, values-put}
-use Rattle.sig_json.proofs.Only.{where_put_yes, where_put_no, floatless-put}
+use Rattle.sig_json.proofs.Only.{where_put_yes, where_put_no}
 use Rattle.sig_json.proofs.Ordered.{gathered_more}
 use Rattle.sig_json.proofs.Skipping.{object_is}
 use Rattle.sig_json.proofs.Tokens.{Means, object_meant, object_refused, text_read, text_and_more, text_refused}
@@ -22,7 +23,7 @@ use Rattle.sig_json.specs.Gathered.{Entry, gathered}
 use Rattle.sig_json.specs.Named.{IsNamed, NamesAscend, HasNamedValues}
 use Rattle.sig_json.specs.Only.{is_among, members_where}
 use Rattle.sig_json.specs.Skipped.{PassesValue, AreKeptMembers, KeepsMembers, KeepsOf, value_meant, members_meant}
-use Rattle.sig_json.specs.View.{view, members_view}
+use Rattle.sig_json.specs.View.{Words, view, members_view}
 use Rattle.sig_json.specs.declared.tree.Tree.{Tree}
 
 -- ---- members so far
@@ -57,17 +58,18 @@ at_start names depth start found none =
 
 -- one more, of a name that is listed
 pub at_more : (names : List (List ℕ)) (depth : ℕ) (start left inner next : List Token) (all : Members)
-    (found more : List Entry) (k : List ℕ) (name : String Global) (tree : Tree)
+    (found more : List Entry) (k : List ℕ) (name : Words) (tree : Tree)
     → KeptAt names depth start left all found
-    → read_key left ≡ Some (Some k, inner) → is_among names k ≡ true → string_bytes name ≡ k
+    → read_key left ≡ Some (Some k, inner) → is_among names k ≡ true → cow_str_bytes name ≡ k
     → Means depth inner next (view tree) → length next < length inner → IsNamed (view tree)
-    → more ≡ found ++ (name, tree) ∷ [] → KeptAt names depth start next (put k (view tree) all) more
-at_more names depth start left inner next all found more k name tree so_far key listed same means less one pushed =
+    → IsUtf8 (cow_str_bytes name) → more ≡ found ++ (name, tree) ∷ [] → KeptAt names depth start next (put k (view tree) all) more
+at_more names depth start left inner next all found more k name tree so_far key listed same means less one utf8
+    pushed =
     let d = view tree in
     let within = read_key-shorter left (Some k) inner key in
     let put_in : gathered more ≡ put k d (gathered found) = rw
     (pushed, gathered_more found (name, tree) no_members, same) refl in
-    let utf8 = subst IsUtf8 same (IsUtf8-string_bytes name) in
+    let text = subst IsUtf8 same utf8 in
     record {
       turns = so_far.turns - 1;
       enough = omega (arith, so_far.enough);
@@ -81,7 +83,7 @@ at_more names depth start left inner next all found more k name tree so_far key 
         whole = ap members_have_float (where_put_no (others names) k d all (not_from_true (is_among names k) listed))
             ∙ so_far.part.whole;
       };
-      ascend = subst NamesAscend (sym put_in) (ascend-put k d (gathered found) utf8 so_far.ascend);
+      ascend = subst NamesAscend (sym put_in) (ascend-put k d (gathered found) text so_far.ascend);
       named = subst HasNamedValues (sym put_in) (values-put k d (gathered found) one so_far.named);
     }
 
@@ -105,7 +107,7 @@ at_same names depth start left inner next all found k so_far key other passed le
         ascend = keys-put k d all so_far.part.ascend;
         are = where_put_no (is_among names) k d all other ∙ so_far.part.are;
         whole = ap members_have_float goes_in
-            ∙ floatless-put k d (members_where (others names) all) passed.whole so_far.part.whole;
+            ∙ put_floatless k d (members_where (others names) all) passed.whole so_far.part.whole;
       };
       ascend = so_far.ascend;
       named = so_far.named;
@@ -139,16 +141,16 @@ pub kept_start : (names : List (List ℕ)) (depth : ℕ) (start : List Token) (f
 kept_start names depth start found none = record { all = no_members; at = at_start names depth start found none }
 
 pub kept_more : (names : List (List ℕ)) (depth : ℕ) (start left inner next : List Token) (found more : List Entry)
-    (k : List ℕ) (name : String Global) (tree : Tree) → KeptSoFar names depth start left found
-    → read_key left ≡ Some (Some k, inner) → is_among names k ≡ true → string_bytes name ≡ k
+    (k : List ℕ) (name : Words) (tree : Tree) → KeptSoFar names depth start left found
+    → read_key left ≡ Some (Some k, inner) → is_among names k ≡ true → cow_str_bytes name ≡ k
     → Means depth inner next (view tree) → length next < length inner → IsNamed (view tree)
-    → more ≡ found ++ (name, tree) ∷ []
+    → IsUtf8 (cow_str_bytes name) → more ≡ found ++ (name, tree) ∷ []
     → KeptSoFar names depth start next more
-kept_more names depth start left inner next found more k name tree so_far key listed same means less one pushed =
+kept_more names depth start left inner next found more k name tree so_far key listed same means less one utf8 pushed =
     record {
       all = put k (view tree) so_far.all;
       at = at_more names depth start left inner next so_far.all found more k name tree so_far.at key listed same
-          means less one pushed;
+          means less one utf8 pushed;
     }
 
 pub kept_same : (names : List (List ℕ)) (depth : ℕ) (start left inner next : List Token) (found : List Entry)

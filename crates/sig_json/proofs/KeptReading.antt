@@ -1,8 +1,9 @@
 -- *Document* with the members of some names alone: by the outcome of each step of its reading, and by a cut through
 -- the whole tree.
-use Rattle.std.proofs.Common.{◌≡◌, ℕ, Bool, true, false, cond, List, [], ◌∷◌, Some, None, Ok, Err, IsUtf8, String}
-use Rattle.std.proofs.Common.{Vec, Global, string_bytes, refl, sym, ap, subst, ◌∙◌}
+use Rattle.std.proofs.Common.{◌≡◌, ℕ, Bool, true, false, cond, List, [], ◌∷◌, Some, None, Ok, Err, IsUtf8}
+use Rattle.std.proofs.Common.{Vec, Global, refl, sym, ap, subst, ◌∙◌}
 use Rattle.std.proofs.lemmas.Bool.{both_ways}
+use Rattle.std.specs.Cow.{cow_str_bytes}
 use Rattle.std.specs.List.{filter}
 use Rattle.std.specs.Prelude.{if◌then◌else◌}
 use Rattle.serde_json.specs.Data.{Data, object, member}
@@ -12,13 +13,14 @@ use Rattle.serde_json.specs.Written.{has_float, members_have_float}
 use Rattle.serde_json.specs.declared.number.Number.{Number}
 use Rattle.sig_json.proofs.Only.{floatless-where, floatless-both, floatless-only, named-only, only-same}
 use Rattle.sig_json.proofs.Reading.{document_of-not_utf8, document_of-unread, document_of-float, document_of-read}
+use Rattle.sig_json.proofs.Tokens.{object_is_named}
 use Rattle.sig_json.proofs.Trees.{view-Null, view-Bool, view-Number, view-Text, view-Array, view-Object}
 use Rattle.sig_json.specs.Document.{document_of}
 use Rattle.sig_json.specs.Gathered.{Entry}
-use Rattle.sig_json.specs.Named.{IsNamed, NamesAscend, HasNamedValues}
+use Rattle.sig_json.specs.Named.{IsNamed}
 use Rattle.sig_json.specs.Only.{is_among, members_where, only, only_of}
 use Rattle.sig_json.specs.Skipped.{KeepsOf}
-use Rattle.sig_json.specs.View.{view, members_view}
+use Rattle.sig_json.specs.View.{Words, view, members_view}
 use Rattle.sig_json.specs.declared.error.DocumentError.TheVariants.{NotJson, Float}
 use Rattle.sig_json.specs.declared.tree.Tree.{Tree, Null, Bool as Truth, Number as Numeral, Text, Array, Object}
 
@@ -63,10 +65,6 @@ module _ (names : List (List ℕ)) (text : List ℕ) where
             absurd (both_ways (has_float (view (Object v))) none float)
       ] refl)
 
-pub kept_is_named : (v : Vec Entry Global)
-    → NamesAscend (members_view v.items) × HasNamedValues (members_view v.items) → IsNamed (view (Object v))
-kept_is_named v named = subst IsNamed (sym (view-Object v)) named
-
 pub cut_floatless : (names : List (List ℕ)) (d e : Data) → has_float d ≡ false → e ≡ only names d
     → has_float e ≡ false
 cut_floatless names d e none cut = ap has_float cut ∙ floatless-only names d none
@@ -74,7 +72,7 @@ cut_floatless names d e none cut = ap has_float cut ∙ floatless-only names d n
 pub cut_named : (names : List (List ℕ)) (d e : Data) → IsNamed d → e ≡ only names d → IsNamed e
 cut_named names d e named cut = subst IsNamed (sym cut) (named-only names d named)
 
-pub ruleset kept_reading = (only_not_utf8, only_unread, kept_read, kept_float, kept_is_named)
+pub ruleset kept_reading = (only_not_utf8, only_unread, kept_read, kept_float, object_is_named)
 
 pub ruleset whole_reading = (only_unread, only_float, only_read, cut_floatless, cut_named)
 
@@ -84,19 +82,19 @@ module _ (test : List ℕ → Bool) where
   first_where : (e : Entry) (es others : List Entry) (b : Bool)
       → members_view others ≡ members_where test (members_view es)
       → members_view (cond b (e ∷ others) others) ≡
-      (if b then member (string_bytes e.0) (view e.1) (members_where test (members_view es)) else members_where test
+      (if b then member (cow_str_bytes e.0) (view e.1) (members_where test (members_view es)) else members_where test
       (members_view es))
-  first_where e es others true rest = ap (member (string_bytes e.0) (view e.1)) rest
+  first_where e es others true rest = ap (member (cow_str_bytes e.0) (view e.1)) rest
   first_where e es others false rest = rest
 
   pub filter_where : (es : List Entry)
-      → members_view (filter (λ e. test (string_bytes e.0)) es) ≡ members_where test (members_view es)
+      → members_view (filter (λ e. test (cow_str_bytes e.0)) es) ≡ members_where test (members_view es)
   filter_where [] = refl
-  filter_where (e ∷ es) = first_where e es (filter (λ x. test (string_bytes x.0)) es) (test (string_bytes e.0))
+  filter_where (e ∷ es) = first_where e es (filter (λ x. test (cow_str_bytes x.0)) es) (test (cow_str_bytes e.0))
       (filter_where es)
 
 pub cut_object : (names : List (List ℕ)) (before after : Vec Entry Global)
-    → after.items ≡ filter (λ m. is_among names (string_bytes m.0)) before.items
+    → after.items ≡ filter (λ m. is_among names (cow_str_bytes m.0)) before.items
     → view (Object after) ≡ only names (view (Object before))
 unfolding only
 cut_object names before after are = view-Object after ∙ ap (λ es. object (members_view es)) are
@@ -111,7 +109,7 @@ cut_bool names b = sym (only-same names (view (Truth b)) (ap as_object (view-Boo
 pub cut_number : (names : List (List ℕ)) (n : Number) → view (Numeral n) ≡ only names (view (Numeral n))
 cut_number names n = sym (only-same names (view (Numeral n)) (ap as_object (view-Number n)))
 
-pub cut_text : (names : List (List ℕ)) (text : String Global) → view (Text text) ≡ only names (view (Text text))
+pub cut_text : (names : List (List ℕ)) (text : Words) → view (Text text) ≡ only names (view (Text text))
 cut_text names text = sym (only-same names (view (Text text)) (ap as_object (view-Text text)))
 
 pub cut_array : (names : List (List ℕ)) (v : Vec Tree Global) → view (Array v) ≡ only names (view (Array v))

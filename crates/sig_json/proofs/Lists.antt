@@ -1,8 +1,9 @@
 -- Elements of a list, beside the `Vec` that holds them.
 use Rattle.std.proofs.Common.{◌≡◌, ℕ, zero, suc, ◌+◌, ◌<◌, ◌≤◌, List, [], ◌∷◌, length, drop, get_or, Bool, true, false}
-use Rattle.std.proofs.Common.{Some, None, option_map, string_bytes, refl, sym, ap, ◌∙◌, arith}
+use Rattle.std.proofs.Common.{Some, None, option_map, refl, sym, ap, ◌∙◌, arith}
 use Rattle.std.proofs.Math.Seq.{drop-length}
 use Rattle.std.proofs.lemmas.List.{at_drop_more}
+use Rattle.std.specs.Cow.{cow_str_bytes}
 use Rattle.serde_json.specs.Data.{Data, item, member}
 use Rattle.serde_json.specs.Find.{as_array, get_item}
 use Rattle.serde_json.specs.Written.{has_float, items_have_float, members_have_float}
@@ -23,10 +24,10 @@ items_from values i value h is =
 
 -- members from a place on
 pub members_from : (es : List Entry) (i : ℕ) (e : Entry) → i < length es → e ≡ get_or es i e
-    → members_view (drop i es) ≡ member (string_bytes e.0) (view e.1) (members_view (drop (i + 1) es))
+    → members_view (drop i es) ≡ member (cow_str_bytes e.0) (view e.1) (members_view (drop (i + 1) es))
 members_from es i e h is =
     at_drop_more members_view es i e h
-    ∙ ap (λ x. member (string_bytes x.0) (view x.1) (members_view (drop (i + 1) es))) (sym is)
+    ∙ ap (λ x. member (cow_str_bytes x.0) (view x.1) (members_view (drop (i + 1) es))) (sym is)
 
 -- the member at a place, and those behind it
 pub next_entry : (es : List Entry) (i : ℕ) (e : Entry) → i < length es → e ≡ get_or es i e

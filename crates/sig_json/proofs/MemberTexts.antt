@@ -1,7 +1,7 @@
 -- The parts of a list or an object, one after another behind one text, and members that are sorted before they are
 -- written.
 use Rattle.std.proofs.Common.{◌≡◌, ◌≢◌, ◌<◌, ◌≤◌, ◌+◌, ◌==◌, false, ℕ, zero, suc, max, List, [], ◌∷◌, ◌++◌, length}
-use Rattle.std.proofs.Common.{map, drop, get_or, Option, Some, None, String, Vec, Global, refl, sym, ap, subst, ◌∙◌}
+use Rattle.std.proofs.Common.{map, drop, get_or, Option, Some, None, Vec, Global, refl, sym, ap, subst, ◌∙◌}
 use Rattle.std.proofs.Common.{append_assoc, arith}
 use Rattle.std.proofs.lemmas.List.{at_drop_more}
 use Rattle.std.specs.BTreeMap.{insert_entry}
@@ -16,7 +16,7 @@ use Rattle.std.specs.declared.cmp.Ordering.{Ordering}
 use Rattle.std.specs.declared.cmp.Ordering.TheVariants.{Less, Equal, Greater}
 use Rattle.serde_json.specs.Data.{Data, Members, no_members, member, depth, members_depth}
 use Rattle.sig_json.specs.Named.{IsNamed, AreNamed, NamesAscend, HasNamedValues}
-use Rattle.sig_json.specs.View.{view, items_view, members_view}
+use Rattle.sig_json.specs.View.{Words, view, items_view, members_view}
 use Rattle.sig_json.specs.declared.tree.Tree.{Tree, Array, Object}
 use Rattle.sig_json.proofs.Trees.{view-Array, view-Object}
 use Rattle.sig_json.specs.Canonical.{Sorted, canon, canon_items, canon_members, canon_string, in_braces, utf16_units}
@@ -328,7 +328,7 @@ items_named_at [] i tree h is named = absurd (omega arith)
 items_named_at (t ∷ trees) zero tree h is named = rw is named.0
 items_named_at (t ∷ trees) (suc i) tree h is named = items_named_at trees i tree (omega arith) is named.1
 
-pub members_named_at : (es : List (String Global × Tree)) (i : ℕ) (e : String Global × Tree) → i < length es
+pub members_named_at : (es : List (Words × Tree)) (i : ℕ) (e : Words × Tree) → i < length es
     → e ≡ get_or es i e → HasNamedValues (members_view es) → IsNamed (view e.1)
 members_named_at [] i e h is named = absurd (omega arith)
 members_named_at (f ∷ es) zero e h is named = rw is named.0
@@ -338,7 +338,7 @@ pub array_named : (tree : Tree) (items : Vec Tree Global) → tree ≡ Array ite
     → AreNamed (items_view items.items)
 array_named tree items is named = subst IsNamed (ap view is ∙ view-Array items) named
 
-pub object_named : (tree : Tree) (members : Vec (String Global × Tree) Global) → tree ≡ Object members
+pub object_named : (tree : Tree) (members : Vec (Words × Tree) Global) → tree ≡ Object members
     → IsNamed (view tree) → NamesAscend (members_view members.items) × HasNamedValues (members_view members.items)
 object_named tree members is named = subst IsNamed (ap view is ∙ view-Object members) named
 
@@ -357,7 +357,7 @@ pub ruleset parts = (
 
 pub ruleset objects = (object_meant, object_deepest)
 
-pub sorted_end : (all left : List (String Global × Tree)) (i : ℕ) (es : List Entry) (members : List Member)
+pub sorted_end : (all left : List (Words × Tree)) (i : ℕ) (es : List Entry) (members : List Member)
     → i ≡ length left → by_units (members_view all) [] ≡ by_units (members_view (drop i left)) (entries_of es)
     → members ≡ values_of es
     → map pair_of members ≡ values_of (by_units (members_view all) [])

@@ -1,7 +1,7 @@
 -- The names of the objects of a tree ascend in byte order, at every depth: as a walk finds it, as a look inside keeps
 -- it, as the builders keep it.
 use Rattle.std.proofs.Common.{◌≡◌, ◌≢◌, ℕ, zero, suc, List, [], ◌∷◌, ◌++◌, Option}
-use Rattle.std.proofs.Common.{Some, option_map, String, Vec, Global, sym, subst, refl, ap, ◌∙◌}
+use Rattle.std.proofs.Common.{Some, option_map, Vec, Global, sym, subst, refl, ap, ◌∙◌}
 use Rattle.std.proofs.lemmas.Cmp.{nat_list_cmp_total, tied_itself}
 use Rattle.std.proofs.lemmas.Iterator.Adapters.{option_map_id}
 use Rattle.std.specs.BTreeMap.{insert_entry}
@@ -30,6 +30,7 @@ use Rattle.sig_json.specs.Canonical.{Sorted, canon, canon_items, in_brackets}
 use Rattle.sig_json.specs.Members.{members_list}
 use Rattle.sig_json.specs.Named.{NamesAscend, IsNamed, AreNamed, HasNamedValues}
 use Rattle.sig_json.specs.Order.{HasNames, KeepsOrder, InTurn, ValuesKeepOrder, member_texts}
+use Rattle.sig_json.specs.Gathered.{Entry}
 
 -- ---- what ascends differs
 
@@ -183,14 +184,14 @@ with_last_named value (string s) whole one = tt
 with_last_named value (array ds) whole one = last_named ds value whole one
 with_last_named value (object ms) whole one = whole
 
-pub put_named : (name : List ℕ) (value : Data) (before after : Vec (String Global × Tree) Global) → IsUtf8 name
+pub put_named : (name : List ℕ) (value : Data) (before after : Vec Entry Global) → IsUtf8 name
     → members_view after.items ≡ put name value (members_view before.items) → IsNamed (view (Object before))
     → IsNamed value → IsNamed (view (Object after))
 put_named name value before after utf8 puts whole one =
     subst IsNamed (sym (put_in name value before after puts))
     (with_member_named name value (view (Object before)) utf8 whole one)
 
-pub object_unchanged_named : (before after : Vec (String Global × Tree) Global) → after.items ≡ before.items
+pub object_unchanged_named : (before after : Vec Entry Global) → after.items ≡ before.items
     → IsNamed (view (Object before)) → IsNamed (view (Object after))
 object_unchanged_named before after same whole = subst IsNamed (sym (object_unchanged before after same)) whole
 
@@ -211,7 +212,7 @@ same_named d e same named = subst IsNamed (sym same) named
 -- what a change to a tree leaves as it has to be
 pub ruleset changes = (building, put_named, object_unchanged_named, pushed_named, list_unchanged_named)
 
-pub empty_object_named : (m : Vec (String Global × Tree) Global) → m.items ≡ [] → IsNamed (view (Object m))
+pub empty_object_named : (m : Vec Entry Global) → m.items ≡ [] → IsNamed (view (Object m))
 unfolding IsStrictlySortedBy
 empty_object_named m is = subst IsNamed (sym (view-Object m ∙ ap (λ es. object (members_view es)) is)) ((tt, tt), tt)
 

@@ -16,7 +16,6 @@ use Rattle.serde_json.specs.Data.{put}
 use Rattle.serde_json.specs.Find.{get, get_member, as_object}
 use Rattle.serde_json.specs.Written.{has_float, members_have_float}
 use Rattle.sig_base.specs.ByText.{KeysAscend}
-use Rattle.sig_json.proofs.ByOrdering.{holds_of_choice}
 use Rattle.sig_json.proofs.Ordered.{same_from_tie}
 use Rattle.sig_base.specs.OptionSteps.{◌>>=◌}
 use Rattle.sig_json.specs.Member.{member_of, not_null, there_or, required, optional_or}
@@ -199,17 +198,6 @@ floatless-both test (member l e ms) some others =
     ∙ others) in
     let rest = floatless-both test ms (ap members_have_float (sym (where_no test l e ms failing)) ∙ some) parts.1 in
     or_from (has_float e) (members_have_float ms) parts.0 rest)
-
-pub floatless-put : (k : List ℕ) (d : Data) (ms : Members) → has_float d ≡ false → members_have_float ms ≡ false
-    → members_have_float (put k d ms) ≡ false
-floatless-put k d no_members one rest = or_from (has_float d) false one refl
-floatless-put k d (member l e ms) one rest =
-    let parts = or_parts (has_float e) (members_have_float ms) rest in
-    holds_of_choice (λ after. members_have_float after ≡ false) (compare k l) (member k d (member l e ms))
-    (member l d ms) (member l e (put k d ms))
-    (or_from (has_float d) (has_float e || members_have_float ms) one rest)
-    (or_from (has_float d) (members_have_float ms) one parts.1)
-    (or_from (has_float e) (members_have_float (put k d ms)) parts.0 (floatless-put k d ms one parts.1))
 
 -- ---- a whole value
 

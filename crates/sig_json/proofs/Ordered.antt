@@ -1,19 +1,19 @@
 -- Members in the order of their names: what is found among them, what a change at a place makes of them, and how they
 -- come into order.
 use Rattle.std.proofs.Common.{◌≡◌, ◌<◌, ◌≤◌, ◌+◌, ℕ, zero, suc, true, List, [], ◌∷◌, ◌++◌, length, get_or, set}
-use Rattle.std.proofs.Common.{Option, Some, None, Result, Ok, Err, String, Vec, Global, string_bytes, inl}
+use Rattle.std.proofs.Common.{Option, Some, None, Result, Ok, Err, Vec, Global, inl}
 use Rattle.std.proofs.Common.{inr, refl, sym, ap, subst, ◌∙◌, append_assoc, append-nil, arith}
 use Rattle.std.proofs.lemmas.Bool.{cases_lt}
 use Rattle.std.proofs.lemmas.Cmp.{nat_list_cmp_total}
 use Rattle.std.proofs.lemmas.Map.Text.{is_eq-slice_cmp}
 use Rattle.std.proofs.lemmas.Slice.Eq.{bytes_eq-Decides}
+use Rattle.std.specs.Cow.{cow_str_bytes}
 use Rattle.std.specs.BTreeMap.{insert_entry}
 use Rattle.std.specs.Cmp.Lexicographic.{slice_cmp}
 use Rattle.std.specs.List.{AllByRecursion, AllAdjacentBelow, insert}
 use Rattle.std.specs.List.Sorted.{IsStrictlySortedBy, IsNonDecreasingBy, IsBinarySearchResult, IsSearchInRange}
 use Rattle.std.specs.Map.{keys_of}
 use Rattle.std.specs.Ordering.{nat_cmp, is_eq, is_lt, ordering_index, ordering_reverse}
-use Rattle.std.specs.String.{string_cmp}
 use Rattle.std.specs.declared.cmp.Ordering.{Ordering}
 use Rattle.std.specs.declared.cmp.Ordering.TheVariants.{Less, Equal, Greater}
 use Rattle.serde_json.specs.Data.{Data, Members, member, put}
@@ -24,7 +24,7 @@ use Rattle.sig_base.specs.ByText.{KeysAscend}
 use Rattle.sig_json.specs.Gathered.{Entry, put_each, gathered, InOrder, IsPlaceOf}
 use Rattle.sig_json.specs.Members.{members_list}
 use Rattle.sig_json.specs.Named.{IsNamed}
-use Rattle.sig_json.specs.View.{view, items_view, members_view}
+use Rattle.sig_json.specs.View.{Words, view, items_view, members_view}
 use Rattle.sig_json.proofs.Trees.{view-Array, view-Object}
 use Rattle.sig_json.specs.declared.tree.Tree.{Tree, Array, Object}
 
@@ -42,18 +42,18 @@ turned name other o is = nat_list_cmp_total.antisymm name other ∙ ap ordering_
 
 -- what holds of the names of all members holds of the one at a place
 at_place : (P : List ℕ → Type 0) (es : List Entry) (i : ℕ) (d : Entry)
-    → AllByRecursion P (keys_of (members_list (members_view es))) → i < length es → P (string_bytes (get_or es i d).0)
+    → AllByRecursion P (keys_of (members_list (members_view es))) → i < length es → P (cow_str_bytes (get_or es i d).0)
 at_place P [] i d all within = absurd (omega arith)
 at_place P (e ∷ es) zero d all within = all.0
 at_place P (e ∷ es) (suc i) d all within = at_place P es i d all.1 (omega arith)
 
 pub ascend_by_place : (es : List Entry) (i j : ℕ) (d : Entry) → InOrder es → i < j → j < length es
-    → compare (string_bytes (get_or es i d).0) (string_bytes (get_or es j d).0) ≡ Less
+    → compare (cow_str_bytes (get_or es i d).0) (cow_str_bytes (get_or es j d).0) ≡ Less
 unfolding IsStrictlySortedBy
 ascend_by_place [] i j d up below within = absurd (omega arith)
 ascend_by_place (e ∷ es) zero zero d up below within = absurd (omega arith)
 ascend_by_place (e ∷ es) zero (suc j) d up below within =
-    at_place (λ name. compare (string_bytes e.0) name ≡ Less) es j d up.0 (omega arith)
+    at_place (λ name. compare (cow_str_bytes e.0) name ≡ Less) es j d up.0 (omega arith)
 ascend_by_place (e ∷ es) (suc i) zero d up below within = absurd (omega arith)
 ascend_by_place (e ∷ es) (suc i) (suc j) d up below within = ascend_by_place es i j d up.1 (omega arith) (omega arith)
 
@@ -75,44 +75,44 @@ rise name lower higher below =
       highest Greater = omega arith
 
 rises : (name : List ℕ) (es : List Entry) → InOrder es
-    → IsNonDecreasingBy (λ e. ordering_index (compare (string_bytes e.0) name)) es
+    → IsNonDecreasingBy (λ e. ordering_index (compare (cow_str_bytes e.0) name)) es
 rises name es up i j d from within =
     elim (cases_lt i j) [
-      | inl below ↦ rise name (string_bytes (get_or es i d).0) (string_bytes (get_or es j d).0)
+      | inl below ↦ rise name (cow_str_bytes (get_or es i d).0) (cow_str_bytes (get_or es j d).0)
           (ascend_by_place es i j d up below within)
       | inr above ↦ let same : i ≡ j = omega arith in rw same (omega arith)
     ]
 
 pub searched : (name : List ℕ) (es : List Entry) (r : Result ℕ ℕ) → InOrder es → IsSearchInRange r (length es)
-    → IsBinarySearchResult (λ (e : Entry). compare (string_bytes e.0) name) es r → IsPlaceOf name es r
+    → IsBinarySearchResult (λ (e : Entry). compare (cow_str_bytes e.0) name) es r → IsPlaceOf name es r
 searched name es (Ok place) up within tie = (within, tie)
 searched name es (Err place) up within parted = (within, parted (rises name es up))
 
 -- ---- a look-up
 
 at_equal : (name : List ℕ) (es : List Entry) (place : ℕ) (d : Entry) → InOrder es → place < length es
-    → compare (string_bytes (get_or es place d).0) name ≡ Equal
+    → compare (cow_str_bytes (get_or es place d).0) name ≡ Equal
     → get_member name (members_view es) ≡ Some (view (get_or es place d).1)
 unfolding IsStrictlySortedBy
 at_equal name [] place d up within tie = absurd (omega arith)
-at_equal name (e ∷ es) zero d up within tie = rw (turned name (string_bytes e.0) Equal tie) refl
+at_equal name (e ∷ es) zero d up within tie = rw (turned name (cow_str_bytes e.0) Equal tie) refl
 at_equal name (e ∷ es) (suc place) d up within tie =
-    let next = at_place (λ other. compare (string_bytes e.0) other ≡ Less) es place d up.0 (omega arith) in
-    let below : compare (string_bytes e.0) name ≡ Less =
-    ap (compare (string_bytes e.0)) (sym (same_from_tie _ name tie)) ∙ next in
-    rw (turned name (string_bytes e.0) Less below) (at_equal name es place d up.1 (omega arith) tie)
+    let next = at_place (λ other. compare (cow_str_bytes e.0) other ≡ Less) es place d up.0 (omega arith) in
+    let below : compare (cow_str_bytes e.0) name ≡ Less =
+    ap (compare (cow_str_bytes e.0)) (sym (same_from_tie _ name tie)) ∙ next in
+    rw (turned name (cow_str_bytes e.0) Less below) (at_equal name es place d up.1 (omega arith) tie)
 
 none_equal : (name : List ℕ) (es : List Entry)
-    → ((i : ℕ) (d : Entry) → i < length es → compare (string_bytes (get_or es i d).0) name ≡ Equal → ⊥)
+    → ((i : ℕ) (d : Entry) → i < length es → compare (cow_str_bytes (get_or es i d).0) name ≡ Equal → ⊥)
     → get_member name (members_view es) ≡ None
 none_equal name [] apart = refl
 none_equal name (e ∷ es) apart =
     let rest = none_equal name es (λ i d within. apart (suc i) d (omega arith)) in
-    elim (compare (string_bytes e.0) name) as
-    (λ o. compare (string_bytes e.0) name ≡ o → get_member name (members_view (e ∷ es)) ≡ None) [
-      | Less ↦ λ is. rw (turned name (string_bytes e.0) Less is) rest
+    elim (compare (cow_str_bytes e.0) name) as
+    (λ o. compare (cow_str_bytes e.0) name ≡ o → get_member name (members_view (e ∷ es)) ≡ None) [
+      | Less ↦ λ is. rw (turned name (cow_str_bytes e.0) Less is) rest
       | Equal ↦ λ is. absurd (apart zero e (omega arith) is)
-      | Greater ↦ λ is. rw (turned name (string_bytes e.0) Greater is) rest
+      | Greater ↦ λ is. rw (turned name (cow_str_bytes e.0) Greater is) rest
     ] refl
 
 pub found_here : (name : List ℕ) (es : List Entry) (place : ℕ) (e : Entry) → InOrder es → IsPlaceOf name es (Ok place)
@@ -123,7 +123,7 @@ found_here name es place e up here is =
 pub found_nowhere : (name : List ℕ) (es : List Entry) (place : ℕ) → IsPlaceOf name es (Err place)
     → None ≡ get_member name (members_view es)
 found_nowhere name es place between = sym (none_equal name es apart) where
-  apart : (i : ℕ) (d : Entry) → i < length es → compare (string_bytes (get_or es i d).0) name ≡ Equal → ⊥
+  apart : (i : ℕ) (d : Entry) → i < length es → compare (cow_str_bytes (get_or es i d).0) name ≡ Equal → ⊥
   apart i d within tie =
       elim (cases_lt i place) [
         | inl below ↦ let less = between.1.0 i d (omega arith) below in cc
@@ -135,29 +135,29 @@ pub ruleset found = (found_here, found_nowhere)
 -- ---- a change
 
 pub put_here : (name : List ℕ) (es : List Entry) (place : ℕ) (d : Entry) (value : Tree) → InOrder es
-    → place < length es → compare (string_bytes (get_or es place d).0) name ≡ Equal
+    → place < length es → compare (cow_str_bytes (get_or es place d).0) name ≡ Equal
     → members_view (set es place ((get_or es place d).0, value)) ≡ put name (view value) (members_view es)
 unfolding IsStrictlySortedBy
 put_here name [] place d value up within tie = absurd (omega arith)
-put_here name (e ∷ es) zero d value up within tie = rw (turned name (string_bytes e.0) Equal tie) refl
+put_here name (e ∷ es) zero d value up within tie = rw (turned name (cow_str_bytes e.0) Equal tie) refl
 put_here name (e ∷ es) (suc place) d value up within tie =
-    let next = at_place (λ other. compare (string_bytes e.0) other ≡ Less) es place d up.0 (omega arith) in
-    let below : compare (string_bytes e.0) name ≡ Less =
-    ap (compare (string_bytes e.0)) (sym (same_from_tie _ name tie)) ∙ next in
-    rw (turned name (string_bytes e.0) Less below)
-    (ap (member (string_bytes e.0) (view e.1)) (put_here name es place d value up.1 (omega arith) tie))
+    let next = at_place (λ other. compare (cow_str_bytes e.0) other ≡ Less) es place d up.0 (omega arith) in
+    let below : compare (cow_str_bytes e.0) name ≡ Less =
+    ap (compare (cow_str_bytes e.0)) (sym (same_from_tie _ name tie)) ∙ next in
+    rw (turned name (cow_str_bytes e.0) Less below)
+    (ap (member (cow_str_bytes e.0) (view e.1)) (put_here name es place d value up.1 (omega arith) tie))
 
-pub put_between : (name : String Global) (es : List Entry) (place : ℕ) (value : Tree)
-    → IsPlaceOf (string_bytes name) es (Err place)
-    → members_view (insert es place (name, value)) ≡ put (string_bytes name) (view value) (members_view es)
+pub put_between : (name : Words) (es : List Entry) (place : ℕ) (value : Tree)
+    → IsPlaceOf (cow_str_bytes name) es (Err place)
+    → members_view (insert es place (name, value)) ≡ put (cow_str_bytes name) (view value) (members_view es)
 put_between name [] zero value between = refl
 put_between name [] (suc place) value between = absurd (omega (arith, between.0))
 put_between name (e ∷ es) zero value between =
-    let above : compare (string_bytes e.0) (string_bytes name) ≡ Greater =
+    let above : compare (cow_str_bytes e.0) (cow_str_bytes name) ≡ Greater =
     between.1.1 0 e (omega arith) (omega arith) in
-    rw (turned (string_bytes name) (string_bytes e.0) Greater above) refl
+    rw (turned (cow_str_bytes name) (cow_str_bytes e.0) Greater above) refl
 put_between name (e ∷ es) (suc place) value between =
-    let below : compare (string_bytes e.0) (string_bytes name) ≡ Less = between.1.0 0 e (omega arith) (omega arith) in
+    let below : compare (cow_str_bytes e.0) (cow_str_bytes name) ≡ Less = between.1.0 0 e (omega arith) (omega arith) in
     let rest =
     put_between name es place value (
       omega (arith, between.0),
@@ -166,22 +166,22 @@ put_between name (e ∷ es) (suc place) value between =
         (λ i d from upto. between.1.1 (suc i) d (omega arith) (omega arith)),
       ),
     ) in
-    rw (turned (string_bytes name) (string_bytes e.0) Less below) (ap (member (string_bytes e.0) (view e.1)) rest)
+    rw (turned (cow_str_bytes name) (cow_str_bytes e.0) Less below) (ap (member (cow_str_bytes e.0) (view e.1)) rest)
 
 -- ---- members as they come
 
 put_behind : (done : List Entry) (e : Entry) (more : List Entry) → InOrder (done ++ e ∷ more)
-    → put (string_bytes e.0) (view e.1) (members_view done) ≡ members_view (done ++ e ∷ [])
+    → put (cow_str_bytes e.0) (view e.1) (members_view done) ≡ members_view (done ++ e ∷ [])
 unfolding IsStrictlySortedBy
 put_behind [] e more up = refl
 put_behind (first ∷ done) e more up =
     let below = behind done up.0 in
-    rw (turned (string_bytes e.0) (string_bytes first.0) Less below)
-    (ap (member (string_bytes first.0) (view first.1)) (put_behind done e more up.1)) where
+    rw (turned (cow_str_bytes e.0) (cow_str_bytes first.0) Less below)
+    (ap (member (cow_str_bytes first.0) (view first.1)) (put_behind done e more up.1)) where
       behind : (done : List Entry)
-          → AllByRecursion (λ name. compare (string_bytes first.0) name ≡ Less)
+          → AllByRecursion (λ name. compare (cow_str_bytes first.0) name ≡ Less)
           (keys_of (members_list (members_view (done ++ e ∷ more))))
-          → compare (string_bytes first.0) (string_bytes e.0) ≡ Less
+          → compare (cow_str_bytes first.0) (cow_str_bytes e.0) ≡ Less
       behind [] all = all.0
       behind (d ∷ done) all = behind done all.1
 
@@ -199,26 +199,27 @@ ascending_stay es up = sym (each_behind [] es up)
 
 -- one more goes into those before it
 pub gathered_more : (done : List Entry) (e : Entry) (ms : Members)
-    → put_each (done ++ e ∷ []) ms ≡ put (string_bytes e.0) (view e.1) (put_each done ms)
+    → put_each (done ++ e ∷ []) ms ≡ put (cow_str_bytes e.0) (view e.1) (put_each done ms)
 gathered_more [] e ms = refl
-gathered_more (d ∷ done) e ms = gathered_more done e (put (string_bytes d.0) (view d.1) ms)
+gathered_more (d ∷ done) e ms = gathered_more done e (put (cow_str_bytes d.0) (view d.1) ms)
 
-pub view-insert_entry : (es : List Entry) (name : String Global) (value : Tree)
-    → members_view (insert_entry string_cmp es name value) ≡ put (string_bytes name) (view value) (members_view es)
+pub view-insert_entry : (es : List Entry) (name : Words) (value : Tree)
+    → members_view (insert_entry (λ one other. compare (cow_str_bytes one) (cow_str_bytes other)) es name value)
+    ≡ put (cow_str_bytes name) (view value) (members_view es)
 view-insert_entry [] name value = refl
 view-insert_entry (e ∷ es) name value =
-    choice_of_each members_view (string_cmp name e.0) _ _ _ ∙ rw (view-insert_entry es name value) refl
+    choice_of_each members_view (compare (cow_str_bytes name) (cow_str_bytes e.0)) _ _ _ ∙ rw (view-insert_entry es name value) refl
 
 below_from_next : (name : List ℕ) (es : List Entry) → InOrder es
-    → ((d : Entry) → 0 < length es → compare name (string_bytes (get_or es 0 d).0) ≡ Less)
+    → ((d : Entry) → 0 < length es → compare name (cow_str_bytes (get_or es 0 d).0) ≡ Less)
     → AllByRecursion (λ other. compare name other ≡ Less) (keys_of (members_list (members_view es)))
 unfolding IsStrictlySortedBy
 below_from_next name [] up next = tt
 below_from_next name (e ∷ es) up next =
     let below = next e (omega arith) in (
       below,
-      below_from_next name es up.1 (λ d some. nat_list_cmp_total.trans name (string_bytes e.0) _ below
-          (at_place (λ other. compare (string_bytes e.0) other ≡ Less) es 0 d up.0 some)),
+      below_from_next name es up.1 (λ d some. nat_list_cmp_total.trans name (cow_str_bytes e.0) _ below
+          (at_place (λ other. compare (cow_str_bytes e.0) other ≡ Less) es 0 d up.0 some)),
     )
 
 pub less_from_is_lt : (o : Ordering) → true ≡ is_lt o → o ≡ Less
@@ -227,16 +228,16 @@ less_from_is_lt Equal is = cc
 less_from_is_lt Greater is = cc
 
 pub in_order_from_steps : (es : List Entry)
-    → AllAdjacentBelow (λ (x y : Entry). true ≡ is_lt (compare (string_bytes x.0) (string_bytes y.0))) es (length es)
+    → AllAdjacentBelow (λ (x y : Entry). true ≡ is_lt (compare (cow_str_bytes x.0) (cow_str_bytes y.0))) es (length es)
     → InOrder es
 unfolding IsStrictlySortedBy
 in_order_from_steps [] steps = tt
 in_order_from_steps (e ∷ es) steps =
     let rest =
     in_order_from_steps es (λ i d within. subst
-    (λ n. true ≡ is_lt (compare (string_bytes (get_or es i d).0) (string_bytes (get_or (e ∷ es) n d).0)))
+    (λ n. true ≡ is_lt (compare (cow_str_bytes (get_or es i d).0) (cow_str_bytes (get_or (e ∷ es) n d).0)))
     {x = suc i + 1} {y = suc (i + 1)} (omega arith) (steps (suc i) d (omega arith))) in
-    (below_from_next (string_bytes e.0) es rest (λ d some. less_from_is_lt _ (steps 0 d (omega arith))), rest)
+    (below_from_next (cow_str_bytes e.0) es rest (λ d some. less_from_is_lt _ (steps 0 d (omega arith))), rest)
 
 -- ---- in a tree
 

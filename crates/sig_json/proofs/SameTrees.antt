@@ -1,8 +1,9 @@
 -- Equal trees, kind by kind and part by part.
 use Rattle.std.proofs.Common.{◌≡◌, ◌↔◌, ℕ, zero, suc, ◌+◌, ◌<◌, ◌≤◌, ℤ, false, List, [], ◌∷◌, length, drop, get_or}
-use Rattle.std.proofs.Common.{Some, None, string_bytes, refl, sym, ap, ◌∙◌, arith}
+use Rattle.std.proofs.Common.{Some, None, refl, sym, ap, ◌∙◌, arith}
 use Rattle.std.proofs.Math.Seq.{drop-length}
 use Rattle.std.proofs.lemmas.Bool.{or_parts}
+use Rattle.std.specs.Cow.{cow_str_bytes}
 use Rattle.serde_json.specs.Written.{has_float, items_have_float, members_have_float}
 use Rattle.serde_json.specs.Data.{Num, unsigned, negative, float, depth, items_depth, members_depth}
 use Rattle.serde_json.specs.Find.{as_u64, as_i64, is_float}
@@ -84,7 +85,7 @@ SameMembersFrom xs ys i = members_view (drop i xs) ≡ members_view (drop i ys)
 
 module _ (P : Type 0) (xs ys : List Entry) (i : ℕ) (x y : Entry) (h : i < length xs) (k : i < length ys)
     (xis : x ≡ get_or xs i x) (yis : y ≡ get_or ys i y) where
-  pub members-more : string_bytes x.0 ≡ string_bytes y.0 → view x.1 ≡ view y.1 → (P ↔ SameMembersFrom xs ys i)
+  pub members-more : cow_str_bytes x.0 ≡ cow_str_bytes y.0 → view x.1 ≡ view y.1 → (P ↔ SameMembersFrom xs ys i)
       → (P ↔ SameMembersFrom xs ys (i + 1))
   members-more names values so_far =
       let a = members_from xs i x h xis in
@@ -93,7 +94,7 @@ module _ (P : Type 0) (xs ys : List Entry) (i : ℕ) (x y : Entry) (h : i < leng
         (λ rest. so_far.1 (a ∙ rw (names, values, rest) (sym b))),
       )
 
-  pub members-other_name : (string_bytes x.0 ≡ string_bytes y.0 → ⊥) → (P ↔ SameMembersFrom xs ys i) → P → ⊥
+  pub members-other_name : (cow_str_bytes x.0 ≡ cow_str_bytes y.0 → ⊥) → (P ↔ SameMembersFrom xs ys i) → P → ⊥
   members-other_name other so_far p =
       let a = members_from xs i x h xis in
       let b = members_from ys i y k yis in

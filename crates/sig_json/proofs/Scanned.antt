@@ -1,8 +1,9 @@
 -- A member that is looked for by its name from the first member on.
 use Rattle.std.proofs.Common.{◌≡◌, ℕ, ◌+◌, ◌<◌, List, length, drop, get_or, Option, Some, None, true, false}
-use Rattle.std.proofs.Common.{string_bytes, refl, sym, ap, ◌∙◌}
+use Rattle.std.proofs.Common.{refl, sym, ap, ◌∙◌}
 use Rattle.std.proofs.lemmas.Cmp.{nat_list_cmp_total, tied_itself}
 use Rattle.std.proofs.lemmas.Slice.Eq.{bytes_eq-Decides}
+use Rattle.std.specs.Cow.{cow_str_bytes}
 use Rattle.std.specs.Cmp.Lexicographic.{slice_cmp}
 use Rattle.std.specs.Ordering.{nat_cmp, match_ordering}
 use Rattle.std.specs.Str.{bytes_eq}
@@ -32,16 +33,16 @@ other_name name other d ms differ =
     ] refl
 
 pub scanned_here : (found : Option Data) (name : List ℕ) (es : List Entry) (i : ℕ) (e : Entry) → i < length es
-    → e ≡ get_or es i e → true ≡ bytes_eq (string_bytes e.0) name
+    → e ≡ get_or es i e → true ≡ bytes_eq (cow_str_bytes e.0) name
     → found ≡ get_member name (members_view (drop i es)) → Some (view e.1) ≡ found
 scanned_here found name es i e h is same so_far =
-    sym (so_far ∙ ap (get_member name) (members_from es i e h is) ∙ own_name name (string_bytes e.0) _ _ same)
+    sym (so_far ∙ ap (get_member name) (members_from es i e h is) ∙ own_name name (cow_str_bytes e.0) _ _ same)
 
 pub scanned_more : (found : Option Data) (name : List ℕ) (es : List Entry) (i : ℕ) (e : Entry) → i < length es
-    → e ≡ get_or es i e → false ≡ bytes_eq (string_bytes e.0) name
+    → e ≡ get_or es i e → false ≡ bytes_eq (cow_str_bytes e.0) name
     → found ≡ get_member name (members_view (drop i es)) → found ≡ get_member name (members_view (drop (i + 1) es))
 scanned_more found name es i e h is differ so_far =
-    so_far ∙ ap (get_member name) (members_from es i e h is) ∙ other_name name (string_bytes e.0) _ _ differ
+    so_far ∙ ap (get_member name) (members_from es i e h is) ∙ other_name name (cow_str_bytes e.0) _ _ differ
 
 pub scanned_all : (found : Option Data) (name : List ℕ) (es : List Entry) (i : ℕ) → i ≡ length es
     → found ≡ get_member name (members_view (drop i es)) → None ≡ found

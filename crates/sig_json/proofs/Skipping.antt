@@ -13,7 +13,7 @@ use Rattle.serde_json.specs.Read.{number_of, of_json, converted}
 use Rattle.serde_json.specs.Written.{has_float, items_have_float, members_have_float}
 use Rattle.sig_json.proofs.Converted.{as_it_is, converted-array, converted-object, item_read, item_refused}
 use Rattle.sig_json.proofs.Converted.{items_over, member_read, member_refused, key_refused, members_over}
-use Rattle.sig_json.proofs.Only.{floatless-put}
+use Rattle.sig_json.proofs.Building.{put_floatless}
 use Rattle.sig_json.proofs.Tokens.{list_meant, object_meant, number_refused, array_refused, array_too_deep}
 use Rattle.sig_json.proofs.Tokens.{object_refused, object_too_deep, nothing_means_nothing}
 use Rattle.sig_json.specs.Skipped.{IsWhole, PassesValue, PassesItems, PassesMembers, value_meant, items_meant}
@@ -214,7 +214,7 @@ object_step depth start left inner next k so_far key passes less =
           ∙ member_read (value depth) so_far.passed so_far.turns k left inner next passes.value
           (omega (arith, so_far.enough)) key passes.is;
       below = omega (arith, so_far.below);
-      whole = floatless-put k passes.value so_far.passed passes.whole so_far.whole;
+      whole = put_floatless k passes.value so_far.passed passes.whole so_far.whole;
     }
 
 pub key_fault : (depth : ℕ) (start left : List Token) → ObjectPassed depth start left → read_key left ≡ None

@@ -1,9 +1,10 @@
 -- A list that is read as it comes: its elements, an object of whose members one is the list, and the text that it is.
 use Rattle.std.proofs.Common.{◌≡◌, ℕ, ◌-◌, ◌<◌, Bool, true, false, true≢false, List, [], ◌∷◌, ◌++◌, length, map}
-use Rattle.std.proofs.Common.{Option, Some, None, Ok, Vec, String, Global, string_bytes, refl, sym, ap, ◌∙◌, arith}
+use Rattle.std.proofs.Common.{Option, Some, None, Ok, Vec, Global, refl, sym, ap, ◌∙◌, arith}
 use Rattle.std.proofs.Common.{append-nil, append_assoc}
 use Rattle.std.proofs.lemmas.List.{map-append}
 use Rattle.std.proofs.lemmas.Slice.Eq.{bytes_eq-Decides}
+use Rattle.std.specs.Cow.{cow_str_bytes}
 use Rattle.std.specs.Str.{IsUtf8, bytes_eq}
 use Rattle.json.proofs.Grammar.{read_key-shorter, after_end_array-shorter}
 use Rattle.json.specs.Json.{after_end_array, read_key}
@@ -31,7 +32,7 @@ use Rattle.sig_json.specs.Only.{is_among, members_where, only}
 use Rattle.sig_json.specs.Record.{record_in, members_and_list}
 use Rattle.sig_json.specs.Skipped.{PassesValue}
 use Rattle.sig_json.specs.Streamed.{StreamsValue, StreamsItems, StreamsMembers, StreamsOf, listed_in}
-use Rattle.sig_json.specs.View.{view, members_view}
+use Rattle.sig_json.specs.View.{Words, view, members_view}
 use Rattle.sig_json.specs.declared.tree.Tree.{Tree, Object}
 
 -- ---- one element
@@ -133,18 +134,19 @@ apart_of k list other same =
 module _ {A : Type 0} (kind : Data → Option A) (names : List (List ℕ)) (list : List ℕ) (depth : ℕ)
     (start left inner next : List Token) (k : List ℕ) (key : read_key left ≡ Some (Some k, inner)) where
   -- a member of these names
-  pub parts_more : (found more : List Entry) (name : String Global) (tree : Tree) (is_listed : Bool) (xs : List A)
+  pub parts_more : (found more : List Entry) (name : Words) (tree : Tree) (is_listed : Bool) (xs : List A)
       → PartsSoFar kind names list depth start left found is_listed xs → bytes_eq k list ≡ false
-      → is_among names k ≡ true → string_bytes name ≡ k → Means depth inner next (view tree)
-      → length next < length inner → IsNamed (view tree) → more ≡ found ++ (name, tree) ∷ []
+      → is_among names k ≡ true → cow_str_bytes name ≡ k → Means depth inner next (view tree)
+      → length next < length inner → IsNamed (view tree) → IsUtf8 (cow_str_bytes name)
+      → more ≡ found ++ (name, tree) ∷ []
       → PartsSoFar kind names list depth start next more is_listed xs
-  parts_more found more name tree is_listed xs so_far other listed same means less one pushed =
+  parts_more found more name tree is_listed xs so_far other listed same means less one utf8 pushed =
       let stays : get_member list (put k (view tree) so_far.all)
       ≡ get_member list so_far.all = get_member-put_other list k (view tree) so_far.all (apart_of k list other) in
       record {
         all = put k (view tree) so_far.all;
         at = at_more names depth start left inner next so_far.all found more k name tree so_far.at key listed same
-            means less one pushed;
+            means less one utf8 pushed;
         listed = ap (listed_in kind) stays ∙ so_far.listed;
         first = λ so. stays ∙ so_far.first so;
       }

@@ -1,8 +1,8 @@
 -- The grammar of JSON over tokens, a step at a time, as the reader takes it: what a value, a list so far and an object
 -- so far mean.
 use Rattle.std.proofs.Common.{◌≡◌, ℕ, ◌-◌, ◌<◌, ◌≤◌, Bool, List, [], ◌∷◌, ◌++◌, length, map, Option, Some, None}
-use Rattle.std.proofs.Common.{String, Vec, Global, string_bytes, refl, sym, ap, ◌∙◌, subst, arith}
-use Rattle.std.proofs.lemmas.Str.{IsUtf8-string_bytes}
+use Rattle.std.proofs.Common.{Vec, Global, refl, sym, ap, ◌∙◌, subst, arith}
+use Rattle.std.specs.Cow.{cow_str_bytes}
 use Rattle.std.specs.List.Sorted.{IsStrictlySortedBy}
 use Rattle.std.specs.Str.{IsUtf8}
 use Rattle.json.proofs.Grammar.{value_is, value-begin_array, value-begin_object, read_key-shorter}
@@ -24,7 +24,7 @@ use Rattle.sig_json.proofs.Ordered.{in_order-none}
 use Rattle.sig_json.proofs.Trees.{view-Null, view-Bool, view-Number, view-Text, view-Array, view-Object}
 use Rattle.sig_json.specs.Gathered.{Entry, gathered, AreInOrderIfFew}
 use Rattle.sig_json.specs.Named.{IsNamed, AreNamed, NamesAscend, HasNamedValues}
-use Rattle.sig_json.specs.View.{view, items_view, members_view}
+use Rattle.sig_json.specs.View.{Words, view, items_view, members_view}
 use Rattle.sig_json.specs.declared.tree.Tree.{Tree, Null, Bool as Truth, Number as Numeral, Text, Array, Object}
 
 -- ---- one value
@@ -43,8 +43,8 @@ pub bool_means : (depth : ℕ) (ts rest : List Token) (b : Bool) → ts ≡ Toke
     → Means depth ts rest (view (Truth b))
 bool_means depth ts rest b is = rw (is, value_is depth (Token.boolean b ∷ rest), view-Bool b) refl
 
-pub text_means : (depth : ℕ) (ts rest : List Token) (s : List ℕ) (text : String Global) → ts ≡ Token.string s ∷ rest
-    → string_bytes text ≡ s → Means depth ts rest (view (Text text))
+pub text_means : (depth : ℕ) (ts rest : List Token) (s : List ℕ) (text : Words) → ts ≡ Token.string s ∷ rest
+    → cow_str_bytes text ≡ s → Means depth ts rest (view (Text text))
 text_means depth ts rest s text is same = rw (is, value_is depth (Token.string s ∷ rest), view-Text text, same) refl
 
 pub number_means : (depth : ℕ) (ts rest : List Token) (s : List ℕ) (n : Number) → ts ≡ Token.number s ∷ rest
@@ -117,7 +117,7 @@ leaf_bool b = subst IsNamed (sym (view-Bool b)) tt
 pub leaf_number : (n : Number) → IsNamed (view (Numeral n))
 leaf_number n = subst IsNamed (sym (view-Number n)) tt
 
-pub leaf_text : (text : String Global) → IsNamed (view (Text text))
+pub leaf_text : (text : Words) → IsNamed (view (Text text))
 leaf_text text = subst IsNamed (sym (view-Text text)) tt
 
 pub ruleset values = (
@@ -247,17 +247,17 @@ object_start depth start found none =
     })
 
 pub object_step :
-    (depth : ℕ) (start left inner next : List Token) (found more : List Entry) (k : List ℕ) (name : String Global)
+    (depth : ℕ) (start left inner next : List Token) (found more : List Entry) (k : List ℕ) (name : Words)
     (tree : Tree)
     → ObjectSoFar depth start left found
-    → read_key left ≡ Some (Some k, inner) → string_bytes name ≡ k → Means depth inner next (view tree)
-    → length next < length inner → IsNamed (view tree)
-    → gathered more ≡ put (string_bytes name) (view tree) (gathered found) → ObjectSoFar depth start next more
-object_step depth start left inner next found more k name tree so_far key same means less one added =
+    → read_key left ≡ Some (Some k, inner) → cow_str_bytes name ≡ k → Means depth inner next (view tree)
+    → length next < length inner → IsNamed (view tree) → IsUtf8 (cow_str_bytes name)
+    → gathered more ≡ put (cow_str_bytes name) (view tree) (gathered found) → ObjectSoFar depth start next more
+object_step depth start left inner next found more k name tree so_far key same means less one utf8 added =
     let old = gathered found in
     let within = read_key-shorter left (Some k) inner key in
     let put_in : gathered more ≡ put k (view tree) old = added ∙ ap (λ k. put k (view tree) old) same in
-    let utf8 = subst IsUtf8 same (IsUtf8-string_bytes name) in
+    let text = subst IsUtf8 same utf8 in
     record {
       turns = so_far.turns - 1;
       enough = omega (arith, so_far.enough);
@@ -266,7 +266,7 @@ object_step depth start left inner next found more k name tree so_far key same m
           (omega (arith, so_far.enough)) key means
           ∙ ap (object_meant depth (so_far.turns - 1) next) (sym put_in);
       below = omega (arith, so_far.below);
-      ascend = subst NamesAscend (sym put_in) (ascend-put k (view tree) old utf8 so_far.ascend);
+      ascend = subst NamesAscend (sym put_in) (ascend-put k (view tree) old text so_far.ascend);
       named = subst HasNamedValues (sym put_in) (values-put k (view tree) old one so_far.named);
     }
 

@@ -1,24 +1,24 @@
 -- For private clauses: the members of an object as they come in its text, and as they are in its tree.
-use Rattle.std.specs.Prelude.{◌≡◌, ◌<◌, ◌≤◌, ℕ, List, [], ◌∷◌, length, slice_index_or, String, string_bytes, Result}
+use Rattle.std.specs.Cow.{cow_str_bytes}
+use Rattle.std.specs.Prelude.{◌≡◌, ◌<◌, ◌≤◌, ℕ, List, [], ◌∷◌, length, slice_index_or, Result}
 use Rattle.std.specs.Prelude.{Ok, Err}
 use Rattle.std.specs.Cmp.Lexicographic.{slice_cmp}
 use Rattle.std.specs.List.Sorted.{IsPartitionPoint}
 use Rattle.std.specs.Ordering.{nat_cmp}
-use Rattle.std.specs.declared.alloc.Global.{Global}
 use Rattle.std.specs.declared.cmp.Ordering.TheVariants.{Less, Equal, Greater}
 use Rattle.serde_json.specs.Data.{Members, no_members, put}
 use Rattle.sig_base.specs.ByText.{KeysAscend}
 use Rattle.sig_json.specs.Members.{members_list}
-use Rattle.sig_json.specs.View.{view, members_view}
+use Rattle.sig_json.specs.View.{Words, view, members_view}
 use Rattle.sig_json.specs.declared.tree.Tree.{Tree}
 
 abbrev pub Entry : Type 0
-Entry = String Global × Tree
+Entry = Words × Tree
 
 -- put one after another into those that are there, so that of equal names the last value counts
 abbrev pub put_each : List Entry → Members → Members
 put_each [] members = members
-put_each (e ∷ es) members = put_each es (put (string_bytes e.0) (view e.1) members)
+put_each (e ∷ es) members = put_each es (put (cow_str_bytes e.0) (view e.1) members)
 
 abbrev pub gathered : List Entry → Members
 gathered es = put_each es no_members
@@ -30,11 +30,15 @@ InOrder es = KeysAscend (members_list (members_view es))
 -- the place of the member of this name, or the place between the lesser names and the greater ones
 abbrev pub IsPlaceOf : List ℕ → List Entry → Result ℕ ℕ → Type 0
 IsPlaceOf name es (Ok place) =
-    (place < length es) × ((e : Entry) → slice_cmp nat_cmp (string_bytes (slice_index_or es place e).0) name ≡ Equal)
+    (place < length es) × ((e : Entry) → slice_cmp nat_cmp (cow_str_bytes (slice_index_or es place e).0) name ≡ Equal)
 IsPlaceOf name es (Err place) =
-    (place ≤ length es) × IsPartitionPoint (λ e. slice_cmp nat_cmp (string_bytes e.0) name ≡ Less)
-    (λ e. slice_cmp nat_cmp (string_bytes e.0) name ≡ Greater) es place
+    (place ≤ length es) × IsPartitionPoint (λ e. slice_cmp nat_cmp (cow_str_bytes e.0) name ≡ Less)
+    (λ e. slice_cmp nat_cmp (cow_str_bytes e.0) name ≡ Greater) es place
 
--- up to 8 members are in order
+-- so few members are put in order as they are read
+abbrev pub few : ℕ
+few = 8
+
+-- few members are in order
 abbrev pub AreInOrderIfFew : List Entry → Type 0
-AreInOrderIfFew es = length es ≤ 8 → InOrder es
+AreInOrderIfFew es = length es ≤ few → InOrder es

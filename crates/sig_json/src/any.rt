@@ -19,7 +19,7 @@ impl ElementReader for AnyReader {
 
     ghost meaning = { Some };
 
-    fn read(alloc: Global, json: Json<'_>) -> Result<Document, MemberError> {
+    fn read(alloc: Global, json: Json<'_, '_>) -> Result<Document, MemberError> {
         Ok(json.copy(alloc)?)
     }
 }

@@ -4,6 +4,7 @@ use crate::copy::copy;
 use crate::document::Document;
 use crate::tree::Tree;
 use crate::view::Json;
+use crate::words::own;
 use serde_json::Number;
 use sig_base::OutOfMemory;
 use std::alloc::Global;
@@ -38,7 +39,7 @@ impl Document {
     pub fn of_text(alloc: Global, text: &str) -> Result<Document, OutOfMemory>
         ensures { IfOk result (λ document. document_tree document ≡ string text.now) }
     {
-        let value = Tree::Text(String::from_str(alloc, text)?);
+        let value = Tree::Text(own(alloc, text)?);
         Ok(Document { value })
     }
 
@@ -74,7 +75,7 @@ impl Document {
 }
 
 #[tactic(auto, using(crate::proofs::Named::named_parts))]
-impl Json<'_> {
+impl Json<'_, '_> {
     ghost use Rattle.std.specs.Prelude.{◌≡◌, IfOk};
     ghost use Rattle.sig_json.specs.Tree.{document_tree, tree};
 

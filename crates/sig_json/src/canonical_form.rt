@@ -17,7 +17,7 @@ ghost use Rattle.sig_json.specs.Writes.{WritesPart, comma_before, by_units, memb
 
 use crate::error::CanonicalError;
 use crate::named_member::Member;
-use crate::tree::Tree;
+use crate::tree::{Entry, Tree};
 use crate::view::Json;
 use serde_json::{Number, Value};
 use sig_base::{OutOfMemory, Text};
@@ -31,7 +31,7 @@ const GREATEST_INTEGER: u128 = 9_007_199_254_740_991;
 /// names, no white space, the shortest escapes. Fails with `IntegerTooLarge` if and only if the value holds an integer
 /// beyond plus or minus 2^53 - 1, at any depth (`laws::large_integers`).
 #[tactic(auto, using(crate::proofs::Large::large_integers))]
-pub fn canonical(alloc: Global, json: Json<'_>) -> Result<Text, CanonicalError>
+pub fn canonical(alloc: Global, json: Json<'_, '_>) -> Result<Text, CanonicalError>
     ensures answer { Answers CanonicalError.OutOfMemory (λ text. text) result (canonical_of (tree json.entry)) }
     ensures large { IfErr result (λ e. e ≡ CanonicalError.IntegerTooLarge → IsTrue (has_large (tree json.entry))) }
     ensures small { IfOk result (λ _. IsFalse (has_large (tree json.entry))) }
@@ -44,7 +44,7 @@ pub fn canonical(alloc: Global, json: Json<'_>) -> Result<Text, CanonicalError>
 
 /// Writes a value behind the text so far.
 #[cycle(canon)]
-fn write_value(alloc: Global, value: &Tree, out: &mut String) -> Result<(), CanonicalError>
+fn write_value(alloc: Global, value: &Tree<'_>, out: &mut String) -> Result<(), CanonicalError>
     requires { IsNamed (view value.now) }
     ensures { WritesPart (string_bytes out.old) result (string_bytes out.new) (canon (view value.now)) }
 {
@@ -115,7 +115,7 @@ fn write_comma(out: &mut String, place: usize) -> Result<(), OutOfMemory>
 
 #[cycle(canon)]
 #[tactic(auto, using(crate::proofs::MemberTexts::parts))]
-fn write_list(alloc: Global, items: &Vec<Tree>, out: &mut String) -> Result<(), CanonicalError>
+fn write_list(alloc: Global, items: &Vec<Tree<'_>>, out: &mut String) -> Result<(), CanonicalError>
     requires { AreNamed (items_view items.now.items) }
     ensures { WritesPart (string_bytes out.old) result (string_bytes out.new)
         (option_and_then (λ texts. Some (in_brackets texts)) (canon_items (items_view items.now.items))) }
@@ -132,7 +132,7 @@ fn write_list(alloc: Global, items: &Vec<Tree>, out: &mut String) -> Result<(), 
 #[tactic(auto, using(crate::proofs::MemberTexts::objects))]
 fn write_object(
     alloc: Global,
-    members: &Vec<(String, Tree)>,
+    members: &Vec<Entry<'_>>,
     out: &mut String,
 ) -> Result<(), CanonicalError>
     requires { NamesAscend (members_view members.now.items) × HasNamedValues (members_view members.now.items) }
@@ -149,7 +149,7 @@ fn write_object(
 #[tactic(auto, using(crate::proofs::MemberTexts::parts))]
 fn write_members(
     alloc: Global,
-    members: &Vec<Member<'_>>,
+    members: &Vec<Member<'_, '_>>,
     out: &mut String,
 ) -> Result<(), CanonicalError>
     ensures { WritesPart (string_bytes out.old) result (string_bytes out.new)
@@ -165,7 +165,11 @@ fn write_members(
 
 #[cycle(canon)]
 #[tactic(auto, using(crate::proofs::MemberTexts::parts))]
-fn write_member(alloc: Global, member: &Member<'_>, out: &mut String) -> Result<(), CanonicalError>
+fn write_member(
+    alloc: Global,
+    member: &Member<'_, '_>,
+    out: &mut String,
+) -> Result<(), CanonicalError>
     ensures { WritesPart (string_bytes out.old) result (string_bytes out.new) (member_text (pair_of member.now)) }
 {
     write_quoted(alloc, member.name, out)?;
@@ -175,10 +179,10 @@ fn write_member(alloc: Global, member: &Member<'_>, out: &mut String) -> Result<
 
 /// The members in the ascending order of the UTF-16 code units of their names.
 #[tactic(auto, using(crate::proofs::MemberTexts::sorts))]
-fn sorted_members<'a>(
+fn sorted_members<'a, 't>(
     alloc: Global,
-    members: &'a Vec<(String, Tree)>,
-) -> Result<Vec<Member<'a>>, OutOfMemory>
+    members: &'a Vec<Entry<'t>>,
+) -> Result<Vec<Member<'a, 't>>, OutOfMemory>
     requires { HasNamedValues (members_view members.now.items) }
     ensures { IfOk result (λ sorted.
         map pair_of sorted.items ≡ values_of (by_units (members_view members.now.items) [])) }

@@ -12,18 +12,18 @@ use std::alloc::Global;
 
 /// Sets a member of an object; any other value stays.
 #[tactic(auto, using(crate::proofs::Named::changes, crate::proofs::Ordered::in_trees))]
-pub(crate) fn put_member(
+pub(crate) fn put_member<'t>(
     alloc: Global,
-    tree: &mut Tree,
+    tree: &mut Tree<'t>,
     name: &str,
-    member: Tree,
+    member: Tree<'t>,
 ) -> Result<(), OutOfMemory>
     requires { IsNamed (view tree.old) }
-    ensures ok { OnOk result (view tree.new ≡ with_member name.now (view member) (view tree.old)) }
+    ensures ok { OnOk result (view tree.new ≡ with_member name.now (view member.entry) (view tree.old)) }
     ensures err { OnErr result (view tree.new ≡ view tree.old) }
-    ensures whole { has_float (view tree.old) ≡ false → has_float (view member) ≡ false
+    ensures whole { has_float (view tree.old) ≡ false → has_float (view member.entry) ≡ false
         → has_float (view tree.new) ≡ false }
-    ensures named { IsNamed (view member) → IsNamed (view tree.new) }
+    ensures named { IsNamed (view member.entry) → IsNamed (view tree.new) }
 {
     match tree {
         Tree::Object(members) => Ok(put(alloc, members, name, member)?),
@@ -33,12 +33,12 @@ pub(crate) fn put_member(
 
 /// Adds an element to a list; any other value stays.
 #[tactic(auto, using(crate::proofs::Named::changes))]
-pub(crate) fn push_last(tree: &mut Tree, element: Tree) -> Result<(), OutOfMemory>
-    ensures ok { OnOk result (view tree.new ≡ with_last (view element) (view tree.old)) }
+pub(crate) fn push_last<'t>(tree: &mut Tree<'t>, element: Tree<'t>) -> Result<(), OutOfMemory>
+    ensures ok { OnOk result (view tree.new ≡ with_last (view element.entry) (view tree.old)) }
     ensures err { OnErr result (view tree.new ≡ view tree.old) }
-    ensures whole { has_float (view tree.old) ≡ false → has_float (view element) ≡ false
+    ensures whole { has_float (view tree.old) ≡ false → has_float (view element.entry) ≡ false
         → has_float (view tree.new) ≡ false }
-    ensures named { IsNamed (view tree.old) → IsNamed (view element) → IsNamed (view tree.new) }
+    ensures named { IsNamed (view tree.old) → IsNamed (view element.entry) → IsNamed (view tree.new) }
 {
     match tree {
         Tree::Array(elements) => Ok(elements.push(element)?),

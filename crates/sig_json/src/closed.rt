@@ -6,10 +6,10 @@ ghost use Rattle.sig_json.specs.Tree.{tree};
 ghost use Rattle.sig_json.specs.View.{members_view};
 
 use crate::kept::is_among;
-use crate::tree::Tree;
+use crate::tree::Entry;
 use crate::view::Json;
 
-impl Json<'_> {
+impl Json<'_, '_> {
     /// Whether the value is an object without members of other names than these. It takes no memory.
     #[tactic(auto, unfolding(crate::specs::Closed::has_only))]
     pub fn has_only(self, names: &[&str]) -> bool
@@ -24,7 +24,7 @@ impl Json<'_> {
 
 /// Whether every member has one of these names.
 #[tactic(auto, using(crate::proofs::ClosedObjects::objects))]
-fn are_among(members: &Vec<(String, Tree)>, names: &[&str]) -> bool
+fn are_among(members: &Vec<Entry<'_>>, names: &[&str]) -> bool
     ensures { result ≡ are_among (names_of names.now) (members_view members.now.items) }
 {
     for member in members {

@@ -12,7 +12,7 @@ ghost use Rattle.sig_json.specs.Range.{InRange, AreInRange, HasValuesInRange};
 ghost use Rattle.sig_json.specs.Tree.{tree};
 ghost use Rattle.sig_json.specs.View.{view, items_view, members_view};
 
-use crate::tree::Tree;
+use crate::tree::{Entry, Tree};
 use crate::view::Json;
 use json::Writer;
 use serde_json::Number;
@@ -22,7 +22,7 @@ use std::alloc::Global;
 /// The text of a value without white space, members in the byte order of their names. Where lists and objects nest to
 /// at most 127 it is read as a document of the same tree. Fails only if memory runs out.
 #[tactic(auto, using(crate::proofs::CompactTexts::compact_texts))]
-pub fn compact(alloc: Global, json: Json<'_>) -> Result<Text, OutOfMemory>
+pub fn compact(alloc: Global, json: Json<'_, '_>) -> Result<Text, OutOfMemory>
     ensures text { IfOk result (λ text. text ≡ compact_text (tree json.entry)) }
     ensures reads_back { IfOk result (λ text.
         depth (tree json.entry) ≤ max_depth → document_of text ≡ Ok (tree json.entry)) }
@@ -39,7 +39,7 @@ pub fn compact(alloc: Global, json: Json<'_>) -> Result<Text, OutOfMemory>
 /// Writes a value as the tokens of its text.
 #[cycle(write)]
 #[tactic(auto, using(crate::proofs::CompactTexts::values))]
-fn write_value(value: &Tree, out: &mut Writer) -> Result<(), OutOfMemory>
+fn write_value(value: &Tree<'_>, out: &mut Writer) -> Result<(), OutOfMemory>
     requires { has_float (view value.now) ≡ false }
     ensures tokens { OnOk result (out.new.tokens ≡ out.old.tokens ++ json_tokens (outline (view value.now))) }
     ensures before { OnOk result (out.new.before ≡ out.old.before) }
@@ -74,7 +74,7 @@ fn write_number(number: &Number, out: &mut Writer) -> Result<(), OutOfMemory>
 
 #[cycle(write)]
 #[tactic(auto, using(crate::proofs::CompactTexts::lists))]
-fn write_items(items: &Vec<Tree>, out: &mut Writer) -> Result<(), OutOfMemory>
+fn write_items(items: &Vec<Tree<'_>>, out: &mut Writer) -> Result<(), OutOfMemory>
     requires { items_have_float (items_view items.now.items) ≡ false }
     ensures tokens { OnOk result (out.new.tokens
         ≡ out.old.tokens ++ json_tokens (outline (array (items_view items.now.items)))) }
@@ -90,7 +90,7 @@ fn write_items(items: &Vec<Tree>, out: &mut Writer) -> Result<(), OutOfMemory>
 
 #[cycle(write)]
 #[tactic(auto, using(crate::proofs::CompactTexts::objects))]
-fn write_members(members: &Vec<(String, Tree)>, out: &mut Writer) -> Result<(), OutOfMemory>
+fn write_members(members: &Vec<Entry<'_>>, out: &mut Writer) -> Result<(), OutOfMemory>
     requires { members_have_float (members_view members.now.items) ≡ false }
     ensures tokens { OnOk result (out.new.tokens
         ≡ out.old.tokens ++ json_tokens (outline (object (members_view members.now.items)))) }

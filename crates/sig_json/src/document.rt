@@ -17,7 +17,7 @@ use std::alloc::Global;
 /// one that was built they nest as it was asked for.
 #[derive(Drop)]
 pub struct Document {
-    pub(crate) value: Tree,
+    pub(crate) value: Tree<'static>,
     ghost without_float: { has_float (view value) ≡ false },
     ghost named: { IsNamed (view value) } by { IsNamed-prop (view value) },
 }
@@ -48,7 +48,7 @@ impl Document {
     }
 
     /// A view of the whole tree. It takes no memory.
-    pub fn view(&self) -> Json<'_>
+    pub fn view(&self) -> Json<'_, 'static>
         ensures { tree result ≡ document_tree self.now }
     {
         Json { value: &self.value }

@@ -25,7 +25,7 @@ pub trait ElementReader {
     ghost meaning: { Data → Option seen_as.Value };
 
     /// Reads a value. Fails with `Member` if and only if it is not of the kind.
-    fn read(alloc: Global, json: Json<'_>) -> Result<Self::Item, MemberError>
+    fn read(alloc: Global, json: Json<'_, '_>) -> Result<Self::Item, MemberError>
         ensures { Answers MemberError.OutOfMemory seen_as.item result (or_member (meaning (tree json.entry))) };
 }
 
@@ -33,7 +33,7 @@ pub trait ElementReader {
 #[tactic(auto, using(crate::proofs::Elements::elements))]
 pub fn read_list<T: ElementReader>(
     alloc: Global,
-    list: Json<'_>,
+    list: Json<'_, '_>,
 ) -> Result<Register<T::Item>, MemberError>
     ensures { Answers MemberError.OutOfMemory T.seen_as.list result
         (or_member (list_each T.meaning (tree list.entry))) }
@@ -53,7 +53,7 @@ pub fn read_list<T: ElementReader>(
 #[tactic(auto, using(crate::proofs::Requiring::required_members))]
 pub fn required<T: ElementReader>(
     alloc: Global,
-    json: Json<'_>,
+    json: Json<'_, '_>,
     name: &str,
 ) -> Result<T::Item, MemberError>
     ensures { Answers MemberError.OutOfMemory T.seen_as.item result
@@ -67,7 +67,7 @@ pub fn required<T: ElementReader>(
 #[tactic(auto, unfolding(crate::specs::Member::optional_or))]
 pub fn optional<T: ElementReader>(
     alloc: Global,
-    json: Json<'_>,
+    json: Json<'_, '_>,
     name: &str,
 ) -> Result<Option<T::Item>, MemberError>
     ensures { Answers MemberError.OutOfMemory T.seen_as.option result
@@ -84,7 +84,7 @@ pub fn optional<T: ElementReader>(
 #[tactic(auto, using(crate::proofs::Requiring::required_members))]
 pub fn required_list<T: ElementReader>(
     alloc: Global,
-    json: Json<'_>,
+    json: Json<'_, '_>,
     name: &str,
 ) -> Result<Register<T::Item>, MemberError>
     ensures { Answers MemberError.OutOfMemory T.seen_as.list result
@@ -98,7 +98,7 @@ pub fn required_list<T: ElementReader>(
 #[tactic(auto, unfolding(crate::specs::Member::optional_or))]
 pub fn optional_list<T: ElementReader>(
     alloc: Global,
-    json: Json<'_>,
+    json: Json<'_, '_>,
     name: &str,
 ) -> Result<Register<T::Item>, MemberError>
     ensures { Answers MemberError.OutOfMemory T.seen_as.list result

@@ -7,15 +7,15 @@ ghost use Rattle.serde_json.specs.Find.{is_float};
 ghost use Rattle.serde_json.specs.Written.{has_float, items_have_float, members_have_float};
 
 use crate::document::Document;
-use crate::tree::Tree;
+use crate::tree::{Entry, Tree};
 use crate::view::Json;
 use serde_json::Number;
 
-impl Json<'_> {
+impl Json<'_, '_> {
     ghost use Rattle.sig_json.specs.Tree.{tree};
 
     /// Whether the two trees are equal. It takes no memory.
-    pub fn equals(self, other: Json<'_>) -> bool
+    pub fn equals(self, other: Json<'_, '_>) -> bool
         ensures { IsTrue result ↔ (tree self.entry ≡ tree other.entry) }
     {
         is_same(self.value, other.value)
@@ -48,7 +48,7 @@ impl Eq for Document {
 
 #[cycle(same)]
 #[tactic(auto, using(crate::proofs::SameTrees::same_trees))]
-fn is_same(a: &Tree, b: &Tree) -> bool
+fn is_same(a: &Tree<'_>, b: &Tree<'_>) -> bool
     requires a_whole { has_float (view a.now) ≡ false }
     requires b_whole { has_float (view b.now) ≡ false }
     ensures { IsTrue result ↔ (view a.now ≡ view b.now) }
@@ -93,7 +93,7 @@ fn is_same_number(a: &Number, b: &Number) -> bool
 
 #[cycle(same)]
 #[tactic(auto, using(crate::proofs::SameTrees::same_trees))]
-fn are_same_items(a: &Vec<Tree>, b: &Vec<Tree>) -> bool
+fn are_same_items(a: &Vec<Tree<'_>>, b: &Vec<Tree<'_>>) -> bool
     requires a_whole { items_have_float (items_view a.now.items) ≡ false }
     requires b_whole { items_have_float (items_view b.now.items) ≡ false }
     ensures { IsTrue result ↔ (items_view a.now.items ≡ items_view b.now.items) }
@@ -111,7 +111,7 @@ fn are_same_items(a: &Vec<Tree>, b: &Vec<Tree>) -> bool
 
 #[cycle(same)]
 #[tactic(auto, using(crate::proofs::SameTrees::same_members))]
-fn are_same_members(a: &Vec<(String, Tree)>, b: &Vec<(String, Tree)>) -> bool
+fn are_same_members(a: &Vec<Entry<'_>>, b: &Vec<Entry<'_>>) -> bool
     requires a_whole { members_have_float (members_view a.now.items) ≡ false }
     requires b_whole { members_have_float (members_view b.now.items) ≡ false }
     ensures { IsTrue result ↔ (members_view a.now.items ≡ members_view b.now.items) }

@@ -55,7 +55,7 @@ fn signed_in(text: &str) -> Option<i64>
 
 /// The integer from 0 to 2^64 - 1 that a value is.
 #[tactic(auto, using(crate::proofs::Numerals::values), unfolding(crate::specs::Kinds::u64_of))]
-pub(crate) fn u64_of(json: Json<'_>) -> Option<u64>
+pub(crate) fn u64_of(json: Json<'_, '_>) -> Option<u64>
     ensures { result ≡ u64_of (tree json.entry) }
 {
     match json.integer() {
@@ -69,7 +69,7 @@ pub(crate) fn u64_of(json: Json<'_>) -> Option<u64>
 
 /// The integer from -2^63 to 2^63 - 1 that a value is.
 #[tactic(auto, using(crate::proofs::Numerals::values), unfolding(crate::specs::Kinds::i64_of))]
-pub(crate) fn i64_of(json: Json<'_>) -> Option<i64>
+pub(crate) fn i64_of(json: Json<'_, '_>) -> Option<i64>
     ensures { result ≡ i64_of (tree json.entry) }
 {
     match json.integer() {

@@ -1,5 +1,6 @@
 //! A text that is read for the members of some names: every other member is passed over, and no tree is made of it.
-ghost use Rattle.std.specs.Prelude.{◌≡◌, None, Err, IfOk, string_bytes};
+ghost use Rattle.std.specs.Prelude.{◌≡◌, None, Err, IfOk};
+ghost use Rattle.std.specs.Cow.{cow_str_bytes};
 ghost use Rattle.std.specs.List.{filter};
 ghost use Rattle.serde_json.specs.Read.{read as tree_of};
 ghost use Rattle.sig_base.specs.Answers.{Answers};
@@ -14,9 +15,11 @@ use crate::document::Document;
 use crate::error::{DocumentError, SkipError};
 use crate::floats::is_float_in;
 use crate::order::in_order;
-use crate::read::{MAX_DEPTH, add, read_text, read_value};
+use crate::read::{MAX_DEPTH, read_text, read_value};
+use crate::room::add;
 use crate::skip::skip_value;
-use crate::tree::Tree;
+use crate::tree::{Entry, Tree};
+use crate::words::own;
 use json::{Reader, Scratch, Token};
 use std::alloc::Global;
 
@@ -72,8 +75,8 @@ fn read_whole(alloc: Global, text: &str, names: &[&str]) -> Result<Document, Doc
 
 /// Drops the members of other names of an object.
 #[tactic(auto, using(crate::proofs::KeptReading::cut))]
-pub(crate) fn keep_only(tree: Tree, names: &[&str]) -> Tree
-    ensures { view result ≡ only (names_of names.now) (view tree) }
+pub(crate) fn keep_only<'t>(tree: Tree<'t>, names: &[&str]) -> Tree<'t>
+    ensures { view result ≡ only (names_of names.now) (view tree.entry) }
 {
     match tree {
         Tree::Object(mut members) => {
@@ -88,9 +91,9 @@ pub(crate) fn keep_only(tree: Tree, names: &[&str]) -> Tree
     }
 }
 
-fn keep_members(members: &mut Vec<(String, Tree)>, names: &[&str])
+fn keep_members(members: &mut Vec<Entry<'_>>, names: &[&str])
     ensures { members.new.items
-        ≡ filter (λ m. is_among (names_of names.now) (string_bytes m.0)) members.old.items }
+        ≡ filter (λ m. is_among (names_of names.now) (cow_str_bytes m.0)) members.old.items }
 {
     members.retain(move |member| is_among(names, member.0.as_str()));
 }
@@ -102,7 +105,7 @@ pub(crate) fn read_kept(
     alloc: Global,
     text: &str,
     names: &[&str],
-) -> Result<Vec<(String, Tree)>, SkipError>
+) -> Result<Vec<Entry<'static>>, SkipError>
     ensures ok { IfOk result (λ kept. KeepsOf (names_of names.now) text.now (members_view kept.items)) }
     ensures err { result ≡ Err SkipError.NotJson → tree_of text.now ≡ None }
     ensures named { IfOk result (λ kept. NamesAscend (members_view kept.items)
@@ -127,7 +130,7 @@ fn read_kept_members(
     reader: &mut Reader<'_>,
     depth: usize,
     names: &[&str],
-) -> Result<Vec<(String, Tree)>, SkipError>
+) -> Result<Vec<Entry<'static>>, SkipError>
     ensures ok { IfOk result (λ kept. KeepsMembers (names_of names.now) depth reader.old reader.new
         (members_view kept.items)) }
     ensures err { result ≡ Err SkipError.NotJson → members_meant depth reader.old ≡ None }
@@ -140,7 +143,7 @@ fn read_kept_members(
             skip_value(reader, depth)?;
             continue;
         }
-        let key = String::from_str(alloc, name)?;
+        let key = own(alloc, name)?;
         let value = read_value(alloc, reader, depth)?;
         add(&mut found, (key, value))?;
     }

@@ -10,7 +10,7 @@ ghost use Rattle.sig_json.specs.Tree.{tree};
 
 use crate::element::ElementReader;
 use crate::error::MemberError;
-use crate::tree::Tree;
+use crate::tree::Entry;
 use crate::view::Json;
 use hex::FromHex;
 use sig_base::{Bytes, Text, TextMap};
@@ -36,7 +36,7 @@ impl ElementReader for TextReader {
     ghost meaning = { text_of };
 
     #[tactic(auto, unfolding(crate::specs::Kinds::text_of))]
-    fn read(alloc: Global, json: Json<'_>) -> Result<Text, MemberError> {
+    fn read(alloc: Global, json: Json<'_, '_>) -> Result<Text, MemberError> {
         match json.text() {
             Some(text) => Ok(Text::copy_of(alloc, text)?),
             None => Err(MemberError::Member),
@@ -52,7 +52,7 @@ impl ElementReader for BytesReader {
     ghost meaning = { bytes_of };
 
     #[tactic(auto, unfolding(crate::specs::Kinds::bytes_of))]
-    fn read(alloc: Global, json: Json<'_>) -> Result<Bytes, MemberError> {
+    fn read(alloc: Global, json: Json<'_, '_>) -> Result<Bytes, MemberError> {
         let Some(text) = json.text() else {
             return Err(MemberError::Member);
         };
@@ -71,7 +71,7 @@ impl ElementReader for HashReader {
 
     ghost meaning = { hash_of };
 
-    fn read(_alloc: Global, json: Json<'_>) -> Result<[u8; 32], MemberError> {
+    fn read(_alloc: Global, json: Json<'_, '_>) -> Result<[u8; 32], MemberError> {
         hash(json).ok_or(MemberError::Member)
     }
 }
@@ -84,7 +84,7 @@ impl ElementReader for TextMapReader {
     ghost meaning = { text_map_of };
 
     #[tactic(auto, unfolding(crate::specs::Kinds::text_map_of))]
-    fn read(alloc: Global, json: Json<'_>) -> Result<TextMap, MemberError> {
+    fn read(alloc: Global, json: Json<'_, '_>) -> Result<TextMap, MemberError> {
         match json.value.as_object() {
             Some(members) => texts_of_members(alloc, members),
             None => Err(MemberError::Member),
@@ -94,7 +94,7 @@ impl ElementReader for TextMapReader {
 
 /// The texts that members are, by their names. Fails with `Member` if one is no text.
 #[tactic(auto, using(crate::proofs::TextMaps::text_maps))]
-fn texts_of_members(alloc: Global, members: &Vec<(String, Tree)>) -> Result<TextMap, MemberError>
+fn texts_of_members(alloc: Global, members: &Vec<Entry<'_>>) -> Result<TextMap, MemberError>
     requires { InOrder members.now.items }
     ensures { Answers MemberError.OutOfMemory (λ x. x) result
         (or_member (texts_by_name (members_list (members_view members.now.items)))) }
@@ -111,7 +111,7 @@ fn texts_of_members(alloc: Global, members: &Vec<(String, Tree)>) -> Result<Text
 
 /// The hash that a value is.
 #[tactic(auto, unfolding(crate::specs::Kinds::hash_of))]
-pub(crate) fn hash(json: Json<'_>) -> Option<[u8; 32]>
+pub(crate) fn hash(json: Json<'_, '_>) -> Option<[u8; 32]>
     ensures { result ≡ hash_of (tree json.entry) }
 {
     match json.text() {

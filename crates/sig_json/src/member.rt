@@ -17,7 +17,10 @@ use std::alloc::Global;
 
 /// The member of an object, `None` if it is absent or null. Fails with `Member` if the value is no object.
 #[tactic(auto, unfolding(crate::specs::Member::member_of))]
-pub(crate) fn find_member<'a>(json: Json<'a>, name: &str) -> Result<Option<Json<'a>>, MemberError>
+pub(crate) fn find_member<'a, 't>(
+    json: Json<'a, 't>,
+    name: &str,
+) -> Result<Option<Json<'a, 't>>, MemberError>
     ensures value { Answers MemberError.OutOfMemory (λ m. option_map tree m) result
         (or_member (member_of name.now (tree json.entry))) }
     ensures no_memory { IfErr result (λ e. e ≡ MemberError.Member) }
@@ -33,7 +36,10 @@ pub(crate) fn find_member<'a>(json: Json<'a>, name: &str) -> Result<Option<Json<
 
 /// The member of an object. Fails with `Member` if the value is no object, or the member is absent or null.
 #[tactic(auto, unfolding(crate::specs::Member::required))]
-pub(crate) fn require_member<'a>(json: Json<'a>, name: &str) -> Result<Json<'a>, MemberError>
+pub(crate) fn require_member<'a, 't>(
+    json: Json<'a, 't>,
+    name: &str,
+) -> Result<Json<'a, 't>, MemberError>
     ensures value { Answers MemberError.OutOfMemory tree result
         (or_member (required Some name.now (tree json.entry))) }
     ensures no_memory { IfErr result (λ e. e ≡ MemberError.Member) }
@@ -44,7 +50,7 @@ pub(crate) fn require_member<'a>(json: Json<'a>, name: &str) -> Result<Json<'a>,
 /// An integer from -2^63 to 2^63 - 1: a whole JSON number, or a text of an optional `-` and digits; 0 if the member is
 /// absent or null. Fails with `Member` if the value is no object or the member is no such integer. It takes no memory.
 #[tactic(auto, unfolding(crate::specs::Member::optional_or))]
-pub fn read_i64(json: Json<'_>, name: &str) -> Result<i64, MemberError>
+pub fn read_i64(json: Json<'_, '_>, name: &str) -> Result<i64, MemberError>
     ensures value { Answers MemberError.OutOfMemory (λ x. x) result
         (or_member (optional_i64 name.now (tree json.entry))) }
     ensures no_memory { IfErr result (λ e. e ≡ MemberError.Member) }
@@ -58,7 +64,7 @@ pub fn read_i64(json: Json<'_>, name: &str) -> Result<i64, MemberError>
 /// An integer from 0 to 2^64 - 1: a whole JSON number, or a text of an optional `-` and digits; 0 if the member is
 /// absent or null. Fails with `Member` if the value is no object or the member is no such integer. It takes no memory.
 #[tactic(auto, unfolding(crate::specs::Member::optional_or))]
-pub fn read_u64(json: Json<'_>, name: &str) -> Result<u64, MemberError>
+pub fn read_u64(json: Json<'_, '_>, name: &str) -> Result<u64, MemberError>
     ensures value { Answers MemberError.OutOfMemory (λ x. x) result
         (or_member (optional_u64 name.now (tree json.entry))) }
     ensures no_memory { IfErr result (λ e. e ≡ MemberError.Member) }
@@ -72,7 +78,7 @@ pub fn read_u64(json: Json<'_>, name: &str) -> Result<u64, MemberError>
 /// A text, empty if the member is absent or null. Fails with `Member` if the value is no object or the member is no
 /// text.
 #[tactic(auto, unfolding(crate::specs::Member::optional_or))]
-pub fn read_text(alloc: Global, json: Json<'_>, name: &str) -> Result<Text, MemberError>
+pub fn read_text(alloc: Global, json: Json<'_, '_>, name: &str) -> Result<Text, MemberError>
     ensures { Answers MemberError.OutOfMemory (λ x. x) result (or_member (optional_text name.now (tree json.entry))) }
 {
     match find_member(json, name)? {
@@ -84,7 +90,7 @@ pub fn read_text(alloc: Global, json: Json<'_>, name: &str) -> Result<Text, Memb
 /// Bytes in padded standard base64, empty if the member is absent or null. Fails with `Member` if the value is no
 /// object or the member is no such text.
 #[tactic(auto, unfolding(crate::specs::Member::optional_or))]
-pub fn read_bytes(alloc: Global, json: Json<'_>, name: &str) -> Result<Bytes, MemberError>
+pub fn read_bytes(alloc: Global, json: Json<'_, '_>, name: &str) -> Result<Bytes, MemberError>
     ensures { Answers MemberError.OutOfMemory (λ x. x) result (or_member (optional_bytes name.now (tree json.entry))) }
 {
     match find_member(json, name)? {
@@ -96,7 +102,7 @@ pub fn read_bytes(alloc: Global, json: Json<'_>, name: &str) -> Result<Bytes, Me
 /// A required integer from -2^63 to 2^63 - 1. Fails with `Member` if the value is no object, or the member is absent,
 /// null or no such integer. It takes no memory.
 #[tactic(auto, using(crate::proofs::Requiring::required_members))]
-pub fn required_i64(json: Json<'_>, name: &str) -> Result<i64, MemberError>
+pub fn required_i64(json: Json<'_, '_>, name: &str) -> Result<i64, MemberError>
     ensures value { Answers MemberError.OutOfMemory (λ x. x) result
         (or_member (required_i64 name.now (tree json.entry))) }
     ensures no_memory { IfErr result (λ e. e ≡ MemberError.Member) }
@@ -107,7 +113,7 @@ pub fn required_i64(json: Json<'_>, name: &str) -> Result<i64, MemberError>
 /// A required integer from 0 to 2^64 - 1. Fails with `Member` if the value is no object, or the member is absent, null
 /// or no such integer. It takes no memory.
 #[tactic(auto, using(crate::proofs::Requiring::required_members))]
-pub fn required_u64(json: Json<'_>, name: &str) -> Result<u64, MemberError>
+pub fn required_u64(json: Json<'_, '_>, name: &str) -> Result<u64, MemberError>
     ensures value { Answers MemberError.OutOfMemory (λ x. x) result
         (or_member (required_u64 name.now (tree json.entry))) }
     ensures no_memory { IfErr result (λ e. e ≡ MemberError.Member) }
@@ -118,7 +124,7 @@ pub fn required_u64(json: Json<'_>, name: &str) -> Result<u64, MemberError>
 /// A required hash: 64 hexadecimal digits in either case. Fails with `Member` if the value is no object, or the member
 /// is absent, null or no such text. It takes no memory.
 #[tactic(auto, using(crate::proofs::Requiring::required_members))]
-pub fn required_hash(json: Json<'_>, name: &str) -> Result<[u8; 32], MemberError>
+pub fn required_hash(json: Json<'_, '_>, name: &str) -> Result<[u8; 32], MemberError>
     ensures value { Answers MemberError.OutOfMemory (λ x. x) result
         (or_member (required_hash name.now (tree json.entry))) }
     ensures no_memory { IfErr result (λ e. e ≡ MemberError.Member) }
@@ -127,7 +133,7 @@ pub fn required_hash(json: Json<'_>, name: &str) -> Result<[u8; 32], MemberError
 }
 
 /// A required text. Fails with `Member` if the value is no object, or the member is absent, null or no text.
-pub fn required_text(alloc: Global, json: Json<'_>, name: &str) -> Result<Text, MemberError>
+pub fn required_text(alloc: Global, json: Json<'_, '_>, name: &str) -> Result<Text, MemberError>
     ensures { Answers MemberError.OutOfMemory (λ x. x) result (or_member (required_text name.now (tree json.entry))) }
 {
     required::<TextReader>(alloc, json, name)
@@ -135,7 +141,7 @@ pub fn required_text(alloc: Global, json: Json<'_>, name: &str) -> Result<Text, 
 
 /// Required bytes in padded standard base64. Fails with `Member` if the value is no object, or the member is absent,
 /// null or no such text.
-pub fn required_bytes(alloc: Global, json: Json<'_>, name: &str) -> Result<Bytes, MemberError>
+pub fn required_bytes(alloc: Global, json: Json<'_, '_>, name: &str) -> Result<Bytes, MemberError>
     ensures { Answers MemberError.OutOfMemory (λ x. x) result (or_member (required_bytes name.now (tree json.entry))) }
 {
     required::<BytesReader>(alloc, json, name)

@@ -22,7 +22,7 @@ impl Document {
     ///
     /// An element is read when it comes, and no tree is made of the list. Where that finds no such elements, or the
     /// list a second time, the whole tree is made, which tells what the text is.
-    #[tactic(auto, using(crate::proofs::Streaming::streamed_read, crate::proofs::KeptReading::kept_is_named,))]
+    #[tactic(auto, using(crate::proofs::Streaming::streamed_read, crate::proofs::Tokens::object_is_named))]
     pub fn read_members_and_list<E: ElementReader>(
         alloc: Global,
         text: &[u8],

@@ -7,8 +7,8 @@ use crate::tree::Tree;
 
 /// A name and its value.
 #[derive(Clone, Copy)]
-pub(crate) struct Member<'a> {
+pub(crate) struct Member<'a, 't> {
     pub(crate) name: &'a str,
-    pub(crate) value: &'a Tree,
+    pub(crate) value: &'a Tree<'t>,
     ghost named: { IsNamed (view value.now) } by { IsNamed-prop (view value.now) },
 }

@@ -21,7 +21,7 @@ impl ElementReader for I64NumberReader {
 
     ghost meaning = { i64_number_of };
 
-    fn read(_alloc: Global, json: Json<'_>) -> Result<i64, MemberError> {
+    fn read(_alloc: Global, json: Json<'_, '_>) -> Result<i64, MemberError> {
         signed_number(json).ok_or(MemberError::Member)
     }
 }
@@ -33,14 +33,14 @@ impl ElementReader for U64NumberReader {
 
     ghost meaning = { u64_number_of };
 
-    fn read(_alloc: Global, json: Json<'_>) -> Result<u64, MemberError> {
+    fn read(_alloc: Global, json: Json<'_, '_>) -> Result<u64, MemberError> {
         unsigned_number(json).ok_or(MemberError::Member)
     }
 }
 
 /// The number from -2^63 to 2^63 - 1 that a value is.
 #[tactic(auto, using(crate::proofs::Numerals::values), unfolding(crate::specs::NumberKinds::i64_number_of))]
-fn signed_number(json: Json<'_>) -> Option<i64>
+fn signed_number(json: Json<'_, '_>) -> Option<i64>
     ensures { result ≡ i64_number_of (tree json.entry) }
 {
     match json.integer() {
@@ -51,7 +51,7 @@ fn signed_number(json: Json<'_>) -> Option<i64>
 
 /// The number from 0 to 2^64 - 1 that a value is.
 #[tactic(auto, using(crate::proofs::Numerals::values), unfolding(crate::specs::NumberKinds::u64_number_of))]
-fn unsigned_number(json: Json<'_>) -> Option<u64>
+fn unsigned_number(json: Json<'_, '_>) -> Option<u64>
     ensures { result ≡ u64_number_of (tree json.entry) }
 {
     match json.integer() {

@@ -1,13 +1,16 @@
 //! Members in the byte order of their names: found, set at their place, and put in order as they are read.
-ghost use Rattle.std.specs.Prelude.{◌≡◌, ◌<◌, length, false, Err, OnOk, OnErr, IfOk, IsTrue, option_map, string_bytes};
+ghost use Rattle.std.specs.Prelude.{◌≡◌, ◌<◌, length, false, Err, OnOk, OnErr, IfOk, IsTrue, option_map};
+ghost use Rattle.std.specs.Cow.{cow_str_bytes};
 ghost use Rattle.std.specs.Cmp.Lexicographic.{slice_cmp};
 ghost use Rattle.std.specs.Ordering.{nat_cmp, is_lt};
 ghost use Rattle.serde_json.specs.Data.{put as with_member};
 ghost use Rattle.serde_json.specs.Find.{get_member};
-ghost use Rattle.sig_json.specs.Gathered.{gathered, IsPlaceOf, InOrder, AreInOrderIfFew};
+ghost use Rattle.sig_json.specs.Gathered.{gathered, IsPlaceOf, InOrder, AreInOrderIfFew, few};
 ghost use Rattle.sig_json.specs.View.{view, members_view};
 
-use crate::tree::Tree;
+use crate::room::make_room;
+use crate::tree::{Entry, Tree};
+use crate::words::{Words, own};
 use sig_base::OutOfMemory;
 use std::alloc::Global;
 use std::cmp::Ordering;
@@ -21,7 +24,7 @@ const BY_INSERTION: usize = 32;
 
 /// The value of a name.
 #[tactic(auto, using(crate::proofs::Ordered::found))]
-pub(crate) fn find<'a>(members: &'a Vec<(String, Tree)>, name: &str) -> Option<&'a Tree>
+pub(crate) fn find<'a, 't>(members: &'a Vec<Entry<'t>>, name: &str) -> Option<&'a Tree<'t>>
     requires { InOrder members.now.items }
     ensures { option_map (λ t. view t.now) result ≡ get_member name.now (members_view members.now.items) }
 {
@@ -36,7 +39,7 @@ pub(crate) fn find<'a>(members: &'a Vec<(String, Tree)>, name: &str) -> Option<&
 
 /// The value of the first member of a name.
 #[tactic(auto, using(crate::proofs::Scanned::scanned))]
-fn first_of_name<'a>(members: &'a [(String, Tree)], name: &str) -> Option<&'a Tree>
+fn first_of_name<'a, 't>(members: &'a [Entry<'t>], name: &str) -> Option<&'a Tree<'t>>
     ensures { option_map (λ t. view t.now) result ≡ get_member name.now (members_view members.now) }
 {
     'members: for member in members {
@@ -48,13 +51,13 @@ fn first_of_name<'a>(members: &'a [(String, Tree)], name: &str) -> Option<&'a Tr
 }
 
 /// Where the member of a name is, or else where it would go.
-fn search(members: &Vec<(String, Tree)>, name: &str) -> Result<usize, usize>
+fn search(members: &Vec<Entry<'_>>, name: &str) -> Result<usize, usize>
     requires { InOrder members.now.items }
     ensures { IsPlaceOf name.now members.now.items result }
 {
     members.binary_search_by(
-        |member: &(String, Tree)| -> Ordering
-            ensures { result ≡ slice_cmp nat_cmp (string_bytes member.now.0) name.entry.now }
+        |member: &Entry<'_>| -> Ordering
+            ensures { result ≡ slice_cmp nat_cmp (cow_str_bytes member.now.0) name.entry.now }
         { member.0.as_str().cmp(name) },
     )
 }
@@ -62,15 +65,15 @@ fn search(members: &Vec<(String, Tree)>, name: &str) -> Result<usize, usize>
 /// Sets the member of a name, in place of the old one or at its place among the others. Fails only if memory runs out,
 /// and the members are then unchanged.
 #[tactic(auto, using(crate::proofs::Ordered::placed))]
-pub(crate) fn put(
+pub(crate) fn put<'t>(
     alloc: Global,
-    members: &mut Vec<(String, Tree)>,
+    members: &mut Vec<Entry<'t>>,
     name: &str,
-    value: Tree,
+    value: Tree<'t>,
 ) -> Result<(), OutOfMemory>
     requires { InOrder members.old.items }
     ensures ok { OnOk result (members_view members.new.items
-        ≡ with_member name.now (view value) (members_view members.old.items)) }
+        ≡ with_member name.now (view value.entry) (members_view members.old.items)) }
     ensures err { OnErr result (members.new.items ≡ members.old.items) }
 {
     match search(members, name) {
@@ -79,29 +82,26 @@ pub(crate) fn put(
             Ok(())
         }
         Err(place) => {
-            let name = String::from_str(alloc, name)?;
+            let name = own(alloc, name)?;
             members.insert(place, (name, value))?;
             Ok(())
         }
     }
 }
 
-/// Adds a member as it was read: to its place while the members are few, and later behind them, for `all_in_order`. The
-/// first takes room for itself alone: most objects of a large document have no other.
+/// Adds a member as it was read: to its place while the members are few, and later behind them, for `all_in_order`.
 #[tactic(auto, using(crate::proofs::Adding::added))]
-pub(crate) fn add_member(
-    members: &mut Vec<(String, Tree)>,
-    name: String,
-    value: Tree,
+pub(crate) fn add_member<'t>(
+    members: &mut Vec<Entry<'t>>,
+    name: Words<'t>,
+    value: Tree<'t>,
 ) -> Result<(), OutOfMemory>
     requires { AreInOrderIfFew members.old.items }
     ensures added { OnOk result (gathered members.new.items
-        ≡ with_member (string_bytes name) (view value) (gathered members.old.items)) }
+        ≡ with_member (cow_str_bytes name.entry) (view value.entry) (gathered members.old.items)) }
     ensures in_order { OnOk result (AreInOrderIfFew members.new.items) }
 {
-    if members.is_empty() {
-        members.reserve_exact(1)?;
-    }
+    make_room(members)?;
     if goes_among(members, name.as_str()) {
         return insert(members, name, value);
     }
@@ -111,9 +111,9 @@ pub(crate) fn add_member(
 
 /// Whether the members are few and the name does not go behind them all, as it does where names ascend.
 #[tactic(auto, using(crate::proofs::Adding::behind))]
-fn goes_among(members: &Vec<(String, Tree)>, name: &str) -> bool
-    ensures among { IsTrue result → length members.now.items < 8 }
-    ensures behind { result ≡ false → length members.now.items < 8 → InOrder members.now.items
+fn goes_among(members: &Vec<Entry<'_>>, name: &str) -> bool
+    ensures among { IsTrue result → length members.now.items < few }
+    ensures behind { result ≡ false → length members.now.items < few → InOrder members.now.items
         → IsPlaceOf name.now members.now.items (Err (length members.now.items)) }
 {
     let count = members.len();
@@ -125,12 +125,12 @@ fn goes_among(members: &Vec<(String, Tree)>, name: &str) -> bool
 
 /// The members that `add_member` was given, in the byte order of their names: of equal names the last value counts.
 #[tactic(auto, using(crate::proofs::Ordered::ordered))]
-pub(crate) fn all_in_order(
+pub(crate) fn all_in_order<'t>(
     alloc: Global,
-    members: Vec<(String, Tree)>,
-) -> Result<Vec<(String, Tree)>, OutOfMemory>
+    members: Vec<Entry<'t>>,
+) -> Result<Vec<Entry<'t>>, OutOfMemory>
     requires { AreInOrderIfFew members.items }
-    ensures { IfOk result (λ ordered. members_view ordered.items ≡ gathered members.items) }
+    ensures { IfOk result (λ ordered. members_view ordered.items ≡ gathered members.entry.items) }
 {
     if members.len() <= FEW {
         return Ok(members);
@@ -141,11 +141,11 @@ pub(crate) fn all_in_order(
 /// Members as they were read, in the byte order of their names: of equal names the last value counts. Names that
 /// ascend already, as they mostly do, stay where they are.
 #[tactic(auto, using(crate::proofs::Ordered::ordered))]
-pub(crate) fn in_order(
+pub(crate) fn in_order<'t>(
     alloc: Global,
-    members: Vec<(String, Tree)>,
-) -> Result<Vec<(String, Tree)>, OutOfMemory>
-    ensures { IfOk result (λ ordered. members_view ordered.items ≡ gathered members.items) }
+    members: Vec<Entry<'t>>,
+) -> Result<Vec<Entry<'t>>, OutOfMemory>
+    ensures { IfOk result (λ ordered. members_view ordered.items ≡ gathered members.entry.items) }
 {
     if ascends(members.as_slice()) {
         return Ok(members);
@@ -159,11 +159,10 @@ pub(crate) fn in_order(
 
 /// The same by insertion: each member goes to its place among those before it.
 #[tactic(auto, using(crate::proofs::Ordered::ordered))]
-fn inserted(alloc: Global, members: Vec<(String, Tree)>) -> Result<Vec<(String, Tree)>, OutOfMemory>
-    ensures { IfOk result (λ ordered. members_view ordered.items ≡ gathered members.items) }
+fn inserted<'t>(alloc: Global, members: Vec<Entry<'t>>) -> Result<Vec<Entry<'t>>, OutOfMemory>
+    ensures { IfOk result (λ ordered. members_view ordered.items ≡ gathered members.entry.items) }
 {
-    let mut ordered = Vec::new(alloc);
-    ordered.reserve_exact(members.len())?;
+    let mut ordered = Vec::with_capacity(alloc, members.len())?;
     'members: for (name, value) in members {
         insert(&mut ordered, name, value)?;
     }
@@ -172,10 +171,14 @@ fn inserted(alloc: Global, members: Vec<(String, Tree)>) -> Result<Vec<(String, 
 
 /// Sets the member of a name that is owned, as `put` does. Fails only if memory runs out.
 #[tactic(auto, using(crate::proofs::Ordered::placed))]
-fn insert(members: &mut Vec<(String, Tree)>, name: String, value: Tree) -> Result<(), OutOfMemory>
+fn insert<'t>(
+    members: &mut Vec<Entry<'t>>,
+    name: Words<'t>,
+    value: Tree<'t>,
+) -> Result<(), OutOfMemory>
     requires { InOrder members.old.items }
     ensures { OnOk result (members_view members.new.items
-        ≡ with_member (string_bytes name) (view value) (members_view members.old.items)) }
+        ≡ with_member (cow_str_bytes name.entry) (view value.entry) (members_view members.old.items)) }
 {
     match search(members, name.as_str()) {
         Ok(place) => {
@@ -196,19 +199,19 @@ fn is_below(name: &str, other: &str) -> bool
 }
 
 /// Whether each name is below the next.
-fn ascends(members: &[(String, Tree)]) -> bool
+fn ascends(members: &[Entry<'_>]) -> bool
     ensures { IsTrue result → InOrder members.now }
 {
     members.is_sorted_by(
-        |member: &(String, Tree), next: &(String, Tree)| -> bool
-            ensures { result ≡ is_lt (slice_cmp nat_cmp (string_bytes member.now.0) (string_bytes next.now.0)) }
+        |member: &Entry<'_>, next: &Entry<'_>| -> bool
+            ensures { result ≡ is_lt (slice_cmp nat_cmp (cow_str_bytes member.now.0) (cow_str_bytes next.now.0)) }
         { is_below(member.0.as_str(), next.0.as_str()) },
     )
 }
 
 #[tactic(auto, using(crate::proofs::Ordered::ordered))]
-fn sorted(alloc: Global, members: Vec<(String, Tree)>) -> Result<Vec<(String, Tree)>, OutOfMemory>
-    ensures { IfOk result (λ ordered. members_view ordered.items ≡ gathered members.items) }
+fn sorted<'t>(alloc: Global, members: Vec<Entry<'t>>) -> Result<Vec<Entry<'t>>, OutOfMemory>
+    ensures { IfOk result (λ ordered. members_view ordered.items ≡ gathered members.entry.items) }
 {
     let mut sorted = BTreeMap::new(alloc);
     'members: for (name, value) in members {

@@ -1,5 +1,5 @@
 //! From a text to a tree, in one pass over the tokens of `json`'s reader.
-ghost use Rattle.std.specs.Prelude.{◌≡◌, ◌<◌, ◌≤◌, ◌++◌, [], ◌∷◌, length, Some, None, Err, IfOk, IfErr, OnOk};
+ghost use Rattle.std.specs.Prelude.{◌≡◌, ◌<◌, ◌≤◌, length, Some, None, Err, IfOk, IfErr, OnOk};
 ghost use Rattle.json.specs.Json.{value, items, members};
 ghost use Rattle.serde_json.specs.Data.{no_members, depth as nesting};
 ghost use Rattle.serde_json.specs.Read.{of_json, of_items, of_members, converted, max_depth, read as tree_of};
@@ -10,9 +10,10 @@ ghost use Rattle.sig_json.specs.View.{view, items_view, members_view};
 use crate::error::ReadError;
 use crate::number::number_in;
 use crate::order::{add_member, all_in_order};
-use crate::tree::Tree;
+use crate::room::add;
+use crate::tree::{Entry, Tree};
+use crate::words::own;
 use json::{Reader, Scratch, Token};
-use sig_base::OutOfMemory;
 use std::alloc::Global;
 
 /// How deep lists and objects nest at most.
@@ -20,7 +21,7 @@ pub(crate) const MAX_DEPTH: usize = 127;
 
 /// The tree of a text. Fails with `NotJson` if and only if it has none, unless memory runs out.
 #[tactic(auto, using(crate::proofs::Tokens::whole_texts))]
-pub(crate) fn read_text(alloc: Global, text: &str) -> Result<Tree, ReadError>
+pub(crate) fn read_text(alloc: Global, text: &str) -> Result<Tree<'static>, ReadError>
     ensures ok { IfOk result (λ t. tree_of text.now ≡ Some (view t)) }
     ensures err { result ≡ Err ReadError.NotJson → tree_of text.now ≡ None }
     ensures nests { IfOk result (λ t. nesting (view t) ≤ max_depth) }
@@ -42,7 +43,7 @@ pub(crate) fn read_value(
     alloc: Global,
     reader: &mut Reader<'_>,
     depth: usize,
-) -> Result<Tree, ReadError>
+) -> Result<Tree<'static>, ReadError>
     ensures ok { IfOk result (λ t. converted of_json (value depth reader.old) ≡ Some (view t, reader.new)) }
     ensures err { result ≡ Err ReadError.NotJson → converted of_json (value depth reader.old) ≡ None }
     ensures shorter { OnOk result (length reader.new < length reader.old) }
@@ -56,7 +57,7 @@ pub(crate) fn read_value(
             Some(number) => Ok(Tree::Number(number)),
             None => Err(ReadError::NotJson),
         },
-        Token::String(text) => Ok(Tree::Text(String::from_str(alloc, text)?)),
+        Token::String(text) => Ok(Tree::Text(own(alloc, text)?)),
         Token::BeginArray => {
             if depth == 0 {
                 return Err(ReadError::NotJson);
@@ -76,7 +77,11 @@ pub(crate) fn read_value(
 /// The elements of a list, behind its opening bracket.
 #[cycle(read)]
 #[tactic(auto, using(crate::proofs::Tokens::lists))]
-fn read_items(alloc: Global, reader: &mut Reader<'_>, depth: usize) -> Result<Vec<Tree>, ReadError>
+fn read_items(
+    alloc: Global,
+    reader: &mut Reader<'_>,
+    depth: usize,
+) -> Result<Vec<Tree<'static>>, ReadError>
     ensures ok { IfOk result (λ v. converted of_items (items (value depth) (length reader.old) reader.old)
         ≡ Some (items_view v.items, reader.new)) }
     ensures err { result ≡ Err ReadError.NotJson
@@ -100,7 +105,7 @@ fn read_members(
     alloc: Global,
     reader: &mut Reader<'_>,
     depth: usize,
-) -> Result<Vec<(String, Tree)>, ReadError>
+) -> Result<Vec<Entry<'static>>, ReadError>
     ensures ok { IfOk result (λ v. converted (λ ms. of_members ms no_members)
         (members (value depth) (length reader.old) reader.old) ≡ Some (members_view v.items, reader.new)) }
     ensures err { result ≡ Err ReadError.NotJson → converted (λ ms. of_members ms no_members)
@@ -110,22 +115,11 @@ fn read_members(
 {
     let mut found = Vec::new(alloc);
     'members: while let Some(name) = reader.next_key()? {
-        let key = String::from_str(alloc, name)?;
+        let key = own(alloc, name)?;
         let value = read_value(alloc, reader, depth)?;
         add_member(&mut found, key, value)?;
     }
     let mut ordered = all_in_order(alloc, found)?;
     ordered.shrink_to_fit();
     Ok(ordered)
-}
-
-/// Adds an element. The first takes room for itself alone: most lists and objects of a large document have no other.
-pub(crate) fn add<T: Drop>(found: &mut Vec<T>, element: T) -> Result<(), OutOfMemory>
-    ensures { OnOk result (found.new.items ≡ found.old.items ++ element ∷ []) }
-{
-    if found.is_empty() {
-        found.reserve_exact(1)?;
-    }
-    found.push(element)?;
-    Ok(())
 }

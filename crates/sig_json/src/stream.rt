@@ -10,11 +10,14 @@ use crate::element::ElementReader;
 use crate::error::SkipError;
 use crate::floats::is_float_in;
 use crate::kept::{MEMBER_DEPTH, is_among};
+use crate::lent::lend_value;
 use crate::order::in_order;
-use crate::read::{add, read_value};
+use crate::read::read_value;
+use crate::room::add;
 use crate::skip::skip_value;
-use crate::tree::Tree;
+use crate::tree::Entry;
 use crate::view::Json;
+use crate::words::own;
 use json::{Reader, Scratch, Token};
 use sig_base::Register;
 use std::alloc::Global;
@@ -27,7 +30,7 @@ pub(crate) fn stream_text<E: ElementReader>(
     text: &str,
     names: &[&str],
     list: &str,
-) -> Result<(Vec<(String, Tree)>, Register<E::Item>), SkipError>
+) -> Result<(Vec<Entry<'static>>, Register<E::Item>), SkipError>
     requires { is_among (names_of names.now) list.now ≡ false }
     ensures ok { IfOk result (λ parts. StreamsOf E.meaning (names_of names.now) list.now text.now
         (members_view parts.0.items) (map E.seen_as.item parts.1)) }
@@ -54,7 +57,7 @@ fn stream_members<E: ElementReader>(
     depth: usize,
     names: &[&str],
     list: &str,
-) -> Result<(Vec<(String, Tree)>, Register<E::Item>), SkipError>
+) -> Result<(Vec<Entry<'static>>, Register<E::Item>), SkipError>
     requires { is_among (names_of names.now) list.now ≡ false }
     ensures ok { IfOk result (λ parts. StreamsMembers E.meaning (names_of names.now) list.now depth reader.old
         reader.new (members_view parts.0.items) (map E.seen_as.item parts.1)) }
@@ -77,7 +80,7 @@ fn stream_members<E: ElementReader>(
             skip_value(reader, depth)?;
             continue;
         }
-        let key = String::from_str(alloc, name)?;
+        let key = own(alloc, name)?;
         let value = read_value(alloc, reader, depth)?;
         add(&mut found, (key, value))?;
     }
@@ -135,7 +138,7 @@ fn stream_element<E: ElementReader>(
     ensures ok { IfOk result (λ x. StreamsValue E.meaning depth reader.old reader.new (E.seen_as.item x)) }
     ensures shorter { OnOk result (length reader.new < length reader.old) }
 {
-    let value = read_value(alloc, reader, depth)?;
+    let value = lend_value(alloc, reader, depth)?;
     if is_float_in(&value) {
         return Err(SkipError::Unsure);
     }

@@ -8,22 +8,26 @@ ghost use Rattle.sig_json.specs.Named.{IsNamed};
 ghost use Rattle.sig_json.specs.View.{view, items_view, members_view};
 
 use crate::order::find;
+use crate::words::Words;
 use serde_json::Number;
+
+/// A member of an object: its name and its value.
+pub(crate) type Entry<'t> = (Words<'t>, Tree<'t>);
 
 /// A value. The members of an object are in the byte order of their names, each name once: `IsNamed`, which each
 /// document and each view of one carries.
 #[derive(Drop)]
-pub(crate) enum Tree {
+pub(crate) enum Tree<'t> {
     Null,
     Bool(bool),
     Number(Number),
-    Text(String),
-    Array(Vec<Tree>),
-    Object(Vec<(String, Tree)>),
+    Text(Words<'t>),
+    Array(Vec<Tree<'t>>),
+    Object(Vec<Entry<'t>>),
 }
 
 #[tactic(auto, using(crate::proofs::Trees::trees, crate::proofs::Ordered::in_trees))]
-impl Tree {
+impl<'t> Tree<'t> {
     pub(crate) fn is_null(&self) -> bool
         ensures { result ≡ is_some (as_null (view self.now)) }
     {
@@ -57,7 +61,7 @@ impl Tree {
         }
     }
 
-    pub(crate) fn as_array(&self) -> Option<&Vec<Tree>>
+    pub(crate) fn as_array(&self) -> Option<&Vec<Tree<'t>>>
         ensures { option_map (λ v. items_view v.now.items) result ≡ as_array (view self.now) }
     {
         match self {
@@ -66,7 +70,7 @@ impl Tree {
         }
     }
 
-    pub(crate) fn as_object(&self) -> Option<&Vec<(String, Tree)>>
+    pub(crate) fn as_object(&self) -> Option<&Vec<Entry<'t>>>
         ensures { option_map (λ v. members_view v.now.items) result ≡ as_object (view self.now) }
     {
         match self {
@@ -76,7 +80,7 @@ impl Tree {
     }
 
     /// The member of this name of an object.
-    pub(crate) fn get(&self, name: &str) -> Option<&Tree>
+    pub(crate) fn get(&self, name: &str) -> Option<&Tree<'t>>
         requires { IsNamed (view self.now) }
         ensures { option_map (λ t. view t.now) result ≡ member_in name.now (view self.now) }
     {
@@ -87,7 +91,7 @@ impl Tree {
     }
 
     /// The element of a list at a place, counted from 0.
-    pub(crate) fn item(&self, place: usize) -> Option<&Tree>
+    pub(crate) fn item(&self, place: usize) -> Option<&Tree<'t>>
         ensures { option_map (λ t. view t.now) result ≡ at place (view self.now) }
     {
         match self {
@@ -98,7 +102,7 @@ impl Tree {
 }
 
 #[tactic(auto, using(crate::proofs::Lists::elements))]
-fn element(items: &Vec<Tree>, place: usize) -> Option<&Tree>
+fn element<'a, 't>(items: &'a Vec<Tree<'t>>, place: usize) -> Option<&'a Tree<'t>>
     ensures { option_map (λ t. view t.now) result ≡ get_item place (items_view items.now.items) }
 {
     if place < items.len() {

@@ -10,21 +10,21 @@ use crate::tree::Tree;
 /// A value of a document, borrowed. Its calls take no memory, and return `None` if and only if the value is of another
 /// kind or what is asked for is not there.
 #[derive(Clone, Copy)]
-pub struct Json<'a> {
-    pub(crate) value: &'a Tree,
+pub struct Json<'a, 't> {
+    pub(crate) value: &'a Tree<'t>,
     ghost without_float: { has_float (view value.now) ≡ false },
     ghost named: { IsNamed (view value.now) } by { IsNamed-prop (view value.now) },
 }
 
 #[tactic(auto, using(crate::proofs::Floatless::floatless, crate::proofs::Named::named, crate::proofs::Lists::lengths))]
-impl<'a> Json<'a> {
+impl<'a, 't> Json<'a, 't> {
     ghost use Rattle.std.specs.Prelude.{◌↔◌, IsSome, is_some, option_map, option_and_then, length};
     ghost use Rattle.serde_json.specs.Find.{get as member_in, at, as_null, as_bool, as_str, as_number, as_integer};
     ghost use Rattle.sig_json.specs.List.{list_of};
     ghost use Rattle.sig_json.specs.Tree.{tree};
 
     /// The member of this name of an object.
-    pub fn get(self, name: &str) -> Option<Json<'a>>
+    pub fn get(self, name: &str) -> Option<Json<'a, 't>>
         ensures { option_map tree result ≡ member_in name.now (tree self.entry) }
     {
         match self.value.get(name) {
@@ -76,7 +76,7 @@ impl<'a> Json<'a> {
     }
 
     /// The element of a list at a place, counted from 0.
-    pub fn item(self, place: usize) -> Option<Json<'a>>
+    pub fn item(self, place: usize) -> Option<Json<'a, 't>>
         ensures { option_map tree result ≡ at place (tree self.entry) }
     {
         match self.value.item(place) {

@@ -4,7 +4,7 @@ use Rattle.sig_json.proofs.order.inserted.Goals as goal
 
 pub members-init : goal.members-init
 members-init c =
-    let none : c.reserve_exact.new.self.items ≡ [] = c.reserve_exact.ensures.items ∙ c.new-ordered.ensures.items in
+    let none : c.in_ok-ordered.ordered.items ≡ [] = c.in_ok-ordered.ensures.items in
     rw none (search rules, in_order-none)
 
 pub members-preserved : goal.members-preserved

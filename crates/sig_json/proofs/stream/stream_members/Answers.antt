@@ -10,7 +10,7 @@ members-preserved g c =
     let done = c.in_ok-value.ensures in
     parts_more _ _ _ _ _ _ _ _ c.in-Some.name.now key l.found.items c.add.new.found.items c.in_ok-key.key
     c.in_ok-value.value _ _ l.invariant (grind arith) (grind arith) (search rules) done.ok done.shorter done.named
-    (search rules)
+    (search rules) (search rules)
 
 pub returns-clause-ok : goal.returns-clause-ok
 returns-clause-ok g c =

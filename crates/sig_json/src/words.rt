@@ -1,0 +1,28 @@
+//! `Words`: a name or a text of a tree.
+ghost use Rattle.std.specs.Prelude.{◌≡◌, IfOk};
+ghost use Rattle.std.specs.Cow.{cow_str_bytes};
+ghost use Rattle.std.specs.Str.{IsUtf8};
+
+use sig_base::OutOfMemory;
+use std::alloc::Global;
+use std::borrow::CowStr;
+
+/// A name or a text of a tree: in memory of its own in a document, and lent by the text that is read in a tree that is
+/// dropped before the reading goes on.
+pub(crate) type Words<'t> = CowStr<'t, Global>;
+
+/// The text in memory of its own. Fails only if memory runs out.
+pub(crate) fn own<'t>(alloc: Global, text: &str) -> Result<Words<'t>, OutOfMemory>
+    ensures same { IfOk result (λ words. cow_str_bytes words ≡ text.now) }
+    ensures utf8 { IfOk result (λ words. IsUtf8 (cow_str_bytes words)) }
+{
+    Ok(CowStr::Owned(String::from_str(alloc, text)?))
+}
+
+/// The text where it is. It takes no memory.
+pub(crate) fn lend<'t>(text: &'t str) -> Words<'t>
+    ensures same { cow_str_bytes result ≡ text.now }
+    ensures utf8 { IsUtf8 (cow_str_bytes result) }
+{
+    CowStr::Borrowed(text)
+}
