@@ -106,14 +106,14 @@ pub(crate) fn with_text(alloc: Global, answer: Answer, text: &str) -> Result<Ans
 pub(crate) fn with_tree(
     alloc: Global,
     answer: Answer,
-    json: Json<'_>,
+    json: Json<'_, '_>,
 ) -> Result<Answer, CaseError> {
     let text = compact(alloc, json)?;
     answer.value(&text.as_str())
 }
 
 /// The answer, and behind it the compact text of a tree, `none` where there is none.
-fn with_found(alloc: Global, answer: Answer, found: Option<Json<'_>>) -> Result<Answer, CaseError> {
+fn with_found(alloc: Global, answer: Answer, found: Option<Json<'_, '_>>) -> Result<Answer, CaseError> {
     match found {
         Some(json) => with_tree(alloc, answer, json),
         None => answer.value(&"none"),

@@ -63,7 +63,7 @@ impl ElementReader for HashedPartReader {
     ghost meaning = { hashed_part_of };
 
     #[tactic(auto, unfolding(crate::specs::DsseBody::hashed_part_of))]
-    fn read(alloc: Global, json: Json<'_>) -> Result<HashedPart, MemberError> {
+    fn read(alloc: Global, json: Json<'_, '_>) -> Result<HashedPart, MemberError> {
         Ok(HashedPart {
             algorithm: required_text(alloc, json, "algorithm")?,
             value: required_hash(json, "value")?,
@@ -80,7 +80,7 @@ impl ElementReader for BodySignatureReader {
     ghost meaning = { body_signature_of };
 
     #[tactic(auto, unfolding(crate::specs::DsseBody::body_signature_of))]
-    fn read(alloc: Global, json: Json<'_>) -> Result<BodySignature, MemberError> {
+    fn read(alloc: Global, json: Json<'_, '_>) -> Result<BodySignature, MemberError> {
         Ok(BodySignature {
             signature: required_bytes(alloc, json, "signature")?,
             verifier: required_bytes(alloc, json, "verifier")?,
@@ -97,7 +97,7 @@ impl ElementReader for FirstSignatureReader {
     ghost meaning = { first_signature_of };
 
     #[tactic(auto, using(crate::proofs::DsseBodies::firsts))]
-    fn read(alloc: Global, json: Json<'_>) -> Result<BodySignature, MemberError> {
+    fn read(alloc: Global, json: Json<'_, '_>) -> Result<BodySignature, MemberError> {
         match json.item(0) {
             Some(first) => BodySignatureReader::read(alloc, first),
             None => Err(MemberError::Member),
@@ -114,7 +114,7 @@ impl ElementReader for DsseSpecReader {
     ghost meaning = { dsse_spec_of };
 
     #[tactic(auto, unfolding(crate::specs::DsseBody::dsse_spec_of))]
-    fn read(alloc: Global, json: Json<'_>) -> Result<DsseSpec, MemberError> {
+    fn read(alloc: Global, json: Json<'_, '_>) -> Result<DsseSpec, MemberError> {
         Ok(DsseSpec {
             envelope_hash: required::<HashedPartReader>(alloc, json, "envelopeHash")?,
             payload_hash: required::<HashedPartReader>(alloc, json, "payloadHash")?,
@@ -132,7 +132,7 @@ impl ElementReader for DsseBodyReader {
     ghost meaning = { dsse_body_of };
 
     #[tactic(auto, unfolding(crate::specs::DsseBody::dsse_body_of))]
-    fn read(alloc: Global, json: Json<'_>) -> Result<DsseBody, MemberError> {
+    fn read(alloc: Global, json: Json<'_, '_>) -> Result<DsseBody, MemberError> {
         Ok(DsseBody {
             kind: required_text(alloc, json, "kind")?,
             api_version: required_text(alloc, json, "apiVersion")?,

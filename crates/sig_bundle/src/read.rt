@@ -30,7 +30,7 @@ impl ElementReader for BundleReader {
     ghost meaning = { bundle_of };
 
     #[tactic(auto, unfolding(crate::specs::BundleRecord::bundle_of))]
-    fn read(alloc: Global, json: Json<'_>) -> Result<Bundle, MemberError> {
+    fn read(alloc: Global, json: Json<'_, '_>) -> Result<Bundle, MemberError> {
         Ok(Bundle {
             media_type: read_text(alloc, json, "mediaType")?,
             verification_material: optional::<MaterialReader>(alloc, json, "verificationMaterial")?,

@@ -21,7 +21,7 @@ impl ElementReader for DigestReader {
 
     ghost meaning = { digest_of };
 
-    fn read(alloc: Global, json: Json<'_>) -> Result<Bytes, MemberError> {
+    fn read(alloc: Global, json: Json<'_, '_>) -> Result<Bytes, MemberError> {
         read_bytes(alloc, json, "digest")
     }
 }
@@ -35,7 +35,7 @@ impl ElementReader for MessageSignatureReader {
     ghost meaning = { message_signature_of };
 
     #[tactic(auto, unfolding(crate::specs::BundleRecord::message_signature_of))]
-    fn read(alloc: Global, json: Json<'_>) -> Result<MessageSignature, MemberError> {
+    fn read(alloc: Global, json: Json<'_, '_>) -> Result<MessageSignature, MemberError> {
         Ok(MessageSignature {
             signature: read_bytes(alloc, json, "signature")?,
             message_digest: optional::<DigestReader>(alloc, json, "messageDigest")?,
@@ -52,7 +52,7 @@ impl ElementReader for SignatureReader {
     ghost meaning = { dsse_signature_of };
 
     #[tactic(auto, unfolding(crate::specs::BundleRecord::dsse_signature_of))]
-    fn read(alloc: Global, json: Json<'_>) -> Result<DsseSignature, MemberError> {
+    fn read(alloc: Global, json: Json<'_, '_>) -> Result<DsseSignature, MemberError> {
         Ok(DsseSignature {
             sig: read_bytes(alloc, json, "sig")?,
             keyid: read_text(alloc, json, "keyid")?,
@@ -69,7 +69,7 @@ impl ElementReader for EnvelopeReader {
     ghost meaning = { envelope_of };
 
     #[tactic(auto, unfolding(crate::specs::BundleRecord::envelope_of))]
-    fn read(alloc: Global, json: Json<'_>) -> Result<DsseEnvelope, MemberError> {
+    fn read(alloc: Global, json: Json<'_, '_>) -> Result<DsseEnvelope, MemberError> {
         Ok(DsseEnvelope {
             payload: read_bytes(alloc, json, "payload")?,
             payload_type: read_text(alloc, json, "payloadType")?,
@@ -96,7 +96,7 @@ fn one_of(
 
 /// The content. Fails with `Member` where both kinds are there, or a member is not of its kind.
 #[tactic(auto, unfolding(crate::specs::BundleRecord::content_of))]
-pub(crate) fn read_content(alloc: Global, json: Json<'_>) -> Result<Option<Content>, MemberError>
+pub(crate) fn read_content(alloc: Global, json: Json<'_, '_>) -> Result<Option<Content>, MemberError>
     ensures { Answers MemberError.OutOfMemory (λ x. x) result (or_member (content_of (tree json.entry))) }
 {
     let signature = optional::<MessageSignatureReader>(alloc, json, "messageSignature")?;

@@ -24,7 +24,7 @@ impl ElementReader for PromiseReader {
 
     ghost meaning = { promise_of };
 
-    fn read(alloc: Global, json: Json<'_>) -> Result<Bytes, MemberError> {
+    fn read(alloc: Global, json: Json<'_, '_>) -> Result<Bytes, MemberError> {
         read_bytes(alloc, json, "signedEntryTimestamp")
     }
 }
@@ -37,7 +37,7 @@ impl ElementReader for CheckpointReader {
 
     ghost meaning = { checkpoint_envelope_of };
 
-    fn read(alloc: Global, json: Json<'_>) -> Result<Text, MemberError> {
+    fn read(alloc: Global, json: Json<'_, '_>) -> Result<Text, MemberError> {
         read_text(alloc, json, "envelope")
     }
 }
@@ -51,7 +51,7 @@ impl ElementReader for KindVersionReader {
     ghost meaning = { kind_version_of };
 
     #[tactic(auto, unfolding(crate::specs::BundleRecord::kind_version_of))]
-    fn read(alloc: Global, json: Json<'_>) -> Result<KindVersion, MemberError> {
+    fn read(alloc: Global, json: Json<'_, '_>) -> Result<KindVersion, MemberError> {
         Ok(KindVersion {
             kind: read_text(alloc, json, "kind")?,
             version: read_text(alloc, json, "version")?,
@@ -68,7 +68,7 @@ impl ElementReader for ProofReader {
     ghost meaning = { proof_of };
 
     #[tactic(auto, unfolding(crate::specs::BundleRecord::proof_of))]
-    fn read(alloc: Global, json: Json<'_>) -> Result<ProofFields, MemberError> {
+    fn read(alloc: Global, json: Json<'_, '_>) -> Result<ProofFields, MemberError> {
         Ok(ProofFields {
             log_index: read_i64(json, "logIndex")?,
             root_hash: read_bytes(alloc, json, "rootHash")?,
@@ -88,7 +88,7 @@ impl ElementReader for EntryReader {
     ghost meaning = { entry_of };
 
     #[tactic(auto, unfolding(crate::specs::BundleRecord::entry_of))]
-    fn read(alloc: Global, json: Json<'_>) -> Result<TransparencyLogEntry, MemberError> {
+    fn read(alloc: Global, json: Json<'_, '_>) -> Result<TransparencyLogEntry, MemberError> {
         Ok(TransparencyLogEntry {
             log_index: read_i64(json, "logIndex")?,
             log_id: optional::<LogIdReader>(alloc, json, "logId")?,
@@ -109,7 +109,7 @@ impl ElementReader for SparseEntryReader {
 
     ghost meaning = { entry_of };
 
-    fn read(alloc: Global, json: Json<'_>) -> Result<SparseEntry, MemberError> {
+    fn read(alloc: Global, json: Json<'_, '_>) -> Result<SparseEntry, MemberError> {
         let entry = EntryReader::read(alloc, json)?;
         Ok(SparseEntry::new(alloc, entry)?)
     }

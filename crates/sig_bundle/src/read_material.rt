@@ -22,7 +22,7 @@ impl ElementReader for KeyHintReader {
 
     ghost meaning = { key_hint_of };
 
-    fn read(_alloc: Global, json: Json<'_>) -> Result<(), MemberError> {
+    fn read(_alloc: Global, json: Json<'_, '_>) -> Result<(), MemberError> {
         match json.members() {
             Some(_) => Ok(()),
             None => Err(MemberError::Member),
@@ -34,7 +34,7 @@ impl ElementReader for KeyHintReader {
 #[tactic(auto, unfolding(crate::specs::BundleRecord::material_content_of))]
 fn read_material_content(
     alloc: Global,
-    json: Json<'_>,
+    json: Json<'_, '_>,
 ) -> Result<Option<MaterialContent>, MemberError>
     ensures { Answers MemberError.OutOfMemory (λ x. x) result (or_member (material_content_of (tree json.entry))) }
 {
@@ -59,7 +59,7 @@ impl ElementReader for MaterialReader {
     ghost meaning = { material_of };
 
     #[tactic(auto, unfolding(crate::specs::BundleRecord::material_of))]
-    fn read(alloc: Global, json: Json<'_>) -> Result<VerificationMaterial, MemberError> {
+    fn read(alloc: Global, json: Json<'_, '_>) -> Result<VerificationMaterial, MemberError> {
         Ok(VerificationMaterial {
             content: read_material_content(alloc, json)?,
             tlog_entries: LogEntries::of(

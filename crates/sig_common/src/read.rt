@@ -18,7 +18,7 @@ impl ElementReader for CertificateReader {
 
     ghost meaning = { certificate_of };
 
-    fn read(alloc: Global, json: Json<'_>) -> Result<Bytes, MemberError> {
+    fn read(alloc: Global, json: Json<'_, '_>) -> Result<Bytes, MemberError> {
         read_bytes(alloc, json, "rawBytes")
     }
 }
@@ -33,7 +33,7 @@ impl ElementReader for ChainReader {
 
     ghost meaning = { chain_of };
 
-    fn read(alloc: Global, json: Json<'_>) -> Result<Entries, MemberError> {
+    fn read(alloc: Global, json: Json<'_, '_>) -> Result<Entries, MemberError> {
         let certificates = optional_list::<CertificateReader>(alloc, json, "certificates")?;
         Ok(Entries::of(alloc, certificates))
     }
@@ -49,7 +49,7 @@ impl ElementReader for LogIdReader {
 
     ghost meaning = { log_id_of };
 
-    fn read(alloc: Global, json: Json<'_>) -> Result<Bytes, MemberError> {
+    fn read(alloc: Global, json: Json<'_, '_>) -> Result<Bytes, MemberError> {
         read_bytes(alloc, json, "keyId")
     }
 }

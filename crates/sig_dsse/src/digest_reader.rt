@@ -17,7 +17,7 @@ impl ElementReader for TextTest {
     ghost meaning = { is_text };
 
     #[tactic(auto, unfolding(sig_json::specs::Kinds::text_of))]
-    fn read(_alloc: Global, json: Json<'_>) -> Result<(), MemberError> {
+    fn read(_alloc: Global, json: Json<'_, '_>) -> Result<(), MemberError> {
         match json.text() {
             Some(_) => Ok(()),
             None => Err(MemberError::Member),
@@ -35,7 +35,7 @@ impl ElementReader for DigestMapReader {
 
     // `annotations` may be anything, so no object is rejected for them.
     #[tactic(auto, using(crate::proofs::DigestsAlone::of_subject))]
-    fn read(alloc: Global, json: Json<'_>) -> Result<TextMap, MemberError> {
+    fn read(alloc: Global, json: Json<'_, '_>) -> Result<TextMap, MemberError> {
         optional::<TextTest>(alloc, json, "name")?;
         required::<TextMapReader>(alloc, json, "digest")
     }
@@ -51,7 +51,7 @@ impl ElementReader for DigestMapsReader {
 
     // `predicate` may be anything, so no object is rejected for it.
     #[tactic(auto, using(crate::proofs::DigestsAlone::of_statement))]
-    fn read(alloc: Global, json: Json<'_>) -> Result<Register<TextMap>, MemberError> {
+    fn read(alloc: Global, json: Json<'_, '_>) -> Result<Register<TextMap>, MemberError> {
         required::<TextTest>(alloc, json, "_type")?;
         required::<TextTest>(alloc, json, "predicateType")?;
         required_list::<DigestMapReader>(alloc, json, "subject")

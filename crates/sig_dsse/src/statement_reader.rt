@@ -24,7 +24,7 @@ impl ElementReader for SubjectReader {
     ghost meaning = { subject_of };
 
     #[tactic(auto, unfolding(crate::specs::Statement::subject_of))]
-    fn read(alloc: Global, json: Json<'_>) -> Result<Subject, MemberError> {
+    fn read(alloc: Global, json: Json<'_, '_>) -> Result<Subject, MemberError> {
         Ok(Subject {
             name: optional::<TextReader>(alloc, json, "name")?,
             digest: required::<TextMapReader>(alloc, json, "digest")?,
@@ -44,7 +44,7 @@ impl ElementReader for StatementReader {
     ghost meaning = { statement_in };
 
     #[tactic(auto, unfolding(crate::specs::Statement::statement_in))]
-    fn read(alloc: Global, json: Json<'_>) -> Result<InTotoStatementV1, MemberError> {
+    fn read(alloc: Global, json: Json<'_, '_>) -> Result<InTotoStatementV1, MemberError> {
         Ok(InTotoStatementV1 {
             statement_type: required_text(alloc, json, "_type")?,
             subject: required_list::<SubjectReader>(alloc, json, "subject")?,

@@ -21,7 +21,7 @@ impl ElementReader for EntryKindReader {
     ghost meaning = { entry_kind_of };
 
     #[tactic(auto, unfolding(sig_json::specs::Kinds::text_of))]
-    fn read(_alloc: Global, json: Json<'_>) -> Result<EntryKind, MemberError> {
+    fn read(_alloc: Global, json: Json<'_, '_>) -> Result<EntryKind, MemberError> {
         let Some(name) = json.text() else {
             return Err(MemberError::Member);
         };
@@ -40,7 +40,7 @@ impl ElementReader for BodyReader {
     ghost meaning = { body_of };
 
     #[tactic(auto, unfolding(crate::specs::Body::body_of))]
-    fn read(alloc: Global, json: Json<'_>) -> Result<Body, MemberError> {
+    fn read(alloc: Global, json: Json<'_, '_>) -> Result<Body, MemberError> {
         let kind = required::<EntryKindReader>(alloc, json, "kind")?;
         let content = BodyContent {
             api_version: required_text(alloc, json, "apiVersion")?,
@@ -61,7 +61,7 @@ impl ElementReader for CodedBodyReader {
     ghost meaning = { coded_body_of };
 
     #[tactic(auto, unfolding(crate::specs::Body::coded_body_of))]
-    fn read(alloc: Global, json: Json<'_>) -> Result<Body, MemberError> {
+    fn read(alloc: Global, json: Json<'_, '_>) -> Result<Body, MemberError> {
         let text = BytesReader::read(alloc, json)?;
         match read_record::<BodyReader>(alloc, text.as_slice()) {
             Ok(body) => Ok(body),

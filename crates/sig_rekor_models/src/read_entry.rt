@@ -30,7 +30,7 @@ impl ElementReader for TextBytesReader {
     ghost meaning = { text_of };
 
     #[tactic(auto, unfolding(sig_json::specs::Kinds::text_of))]
-    fn read(alloc: Global, json: Json<'_>) -> Result<Bytes, MemberError> {
+    fn read(alloc: Global, json: Json<'_, '_>) -> Result<Bytes, MemberError> {
         match json.text() {
             Some(text) => Ok(Bytes::copy_of(alloc, text.as_bytes())?),
             None => Err(MemberError::Member),
@@ -47,7 +47,7 @@ impl ElementReader for RekorProofReader {
     ghost meaning = { rekor_proof_of };
 
     #[tactic(auto, unfolding(crate::specs::LogEntry::rekor_proof_of))]
-    fn read(alloc: Global, json: Json<'_>) -> Result<RekorInclusionProof, MemberError> {
+    fn read(alloc: Global, json: Json<'_, '_>) -> Result<RekorInclusionProof, MemberError> {
         Ok(RekorInclusionProof {
             hashes: Entries::of(
                 alloc,
@@ -70,7 +70,7 @@ impl ElementReader for VerificationReader {
     ghost meaning = { verification_of };
 
     #[tactic(auto, unfolding(crate::specs::LogEntry::verification_of))]
-    fn read(alloc: Global, json: Json<'_>) -> Result<Verification, MemberError> {
+    fn read(alloc: Global, json: Json<'_, '_>) -> Result<Verification, MemberError> {
         Ok(Verification {
             inclusion_proof: optional::<RekorProofReader>(alloc, json, "inclusionProof")?,
             signed_entry_timestamp: required_text(alloc, json, "signedEntryTimestamp")?,
@@ -87,7 +87,7 @@ impl ElementReader for AttestationReader {
     ghost meaning = { attestation_of };
 
     #[tactic(auto, unfolding(crate::specs::LogEntry::attestation_of))]
-    fn read(alloc: Global, json: Json<'_>) -> Result<Attestation, MemberError> {
+    fn read(alloc: Global, json: Json<'_, '_>) -> Result<Attestation, MemberError> {
         Ok(Attestation {
             dummy: optional::<TextReader>(alloc, json, "dummy")?,
         })
@@ -110,7 +110,7 @@ impl ElementReader for LoggedReader {
     ghost meaning = { logged_of };
 
     #[tactic(auto, unfolding(crate::specs::LogEntry::logged_of))]
-    fn read(alloc: Global, json: Json<'_>) -> Result<Logged, MemberError> {
+    fn read(alloc: Global, json: Json<'_, '_>) -> Result<Logged, MemberError> {
         Ok(Logged {
             integrated_time: required::<I64NumberReader>(alloc, json, "integratedTime")?,
             log_i_d: required_text(alloc, json, "logID")?,
@@ -134,7 +134,7 @@ impl ElementReader for PlacedReader {
     ghost meaning = { placed_of };
 
     #[tactic(auto, unfolding(crate::specs::LogEntry::placed_of))]
-    fn read(alloc: Global, json: Json<'_>) -> Result<Placed, MemberError> {
+    fn read(alloc: Global, json: Json<'_, '_>) -> Result<Placed, MemberError> {
         Ok(Placed {
             log_index: required::<I64NumberReader>(alloc, json, "logIndex")?,
             verification: required::<VerificationReader>(alloc, json, "verification")?,
@@ -158,7 +158,7 @@ impl ElementReader for BesideReader {
     ghost meaning = { beside_of };
 
     #[tactic(auto, unfolding(crate::specs::LogEntry::beside_of))]
-    fn read(alloc: Global, json: Json<'_>) -> Result<Beside, MemberError> {
+    fn read(alloc: Global, json: Json<'_, '_>) -> Result<Beside, MemberError> {
         Ok(Beside {
             uuid: optional::<TextReader>(alloc, json, "uuid")?,
             attestation: optional::<AttestationReader>(alloc, json, "attestation")?,
@@ -188,7 +188,7 @@ impl ElementReader for LogEntryReader {
     ghost meaning = { log_entry_of };
 
     #[tactic(auto, unfolding(crate::specs::LogEntry::log_entry_of))]
-    fn read(alloc: Global, json: Json<'_>) -> Result<LogEntry, MemberError> {
+    fn read(alloc: Global, json: Json<'_, '_>) -> Result<LogEntry, MemberError> {
         if !json.has_only(&MEMBERS) {
             return Err(MemberError::Member);
         }
@@ -198,7 +198,7 @@ impl ElementReader for LogEntryReader {
 
 /// The entry of these members.
 #[tactic(auto, unfolding(crate::specs::LogEntry::entry_members_of))]
-fn read_members(alloc: Global, json: Json<'_>) -> Result<LogEntry, MemberError>
+fn read_members(alloc: Global, json: Json<'_, '_>) -> Result<LogEntry, MemberError>
     ensures { Answers MemberError.OutOfMemory seen_entry result (or_member (entry_members_of (tree json.entry))) }
 {
     let logged = LoggedReader::read(alloc, json)?;

@@ -26,7 +26,7 @@ impl ElementReader for TimeReader {
     ghost meaning = { time_of };
 
     #[tactic(auto, unfolding(crate::specs::RootRecord::time_of, sig_json::specs::Kinds::text_of))]
-    fn read(_alloc: Global, json: Json<'_>) -> Result<i64, MemberError> {
+    fn read(_alloc: Global, json: Json<'_, '_>) -> Result<i64, MemberError> {
         let Some(text) = json.text() else {
             return Err(MemberError::Member);
         };
@@ -46,7 +46,7 @@ impl ElementReader for RangeReader {
     ghost meaning = { range_of };
 
     #[tactic(auto, unfolding(crate::specs::RootRecord::range_of))]
-    fn read(alloc: Global, json: Json<'_>) -> Result<TimeRange, MemberError> {
+    fn read(alloc: Global, json: Json<'_, '_>) -> Result<TimeRange, MemberError> {
         Ok(TimeRange {
             start: optional::<TimeReader>(alloc, json, "start")?,
             end: optional::<TimeReader>(alloc, json, "end")?,
@@ -63,7 +63,7 @@ impl ElementReader for AuthorityReader {
     ghost meaning = { authority_of };
 
     #[tactic(auto, unfolding(crate::specs::RootRecord::authority_of))]
-    fn read(alloc: Global, json: Json<'_>) -> Result<CertificateAuthority, MemberError> {
+    fn read(alloc: Global, json: Json<'_, '_>) -> Result<CertificateAuthority, MemberError> {
         Ok(CertificateAuthority {
             cert_chain: optional::<ChainReader>(alloc, json, "certChain")?,
             valid_for: optional::<RangeReader>(alloc, json, "validFor")?,
@@ -80,7 +80,7 @@ impl ElementReader for PublicKeyReader {
     ghost meaning = { public_key_of };
 
     #[tactic(auto, unfolding(crate::specs::RootRecord::public_key_of))]
-    fn read(alloc: Global, json: Json<'_>) -> Result<PublicKey, MemberError> {
+    fn read(alloc: Global, json: Json<'_, '_>) -> Result<PublicKey, MemberError> {
         Ok(PublicKey {
             raw_bytes: optional::<BytesReader>(alloc, json, "rawBytes")?,
             valid_for: optional::<RangeReader>(alloc, json, "validFor")?,
@@ -97,7 +97,7 @@ impl ElementReader for InstanceReader {
     ghost meaning = { instance_of };
 
     #[tactic(auto, unfolding(crate::specs::RootRecord::instance_of))]
-    fn read(alloc: Global, json: Json<'_>) -> Result<TransparencyLogInstance, MemberError> {
+    fn read(alloc: Global, json: Json<'_, '_>) -> Result<TransparencyLogInstance, MemberError> {
         Ok(TransparencyLogInstance {
             public_key: optional::<PublicKeyReader>(alloc, json, "publicKey")?,
             log_id: optional::<LogIdReader>(alloc, json, "logId")?,
@@ -114,7 +114,7 @@ impl ElementReader for RootReader {
     ghost meaning = { trusted_root_of };
 
     #[tactic(auto, unfolding(crate::specs::RootRecord::trusted_root_of))]
-    fn read(alloc: Global, json: Json<'_>) -> Result<TrustedRoot, MemberError> {
+    fn read(alloc: Global, json: Json<'_, '_>) -> Result<TrustedRoot, MemberError> {
         Ok(TrustedRoot {
             certificate_authorities: optional_list::<AuthorityReader>(
                 alloc,

@@ -69,7 +69,7 @@ impl RequestReader for ConsistencyRequestReader {
     #[tactic(auto, unfolding(crate::specs::ConsistencyRequest::consistency_members))]
     fn read(
         alloc: Global,
-        json: Json<'_>,
+        json: Json<'_, '_>,
         accepted: TableChecker,
     ) -> Result<ConsistencyRequest, MemberError> {
         let request = ConsistencyRequest {

@@ -69,7 +69,7 @@ impl ElementReader for ArtifactDigestReader {
     ghost meaning = { digest_kind };
 
     #[tactic(auto, unfolding(crate::specs::DigestText::digest_kind, sig_json::specs::Kinds::text_of))]
-    fn read(_alloc: Global, json: Json<'_>) -> Result<ArtifactDigest, MemberError> {
+    fn read(_alloc: Global, json: Json<'_, '_>) -> Result<ArtifactDigest, MemberError> {
         let Some(text) = json.text() else {
             return Err(MemberError::Member);
         };

@@ -14,7 +14,7 @@ use std::alloc::Global;
 #[tactic(auto, unfolding(crate::specs::HeadMembers::head_of))]
 pub fn read_head(
     alloc: Global,
-    json: Json<'_>,
+    json: Json<'_, '_>,
     accepted: TableChecker,
 ) -> Result<SignedHead, MemberError>
     ensures { Answers MemberError.OutOfMemory (λ head. head) result

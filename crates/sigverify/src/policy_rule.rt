@@ -130,7 +130,7 @@ fn one_of_five(
 
 /// The policy of a GitHub workflow, `None` without one. Fails with `Member` if a member is no text, or two are there.
 #[tactic(auto, unfolding(crate::specs::Policy::workflow_policy))]
-fn workflow_policy(alloc: Global, json: Json<'_>) -> Result<Option<LeafPolicy>, MemberError>
+fn workflow_policy(alloc: Global, json: Json<'_, '_>) -> Result<Option<LeafPolicy>, MemberError>
     ensures { Answers MemberError.OutOfMemory (λ x. x) result (or_member (workflow_policy (tree json.entry))) }
 {
     let trigger = optional::<TextReader>(alloc, json, "trigger")?;
@@ -164,7 +164,7 @@ impl ElementReader for RuleReader {
     ghost meaning = { rule_of };
 
     #[tactic(auto, unfolding(crate::specs::Policy::rule_of))]
-    fn read(alloc: Global, json: Json<'_>) -> Result<LeafPolicy, MemberError> {
+    fn read(alloc: Global, json: Json<'_, '_>) -> Result<LeafPolicy, MemberError> {
         let identity = optional::<TextReader>(alloc, json, "identity")?;
         let issuer = optional::<TextReader>(alloc, json, "issuer")?;
         let by_issuer = issuer_policy(alloc, identity, issuer)?;
@@ -177,7 +177,7 @@ impl ElementReader for RuleReader {
 #[tactic(auto, unfolding(crate::specs::Policy::rules_under))]
 fn rules_under(
     alloc: Global,
-    json: Json<'_>,
+    json: Json<'_, '_>,
     name: &str,
     other: &str,
 ) -> Result<LeafPolicies, MemberError>
@@ -201,7 +201,7 @@ impl ElementReader for PolicyReader {
     ghost meaning = { request_policy_of };
 
     #[tactic(auto, unfolding(crate::specs::Policy::request_policy_of))]
-    fn read(alloc: Global, json: Json<'_>) -> Result<RequestPolicy, MemberError> {
+    fn read(alloc: Global, json: Json<'_, '_>) -> Result<RequestPolicy, MemberError> {
         match rules_under(alloc, json, "all", "any") {
             Ok(rules) => Ok(RequestPolicy::All(rules)),
             Err(MemberError::Member) => {

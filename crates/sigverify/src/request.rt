@@ -76,7 +76,7 @@ impl RequestReader for LogRequestReader {
     #[tactic(auto, unfolding(crate::specs::Request::log_members))]
     fn read(
         alloc: Global,
-        json: Json<'_>,
+        json: Json<'_, '_>,
         accepted: TableChecker,
     ) -> Result<LogRequest, MemberError> {
         let entry = required_bytes(alloc, json, "entry")?;

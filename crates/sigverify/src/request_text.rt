@@ -29,7 +29,7 @@ pub trait RequestReader {
     /// are not those of a request.
     fn read(
         alloc: Global,
-        json: Json<'_>,
+        json: Json<'_, '_>,
         accepted: TableChecker,
     ) -> Result<Self::Item, MemberError>
         ensures { Answers MemberError.OutOfMemory (λ request. request) result

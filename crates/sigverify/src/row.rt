@@ -22,7 +22,7 @@ impl ElementReader for SchemeReader {
     ghost meaning = { scheme_kind };
 
     #[tactic(auto, unfolding(crate::specs::Row::scheme_kind, sig_json::specs::Kinds::text_of))]
-    fn read(_alloc: Global, json: Json<'_>) -> Result<SigningScheme, MemberError> {
+    fn read(_alloc: Global, json: Json<'_, '_>) -> Result<SigningScheme, MemberError> {
         let Some(name) = json.text() else {
             return Err(MemberError::Member);
         };
@@ -42,7 +42,7 @@ impl ElementReader for OperationReader {
     ghost meaning = { operation_kind };
 
     #[tactic(auto, unfolding(crate::specs::Row::operation_kind, sig_json::specs::Kinds::text_of))]
-    fn read(_alloc: Global, json: Json<'_>) -> Result<Operation, MemberError> {
+    fn read(_alloc: Global, json: Json<'_, '_>) -> Result<Operation, MemberError> {
         match json.text() {
             Some("message") => Ok(Operation::Message),
             Some("prehash") => Ok(Operation::Prehash),
@@ -61,7 +61,7 @@ impl ElementReader for EntriesReader {
 
     ghost meaning = { entries_of };
 
-    fn read(alloc: Global, json: Json<'_>) -> Result<Entries, MemberError> {
+    fn read(alloc: Global, json: Json<'_, '_>) -> Result<Entries, MemberError> {
         Ok(Entries::of(alloc, read_list::<BytesReader>(alloc, json)?))
     }
 }
@@ -74,7 +74,7 @@ impl ElementReader for AbsentReader {
 
     ghost meaning = { no_kind };
 
-    fn read(_alloc: Global, _json: Json<'_>) -> Result<(), MemberError> {
+    fn read(_alloc: Global, _json: Json<'_, '_>) -> Result<(), MemberError> {
         Err(MemberError::Member)
     }
 }
@@ -89,7 +89,7 @@ impl ElementReader for RowReader {
     ghost meaning = { row_of };
 
     #[tactic(auto, unfolding(crate::specs::Row::row_of))]
-    fn read(alloc: Global, json: Json<'_>) -> Result<AcceptedRow, MemberError> {
+    fn read(alloc: Global, json: Json<'_, '_>) -> Result<AcceptedRow, MemberError> {
         let operation = required::<OperationReader>(alloc, json, "operation")?;
         Ok(AcceptedRow {
             operation,
@@ -103,7 +103,7 @@ impl ElementReader for RowReader {
 
 /// Reads the scheme of an accepted signature: a scheme's name for a message and for a digest, absent for a point, and
 /// base64 of the AlgorithmIdentifier for a certificate.
-fn read_scheme(alloc: Global, json: Json<'_>, operation: Operation) -> Result<Bytes, MemberError>
+fn read_scheme(alloc: Global, json: Json<'_, '_>, operation: Operation) -> Result<Bytes, MemberError>
     ensures { Answers MemberError.OutOfMemory (λ x. x) result (or_member (scheme_for operation (tree json.entry))) }
 {
     match operation {

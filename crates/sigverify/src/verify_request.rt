@@ -66,7 +66,7 @@ impl RequestReader for VerifyRequestReader {
     #[tactic(auto, unfolding(crate::specs::VerifyRequest::verify_members))]
     fn read(
         alloc: Global,
-        json: Json<'_>,
+        json: Json<'_, '_>,
         accepted: TableChecker,
     ) -> Result<VerifyRequest, MemberError> {
         Ok(VerifyRequest {
