@@ -355,7 +355,7 @@ module _ (accepts : Accepts) (text : List ℕ) (t : ℤ) (anchors : List Cert) (
       from (inr (inl x)) is = absurd (x.0 is.certificate is.is)
       from (inr (inr x)) is = inl x
 
-  -- of a certificate, the answer is that of its record; of another text it is `Malformed`
+  -- of a certificate, the answer is that of its record
   pub text_certificate : (c : Cert) → IsCertificate text c
       → Answers OutOfMemory (λ (index : ℕ). index) r (issuer_of accepts anchors c t)
   text_certificate c is = by_cases j
@@ -367,12 +367,3 @@ module _ (accepts : Accepts) (text : List ℕ) (t : ℤ) (anchors : List Cert) (
           (x.2 ∙ ap (λ (w : Cert). issuer_of accepts anchors w t) (sym (x.1.only c is)))
       by_cases (inr (inl x)) = absurd (x.0 c is)
       by_cases (inr (inr x)) = memory r x (issuer_of accepts anchors c t)
-
-  pub text_none : ((c : Cert) → IsCertificate text c → ⊥)
-      → Answers OutOfMemory (λ (index : ℕ). index) r (Err Malformed)
-  text_none none = by_cases j
-    where
-      by_cases : IsJudgedText accepts text t anchors r → Answers OutOfMemory (λ (index : ℕ). index) r (Err Malformed)
-      by_cases (inl x) = absurd (none x.0 x.1.is)
-      by_cases (inr (inl x)) = answers_itself r (Err Malformed) x.1
-      by_cases (inr (inr x)) = memory r x (Err Malformed)

@@ -1,2 +1,3 @@
+pub mod AskedAnchors
 pub mod Issuance
 pub mod Issued

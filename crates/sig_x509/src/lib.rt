@@ -6,6 +6,7 @@
 //! that the certificate has not the profile of what a trust anchor may issue, or that none issued it.
 #![tactic(auto)]
 
+mod asked;
 mod issuance;
 mod pool;
 

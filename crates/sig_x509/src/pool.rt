@@ -9,17 +9,19 @@ ghost use Rattle.sig_x509.specs.Issued.{HasProfile, IsFirstIssuer, IsIssuedByNon
 ghost use Rattle.sig_x509.specs.Issued.{IsUnissuedText, IsJudgedText};
 ghost use Rattle.sig_x509.specs.Issued.{AgreeWhereAsked};
 
-use crate::issuance::{is_profiled, is_signed_by, is_unconstrained, signs_code_at};
+use crate::asked::{asked_of, first_signer_of};
+use crate::issuance::{is_profiled, is_unconstrained, signs_code_at};
 use sig_base::{Entries, PoolError, Register, SignatureChecker};
 use sig_certificate::{Certificate, X509ReadError};
 use std::alloc::Global;
 use std::marker::Model;
 
-/// Trust anchors, in order: certificates that are trusted by themselves, and have no name constraints. Contracts see
-/// the list of their records.
+/// Trust anchors, in order: certificates that are trusted by themselves, and have no name constraints; and the indices
+/// of those that a checker is asked about. Contracts see the list of the anchors' records.
 #[derive(Drop)]
 pub struct CertificatePool {
     anchors: Register<Certificate>,
+    asked: Vec<usize>,
 }
 
 impl Model for CertificatePool {
@@ -29,6 +31,10 @@ impl Model for CertificatePool {
     ghost Value = { List Cert };
 
     ghost view = { λ p. p.anchors };
+
+    ghost use Rattle.sig_x509.specs.AskedAnchors.{AreAsked};
+
+    ghost invariant = { λ p. AreAsked p.anchors p.asked.items };
 }
 
 /// Returns the trust anchor that the bytes at this index are. Fails with `Anchor` and the index if and only if they
@@ -80,17 +86,16 @@ impl CertificatePool {
             let anchor = read_anchor(alloc, index, der.as_slice())?;
             anchors.push(anchor)?;
         }
-        Ok(CertificatePool { anchors })
+        let asked = asked_of(alloc, anchors.as_slice())?;
+        Ok(CertificatePool { anchors, asked })
     }
 
-    /// Returns the index of the first trust anchor that signed the leaf.
+    /// Returns the index of the first trust anchor that signed the leaf. The checker is asked at most once for each
+    /// different subject and SPKI.
     fn first_signer<C: SignatureChecker>(&self, leaf: &Certificate, checker: &C) -> Option<usize>
         ensures { result ≡ position (is_signed_by (C.cert_accepts checker.now) leaf.now) self.now }
     {
-        self.anchors
-            .as_slice()
-            .iter()
-            .position(|anchor| is_signed_by(leaf, anchor, checker))
+        first_signer_of(leaf, self.anchors.as_slice(), &self.asked, checker)
     }
 
     /// Returns the index of the first trust anchor that issued the leaf, which signs code at the time: that is asked
@@ -130,7 +135,7 @@ impl CertificatePool {
 
     /// Returns the index of the first trust anchor that issued the leaf, which signs code at the time, in seconds
     /// since 1970 (RFC 5280 section 6.1). It takes no memory. The checker's word matters only on trust anchors whose
-    /// name is that of the leaf's issuer. Errors:
+    /// name is that of the leaf's issuer, and it is asked at most once for each different SPKI of these. Errors:
     ///
     /// - `Malformed` if and only if the leaf has not the profile: version 3, two equal algorithms, no duplicate
     ///   extension, no critical extensions but key usage, alternative names, basic constraints and extended key usage,
@@ -208,9 +213,6 @@ impl CertificatePool {
         ensures asked { (other : Accepts) (c : Cert) → IsCertificate der.now c
             → AgreeWhereAsked (C.cert_accepts checker.now) other c verification_time self.now
             → Answers PoolError.OutOfMemory (λ index. index) result (issuer_of other self.now c verification_time) }
-        // Bytes that are no certificate are malformed.
-        ensures none { ((c : Cert) → IsCertificate der.now c → ⊥)
-            → Answers PoolError.OutOfMemory (λ (index : ℕ). index) result (Err PoolError.Malformed) }
     {
         self.check_der(alloc, der, verification_time, checker)
     }

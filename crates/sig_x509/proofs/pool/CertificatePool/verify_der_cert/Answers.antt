@@ -6,7 +6,7 @@ use Rattle.sig_base.specs.declared.fault.PoolError.TheVariants.{OutOfMemory}
 use Rattle.std.proofs.Math.Facts.{to_z-of_z}
 use Rattle.sig_x509.specs.Issued.{IsJudgedText}
 use Rattle.sig_x509.proofs.AskedLaws.{asked_alone}
-use Rattle.sig_x509.proofs.IssuedLaws.{text_issued, text_malformed, text_unissued, text_certificate, text_none}
+use Rattle.sig_x509.proofs.IssuedLaws.{text_issued, text_malformed, text_unissued, text_certificate}
 use Rattle.sig_x509.proofs.pool.CertificatePool.verify_der_cert.Goals as goal
 
 pub returns-clause-issued : goal.returns-clause-issued
@@ -34,13 +34,6 @@ pub returns-clause-certificate : goal.returns-clause-certificate
 returns-clause-certificate g c =
     let accepts = g.C.SignatureChecker.cert_accepts c.args.checker.now in
     text_certificate accepts c.args.der.now c.args.verification_time c.args.self.now c.check_der.result
-    (subst (λ (t : ℤ). IsJudgedText accepts c.args.der.now t c.args.self.now c.check_der.result)
-    (to_z-of_z c.ranges.verification_time) c.check_der.ensures)
-
-pub returns-clause-none : goal.returns-clause-none
-returns-clause-none g c =
-    let accepts = g.C.SignatureChecker.cert_accepts c.args.checker.now in
-    text_none accepts c.args.der.now c.args.verification_time c.args.self.now c.check_der.result
     (subst (λ (t : ℤ). IsJudgedText accepts c.args.der.now t c.args.self.now c.check_der.result)
     (to_z-of_z c.ranges.verification_time) c.check_der.ensures)
 
