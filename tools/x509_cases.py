@@ -590,6 +590,41 @@ def pools():
         case(cause, "from_certificates " + listed(anchors), expected)
 
 
+ORDERS = ["aa", "aab", "aba", "baa", "abab", "abba", "bbaa", "abc", "acb", "bac", "bca", "cab", "cba", "abcabc", "Aa", "aAa", "Aba", "bAa"]
+FIRST_FIELDS = ["version", "first", "last", "inner", "algorithm", "issuer", "subject", "spki"]
+
+
+def fields_of(content):
+    """The first fields of a certificate, as they are read above."""
+    return dict(zip(FIRST_FIELDS, read_certificate(content).split()[1:]))
+
+
+def signer_among(leaf, anchors, under):
+    """The first of the trust anchors that has the issuer's name and this key."""
+    wanted = (fields_of(leaf)["issuer"], written(under))
+    found = [fields_of(anchor) for anchor in anchors]
+    places = [place for place, fields in enumerate(found) if (fields["subject"], fields["spki"]) == wanted]
+    return answer(places[0]) if places else "VerificationFailed"
+
+
+def anchors_in(order):
+    """A trust anchor for each letter: its key, of the issuer's name, or of another name in upper case. No two are equal."""
+    for place, letter in enumerate(order, start=1):
+        changes = {"subject": fixture.name("another root")} if letter.isupper() else {}
+        yield fixture.certificate(fixture.anchor(serial=der(2, bytes([place])), key=key(ord(letter.lower())), **changes))
+
+
+def pools_of_one_name():
+    parts = leaf_with()
+    group("pools of trust anchors of one name: each letter a key, in upper case of another name")
+    for order in ORDERS:
+        anchors = list(anchors_in(order))
+        for letter in sorted({*order.lower(), "z"}):
+            under = key(ord(letter))
+            expected = signer_among(fixture.certificate(parts), anchors, under)
+            case("%s, signed under %s" % (order, letter), pool_line(1702446655, parts, anchors, genuine_leaf(parts, under)), expected)
+
+
 def keyrings():
     ring = listed([b"", key(3), b"\x30\x00"])
     group("a keyring of no key, a key, and no key")
@@ -645,6 +680,7 @@ def main():
     rows()
     bits()
     pools()
+    pools_of_one_name()
     keyrings()
     policies()
     requests()
