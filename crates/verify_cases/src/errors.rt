@@ -99,9 +99,7 @@ impl Listed for OfflineError {
         match index {
             0..12 => Ok(plain(index)),
             12..24 => Ok(with_value(index - 12)),
-            24 => Ok(Some(OfflineError::RekorPublicKeyNotFoundError(
-                Text::copy_of(alloc, "id")?,
-            ))),
+            24 => Ok(Some(OfflineError::RekorPublicKeyNotFoundError(Text::copy_of(alloc, "id")?))),
             _ => Ok(None),
         }
     }

@@ -20,12 +20,7 @@ pub(crate) fn answer(
     }
 }
 
-fn at(
-    alloc: Global,
-    call: &str,
-    root: &SigstoreTrustRoot,
-    now: i64,
-) -> Result<Answer, CaseError> {
+fn at(alloc: Global, call: &str, root: &SigstoreTrustRoot, now: i64) -> Result<Answer, CaseError> {
     match call {
         "fulcio_certs" => certificates(alloc, root.fulcio_certs(alloc, now)),
         "rekor_keys" => keys(alloc, root.rekor_keys(alloc, now)),
