@@ -144,7 +144,7 @@ enum Change {
     Doubled,
 }
 
-/// The hashes with the one at the place changed.
+/// The hashes with the one at the index changed.
 fn changed(
     alloc: Global,
     hashes: &[[u8; 32]],

@@ -40,7 +40,7 @@ impl Sweep {
     }
 }
 
-/// As many hashes as the longest proof has, each of one byte: its place.
+/// As many hashes as the longest proof has, each of one byte: its index.
 fn made_up_hashes(alloc: Global) -> Result<Vec<[u8; 32]>, CaseError> {
     let mut hashes = Vec::new(alloc);
     for place in 0..65u8 {

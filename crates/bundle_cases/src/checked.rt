@@ -40,7 +40,7 @@ pub(crate) fn with_digest(answer: Answer, digest: &ArtifactDigest) -> Result<Ans
     answer.value(&digest.algorithm())?.hex(digest.as_bytes())
 }
 
-/// `checked TEXT`: what the checked bundle lends: certificate, signature, whether the entry is the bundle's first
+/// `checked TEXT`: what the checked bundle has: certificate, signature, whether the entry is the bundle's first
 /// and a copy of it is equal, the pre-authentication encoding, the payload, and the envelope's text.
 pub(crate) fn lent(alloc: Global, text: &str) -> Result<Answer, CaseError> {
     let bundle = bundle(alloc, text)?;
@@ -50,7 +50,7 @@ pub(crate) fn lent(alloc: Global, text: &str) -> Result<Answer, CaseError> {
     }
 }
 
-/// What the checked bundle lends.
+/// What is borrowed of the checked bundle.
 fn parts_of(alloc: Global, checked: &CheckedBundle, bundle: &Bundle) -> Result<Answer, CaseError> {
     let is_copied = is_copied(alloc, checked.entry())?;
     let answer = Answer::ok(alloc)?

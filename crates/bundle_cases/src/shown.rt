@@ -7,7 +7,7 @@ use sig_bundle::{
 use sig_cases::{Answer, CaseError};
 use std::alloc::Global;
 
-/// `shown NAME`: the error of this name; out of memory stands behind `ok`, since by itself it would end the program.
+/// `shown NAME`: the error of this name; out of memory comes behind `ok`, since by itself it would end the program.
 pub(crate) fn answer(alloc: Global, name: &str) -> Result<Answer, CaseError> {
     match name {
         "InclusionPromiseMissing" => {

@@ -95,7 +95,7 @@ fn add_entry(alloc: Global, answer: Answer, entry: &LogEntry) -> Result<Answer, 
     add_json(alloc, answer, entry.body.json(alloc))
 }
 
-/// Adds a proof as it stands.
+/// Adds a proof as it is.
 fn add_api_proof(answer: Answer, proof: &RekorInclusionProof) -> Result<Answer, CaseError> {
     let mut answer = answer
         .value(&proof.log_index)?

@@ -27,7 +27,7 @@ abbrev pub as_row : Operation → List ℕ → List ℕ → List ℕ → List �
 as_row operation scheme key message signature =
     record { operation = operation; scheme = scheme; key = key; message = message; signature = signature }
 
--- a row matches exactly where it is the row of the five parts
+-- a row matches if and only if it is the row of the five parts
 matches-row : (operation : Operation) (scheme key message signature : List ℕ) (row : AcceptedRow)
     → matches operation scheme key message signature row ≡ true → row ≡ as_row operation scheme key message signature
 matches-row operation scheme key message signature row e =

@@ -60,7 +60,7 @@ pub enum CheckpointFault {
     HashLength,
 }
 
-/// Why a pool has no issuing anchor for a certificate, or could not be made.
+/// Why a pool has no issuing trust anchor for a certificate, or could not be made.
 #[derive(Clone, Copy, Debug, PartialEq, Eq, Error)]
 pub enum PoolError {
     /// The certificate at this index of the list is no trust anchor.
@@ -69,7 +69,7 @@ pub enum PoolError {
     /// The leaf does not meet the certificate profile, or its bytes are no certificate.
     #[error("Malformed")]
     Malformed,
-    /// No anchor issued the leaf.
+    /// No trust anchor issued the leaf.
     #[error("VerificationFailed")]
     VerificationFailed,
     /// Out of memory.
@@ -122,7 +122,7 @@ pub enum TrustPart {
     /// No certificate authority.
     #[error("Fulcio")]
     Fulcio,
-    /// No certificate log.
+    /// No Certificate Transparency log.
     #[error("Ctfe")]
     Ctfe,
 }

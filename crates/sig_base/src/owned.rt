@@ -6,7 +6,7 @@ use crate::memory::OutOfMemory;
 use crate::text::Text;
 use std::alloc::Global;
 
-/// A value that owns a copy of what was borrowed, and lends it.
+/// A value that owns a copy of what was borrowed, which can be borrowed again.
 pub trait Owned<'a>: Drop {
     /// What is copied, and what is borrowed: `&[u8]`, `&str`.
     type Borrowed;

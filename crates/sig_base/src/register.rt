@@ -15,7 +15,7 @@ pub struct Register<T> {
 /// SHA-256 hashes in order.
 pub type Hashes = Register<[u8; 32]>;
 
-/// Places and counts in order.
+/// Indices and counts in order.
 pub type Numbers = Register<usize>;
 
 impl<T> Model for Register<T> {

@@ -6,7 +6,7 @@ ghost use Rattle.sig_base.specs.Stream.{Hands, HasCause, Moves};
 
 use thiserror::Error;
 
-/// A read or a write failed. It comes only where the count of faults rose in that call, or stood at its greatest
+/// A read or a write failed. It comes only where the count of faults rose in that call, or was at its greatest
 /// value.
 #[derive(Clone, Copy, Debug, PartialEq, Eq, Error)]
 #[error("Failed")]

@@ -1,4 +1,4 @@
--- The content passes exactly where it is a signature over an artifact, or an envelope of which all rules hold.
+-- The content passes if and only if it is a signature over an artifact, or an envelope of which all rules hold.
 use Rattle.std.proofs.Common.{◌≡◌, inl, inr, ℕ, List, [], ◌∷◌, Option, Some, None, Result, Ok, Err, refl, sym, ap}
 use Rattle.std.proofs.Common.{subst, ◌∙◌}
 use Rattle.sig_base.proofs.ResultSteps.{ok_is, bind_ok, bind_of_ok}

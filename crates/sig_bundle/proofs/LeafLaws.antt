@@ -1,4 +1,4 @@
--- A signing certificate is found exactly where the material holds one.
+-- A signing certificate is found if and only if the material holds one.
 use Rattle.std.proofs.Common.{◌≡◌, ℕ, List, [], ◌∷◌, Option, Some, None, Result, Ok, Err, refl, sym, subst}
 use Rattle.std.proofs.Common.{false}
 use Rattle.std.specs.List.{list_any}

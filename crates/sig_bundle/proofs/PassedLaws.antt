@@ -1,4 +1,4 @@
--- A bundle passes its checks exactly where it holds what the format demands.
+-- A bundle passes its checks if and only if it holds what the format demands.
 use Rattle.std.proofs.Common.{◌≡◌, Option, Some, None, Result, Ok, Err, refl, sym, subst}
 use Rattle.std.specs.Prelude.{◌↔◌}
 use Rattle.sig_base.proofs.ResultSteps.{ok_is, bind_ok}

@@ -1,4 +1,4 @@
--- The log entry passes exactly where it is the only one, and has what the version demands.
+-- The log entry passes if and only if it is the only one, and has what the version demands.
 use Rattle.std.proofs.Common.{◌≡◌, ℕ, List, [], ◌∷◌, Option, Some, None, Ok, refl, ap}
 use Rattle.sig_base.proofs.ResultSteps.{ok_is}
 use Rattle.sig_bundle.specs.Passed.{HasPromise, HasProof, IsMet}

@@ -12,7 +12,7 @@ use Rattle.sig_certificate.specs.Certificates.{AreCertificates}
 use Rattle.sig_certificate.specs.Profile.{leaf_refusal}
 use Rattle.sig_certificate.specs.declared.error.X509ReadError.{X509ReadError}
 use Rattle.sig_certificate.specs.declared.error.X509ReadError.TheVariants.{Der, OutOfMemory as NoMemory}
-use Rattle.sig_bundle.specs.Lent.{AreUnreadBehind, IsUnreadAt}
+use Rattle.sig_bundle.specs.Borrowed.{AreUnreadBehind, IsUnreadAt}
 use Rattle.sig_bundle.specs.SigningCertificate.{AreRead, IsFirstMalformed, IsLeafAmong}
 use Rattle.sig_bundle.specs.SigningCertificate.{IsNoCertificate, is_root, leaf_among}
 use Rattle.sig_bundle.specs.declared.bundle_error.BundleErrorKind.{BundleErrorKind}

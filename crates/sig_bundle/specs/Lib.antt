@@ -5,7 +5,7 @@ pub mod Content
 pub mod DsseBody
 pub mod EntryEqualityProofs
 pub mod Hashedrekord
-pub mod Lent
+pub mod Borrowed
 pub mod LogBody
 pub mod LogEntries
 pub mod Oneof

@@ -20,7 +20,7 @@ abbrev pub members_into : Members → List TreeMember → Members
 members_into ms [] = ms
 members_into ms (row ∷ rows) = members_into (put_some row.0 row.1 ms) rows
 
--- the object of the rows whose value is there; its members stand in the byte order of their names
+-- the object of the rows whose value is there; its members are in the byte order of their names
 abbrev pub object_of : List TreeMember → Data
 object_of rows = object (members_into no_members rows)
 

@@ -4,7 +4,7 @@ ghost use Rattle.std.specs.Prelude.{◌≡◌, IfOk};
 ghost use Rattle.sig_base.specs.Answers.{Answers};
 ghost use Rattle.sig_bundle.specs.Content.{signature_among, digests_in, envelope_content, message_content};
 ghost use Rattle.sig_bundle.specs.Content.{content_with_signature};
-ghost use Rattle.sig_bundle.specs.Lent.{lent_now, seen_content};
+ghost use Rattle.sig_bundle.specs.Borrowed.{borrowed_now, seen_content};
 
 use crate::bundle::{Content, MessageSignature};
 use crate::bundle_error::BundleErrorKind;
@@ -44,7 +44,7 @@ pub(crate) struct ContentWithSignature {
 
 /// The one signature. Fails with `DsseInvalidSignatureCount` and their number if and only if there is not one.
 fn only_signature(signatures: &DsseSignatures) -> Result<&DsseSignature, BundleErrorKind>
-    ensures { lent_now result ≡ signature_among signatures.now }
+    ensures { borrowed_now result ≡ signature_among signatures.now }
 {
     match signatures.as_slice() {
         [signature] => Ok(signature),

@@ -2,7 +2,7 @@
 
 ghost use Rattle.std.specs.Prelude.{◌≡◌, ◌⊎◌};
 ghost use Rattle.sig_base.specs.Answers.{Answers};
-ghost use Rattle.sig_bundle.specs.Lent.{lent_now};
+ghost use Rattle.sig_bundle.specs.Borrowed.{borrowed_now};
 ghost use Rattle.sig_bundle.specs.Profile.{entry_among, lacks_proof, lacks_promise, lacks, meets_profile};
 
 use crate::bundle_error::{
@@ -17,7 +17,7 @@ use std::str::FromStr;
 
 /// The one log entry. Fails with `TlogEntry` and their number if and only if there is not one.
 pub(crate) fn only_entry(entries: &LogEntries) -> Result<&TransparencyLogEntry, BundleErrorKind>
-    ensures { lent_now result ≡ entry_among entries.now }
+    ensures { borrowed_now result ≡ entry_among entries.now }
 {
     match entries.only() {
         Some(entry) => Ok(entry),

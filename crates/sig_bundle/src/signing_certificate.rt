@@ -4,7 +4,7 @@
 ghost use Rattle.std.specs.Prelude.{◌≡◌, ◌∷◌, IfOk, IfErr, Some, option_map};
 ghost use Rattle.std.specs.List.{list_any};
 ghost use Rattle.sig_bundle.specs.AnswersOnly.{AnswersOnly};
-ghost use Rattle.sig_bundle.specs.Lent.{AreUnreadBehind, IsUnreadAt};
+ghost use Rattle.sig_bundle.specs.Borrowed.{AreUnreadBehind, IsUnreadAt};
 ghost use Rattle.sig_bundle.specs.SigningCertificate.{IsLeafAmong, IsSigningCertificate, encodings_in};
 ghost use Rattle.sig_bundle.specs.SigningCertificate.{is_root, leaf_among};
 ghost use Rattle.sig_certificate.specs.Certificate.{IsCertificate};

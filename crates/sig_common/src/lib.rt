@@ -8,7 +8,7 @@
 //! ```
 //!
 //! The layer above uses one fact of each reader: what it reads is what the definition of its record says of the
-//! value, and it fails exactly where the definition says nothing. A member that is absent is as an empty one.
+//! value, and it fails if and only if the definition says nothing. A member that is absent is as an empty one.
 #![tactic(auto)]
 
 mod read;

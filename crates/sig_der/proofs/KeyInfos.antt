@@ -1,4 +1,4 @@
--- Algorithms and key infos: what the readers take is what the relations build, and what the relations build is taken.
+-- Algorithms and SPKIs: what the readers take is what the relations build, and what the relations build is taken.
 use Rattle.std.proofs.Common.{◌≡◌, ◌≢◌, ℕ, ◌<◌, false, true, eqb, List, [], ◌∷◌, ◌++◌, length, Option, Some, None}
 use Rattle.std.proofs.Common.{refl, sym, ap, subst, ◌∙◌, arith}
 use Rattle.std.proofs.lemmas.Bool.{eqb-true, eqb-false, ne_eqb, cond-false}
@@ -135,7 +135,7 @@ unfolding bits_of after_zero
 bits_of_again bytes bits is =
     bind_of_some (take_whole BIT_STRING bytes) _ _ (take_whole_again bytes BIT_STRING (0 ∷ bits) is)
 
--- ---- key infos
+-- ---- SPKIs
 
 abbrev pub TakesKeyInfo : List ℕ → KeyInfo × List ℕ → Type 0
 TakesKeyInfo bytes y = IsKeyInfo y.0 × (bytes ≡ y.0.whole ++ y.1)
@@ -171,7 +171,7 @@ key_info_at_again k rest bytes is parts =
     (algorithm_at_again k.algorithm is.bits_text content is.algorithm refl)
     ∙ bind_of_some (bits_of is.bits_text) _ k.bits (bits_of_again is.bits_text k.bits is.bits)
 
--- ---- all of the text as a key info
+-- ---- all of the text as an SPKI
 
 pub whole_key_info_takes : (bytes : List ℕ) → IsBytes bytes → (k : KeyInfo) → whole_key_info bytes ≡ Some k
     → IsKeyInfo k × (k.whole ≡ bytes)

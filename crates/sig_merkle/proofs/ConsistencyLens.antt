@@ -1,5 +1,5 @@
 -- The law `consistency_lens`: `roots_len` goes down as `roots_of` does, and a proof leads to roots
--- exactly where it has that many hashes.
+-- if and only if it has that many hashes.
 use Rattle.std.proofs.Common.{◌≡◌, ◌≢◌, ℕ, zero, suc, ◌+◌, ◌-◌, ◌*◌, ◌^◌, ◌<◌, ◌≤◌, ◌↔◌, Bool, true, false, Option}
 use Rattle.std.proofs.Common.{Some, None, MatchOption, IsSome, List, [], ◌∷◌, reverse, length}
 use Rattle.std.proofs.Common.{refl, sym, ◌∙◌, inl, inr, arith}
@@ -115,7 +115,7 @@ pub roots_len-within : (old_size size : ℕ) (known : Bool) → size ≤ 2 ^ 64 
 roots_len-within old_size size known fits =
     rw (roots_len_is old_size size known 64 fits) (roots_len_at-within 64 old_size size known)
 
--- a proof leads to roots exactly where the number of its hashes fits
+-- a proof leads to roots if and only if the number of its hashes fits
 
 Fits-grown : (hashes : List (List ℕ)) (below : List (List ℕ) → Option (List ℕ × List ℕ)) (wanted : ℕ)
     → ((rest : List (List ℕ)) → Fits (below rest) (length rest) wanted)

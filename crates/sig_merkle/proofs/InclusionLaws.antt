@@ -183,7 +183,7 @@ pub Ok-from_IsOk : (answer : Result (Unit {0}) MerkleProofError) → IsOk answer
 Ok-from_IsOk (Ok done) ok = refl
 Ok-from_IsOk (Err refusal) ok = absurd (false≢true ok)
 
--- it is Ok exactly where the leaf is included
+-- it is Ok if and only if the leaf is included
 pub inclusion_answer-ok : (index : ℕ) (leaf : List ℕ) (size : ℕ) (hashes : List (List ℕ)) (root : List ℕ)
     → IsOk (inclusion_answer index leaf size hashes root) ↔ IsIncluded index leaf size hashes root
 inclusion_answer-ok index leaf size hashes root = (

@@ -149,7 +149,7 @@ path_len-seven =
     let three : 7 ≤ 2 ^ 3 = omega arith in
     (path_len_is 0 7 3 three, path_len_is 3 7 3 three, path_len_is 4 7 3 three, path_len_is 6 7 3 three)
 
--- a path leads to a root exactly where the number of its hashes fits
+-- a path leads to a root if and only if the number of its hashes fits
 
 -- something is led to where the count is the wanted one, and nothing elsewhere
 abbrev pub Fits : {A : Type 0} → Option A → ℕ → ℕ → Type 0

@@ -20,7 +20,7 @@ pub struct Roots {
     pub new: [u8; 32],
 }
 
-/// Returns the hash that the inner hashes of a consistency proof lead to in the old tree: the hash at place i is that
+/// Returns the hash that the inner hashes of a consistency proof lead to in the old tree: the hash at index i is that
 /// of the left child where bit i of the index is 1, and is not of the old tree where it is 0. A step is one hash of two
 /// children, so there are at most as many as hashes.
 #[tactic(auto, using(crate::proofs::BitFolds::follows_bits))]

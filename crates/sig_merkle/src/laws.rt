@@ -63,8 +63,8 @@ pub fn path_lens()
 {}
 
 /// In a tree whose size is a `u64`, a walk over the bits of the index leads where the recursion of RFC 6962 section
-/// 2.1.1 does: up along as many inner hashes as the index xor that of the last leaf has bits, the hash at each place on
-/// the side that the bit of this place says, and then up along the right border, a hash on the left for each one bit
+/// 2.1.1 does: up along as many inner hashes as the index xor that of the last leaf has bits, the hash at each index on
+/// the side that the bit of this index says, and then up along the right border, a hash on the left for each one bit
 /// above.
 pub fn inclusion_walks()
     ensures root { (index size : ℕ) (leaf : List ℕ) (hashes : List (List ℕ)) → size < 2 ^ 64

@@ -37,7 +37,7 @@ fn ones_above(number: u64, lowest: u32) -> u32
     }
 }
 
-/// Returns the hash that the inner hashes of an audit path lead to from a hash: the hash at place i is that of the
+/// Returns the hash that the inner hashes of an audit path lead to from a hash: the hash at index i is that of the
 /// right child where bit i of the index is 0, and else that of the left child. A step is one hash of two children.
 #[tactic(auto, using(crate::proofs::BitFolds::follows_bits))]
 pub fn chain_inner<L: Ledger>(

@@ -41,12 +41,12 @@ abbrev pub OfAnchor : Trust → Cert → (Cert → Type 0) → Type 0
 OfAnchor trust c P =
     (index : ℕ) × (x : Cert) × (slice_get trust.anchors index ≡ Some x) × (MayBeIssuer c x × P x)
 
--- the certificate under such an anchor
+-- the certificate under such a trust anchor
 abbrev pub IsCertificateRow : Trust → Cert → AcceptedRow → Type 0
 IsCertificateRow trust c row = OfAnchor trust c (λ x. row ≡ certificate_row x.spki c.algorithm c.tbs c.signature)
 
--- its one SCT, over the certificate as issued by such an anchor, under the point of the SCT's log; what it signs has
--- bytes
+-- its one SCT, over the certificate as issued by such a trust anchor, under the point of the SCT's log; what it signs
+-- has bytes
 abbrev pub IsPointRow : Trust → Cert → AcceptedRow → Type 0
 IsPointRow trust c row = OfAnchor trust c (λ x. OfSct c (λ s. IsLong (precertificate c) × IsShort s.extensions
     × (point : List ℕ) × (trust.points s.log_id ≡ Some point)

@@ -33,7 +33,7 @@ Listing = Result (List AcceptedRow) NoQuestions
 abbrev pub trust_in : TrustParts → Trust
 trust_in parts = record { anchors = parts.anchors; points = point_at parts.keyring }
 
--- of the certificate under the anchors
+-- of the certificate under the trust anchors
 abbrev pub issuer_questions : Trust → Checked → List AcceptedRow
 issuer_questions trust c = flat_map (certificate_questions c.certificate) trust.anchors
 

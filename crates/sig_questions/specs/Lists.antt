@@ -35,7 +35,7 @@ use Rattle.sig_x509.specs.Issuance.{is_issued}
 use Rattle.sig_questions.specs.Asked.{every_signature}
 use Rattle.sig_questions.specs.Rows.{certificate_row, message_row, point_row, prehash_row}
 
--- ---- the certificate under an anchor
+-- ---- the certificate under a trust anchor
 
 abbrev pub may_be_issuer : Cert → Cert → Bool
 may_be_issuer c x = is_issued every_signature c c.not_before x
@@ -44,7 +44,7 @@ abbrev pub certificate_questions : Cert → Cert → List AcceptedRow
 certificate_questions c x =
     if may_be_issuer c x then certificate_row x.spki c.algorithm c.tbs c.signature ∷ [] else []
 
--- ---- its SCT under an anchor
+-- ---- its SCT under a trust anchor
 
 abbrev pub pointed_questions : Option (List ℕ) → DigitallySigned → List AcceptedRow
 pointed_questions None d = []
@@ -140,7 +140,7 @@ entry_questions keys e = entry_questions_under e (spki_named keys e.log_id)
 
 -- ---- all of them
 
--- behind the certificate's under each anchor
+-- behind the certificate's under each trust anchor
 abbrev pub questions_behind : ArtifactDigest → Trust → LogKeys → Checked → List AcceptedRow
 questions_behind d trust keys c =
     flat_map (sct_questions trust.points c.certificate) trust.anchors

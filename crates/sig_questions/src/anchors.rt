@@ -37,8 +37,8 @@ fn read_anchor(alloc: Global, der: &[u8]) -> Result<Certificate, OutOfMemory>
     }
 }
 
-/// Whether the anchor issued the leaf if its signature is genuine: the leaf signs code and is valid at the first
-/// second of its validity, and the anchor has the name of its issuer (RFC 5280 section 6.1.3).
+/// Whether the trust anchor issued the leaf if its signature is genuine: the leaf signs code and is valid at the first
+/// second of its validity, and the trust anchor has the name of its issuer (RFC 5280 section 6.1.3).
 pub(crate) fn may_be_issuer(leaf: &Certificate, anchor: &Certificate) -> bool
     ensures { result ≡ may_be_issuer leaf.now anchor.now }
 {
@@ -47,7 +47,7 @@ pub(crate) fn may_be_issuer(leaf: &Certificate, anchor: &Certificate) -> bool
         && may_sign_code(leaf)
 }
 
-/// The rows of all anchors, in order.
+/// The rows of all trust anchors, in order.
 pub(crate) fn push_certificates(
     rows: &mut Rows,
     alloc: Global,
@@ -62,7 +62,7 @@ pub(crate) fn push_certificates(
     Ok(())
 }
 
-/// The row of an anchor, if it may have issued the leaf.
+/// The row of a trust anchor, if it may have issued the leaf.
 fn push_certificate(
     rows: &mut Rows,
     alloc: Global,

@@ -37,7 +37,7 @@ pub fn refusals()
 {}
 
 /// What is listed of texts of which the links before `issuer` hold are the questions, in order, or none where no trust
-/// anchor may have issued the certificate.
+/// trust anchor may have issued the certificate.
 pub(crate) fn listed_texts()
     ensures { ListedTextsAreAnswered }
 {

@@ -15,7 +15,7 @@ use sig_timestamp::{
 };
 use std::alloc::Global;
 
-/// The rows of all anchors, in order.
+/// The rows of all trust anchors, in order.
 pub(crate) fn push_points(
     rows: &mut Rows,
     alloc: Global,
@@ -32,7 +32,7 @@ pub(crate) fn push_points(
     Ok(())
 }
 
-/// The row of an anchor, if it may have issued the leaf and the leaf has one SCT.
+/// The row of a trust anchor, if it may have issued the leaf and the leaf has one SCT.
 fn push_point(
     rows: &mut Rows,
     alloc: Global,

@@ -154,7 +154,7 @@ failed_at_cut before text piece rest error cut is = by (signatures_on before (pi
   by (Ok after) same failed = absurd cc
   by (Err fault) same failed = rw (signatures_on-cut_refused before text piece rest fault cut same) failed
 
--- so does what ends at a cut for want of memory
+-- so does what ends at a cut where memory runs out
 pub ends_at_cut : (before : List CheckpointSignature) (text piece rest : List ℕ) (error : ParseCheckpointError)
     (whole : Result (List CheckpointSignature) CheckpointFault)
     → signatures_on before (parts_between empty_line text) ≡ whole → Some (piece, rest) ≡ cut_at empty_line text

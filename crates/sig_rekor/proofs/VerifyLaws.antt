@@ -1,4 +1,4 @@
--- An inclusion proof is accepted exactly where the log vouches for the entry.
+-- An inclusion proof is accepted if and only if the log vouches for the entry.
 use Rattle.std.proofs.Common.{◌≡◌, ℕ, Bool, true, cond, nat_lt, List, Option, Some, None, Result, Ok, Err, refl, ap}
 use Rattle.std.proofs.Common.{inl, inr, arith, ℤ, pos, negsuc, IsOkUnless, OnOk}
 use Rattle.std.proofs.lemmas.Bool.{ltb-false, le-ltb}

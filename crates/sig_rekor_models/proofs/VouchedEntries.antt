@@ -1,4 +1,4 @@
--- The check of an entry is Ok exactly where the proof that it carries vouches for it.
+-- The check of an entry is Ok if and only if the proof that it carries vouches for it.
 use Rattle.std.proofs.Common.{◌≡◌, ℕ, Bool, List, Option, Some, None, Result, Ok, Err, inl, inr}
 use Rattle.std.specs.Option.{ok_or}
 use Rattle.std.specs.Prelude.{OnOk, IsOkUnless}

@@ -32,7 +32,7 @@ pub struct LogEntry {
 /// What is kept of an entry beside the log. No member of it is known.
 #[derive(Drop, PartialEq, Eq)]
 pub struct Attestation {
-    /// A text that stands for such members.
+    /// A text in place of such members.
     pub dummy: Option<Text>,
 }
 

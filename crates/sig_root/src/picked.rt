@@ -74,7 +74,7 @@ fn add_certificates(
     }
 }
 
-/// Returns the keys whose range holds at this second, by their log ids. Of equal log ids the last of them stands.
+/// Returns the keys whose range holds at this second, by their log ids. Of equal log ids the last counts.
 /// Fails if out of memory alone.
 pub(crate) fn pick_keys(
     alloc: Global,

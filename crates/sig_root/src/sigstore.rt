@@ -70,13 +70,13 @@ impl TrustRoot for SigstoreTrustRoot {
         Ok(list)
     }
 
-    /// Returns the keys of the logs of signatures whose range holds. Of equal log ids the last of them stands.
+    /// Returns the keys of the logs of signatures whose range holds. Of equal log ids the last counts.
     fn rekor_keys(&self, alloc: Global, now: i64) -> Result<KeyMap> {
         Ok(pick_keys(alloc, self.root.tlogs.as_slice(), now)?)
     }
 
-    /// Returns the keys of the Certificate Transparency logs whose range holds. Of equal log ids the last of them
-    /// stands. Fails with `TufMetadataError(Ctfe)` if and only if there is none, unless memory runs out.
+    /// Returns the keys of the Certificate Transparency logs whose range holds. Of equal log ids the last
+    /// counts. Fails with `TufMetadataError(Ctfe)` if and only if there is none, unless memory runs out.
     fn ctfe_keys(&self, alloc: Global, now: i64) -> Result<KeyMap> {
         let keys = pick_keys(alloc, self.root.ctlogs.as_slice(), now)?;
         if keys.len() == 0 {

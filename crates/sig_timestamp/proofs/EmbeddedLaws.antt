@@ -1,4 +1,4 @@
--- The timestamp of a certificate: each answer has its cause, and each cause its answer.
+-- The SCT of a certificate: each answer has its cause, and each cause its answer.
 use Rattle.std.proofs.Common.{◌≡◌, ◌≢◌, ◌⊎◌, ℕ, ◌≤◌, false, List, [], ◌∷◌, length, Option, Some, None, Result, Ok, Err}
 use Rattle.std.proofs.Common.{refl, sym, ap, subst, ◌∙◌, inl, inr, arith}
 use Rattle.std.proofs.lemmas.List.{append-nil}

@@ -1,4 +1,4 @@
--- The entries of a ring: what is found after a key was added, and the ring of a list of key infos.
+-- The entries of a ring: what is found after a key was added, and the ring of a list of SPKIs.
 use Rattle.std.proofs.Common.{◌≡◌, ℕ, ◌+◌, ◌<◌, Bool, true, false, cond, List, [], ◌∷◌, ◌++◌, length, take, get_or}
 use Rattle.std.proofs.Common.{Option}
 use Rattle.std.proofs.Common.{Some, None, Ok, refl, sym, ap, ◌∙◌}
@@ -38,15 +38,15 @@ lookup_points id (e ∷ ring) =
     rw (is_eq-slice_cmp id e.0)
     (points_cond (bytes_eq id e.0) e.1 (lookup (at_key id) ring) (point_at ring id) (lookup_points id ring))
 
-lent_points : (r : Option (Bor RingKey)) (o : Option RingKey) → option_copied r ≡ o
+borrowed_points : (r : Option (Bor RingKey)) (o : Option RingKey) → option_copied r ≡ o
     → option_map (λ (k : Bor RingKey). k.now.point) r ≡ points o
-lent_points None o e = rw (← e) refl
-lent_points (Some k) o e = rw (← e) refl
+borrowed_points None o e = rw (← e) refl
+borrowed_points (Some k) o e = rw (← e) refl
 
-pub lent_is : (id : List ℕ) (ring : Ring) (r : Option (Bor RingKey))
+pub borrowed_is : (id : List ℕ) (ring : Ring) (r : Option (Bor RingKey))
     → option_copied r ≡ lookup (λ k. is_eq (slice_cmp nat_cmp id k)) ring
     → option_map (λ (k : Bor RingKey). k.now.point) r ≡ point_at ring id
-lent_is id ring r e = lent_points r _ e ∙ lookup_points id ring
+borrowed_is id ring r e = borrowed_points r _ e ∙ lookup_points id ring
 
 -- ---- a key added
 
@@ -65,7 +65,7 @@ added id spki name k before after is named found =
     by_cases true = refl
     by_cases false = refl
 
--- ---- a list of key infos
+-- ---- a list of SPKIs
 
 option_or_assoc : (a b c : Option (List ℕ)) → option_or (option_or a b) c ≡ option_or a (option_or b c)
 option_or_assoc None b c = refl

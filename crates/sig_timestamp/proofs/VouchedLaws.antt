@@ -1,4 +1,4 @@
--- Each result of a keyring and of a timestamp, and when it comes.
+-- Each result of a keyring and of an SCT, and when it comes.
 use Rattle.std.proofs.Common.{◌≡◌, ℕ, ◌+◌, ◌-◌, ◌^◌, ◌<◌, Bool, true, false, cond, ltb, List, length, Option}
 use Rattle.std.proofs.Common.{Some, None, Result, Ok, Err}
 use Rattle.std.proofs.Common.{refl, sym, ap, ◌∙◌, arith, inl, inr}
@@ -63,7 +63,7 @@ module _ (accepts : AcceptsPoint) (ring : Ring) (id message signature : List ℕ
       to (Some p) e f =
           record { point = p; has = e; said = as_result_one (accepts p message signature) b (sym (known p e) ∙ f) }
 
--- ---- a timestamp
+-- ---- an SCT
 
 abbrev Judged : Type 0
 Judged = Result (Unit {0}) SCTError

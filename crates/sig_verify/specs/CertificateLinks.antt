@@ -30,7 +30,7 @@ pub record Trust : Type 0 where
 
 -- ---- the parts that a link may speak of
 
--- the first anchor that issued the certificate, at the first second of its validity, and of it this holds
+-- the first trust anchor that issued the certificate, at the first second of its validity, and of it this holds
 pub record OfIssuer (accepts : Accepts) (anchors : List Cert) (c : Cert) (P : Cert → Type 0) : Type 0 where
   pub index : ℕ
   pub first : IsFirstIssuer accepts c c.not_before anchors index
@@ -46,7 +46,7 @@ OfScheme c P = (scheme : VerifyScheme) × IsKind c.spki (Scheme scheme) × P sch
 
 -- ---- what a link asks
 
--- some anchor issued the certificate
+-- some trust anchor issued the certificate
 abbrev pub HasIssuer : Checker → Trust → Cert → Type 0
 HasIssuer k trust c = OfIssuer k.cert trust.anchors c (λ anchor. Unit {0})
 
@@ -54,7 +54,8 @@ HasIssuer k trust c = OfIssuer k.cert trust.anchors c (λ anchor. Unit {0})
 abbrev pub HasSignedBytes : Cert → Type 0
 HasSignedBytes c = OfSct c (λ s. IsLong (precertificate c) × IsShort s.extensions)
 
--- the log of the SCT has a point, under which the SCT's signature is over the certificate as issued by that anchor
+-- the log of the SCT has a point, under which the SCT's signature is over the certificate as issued by that trust
+-- trust anchor
 abbrev pub IsVouchedFor : Checker → Trust → Cert → Type 0
 IsVouchedFor k trust c = OfSct c (λ s. OfIssuer k.cert trust.anchors c (λ anchor.
     (point : List ℕ) × (trust.points s.log_id ≡ Some point)

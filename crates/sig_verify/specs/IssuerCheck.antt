@@ -31,19 +31,19 @@ abbrev pub spki_or_none : Option (List ℕ) → Result (List ℕ) VerificationEr
 spki_or_none (Some spki) = Ok spki
 spki_or_none None = Err (Certificate VerificationFailed)
 
--- what was lent
-abbrev pub lent_spki : Result (Bor (List ℕ)) VerificationError → Result (List ℕ) VerificationError
-lent_spki (Ok spki) = Ok spki.now
-lent_spki (Err error) = Err error
+-- what was borrowed
+abbrev pub borrowed_spki : Result (Bor (List ℕ)) VerificationError → Result (List ℕ) VerificationError
+borrowed_spki (Ok spki) = Ok spki.now
+borrowed_spki (Err error) = Err error
 
--- the index of the first anchor that issued the certificate, at the first second of its validity
+-- the index of the first trust anchor that issued the certificate, at the first second of its validity
 abbrev pub issuer_place : Accepts → List Cert → Cert → Result ℕ VerificationError
 issuer_place accepts anchors c = from_pool (issuer_of accepts anchors c c.not_before)
 
 abbrev pub spki_at : List Cert → ℕ → Result (List ℕ) VerificationError
 spki_at anchors place = spki_or_none (option_map (λ anchor. anchor.spki) (slice_get anchors place))
 
--- the key of that anchor
+-- the key of that trust anchor
 abbrev pub issuer_spki : Accepts → List Cert → Cert → Result (List ℕ) VerificationError
 issuer_spki accepts anchors c = issuer_place accepts anchors c >>= λ place. spki_at anchors place
 

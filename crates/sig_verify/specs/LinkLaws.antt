@@ -78,7 +78,7 @@ abbrev pub TimesAreJudged : Type 0
 TimesAreJudged = (k : Checker) (policy : PolicyOf) (trust : Trust) (d : ArtifactDigest) (offline : Bool) (c : Checked)
     → Tells (HoldsOfChecked k policy trust d offline c) (Time ∷ []) (renamed (time_answer c))
 
--- the anchors, and the points of the ring
+-- the trust anchors, and the points of the ring
 abbrev pub trust_of : Trusted → Trust
 trust_of trusted = record { anchors = trusted.anchors; points = point_at trusted.ring }
 

@@ -57,9 +57,9 @@ only_entry_among (Some material) = only_entry material.tlog_entries
 abbrev pub only_entry_of : BundleType → Option TransparencyLogEntry
 only_entry_of bundle = only_entry_among bundle.verification_material
 
--- what was lent
-abbrev pub lent_entry : Option (Bor TransparencyLogEntry) → Option TransparencyLogEntry
-lent_entry found = option_map (λ entry. entry.now) found
+-- what was borrowed
+abbrev pub borrowed_entry : Option (Bor TransparencyLogEntry) → Option TransparencyLogEntry
+borrowed_entry found = option_map (λ entry. entry.now) found
 
 -- ---- the groups, the last first
 

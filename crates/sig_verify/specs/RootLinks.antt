@@ -27,7 +27,7 @@ rekor_keys root now = keys_of now root.tlogs
 abbrev pub IsSomeAnchor : List ℕ → Type 0
 IsSomeAnchor der = (c : Cert) × IsAnchor der c
 
--- these are its anchors, and the key of each log id is the last of the keys with this id
+-- these are its trust anchors, and the key of each log id is the last of the keys with this id
 abbrev pub OfTrust : TrustedRoot → ℤ → (Trust → Type 0) → Type 0
 OfTrust root now P = (anchors : List Cert) × AreAnchors (authorities root now) anchors
     × P (record { anchors = anchors; points = key_of (values_of (ct_keys root now)) })

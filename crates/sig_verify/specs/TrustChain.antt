@@ -21,7 +21,7 @@ use Rattle.sig_verify.specs.Verdict.{HasBody}
 pub record TrustChain (o : Outside) (i : Inputs) : Type 0 where
   -- some trust anchor issued c, at the first second of its validity
   pub issuer : OfChecked i (λ trust c. HasIssuer o.checker trust c.certificate)
-  -- c has one SCT, whose log signed it for c as the first such anchor issued it
+  -- c has one SCT, whose log signed it for c as the first such trust anchor issued it
   pub sct : OfChecked i (λ trust c. IsVouchedFor o.checker trust c.certificate)
   -- the policy holds of c
   pub policy : OfChecked i (λ trust c. o.policy.holds c.certificate ≡ true)

@@ -27,7 +27,7 @@ values_of keys = map (λ key. key.1) keys
 abbrev pub HasKeys : List (List ℕ × List ℕ) → List (List ℕ × RingKey) → Type 0
 HasKeys keys ring = (id : List ℕ) → point_at ring id ≡ key_of (values_of keys) id
 
--- the root has certificates, which are the anchors, and keys, which the ring has
+-- the root has certificates, which are the trust anchors, and keys, which the ring has
 pub record IsVerifierOf (authorities : Authorities) (ct_keys : CtKeys) (trusted : Trusted) : Type 0 where
   pub certificates : List (List ℕ)
   pub given : authorities ≡ Ok certificates
@@ -42,12 +42,12 @@ IsRefusedPool certificates error =
     OrMemory OutOfMemory error
     ((place : ℕ) × (error ≡ CertificatePoolError (Anchor place)) × IsFirstNoAnchor certificates place)
 
--- the first of the certificates that is no anchor has this index
+-- the first of the certificates that is no trust anchor has this index
 abbrev pub HasOther : Authorities → ℕ → Type 0
 HasOther authorities place = (certificates : List (List ℕ)) × (authorities ≡ Ok certificates)
     × IsFirstNoAnchor certificates place
 
--- all certificates are anchors
+-- all certificates are trust anchors
 abbrev pub HasAnchors : Authorities → Type 0
 HasAnchors authorities =
     (certificates : List (List ℕ)) × (anchors : List Cert) × (authorities ≡ Ok certificates)

@@ -7,7 +7,7 @@ ghost use Rattle.sig_verify.specs.Links.{HoldsOf, OfPassed, chain_links};
 ghost use Rattle.sig_verify.specs.OfflineLaws.{AreReadInputs, HasEntryOfBytes, IsOfBundleOfBytes};
 ghost use Rattle.sig_verify.specs.OfflineVerdict.{only_entry_of, IsOffline, IsOfflineIn, IsOfflineOf, IsOfflineUnder};
 ghost use Rattle.sig_verify.specs.OfflineVerdict.{IsVouchedIn};
-ghost use Rattle.sig_verify.specs.OfflineVerdict.{lent_entry};
+ghost use Rattle.sig_verify.specs.OfflineVerdict.{borrowed_entry};
 ghost use Rattle.sig_verify.specs.Verdict.{checker_of, policy_of};
 
 use crate::laws::outcomes;
@@ -192,7 +192,7 @@ fn is_entry_bytes(bundle: &Bundle)
 
 /// The only log entry of a bundle.
 fn only_entry_of(bundle: &Bundle) -> Option<&TransparencyLogEntry>
-    ensures { lent_entry result ≡ only_entry_of bundle.now }
+    ensures { borrowed_entry result ≡ only_entry_of bundle.now }
 {
     match &bundle.verification_material {
         Some(material) => material.tlog_entries.only(),

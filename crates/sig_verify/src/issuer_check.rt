@@ -1,7 +1,7 @@
 //! Whether a certificate was issued by a trust anchor, and whether a Certificate Transparency log vouches for it.
 ghost use Rattle.std.specs.Prelude.{◌≡◌, Ok, Err};
 ghost use Rattle.sig_base.specs.Answers.{Answers};
-ghost use Rattle.sig_verify.specs.IssuerCheck.{issued_answer, issuer_place, issuer_spki, lent_spki, sct_answer};
+ghost use Rattle.sig_verify.specs.IssuerCheck.{issued_answer, issuer_place, issuer_spki, borrowed_spki, sct_answer};
 ghost use Rattle.sig_verify.specs.IssuerCheck.{spki_at};
 
 use crate::error::{CertificateErrorKind, VerificationError};
@@ -15,7 +15,7 @@ use std::alloc::Global;
 
 impl Verifier {
     /// The links `issuance`, `issuer` and `sct`: whether the certificate has the profile of one that is issued, a
-    /// trust anchor issued it, and a Certificate Transparency log vouches for it under the first anchor that did.
+    /// trust anchor issued it, and a Certificate Transparency log vouches for it under the first trust anchor that did.
     pub(crate) fn check_issuer<C: SignatureChecker>(
         &self,
         alloc: Global,
@@ -38,7 +38,7 @@ fn issuer_spki<'a, C: SignatureChecker>(
     leaf: &Certificate,
     checker: &C,
 ) -> Result<&'a [u8], VerificationError>
-    ensures { lent_spki result ≡ issuer_spki (C.cert_accepts checker.now) pool.now leaf.now }
+    ensures { borrowed_spki result ≡ issuer_spki (C.cert_accepts checker.now) pool.now leaf.now }
 {
     let place = issuer_place(pool, leaf, checker)?;
     spki_at(pool, place)
@@ -62,7 +62,7 @@ fn issuer_place<C: SignatureChecker>(
 
 /// The SubjectPublicKeyInfo of the trust anchor at an index.
 fn spki_at(pool: &CertificatePool, place: usize) -> Result<&[u8], VerificationError>
-    ensures { lent_spki result ≡ spki_at pool.now place }
+    ensures { borrowed_spki result ≡ spki_at pool.now place }
 {
     match pool.anchor_spki(place) {
         Some(spki) => Ok(spki),

@@ -9,7 +9,7 @@ ghost use Rattle.sig_verify.specs.LinkLaws.{IsKept};
 ghost use Rattle.sig_verify.specs.LogEntry.{log_entry_answer, fields_answer, id_answer, included};
 ghost use Rattle.sig_verify.specs.LogEntry.{entry_inclusion_answer};
 ghost use Rattle.sig_verify.specs.LogEntry.{log_key_answer};
-ghost use Rattle.sig_verify.specs.LogEntry.{lent_id, promise_answer, read_key, vouched};
+ghost use Rattle.sig_verify.specs.LogEntry.{borrowed_id, promise_answer, read_key, vouched};
 
 use crate::offline::Offline;
 use crate::offline_error::{OfflineError, proof_error};
@@ -132,7 +132,7 @@ fn log_key(
 
 /// The id of the entry's log.
 fn id_of(id: &Option<Bytes>) -> Result<&Bytes, OfflineError>
-    ensures { lent_id result ≡ id_answer id.now }
+    ensures { borrowed_id result ≡ id_answer id.now }
 {
     match id {
         Some(id) => Ok(id),

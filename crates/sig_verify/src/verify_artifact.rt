@@ -63,7 +63,7 @@ impl Verifier {
             (renamed result))) }
         ensures long { IsErrOf result (VerificationError.Input InputFault.TooLong)
             → TookCount (S.left input.old) (S.left input.new) (most_artifact_bytes + 1) }
-        // With any other answer fewer were taken.
+        // With any other result fewer were taken.
         ensures short { (result ≡ Err (VerificationError.Input InputFault.TooLong))
             ⊎ TookAtMost most_artifact_bytes (S.left input.old) (S.left input.new) }
         ensures fault { IsErrOf result (VerificationError.Input InputFault.Fault)

@@ -1,5 +1,5 @@
--- *Issuance*: which certificates may be issued, and by which anchor. RFC 5280 sections 4.2 and 6.1, in the profile of
--- Sigstore.
+-- *Issuance*: which certificates may be issued, and by which trust anchor. RFC 5280 sections 4.2 and 6.1, in the
+-- profile of Sigstore.
 use Rattle.std.specs.Prelude.{⊤, ◌≡◌, ℕ, ℤ, List, length, take, slice_get, Bool, true, false, not, ◌&&◌, ◌||◌}
 use Rattle.std.specs.Prelude.{Option, Some, None, Result, Ok, Err, position, int_le, ◌==◌, if◌then◌else◌}
 use Rattle.std.specs.Str.{bytes_eq}
@@ -78,12 +78,12 @@ abbrev pub placed : Option ℕ → Result ℕ PoolError
 placed None = Err VerificationFailed
 placed (Some index) = Ok index
 
--- the index of the first anchor that issued c, which signs code at the time t
+-- the index of the first trust anchor that issued c, which signs code at the time t
 abbrev pub issuer_of : Accepts → List Cert → Cert → ℤ → Result ℕ PoolError
 issuer_of accepts anchors c t = if is_profiled c then placed (position (is_issued accepts c t) anchors)
     else Err Malformed
 
--- ---- anchors
+-- ---- trust anchors
 
 -- The bytes are a trust anchor: a certificate without name constraints.
 pub record IsAnchor (der : List ℕ) (c : Cert) : Type 0 where
@@ -93,11 +93,11 @@ pub record IsAnchor (der : List ℕ) (c : Cert) : Type 0 where
 abbrev pub IsNoAnchor : List ℕ → Type 0
 IsNoAnchor der = (c : Cert) → IsAnchor der c → ⊥
 
--- the DERs are those of the anchors, one by one
+-- the DERs are those of the trust anchors, one by one
 abbrev pub AreAnchors : List (List ℕ) → List Cert → Type 0
 AreAnchors ders anchors = AllZip IsAnchor ders anchors
 
--- The DER at this index is the first that is no anchor.
+-- The DER at this index is the first that is no trust anchor.
 pub record IsFirstNoAnchor (ders : List (List ℕ)) (index : ℕ) : Type 0 where
   pub anchors : List Cert
   pub before : AreAnchors (take index ders) anchors

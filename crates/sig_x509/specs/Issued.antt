@@ -1,5 +1,5 @@
--- *Issuance* as relations: what holds of a certificate that may be issued, of who signed it, and of the anchor that
--- issued it. RFC 5280 sections 4.1, 4.2 and 6.1, in the profile of Sigstore. `Issuance` says how they are found.
+-- *Issuance* as relations: what holds of a certificate that may be issued, of who signed it, and of the trust anchor
+-- that issued it. RFC 5280 sections 4.1, 4.2 and 6.1, in the profile of Sigstore. `Issuance` says how they are found.
 use Rattle.std.specs.Prelude.{◌≡◌, ◌⊎◌, ℕ, ◌<◌, ℤ, ◌≤ℤ◌, List, [], Bool, true, false, Some, None, Result, Ok, Err}
 use Rattle.std.specs.Prelude.{slice_get}
 use Rattle.std.specs.Str.{bytes_eq}
@@ -58,12 +58,12 @@ pub record IsIssuedBy (accepts : Accepts) (c : Cert) (t : ℤ) (x : Cert) : Type
   pub purpose : code_signing c ≡ Ok (Some true)
   pub signed : IsSignedBy accepts c x
 
--- none of the anchors issued it
+-- none of the trust anchors issued it
 abbrev pub IsIssuedByNone : Accepts → Cert → ℤ → List Cert → Type 0
 IsIssuedByNone accepts c t anchors = (index : ℕ) (x : Cert) → slice_get anchors index ≡ Some x
     → ¬ IsIssuedBy accepts c t x
 
--- the anchor at the index issued it, and none before it did
+-- the trust anchor at the index issued it, and none before it did
 pub record IsFirstIssuer (accepts : Accepts) (c : Cert) (t : ℤ) (anchors : List Cert) (index : ℕ) : Type 0 where
   pub anchor : Cert
   pub there : slice_get anchors index ≡ Some anchor
@@ -82,7 +82,7 @@ pub record IsAsked (c : Cert) (t : ℤ) (x : Cert) : Type 0 where
   pub purpose : code_signing c ≡ Ok (Some true)
   pub issuer : c.issuer ≡ x.subject
 
--- two checkers say the same of the anchors that are asked
+-- two checkers say the same of the trust anchors that are asked
 abbrev pub AgreeWhereAsked : Accepts → Accepts → Cert → ℤ → List Cert → Type 0
 AgreeWhereAsked accepts other c t anchors =
     (index : ℕ) (x : Cert) → slice_get anchors index ≡ Some x → IsAsked c t x
@@ -94,14 +94,14 @@ AgreeWhereAsked accepts other c t anchors =
 abbrev pub HasNoProfile : List ℕ → Type 0
 HasNoProfile der = (c : Cert) → IsCertificate der c → ¬ HasProfile c
 
--- The bytes are a certificate with the profile, and the anchor at the index is the first that issued it.
+-- The bytes are a certificate with the profile, and the trust anchor at the index is the first that issued it.
 pub record IsIssuedText (accepts : Accepts) (der : List ℕ) (t : ℤ) (anchors : List Cert) (index : ℕ) : Type 0 where
   pub certificate : Cert
   pub is : IsCertificate der certificate
   pub profile : HasProfile certificate
   pub issuer : IsFirstIssuer accepts certificate t anchors index
 
--- The bytes are a certificate with the profile, and no anchor issued it.
+-- The bytes are a certificate with the profile, and no trust anchor issued it.
 pub record IsUnissuedText (accepts : Accepts) (der : List ℕ) (t : ℤ) (anchors : List Cert) : Type 0 where
   pub certificate : Cert
   pub is : IsCertificate der certificate

@@ -1,4 +1,5 @@
-//! Which certificates may be issued, and by which anchor: RFC 5280 sections 4.2 and 6.1, in the profile of Sigstore.
+//! Which certificates may be issued, and by which trust anchor: RFC 5280 sections 4.2 and 6.1, in the profile of
+//! Sigstore.
 
 ghost use Rattle.std.specs.Prelude.{◌≡◌};
 ghost use Rattle.sig_certificate.specs.Lookups.{borrowed_extension, with_oid};
@@ -73,7 +74,7 @@ fn is_no_authority(certificate: &Certificate) -> bool
     }
 }
 
-/// Whether the certificate has the profile of what an anchor may issue.
+/// Whether the certificate has the profile of what a trust anchor may issue.
 pub(crate) fn is_profiled(certificate: &Certificate) -> bool
     ensures { result ≡ is_profiled certificate.now }
 {
@@ -89,7 +90,8 @@ pub(crate) fn signs_code_at(certificate: &Certificate, time: i64) -> bool
         && may_sign_code(certificate)
 }
 
-/// Whether the anchor signed the certificate. The checker is asked only if the anchor's name is that of the issuer.
+/// Whether the trust anchor signed the certificate. The checker is asked only if the trust anchor's name is that of the
+/// issuer.
 pub(crate) fn is_signed_by<C: SignatureChecker>(
     certificate: &Certificate,
     anchor: &Certificate,

@@ -21,7 +21,7 @@ use Rattle.sigverify.specs.Head.{HasAcceptedSignature}
 Any-more : {A : Type 0} {P Q : A → Type 0} (xs : List A) → ((x : A) → P x → Q x) → Any P xs → Any Q xs
 Any-more xs more some = (some.0, some.1, some.2, some.3, more some.1 some.4)
 
--- one of the signatures passes the test exactly where the table has its row
+-- one of the signatures passes the test if and only if the table has its row
 has_accepted_signature-rows : (head : SignedHead) (checkpoint : SignedCheckpoint) (accepts : List ℕ → List ℕ → Bool)
     → ((message signature : List ℕ) → accepts message signature
     ≡ accepted head.accepted Message (name_of (scheme_of head.scheme)) head.key message signature)

@@ -43,7 +43,7 @@ under-verdict head size root checkpoint (Some NoteMatch) is only under =
     )
 under-verdict head size root checkpoint (Some other) is only under = absurd under
 
--- a fault is neither want of memory nor a value
+-- a fault is neither out of memory nor a value
 pub no_fault : (checkpoint : SignedCheckpoint) (fault : CheckpointFault)
     → (DecodeError fault ≡ Memory) ⊎ ◌≡◌ {A = Result SignedCheckpoint ParseCheckpointError} (Ok checkpoint)
     (Err (DecodeError fault)) → ⊥

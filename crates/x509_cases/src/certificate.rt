@@ -1,4 +1,4 @@
-//! Certificates: what they lend, and their text.
+//! Certificates: what can be borrowed of them, and their text.
 
 use crate::flipped::{cut, flipped};
 use crate::profile;
@@ -42,7 +42,7 @@ pub(crate) fn certificate_of(alloc: Global, der: &[u8]) -> Result<Certificate, C
     }
 }
 
-/// `certificate DER`: what the certificate lends.
+/// `certificate DER`: the parts of the certificate.
 pub(crate) fn read(alloc: Global, der: &[u8]) -> Result<Answer, CaseError> {
     match Certificate::try_from_der(alloc, der) {
         Ok(read) => with_extensions(with_fields(Answer::ok(alloc)?, &read)?, &read),

@@ -5,7 +5,7 @@ use sig_base::sha256;
 use sig_cases::{Answer, Arguments, CaseError};
 use std::alloc::Global;
 
-/// `flipped MASK DER`: the places at which the bytes stay a certificate once these bits are flipped there, and the
+/// `flipped MASK DER`: the offsets at which the bytes stay a certificate once these bits are flipped there, and the
 /// SHA-256 of what is written for each of these certificates, one after another.
 pub(crate) fn flipped(alloc: Global, arguments: &mut Arguments<'_>) -> Result<Answer, CaseError> {
     let mask = arguments.hex(alloc)?;
@@ -25,7 +25,7 @@ pub(crate) fn flipped(alloc: Global, arguments: &mut Arguments<'_>) -> Result<An
     answer.hex(&sha256(&written))
 }
 
-/// What is written for the bytes with these bits flipped at the place.
+/// What is written for the bytes with these bits flipped at the offset.
 fn read_flipped(alloc: Global, der: &[u8], place: usize, mask: u8) -> Result<Answer, CaseError> {
     let mut other = Vec::from_slice(alloc, der)?;
     if let Some(byte) = other.get_mut(place) {

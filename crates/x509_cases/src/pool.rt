@@ -38,7 +38,7 @@ fn pool(alloc: Global, arguments: &mut Arguments<'_>) -> Result<CertificatePool,
     }
 }
 
-/// `anchor_spki PLACE ANCHOR,..`: the SPKI of the anchor at the place.
+/// `anchor_spki PLACE ANCHOR,..`: the SPKI of the trust anchor at the index.
 fn spki(alloc: Global, arguments: &mut Arguments<'_>) -> Result<Answer, CaseError> {
     let place = arguments.natural()?;
     let pool = pool(alloc, arguments)?;
@@ -48,7 +48,7 @@ fn spki(alloc: Global, arguments: &mut Arguments<'_>) -> Result<Answer, CaseErro
     }
 }
 
-/// `verify_der_cert TIME LEAF ANCHOR,.. ROW ..`: the place of the leaf's issuer. `verify_cert_with_time` has to say
+/// `verify_der_cert TIME LEAF ANCHOR,.. ROW ..`: the index of the leaf's issuer. `verify_cert_with_time` has to say
 /// the same of a leaf that is a certificate; where it does not, its answer follows.
 fn issuer(alloc: Global, arguments: &mut Arguments<'_>) -> Result<Answer, CaseError> {
     let time = arguments.integer()?;
@@ -66,7 +66,7 @@ fn issuer(alloc: Global, arguments: &mut Arguments<'_>) -> Result<Answer, CaseEr
     answer.value(&same.as_str())
 }
 
-/// A place, or why there is none.
+/// An index, or why there is none.
 fn place(alloc: Global, found: Result<usize, PoolError>) -> Result<Answer, CaseError> {
     match found {
         Ok(place) => Answer::ok(alloc)?.value(&place),

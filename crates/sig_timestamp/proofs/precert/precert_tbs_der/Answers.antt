@@ -1,4 +1,4 @@
--- What is answered is a signed part of the same parts.
+-- What is returned is a TBSCertificate of the same parts.
 use Rattle.sig_timestamp.proofs.PrecertLaws.{keeps_of}
 use Rattle.sig_timestamp.proofs.precert.precert_tbs_der.Goals as goal
 

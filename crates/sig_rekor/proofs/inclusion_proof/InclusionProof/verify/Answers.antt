@@ -1,4 +1,4 @@
--- The answer is Ok exactly where the log vouches for the entry.
+-- The answer is Ok if and only if the log vouches for the entry.
 use Rattle.sig_key.specs.Key.{key_accepts}
 use Rattle.sig_rekor.proofs.VerifyLaws.{vouched_ok, accepted_only}
 use Rattle.sig_rekor.proofs.inclusion_proof.InclusionProof.verify.Goals as goal

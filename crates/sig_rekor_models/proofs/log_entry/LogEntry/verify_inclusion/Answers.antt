@@ -1,4 +1,4 @@
--- The answer is Ok exactly where the log vouches for the entry.
+-- The answer is Ok if and only if the log vouches for the entry.
 use Rattle.sig_key.specs.Key.{key_accepts}
 use Rattle.sig_rekor_models.specs.LogEntry.{seen_entry}
 use Rattle.sig_rekor_models.proofs.VouchedEntries.{vouched_ok, accepted_only}

@@ -1,4 +1,4 @@
--- Each refusal comes exactly where the relations say.
+-- Each refusal comes if and only if the relations say.
 use Rattle.sig_timestamp.specs.Embedded.{issuer_in_chain}
 use Rattle.sig_timestamp.proofs.EmbeddedLaws.{under_issuer, under_missing, under_malformed}
 use Rattle.sig_timestamp.proofs.embedded.CertificateEmbeddedSCT.new.Goals as goal

@@ -8,10 +8,10 @@ use Rattle.sig_bundle.specs.declared.bundle_error.BundleErrorKind.{BundleErrorKi
 use Rattle.sig_bundle.specs.declared.bundle_error.BundleErrorKind.TheVariants.{CertificateMalformed, OutOfMemory}
 use Rattle.sig_bundle.specs.declared.content_check.ContentWithSignature.{ContentWithSignature as Held}
 
--- what is lent, or why it is not
-abbrev pub lent_now : {A E : Type 0} → Result (Bor A) E → Result A E
-lent_now (Ok lent) = Ok lent.now
-lent_now (Err e) = Err e
+-- what is borrowed, or why it is not
+abbrev pub borrowed_now : {A E : Type 0} → Result (Bor A) E → Result A E
+borrowed_now (Ok borrowed) = Ok borrowed.now
+borrowed_now (Err e) = Err e
 
 -- the signature and what it is over
 abbrev pub seen_content : Held → ContentWithSignature
