@@ -8,7 +8,7 @@ use Rattle.sig_bundle.specs.BundleRecord.{proof_of}
 use Rattle.sig_bundle.specs.BundleTree.{checkpoint_members, checkpoint_tree, entry_members, entry_tree}
 use Rattle.sig_bundle.specs.BundleTree.{kind_version_members}
 use Rattle.sig_bundle.specs.BundleTree.{kind_version_tree, log_id_members, log_id_tree, promise_members}
-use Rattle.sig_bundle.specs.BundleTree.{inclusion_promise_tree}
+use Rattle.sig_bundle.specs.BundleTree.{promise_record_tree}
 use Rattle.sig_bundle.specs.BundleTree.{proof_members, proof_tree}
 use Rattle.sig_bundle.specs.Written.{integer_tree, bytes_tree, list_tree, IsReadAs, OptionIsRead}
 use Rattle.sig_bundle.specs.declared.material.KindVersion.{KindVersion}
@@ -27,8 +27,8 @@ unfolding log_id_tree
 log_id_back id back = (found [] bytes_of (codes "keyId") (log_id_members id) (bytes_tree id) id refl back, refl)
 
 pub promise_back : (signature : List ℕ) → IsReadAs bytes_of (bytes_tree signature) signature
-    → IsReadAs promise_of (inclusion_promise_tree signature) signature
-unfolding inclusion_promise_tree
+    → IsReadAs promise_of (promise_record_tree signature) signature
+unfolding promise_record_tree
 promise_back signature back = (
   found [] bytes_of (codes "signedEntryTimestamp") (promise_members signature) (bytes_tree signature) signature refl
       back,
@@ -73,7 +73,7 @@ pub entry_back : (e : TransparencyLogEntry) → IsReadAs i64_of (integer_tree e.
     → OptionIsRead log_id_of log_id_tree e.log_id
     → OptionIsRead kind_version_of kind_version_tree e.kind_version
     → IsReadAs i64_of (integer_tree e.integrated_time) e.integrated_time
-    → OptionIsRead promise_of inclusion_promise_tree e.inclusion_promise
+    → OptionIsRead promise_of promise_record_tree e.inclusion_promise
     → OptionIsRead proof_of proof_tree e.inclusion_proof
     → IsReadAs bytes_of (bytes_tree e.canonicalized_body) e.canonicalized_body → IsReadAs entry_of (entry_tree e) e
 unfolding entry_tree entry_of
@@ -83,7 +83,7 @@ entry_back e index id kind time promise proof body = (
     found_option log_id_of log_id_tree (codes "logId") (entry_members e) e.log_id refl id,
     found_option kind_version_of kind_version_tree (codes "kindVersion") (entry_members e) e.kind_version refl kind,
     found (pos 0) i64_of (codes "integratedTime") (entry_members e) _ e.integrated_time refl time,
-    found_option promise_of inclusion_promise_tree (codes "inclusionPromise")
+    found_option promise_of promise_record_tree (codes "inclusionPromise")
         (entry_members e) e.inclusion_promise refl promise,
     found_option proof_of proof_tree (codes "inclusionProof") (entry_members e) e.inclusion_proof refl proof,
     found [] bytes_of (codes "canonicalizedBody") (entry_members e) _ e.canonicalized_body refl body,

@@ -3,7 +3,7 @@ use Rattle.std.proofs.Common.{◌≡◌, Option, option_map, refl}
 use Rattle.std.specs.Prelude.{codes}
 use Rattle.sig_json.specs.Data.{Data, object, Members, no_members, put}
 use Rattle.sig_bundle.specs.BundleTree.{checkpoint_tree, entry_tree, kind_version_tree, log_id_tree}
-use Rattle.sig_bundle.specs.BundleTree.{inclusion_promise_tree}
+use Rattle.sig_bundle.specs.BundleTree.{promise_record_tree}
 use Rattle.sig_bundle.specs.BundleTree.{proof_tree}
 use Rattle.sig_bundle.specs.Written.{put_some, integer_tree, bytes_tree, list_tree}
 use Rattle.sig_bundle.specs.declared.material.ProofFields.{ProofFields}
@@ -26,7 +26,7 @@ pub entry_written : (p : TransparencyLogEntry) (document : Data) (a b c d e f g 
     (id kind promise proof : Option Data)
     → index ≡ integer_tree p.log_index → id ≡ option_map log_id_tree p.log_id
     → kind ≡ option_map kind_version_tree p.kind_version → time ≡ integer_tree p.integrated_time
-    → promise ≡ option_map inclusion_promise_tree p.inclusion_promise → proof ≡ option_map proof_tree p.inclusion_proof
+    → promise ≡ option_map promise_record_tree p.inclusion_promise → proof ≡ option_map proof_tree p.inclusion_proof
     → body ≡ bytes_tree p.canonicalized_body
     → a ≡ no_members → b ≡ put (codes "logIndex") index a → c ≡ put_some (codes "logId") id b
     → d ≡ put_some (codes "kindVersion") kind c → e ≡ put (codes "integratedTime") time d

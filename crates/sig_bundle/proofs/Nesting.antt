@@ -16,7 +16,7 @@ use Rattle.sig_bundle.specs.BundleTree.{digest_tree, entry_members, entry_tree, 
 use Rattle.sig_bundle.specs.BundleTree.{kind_version_members, kind_version_tree, log_id_members, log_id_tree}
 use Rattle.sig_bundle.specs.BundleTree.{material_members}
 use Rattle.sig_bundle.specs.BundleTree.{material_tree, message_signature_members, message_tree, promise_members}
-use Rattle.sig_bundle.specs.BundleTree.{inclusion_promise_tree, proof_members, proof_tree, signature_members}
+use Rattle.sig_bundle.specs.BundleTree.{promise_record_tree, proof_members, proof_tree, signature_members}
 use Rattle.sig_bundle.specs.BundleTree.{dsse_signature_tree}
 use Rattle.sig_bundle.specs.BundleTree.{material_content_member}
 use Rattle.sig_bundle.specs.Written.{TreeMember, put_some, members_into, object_of, integer_tree, bytes_tree, items_of}
@@ -106,8 +106,8 @@ log_id_shallow : (id : List ℕ) → depth (log_id_tree id) ≤ 1
 unfolding log_id_tree
 log_id_shallow id = object_shallow 0 (log_id_members id) (bytes_shallow 0 id, tt)
 
-promise_shallow : (signature : List ℕ) → depth (inclusion_promise_tree signature) ≤ 1
-unfolding inclusion_promise_tree
+promise_shallow : (signature : List ℕ) → depth (promise_record_tree signature) ≤ 1
+unfolding promise_record_tree
 promise_shallow signature = object_shallow 0 (promise_members signature) (bytes_shallow 0 signature, tt)
 
 digest_shallow : (digest : List ℕ) → depth (digest_tree digest) ≤ 1
@@ -160,8 +160,8 @@ entry_shallow e =
           (
             integer_shallow 2 e.integrated_time,
             (
-              option_shallow 2 inclusion_promise_tree e.inclusion_promise
-                  (λ x. at_most_two (depth (inclusion_promise_tree x)) (promise_shallow x)),
+              option_shallow 2 promise_record_tree e.inclusion_promise
+                  (λ x. at_most_two (depth (promise_record_tree x)) (promise_shallow x)),
               (
                 option_shallow 2 proof_tree e.inclusion_proof proof_shallow,
                 (bytes_shallow 2 e.canonicalized_body, tt),

@@ -33,8 +33,8 @@ log_id_tree id = object_of (log_id_members id)
 abbrev pub promise_members : List ℕ → List TreeMember
 promise_members signature = (codes "signedEntryTimestamp", Some (bytes_tree signature)) ∷ []
 
-unfoldable pub inclusion_promise_tree : List ℕ → Data
-inclusion_promise_tree signature = object_of (promise_members signature)
+unfoldable pub promise_record_tree : List ℕ → Data
+promise_record_tree signature = object_of (promise_members signature)
 
 abbrev pub digest_members : List ℕ → List TreeMember
 digest_members digest = (codes "digest", Some (bytes_tree digest)) ∷ []
@@ -83,7 +83,7 @@ entry_members e =
     ∷ (codes "logId", option_map log_id_tree e.log_id)
     ∷ (codes "kindVersion", option_map kind_version_tree e.kind_version)
     ∷ (codes "integratedTime", Some (integer_tree e.integrated_time))
-    ∷ (codes "inclusionPromise", option_map inclusion_promise_tree e.inclusion_promise)
+    ∷ (codes "inclusionPromise", option_map promise_record_tree e.inclusion_promise)
     ∷ (codes "inclusionProof", option_map proof_tree e.inclusion_proof)
     ∷ (codes "canonicalizedBody", Some (bytes_tree e.canonicalized_body))
     ∷ []

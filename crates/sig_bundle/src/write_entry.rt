@@ -6,7 +6,7 @@ ghost use Rattle.sig_bundle.specs.BundleRecord.{checkpoint_envelope_of, entry_of
 ghost use Rattle.sig_bundle.specs.BundleRecord.{promise_of};
 ghost use Rattle.sig_bundle.specs.BundleRecord.{proof_of};
 ghost use Rattle.sig_bundle.specs.BundleTree.{checkpoint_tree, entry_tree, kind_version_tree, log_id_tree};
-ghost use Rattle.sig_bundle.specs.BundleTree.{inclusion_promise_tree, proof_tree};
+ghost use Rattle.sig_bundle.specs.BundleTree.{promise_record_tree, proof_tree};
 ghost use Rattle.sig_bundle.specs.Written.{IsReadAs};
 ghost use Rattle.sig_json.specs.Tree.{document_tree};
 
@@ -43,11 +43,11 @@ enum PromiseWriter {}
 impl ElementWriter for PromiseWriter {
     type Item = Bytes;
 
-    ghost written = { inclusion_promise_tree };
+    ghost written = { promise_record_tree };
 
     ghost meaning = { promise_of };
 
-    #[tactic(auto, using(crate::proofs::EntriesBack::back), unfolding(crate::specs::BundleTree::inclusion_promise_tree))]
+    #[tactic(auto, using(crate::proofs::EntriesBack::back), unfolding(crate::specs::BundleTree::promise_record_tree))]
     fn write(alloc: Global, item: &Bytes) -> Result<Document, OutOfMemory> {
         let promise = write_bytes(alloc, item.as_slice())?;
         let object = Object::new(alloc).with(alloc, "signedEntryTimestamp", promise)?;
