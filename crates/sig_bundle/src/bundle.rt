@@ -1,19 +1,4 @@
 //! `Bundle`: a signature with all that is needed to check it without a network (Sigstore bundle format).
-//!
-//! ```text
-//! {"mediaType":"application/vnd.dev.sigstore.bundle.v0.3+json",
-//!  "verificationMaterial":{
-//!    "certificate":{"rawBytes":"MIIB.."},
-//!    "tlogEntries":[{
-//!      "logIndex":"900","logId":{"keyId":"RERE.."},"integratedTime":"1702446700",
-//!      "inclusionPromise":{"signedEntryTimestamp":"c2lnLXNldA=="},
-//!      "inclusionProof":{"logIndex":"2","rootHash":"q7Qx..","treeSize":"5","hashes":["mL0P.."],
-//!        "checkpoint":{"envelope":"fixture.log\n5\nq7Qx..\n\n— fixture.log AAAABHNpZy1ub3Rl\n"}},
-//!      "canonicalizedBody":"eyJhcGlWZXJzaW9uIjoiMC4wLjEi.."}]},
-//!  "dsseEnvelope":{
-//!    "payload":"eyJfdHlwZSI6..","payloadType":"application/vnd.in-toto+json",
-//!    "signatures":[{"sig":"c2lnLWRzc2U=","keyid":""}]}}
-//! ```
 
 use crate::material::VerificationMaterial;
 use sig_base::{Bytes, Text};

@@ -1,5 +1,22 @@
 //! Sigstore bundles: read, written, and checked as far as a bundle alone can be checked.
 //!
+//! A bundle, long texts cut short:
+//!
+//! ```text
+//! {"mediaType":"application/vnd.dev.sigstore.bundle.v0.3+json",
+//!  "verificationMaterial":{
+//!    "certificate":{"rawBytes":"MIIB.."},
+//!    "tlogEntries":[{
+//!      "logIndex":"900","logId":{"keyId":"RERE.."},"integratedTime":"1702446700",
+//!      "inclusionPromise":{"signedEntryTimestamp":"c2lnLXNldA=="},
+//!      "inclusionProof":{"logIndex":"2","rootHash":"q7Qx..","treeSize":"5","hashes":["mL0P.."],
+//!        "checkpoint":{"envelope":"fixture.log\n5\nq7Qx..\n\n— fixture.log AAAABHNpZy1ub3Rl\n"}},
+//!      "canonicalizedBody":"eyJhcGlWZXJzaW9uIjoiMC4wLjEi.."}]},
+//!  "dsseEnvelope":{
+//!    "payload":"eyJfdHlwZSI6..","payloadType":"application/vnd.in-toto+json",
+//!    "signatures":[{"sig":"c2lnLWRzc2U=","keyid":""}]}}
+//! ```
+//!
 //! The layer above uses five facts. A text is read as the bundle that its members are, if and only if they fit the
 //! table of the format. The text of a bundle is read back as that bundle. A bundle passes its own checks if and only
 //! if no error has its cause, and else fails with the first. A checked bundle hands out its log entry if and only if

@@ -1,11 +1,4 @@
 //! `Certificate`: RFC 5280 section 4.1, in the profile of Sigstore.
-//!
-//! ```text
-//! Certificate ::= SEQUENCE {
-//!      tbsCertificate       TBSCertificate,           -- parts.rt reads its fields
-//!      signatureAlgorithm   AlgorithmIdentifier,
-//!      signatureValue       BIT STRING }
-//! ```
 
 ghost use Rattle.std.specs.Prelude.{◌≡◌, ◌≤◌, ◌+◌, ℕ, pos, ◌≤ℤ◌, length, Ok, Err, IfOk};
 ghost use Rattle.sig_base.specs.Answers.{Answers, ComesWhere};

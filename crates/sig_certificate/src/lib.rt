@@ -2,6 +2,13 @@
 //! values of the extensions that decide what a certificate may be used for; the profiles of leaf, authority and root,
 //! and the checks of trust.
 //!
+//! ```text
+//! Certificate ::= SEQUENCE {
+//!      tbsCertificate       TBSCertificate,           -- parts.rt reads its fields
+//!      signatureAlgorithm   AlgorithmIdentifier,
+//!      signatureValue       BIT STRING }
+//! ```
+//!
 //! The layers above use four facts. Bytes are read if and only if they are a certificate, and each borrowed field is
 //! that part of it. A look-up returns the one extension of an object identifier, that there is none, or that there are
 //! several. A value of an extension says what its definition reads in it. A profile returns `Ok`, or the first of its

@@ -1,11 +1,4 @@
 //! One element: X.690 section 8.1.1.
-//!
-//! ```text
-//! 30 03 02 01 05        SEQUENCE of 3 bytes: INTEGER of 1 byte, 5
-//! |  |  +------+ contents octets
-//! |  +- length octets (section 8.1.3): 03; 81 80 is 128, 82 01 00 is 256
-//! +---- identifier octet (section 8.1.2): class, constructed or not, number
-//! ```
 
 ghost use Rattle.std.specs.Prelude.{◌≡◌, ◌↔◌, ℕ, List, Ok, IfOk, IfErr, IsErrOf};
 ghost use Rattle.sig_der.specs.Element.{IsElement, StandsFirst, IsFollowed, IsOfAnother};

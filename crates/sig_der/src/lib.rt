@@ -1,5 +1,14 @@
 //! DER, the encoding of certificates and keys: elements of one identifier octet with lengths of at most four octets
 //! after the first, read and written exactly (X.690 sections 8.1 and 10.1), and texts of times.
+//!
+//! An element:
+//!
+//! ```text
+//! 30 03 02 01 05        SEQUENCE of 3 bytes: INTEGER of 1 byte, 5
+//! |  |  +------+ contents octets
+//! |  +- length octets (section 8.1.3): 03; 81 80 is 128, 82 01 00 is 256
+//! +---- identifier octet (section 8.1.2): class, constructed or not, number
+//! ```
 #![tactic(auto)]
 
 mod digits;

@@ -1,8 +1,4 @@
 //! `DsseEnvelope`: a payload with a type, and signatures over both (DSSE protocol).
-//!
-//! ```text
-//! {"payload":"aGVsbG8gd29ybGQ=","payloadType":"application/vnd.in-toto+json","signatures":[{"sig":"c2lnLWRzc2U="}]}
-//! ```
 
 use sig_base::{Bytes, Register, Text};
 

@@ -1,6 +1,12 @@
 //! What an envelope signs: DSSE envelopes (DSSE protocol), and the in-toto statements in them (in-toto attestation
 //! framework).
 //!
+//! An envelope; statement.rt shows a statement:
+//!
+//! ```text
+//! {"payload":"aGVsbG8gd29ybGQ=","payloadType":"application/vnd.in-toto+json","signatures":[{"sig":"c2lnLWRzc2U="}]}
+//! ```
+//!
 //! The layer above uses three facts. The pre-authentication encoding is that of the DSSE protocol, and no two pairs of
 //! type and payload have the same. A payload is read as a statement if and only if its members are one's. The digests
 //! that are taken of a statement are those that its subjects have under `sha256` and `sha512`, in order, or it is told

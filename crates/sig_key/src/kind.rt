@@ -1,13 +1,4 @@
 //! What kind of key a SubjectPublicKeyInfo (SPKI) has.
-//!
-//! ```text
-//! SubjectPublicKeyInfo ::= SEQUENCE {          -- RFC 5280 section 4.1.2.7
-//!     algorithm         AlgorithmIdentifier,   -- id-ecPublicKey with a curve (RFC 5480 section 2.1.1), rsaEncryption
-//!     subjectPublicKey  BIT STRING }           -- (RFC 8017 appendix A.1) or id-Ed25519 (RFC 8410 section 3)
-//! AlgorithmIdentifier ::= SEQUENCE {           -- RFC 5280 section 4.1.1.2
-//!     algorithm         OBJECT IDENTIFIER,
-//!     parameters        ANY DEFINED BY algorithm OPTIONAL }
-//! ```
 ghost use Rattle.std.specs.Prelude.{◌≡◌, length, option_map};
 ghost use Rattle.sig_der.specs.Borrowed.{piece_of};
 ghost use Rattle.sig_der.specs.KeyInfoPlaces.{algorithm_of, IsKeyInfoWithin};

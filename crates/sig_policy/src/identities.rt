@@ -1,11 +1,4 @@
 //! The identities that a subject alternative name gives: its emails, its URIs, and its other names of Fulcio's kind.
-//!
-//! ```text
-//! SubjectAltName ::= SEQUENCE OF GeneralName      -- RFC 5280 section 4.2.1.6
-//!      rfc822Name                [1]  an email
-//!      uniformResourceIdentifier [6]  a URI
-//!      otherName                 [0]  of the type-id 1.3.6.1.4.1.57264.1.7, whose value is a text
-//! ```
 
 ghost use Rattle.std.specs.Prelude.{◌≡◌, option_map, map, IfOk};
 ghost use Rattle.std.specs.List.{filter_map};

@@ -1,5 +1,14 @@
 //! Models of the transparency log Rekor's API: log entries, heads of logs, consistency proofs, and entries to propose.
 //!
+//! A log entry, long texts cut short:
+//!
+//! ```text
+//! {"body":"eyJhcGlWZXJzaW9uIjoiMC4wLjEiLCJraW5kIjoiaGFzaGVkcmVrb3JkIiwic3BlYyI6e319","integratedTime":1702446656,
+//!  "logID":"c0d23d6ad406973f9559f3ba2d1ca01f84147d8ffc5b8445c224f98b9591801d","logIndex":1688,
+//!  "verification":{"signedEntryTimestamp":"AA==","inclusionProof":{"hashes":["810320ec"],"logIndex":1227,
+//!    "rootHash":"effa4fa4","treeSize":14358,"checkpoint":"rekor.sigstage.dev - 108574341321668964\n14358\n.."}}}
+//! ```
+//!
 //! The layer above uses four facts. A text is read as the log entry that its members are, if and only if they fit the
 //! table of the format. A log entry's check of inclusion fails with the first condition that does not hold: a proof,
 //! its texts, a canonical body, and then those of [`InclusionProof::verify`]. What the API says of a log's head and of

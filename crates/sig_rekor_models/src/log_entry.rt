@@ -1,11 +1,4 @@
 //! `LogEntry`: an entry of Rekor as its API returns it.
-//!
-//! ```text
-//! {"body":"eyJhcGlWZXJzaW9uIjoiMC4wLjEiLCJraW5kIjoiaGFzaGVkcmVrb3JkIiwic3BlYyI6e319","integratedTime":1702446656,
-//!  "logID":"c0d23d6ad406973f9559f3ba2d1ca01f84147d8ffc5b8445c224f98b9591801d","logIndex":1688,
-//!  "verification":{"signedEntryTimestamp":"AA==","inclusionProof":{"hashes":["810320ec"],"logIndex":1227,
-//!    "rootHash":"effa4fa4","treeSize":14358,"checkpoint":"rekor.sigstage.dev - 108574341321668964\n14358\n.."}}}
-//! ```
 use crate::body::Body;
 use sig_base::Text;
 use sig_rekor::RekorInclusionProof;

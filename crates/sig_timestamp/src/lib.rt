@@ -1,6 +1,12 @@
 //! Signed certificate timestamps (SCTs) of Certificate Transparency logs (RFC 6962): the keys of the logs, the one SCT
 //! that a certificate carries, and the TBSCertificate of the precertificate that it was made over.
 //!
+//! ```text
+//! struct { Version sct_version; LogID id; uint64 timestamp; CtExtensions extensions;    -- sct_list.rt
+//!          digitally-signed struct { .. }; } SignedCertificateTimestamp;                -- signed.rt: over these bytes
+//! SignedCertificateTimestampList ::= OCTET STRING    -- the value of the certificate's extension: a list of them
+//! ```
+//!
 //! The layers above use three facts. A keyring has the last key of an id among those that it was made of. The SCT of a
 //! certificate is the only one in its only list, or an error says why there is none. `verify_sct` returns `Ok` if and
 //! only if the key of the log's id accepts the signature over the bytes that an SCT signs, which have each other

@@ -1,5 +1,13 @@
 //! `sigverify`: decides without a network whether a signed artifact may be trusted.
 //!
+//! A request of `log`; request.rt, verify_request.rt and consistency_request.rt show whole ones:
+//!
+//! ```text
+//! { "entry": "TDEyMzQ1Ng==", "logIndex": 0, "treeSize": 1, "rootHash": "395aa064..", "hashes": [],
+//!   "checkpoint": "log.example\n1\nOVqgZKpM..TVY=\n\n\u2014 log.example AAAAAXNpZw==\n",
+//!   "scheme": "ECDSA_P256_SHA256_ASN1", "key": "a2V5", "accepted": [] }
+//! ```
+//!
 //! [`run::run`] is the program, and its contract the promise of this project; `main` gives it the words and the
 //! standard streams.
 #![tactic(auto)]
