@@ -3,6 +3,7 @@ use Rattle.std.proofs.Common.{◌≡◌, inl, inr, ℕ, List, [], ◌∷◌, len
 use Rattle.std.proofs.Common.{Result, Ok, Err, refl, sym, ap, subst, ◌∙◌, arith}
 use Rattle.std.specs.Prelude.{if◌then◌else◌}
 use Rattle.std.specs.List.{list_any}
+use Rattle.sig_base.proofs.ResultSteps.{bind_err, err_is}
 use Rattle.sig_base.specs.ResultSteps.{◌>>=◌}
 use Rattle.sig_certificate.specs.Certificate.{Cert}
 use Rattle.sig_certificate.specs.Certificates.{AreCertificates}
@@ -51,11 +52,14 @@ use Rattle.sig_bundle.specs.declared.material.VerificationMaterial.{Verification
 use Rattle.sig_bundle.specs.declared.version.Version.{Version}
 use Rattle.sig_bundle.specs.declared.version.Version.TheVariants.{Bundle0_1, Bundle0_2, Bundle0_3}
 use Rattle.sig_bundle.proofs.Certificates.{a_root-told}
-use Rattle.sig_bundle.proofs.ContentLaws.{content-held, sole_signature}
+use Rattle.sig_bundle.proofs.ContentLaws.{content-held, sole_signature, stated}
 use Rattle.sig_bundle.proofs.LeafLaws.{certificate-held}
 use Rattle.sig_bundle.proofs.ProfileLaws.{sole_entry}
-use Rattle.sig_bundle.proofs.Refusing.{bind_err, err_is, under}
 use Rattle.sig_bundle.proofs.VersionLaws.{unnamed, version-held}
+
+-- a refusal has its cause, where another name of it has
+under : (b : Bundle) (one other : BundleErrorKind) → one ≡ other → IsCause one b → IsCause other b
+under b one other same cause = subst (λ k. IsCause k b) same cause
 
 -- ---- the certificates
 
@@ -144,11 +148,7 @@ payload-caused b h kind told =
         stated = stated (statement_of h.before.envelope.payload) some.0 some.1;
       }) kind (digests_or_fault some.0)
           refl some.2
-    ] where
-      stated : (read : Option Statement) (statement : Statement) → statement_or_refusal read ≡ Ok statement
-          → read ≡ Some statement
-      stated None statement is = absurd cc
-      stated (Some s) statement is = let same : s ≡ statement = cc in ap Some same
+    ]
 
 -- behind the digests nothing of an envelope is refused
 kept-caused : (b : Bundle) (kind : BundleErrorKind) (kept : List ArtifactDigest → ContentWithSignature)

@@ -26,7 +26,7 @@ sole_signature [] s is = absurd cc
 sole_signature (one ∷ []) s is = ap (λ x. x ∷ []) (ok_is one s is)
 sole_signature (one ∷ other ∷ others) s is = absurd cc
 
-stated : (read : Option Statement) → (statement : Statement) → statement_or_refusal read ≡ Ok statement
+pub stated : (read : Option Statement) → (statement : Statement) → statement_or_refusal read ≡ Ok statement
     → read ≡ Some statement
 stated None statement is = absurd cc
 stated (Some s) statement is = ap Some (ok_is s statement is)

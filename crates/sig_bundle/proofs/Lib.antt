@@ -11,7 +11,6 @@ pub mod PromiseLaws
 mod ProfileLaws
 mod ProofLaws
 mod RefusalCauses
-mod Refusing
 pub mod SigningCertificateLaws
 mod Told
 pub mod VersionLaws

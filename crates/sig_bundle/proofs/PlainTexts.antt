@@ -2,7 +2,7 @@
 use Rattle.std.proofs.Common.{◌≡◌, ℕ, ◌/◌, ◌%◌, ◌<◌, Bool, true, false}
 use Rattle.std.proofs.Common.{◌&&◌, ◌==◌, nat_lt, not, List, [], ◌∷◌, ◌++◌}
 use Rattle.std.proofs.Common.{slice_index, refl, ap, arith}
-use Rattle.std.proofs.lemmas.Bool.{and_parts, and_from, ltb-true, ne_eqb}
+use Rattle.std.proofs.lemmas.Bool.{and_parts, and_from, ltb-true, ne_eqb, not-true}
 use Rattle.std.proofs.lemmas.Bool.Decides.{nat_tests}
 use Rattle.std.specs.List.{list_all, flat_map}
 use Rattle.hex.specs.Hex.{encode_lower, encode_with, lower_digits}
@@ -26,7 +26,7 @@ plain_escape c plain =
     let high : 34 < c = ltb-true 34 c both.0 in
     rw (
       ne_eqb c 34 (λ e. omega arith),
-      slash (c == 92) both.1,
+      not-true (c == 92) both.1,
       ne_eqb c 8 (λ e. omega arith),
       ne_eqb c 12 (λ e. omega arith),
       ne_eqb c 10 (λ e. omega arith),
@@ -34,10 +34,6 @@ plain_escape c plain =
       ne_eqb c 9 (λ e. omega arith),
       above c high,
     ) refl where
-      slash : (b : Bool) → not b ≡ true → b ≡ false
-      slash true e = absurd cc
-      slash false e = refl
-
       above : (c : ℕ) → 34 < c → nat_lt c 32 ≡ false
       above c high = grind (arith, nat_tests)
 

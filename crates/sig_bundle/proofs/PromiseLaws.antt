@@ -1,8 +1,8 @@
 -- The canonical text of a promise's object.
 use Rattle.std.proofs.Common.{◌≡◌, ◌⊎◌, inl, inr, ℕ, ℤ, pos, negsuc, ◌^◌, Bool, true, false, nat_lt}
 use Rattle.std.proofs.Common.{List, [], ◌∷◌, ◌++◌, Some, None, Result, Ok, Err, IfOk, unwrap_or}
-use Rattle.std.proofs.Common.{refl, sym, ap, ◌∙◌, append_assoc}
-use Rattle.std.proofs.lemmas.Bool.{lt-ltb, ltb-true}
+use Rattle.std.proofs.Common.{refl, sym, ap, ◌∙◌, append_assoc, arith}
+use Rattle.std.proofs.lemmas.Bool.{cases_lt, lt-ltb, ltb-true}
 use Rattle.std.specs.Fmt.{signed_decimal}
 use Rattle.std.specs.List.{join_by}
 use Rattle.std.specs.Prelude.{codes, unsigned_abs}
@@ -125,20 +125,14 @@ wide-promise e wide = by_time e (nat_lt (unsigned_abs e.integrated_time) (2 ^ 53
 
 -- ---- a call's result
 
-exact_or_wide : (z : ℤ) (b : Bool) → nat_lt (unsigned_abs z) (2 ^ 53) ≡ b → IsExact z ⊎ (¬ IsExact z)
-exact_or_wide z true t = inl (ltb-true (unsigned_abs z) (2 ^ 53) t)
-exact_or_wide z false t = inr (λ small. let f = lt-ltb (unsigned_abs z) (2 ^ 53) small in cc)
-
-both_or_wide : (e : TransparencyLogEntry) → IsExact e.integrated_time ⊎ (¬ IsExact e.integrated_time)
-    → IsExact e.log_index ⊎ (¬ IsExact e.log_index) → IsExactEntry e ⊎ (¬ IsExactEntry e)
-both_or_wide e (inl time) (inl index) = inl (time, index)
-both_or_wide e (inl time) (inr wide) = inr (λ exact. wide exact.1)
-both_or_wide e (inr wide) index = inr (λ exact. wide exact.0)
-
-told_or_wide : (e : TransparencyLogEntry) → IsExactEntry e ⊎ (¬ IsExactEntry e)
-told_or_wide e =
-    both_or_wide e (exact_or_wide e.integrated_time (nat_lt (unsigned_abs e.integrated_time) (2 ^ 53)) refl)
-    (exact_or_wide e.log_index (nat_lt (unsigned_abs e.log_index) (2 ^ 53)) refl)
+pub exact_or_wide : (e : TransparencyLogEntry) → IsExactEntry e ⊎ ¬ IsExactEntry e
+exact_or_wide e = elim (cases_lt (unsigned_abs e.integrated_time) (2 ^ 53)) [
+  | inl time ↦ elim (cases_lt (unsigned_abs e.log_index) (2 ^ 53)) [
+    | inl index ↦ inl (time, index)
+    | inr index ↦ inr (λ h. omega (arith, h.1, index))
+  ]
+  | inr time ↦ inr (λ h. omega (arith, h.0, time))
+]
 
 found_text : (e : TransparencyLogEntry) (text : List ℕ) → AreBytes e.canonicalized_body
     → AreBytes (unwrap_or e.log_id []) → canonical_of (promise_tree_of e) ≡ Ok text
@@ -152,7 +146,7 @@ pub promise_text-found : (e : TransparencyLogEntry) (result : Result (List ℕ) 
     → AreBytes e.canonicalized_body → AreBytes (unwrap_or e.log_id [])
     → Answers OutOfMemory (λ text. text) result (canonical_of (promise_tree_of e))
     → IfOk result (λ text. (text ≡ promise_of_entry e) × IsExactEntry e)
-promise_text-found e (Ok text) body id is = found_text e text body id is (told_or_wide e)
+promise_text-found e (Ok text) body id is = found_text e text body id is (exact_or_wide e)
 promise_text-found e (Err d) body id is = tt
 
 pub promise_text-wide : (e : TransparencyLogEntry) (result : Result (List ℕ) CanonicalError)

@@ -3,9 +3,9 @@
 use Rattle.std.proofs.Common.{◌≡◌, ◌⊎◌, inl, inr, ℕ, suc, ◌+◌, ◌==◌, ℤ, pos, negsuc, Bool, true, false, cond}
 use Rattle.std.proofs.Common.{List, [], ◌∷◌, ◌++◌, length, Option, Some, None, Result, Ok, Err}
 use Rattle.std.proofs.Common.{refl, sym, ap, subst, ◌∙◌, arith}
-use Rattle.std.proofs.lemmas.Bool.{eq-eqb, eqb-true}
+use Rattle.std.proofs.lemmas.Bool.{eq-eqb, eqb-true, cond-false, false_from_ne_true}
 use Rattle.std.specs.List.{AllByRecursion}
-use Rattle.sig_base.proofs.ResultSteps.{ok_is, bind_ok, when_ok}
+use Rattle.sig_base.proofs.ResultSteps.{bind_err, bind_ok, ok_is, when_ok}
 use Rattle.sig_base.specs.Answers.{Answers}
 use Rattle.sig_bundle.specs.AnswersOnly.{AnswersOnly}
 use Rattle.sig_base.specs.ResultSteps.{◌>>=◌}
@@ -25,16 +25,6 @@ use Rattle.sig_bundle.specs.declared.proof_error.ProofFieldsError.TheVariants.{C
 use Rattle.sig_bundle.specs.declared.proof_error.ProofFieldsError.TheVariants.{OutOfMemory}
 
 -- ---- steps
-
--- which of two steps failed
-bind_err : {A B E : Type 0} (r : Result A E) (f : A → Result B E) (e : E) → (r >>= f) ≡ Err e
-    → (r ≡ Err e) ⊎ ((x : A) × (r ≡ Ok x) × (f x ≡ Err e))
-bind_err (Ok x) f e is = inr (x, refl, is)
-bind_err (Err d) f e is = inl (let same : d ≡ e = cc in ap Err same)
-
-chosen_not : {A : Type 0} (b : Bool) (x y : A) → (b ≡ true → ⊥) → cond b x y ≡ y
-chosen_not true x y never = absurd (never refl)
-chosen_not false x y never = refl
 
 stopped : {A E : Type 0} (b : Bool) (x : A) (e d : E) → cond b (Ok x) (Err e) ≡ Err d → (b ≡ false) × (d ≡ e)
 stopped true x e d is = absurd cc
@@ -58,7 +48,8 @@ hash_or-fails e d bytes is =
 
 hash_or-only_fails : (e : ProofFieldsError) (bytes : List ℕ) → ¬ IsHash bytes → hash_or e bytes ≡ Err e
 hash_or-only_fails e bytes wrong =
-    chosen_not (length bytes == 32) (Ok bytes) (Err e) (λ t. wrong (eqb-true (length bytes) 32 t))
+    cond-false (length bytes == 32) (Ok bytes) (Err e)
+    (false_from_ne_true (length bytes == 32) (λ t. wrong (eqb-true (length bytes) 32 t)))
 
 -- ---- the hashes
 

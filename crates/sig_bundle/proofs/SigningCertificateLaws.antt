@@ -7,6 +7,7 @@ use Rattle.std.specs.Prelude.{IfErr}
 use Rattle.sig_base.specs.Answers.{ComesWhere}
 use Rattle.sig_bundle.specs.AnswersOnly.{AnswersOnly}
 use Rattle.sig_base.specs.ResultSteps.{◌>>=◌}
+use Rattle.sig_certificate.proofs.Readings.{der_only, not_read}
 use Rattle.sig_certificate.specs.Certificate.{Cert, IsCertificate}
 use Rattle.sig_certificate.specs.Certificates.{AreCertificates}
 use Rattle.sig_certificate.specs.Profile.{leaf_refusal}
@@ -23,14 +24,10 @@ use Rattle.sig_bundle.proofs.Certificates.{OneCertificate, read_one}
 
 -- ---- the first that is none
 
-abbrev not_read : X509ReadError → Result Cert X509ReadError
-not_read e = Err e
-
--- `Der` says that the bytes are no certificate
 pub malformed_told : (index : ℕ) (der : List ℕ) (e : X509ReadError) → e ≡ Der
     → ComesWhere NoMemory (not_read e) (not_read Der) (IsNoCertificate der)
     → IsUnreadAt index der (CertificateMalformed index)
-malformed_told index der e is comes = inr (refl, comes.0 (ap not_read is))
+malformed_told index der e is comes = inr (refl, der_only der e is comes)
 
 malformed_there : (ders : List (List ℕ)) (index : ℕ) (der : List ℕ) (cs : List Cert) → index < length ders
     → der ≡ get_or ders index der → IsNoCertificate der → AreCertificates (take index ders) cs
