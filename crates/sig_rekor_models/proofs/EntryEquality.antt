@@ -48,16 +48,13 @@ verification_law a b r is = decides_result r _ is (verification_eq-tells a b)
 
 -- ---- bodies
 
-pub document_eq-tells : (a b : Document)
-    → Decides (same_tree (document_tree a) (document_tree b)) (document_tree a ≡ document_tree b)
-document_eq-tells a b = same_tree_exact (document_tree a) (document_tree b) a.without_float
-
 content_eq-tells : (a b : BodyContent)
     → Decides ((content_eq.ghosts).eq a b) (seen_body_content a ≡ seen_body_content b)
 content_eq-tells a b =
     decides_same _ (λ e i. record { api_version = e.0 i; spec = e.1 i })
     (λ e. (λ i. (e i).api_version, λ i. (e i).spec))
-    (Decides-and _ _ (decides_bytes a.api_version b.api_version) (document_eq-tells a.spec b.spec))
+    (Decides-and _ _ (decides_bytes a.api_version b.api_version)
+    (same_tree_exact (document_tree a.spec) (document_tree b.spec) a.spec.without_float))
 
 abbrev of_kind : EntryKind → Content → Body
 of_kind kind content = record { kind = kind; api_version = content.api_version; spec = content.spec }

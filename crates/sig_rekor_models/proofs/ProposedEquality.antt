@@ -10,7 +10,7 @@ use Rattle.sig_json.specs.Data.{Data as Tree, string, object, member}
 use Rattle.sig_json.specs.SameTree.{same_tree}
 use Rattle.sig_json.specs.Tree.{document_tree}
 use Rattle.sig_json.specs.declared.document.Document.{Document}
-use Rattle.sig_rekor_models.proofs.EntryEquality.{document_eq-tells}
+use Rattle.sig_json.specs.SameTreeProofs.{same_tree_exact}
 use Rattle.sig_rekor_models.specs.Body.{Body}
 use Rattle.sig_rekor_models.specs.HashedrekordTree.{algorithm_name, hash_json, data_json, signature_json, spec_json}
 use Rattle.sig_rekor_models.specs.ProposedTree.{seen_proposed}
@@ -176,7 +176,8 @@ of_kind-tells : (k : EntryKind) → (v w : List ℕ) → (d f : Document)
     (◌≡◌ {A = Body} (record { kind = k; api_version = v; spec = document_tree d })
     (record { kind = k; api_version = w; spec = document_tree f }))
 of_kind-tells k v w d f =
-    with_said k v w (document_tree d) (document_tree f) (decides_bytes v w) (document_eq-tells d f)
+    with_said k v w (document_tree d) (document_tree f) (decides_bytes v w)
+    (same_tree_exact (document_tree d) (document_tree f) d.without_float)
 
 proposed_eq-tells : (a b : ProposedEntry) → Decides ((proposed_eq.ghosts).eq a b) (seen_proposed a ≡ seen_proposed b)
 proposed_eq-tells (entries.Alpine v x) (entries.Alpine w y) = of_kind-tells kinds.Alpine v w x y

@@ -9,6 +9,7 @@ use Rattle.sig_base.specs.declared.error.SigstoreError.TheVariants.{OutOfMemory,
 use Rattle.sig_base.specs.declared.unexpected.UnexpectedKind.{UnexpectedKind}
 use Rattle.sig_base.specs.declared.unexpected.UnexpectedKind.TheVariants.{ProofMissing, ProofConversion, CanonicalBody}
 use Rattle.sig_json.specs.Canonical.{canonical_of}
+use Rattle.sig_rekor.proofs.Steps.{ok_or-ok}
 use Rattle.sig_rekor.proofs.VerifyLaws.{vouched, accepted}
 use Rattle.sig_rekor.specs.RekorProof.{inclusion_proof_from_rekor}
 use Rattle.sig_rekor_models.specs.Body.{body_tree}
@@ -18,10 +19,6 @@ use Rattle.sig_rekor_models.specs.LogEntry.{LogEntry}
 expected : {A E : Type 0} (kind : UnexpectedKind) (r : Result A E) (x : A) → or_unexpected kind r ≡ Ok x → r ≡ Ok x
 expected kind (Ok y) x e = cc
 expected kind (Err f) x e = cc
-
-carried : {A E : Type 0} (o : Option A) (e : E) (x : A) → ok_or o e ≡ Ok x → o ≡ Some x
-carried (Some y) e x is = cc
-carried None e x is = cc
 
 vouched_entry : (accepts : List ℕ → List ℕ → Bool) (entry : LogEntry)
     → entry_answer accepts entry ≡ Ok tt → IsVouchedEntry accepts entry
@@ -34,7 +31,7 @@ vouched_entry accepts entry is =
       api = api.0;
       proof = proof.0;
       leaf = leaf.0;
-      carried = carried entry.verification.inclusion_proof (UnexpectedError ProofMissing) api.0 api.1;
+      carried = ok_or-ok entry.verification.inclusion_proof (UnexpectedError ProofMissing) api.0 api.1;
       converted = expected ProofConversion (inclusion_proof_from_rekor api.0) proof.0 api.2;
       canonical = expected CanonicalBody (canonical_of (body_tree entry.body)) leaf.0 leaf.1;
       vouched = vouched accepts leaf.0 proof.0 leaf.2;
