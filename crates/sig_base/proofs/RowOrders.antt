@@ -16,8 +16,11 @@ use Rattle.std.proofs.lemmas.Map.Lookups.{CmpEqualImpliesEq, exact_unsigned, exa
 use Rattle.std.proofs.lemmas.Bool.{cases_lt}
 use Rattle.std.proofs.lemmas.Option.{slice_get_within, get_or_from_slice_get, slice_get-get_or}
 use Rattle.sig_base.specs.Checker.{operation_code}
-use Rattle.sig_base.specs.RowOrder.{ending, ending_order, part_order, row_order, IsOrderOf}
+use Rattle.sig_base.specs.RowOrder.{ending, leading_of, leading, following, ending_order, part_order, row_order}
+use Rattle.sig_base.specs.RowOrder.{IsOrderOf}
 use Rattle.sig_base.specs.declared.checker.AcceptedRow.{AcceptedRow}
+use Rattle.sig_base.specs.declared.checker.Operation.{Operation}
+use Rattle.sig_base.specs.declared.checker.Operation.TheVariants.{Message, Prehash, Point, Certificate}
 use Rattle.sig_base.proofs.Orderings.{both_tie}
 use Rattle.sig_base.proofs.AcceptedRows.{as_row, same_operation}
 
@@ -33,10 +36,10 @@ part_order_total : IsTotalOrder part_order
 unfolding part_order
 part_order_total =
     then_total (then_total (then_total (then_total
-    (on_total (λ row. row.signature) nat_list_cmp_total)
-    (on_total (λ row. operation_code row.operation) nat_cmp_total))
+    (on_total (λ row. operation_code row.operation) nat_cmp_total)
+    (on_total leading nat_list_cmp_total))
+    (on_total following nat_list_cmp_total))
     (on_total (λ row. row.scheme) nat_list_cmp_total))
-    (on_total (λ row. row.key) nat_list_cmp_total))
     (on_total (λ row. row.message) nat_list_cmp_total)
 
 pub row_order_total : IsTotalOrder row_order
@@ -55,20 +58,34 @@ covers_more n xs ys e before k below =
     (λ m h. Contains-append_left xs (n ∷ []) m (before m h))
     (Contains-append_right xs (n ∷ []) n (last_held n)) k below)
 
+-- both parts are the same, whichever leads
+same_both : (operation : Operation) (signature key other_signature other_key : List ℕ)
+    → leading_of operation signature key ≡ leading_of operation other_signature other_key
+    → leading_of operation key signature ≡ leading_of operation other_key other_signature
+    → (signature ≡ other_signature) × (key ≡ other_key)
+same_both Message signature key other_signature other_key one two = (one, two)
+same_both Prehash signature key other_signature other_key one two = (one, two)
+same_both Point signature key other_signature other_key one two = (one, two)
+same_both Certificate signature key other_signature other_key one two = (two, one)
+
 same_parts : CmpEqualImpliesEq part_order
-unfolding part_order
+unfolding part_order leading following
 same_parts a b e =
     let m = both_tie _ _ e in
-    let k = both_tie _ _ m.0 in
-    let s = both_tie _ _ k.0 in
-    let o = both_tie _ _ s.0 in
-    ap (λ operation. as_row operation a.scheme a.key a.message a.signature)
-    (same_operation a.operation b.operation (exact_unsigned _ _ o.1))
+    let s = both_tie _ _ m.0 in
+    let f = both_tie _ _ s.0 in
+    let o = both_tie _ _ f.0 in
+    let same : a.operation ≡ b.operation = same_operation a.operation b.operation (exact_unsigned _ _ o.0) in
+    let both = same_both b.operation a.signature a.key b.signature b.key
+    (subst (λ operation. leading_of operation a.signature a.key ≡ leading b) same
+    (exact_bytes (leading a) (leading b) o.1))
+    (subst (λ operation. leading_of operation a.key a.signature ≡ following b) same
+    (exact_bytes (following a) (following b) f.1)) in
+    ap (λ operation. as_row operation a.scheme a.key a.message a.signature) same
     ∙ ap (λ scheme. as_row b.operation scheme a.key a.message a.signature) (exact_bytes a.scheme b.scheme s.1)
-    ∙ ap (λ key. as_row b.operation b.scheme key a.message a.signature) (exact_bytes a.key b.key k.1)
+    ∙ ap (λ key. as_row b.operation b.scheme key a.message a.signature) both.1
     ∙ ap (λ message. as_row b.operation b.scheme b.key message a.signature) (exact_bytes a.message b.message m.1)
-    ∙ ap (λ signature. as_row b.operation b.scheme b.key b.message signature)
-    (exact_bytes a.signature b.signature o.0)
+    ∙ ap (λ signature. as_row b.operation b.scheme b.key b.message signature) both.0
 
 -- rows that tie are equal
 pub same_row : CmpEqualImpliesEq row_order

@@ -1,5 +1,5 @@
 -- The order in which a table of accepted rows is searched: the last bytes of signature, key and message, then the
--- signature first, the message last.
+-- operation first, the message last.
 use Rattle.std.specs.Prelude.{ℕ, ◌<◌, ◌+◌, ◌-◌, ◌*◌, nat_lt, if◌then◌else◌, List, length, slice_get, slice_index, Contains}
 use Rattle.std.specs.Option.{option_cmp}
 use Rattle.std.specs.Ordering.{nat_cmp, is_lt, on, then_cmp}
@@ -7,6 +7,8 @@ use Rattle.std.specs.Cmp.Lexicographic.{slice_cmp}
 use Rattle.std.specs.List.Sorted.{IsSortedBy}
 use Rattle.std.specs.declared.cmp.Ordering.{Ordering}
 use Rattle.sig_base.specs.declared.checker.AcceptedRow.{AcceptedRow}
+use Rattle.sig_base.specs.declared.checker.Operation.{Operation}
+use Rattle.sig_base.specs.declared.checker.Operation.TheVariants.{Message, Prehash, Point, Certificate}
 use Rattle.sig_base.specs.Checker.{operation_code}
 
 -- the last four bytes as a number, 0 of fewer
@@ -23,14 +25,29 @@ ending_order =
     (on (λ row. ending row.key) nat_cmp))
     (on (λ row. ending row.message) nat_cmp)
 
--- one row before another: by signature, then operation, scheme, key, message
+-- of signature and key, the one in which questions of an operation differ: a certificate is asked of many keys with one
+-- signature, and else one key of many signatures
+abbrev pub leading_of : Operation → List ℕ → List ℕ → List ℕ
+leading_of Message signature key = signature
+leading_of Prehash signature key = signature
+leading_of Point signature key = signature
+leading_of Certificate signature key = key
+
+unfoldable pub leading : AcceptedRow → List ℕ
+leading row = leading_of row.operation row.signature row.key
+
+-- and the other one
+unfoldable pub following : AcceptedRow → List ℕ
+following row = leading_of row.operation row.key row.signature
+
+-- one row before another: by operation, then that part, the other one, scheme, message
 unfoldable pub part_order : AcceptedRow → AcceptedRow → Ordering
 part_order =
     then_cmp (then_cmp (then_cmp (then_cmp
-    (on (λ row. row.signature) (slice_cmp nat_cmp))
-    (on (λ row. operation_code row.operation) nat_cmp))
+    (on (λ row. operation_code row.operation) nat_cmp)
+    (on leading (slice_cmp nat_cmp)))
+    (on following (slice_cmp nat_cmp)))
     (on (λ row. row.scheme) (slice_cmp nat_cmp)))
-    (on (λ row. row.key) (slice_cmp nat_cmp)))
     (on (λ row. row.message) (slice_cmp nat_cmp))
 
 -- one row before another: by the endings, then the parts

@@ -16,8 +16,9 @@ use std::marker::Model;
 /// What this project proves is relative to these four predicates.
 ///
 /// A checker is asked for each different signature of a signed note until it accepts one, with the whole text of the
-/// note as message. One that hashes the message in each call hashes signatures times text: keep the digest of the last
-/// message, or check the lengths of signatures first.
+/// note as message; and of a certificate for each different key of trust anchors of the issuer's name until it accepts
+/// one, with the whole TBSCertificate. One that hashes the message in each call hashes signatures, or keys, times text:
+/// keep the digest of the last message, or check the lengths of signatures first.
 pub trait SignatureChecker {
     /// The signatures over messages that are genuine under a scheme and an SPKI (DER).
     ghost spki_accepts: { Self → scheme_type → List ℕ → List ℕ → List ℕ → Bool };

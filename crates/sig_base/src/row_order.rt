@@ -1,10 +1,11 @@
 //! The order in which a table of accepted rows is searched: the last bytes of signature, key and message first, which
-//! tell most rows apart at once; then the signature, and the message last, so that a message is compared only where all
-//! else is equal.
+//! tell most rows apart at once; then the operation, the part in which its questions differ, and the message last, so that
+//! a message is compared only where all else is equal.
 ghost use Rattle.std.specs.Prelude.{◌≡◌, Some, IfOk, slice_get, IsPermutation};
 ghost use Rattle.std.specs.Option.{option_cmp};
 ghost use Rattle.sig_base.specs.Checker.{operation_code};
-ghost use Rattle.sig_base.specs.RowOrder.{ending, ending_order, part_order, row_order, order_at, Ascends, IsOrderOf};
+ghost use Rattle.sig_base.specs.RowOrder.{ending, leading, following, ending_order, part_order, row_order};
+ghost use Rattle.sig_base.specs.RowOrder.{order_at, Ascends, IsOrderOf};
 
 use crate::checker::{AcceptedRow, Operation};
 use crate::memory::OutOfMemory;
@@ -95,17 +96,21 @@ impl<'a> RowParts<'a> {
         ending(self.message).cmp(&ending(other.message))
     }
 
-    /// Compares two rows: by signature, then operation, scheme, key, message.
+    /// Compares two rows: by operation, then the leading part, the other one, scheme, message.
     #[tactic(auto, using(crate::proofs::Orderings::steps), unfolding(crate::specs::RowOrder::part_order))]
     #[inline(always)]
     fn part_order(&self, other: &RowParts<'_>) -> Ordering
         ensures { result ≡ part_order self.now other.now }
     {
-        match self.signature.cmp(other.signature) {
+        match self.operation.code().cmp(&other.operation.code()) {
             Ordering::Equal => {}
             unequal => return unequal,
         }
-        match self.operation.code().cmp(&other.operation.code()) {
+        match self.leading().cmp(other.leading()) {
+            Ordering::Equal => {}
+            unequal => return unequal,
+        }
+        match self.following().cmp(other.following()) {
             Ordering::Equal => {}
             unequal => return unequal,
         }
@@ -113,11 +118,32 @@ impl<'a> RowParts<'a> {
             Ordering::Equal => {}
             unequal => return unequal,
         }
-        match self.key.cmp(other.key) {
-            Ordering::Equal => {}
-            unequal => return unequal,
-        }
         self.message.cmp(other.message)
+    }
+
+    /// Returns the part in which questions of the operation differ: a certificate is asked of many keys with one
+    /// signature, and else one key of many signatures. So no long part is compared by more than one of them.
+    #[tactic(auto, unfolding(crate::specs::RowOrder::leading))]
+    #[inline(always)]
+    fn leading(&self) -> &[u8]
+        ensures { result.now ≡ leading self.now }
+    {
+        match self.operation {
+            Operation::Certificate => self.key,
+            Operation::Message | Operation::Prehash | Operation::Point => self.signature,
+        }
+    }
+
+    /// Returns the other one of signature and key.
+    #[tactic(auto, unfolding(crate::specs::RowOrder::following))]
+    #[inline(always)]
+    fn following(&self) -> &[u8]
+        ensures { result.now ≡ following self.now }
+    {
+        match self.operation {
+            Operation::Certificate => self.signature,
+            Operation::Message | Operation::Prehash | Operation::Point => self.key,
+        }
     }
 }
 
