@@ -16,8 +16,8 @@ use Rattle.sig_json.proofs.ByKind.{as_object_is}
 use Rattle.sig_json.specs.Builders.{with_member, with_last, items_with_last}
 use Rattle.sig_json.specs.Gathered.{Entry}
 
-pub put_floatless : (name : List ℕ) (value : Data) (ms : Members) → has_float value ≡ false → members_have_float ms ≡ false
-    → members_have_float (put name value ms) ≡ false
+pub put_floatless : (name : List ℕ) (value : Data) (ms : Members) → has_float value ≡ false
+    → members_have_float ms ≡ false → members_have_float (put name value ms) ≡ false
 put_floatless name value no_members one rest = or_from (has_float value) false one refl
 put_floatless name value (member k d ms) one rest =
     let parts = or_parts (has_float d) (members_have_float ms) rest in

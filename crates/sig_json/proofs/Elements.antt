@@ -1,7 +1,7 @@
 -- A list read element by element: what is read so far, and the elements that are left.
-use Rattle.std.proofs.Common.{◌≡◌, ℕ, zero, suc, ◌<◌, ◌+◌, List, [], ◌∷◌, ◌++◌, length, map, drop, get_or, Option}
+use Rattle.std.proofs.Common.{◌≡◌, ℕ, ◌<◌, ◌+◌, List, [], ◌∷◌, ◌++◌, length, map, drop, get_or, Option}
 use Rattle.std.proofs.Common.{Some, None}
-use Rattle.std.proofs.Common.{false, refl, sym, ap, subst, ◌∙◌, arith, append_assoc, append-nil}
+use Rattle.std.proofs.Common.{false, refl, sym, ap, subst, ◌∙◌, append_assoc, append-nil}
 use Rattle.std.proofs.lemmas.List.{map-append}
 use Rattle.sig_base.specs.OptionSteps.{◌>>=◌}
 use Rattle.serde_json.specs.Data.{Data, null, boolean, number, string, array, object, Items}
@@ -13,7 +13,7 @@ use Rattle.sig_json.proofs.MemberTexts.{items_named_at}
 use Rattle.sig_json.proofs.SameTrees.{items_floatless_at}
 use Rattle.sig_json.specs.List.{items_list}
 use Rattle.sig_json.specs.Member.{each, list_each}
-use Rattle.sig_json.specs.Named.{IsNamed, AreNamed}
+use Rattle.sig_json.specs.Named.{IsNamed}
 use Rattle.sig_json.specs.SeenAs.{SeenAs}
 use Rattle.sig_json.specs.View.{view, items_view}
 use Rattle.sig_json.specs.declared.tree.Tree.{Tree}

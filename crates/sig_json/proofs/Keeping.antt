@@ -1,6 +1,6 @@
 -- An object of whose members some are kept, a member at a time, and the text that it is.
 use Rattle.std.proofs.Common.{◌≡◌, ℕ, ◌-◌, ◌<◌, ◌≤◌, Bool, true, false, not, List, [], ◌∷◌, ◌++◌, length, Some, None}
-use Rattle.std.proofs.Common.{Global, refl, sym, ap, subst, ◌∙◌, arith}
+use Rattle.std.proofs.Common.{refl, sym, ap, subst, ◌∙◌, arith}
 use Rattle.std.proofs.lemmas.Bool.{not_from_false, not_from_true}
 use Rattle.std.specs.Cow.{cow_str_bytes}
 use Rattle.std.specs.List.Sorted.{IsStrictlySortedBy}
@@ -62,7 +62,8 @@ pub at_more : (names : List (List ℕ)) (depth : ℕ) (start left inner next : L
     → KeptAt names depth start left all found
     → read_key left ≡ Some (Some k, inner) → is_among names k ≡ true → cow_str_bytes name ≡ k
     → Means depth inner next (view tree) → length next < length inner → IsNamed (view tree)
-    → IsUtf8 (cow_str_bytes name) → more ≡ found ++ (name, tree) ∷ [] → KeptAt names depth start next (put k (view tree) all) more
+    → IsUtf8 (cow_str_bytes name) → more ≡ found ++ (name, tree) ∷ []
+    → KeptAt names depth start next (put k (view tree) all) more
 at_more names depth start left inner next all found more k name tree so_far key listed same means less one utf8
     pushed =
     let d = view tree in

@@ -208,7 +208,8 @@ pub view-insert_entry : (es : List Entry) (name : Words) (value : Tree)
     ≡ put (cow_str_bytes name) (view value) (members_view es)
 view-insert_entry [] name value = refl
 view-insert_entry (e ∷ es) name value =
-    choice_of_each members_view (compare (cow_str_bytes name) (cow_str_bytes e.0)) _ _ _ ∙ rw (view-insert_entry es name value) refl
+    choice_of_each members_view (compare (cow_str_bytes name) (cow_str_bytes e.0)) _ _ _
+    ∙ rw (view-insert_entry es name value) refl
 
 below_from_next : (name : List ℕ) (es : List Entry) → InOrder es
     → ((d : Entry) → 0 < length es → compare name (cow_str_bytes (get_or es 0 d).0) ≡ Less)

@@ -1,5 +1,5 @@
 -- An object's texts go into a map in the order of their names, so each goes behind those before it.
-use Rattle.std.proofs.Common.{◌≡◌, ℕ, List, [], ◌∷◌, ◌++◌, map, Option, Some, None, Global, refl}
+use Rattle.std.proofs.Common.{◌≡◌, ℕ, List, [], ◌∷◌, ◌++◌, map, Option, Some, None, refl}
 use Rattle.std.proofs.Common.{sym, ap, subst, ◌∙◌, append_assoc, append-nil}
 use Rattle.std.specs.Cow.{cow_str_bytes}
 use Rattle.std.specs.Ordering.{nat_cmp}

@@ -1,4 +1,4 @@
-use Rattle.std.proofs.Common.{◌≡◌, ◌∙◌, [], rules}
+use Rattle.std.proofs.Common.{◌≡◌, [], rules}
 use Rattle.sig_json.proofs.Ordered.{in_order-none, in_order-put}
 use Rattle.sig_json.proofs.order.inserted.Goals as goal
 

@@ -15,4 +15,5 @@ pub returns : goal.returns
 returns c =
     let are : c.in_ok-collect.field-0.items ≡ c.members.sorted.entries = search (rules, chains) in
     let over : c.members.name-iterator.rest.items ≡ [] = grind (arith, common_steps) in
-    ap members_view are ∙ sym (ap (λ es. put_each es (members_view c.members.sorted.entries)) over) ∙ c.members.invariant
+    ap members_view are ∙ sym (ap (λ es. put_each es (members_view c.members.sorted.entries)) over)
+    ∙ c.members.invariant
