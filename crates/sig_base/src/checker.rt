@@ -155,7 +155,7 @@ impl TableChecker {
     }
 
     /// Whether a row of the table equals all five parts. A binary search: it compares with about as many rows as the
-    /// number of rows has binary digits, and compares messages only with a row that equals all other parts.
+    /// number of rows has binary digits, and compares whole messages only with a row that equals all other parts.
     pub fn accepts(
         &self,
         operation: Operation,
