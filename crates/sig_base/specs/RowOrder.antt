@@ -1,6 +1,7 @@
 -- The order in which a table of accepted rows is searched: the last bytes of signature, key and message, then the
 -- operation first, the message last.
-use Rattle.std.specs.Prelude.{ℕ, ◌<◌, ◌+◌, ◌-◌, ◌*◌, nat_lt, if◌then◌else◌, List, length, slice_get, slice_index, Contains}
+use Rattle.std.specs.Prelude.{ℕ, ◌<◌, ◌+◌, ◌-◌, ◌*◌, nat_lt, if◌then◌else◌, List, length, slice_get, slice_index}
+use Rattle.std.specs.Prelude.{Contains}
 use Rattle.std.specs.Option.{option_cmp}
 use Rattle.std.specs.Ordering.{nat_cmp, is_lt, on, then_cmp}
 use Rattle.std.specs.Cmp.Lexicographic.{slice_cmp}
