@@ -25,8 +25,8 @@ use Rattle.sig_verify.specs.Links.{Inputs, OfChecked, OfLogged}
 use Rattle.sig_verify.specs.Verdict.{Checker}
 use Rattle.sig_questions.proofs.AskedRows.{certificate_asked, content_asked, note_asked, point_asked, promise_asked}
 use Rattle.sig_questions.proofs.Issuers.{AgreeOnAnchors, first_too, may_be}
-use Rattle.sig_questions.proofs.Parts.{Parts, AnchoredParts, checked_as, checked_from, log_keys_of, logged_as}
-use Rattle.sig_questions.proofs.Parts.{logged_from, trust_with}
+use Rattle.sig_verify.proofs.Parts.{Parts, AnchoredParts, checked_as, checked_from, log_keys_of, logged_as}
+use Rattle.sig_verify.proofs.Parts.{logged_from, trust_with}
 use Rattle.sig_questions.specs.Asked.{IsAskedBy, IsSignatureRow, MayBeIssuer}
 use Rattle.sig_questions.specs.Questions.{AgreeWhere}
 use Rattle.sig_questions.specs.Rows.{certificate_row, message_row, point_row, prehash_row}

@@ -4,6 +4,8 @@ use Rattle.std.proofs.Common.{length, Option, Some, None, Result, Ok, Err, inl, 
 use Rattle.std.specs.List.{flat_map}
 use Rattle.std.specs.Prelude.{Contains}
 use Rattle.std.proofs.lemmas.Bool.{ltb-false, le-ltb}
+use Rattle.sig_base.proofs.OptionSteps.{some_is}
+use Rattle.sig_base.proofs.ResultSteps.{ok_is}
 use Rattle.sig_base.specs.Answers.{Answers}
 use Rattle.sig_base.specs.declared.checker.AcceptedRow.{AcceptedRow}
 use Rattle.sig_certificate.specs.Certificate.{Cert}
@@ -57,12 +59,6 @@ has_certificate trust c row =
 
 -- ---- its SCT
 
-same_signed : (a b : DigitallySigned) → ◌≡◌ {A = Result DigitallySigned SCTError} (Ok a) (Ok b) → a ≡ b
-same_signed a b e = cc
-
-same_point : (a b : List ℕ) → ◌≡◌ {A = Option (List ℕ)} (Some a) (Some b) → a ≡ b
-same_point a b e = cc
-
 module _ (points : List ℕ → Option (List ℕ)) (c : Cert) (said : IsSaidOf c (sct_of c)) (x : Cert)
     (row : AcceptedRow) where
   -- what the row is of an SCT
@@ -85,7 +81,7 @@ module _ (points : List ℕ → Option (List ℕ)) (c : Cert) (said : IsSaidOf c
     (λ has. (long, short, point, at, (has_one (point_row point (signed_bytes d) d.signature) row).0 has)),
     (λ of. (has_one (point_row point (signed_bytes d) d.signature) row).1
         (subst (λ (p : List ℕ). row ≡ point_row p (signed_bytes d) d.signature)
-        (same_point of.2 point (sym of.3 ∙ at)) of.4)),
+        (some_is of.2 point (sym of.3 ∙ at)) of.4)),
   )
 
   of_lengths : (d : DigitallySigned) (a b : Bool) → nat_lt (2 ^ 24 - 1) (length d.tbs_certificate) ≡ a
@@ -130,7 +126,7 @@ module _ (points : List ℕ → Option (List ℕ)) (c : Cert) (said : IsSaidOf c
         subst (λ r. Answers OutOfMemory (λ (d : DigitallySigned). d) (ready c x.spki r)
         (Ok (signed_of c x.spki of.0))) is (read_of of.0 of.1) in
         let same : signed_of c x.spki of.0 ≡ signed_of c x.spki s =
-        same_signed (signed_of c x.spki of.0) (signed_of c x.spki s) told in
+        ok_is (signed_of c x.spki of.0) (signed_of c x.spki s) told in
         (of_signed (signed_of c x.spki s)).1 (subst IsOfSigned same of.2)),
   )
   of_read (Err kind) is bad = (

@@ -3,8 +3,8 @@ use Rattle.std.proofs.Common.{◌↔◌, ◌⊎◌, inl, inr}
 use Rattle.sig_base.specs.declared.checker.AcceptedRow.{AcceptedRow}
 use Rattle.sig_bundle.proofs.Certificates.{OneCertificate}
 use Rattle.sig_verify.specs.Links.{Inputs}
-use Rattle.sig_questions.proofs.Parts.{AnchoredParts, Parts, checked_from, checked_to, log_keys_of, logged_from}
-use Rattle.sig_questions.proofs.Parts.{logged_to, trust_with}
+use Rattle.sig_verify.proofs.Parts.{AnchoredParts, Parts, checked_from, checked_to, log_keys_of, logged_from}
+use Rattle.sig_verify.proofs.Parts.{logged_to, trust_with}
 use Rattle.sig_questions.specs.Asked.{IsAskedBy, IsCertificateRow, IsContentRow, IsNoteRow, IsPointRow, IsPromiseRow}
 
 pub certificate_asked : {i : Inputs} (p : AnchoredParts i) (row : AcceptedRow)

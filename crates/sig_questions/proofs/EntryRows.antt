@@ -4,11 +4,14 @@ use Rattle.std.proofs.Common.{refl, sym, ap, subst, arith, ◌∙◌}
 use Rattle.std.specs.Prelude.{Contains, unsigned_abs}
 use Rattle.std.proofs.lemmas.Bool.{cases_lt}
 use Rattle.hex.specs.Hex.{encode_lower}
+use Rattle.sig_base.proofs.OptionSteps.{some_is}
+use Rattle.sig_base.proofs.ResultSteps.{ok_is}
 use Rattle.sig_base.specs.ByText.{text_lookup}
 use Rattle.sig_base.specs.declared.checker.AcceptedRow.{AcceptedRow}
 use Rattle.sig_base.specs.declared.fault.CheckpointFault.{CheckpointFault}
 use Rattle.sig_base.specs.declared.scheme.VerifyScheme.{VerifyScheme}
 use Rattle.sig_base.specs.ByteLists.{AreBytes}
+use Rattle.sig_bundle.proofs.PromiseLaws.{exact-promise, exact_or_wide, wide-promise}
 use Rattle.sig_bundle.specs.Checked.{Checked}
 use Rattle.sig_bundle.specs.Promise.{IsExactEntry, promise_of_entry, promise_tree_of}
 use Rattle.sig_bundle.specs.declared.content_check.CheckedContent.{CheckedContent}
@@ -28,7 +31,7 @@ use Rattle.sig_rekor.specs.CheckpointText.{IsCheckpoint, checkpoint_of}
 use Rattle.sig_rekor.specs.NoteText.{note_text}
 use Rattle.sig_rekor.specs.declared.checkpoint.SignedCheckpoint.{SignedCheckpoint}
 use Rattle.sig_base.proofs.ByteLists.{byte_at}
-use Rattle.sig_verify.proofs.EntryPromises.{PromiseLaws}
+use Rattle.sig_verify.proofs.ContentVerdicts.{same_scheme}
 use Rattle.sig_verify.specs.EntryLinks.{HasLogKey, IsOfBytes, LogKeys, OfCheckpoint, OfLogKey}
 use Rattle.sig_questions.proofs.RowLaws.{has_each, has_either, empty_has, has_one}
 use Rattle.sig_questions.specs.Asked.{IsContentRow, IsNoteRow, IsNoteRowOf, IsPromiseRow, IsSignatureRow}
@@ -39,9 +42,6 @@ use Rattle.sig_questions.specs.Lists.{promise_questions_by, promise_questions_ov
 use Rattle.sig_questions.specs.Rows.{message_row, prehash_row}
 
 -- ---- a key of a scheme
-
-same_scheme : (s t : VerifyScheme) → Scheme s ≡ Scheme t → s ≡ t
-same_scheme s t e = cc
 
 -- rows under the scheme of a key, where under each scheme these are the rows
 of_scheme : (spki : List ℕ) → AreBytes spki → (rows : VerifyScheme → List AcceptedRow) (row : AcceptedRow)
@@ -93,19 +93,7 @@ has_content d c bytes row =
 
 -- ---- the promise, under a key
 
-same_bytes : (a b : List ℕ) → ◌≡◌ {A = Option (List ℕ)} (Some a) (Some b) → a ≡ b
-same_bytes a b e = cc
-
-exact_or_not : (e : TransparencyLogEntry) → IsExactEntry e ⊎ ¬ IsExactEntry e
-exact_or_not e = elim (cases_lt (unsigned_abs e.integrated_time) (2 ^ 53)) [
-  | inl time ↦ elim (cases_lt (unsigned_abs e.log_index) (2 ^ 53)) [
-    | inl index ↦ inl (time, index)
-    | inr index ↦ inr (λ h. omega (arith, h.1, index))
-  ]
-  | inr time ↦ inr (λ h. omega (arith, h.0, time))
-]
-
-module _ (laws : PromiseLaws) (keys : LogKeys) (e : TransparencyLogEntry) (bytes : IsOfBytes keys e)
+module _ (keys : LogKeys) (e : TransparencyLogEntry) (bytes : IsOfBytes keys e)
     (row : AcceptedRow) where
   -- the row is the promise's under a key
   abbrev IsPromiseUnder : VerifyScheme → List ℕ → Type 0
@@ -120,15 +108,15 @@ module _ (laws : PromiseLaws) (keys : LogKeys) (e : TransparencyLogEntry) (bytes
       let one = has_one (message_row scheme spki (promise_of_entry e) promise) row in
       subst (λ (r : Result (List ℕ) CanonicalError).
       Contains (promise_questions_over scheme spki promise r) row ↔ IsPromiseUnder scheme spki)
-      (sym (laws.text e bytes.body bytes.id exact)) (
+      (sym (exact-promise e bytes.body bytes.id exact)) (
         (λ has. (exact, promise, is, one.0 has)),
         (λ of. one.1 (subst (λ (p : List ℕ). row ≡ message_row scheme spki (promise_of_entry e) p)
-            (same_bytes of.1 promise (sym of.2 ∙ is)) of.3)),
+            (some_is of.1 promise (sym of.2 ∙ is)) of.3)),
       )
   has_text scheme spki promise is (inr wide) =
       subst (λ (r : Result (List ℕ) CanonicalError).
       Contains (promise_questions_over scheme spki promise r) row ↔ IsPromiseUnder scheme spki)
-      (sym (laws.too_large e wide))
+      (sym (wide-promise e wide))
       ((λ has. absurd (empty_has row has)), (λ of. absurd (wide of.0)))
 
   has_promise : (scheme : VerifyScheme) (spki : List ℕ)
@@ -141,7 +129,7 @@ module _ (laws : PromiseLaws) (keys : LogKeys) (e : TransparencyLogEntry) (bytes
         (λ has. absurd (empty_has row has)),
         (λ of. absurd (let wrong : ◌≡◌ {A = Option (List ℕ)} (Some of.1) None = sym of.2 ∙ is in cc)),
       )
-      by (Some promise) is = has_text scheme spki promise is (exact_or_not e)
+      by (Some promise) is = has_text scheme spki promise is (exact_or_wide e)
 
   -- ---- the note, under a key
 
@@ -155,20 +143,14 @@ module _ (laws : PromiseLaws) (keys : LogKeys) (e : TransparencyLogEntry) (bytes
   abbrev IsNoteUnder : VerifyScheme → List ℕ → Type 0
   IsNoteUnder scheme spki = OfCheckpoint e (λ p n. IsNoteRowOf (scheme, spki) n row)
 
-  same_checkpoint : (a b : SignedCheckpoint) → ◌≡◌ {A = Result SignedCheckpoint CheckpointFault} (Ok a) (Ok b) → a ≡ b
-  same_checkpoint a b e = cc
-
-  same_fields : (a b : ProofFields) → ◌≡◌ {A = Option ProofFields} (Some a) (Some b) → a ≡ b
-  same_fields a b e = cc
-
   -- what a link would read of the entry's proof and text
   text_in : (p : ProofFields) (text : List ℕ) → e.inclusion_proof ≡ Some p → p.checkpoint ≡ Some text
       → (P : SignedCheckpoint → Type 0) → OfCheckpoint e (λ q n. P n)
       → (n : SignedCheckpoint) × IsCheckpoint text n × P n
   text_in p text proof there P of =
       let n = of.2.0 in
-      let same : of.0 ≡ p = same_fields of.0 p (sym of.1 ∙ proof) in
-      let words : of.2.1.0 ≡ text = same_bytes of.2.1.0 text
+      let same : of.0 ≡ p = some_is of.0 p (sym of.1 ∙ proof) in
+      let words : of.2.1.0 ≡ text = some_is of.2.1.0 text
       (sym of.2.1.1 ∙ ap (λ (q : ProofFields). q.checkpoint) same ∙ there) in
       (n, subst (λ (t : List ℕ). IsCheckpoint t n) words of.2.1.2, of.2.2)
 
@@ -179,7 +161,7 @@ module _ (laws : PromiseLaws) (keys : LogKeys) (e : TransparencyLogEntry) (bytes
     (λ has. (p, proof, (n, (text, there, checkpoint-found text n is), (has_notes scheme spki n).0 has))),
     (λ of.
         let read = text_in p text proof there (λ m. IsNoteRowOf (scheme, spki) m row) of in
-        let same : read.0 ≡ n = same_checkpoint read.0 n (sym (checkpoint-only text read.0 read.1) ∙ is) in
+        let same : read.0 ≡ n = ok_is read.0 n (sym (checkpoint-only text read.0 read.1) ∙ is) in
         (has_notes scheme spki n).1 (subst (λ (m : SignedCheckpoint). IsNoteRowOf (scheme, spki) m row) same read.2)),
   )
   has_read scheme spki p text proof there (Err fault) is = (
@@ -198,7 +180,7 @@ module _ (laws : PromiseLaws) (keys : LogKeys) (e : TransparencyLogEntry) (bytes
           → Contains (text_questions scheme spki o) row ↔ IsNoteUnder scheme spki
       by_text p proof None there = (
         (λ has. absurd (empty_has row has)),
-        (λ of. absurd (let same : of.0 ≡ p = same_fields of.0 p (sym of.1 ∙ proof) in
+        (λ of. absurd (let same : of.0 ≡ p = some_is of.0 p (sym of.1 ∙ proof) in
             let wrong : ◌≡◌ {A = Option (List ℕ)} (Some of.2.1.0) None =
             sym of.2.1.1 ∙ ap (λ (q : ProofFields). q.checkpoint) same ∙ there in cc)),
       )
@@ -226,7 +208,7 @@ module _ (laws : PromiseLaws) (keys : LogKeys) (e : TransparencyLogEntry) (bytes
   found_as : (id : List ℕ) → e.log_id ≡ Some id → (key : VerifyScheme × List ℕ) → HasLogKey keys e key
       → text_lookup (encode_lower id) keys ≡ Some key.1
   found_as id named key has =
-      ap (λ (i : List ℕ). text_lookup (encode_lower i) keys) (same_bytes id has.id (sym named ∙ has.named)) ∙ has.found
+      ap (λ (i : List ℕ). text_lookup (encode_lower i) keys) (some_is id has.id (sym named ∙ has.named)) ∙ has.found
 
   has_key : (id : List ℕ) → e.log_id ≡ Some id → (o : Option (List ℕ)) → text_lookup (encode_lower id) keys ≡ o
       → Contains (entry_questions_under e o) row ↔ OfLogKey keys e (λ key. IsEntryUnder key.0 key.1)
@@ -244,7 +226,7 @@ module _ (laws : PromiseLaws) (keys : LogKeys) (e : TransparencyLogEntry) (bytes
             let of = at.0 has in
             ((of.0, spki), record { id = id; named = named; found = found; kind = of.1 }, of.2)),
         (λ of.
-            let same : of.0.1 ≡ spki = same_bytes of.0.1 spki (sym (found_as id named of.0 of.1) ∙ found) in
+            let same : of.0.1 ≡ spki = some_is of.0.1 spki (sym (found_as id named of.0 of.1) ∙ found) in
             at.1 (
               of.0.0,
               subst (λ (k : List ℕ). IsKind k (Scheme of.0.0)) same of.1.kind,

@@ -2,6 +2,7 @@
 use Rattle.std.proofs.Common.{◌≡◌, ◌⊎◌, ◌↔◌, ℕ, ℤ, Bool, true, false, List, [], ◌∷◌, ◌++◌, Option, Some, Result, Err}
 use Rattle.std.proofs.Common.{inl, inr, refl, sym, ap, subst, ◌∙◌}
 use Rattle.std.specs.List.{AllByRecursion}
+use Rattle.sig_base.proofs.ResultSteps.{err_is}
 use Rattle.sig_base.specs.Rules.{FailsFirst}
 use Rattle.sig_certificate.specs.Certificate.{Cert}
 use Rattle.sig_dsse.specs.declared.artifact_digest.ArtifactDigest.{ArtifactDigest}
@@ -20,7 +21,7 @@ use Rattle.sig_verify.specs.declared.offline.Offline.{Offline}
 use Rattle.sig_verify.specs.declared.offline_error.OfflineError.{OfflineError}
 use Rattle.sig_verify.specs.declared.offline_error.OfflineError.TheVariants.{OutOfMemory}
 use Rattle.sig_questions.proofs.Issuers.{may_be, some_issuer}
-use Rattle.sig_questions.proofs.Parts.{checked_as, of_checked}
+use Rattle.sig_verify.proofs.Parts.{checked_as, of_checked}
 use Rattle.sig_questions.specs.Asked.{every_signature}
 use Rattle.sig_questions.specs.Front.{IsFrontTold, front_result}
 use Rattle.sig_questions.specs.Questions.{FailsFirstInChain, HoldsUnasked, RefusalsAreForAll, accepting, front_links}
@@ -37,16 +38,6 @@ held_before Holds [] ys apart fails = tt
 held_before Holds (x ∷ xs) ys apart (inl now) =
     absurd (let wrong : true ≡ false = ap is_issuer now.1 ∙ apart.0 in cc)
 held_before Holds (x ∷ xs) ys apart (inr later) = (later.0, held_before Holds xs ys apart.1 later.1)
-
-pub stops_behind : (Holds : Link → Type 0) (xs ys : List Link) (stop : Link) → AllByRecursion Holds xs
-    → ¬ Holds stop → FailsFirst Holds (xs ++ stop ∷ ys) stop
-stops_behind Holds [] ys stop all denied = inl (denied, refl)
-stops_behind Holds (x ∷ xs) ys stop all denied = inr (all.0, stops_behind Holds xs ys stop all.1 denied)
-
-pub all_and : (Holds : Link → Type 0) (xs : List Link) (last : Link) → AllByRecursion Holds xs → Holds last
-    → AllByRecursion Holds (xs ++ last ∷ [])
-all_and Holds [] last all holds = (holds, tt)
-all_and Holds (x ∷ xs) last all holds = (all.0, all_and Holds xs last all.1 holds)
 
 fails_not : (Holds : Link → Type 0) (xs : List Link) (link : Link) → FailsFirst Holds xs link → ¬ Holds link
 fails_not Holds [] link fails holds = fails
@@ -145,9 +136,6 @@ module _ (o : Outside) (i : Inputs) where
 abbrev Outcome : Type 0
 Outcome = Result Offline OfflineError
 
-same_error : (a b : OfflineError) → ◌≡◌ {A = Outcome} (Err a) (Err b) → a ≡ b
-same_error a b e = cc
-
 -- what the error of the first link that fails says, under a checker that accepts no certificate
 pub front_told : (o : Outside) (root : List ℕ) (now time : ℤ) (d : ArtifactDigest) (bundle : List ℕ)
     (error : OfflineError) → time ≡ now
@@ -157,7 +145,7 @@ pub front_told : (o : Outside) (root : List ℕ) (now time : ℤ) (d : ArtifactD
     → IsFrontTold (inputs root now d bundle) (front_result (link_of error))
 front_told o root now time d bundle error at denied (inl memory) =
     subst (λ (e : OfflineError). IsFrontTold (inputs root now d bundle) (front_result (link_of e)))
-    (sym (same_error error OutOfMemory memory)) tt
+    (sym (err_is error OutOfMemory memory)) tt
 front_told o root now time d bundle error at denied (inr (link, is, fails)) =
     subst (λ (l : Option Link). IsFrontTold (inputs root now d bundle) (front_result l)) (sym is)
     (subst (λ (t : ℤ). IsFrontTold (inputs root t d bundle) (front_result (Some link))) at

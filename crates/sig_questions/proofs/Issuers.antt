@@ -2,6 +2,7 @@
 use Rattle.std.proofs.Common.{◌≡◌, ℕ, zero, suc, ◌<◌, ℤ, Bool, true, false, List, [], ◌∷◌, Option, Some, refl, sym}
 use Rattle.std.proofs.Common.{subst, arith, ◌∙◌}
 use Rattle.std.specs.Prelude.{slice_get}
+use Rattle.sig_base.proofs.OptionSteps.{some_is}
 use Rattle.sig_certificate.specs.Certificate.{Cert}
 use Rattle.sig_verify.specs.CertificateLinks.{OfIssuer}
 use Rattle.sig_x509.proofs.IssuedLaws.{issued_from, issued_is}
@@ -50,9 +51,6 @@ first_too one other anchors c agree index is = record {
 
 -- ---- the first of several
 
-same_anchor : (x y : Cert) → ◌≡◌ {A = Option Cert} (Some x) (Some y) → x ≡ y
-same_anchor x y e = cc
-
 module _ (accepts : Accepts) (c : Cert) (t : ℤ) where
   shifted : (y : Cert) (ys : List Cert) → ¬ IsIssuedBy accepts c t y → (index : ℕ)
       → IsFirstIssuer accepts c t ys index → IsFirstIssuer accepts c t (y ∷ ys) (suc index)
@@ -66,7 +64,7 @@ module _ (accepts : Accepts) (c : Cert) (t : ℤ) where
       before : (earlier : ℕ) (x : Cert) → earlier < suc index → slice_get (y ∷ ys) earlier ≡ Some x
           → ¬ IsIssuedBy accepts c t x
       before zero x lt there its =
-          other (subst (λ (z : Cert). IsIssuedBy accepts c t z) (sym (same_anchor y x there)) its)
+          other (subst (λ (z : Cert). IsIssuedBy accepts c t z) (sym (some_is y x there)) its)
       before (suc earlier) x lt there its = is.first earlier x (omega (arith, lt)) there its
 
   abbrev FindsFirst : List Cert → Cert → Type 0
@@ -82,7 +80,7 @@ module _ (accepts : Accepts) (c : Cert) (t : ℤ) where
           → (first : ℕ) × IsFirstIssuer accepts c t ys first
       later fails more zero got =
           absurd (let its : IsIssuedBy accepts c t y =
-          subst (λ (z : Cert). IsIssuedBy accepts c t z) (sym (same_anchor y x got)) is in
+          subst (λ (z : Cert). IsIssuedBy accepts c t z) (sym (some_is y x got)) is in
           let wrong : true ≡ false = sym (issued_is accepts c t y its) ∙ fails in cc)
       later fails more (suc n) got = more n got
 

@@ -1,5 +1,4 @@
 pub mod Issuers
-pub mod Parts
 pub mod AskedRows
 pub mod Agreement
 pub mod Suffices

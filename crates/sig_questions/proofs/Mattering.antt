@@ -3,9 +3,11 @@ use Rattle.std.proofs.Common.{◌≡◌, ℕ, zero, suc, Bool, true, false, ◌|
 use Rattle.std.proofs.Common.{ap, subst, ◌∙◌}
 use Rattle.std.specs.List.{list_any}
 use Rattle.std.specs.Prelude.{Contains, is_some, slice_get}
+use Rattle.std.proofs.Math.Bool.{or-true}
 use Rattle.std.proofs.lemmas.List.Elements.{Contains-append_cases, Contains-append_left}
 use Rattle.std.proofs.lemmas.List.Elements.{Contains-append_right}
 use Rattle.sig_base.proofs.AcceptedRows.{accepted-rows}
+use Rattle.sig_base.proofs.OptionSteps.{some_is}
 use Rattle.sig_base.specs.Checker.{accepted}
 use Rattle.sig_base.specs.declared.checker.AcceptedRow.{AcceptedRow}
 use Rattle.sig_base.specs.declared.checker.Operation.TheVariants as kinds
@@ -31,9 +33,9 @@ use Rattle.sig_x509.specs.Issuance.{Accepts}
 use Rattle.sig_x509.specs.Issued.{IsIssuedBy}
 use Rattle.sig_questions.proofs.Fronts.{silent}
 use Rattle.sig_questions.proofs.Issuers.{some_issuer}
-use Rattle.sig_questions.proofs.Parts.{Parts, AnchoredParts, checked_to, log_keys_of, logged_to, of_checked, of_logged}
-use Rattle.sig_questions.proofs.Parts.{trust_with}
-use Rattle.sig_questions.proofs.RowLaws.{has_one, same_element}
+use Rattle.sig_verify.proofs.Parts.{Parts, AnchoredParts, checked_to, log_keys_of, logged_to, of_checked, of_logged}
+use Rattle.sig_verify.proofs.Parts.{trust_with}
+use Rattle.sig_questions.proofs.RowLaws.{has_one}
 use Rattle.sig_questions.specs.Asked.{IsCertificateRow, IsContentRow, IsNoteRow, IsPointRow, IsPromiseRow}
 use Rattle.sig_questions.specs.Asked.{IsSignatureRow, MayBeIssuer}
 use Rattle.sig_questions.specs.Matters.{EachQuestionMatters, Matters, checker_with, table_with}
@@ -54,13 +56,9 @@ any_has : {X : Type 0} (p : X → Bool) (xs : List X) (index : ℕ) (x : X) → 
     → list_any p xs ≡ true
 any_has p [] index x there is = absurd cc
 any_has p (y ∷ ys) zero x there is =
-    ap (λ b. b || list_any p ys) (ap p (same_element y x there) ∙ is)
+    ap (λ b. b || list_any p ys) (ap p (some_is y x there) ∙ is)
 any_has p (y ∷ ys) (suc index) x there is =
-    ap (λ b. p y || b) (any_has p ys index x there is) ∙ or_true (p y)
-  where
-    or_true : (b : Bool) → (b || true) ≡ true
-    or_true true = refl
-    or_true false = refl
+    ap (λ b. p y || b) (any_has p ys index x there is) ∙ or-true (p y)
 
 any_none : {X : Type 0} (xs : List X) → list_any (λ (x : X). false) xs ≡ false
 any_none [] = refl

@@ -3,6 +3,7 @@ use Rattle.std.proofs.Common.{◌≡◌, ◌↔◌, ◌⊎◌, ℕ, zero, suc, �
 use Rattle.std.proofs.Common.{subst, arith}
 use Rattle.std.specs.List.{flat_map}
 use Rattle.std.specs.Prelude.{Contains, slice_get}
+use Rattle.sig_base.proofs.OptionSteps.{some_is}
 use Rattle.std.proofs.lemmas.List.Elements.{Contains-append_cases, Contains-append_left, Contains-append_right}
 
 pub empty_has : {X : Type 0} (x : X) → Contains [] x → ⊥
@@ -53,15 +54,12 @@ each_from {X = X} {Y = Y} f (x ∷ xs) y has = elim (Contains-append_cases (f x)
   | inr later ↦ some_later x xs (λ v z. Contains (f v) z) y (each_from f xs y later)
 ]
 
-pub same_element : {X : Type 0} (x y : X) → ◌≡◌ {A = Option X} (Some x) (Some y) → x ≡ y
-same_element x y e = cc
-
 each_to : {X Y : Type 0} (f : X → List Y) (xs : List X) (y : Y) (index : ℕ) (x : X) → slice_get xs index ≡ Some x
     → Contains (f x) y → Contains (flat_map f xs) y
 each_to f [] y index x there has = absurd cc
 each_to {X = X} {Y = Y} f (v ∷ xs) y zero x there has =
     Contains-append_left (f v) (flat_map f xs) y
-    (subst (λ (z : X). Contains (f z) y) (sym (same_element v x there)) has)
+    (subst (λ (z : X). Contains (f z) y) (sym (some_is v x there)) has)
 each_to f (v ∷ xs) y (suc index) x there has =
     Contains-append_right (f v) (flat_map f xs) y (each_to f xs y index x there has)
 

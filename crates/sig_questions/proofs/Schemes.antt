@@ -29,7 +29,7 @@ use Rattle.sig_timestamp.specs.declared.sct_error.SCTError.{SCTError}
 use Rattle.sig_timestamp.specs.declared.signed.DigitallySigned.{DigitallySigned}
 use Rattle.sig_verify.specs.CertificateLinks.{Trust}
 use Rattle.sig_verify.specs.EntryLinks.{LogKeys}
-use Rattle.sig_questions.proofs.Parts.{log_keys_of, of_parts, trust_with}
+use Rattle.sig_verify.proofs.Parts.{log_keys_of, of_parts, trust_with}
 use Rattle.sig_questions.proofs.RowLaws.{empty_has, has_both, has_each, has_one}
 use Rattle.sig_questions.specs.Lists.{certificate_questions, checkpoint_questions, content_questions}
 use Rattle.sig_questions.specs.Lists.{content_questions_under, embedded_questions, entry_questions}

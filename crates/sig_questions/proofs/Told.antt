@@ -1,9 +1,10 @@
 -- What is listed are the questions.
-use Rattle.std.proofs.Common.{◌≡◌, ◌↔◌, ℕ, List, [], ◌∷◌, ◌++◌, Option, Ok, Err, refl, sym, ap, subst, ◌∙◌}
+use Rattle.std.proofs.Common.{◌≡◌, ◌↔◌, ℕ, List, [], ◌∷◌, ◌++◌, Option, Ok, Err, inl, refl, sym, ap, subst, ◌∙◌}
 use Rattle.std.proofs.Math.Path.{fun_ext}
 use Rattle.std.specs.List.{AllByRecursion, flat_map}
 use Rattle.std.specs.Prelude.{Contains, ◌≢◌}
 use Rattle.std.proofs.lemmas.List.Elements.{Contains-append_left}
+use Rattle.sig_base.proofs.ResultSteps.{ok_is}
 use Rattle.sig_base.specs.Rules.{FailsFirst}
 use Rattle.sig_base.specs.declared.checker.AcceptedRow.{AcceptedRow}
 use Rattle.sig_bundle.proofs.Certificates.{OneCertificate}
@@ -12,8 +13,8 @@ use Rattle.sig_certificate.specs.Certificate.{Cert}
 use Rattle.sig_certificate.specs.Certificates.{AreCertificates}
 use Rattle.sig_root.specs.declared.record.TrustedRoot.{TrustedRoot}
 use Rattle.sig_timestamp.specs.Keyring.{key_of}
-use Rattle.sig_verify.proofs.EntryPromises.{PromiseLaws}
 use Rattle.sig_verify.specs.CertificateLinks.{HasIssuer, Trust}
+use Rattle.sig_verify.proofs.JudgedLaws.{all_joined, fails_behind}
 use Rattle.sig_verify.specs.EntryLinks.{IsOfBytes, LogKeys}
 use Rattle.sig_verify.specs.LinkLaws.{IsReadCertificate}
 use Rattle.sig_verify.specs.Links.{Inputs, OfPassed}
@@ -26,10 +27,9 @@ use Rattle.sig_x509.specs.Issued.{HasProfile}
 use Rattle.sig_questions.proofs.AnchorRows.{has_certificate, has_point}
 use Rattle.sig_questions.proofs.AskedRows.{IsAskedOf, asked_as}
 use Rattle.sig_questions.proofs.EntryRows.{has_content, has_entry}
-use Rattle.sig_questions.proofs.Fronts.{all_and, stops_behind}
 use Rattle.sig_questions.proofs.Issuers.{some_issuer}
-use Rattle.sig_questions.proofs.Parts.{AnchoredParts, Parts, checked_from, checked_to, log_keys_of, of_parts, one_list}
-use Rattle.sig_questions.proofs.Parts.{parts_from, parts_to, root_from, trust_with}
+use Rattle.sig_verify.proofs.Parts.{AnchoredParts, Parts, checked_from, checked_to, log_keys_of, of_parts, one_list}
+use Rattle.sig_verify.proofs.Parts.{parts_from, parts_to, root_from, trust_with}
 use Rattle.sig_questions.proofs.RowLaws.{empty_has, has_either, has_one}
 use Rattle.sig_questions.specs.Asked.{IsAskedBy, every_signature}
 use Rattle.sig_questions.specs.Listed.{GivesTrust, AreListed, IsAnswered, ListedTextsAreAnswered, Listing}
@@ -53,9 +53,9 @@ module _ (one : OneCertificate) (i : Inputs) (p : AnchoredParts i) where
   keys = log_keys_of p.parts
 
   -- each row is asked
-  rows_asked : PromiseLaws → IsReadCertificate c → IsOfBytes keys c.entry → (row : AcceptedRow)
+  rows_asked : IsReadCertificate c → IsOfBytes keys c.entry → (row : AcceptedRow)
       → Contains (questions_of i.digest trust keys c) row ↔ IsAskedBy i row
-  rows_asked laws read bytes row = ((λ has. asked.0 (listed.0 has)), (λ asks. listed.1 (asked.1 asks)))
+  rows_asked read bytes row = ((λ has. asked.0 (listed.0 has)), (λ asks. listed.1 (asked.1 asks)))
     where
       listed : Contains (questions_of i.digest trust keys c) row ↔ IsAskedOf p row
       listed =
@@ -65,7 +65,7 @@ module _ (one : OneCertificate) (i : Inputs) (p : AnchoredParts i) where
           (content_questions i.digest c ++ entry_questions keys c.entry) row
           (has_point trust c.certificate read.sct row)
           (has_either (content_questions i.digest c) (entry_questions keys c.entry) row
-          (has_content i.digest c read.spki row) (has_entry laws keys c.entry bytes row)))
+          (has_content i.digest c read.spki row) (has_entry keys c.entry bytes row)))
 
       asked : IsAskedOf p row ↔ IsAskedBy i row
       asked = asked_as one p row
@@ -98,17 +98,14 @@ module _ (one : OneCertificate) (i : Inputs) (p : AnchoredParts i) where
 
 -- ---- what is listed
 
-ok_same : (a b : List AcceptedRow) → ◌≡◌ {A = Listing} (Ok a) (Ok b) → a ≡ b
-ok_same a b e = cc
-
-module _ (one : OneCertificate) (laws : PromiseLaws) (i : Inputs) (most : ℕ)
+module _ (one : OneCertificate) (i : Inputs) (most : ℕ)
     (front : AllByRecursion (HoldsUnasked i) front_links) (parts : Parts i)
     (anchors : List Cert) (are : AreCertificates (authorities parts.root i.now) anchors) where
   given : AreAnchors (authorities parts.root i.now) anchors
   given =
       let ders = authorities parts.root i.now in
       let of : HoldsUnasked i Issuance = front.1.1.1.1.1.1.1.1.1.1.1.1.1.0 in
-      let there = root_from parts
+      let there = root_from i parts.root parts.root_is
       (λ root. OfTrust root i.now (λ trust. OfPassed i (λ c. HasProfile c.certificate))) of in
       subst (λ (cs : List Cert). AreAnchors ders cs) (one_list one ders there.0 anchors there.1 are) there.1
 
@@ -123,7 +120,7 @@ module _ (one : OneCertificate) (laws : PromiseLaws) (i : Inputs) (most : ℕ)
 
   all_held : issuer_questions (trust_with its) parts.checked ≢ []
       → AllByRecursion (HoldsUnasked i) question_links
-  all_held some = all_and (HoldsUnasked i) front_links Issuer front (some_issues one i its some)
+  all_held some = all_joined (HoldsUnasked i) front_links (Issuer ∷ []) front (some_issues one i its some, tt)
 
   told : (result : Listing)
       → AreListed i.digest (trust_with its) (log_keys_of parts) parts.checked most result
@@ -134,8 +131,8 @@ module _ (one : OneCertificate) (laws : PromiseLaws) (i : Inputs) (most : ℕ)
       let both = read rows refl in
       record {
         asked = λ found same row.
-            (let equal : found ≡ its_rows = sym (ok_same rows found same) ∙ is in
-            let at = rows_asked one i its laws both.0 both.1 row in (
+            (let equal : found ≡ its_rows = sym (ok_is rows found same) ∙ is in
+            let at = rows_asked one i its both.0 both.1 row in (
               (λ has. at.0 (subst (λ (rs : List AcceptedRow). Contains rs row) equal has)),
               (λ asks. subst (λ (rs : List AcceptedRow). Contains rs row) (sym equal) (at.1 asks)),
             ));
@@ -148,7 +145,8 @@ module _ (one : OneCertificate) (laws : PromiseLaws) (i : Inputs) (most : ℕ)
   told (Err (Link link)) (is, none) read = record {
     asked = λ found wrong. absurd cc;
     decided = subst (λ (l : LinkType). FailsFirst (HoldsUnasked i) question_links l) (sym is)
-        (stops_behind (HoldsUnasked i) front_links [] Issuer front (none_issues one i its none));
+        (fails_behind (HoldsUnasked i) front_links (Issuer ∷ []) Issuer front
+        (inl (none_issues one i its none, refl)));
   }
   told (Err OutOfMemory) listed read = record { asked = λ found wrong. absurd cc; decided = tt }
 
@@ -164,8 +162,8 @@ read_if : (parts : TrustParts) (c : Checked) (result : Listing) → ReadIfOk par
 read_if parts c (Ok found) read rows same = read
 read_if parts c (Err error) read rows same = absurd cc
 
-pub listed_told : OneCertificate → PromiseLaws → ListedTextsAreAnswered
-listed_told one laws i most result front (root, root_is, (b, bundle_is, of)) =
+pub listed_told : OneCertificate → ListedTextsAreAnswered
+listed_told one i most result front (root, root_is, (b, bundle_is, of)) =
     let its : Parts i = record {
       root = root;
       root_is = root_is;
@@ -179,7 +177,7 @@ listed_told one laws i most result front (root, root_is, (b, bundle_is, of)) =
     subst (λ (keys : LogKeys). AreListed i.digest trust keys of.checked most result) of.gives.keys
     (subst (λ (t : Trust). AreListed i.digest t of.parts.log_keys of.checked most result)
     (same_trust root i of.parts of.gives) of.listed) in
-    told one laws i most front its of.parts.anchors of.gives.anchors result listed (λ rows same.
+    told one i most front its of.parts.anchors of.gives.anchors result listed (λ rows same.
     let read = read_if of.parts of.checked result of.read rows same in
     (read.0, subst (λ (keys : LogKeys). IsOfBytes keys of.checked.entry) of.gives.keys read.1))
 

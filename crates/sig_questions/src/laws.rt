@@ -4,7 +4,6 @@ ghost use Rattle.sig_questions.specs.Matters.{EachQuestionMatters};
 ghost use Rattle.sig_questions.specs.Questions.{QuestionsAreOneList, QuestionsHaveSchemes};
 ghost use Rattle.sig_questions.specs.Questions.{QuestionsSuffice, RefusalsAreForAll};
 
-use sig_bundle::laws::promises;
 use sig_certificate::laws::certificates;
 
 /// Two checkers that say the same of each question have the same links that hold, under every policy.
@@ -42,5 +41,4 @@ pub(crate) fn listed_texts()
     ensures { ListedTextsAreAnswered }
 {
     certificates();
-    promises();
 }

@@ -44,6 +44,7 @@ use Rattle.sig_dsse.specs.declared.artifact_digest.ArtifactDigest.{ArtifactDiges
 use Rattle.sig_dsse.specs.declared.envelope.DsseSignature.{DsseSignature}
 use Rattle.sig_dsse.specs.declared.recognized.SubjectFault.{SubjectFault}
 use Rattle.sig_dsse.specs.declared.recognized.SubjectFault.TheVariants as fault
+use Rattle.sig_rekor.proofs.Steps.{head_is}
 use Rattle.sig_base.specs.Rules.{FailsFirst}
 use Rattle.sig_verify.specs.BundleLinks.{HoldsOfBundle, IsContentRead, IsEnvelopeRead, OfCertificates, OfContent}
 use Rattle.sig_verify.specs.BundleLinks.{OfEncodings, OfEntry, OfMaterial, bundle_links}
@@ -55,9 +56,6 @@ use Rattle.sig_verify.specs.declared.link.Link.TheVariants.{Content as ContentLi
 use Rattle.sig_verify.specs.declared.offline_error.OfflineError.TheVariants.{Bundle as Refused}
 
 -- ---- equal parts
-
-pub sole_same : {A : Type 0} (a b : A) → a ∷ [] ≡ b ∷ [] → a ≡ b
-sole_same a b e = cc
 
 -- what holds of the first and of the later ones of a list
 abbrev OfParts : (Cert → List Cert → Type 0) → List Cert → Type 0
@@ -125,7 +123,7 @@ module _ (b : Bundle) where
   at_entry h P holds =
       let there = at_material (material_at h.before)
       (λ m. (e : TransparencyLogEntry) × (m.tlog_entries ≡ e ∷ []) × P e) holds in
-      subst P (sole_same there.0 h.entry (sym there.1 ∙ h.only)) there.2
+      subst P (head_is there.0 h.entry [] [] (sym there.1 ∙ h.only)) there.2
 
   at_profile : (h : HasVersion b) → Holds Profile → IsMet h.version h.before.entry
   at_profile h holds =

@@ -110,7 +110,7 @@ time_said c =
 
 -- ---- the key, and what is signed with it
 
-same_scheme : (a b : VerifyScheme) → Scheme a ≡ Scheme b → a ≡ b
+pub same_scheme : (a b : VerifyScheme) → Scheme a ≡ Scheme b → a ≡ b
 same_scheme a b e = cc
 
 module _ (k : Checker) (policy : PolicyOf) (trust : Trust) (d : ArtifactDigest) (offline : Bool) (c : Checked) where

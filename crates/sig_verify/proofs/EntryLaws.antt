@@ -9,7 +9,7 @@ use Rattle.sig_bundle.specs.declared.material.TransparencyLogEntry.{Transparency
 use Rattle.sig_rekor.specs.declared.inclusion_proof.InclusionProof.{InclusionProof}
 use Rattle.sig_verify.proofs.EntryKeys.{judged_key, key_has}
 use Rattle.sig_verify.proofs.EntryPaths.{judged_path}
-use Rattle.sig_verify.proofs.EntryPromises.{PromiseLaws, judged_promise}
+use Rattle.sig_verify.proofs.EntryPromises.{judged_promise}
 use Rattle.sig_verify.proofs.EntryProofs.{ProofLaws, judged_proof, proof_taken}
 use Rattle.sig_verify.proofs.JudgedLaws.{judged_answer, judged_bind, judged_map, judged_tells}
 use Rattle.sig_verify.specs.ContentCheck.{AcceptsSpki}
@@ -25,7 +25,7 @@ use Rattle.sig_verify.specs.declared.offline.Offline.{Offline}
 use Rattle.sig_verify.specs.declared.offline_error.OfflineError.{OfflineError}
 use Rattle.sig_verify.specs.declared.offline_error.OfflineError.TheVariants.{OutOfMemory}
 
-module _ (promises : PromiseLaws) (proofs : ProofLaws) (spki : AcceptsSpki) (keys : LogKeys) (e : TransparencyLogEntry)
+module _ (proofs : ProofLaws) (spki : AcceptsSpki) (keys : LogKeys) (e : TransparencyLogEntry)
     (bytes : IsOfBytes keys e) where
   judged_included : (key : VerifyScheme × List ℕ) → HasLogKey keys e key → (proof : InclusionProof)
       → fields_answer e.inclusion_proof ≡ Ok proof
@@ -42,7 +42,7 @@ module _ (promises : PromiseLaws) (proofs : ProofLaws) (spki : AcceptsSpki) (key
       (vouched (spki key.0 key.1) e)
   judged_vouched key has =
       judged_bind (HoldsOfEntry spki keys e) (Promise ∷ []) (Proof ∷ Checkpoint ∷ NoteKey ∷ NoteMatch ∷ Inclusion ∷ [])
-      (promise_answer (spki key.0 key.1) e) _ (judged_promise spki keys e bytes key has promises)
+      (promise_answer (spki key.0 key.1) e) _ (judged_promise spki keys e bytes key has)
       (λ done promised. judged_bind (HoldsOfEntry spki keys e) (Proof ∷ Checkpoint ∷ [])
       (NoteKey ∷ NoteMatch ∷ Inclusion ∷ [])
       (fields_answer e.inclusion_proof) _ (judged_proof spki keys e proofs)
@@ -71,14 +71,14 @@ entry_kept proofs spki keys e offline answer =
     (record { body = refl; proof = proof_taken proofs e e.inclusion_proof c.0 refl c.1 })
 
 -- what the call returns, whose arguments are bytes
-pub entry_linked : PromiseLaws → ProofLaws → (spki : AcceptsSpki) (keys : LogKeys) (e : TransparencyLogEntry)
+pub entry_linked : ProofLaws → (spki : AcceptsSpki) (keys : LogKeys) (e : TransparencyLogEntry)
     (r : Result Offline OfflineError) → Answers OutOfMemory (λ (o : Offline). o) r (log_entry_answer spki keys e)
     → UnlessMemory OutOfMemory r (HasKeyOfBytes keys e) → AreBytes e.canonicalized_body
     → AreBytes (unwrap_or e.log_id []) → UnlessMemory OutOfMemory r (Judged (HoldsOfEntry spki keys e) entry_links r)
-entry_linked promises proofs spki keys e r is (inl memory) body id = inl memory
-entry_linked promises proofs spki keys e r is (inr key) body id =
+entry_linked proofs spki keys e r is (inl memory) body id = inl memory
+entry_linked proofs spki keys e r is (inr key) body id =
     judged_answer OutOfMemory (HoldsOfEntry spki keys e) entry_links r (log_entry_answer spki keys e) is
-    (judged_entry promises proofs spki keys e (record { body = body; id = id; key = key }))
+    (judged_entry proofs spki keys e (record { body = body; id = id; key = key }))
 
 pub entry_kept_of : ProofLaws → (spki : AcceptsSpki) (keys : LogKeys) (e : TransparencyLogEntry)
     (r : Result Offline OfflineError) → Answers OutOfMemory (λ (o : Offline). o) r (log_entry_answer spki keys e)

@@ -52,7 +52,7 @@ judged_three Holds (Ok _) (Ok _) (Err error) one two three =
     (Inclusion, three.1, inr (one, inr (two, inl (three.0, refl))))
 judged_three Holds (Ok _) (Ok _) (Ok _) one two three = (one, (two, (three, tt)))
 
-pos_same : (m n : ℕ) → pos m ≡ pos n → m ≡ n
+pub pos_same : (m n : ℕ) → pos m ≡ pos n → m ≡ n
 pos_same m n e = cc
 
 -- of one index and one size

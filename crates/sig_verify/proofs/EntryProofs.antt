@@ -3,6 +3,8 @@ use Rattle.std.proofs.Common.{◌≡◌, ◌↔◌, ℕ, true, false, List, [], 
 use Rattle.std.proofs.Common.{inl, inr, refl, sym, ap, subst, ◌∙◌}
 use Rattle.std.specs.Prelude.{is_some}
 use Rattle.std.specs.List.{AllByRecursion}
+use Rattle.sig_base.proofs.OptionSteps.{some_is}
+use Rattle.sig_base.proofs.ResultSteps.{ok_is}
 use Rattle.sig_base.specs.declared.fault.CheckpointFault.{CheckpointFault}
 use Rattle.sig_bundle.specs.Proof.{IsFirstOther, IsHash, IsProof, IsProofFault, OfText, proof_or_fault}
 use Rattle.sig_bundle.specs.declared.material.ProofFields.{ProofFields}
@@ -29,26 +31,17 @@ pub record ProofLaws : Type 0 where
       → (proof_or_fault fields ≡ Ok proof) ↔ IsProof fields proof
   pub faults : (fields : ProofFields) (e : ProofFieldsError) → (proof_or_fault fields ≡ Err e) ↔ IsProofFault fields e
 
-pub same_proof : (a b : ProofFields) → ◌≡◌ {A = Option ProofFields} (Some a) (Some b) → a ≡ b
-same_proof a b e = cc
-
-same_text : (a b : List ℕ) → ◌≡◌ {A = Option (List ℕ)} (Some a) (Some b) → a ≡ b
-same_text a b e = cc
-
-same_note : (a b : SignedCheckpoint) → ◌≡◌ {A = Result SignedCheckpoint CheckpointFault} (Ok a) (Ok b) → a ≡ b
-same_note a b e = cc
-
 -- what holds of the proof
 pub at_proof : (e : TransparencyLogEntry) (p : ProofFields) (P : ProofFields → Type 0) → e.inclusion_proof ≡ Some p
     → OfProof e P → P p
-at_proof e p P is holds = subst P (same_proof holds.0 p (sym holds.1 ∙ is)) holds.2
+at_proof e p P is holds = subst P (some_is holds.0 p (sym holds.1 ∙ is)) holds.2
 
 -- a text is one checkpoint
 one_note : (p : ProofFields) (n m : SignedCheckpoint) → OfText p (λ text. IsCheckpoint text n)
     → OfText p (λ text. IsCheckpoint text m) → m ≡ n
 one_note p n m one other =
-    same_note m n (sym (checkpoint-only other.0 m other.2)
-    ∙ ap checkpoint_of (same_text other.0 one.0 (sym other.1 ∙ one.1)) ∙ checkpoint-only one.0 n one.2)
+    ok_is m n (sym (checkpoint-only other.0 m other.2)
+    ∙ ap checkpoint_of (some_is other.0 one.0 (sym other.1 ∙ one.1)) ∙ checkpoint-only one.0 n one.2)
 
 -- what holds of the checkpoint
 pub at_checkpoint : (e : TransparencyLogEntry) (p : ProofFields) (n : SignedCheckpoint) (P : ProofFields
@@ -103,7 +96,7 @@ module _ (spki : AcceptsSpki) (keys : LogKeys) (e : TransparencyLogEntry) where
                 let there : Q p = at_proof e p Q is holds in
                 let both : ◌≡◌ {A = Result SignedCheckpoint CheckpointFault} (Ok there.0) (Err f) =
                 sym (checkpoint-only there.1.0 there.0 there.1.2)
-                ∙ ap checkpoint_of (same_text there.1.0 cause.3.0 (sym there.1.1 ∙ cause.3.1))
+                ∙ ap checkpoint_of (some_is there.1.0 cause.3.0 (sym there.1.1 ∙ cause.3.1))
                 ∙ checkpoint-only_fails cause.3.0 f cause.3.2 in absurd cc),
             refl,
           ),

@@ -3,6 +3,8 @@ use Rattle.std.proofs.Common.{◌≡◌, ℕ, ◌<◌, ◌-◌, ◌^◌, Bool, t
 use Rattle.std.proofs.Common.{Option, Some, None, Result, Ok, Err, inl, inr, refl, sym, ap, subst, arith, ◌∙◌}
 use Rattle.std.specs.Prelude.{position, slice_get, option_map}
 use Rattle.std.proofs.lemmas.Bool.{ltb-false, le-ltb}
+use Rattle.sig_base.proofs.OptionSteps.{some_is}
+use Rattle.sig_base.proofs.ResultSteps.{ok_is}
 use Rattle.sig_base.specs.Answers.{Answers}
 use Rattle.sig_base.specs.ResultSteps.{◌>>=◌}
 use Rattle.sig_base.specs.declared.fault.PoolError.{PoolError}
@@ -54,15 +56,6 @@ no_memory true None e = cc
 no_memory true (Some place) e = cc
 no_memory false o e = cc
 
-same_place : (a b : ℕ) → ◌≡◌ {A = Result ℕ PoolError} (Ok a) (Ok b) → a ≡ b
-same_place a b e = cc
-
-same_anchor : (a b : Cert) → ◌≡◌ {A = Option Cert} (Some a) (Some b) → a ≡ b
-same_anchor a b e = cc
-
-same_point : (a b : List ℕ) → ◌≡◌ {A = Option (List ℕ)} (Some a) (Some b) → a ≡ b
-same_point a b e = cc
-
 -- what is read is read
 pub itself : (r : Result DigitallySigned SCTError) → Answers OutOfMemory (λ (x : DigitallySigned). x) r r
 itself (Ok x) = refl
@@ -75,10 +68,7 @@ has_told : (c : Cert) (spki : List ℕ) (s t : SctType) → sct_of c ≡ Ok s
 has_told c spki s t is told =
     let at : Answers OutOfMemory (λ (x : DigitallySigned). x) (Ok (signed_of c spki s)) (Ok (signed_of c spki t)) =
     subst (λ r. Answers OutOfMemory (λ (x : DigitallySigned). x) (ready c spki r) (Ok (signed_of c spki t))) is told in
-    same_signed (signed_of c spki t) (signed_of c spki s) at
-  where
-    same_signed : (a b : DigitallySigned) → ◌≡◌ {A = Result DigitallySigned SCTError} (Ok a) (Ok b) → a ≡ b
-    same_signed a b e = cc
+    ok_is (signed_of c spki t) (signed_of c spki s) at
 
 has_none : (c : Cert) (spki : List ℕ) (t : SctType) (kind : CertificateErrorKind) → sct_of c ≡ Err kind
     → Answers OutOfMemory (λ (x : DigitallySigned). x) (ready c spki (sct_of c)) (Ok (signed_of c spki t)) → ⊥
@@ -125,8 +115,8 @@ module _ (k : Checker) (policy : PolicyOf) (trusted : Trusted) (d : ArtifactDige
         let other : issuer_of k.cert trusted.anchors c c.not_before ≡ Ok of.index =
         (answers_issued k.cert trusted.anchors c c.not_before (issuer_of k.cert trusted.anchors c c.not_before) refl
         of.index).1 (profile, of.first) in
-        let same : of.index ≡ place = same_place of.index place (sym other ∙ at_pool) in
-        subst P (same_anchor of.first.anchor first.anchor
+        let same : of.index ≡ place = ok_is of.index place (sym other ∙ at_pool) in
+        subst P (some_is of.first.anchor first.anchor
         (sym of.first.there ∙ ap (λ (n : ℕ). slice_get trusted.anchors n) same ∙ first.there)) of.holds
 
     module _ (s : SctType) (has : HasSct c s) (is : sct_of c ≡ Ok s) where
@@ -148,7 +138,7 @@ module _ (k : Checker) (policy : PolicyOf) (trusted : Trusted) (d : ArtifactDige
             let same : signed_of c spki t ≡ signed_of c spki s = one_sct t holds.1.1 in
             let log : t.log_id ≡ s.log_id = ap (λ (x : DigitallySigned). x.log_id) same in
             let one : there.0 ≡ point =
-            same_point there.0 point (sym there.1 ∙ ap (λ (id : List ℕ). point_at trusted.ring id) log ∙ at) in
+            some_is there.0 point (sym there.1 ∙ ap (λ (id : List ℕ). point_at trusted.ring id) log ∙ at) in
             let moved : k.point there.0 (signed_bytes (signed_of c spki s)) s.signature ≡ true =
             subst (λ (x : DigitallySigned). k.point there.0 (signed_bytes x) x.signature ≡ true) same there.2 in
             let right : k.point point (signed_bytes (signed_of c spki s)) s.signature ≡ true =

@@ -2,6 +2,8 @@
 use Rattle.std.proofs.Common.{◌≡◌, ◌↔◌, List, [], ◌∷◌, ◌++◌, Option, Some, Result, Ok, Err, inl, inr, refl, sym, ap}
 use Rattle.std.proofs.Common.{subst, ◌∙◌}
 use Rattle.std.specs.List.{AllByRecursion}
+use Rattle.sig_base.proofs.OptionSteps.{some_is}
+use Rattle.sig_base.proofs.ResultSteps.{err_is}
 use Rattle.sig_base.specs.Answers.{Answers, UnlessMemory}
 use Rattle.sig_base.specs.ResultSteps.{◌>>=◌}
 use Rattle.sig_base.proofs.RuleLaws.{none_fails, one_fails}
@@ -11,7 +13,7 @@ use Rattle.sig_verify.specs.OfflineErrors.{link_of}
 use Rattle.sig_verify.specs.declared.link.Link.{Link}
 use Rattle.sig_verify.specs.declared.offline_error.OfflineError.{OfflineError}
 
-all_joined : (Holds : Link → Type 0) (xs ys : List Link) → AllByRecursion Holds xs → AllByRecursion Holds ys
+pub all_joined : (Holds : Link → Type 0) (xs ys : List Link) → AllByRecursion Holds xs → AllByRecursion Holds ys
     → AllByRecursion Holds (xs ++ ys)
 all_joined Holds [] ys front behind = behind
 all_joined Holds (x ∷ xs) ys front behind = (front.0, all_joined Holds xs ys front.1 behind)
@@ -22,7 +24,7 @@ fails_front Holds [] ys link fails = absurd fails
 fails_front Holds (x ∷ xs) ys link (inl fails) = inl fails
 fails_front Holds (x ∷ xs) ys link (inr later) = inr (later.0, fails_front Holds xs ys link later.1)
 
-fails_behind : (Holds : Link → Type 0) (xs ys : List Link) (link : Link) → AllByRecursion Holds xs
+pub fails_behind : (Holds : Link → Type 0) (xs ys : List Link) (link : Link) → AllByRecursion Holds xs
     → FailsFirst Holds ys link → FailsFirst Holds (xs ++ ys) link
 fails_behind Holds [] ys link front fails = fails
 fails_behind Holds (x ∷ xs) ys link front fails = inr (front.0, fails_behind Holds xs ys link front.1 fails)
@@ -104,12 +106,6 @@ judged_answer {A = A} memory Holds links (Err error) meant (inr is) judged =
 
 -- ---- the same in full
 
-same_error : {A : Type 0} (a b : OfflineError) → ◌≡◌ {A = Result A OfflineError} (Err a) (Err b) → a ≡ b
-same_error a b e = cc
-
-same_link : (a b : Link) → ◌≡◌ {A = Option Link} (Some a) (Some b) → a ≡ b
-same_link a b e = cc
-
 pub judged_tells : {A : Type 0} (Holds : Link → Type 0) (links : List Link) (r : Result A OfflineError)
     → Judged Holds links r → Tells Holds links r
 judged_tells Holds links (Ok x) judged = record {
@@ -128,8 +124,8 @@ judged_tells {A = A} Holds links (Err error) judged = record {
       judged.1 ∙ ap (λ (l : Link). Some l) (one_fails Holds links judged.0 link judged.2 fails),
     )),
     (λ said.
-        let same : said.0 ≡ error = sym (same_error {A = A} error said.0 said.1) in
-        let is : judged.0 ≡ link = same_link judged.0 link (sym judged.1 ∙ ap link_of (sym same) ∙ said.2) in
+        let same : said.0 ≡ error = sym (err_is {A = A} error said.0 said.1) in
+        let is : judged.0 ≡ link = some_is judged.0 link (sym judged.1 ∙ ap link_of (sym same) ∙ said.2) in
         subst (λ (l : Link). FailsFirst Holds links l) is judged.2),
   );
 }

@@ -16,6 +16,7 @@ pub mod JudgedLaws
 pub mod LinkGroups
 pub mod OfflineBytes
 pub mod OfflineLaws
+pub mod Parts
 pub mod RootVerdicts
 pub mod Scts
 pub mod Verdicts

@@ -2,8 +2,6 @@
 use Rattle.std.proofs.Common.{◌≡◌, ◌↔◌, ◌≢◌, ℕ, true, List, [], ◌++◌, Option, None, Ok, sym, ap, subst, ◌∙◌}
 use Rattle.std.proofs.Math.Path.{fun_ext}
 use Rattle.std.specs.List.{AllByRecursion}
-use Rattle.sig_base.proofs.ResultSteps.{ok_is}
-use Rattle.sig_base.proofs.Zipped.{zip_one}
 use Rattle.sig_base.specs.declared.fault.TrustPart.TheVariants as part
 use Rattle.sig_bundle.proofs.Certificates.{OneCertificate}
 use Rattle.sig_bundle.specs.BundleRecord.{bundle_in}
@@ -21,6 +19,8 @@ use Rattle.sig_timestamp.specs.RingKey.{point_at}
 use Rattle.sig_x509.specs.Issuance.{AreAnchors, IsAnchor}
 use Rattle.sig_x509.specs.Issued.{HasProfile}
 use Rattle.sig_verify.proofs.JudgedLaws.{Alike, alike_joined, both_alike}
+use Rattle.sig_verify.proofs.Parts.{AnchoredParts, Parts, bundle_from, checked_from, checked_to, logged_from, logged_to}
+use Rattle.sig_verify.proofs.Parts.{of_checked, root_from}
 use Rattle.sig_verify.proofs.RootVerdicts.{some_given}
 use Rattle.sig_verify.proofs.WholeVerdicts.{one_checked}
 use Rattle.sig_verify.specs.BundleLinks.{IsContentRead, OfCertificates, OfContent, OfEncodings, OfEntry, OfVersion}
@@ -39,17 +39,9 @@ use Rattle.sig_verify.specs.Verdict.{HasBody}
 use Rattle.sig_verify.specs.Verifier.{IsVerifierOf, Trusted, values_of}
 use Rattle.sig_verify.specs.declared.link.Link.{Link}
 
--- the anchors of bytes are the only ones
-one_list : OneCertificate → (ders : List (List ℕ)) (cs ds : List Cert) → AreAnchors ders cs → AreAnchors ders ds
-    → cs ≡ ds
-one_list one = zip_one IsAnchor IsAnchor (λ t c d anchor other. one t c d anchor.certificate other.certificate)
-
 module _ (o : Outside) (i : Inputs) (root : TrustedRoot) (root_is : trusted_root_in i.root ≡ Ok root) where
   root_as : (P : TrustedRoot → Type 0) → P root ↔ OfRoot i P
-  root_as P = (
-    (λ p. (root, root_is, p)),
-    (λ has. subst P (ok_is has.0 root (sym has.1 ∙ root_is)) has.2),
-  )
+  root_as P = ((λ p. (root, root_is, p)), root_from i root root_is P)
 
   pub roots_alike : Alike (HoldsOfRoot root i.now) (HoldsOf o i) root_links
   roots_alike = (
@@ -62,45 +54,42 @@ module _ (o : Outside) (i : Inputs) (root : TrustedRoot) (root_is : trusted_root
 
   module _ (b : Bundle) (bundle_is : bundle_in i.bundle ≡ Ok b) where
     bundle_as : (P : Bundle → Type 0) → P b ↔ OfBundle i P
-    bundle_as P = (
-      (λ p. (b, bundle_is, p)),
-      (λ has. subst P (ok_is has.0 b (sym has.1 ∙ bundle_is)) has.2),
-    )
+    bundle_as P = ((λ p. (b, bundle_is, p)), bundle_from i b bundle_is P)
+
+    -- the parts, with what the bundle's checks leave of it
+    abbrev parts_with : (c : Checked) → IsPassed b c → Parts i
+    parts_with c passed = record {
+      root = root;
+      root_is = root_is;
+      bundle = b;
+      bundle_is = bundle_is;
+      checked = c;
+      passed = passed;
+    }
 
     -- ---- the log entry
 
     module _ (one : OneCertificate) (c : Checked) (is : IsPassed b c) where
-      entry_from : (X : LogKeys → TransparencyLogEntry → Type 0) (x : Checked) → IsPassed b x
-          → X (rekor_keys root i.now) x.entry → X (rekor_keys root i.now) c.entry
-      entry_from X x other holds =
-          subst (λ (y : Checked). X (rekor_keys root i.now) y.entry) (one_checked one b c x is other) holds
-
-      logged_as : (X : LogKeys → TransparencyLogEntry → Type 0) → X (rekor_keys root i.now) c.entry ↔ OfLogged i X
-      logged_as X = (
-        (λ x. (root_as (λ r. OfPassed i (λ y. X (rekor_keys r i.now) y.entry))).0 (b, bundle_is, (c, is, x))),
-        (λ has.
-            let passed = (root_as (λ r. OfPassed i (λ y. X (rekor_keys r i.now) y.entry))).1 has in
-            let found = (bundle_as (λ x. (y : Checked) × IsPassed x y × X (rekor_keys root i.now) y.entry)).1 passed in
-            entry_from X found.0 found.1 found.2),
-      )
+      entry_as : (X : LogKeys → TransparencyLogEntry → Type 0) → X (rekor_keys root i.now) c.entry ↔ OfLogged i X
+      entry_as X = (logged_to (parts_with c is) X, logged_from one (parts_with c is) X)
 
       pub entries_alike : Alike (HoldsOfEntry o.checker.spki (rekor_keys root i.now) c.entry) (HoldsOf o i) entry_links
       entries_alike = (
-        logged_as (λ keys e. OfLogKey keys e (λ key. Unit {0})),
+        entry_as (λ keys e. OfLogKey keys e (λ key. Unit {0})),
         (
-          both_alike (logged_as (λ keys e. HasCanonicalPromise e))
-              (logged_as (λ keys e. IsPromisedBy o.checker.spki keys e)),
+          both_alike (entry_as (λ keys e. HasCanonicalPromise e))
+              (entry_as (λ keys e. IsPromisedBy o.checker.spki keys e)),
           (
-            logged_as (λ keys e. OfProof e IsProofRead),
+            entry_as (λ keys e. OfProof e IsProofRead),
             (
-              logged_as (λ keys e. OfCheckpoint e (λ p n. Unit {0})),
+              entry_as (λ keys e. OfCheckpoint e (λ p n. Unit {0})),
               (
-                logged_as (λ keys e. IsNoteSignedBy o.checker.spki keys e),
+                entry_as (λ keys e. IsNoteSignedBy o.checker.spki keys e),
                 (
-                  logged_as (λ keys e. OfCheckpoint e IsNoteOf),
+                  entry_as (λ keys e. OfCheckpoint e IsNoteOf),
                   (
-                    both_alike (logged_as (λ keys e. OfProof e IsPlaced))
-                        (logged_as (λ keys e. OfProof e (IsLed e))),
+                    both_alike (entry_as (λ keys e. OfProof e IsPlaced))
+                        (entry_as (λ keys e. OfProof e (IsLed e))),
                     tt,
                   ),
                 ),
@@ -117,9 +106,6 @@ module _ (o : Outside) (i : Inputs) (root : TrustedRoot) (root_is : trusted_root
       abbrev Verified : Link → Type 0
       Verified = HoldsOfVerified o.checker o.policy (trust_of trusted) i.digest true b
 
-      abbrev trust_with : List Cert → Trust
-      trust_with anchors = record { anchors = anchors; points = key_of (values_of (ct_keys root i.now)) }
-
       are_anchors : AreAnchors (authorities root i.now) trusted.anchors
       are_anchors =
           subst (λ (ders : List (List ℕ)). AreAnchors ders trusted.anchors)
@@ -129,31 +115,39 @@ module _ (o : Outside) (i : Inputs) (root : TrustedRoot) (root_is : trusted_root
       same_points = fun_ext (λ id. sym (is.ring id ∙ ap (λ (keys : LogKeys). key_of (values_of keys) id)
           (sym (some_given part.Ctfe (ct_keys root i.now) is.keys is.logs).1)))
 
-      same_trust : (anchors : List Cert) → AreAnchors (authorities root i.now) anchors
-          → trust_with anchors ≡ trust_of trusted
-      same_trust anchors are =
-          ap trust_with (one_list one (authorities root i.now) anchors trusted.anchors are are_anchors)
-          ∙ ap (λ (points : List ℕ → Option (List ℕ)). record { anchors = trusted.anchors; points = points })
+      abbrev given_trust : Trust
+      given_trust = record { anchors = trusted.anchors; points = key_of (values_of (ct_keys root i.now)) }
+
+      same_trust : given_trust ≡ trust_of trusted
+      same_trust =
+          ap (λ (points : List ℕ → Option (List ℕ)). record { anchors = trusted.anchors; points = points })
           same_points
 
       abbrev Found : (Trust → Checked → Type 0) → Type 0
       Found X = (c : Checked) × IsPassed b c × X (trust_of trusted) c
 
-      checked_to : (X : Trust → Checked → Type 0) → Found X → OfTrust root i.now (λ trust. OfPassed i (X trust))
-      checked_to X (c, passed, x) =
-          let moved = subst (λ (t : Trust). X t c) (sym (same_trust trusted.anchors are_anchors)) x in
-          (trusted.anchors, are_anchors, (b, bundle_is, (c, passed, moved)))
+      abbrev anchored_with : (c : Checked) → IsPassed b c → AnchoredParts i
+      anchored_with c passed =
+          record { parts = parts_with c passed; anchors = trusted.anchors; given = are_anchors }
 
-      checked_from : (X : Trust → Checked → Type 0) → OfTrust root i.now (λ trust. OfPassed i (X trust)) → Found X
-      checked_from X (anchors, are, passed) =
-          let found = (bundle_as (λ x. (c : Checked) × IsPassed x c × X (trust_with anchors) c)).1 passed in
-          (found.0, found.1, subst (λ (t : Trust). X t found.0) (same_trust anchors are) found.2)
+      found_to : (X : Trust → Checked → Type 0) → Found X → OfChecked i X
+      found_to X (c, passed, x) =
+          checked_to (anchored_with c passed) X (subst (λ (t : Trust). X t c) (sym same_trust) x)
+
+      found_from : (X : Trust → Checked → Type 0) → OfChecked i X → Found X
+      found_from X of =
+          of_checked i X (Found X) (λ p x.
+          let there : (c : Checked) × IsPassed b c =
+          bundle_from i b bundle_is (λ y. (c : Checked) × IsPassed y c)
+          (p.parts.bundle, p.parts.bundle_is, (p.parts.checked, p.parts.passed)) in (
+            there.0,
+            there.1,
+            subst (λ (t : Trust). X t there.0) same_trust
+                (checked_from one (anchored_with there.0 there.1) X of),
+          )) of
 
       checked_as : (X : Trust → Checked → Type 0) → Found X ↔ OfChecked i X
-      checked_as X = (
-        (λ x. (root_as (λ r. OfTrust r i.now (λ trust. OfPassed i (X trust)))).0 (checked_to X x)),
-        (λ has. checked_from X ((root_as (λ r. OfTrust r i.now (λ trust. OfPassed i (X trust)))).1 has)),
-      )
+      checked_as X = (found_to X, found_from X)
 
       -- two that hold of one bundle hold of one checked bundle
       both_from : (X Y : Trust → Checked → Type 0) → Found X → Found Y → Found (λ trust c. X trust c × Y trust c)

@@ -4,7 +4,8 @@ use Rattle.std.proofs.Common.{Ok, Err, IfOk, inl, inr, refl, sym, ap, subst, ◌
 use Rattle.std.specs.Prelude.{slice_get, if◌then◌else◌}
 use Rattle.std.specs.List.{AllByRecursion}
 use Rattle.hex.specs.Hex.{encode_lower}
-use Rattle.sig_base.proofs.OptionSteps.{bind_is, some_is}
+use Rattle.std.proofs.lemmas.Option.{some_pair_parts}
+use Rattle.sig_base.proofs.OptionSteps.{bind_is, some_is, when_is}
 use Rattle.sig_base.proofs.ResultSteps.{ok_is}
 use Rattle.sig_base.specs.Answers.{UnlessMemory}
 use Rattle.sig_base.specs.OptionSteps.{◌>>=◌}
@@ -43,13 +44,6 @@ at [] n i all found = absurd cc
 at (j ∷ is) zero i all found = subst HasRawBytes (some_is j i found) all.0
 at (j ∷ is) (suc n) i all found = at is n i all.1 found
 
-held : (b : Bool) (raw : Option (List ℕ)) (key : List ℕ) → (if b then raw else None) ≡ Some key → raw ≡ Some key
-held true raw key is = is
-held false raw key is = absurd cc
-
-same_key : (a b c d : List ℕ) → ◌≡◌ {A = Option (List ℕ × List ℕ)} (Some (a, b)) (Some (c, d)) → b ≡ d
-same_key a b c d is = ap (λ (p : List ℕ × List ℕ). p.1) (some_is (a, b) (c, d) is)
-
 -- the key that an instance gives is its own
 raw_of : (now : ℤ) (i : Instance) (id key : List ℕ) → key_at now i ≡ Some (id, key)
     → (k : PublicKey) × (i.public_key ≡ Some k) × (k.raw_bytes ≡ Some key)
@@ -62,10 +56,10 @@ raw_of now i id key is =
     (λ (raw : List ℕ). i.log_id >>= (λ log. Some (encode_lower log, raw)))
     (id, key) first.2 in
     let third = bind_is i.log_id (λ (log : List ℕ). Some (encode_lower log, second.0)) (id, key) second.2 in
-    let same : second.0 ≡ key = same_key (encode_lower third.0) second.0 id key third.2 in (
+    let same : second.0 ≡ key = (some_pair_parts (encode_lower third.0) id second.0 key third.2).1 in (
       first.0,
       first.1,
-      held (holds now first.0.valid_for) first.0.raw_bytes key (second.1 ∙ ap (λ (k : List ℕ). Some k) same),
+      (when_is (holds now first.0.valid_for) first.0.raw_bytes key (second.1 ∙ ap (λ (k : List ℕ). Some k) same)).1,
     )
 
 keys_are_bytes : (root : TrustedRoot) (now : ℤ) (c : Checked) → AllByRecursion HasRawBytes root.tlogs

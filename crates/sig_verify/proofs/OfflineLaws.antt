@@ -16,7 +16,6 @@ use Rattle.sig_json.specs.declared.error.JsonError.{JsonError}
 use Rattle.sig_root.specs.RootRecord.{trusted_root_in}
 use Rattle.sig_root.specs.declared.record.TrustedRoot.{TrustedRoot}
 use Rattle.sig_verify.proofs.EntryLaws.{entry_kept, judged_entry}
-use Rattle.sig_verify.proofs.EntryPromises.{PromiseLaws}
 use Rattle.sig_verify.proofs.EntryProofs.{ProofLaws}
 use Rattle.sig_verify.proofs.JudgedLaws.{all_as, behind, fails_as, fails_front, judged_as, judged_tells}
 use Rattle.sig_verify.proofs.LinkGroups.{entries_alike, roots_alike, verified_alike}
@@ -50,7 +49,6 @@ pub record Groups : Type 0 where
   pub passed : (b : BundleType) (c : Checked) → IsChecked b (Ok c) ↔ IsPassed b c
   pub bundles : BundlesAreJudged
   pub roots : RootsAreJudged
-  pub promises : PromiseLaws
   pub proofs : ProofLaws
 
 abbrev behind_json : List Link
@@ -95,7 +93,7 @@ module _ (laws : Groups) (o : Outside) (i : Inputs) (read : AreReadInputs i) (re
               (judged_as (HoldsOfEntry o.checker.spki keys c.entry) Holds entry_links
               (log_entry_answer o.checker.spki keys c.entry)
               (entries_alike o i root root_is b bundle_is laws.one c is)
-              (judged_entry laws.promises laws.proofs o.checker.spki keys c.entry
+              (judged_entry laws.proofs o.checker.spki keys c.entry
               (read.logged root b c root_is bundle_is is)));
           kept = λ offline ok. (
             b,

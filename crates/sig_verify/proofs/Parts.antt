@@ -1,4 +1,4 @@
--- The parts of inputs that the links behind `profile` speak of, apart from what they say of them.
+-- The parts of inputs that links speak of, apart from what they say of them.
 use Rattle.std.proofs.Common.{◌≡◌, ℕ, List, [], ◌∷◌, Ok, sym, subst, ◌∙◌}
 use Rattle.sig_base.proofs.ResultSteps.{ok_is}
 use Rattle.sig_base.proofs.Zipped.{zip_one}
@@ -16,7 +16,7 @@ use Rattle.sig_timestamp.specs.Keyring.{key_of}
 use Rattle.sig_verify.proofs.WholeVerdicts.{one_checked}
 use Rattle.sig_verify.specs.CertificateLinks.{Trust}
 use Rattle.sig_verify.specs.EntryLinks.{LogKeys}
-use Rattle.sig_verify.specs.Links.{Inputs, OfChecked, OfLogged, OfPassed, OfRoot}
+use Rattle.sig_verify.specs.Links.{Inputs, OfBundle, OfChecked, OfLogged, OfPassed, OfRoot}
 use Rattle.sig_verify.specs.RootLinks.{OfTrust, authorities, ct_keys, rekor_keys}
 use Rattle.sig_verify.specs.Verifier.{values_of}
 use Rattle.sig_x509.specs.Issuance.{AreAnchors, IsAnchor}
@@ -120,14 +120,17 @@ are_read [] (c ∷ cs) are = absurd are
 are_read (t ∷ ts) [] are = absurd are
 are_read (t ∷ ts) (c ∷ cs) are = (are.0.certificate, are_read ts cs are.1)
 
-pub root_from : {i : Inputs} (p : Parts i) (P : TrustedRoot → Type 0) → OfRoot i P → P p.root
-root_from p P of = subst P (ok_is of.0 p.root (sym of.1 ∙ p.root_is)) of.2
+pub root_from : (i : Inputs) (root : TrustedRoot) → trusted_root_in i.root ≡ Ok root → (P : TrustedRoot → Type 0)
+    → OfRoot i P → P root
+root_from i root root_is P of = subst P (ok_is of.0 root (sym of.1 ∙ root_is)) of.2
+
+pub bundle_from : (i : Inputs) (b : Bundle) → bundle_in i.bundle ≡ Ok b → (P : Bundle → Type 0) → OfBundle i P → P b
+bundle_from i b bundle_is P of = subst P (ok_is of.0 b (sym of.1 ∙ bundle_is)) of.2
 
 passed_from : OneCertificate → {i : Inputs} (p : Parts i) (P : Checked → Type 0) → OfPassed i P → P p.checked
-passed_from one p P of =
-    let same : of.0 ≡ p.bundle = ok_is of.0 p.bundle (sym of.1 ∙ p.bundle_is) in
-    let its : IsPassed p.bundle of.2.0 = subst (λ (x : Bundle). IsPassed x of.2.0) same of.2.1 in
-    subst P (one_checked one p.bundle p.checked of.2.0 p.passed its) of.2.2
+passed_from one {i} p P of =
+    let there = bundle_from i p.bundle p.bundle_is (λ b. (c : Checked) × IsPassed b c × P c) of in
+    subst P (one_checked one p.bundle p.checked there.0 p.passed there.1) there.2
 
 pub parts_from : OneCertificate → {i : Inputs} (p : AnchoredParts i) (X : Trust → LogKeys → Checked → Type 0)
     → OfParts i X → X (trust_with p) (log_keys_of p.parts) p.parts.checked
@@ -135,7 +138,8 @@ parts_from one {i} p X of =
     let ders = authorities p.parts.root i.now in
     let points = key_of (values_of (ct_keys p.parts.root i.now)) in
     let keys = log_keys_of p.parts in
-    let there = root_from p.parts (λ r. OfTrust r i.now (λ trust. OfPassed i (X trust (rekor_keys r i.now)))) of in
+    let there = root_from i p.parts.root p.parts.root_is
+    (λ r. OfTrust r i.now (λ trust. OfPassed i (X trust (rekor_keys r i.now)))) of in
     let same : there.0 ≡ p.anchors = one_list one ders there.0 p.anchors there.1 (are_read ders p.anchors p.given) in
     passed_from one p.parts (X (trust_with p) keys)
     (subst (λ (cs : List Cert). OfPassed i (X (record { anchors = cs; points = points }) keys)) same there.2)
@@ -148,4 +152,4 @@ pub logged_from : OneCertificate → {i : Inputs} (p : Parts i) (X : LogKeys →
     → OfLogged i X → X (log_keys_of p) p.checked.entry
 logged_from one {i} p X of =
     passed_from one p (λ c. X (log_keys_of p) c.entry)
-    (root_from p (λ r. OfPassed i (λ c. X (rekor_keys r i.now) c.entry)) of)
+    (root_from i p.root p.root_is (λ r. OfPassed i (λ c. X (rekor_keys r i.now) c.entry)) of)

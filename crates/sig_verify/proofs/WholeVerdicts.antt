@@ -1,5 +1,5 @@
 -- The links `material` to `time`: the result of a verifier says which of them fails first.
-use Rattle.std.proofs.Common.{◌≡◌, ◌↔◌, ℕ, Bool, List, ◌∷◌, ◌++◌, Option, Ok, inl, inr, sym, ap, subst, ◌∙◌}
+use Rattle.std.proofs.Common.{◌≡◌, ◌↔◌, ℕ, Bool, List, [], ◌∷◌, ◌++◌, Option, Ok, inl, inr, sym, ap, subst, ◌∙◌}
 use Rattle.sig_base.proofs.OptionSteps.{some_is}
 use Rattle.sig_base.proofs.ResultSteps.{ok_is}
 use Rattle.sig_bundle.proofs.Certificates.{OneCertificate, certificates_one}
@@ -16,7 +16,7 @@ use Rattle.sig_bundle.specs.declared.material.VerificationMaterial.{Verification
 use Rattle.sig_certificate.specs.Certificate.{Cert}
 use Rattle.sig_certificate.specs.Certificates.{AreCertificates}
 use Rattle.sig_dsse.specs.declared.artifact_digest.ArtifactDigest.{ArtifactDigest}
-use Rattle.sig_verify.proofs.BundleVerdicts.{sole_same}
+use Rattle.sig_rekor.proofs.Steps.{head_is}
 use Rattle.sig_verify.proofs.CheckedVerdicts.{judged_trusted}
 use Rattle.sig_verify.proofs.JudgedLaws.{alike_each, behind, fails_front, judged_as, judged_tells}
 use Rattle.sig_verify.specs.BundleLinks.{bundle_links}
@@ -34,9 +34,6 @@ one_content : (content : Option Content) (a b : List ℕ) (x y : CheckedContent)
     → ◌≡◌ {A = ContentWithSignature} (record { signature = b; content = y }) (record { signature = a; content = x })
 one_content content a b x y is other =
     ok_is _ _ (sym (content-meant content b y other) ∙ content-meant content a x is)
-
-head_same : (c d : Cert) (cs ds : List Cert) → c ∷ cs ≡ d ∷ ds → c ≡ d
-head_same c d cs ds e = cc
 
 of_parts : (c d : Checked) → c.certificate ≡ d.certificate
     → ◌≡◌ {A = ContentWithSignature} (record { signature = c.signature; content = c.content })
@@ -63,10 +60,10 @@ one_checked one b c o is other =
     let read : AreCertificates l.encodings (o.certificate ∷ m.later) =
     subst (λ (ders : List (List ℕ)). AreCertificates ders (o.certificate ∷ m.later)) encodings m.read in
     of_parts o c
-    (head_same o.certificate c.certificate m.later l.later
+    (head_is o.certificate c.certificate m.later l.later
     (certificates_one one l.encodings (o.certificate ∷ m.later) (c.certificate ∷ l.later) read l.read))
     (one_content b.content c.signature o.signature c.content o.content is.content other.content)
-    (sole_same o.entry c.entry
+    (head_is o.entry c.entry [] []
     (sym other.logged ∙ ap (λ (x : VerificationMaterial). x.tlog_entries) material ∙ is.logged))
 
 module _ (one : OneCertificate) (passed : (b : Bundle) (c : Checked)

@@ -6,7 +6,7 @@ ghost use Rattle.sig_verify.specs.LinkLaws.{RootsAreJudged, VerdictsAreJudged};
 ghost use Rattle.sig_verify.specs.OfflineLaws.{OutcomesAreJudged};
 ghost use Rattle.sig_verify.specs.TrustChain.{AllLinksAreTheTrustChain};
 
-use sig_bundle::laws::{causes_of_refusals, passed_bundles, promises, proof_faults, proofs};
+use sig_bundle::laws::{causes_of_refusals, passed_bundles, proof_faults, proofs};
 use sig_certificate::laws::certificates;
 
 /// Every link holds if and only if the inputs are valid and the chain of trust holds.
@@ -20,7 +20,6 @@ pub fn entries()
     ensures links { EntriesAreJudged }
     ensures kept { EntriesAreKept }
 {
-    promises();
     proofs();
     proof_faults();
 }
@@ -79,7 +78,6 @@ pub fn outcomes()
     passed_bundles();
     bundles();
     roots();
-    promises();
     proofs();
     proof_faults();
 }

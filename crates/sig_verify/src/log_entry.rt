@@ -15,7 +15,7 @@ use crate::offline::Offline;
 use crate::offline_error::{OfflineError, proof_error};
 use sig_base::laws::{are_bytes, are_optional_bytes, are_owned_bytes};
 use sig_base::{Bytes, KeyMap, SignatureChecker, SigstoreError, Text};
-use sig_bundle::laws::{promises, proof_faults, proofs};
+use sig_bundle::laws::{proof_faults, proofs};
 use sig_bundle::{ProofFields, TransparencyLogEntry, promise_text};
 use sig_key::CosignVerificationKey;
 use sig_rekor::InclusionProof;
@@ -54,7 +54,6 @@ pub fn verify_log_entry<C: SignatureChecker>(
     ensures answer { Answers OfflineError.OutOfMemory (λ offline. offline) result
         (log_entry_answer (C.spki_accepts checker.now) log_keys.now entry.now) }
 {
-    promises();
     proofs();
     proof_faults();
     are_owned_bytes(&entry.canonicalized_body);

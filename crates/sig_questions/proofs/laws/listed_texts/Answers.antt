@@ -4,4 +4,3 @@ use Rattle.sig_questions.proofs.laws.listed_texts.Goals as goal
 pub returns : goal.returns
 returns c =
     listed_told c.certificates.ensures
-    (record { text = c.promises.ensures.text; too_large = c.promises.ensures.too_large })

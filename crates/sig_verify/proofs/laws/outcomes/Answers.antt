@@ -8,6 +8,5 @@ returns c o i read result is =
       passed = c.passed_bundles.ensures;
       bundles = c.bundles.ensures;
       roots = c.roots.ensures;
-      promises = record { text = c.promises.ensures.text; too_large = c.promises.ensures.too_large };
       proofs = record { proofs = c.proofs.ensures; faults = c.proof_faults.ensures };
     }) o i read result is
