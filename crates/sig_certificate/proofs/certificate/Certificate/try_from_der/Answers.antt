@@ -49,7 +49,8 @@ only_so text e h c is =
       | inr none ↦ absurd (none c is)
     ]
 
-der_so : (text : List ℕ) (e : X509ReadError) → Says text e → not_read e ≡ not_read Der → (c : Cert) → IsCertificate text c → ⊥
+der_so : (text : List ℕ) (e : X509ReadError) → Says text e → not_read e ≡ not_read Der → (c : Cert)
+    → IsCertificate text c → ⊥
 der_so text e h is =
     elim h [
       | inl memory ↦ absurd cc
