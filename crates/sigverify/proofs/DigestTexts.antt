@@ -5,6 +5,8 @@ use Rattle.std.specs.Option.{option_or}
 use Rattle.std.specs.Result.{result_ok}
 use Rattle.std.specs.Str.Pattern.{FindsTextPrefix, StripsPrefix}
 use Rattle.hex.specs.Hex.{decode_sized}
+use Rattle.sig_base.proofs.OptionSteps.{some_is}
+use Rattle.sig_base.proofs.ResultSteps.{ok_from}
 use Rattle.sig_base.specs.OptionSteps.{◌>>=◌}
 use Rattle.sig_dsse.specs.declared.artifact_digest.ArtifactDigest.{ArtifactDigest}
 use Rattle.sig_dsse.specs.declared.artifact_digest.ArtifactDigest.TheVariants.{Sha256, Sha512}
@@ -23,13 +25,6 @@ stripped beginning text (Some x) found =
     let rest : x.now ≡ drop found.0 text = found.2 in
     ap Some rest ∙ sym (ap (after_separator beginning) at ∙ after_separator-at beginning (drop found.0 text))
 
-decoded : {E : Type 0} (bytes : List ℕ) (r : Result (List ℕ) E) → result_ok r ≡ Some bytes → r ≡ Ok bytes
-decoded bytes (Ok b) same = cc
-decoded bytes (Err e) same = cc
-
-same_some : {x y : ArtifactDigest} → Some x ≡ Some y → x ≡ y
-same_some e = cc
-
 -- the digits that bytes are read from
 pub bytes_after-some : (beginning : List ℕ) (size : ℕ) (text bytes : List ℕ)
     → bytes_after beginning size text ≡ Some bytes
@@ -40,7 +35,7 @@ bytes_after-some beginning size text bytes = by (after_separator beginning text)
       → (digits : List ℕ) × (text ≡ beginning ++ digits) × (decode_sized digits size ≡ Ok bytes)
   by None is same = cc
   by (Some digits) is same =
-      (digits, after_separator-some beginning text digits is, decoded bytes (decode_sized digits size) same)
+      (digits, after_separator-some beginning text digits is, ok_from (decode_sized digits size) bytes same)
 
 -- bytes behind a beginning
 pub bytes_after-at : (beginning digits : List ℕ) (size : ℕ) (bytes : List ℕ) → decode_sized digits size ≡ Ok bytes
@@ -58,10 +53,10 @@ digest-found text digest =
           → option_or (option_map Sha256 narrow) (option_map Sha512 wide) ≡ Some digest → IsDigestText text digest
       by (Some bytes) wide is _ same =
           let at = bytes_after-some (codes "sha256:") 32 text bytes is in
-          subst (IsDigestText text) (same_some same) record { digits = at.0; whole = at.1; bytes = at.2 }
+          subst (IsDigestText text) (some_is _ _ same) record { digits = at.0; whole = at.1; bytes = at.2 }
       by None (Some bytes) _ is same =
           let at = bytes_after-some (codes "sha512:") 64 text bytes is in
-          subst (IsDigestText text) (same_some same) record { digits = at.0; whole = at.1; bytes = at.2 }
+          subst (IsDigestText text) (some_is _ _ same) record { digits = at.0; whole = at.1; bytes = at.2 }
       by None None _ _ same = cc
 
 -- the digest of a text is read

@@ -1,5 +1,6 @@
 -- The first failing link of a head, from what holds under its checkpoint.
 use Rattle.std.proofs.Common.{◌≡◌, ◌⊎◌, ℕ, List, Option, Some, None, Result, Ok, Err, IfOk, inl, inr, refl, subst, sym}
+use Rattle.sig_base.proofs.ResultSteps.{ok_is}
 use Rattle.sig_base.specs.declared.memory.OutOfMemory.{OutOfMemory}
 use Rattle.sig_base.specs.declared.fault.CheckpointFault.{CheckpointFault}
 use Rattle.sig_rekor.specs.declared.checkpoint.SignedCheckpoint.{SignedCheckpoint}
@@ -61,10 +62,6 @@ refused-verdict head size root text fault same none =
     unread-verdict head size root (λ other is. no_fault other fault
     (none other (subst (λ t. IsCheckpoint t other) (sym same) is)))
 
-pub same_reading : (a b : SignedCheckpoint)
-    → ◌≡◌ {A = Result SignedCheckpoint ParseCheckpointError} (Ok a) (Ok b) → a ≡ b
-same_reading a b e = cc
-
 pub read-verdict : (head : SignedHead) (size : ℕ) (root : List ℕ) (text : List ℕ)
     (checkpoint : SignedCheckpoint)
     (verdict : Result (Option Link) OutOfMemory) → text ≡ head.checkpoint
@@ -75,5 +72,5 @@ pub read-verdict : (head : SignedHead) (size : ℕ) (root : List ℕ) (text : Li
 read-verdict head size root text checkpoint (Err memory) same is only under = tt
 read-verdict head size root text checkpoint (Ok verdict) same is only under =
     under-verdict head size root checkpoint verdict (subst (λ t. IsCheckpoint t checkpoint) same is)
-    (λ other other_is. same_reading other checkpoint
+    (λ other other_is. ok_is other checkpoint
     (only other (subst (λ t. IsCheckpoint t other) (sym same) other_is))) under

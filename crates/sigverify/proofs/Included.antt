@@ -15,7 +15,7 @@ use Rattle.sig_verify.specs.Links.{HoldsOf, Inputs, OfPassed, Outside, chain_lin
 use Rattle.sig_verify.specs.declared.link.Link.{Link}
 use Rattle.sig_verify.specs.declared.link.Link.TheVariants.{Inclusion, RootJson}
 use Rattle.sig_verify.specs.declared.offline.Offline.{Offline}
-use Rattle.sigverify.proofs.Logged.{pos-same}
+use Rattle.sig_verify.proofs.EntryPaths.{pos_same}
 use Rattle.sigverify.specs.ProofOf.{IsProofOf}
 
 -- a proof with these members, by which the body's leaf is placed and led to the root
@@ -26,9 +26,9 @@ proof_by_members body e p proof same is (index, size, at, of, within) (index2, s
     let root = is.root.0 in
     let hashes = is.hashes.0 in
     let place = is.index in
-    let count : size ≡ proof.tree_size = pos-same size proof.tree_size cc in
-    let count2 : size2 ≡ proof.tree_size = pos-same size2 proof.tree_size cc in
-    let at_same : index2 ≡ index = pos-same index2 index cc in
+    let count : size ≡ proof.tree_size = pos_same size proof.tree_size cc in
+    let count2 : size2 ≡ proof.tree_size = pos_same size2 proof.tree_size cc in
+    let at_same : index2 ≡ index = pos_same index2 index cc in
     record { index = index; place = cc; included = (subst (λ (n : ℕ). index < n) count within, cc) }
 
 -- an entry has one proof

@@ -2,6 +2,7 @@
 use Rattle.std.proofs.Common.{◌≡◌, ◌⊎◌, ◌≤◌, ℕ, inl, inr, List, length, Option, Some, None, Result, Ok, Err, IfOk}
 use Rattle.std.proofs.Common.{ap, arith, refl, sym, subst}
 use Rattle.std.proofs.lemmas.Result.{IfOk-weaker}
+use Rattle.sig_base.proofs.ResultSteps.{ok_is}
 use Rattle.sig_base.specs.declared.memory.OutOfMemory.{OutOfMemory}
 use Rattle.sig_base.specs.declared.fault.CheckpointFault.{CheckpointFault}
 use Rattle.sig_rekor.specs.CheckpointText.{IsCheckpoint}
@@ -9,7 +10,7 @@ use Rattle.sig_rekor.specs.declared.fault.ParseCheckpointError.{ParseCheckpointE
 use Rattle.sig_rekor.specs.declared.fault.ParseCheckpointError.TheVariants.{DecodeError, OutOfMemory as Memory}
 use Rattle.sig_rekor.specs.declared.checkpoint.SignedCheckpoint.{SignedCheckpoint}
 use Rattle.sig_verify.specs.declared.link.Link.TheVariants.{Request, Checkpoint}
-use Rattle.sigverify.proofs.HeadVerdicts.{no_fault, same_reading}
+use Rattle.sigverify.proofs.HeadVerdicts.{no_fault}
 use Rattle.sigverify.proofs.Replies.{every-of_text, every-reply, first-of_text, first-reply, replied}
 use Rattle.sigverify.proofs.RequestTexts.{one_request}
 use Rattle.sigverify.specs.Limit.{most_bytes}
@@ -33,7 +34,7 @@ pub one-checkpoint : (head : SignedHead) (text : List ℕ) (checkpoint : SignedC
     → IsCheckpointOf head (Some checkpoint)
 one-checkpoint head text checkpoint same is only = (
   subst (λ t. IsCheckpoint t checkpoint) same is,
-  λ other other_is. same_reading other checkpoint
+  λ other other_is. ok_is other checkpoint
       (only other (subst (λ t. IsCheckpoint t other) (sym same) other_is)),
 )
 

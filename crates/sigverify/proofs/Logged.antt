@@ -3,16 +3,14 @@ use Rattle.std.proofs.Common.{◌≡◌, ◌↔◌, List, ℕ, pos, negsuc, subs
 use Rattle.sig_merkle.specs.Inclusion.{IsIncluded}
 use Rattle.sig_merkle.specs.Root.{leaf_of}
 use Rattle.sig_rekor.specs.declared.inclusion_proof.InclusionProof.{InclusionProof}
+use Rattle.sig_verify.proofs.EntryPaths.{pos_same}
 use Rattle.sigverify.specs.ProofOf.{IsProofOf}
-
-pub pos-same : (m n : ℕ) → pos m ≡ pos n → m ≡ n
-pos-same m n e = cc
 
 -- the path is that of the index, where that is not negative
 pub included-at : (body : List ℕ) (proof : InclusionProof) (index : ℕ) → proof.log_index ≡ pos index
     → IsProofOf body proof → IsIncluded index (leaf_of body) proof.tree_size proof.hashes proof.root_hash
 included-at body proof index place is =
-    let same : is.index ≡ index = pos-same is.index index (let e = is.place in cc) in
+    let same : is.index ≡ index = pos_same is.index index (let e = is.place in cc) in
     let P : ℕ → Type 0 = λ i. IsIncluded i (leaf_of body) proof.tree_size proof.hashes proof.root_hash in
     subst P same is.included
 

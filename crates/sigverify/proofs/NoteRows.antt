@@ -14,12 +14,15 @@ pub rows-length : (head : SignedHead) (checkpoint : SignedCheckpoint) (items : L
 rows-length head checkpoint items are =
     length-map checkpoint.signatures (head_row head checkpoint) ∙ sym (ap length are)
 
--- the row at an index is that of the signature there
+-- the row of a signature stands at its index
 pub row-at : (head : SignedHead) (checkpoint : SignedCheckpoint) (items : List CheckpointSignature) (i : ℕ)
     (signature : CheckpointSignature) (row : AcceptedRow)
     → items ≡ checkpoint.signatures → i < length items → signature ≡ get_or items i signature
-    → row ≡ head_row head checkpoint signature → row ≡ get_or (head_rows head checkpoint) i row
+    → row ≡ head_row head checkpoint signature
+    → (i < length (head_rows head checkpoint)) × (row ≡ get_or (head_rows head checkpoint) i row)
 row-at head checkpoint items i signature row are below is made =
-    let in_range : i < length checkpoint.signatures = omega (arith, below, ap length are) in
-    made ∙ ap (head_row head checkpoint) (is ∙ ap (λ s. get_or s i signature) are)
-    ∙ sym (get_or-map (head_row head checkpoint) checkpoint.signatures i signature row in_range)
+    let in_range : i < length checkpoint.signatures = omega (arith, below, ap length are) in (
+      omega (arith, below, rows-length head checkpoint items are),
+      made ∙ ap (head_row head checkpoint) (is ∙ ap (λ s. get_or s i signature) are)
+          ∙ sym (get_or-map (head_row head checkpoint) checkpoint.signatures i signature row in_range),
+    )

@@ -8,7 +8,8 @@ use Rattle.sig_base.specs.declared.memory.OutOfMemory.{OutOfMemory}
 use Rattle.sig_merkle.specs.Inclusion.{IsIncluded}
 use Rattle.sig_merkle.specs.Root.{leaf_of, root}
 use Rattle.sig_rekor.specs.declared.inclusion_proof.InclusionProof.{InclusionProof}
-use Rattle.sigverify.proofs.Logged.{included-at, logged-negative, pos-same}
+use Rattle.sig_verify.proofs.EntryPaths.{pos_same}
+use Rattle.sigverify.proofs.Logged.{included-at, logged-negative}
 use Rattle.sigverify.specs.ProofOf.{IsProofOf}
 use Rattle.sigverify.specs.SecondLine.{AreOfTree, IsEntryAt, IsLineOf, collision_line, entry_line, other_line}
 
@@ -40,7 +41,7 @@ entry-line entries body proof index r tree place at is =
 not-at : (entries : List (List ℕ)) (body : List ℕ) (proof : InclusionProof) (index : ℕ) → proof.log_index ≡ pos index
     → ¬ (slice_get entries index ≡ Some body) → ¬ IsEntryAt entries proof body
 not-at entries body proof index place other (found, found_place, at) =
-    let same : found ≡ index = pos-same found index cc in
+    let same : found ≡ index = pos_same found index cc in
     other (subst (λ (i : ℕ). slice_get entries i ≡ Some body) same at)
 
 pub collision-line : (entries : List (List ℕ)) (body : List ℕ) (proof : InclusionProof) (index : ℕ)

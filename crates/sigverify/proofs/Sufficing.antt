@@ -10,6 +10,7 @@ use Rattle.sig_base.specs.declared.checker.AcceptedRow.{AcceptedRow}
 use Rattle.sig_rekor.specs.CheckpointText.{IsCheckpoint}
 use Rattle.sig_rekor.specs.declared.checkpoint.CheckpointSignature.{CheckpointSignature}
 use Rattle.sig_rekor.specs.declared.checkpoint.SignedCheckpoint.{SignedCheckpoint}
+use Rattle.sig_verify.proofs.JudgedLaws.{alike_each, all_as, fails_as}
 use Rattle.sig_verify.specs.declared.link.Link.{Link}
 use Rattle.sig_verify.specs.declared.link.Link.TheVariants.{Checkpoint, NoteKey, NoteMatch, Inclusion}
 use Rattle.sigverify.proofs.RequestTexts.{one_request}
@@ -39,37 +40,27 @@ alike-other command text other alike = record {
   succeeds = λ reply. ((alike.succeeds reply).1, (alike.succeeds reply).0);
 }
 
-every-more : {R : Type 0} (P Q : R → Type 0) → ((r : R) → P r → Q r) → (rs : List R) → AllByRecursion P rs
-    → AllByRecursion Q rs
-every-more P Q more [] every = tt
-every-more P Q more (r ∷ rs) every = (more r every.0, every-more P Q more rs every.1)
-
-pub fails-more : {R : Type 0} (P Q : R → Type 0) → ((r : R) → P r ↔ Q r) → (rs : List R) (rule : R)
-    → FailsFirst P rs rule → FailsFirst Q rs rule
-fails-more P Q same [] rule first = first
-fails-more P Q same (r ∷ rs) rule (inl here) = inl (λ holds. here.0 ((same r).1 holds), here.1)
-fails-more P Q same (r ∷ rs) rule (inr later) = inr ((same r).0 later.0, fails-more P Q same rs rule later.1)
-
 pub alike-reply : (command : Command) (text other : List ℕ) → AreAlike command text other → (reply : Reply)
     → IsReply command text reply → IsReply command other reply
 alike-reply command text other alike reply is =
-    let back = alike-other command text other alike in
-    let every = every-more (Holds command text) (Holds command other) (λ link. (alike.holds link).0) (links command) in
-    let every_back = every-more (Holds command other) (Holds command text) (λ link. (back.holds link).0)
-    (links command) in
+    let there = alike_each (Holds command text) (Holds command other) (links command) alike.holds in
+    let back = alike_each (Holds command other) (Holds command text) (links command)
+    (alike-other command text other alike).holds in
+    let every = all_as (Holds command text) (Holds command other) (links command) there in
+    let every_back = all_as (Holds command other) (Holds command text) (links command) back in
     record {
       decided =
           elim is.decided [
             | inl all ↦ inl (every all)
             | inr first ↦ inr (
               first.0,
-              fails-more (Holds command text) (Holds command other) alike.holds (links command) first.0 first.1,
+              fails_as (Holds command text) (Holds command other) (links command) first.0 there first.1,
             )
           ];
       succeeds = (λ zero. every (is.succeeds.0 zero), λ all. is.succeeds.1 (every_back all));
       vouched = λ all. (alike.succeeds reply).0 (is.vouched (every_back all));
       refused = λ link first. is.refused link
-          (fails-more (Holds command other) (Holds command text) back.holds (links command) link first);
+          (fails_as (Holds command other) (Holds command text) (links command) link back first);
     }
 
 -- ---- requests of `log` that differ in accepted signatures that are not listed

@@ -14,12 +14,12 @@ use Rattle.sig_questions.specs.Questions.{QuestionsAreOneList, QuestionsHaveSche
 use Rattle.sig_questions.specs.Rows.{HasScheme}
 use Rattle.sig_questions.specs.declared.listing.NoQuestions.{NoQuestions}
 use Rattle.sig_questions.specs.declared.listing.NoQuestions.TheVariants.{Link as Refused, TooLong}
+use Rattle.sig_verify.proofs.JudgedLaws.{alike_each, fails_as}
 use Rattle.sig_verify.specs.declared.link.Link.{Link}
 use Rattle.sig_verify.specs.declared.link.Link.TheVariants.{Request}
 use Rattle.sigverify.proofs.Replies.{every-of_text, every-reply, first-of_text, first-reply, replied}
 use Rattle.sigverify.proofs.RequestTexts.{one_request}
 use Rattle.sigverify.proofs.RowSizes.{too-long}
-use Rattle.sigverify.proofs.Sufficing.{fails-more}
 use Rattle.sigverify.specs.Limit.{most_bytes}
 use Rattle.sigverify.specs.Reply.{IsListingOf, IsReply, IsVerifyQuestionsReply, refusal_reply}
 use Rattle.sigverify.specs.RowsText.{rows_text}
@@ -124,8 +124,10 @@ pub refuses_for_all : RefusalsAreForAll → RefusesForAll
 refuses_for_all law text request link is other = (
   λ first. elim first [
     | inl here ↦ absurd (other here.1)
-    | inr later ↦ (law (inputs request) link).0 (fails-more (HoldsVerifyQuestions text) (HoldsOfVerifyQuestions request)
-        (λ l. of-request text request l is) question_links link later.1)
+    | inr later ↦ (law (inputs request) link).0
+        (fails_as (HoldsVerifyQuestions text) (HoldsOfVerifyQuestions request) question_links link
+        (alike_each (HoldsVerifyQuestions text) (HoldsOfVerifyQuestions request) question_links
+        (λ l. of-request text request l is)) later.1)
   ],
   λ fails. fails-of_text text request link is ((law (inputs request) link).1 fails),
 )

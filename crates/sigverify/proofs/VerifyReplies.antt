@@ -1,6 +1,8 @@
 -- The reply of `verify`, from what the chain of trust is.
 use Rattle.std.proofs.Common.{◌≡◌, ℕ, inl, inr, List, Option, Some, None, Result, Ok, Err, IfOk}
 use Rattle.std.proofs.Common.{ap, sym, subst, ◌∙◌}
+use Rattle.sig_base.proofs.OptionSteps.{some_is}
+use Rattle.sig_base.proofs.ResultSteps.{err_is}
 use Rattle.sig_base.specs.Answers.{UnlessMemory}
 use Rattle.sig_base.specs.declared.memory.OutOfMemory.{OutOfMemory}
 use Rattle.sig_verify.specs.Judged.{Judged}
@@ -37,15 +39,12 @@ verified-reply text request offline reply is judged kept made =
     ))
     (every-of_text (IsRequestOf verify_request text) HoldsOfVerify request verify_links is (tt, judged))
 
-same_link : (a b : Link) → ◌≡◌ {A = Option Link} (Some a) (Some b) → a ≡ b
-same_link a b e = cc
-
 -- the link of the error is the first that fails
 pub refused-verify : (text : List ℕ) (request : VerifyRequest) (error : OfflineError) (link : Link)
     → IsRequestOf verify_request text request → link_of error ≡ Some link
     → Judged {A = Offline} (HoldsOfVerify request) chain_links (Err error) → IsReply Verify text (refusal_reply link)
 refused-verify text request error link is named judged =
-    let same : judged.0 ≡ link = same_link judged.0 link (sym judged.1 ∙ named) in
+    let same : judged.0 ≡ link = some_is judged.0 link (sym judged.1 ∙ named) in
     subst (λ (l : Link). IsReply Verify text (refusal_reply l)) same
     (first-reply Verify text judged.0 (first-of_text (IsRequestOf verify_request text) HoldsOfVerify
     (one_request verify_request text) request
@@ -65,16 +64,13 @@ chain_held : (request : VerifyRequest) (offline : Offline) → IsChainOf request
 chain_held request offline (inl memory) = absurd (no_memory offline memory)
 chain_held request offline (inr judged) = judged
 
-same_error : (a b : OfflineError) → ◌≡◌ {A = Result Offline OfflineError} (Err a) (Err b) → a ≡ b
-same_error a b e = cc
-
 no_link : (link : Link) → ◌≡◌ {A = Option Link} None (Some link) → ⊥
 no_link link e = cc
 
 chain_failed : (request : VerifyRequest) (error : OfflineError) (link : Link) → link_of error ≡ Some link
     → IsChainOf request (Err error) → Judged {A = Offline} (HoldsOfVerify request) chain_links (Err error)
 chain_failed request error link named (inl memory) =
-    absurd (no_link link (subst (λ (e : OfflineError). link_of e ≡ Some link) (same_error error Memory memory) named))
+    absurd (no_link link (subst (λ (e : OfflineError). link_of e ≡ Some link) (err_is error Memory memory) named))
 chain_failed request error link named (inr judged) = judged
 
 -- there is a proof of the logged body

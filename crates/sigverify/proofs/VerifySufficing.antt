@@ -1,5 +1,6 @@
 -- Nothing but the listed signatures decides the reply of `verify`.
 use Rattle.std.proofs.Common.{◌≡◌, ◌↔◌, ℕ, Bool, true, false, List, [], refl, subst, sym, ◌∙◌}
+use Rattle.std.specs.Cmp.{both_ways}
 use Rattle.std.specs.Prelude.{Contains}
 use Rattle.sig_base.proofs.AcceptedRows.{accepted-rows}
 use Rattle.sig_base.specs.Checker.{accepted}
@@ -26,20 +27,14 @@ use Rattle.sigverify.specs.ReadFrom.{IsRequestOf}
 
 -- ---- the checkers of two lists that agree on what is asked
 
-both_true : (a b : Bool) → (a ≡ true) ↔ (b ≡ true) → a ≡ b
-both_true true true same = refl
-both_true true false same = sym (same.0 refl)
-both_true false true same = same.1 refl
-both_true false false same = refl
-
 same-accepted : (one other : List AcceptedRow) (o : Operation) (s k m g : List ℕ)
     → Contains one (as_row o s k m g) ↔ Contains other (as_row o s k m g)
     → accepted one o s k m g ≡ accepted other o s k m g
 same-accepted one other o s k m g same =
     let here = accepted-rows one o s k m g in
     let there = accepted-rows other o s k m g in
-    both_true (accepted one o s k m g) (accepted other o s k m g)
-    ((λ e. there.1 (same.0 (here.0 e))), (λ e. here.1 (same.1 (there.0 e))))
+    both_ways (accepted one o s k m g) (accepted other o s k m g) (λ e. there.1 (same.0 (here.0 e)))
+    (λ e. here.1 (same.1 (there.0 e)))
 
 agree : (request : VerifyRequest) (rows : List AcceptedRow) → AgreeOnAsked request rows
     → AgreeWhere (IsAskedBy (inputs request)) (checker request) (checker (verify_with_accepted request rows))

@@ -12,11 +12,7 @@ pub record IsRequestOf {R : Type 0} (meaning : Data → Option R) (text : List �
   pub document : document_of text ≡ Ok tree
   pub members : meaning tree ≡ Some request
 
--- what was found is seen as a request, if and only if the text is one
-abbrev pub IsFoundIn : {X R : Type 0} → (X → R) → (Data → Option R) → List ℕ → Option X → Type 0
-IsFoundIn {X} {R} view meaning text None = (request : R) → ¬ IsRequestOf meaning text request
-IsFoundIn view meaning text (Some found) = IsRequestOf meaning text (view found)
-
 -- a request, if and only if the text is one
 abbrev pub IsReadFrom : {R : Type 0} → (Data → Option R) → List ℕ → Option R → Type 0
-IsReadFrom = IsFoundIn (λ request. request)
+IsReadFrom {R} meaning text None = (request : R) → ¬ IsRequestOf meaning text request
+IsReadFrom meaning text (Some request) = IsRequestOf meaning text request

@@ -12,7 +12,7 @@ ghost use Rattle.sigverify.specs.declared.command.Command.TheVariants.{Verify};
 use crate::brief_policy::BriefPolicy;
 use crate::reply::Reply;
 use crate::second_line::second_line;
-use crate::verify_request::{VerifyRequest, bundle_of, time_of, trusted_root_of};
+use crate::verify_request::{VerifyRequest, bundle_of, now_of, trusted_root_of};
 use sig_base::OutOfMemory;
 use sig_verify::{Link, Offline, OfflineError, verify_offline};
 use std::alloc::Global;
@@ -65,7 +65,7 @@ fn verify_chain(alloc: Global, request: &VerifyRequest) -> Result<Offline, Offli
         (Judged (HoldsOfVerify request.entry.now) chain_links result) }
     ensures kept { IfOk result (λ offline. IsEntryIn request.entry.now offline) }
 {
-    let now = time_of(request);
+    let now = now_of(request);
     // A refusal in full is never written, and may be longer than memory has room for.
     let policy = BriefPolicy {
         policy: &request.policy,

@@ -15,7 +15,7 @@ use crate::laws::lists;
 use crate::read::MOST_BYTES;
 use crate::reply::Reply;
 use crate::rows_text::rows_document;
-use crate::verify_request::{VerifyRequest, bundle_of, time_of, trusted_root_of};
+use crate::verify_request::{VerifyRequest, bundle_of, now_of, trusted_root_of};
 use sig_base::{AcceptedRow, OutOfMemory, Register};
 use sig_questions::laws::{one_list, schemes};
 use sig_questions::{NoQuestions, questions};
@@ -68,7 +68,7 @@ fn questions_of(
     ensures asked { IfOk result (λ rows.
         (row : row_type) → Contains rows row ↔ IsAskedBy (inputs request.entry.now) row) }
 {
-    let now = time_of(request);
+    let now = now_of(request);
     questions(
         alloc,
         trusted_root_of(request),

@@ -109,7 +109,7 @@ pub fn bundle_of(request: &VerifyRequest) -> &[u8]
 }
 
 /// The time of the request, in whole seconds since 1970.
-pub fn time_of(request: &VerifyRequest) -> i64
+pub fn now_of(request: &VerifyRequest) -> i64
     ensures { result ≡ request.entry.now.now }
 {
     request.now

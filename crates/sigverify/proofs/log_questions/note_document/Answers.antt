@@ -16,14 +16,12 @@ pub signatures-preserved : goal.signatures-preserved
 signatures-preserved c =
     let rows = head_rows c.args.head.now c.args.checkpoint.now in
     let items = c.signatures-signature-items.result.now in
-    let below : c.signatures.signature-index < length items = omega (arith, c.signatures-test.true) in
-    let long = rows-length c.args.head.now c.args.checkpoint.now items c.signatures-signature-items.ensures in
-    let in_range : c.signatures.signature-index < length rows = omega (arith, below, long) in
+    let at = row-at c.args.head.now c.args.checkpoint.now items c.signatures.signature-index c.signature-item.result
+    c.in_ok-row.row c.signatures-signature-items.ensures (omega (arith, c.signatures-test.true)) c.signature-item.is
+    c.in_ok-row.ensures in
     listed-more rows c.signatures.signature-index c.in_ok-row.row (document_tree c.signatures.list)
-    (document_tree c.add_row.new.list) c.signatures.size c.in-Some.sum in_range
-    (row-at c.args.head.now c.args.checkpoint.now items c.signatures.signature-index c.signature-item.result
-    c.in_ok-row.row c.signatures-signature-items.ensures below c.signature-item.is c.in_ok-row.ensures)
-    c.signatures.invariant c.in_ok-sum.ensures.back
+    (document_tree c.add_row.new.list) c.signatures.size c.in-Some.sum at.0 at.1 c.signatures.invariant
+    c.in_ok-sum.ensures.back
     (subst (AddsRow (document_tree c.signatures.list)
     (document_tree c.add_row.new.list) c.signatures.size c.in_ok-row.row)
     c.in-Some.is c.in_ok-sum.ensures.added)
@@ -32,14 +30,11 @@ pub returns-in_default : goal.returns-in_default
 returns-in_default c =
     let rows = head_rows c.args.head.now c.args.checkpoint.now in
     let items = c.signatures-signature-items.result.now in
-    let below : c.signatures.signature-index < length items = omega (arith, c.signatures-test.true) in
-    let long = rows-length c.args.head.now c.args.checkpoint.now items c.signatures-signature-items.ensures in
-    let in_range : c.signatures.signature-index < length rows = omega (arith, below, long) in
+    let at = row-at c.args.head.now c.args.checkpoint.now items c.signatures.signature-index c.signature-item.result
+    c.in_ok-row.row c.signatures-signature-items.ensures (omega (arith, c.signatures-test.true)) c.signature-item.is
+    c.in_ok-row.ensures in
     listed-past rows c.signatures.signature-index c.in_ok-row.row (document_tree c.signatures.list)
-    (document_tree c.add_row.new.list) c.signatures.size in_range
-    (row-at c.args.head.now c.args.checkpoint.now items c.signatures.signature-index c.signature-item.result
-    c.in_ok-row.row c.signatures-signature-items.ensures below c.signature-item.is c.in_ok-row.ensures)
-    c.signatures.invariant
+    (document_tree c.add_row.new.list) c.signatures.size at.0 at.1 c.signatures.invariant
     (subst (AddsRow (document_tree c.signatures.list)
     (document_tree c.add_row.new.list) c.signatures.size c.in_ok-row.row)
     c.in_default.is c.in_ok-sum.ensures.added)
