@@ -66,9 +66,18 @@ fn scheme(alloc: Global, arguments: &mut Arguments<'_>) -> Result<Answer, CaseEr
 fn equal(alloc: Global, arguments: &mut Arguments<'_>) -> Result<Answer, CaseError> {
     let one = Text::from(arguments.text(alloc)?);
     let other = Text::from(arguments.text(alloc)?);
-    let as_bytes = Bytes::copy_of(alloc, one.as_str().as_bytes())?
-        == Bytes::copy_of(alloc, other.as_str().as_bytes())?;
-    Answer::ok(alloc)?.value(&(one == other))?.value(&as_bytes)
+    let as_bytes = equal_bytes(alloc, &one, &other)?;
+    show_equal(alloc, one == other, as_bytes)
+}
+
+fn equal_bytes(alloc: Global, one: &Text, other: &Text) -> Result<bool, CaseError> {
+    let one = Bytes::copy_of(alloc, one.as_str().as_bytes())?;
+    let other = Bytes::copy_of(alloc, other.as_str().as_bytes())?;
+    Ok(one == other)
+}
+
+fn show_equal(alloc: Global, as_texts: bool, as_bytes: bool) -> Result<Answer, CaseError> {
+    Answer::ok(alloc)?.value(&as_texts)?.value(&as_bytes)
 }
 
 /// The operation that a word names.
@@ -82,20 +91,50 @@ fn operation(arguments: &mut Arguments<'_>) -> Result<Operation, CaseError> {
     }
 }
 
+/// The parts of a row that come after its scheme.
+#[derive(Drop)]
+struct RowParts {
+    key: Vec<u8>,
+    message: Vec<u8>,
+    signature: Vec<u8>,
+}
+
+impl RowParts {
+    fn read(alloc: Global, arguments: &mut Arguments<'_>) -> Result<RowParts, CaseError> {
+        Ok(RowParts {
+            key: arguments.hex(alloc)?,
+            message: arguments.hex(alloc)?,
+            signature: arguments.hex(alloc)?,
+        })
+    }
+}
+
 /// Whether a table accepts a row.
 fn accepts(alloc: Global, arguments: &mut Arguments<'_>) -> Result<Answer, CaseError> {
     let operation = operation(arguments)?;
     let scheme = arguments.text(alloc)?;
-    let key = arguments.hex(alloc)?;
-    let message = arguments.hex(alloc)?;
-    let signature = arguments.hex(alloc)?;
+    let parts = RowParts::read(alloc, arguments)?;
+    accepts_parts(alloc, arguments, operation, scheme.as_str(), &parts)
+}
+
+fn accepts_parts(
+    alloc: Global,
+    arguments: &mut Arguments<'_>,
+    operation: Operation,
+    scheme: &str,
+    parts: &RowParts,
+) -> Result<Answer, CaseError> {
     let checker = arguments.checker(alloc)?;
     let accepted = checker.accepts(
         operation,
-        scheme.as_str().as_bytes(),
-        key.as_slice(),
-        message.as_slice(),
-        signature.as_slice(),
+        scheme.as_bytes(),
+        parts.key.as_slice(),
+        parts.message.as_slice(),
+        parts.signature.as_slice(),
     );
+    show(alloc, accepted)
+}
+
+fn show(alloc: Global, accepted: bool) -> Result<Answer, CaseError> {
     Answer::ok(alloc)?.value(&accepted)
 }

@@ -1,5 +1,5 @@
 //! Calls of sig_merkle on consistency proofs.
-use sig_base::{Entries, MerkleProofError, sha256};
+use sig_base::{Entries, Hashes, MerkleProofError, sha256};
 use sig_cases::{Answer, Arguments, CaseError};
 use sig_merkle::uncounted::verify_consistency;
 use sig_merkle::{proof_of, root_of};
@@ -24,9 +24,20 @@ fn check(alloc: Global, arguments: &mut Arguments<'_>) -> Result<Answer, CaseErr
     let old_size = arguments.natural()?;
     let new_size = arguments.natural()?;
     let path = crate::merkle::path(alloc, arguments)?;
+    check_path(alloc, arguments, old_size, new_size, path.as_slice())
+}
+
+/// `OLDROOT NEWROOT`: the check of this path.
+fn check_path(
+    alloc: Global,
+    arguments: &mut Arguments<'_>,
+    old_size: u64,
+    new_size: u64,
+    path: &[[u8; 32]],
+) -> Result<Answer, CaseError> {
     let old_root = arguments.digest(alloc)?;
     let new_root = arguments.digest(alloc)?;
-    match verify_consistency(old_size, new_size, path.as_slice(), &old_root, &new_root) {
+    match verify_consistency(old_size, new_size, path, &old_root, &new_root) {
         Ok(()) => Answer::ok(alloc),
         Err(error) => Answer::error(alloc, &error),
     }
@@ -36,12 +47,22 @@ fn check(alloc: Global, arguments: &mut Arguments<'_>) -> Result<Answer, CaseErr
 fn proof(alloc: Global, arguments: &mut Arguments<'_>) -> Result<Answer, CaseError> {
     let old = arguments.natural()? as usize;
     let entries = arguments.entries(alloc)?;
+    let path = path_of(alloc, &entries, old)?;
+    shown(alloc, path.as_slice())
+}
+
+/// The proof between the first entries and all. `BadLine` where there are no such.
+fn path_of(alloc: Global, entries: &Entries, old: usize) -> Result<Hashes, CaseError> {
     if old == 0 || old > entries.len() {
         return Err(CaseError::BadLine);
     }
-    let path = proof_of(alloc, &entries, old)?;
+    Ok(proof_of(alloc, entries, old)?)
+}
+
+/// `ok`, and hashes.
+pub(crate) fn shown(alloc: Global, hashes: &[[u8; 32]]) -> Result<Answer, CaseError> {
     let mut answer = Answer::ok(alloc)?;
-    for hash in path.as_slice() {
+    for hash in hashes {
         answer = answer.hex(hash.as_slice())?;
     }
     Ok(answer)
@@ -83,30 +104,47 @@ impl Trees {
 fn sweep(alloc: Global, arguments: &mut Arguments<'_>) -> Result<Answer, CaseError> {
     let old = arguments.natural()? as usize;
     let entries = numbered(alloc, arguments.natural()?)?;
-    if old == 0 || old > entries.len() {
+    let path = path_of(alloc, &entries, old)?;
+    let trees = trees_of(&entries, old)?;
+    swept(alloc, &trees, path.as_slice())
+}
+
+/// The trees of the first entries and of all. `BadLine` where there are not so many.
+fn trees_of(entries: &Entries, old: usize) -> Result<Trees, CaseError> {
+    if old > entries.len() {
         return Err(CaseError::BadLine);
     }
-    let path = proof_of(alloc, &entries, old)?;
-    let trees = Trees {
+    Ok(Trees {
         old_size: old as u64,
         new_size: entries.len() as u64,
-        old_root: root_of(&entries, old),
-        new_root: root_of(&entries, entries.len()),
-    };
-    let letters = letters(alloc, &trees, path.as_slice())?;
-    Answer::ok(alloc)?
-        .hex(&digest_of(alloc, path.as_slice())?)?
-        .value(&letters)
+        old_root: root_of(entries, old),
+        new_root: root_of(entries, entries.len()),
+    })
+}
+
+fn swept(alloc: Global, trees: &Trees, path: &[[u8; 32]]) -> Result<Answer, CaseError> {
+    let digest = digest_of(alloc, path)?;
+    let letters = letters(alloc, trees, path)?;
+    show(alloc, &digest, letters.as_str())
+}
+
+fn show(alloc: Global, digest: &[u8; 32], letters: &str) -> Result<Answer, CaseError> {
+    Answer::ok(alloc)?.hex(digest)?.value(&letters)
 }
 
 /// So many entries.
 fn numbered(alloc: Global, count: u64) -> Result<Entries, CaseError> {
     let mut entries = Entries::new(alloc);
     for number in 0..count {
-        let entry = format!(in alloc; "entry {number}")?;
-        entries.push(entry.as_str().as_bytes())?;
+        push_numbered(alloc, &mut entries, number)?;
     }
     Ok(entries)
+}
+
+fn push_numbered(alloc: Global, entries: &mut Entries, number: u64) -> Result<(), CaseError> {
+    let entry = format!(in alloc; "entry {number}")?;
+    entries.push(entry.as_str().as_bytes())?;
+    Ok(())
 }
 
 /// The hash of all hashes, one after another.
@@ -123,17 +161,49 @@ fn letters(alloc: Global, trees: &Trees, hashes: &[[u8; 32]]) -> Result<String, 
     let mut letters = String::new(alloc);
     letters.push_str(trees.letter(hashes))?;
     for place in 0..hashes.len() {
-        for change in [Change::Flipped, Change::Dropped, Change::Doubled] {
-            let changed = changed(alloc, hashes, place, change)?;
-            letters.push_str(trees.letter(changed.as_slice()))?;
-        }
+        push_changed(alloc, &mut letters, trees, hashes, place)?;
     }
+    push_other_sizes(&mut letters, trees, hashes)?;
+    Ok(letters)
+}
+
+/// Adds the letters of the proof with the hash at the place flipped, dropped and doubled.
+fn push_changed(
+    alloc: Global,
+    letters: &mut String,
+    trees: &Trees,
+    hashes: &[[u8; 32]],
+    place: usize,
+) -> Result<(), CaseError> {
+    for change in [Change::Flipped, Change::Dropped, Change::Doubled] {
+        letters.push_str(letter_of(alloc, trees, hashes, place, change)?)?;
+    }
+    Ok(())
+}
+
+fn letter_of(
+    alloc: Global,
+    trees: &Trees,
+    hashes: &[[u8; 32]],
+    place: usize,
+    change: Change,
+) -> Result<&'static str, CaseError> {
+    let changed = changed(alloc, hashes, place, change)?;
+    Ok(trees.letter(changed.as_slice()))
+}
+
+/// Adds the letters of the proof between trees of which one size is one less or one more.
+fn push_other_sizes(
+    letters: &mut String,
+    trees: &Trees,
+    hashes: &[[u8; 32]],
+) -> Result<(), CaseError> {
     let (old, new) = (trees.old_size, trees.new_size);
     letters.push_str(trees.letter_at(old.saturating_sub(1), new, hashes))?;
     letters.push_str(trees.letter_at(old.saturating_add(1), new, hashes))?;
     letters.push_str(trees.letter_at(old, new.saturating_sub(1), hashes))?;
     letters.push_str(trees.letter_at(old, new.saturating_add(1), hashes))?;
-    Ok(letters)
+    Ok(())
 }
 
 /// What becomes of one hash.
@@ -151,22 +221,24 @@ fn changed(
     place: usize,
     change: Change,
 ) -> Result<Vec<[u8; 32]>, CaseError> {
-    let mut list = Vec::new(alloc);
-    for (index, hash) in hashes.iter().enumerate() {
-        if index != place {
-            list.push(*hash)?;
-            continue;
-        }
-        match change {
-            Change::Flipped => list.push(flipped(*hash))?,
-            Change::Dropped => {}
-            Change::Doubled => {
-                list.push(*hash)?;
-                list.push(*hash)?;
-            }
-        }
-    }
+    let (before, rest) = hashes.split_at(place.min(hashes.len()));
+    let mut list = Vec::from_slice(alloc, before)?;
+    push_rest(&mut list, rest, change)?;
     Ok(list)
+}
+
+/// Adds the hashes with the first of them changed.
+fn push_rest(list: &mut Vec<[u8; 32]>, rest: &[[u8; 32]], change: Change) -> Result<(), CaseError> {
+    let [hash, after @ ..] = rest else {
+        return Ok(());
+    };
+    match change {
+        Change::Flipped => list.push(flipped(*hash))?,
+        Change::Dropped => {}
+        Change::Doubled => list.extend_from_slice(&[*hash, *hash])?,
+    }
+    list.extend_from_slice(after)?;
+    Ok(())
 }
 
 /// The hash with its first byte changed.

@@ -140,6 +140,14 @@ impl Asked {
     fn signature(&self) -> Signature<'_> {
         signature_of(self.encoded, self.bytes.as_slice())
     }
+
+    fn is_accepted(&self) -> bool {
+        self.key.accepts(
+            self.bytes.as_slice(),
+            self.message.as_slice(),
+            &self.checker,
+        )
+    }
 }
 
 /// `SCHEME KEY SIGNATURE MESSAGE` and rows: whether the key accepts the signature.
@@ -147,11 +155,10 @@ fn accepts(alloc: Global, arguments: &mut Arguments<'_>) -> Result<Answer, CaseE
     let key = key(alloc, arguments)?;
     let bytes = arguments.hex(alloc)?;
     let asked = Asked::of(alloc, arguments, key, false, bytes)?;
-    let accepted = asked.key.accepts(
-        asked.bytes.as_slice(),
-        asked.message.as_slice(),
-        &asked.checker,
-    );
+    show(alloc, asked.is_accepted())
+}
+
+fn show(alloc: Global, accepted: bool) -> Result<Answer, CaseError> {
     Answer::ok(alloc)?.value(&accepted)
 }
 

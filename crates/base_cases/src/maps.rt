@@ -39,9 +39,13 @@ fn add_text(answer: Answer, text: Option<&str>) -> Result<Answer, CaseError> {
 /// and all entries.
 fn key_map(alloc: Global, arguments: &mut Arguments<'_>) -> Result<Answer, CaseError> {
     let sought = arguments.text(alloc)?;
-    let map = read_key_map(alloc, arguments)?;
-    let copied = map.copy(alloc)?;
+    let copied = copied_key_map(alloc, arguments)?;
     show_key_map(alloc, &copied, sought.as_str())
+}
+
+fn copied_key_map(alloc: Global, arguments: &mut Arguments<'_>) -> Result<KeyMap, CaseError> {
+    let map = read_key_map(alloc, arguments)?;
+    Ok(map.copy(alloc)?)
 }
 
 /// Reads texts and bytes in turn.
@@ -95,9 +99,13 @@ fn add_key_map(answer: Answer, map: &KeyMap) -> Result<Answer, CaseError> {
 /// entries.
 fn text_map(alloc: Global, arguments: &mut Arguments<'_>) -> Result<Answer, CaseError> {
     let sought = arguments.text(alloc)?;
-    let map = read_text_map(alloc, arguments)?;
-    let copied = map.copy(alloc)?;
+    let copied = copied_text_map(alloc, arguments)?;
     show_text_map(alloc, &copied, sought.as_str())
+}
+
+fn copied_text_map(alloc: Global, arguments: &mut Arguments<'_>) -> Result<TextMap, CaseError> {
+    let map = read_text_map(alloc, arguments)?;
+    Ok(map.copy(alloc)?)
 }
 
 /// Reads texts in pairs.

@@ -47,8 +47,20 @@ fn inclusion(alloc: Global, arguments: &mut Arguments<'_>) -> Result<Answer, Cas
     let leaf = arguments.digest(alloc)?;
     let size = arguments.natural()?;
     let path = path(alloc, arguments)?;
+    included(alloc, arguments, index, &leaf, size, path.as_slice())
+}
+
+/// `ROOT`: the check of this path.
+fn included(
+    alloc: Global,
+    arguments: &mut Arguments<'_>,
+    index: u64,
+    leaf: &[u8; 32],
+    size: u64,
+    path: &[[u8; 32]],
+) -> Result<Answer, CaseError> {
     let root = arguments.digest(alloc)?;
-    match verify_inclusion(index, &leaf, size, path.as_slice(), &root) {
+    match verify_inclusion(index, leaf, size, path, &root) {
         Ok(()) => Answer::ok(alloc),
         Err(error) => Answer::error(alloc, &error),
     }

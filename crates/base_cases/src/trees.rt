@@ -1,4 +1,5 @@
 //! Calls of sig_merkle over a list of entries.
+use crate::consistency::shown;
 use sig_cases::{Answer, Arguments, CaseError};
 use sig_merkle::{path_of, root_of};
 use std::alloc::Global;
@@ -23,7 +24,7 @@ fn root(alloc: Global, arguments: &mut Arguments<'_>) -> Result<Answer, CaseErro
     if count > entries.len() {
         return Err(CaseError::BadLine);
     }
-    Answer::ok(alloc)?.hex(&root_of(&entries, count))
+    shown(alloc, &[root_of(&entries, count)])
 }
 
 /// `INDEX ENTRIES`: the audit path of an entry.
@@ -34,9 +35,5 @@ fn path(alloc: Global, arguments: &mut Arguments<'_>) -> Result<Answer, CaseErro
         return Err(CaseError::BadLine);
     }
     let path = path_of(alloc, &entries, index)?;
-    let mut answer = Answer::ok(alloc)?;
-    for hash in path.as_slice() {
-        answer = answer.hex(hash.as_slice())?;
-    }
-    Ok(answer)
+    shown(alloc, path.as_slice())
 }

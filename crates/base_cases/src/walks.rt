@@ -74,70 +74,128 @@ fn decomposed(alloc: Global, arguments: &mut Arguments<'_>) -> Result<Answer, Ca
     Answer::ok(alloc)?.value(&inner)?.value(&border)
 }
 
-/// `SIZE FIRST COUNT`: the roots of made-up paths for so many indices of a tree of this size.
-fn both_ways(alloc: Global, arguments: &mut Arguments<'_>) -> Result<Answer, CaseError> {
-    let sweep = Sweep::read(alloc, arguments)?;
-    both_ways_on::<Brand>(alloc, Blank::new(1), &sweep)
+/// The roots that made-up proofs lead to, one after another: by the walk, and by the recursion.
+#[derive(Drop)]
+struct Roots {
+    walked: Vec<u8>,
+    recursed: Vec<u8>,
 }
 
-/// The digests of the roots by the walk and by the recursion, on a ledger.
-fn both_ways_on<L: Ledger>(alloc: Global, blank: Blank, sweep: &Sweep) -> Result<Answer, CaseError>
-    requires name { blank.name ≡ L.name }
-    requires parts { blank.parts ≡ L.parts }
-    requires some { 0 < blank.parts }
-{
-    let mut steps = Steps::<L>::new(blank);
-    let mut walked = Vec::new(alloc);
-    let mut recursed = Vec::new(alloc);
-    for offset in 0..sweep.count {
-        let index = sweep.first.checked_add(offset).ok_or(CaseError::BadLine)?;
-        if index >= sweep.size {
-            return Err(CaseError::BadLine);
+impl Roots {
+    fn new(alloc: Global) -> Roots {
+        Roots {
+            walked: Vec::new(alloc),
+            recursed: Vec::new(alloc),
         }
-        let path = sweep.first_hashes(proof_len(index, sweep.size))?;
-        match root_from_inclusion_proof(index, &LEAF, sweep.size, path, &mut steps) {
-            Ok(root) => walked.extend_from_slice(&root)?,
-            Err(error) => return Answer::error(alloc, &error),
-        }
-        recursed.extend_from_slice(&fold_path(index, &LEAF, sweep.size, path, &mut steps))?;
     }
-    let walked = sha256(walked.as_slice());
-    let recursed = sha256(recursed.as_slice());
+
+    /// The digests of both.
+    fn digests(&self) -> ([u8; 32], [u8; 32]) {
+        (
+            sha256(self.walked.as_slice()),
+            sha256(self.recursed.as_slice()),
+        )
+    }
+}
+
+/// `SIZE FIRST COUNT`: the digests of the roots of made-up paths for so many indices of a tree of this size.
+fn both_ways(alloc: Global, arguments: &mut Arguments<'_>) -> Result<Answer, CaseError> {
+    let (walked, recursed) = both_digests(alloc, arguments)?;
     Answer::ok(alloc)?.hex(&walked)?.hex(&recursed)
 }
 
-/// `SIZE FIRST COUNT`: the roots of made-up consistency proofs from so many older trees to a tree of this size.
-fn both_growths(alloc: Global, arguments: &mut Arguments<'_>) -> Result<Answer, CaseError> {
+fn both_digests(
+    alloc: Global,
+    arguments: &mut Arguments<'_>,
+) -> Result<([u8; 32], [u8; 32]), CaseError> {
     let sweep = Sweep::read(alloc, arguments)?;
-    both_growths_on::<Brand>(alloc, Blank::new(1), &sweep)
+    let mut roots = Roots::new(alloc);
+    push_paths::<Brand>(&mut roots, Blank::new(1), &sweep)?;
+    Ok(roots.digests())
 }
 
-/// The digest of the roots by the recursion, each of which the walk accepts, on a ledger.
-fn both_growths_on<L: Ledger>(
-    alloc: Global,
-    blank: Blank,
-    sweep: &Sweep,
-) -> Result<Answer, CaseError>
+/// Adds the roots of all indices, on a ledger.
+fn push_paths<L: Ledger>(roots: &mut Roots, blank: Blank, sweep: &Sweep) -> Result<(), CaseError>
     requires name { blank.name ≡ L.name }
     requires parts { blank.parts ≡ L.parts }
     requires some { 0 < blank.parts }
 {
     let mut steps = Steps::<L>::new(blank);
-    let mut roots = Vec::new(alloc);
     for offset in 0..sweep.count {
-        let old_size = sweep.first.checked_add(offset).ok_or(CaseError::BadLine)?;
-        if old_size == 0 || old_size >= sweep.size {
-            return Err(CaseError::BadLine);
-        }
-        let proof = sweep.first_hashes(growth_len(old_size, sweep.size, true))?;
-        let led = fold_roots(old_size, sweep.size, true, &LEAF, proof, &mut steps);
-        if let Err(error) = verify_consistency(
-            old_size, sweep.size, proof, &led.old, &led.new, &mut steps,
-        ) {
-            return Answer::error(alloc, &error);
-        }
-        roots.extend_from_slice(&led.old)?;
-        roots.extend_from_slice(&led.new)?;
+        push_path(roots, &mut steps, sweep, offset)?;
     }
-    Answer::ok(alloc)?.hex(&sha256(roots.as_slice()))
+    Ok(())
+}
+
+/// Adds the roots of the index at this offset.
+fn push_path<L: Ledger>(
+    roots: &mut Roots,
+    steps: &mut Steps<L>,
+    sweep: &Sweep,
+    offset: u64,
+) -> Result<(), CaseError> {
+    let index = sweep.first.checked_add(offset).ok_or(CaseError::BadLine)?;
+    if index >= sweep.size {
+        return Err(CaseError::BadLine);
+    }
+    let path = sweep.first_hashes(proof_len(index, sweep.size))?;
+    let Ok(walked) = root_from_inclusion_proof(index, &LEAF, sweep.size, path, steps) else {
+        return Err(CaseError::BadLine);
+    };
+    roots.walked.extend_from_slice(&walked)?;
+    let recursed = fold_path(index, &LEAF, sweep.size, path, steps);
+    roots.recursed.extend_from_slice(&recursed)?;
+    Ok(())
+}
+
+/// `SIZE FIRST COUNT`: the digest of the roots of made-up consistency proofs from so many older trees to a tree of this
+/// size.
+fn both_growths(alloc: Global, arguments: &mut Arguments<'_>) -> Result<Answer, CaseError> {
+    let digest = growths_digest(alloc, arguments)?;
+    Answer::ok(alloc)?.hex(&digest)
+}
+
+fn growths_digest(alloc: Global, arguments: &mut Arguments<'_>) -> Result<[u8; 32], CaseError> {
+    let sweep = Sweep::read(alloc, arguments)?;
+    let mut roots = Vec::new(alloc);
+    push_growths::<Brand>(&mut roots, Blank::new(1), &sweep)?;
+    Ok(sha256(roots.as_slice()))
+}
+
+/// Adds the roots of all older sizes by the recursion, each of which the walk accepts, on a ledger.
+fn push_growths<L: Ledger>(
+    roots: &mut Vec<u8>,
+    blank: Blank,
+    sweep: &Sweep,
+) -> Result<(), CaseError>
+    requires name { blank.name ≡ L.name }
+    requires parts { blank.parts ≡ L.parts }
+    requires some { 0 < blank.parts }
+{
+    let mut steps = Steps::<L>::new(blank);
+    for offset in 0..sweep.count {
+        push_growth(roots, &mut steps, sweep, offset)?;
+    }
+    Ok(())
+}
+
+/// Adds both roots for the older size at this offset.
+fn push_growth<L: Ledger>(
+    roots: &mut Vec<u8>,
+    steps: &mut Steps<L>,
+    sweep: &Sweep,
+    offset: u64,
+) -> Result<(), CaseError> {
+    let old_size = sweep.first.checked_add(offset).ok_or(CaseError::BadLine)?;
+    if old_size == 0 || old_size >= sweep.size {
+        return Err(CaseError::BadLine);
+    }
+    let proof = sweep.first_hashes(growth_len(old_size, sweep.size, true))?;
+    let led = fold_roots(old_size, sweep.size, true, &LEAF, proof, steps);
+    if verify_consistency(old_size, sweep.size, proof, &led.old, &led.new, steps).is_err() {
+        return Err(CaseError::BadLine);
+    }
+    roots.extend_from_slice(&led.old)?;
+    roots.extend_from_slice(&led.new)?;
+    Ok(())
 }
