@@ -113,7 +113,11 @@ pub(crate) fn with_tree(
 }
 
 /// The answer, and behind it the compact text of a tree, `none` where there is none.
-fn with_found(alloc: Global, answer: Answer, found: Option<Json<'_, '_>>) -> Result<Answer, CaseError> {
+fn with_found(
+    alloc: Global,
+    answer: Answer,
+    found: Option<Json<'_, '_>>,
+) -> Result<Answer, CaseError> {
     match found {
         Some(json) => with_tree(alloc, answer, json),
         None => answer.value(&"none"),

@@ -96,7 +96,10 @@ fn one_of(
 
 /// The content. Fails with `Member` where both kinds are there, or a member is not of its kind.
 #[tactic(auto, unfolding(crate::specs::BundleRecord::content_of))]
-pub(crate) fn read_content(alloc: Global, json: Json<'_, '_>) -> Result<Option<Content>, MemberError>
+pub(crate) fn read_content(
+    alloc: Global,
+    json: Json<'_, '_>,
+) -> Result<Option<Content>, MemberError>
     ensures { Answers MemberError.OutOfMemory (λ x. x) result (or_member (content_of (tree json.entry))) }
 {
     let signature = optional::<MessageSignatureReader>(alloc, json, "messageSignature")?;

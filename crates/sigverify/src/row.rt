@@ -103,7 +103,11 @@ impl ElementReader for RowReader {
 
 /// Reads the scheme of an accepted signature: a scheme's name for a message and for a digest, absent for a point, and
 /// base64 of the AlgorithmIdentifier for a certificate.
-fn read_scheme(alloc: Global, json: Json<'_, '_>, operation: Operation) -> Result<Bytes, MemberError>
+fn read_scheme(
+    alloc: Global,
+    json: Json<'_, '_>,
+    operation: Operation,
+) -> Result<Bytes, MemberError>
     ensures { Answers MemberError.OutOfMemory (λ x. x) result (or_member (scheme_for operation (tree json.entry))) }
 {
     match operation {
