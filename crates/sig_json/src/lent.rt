@@ -1,4 +1,4 @@
-//! A tree that is dropped before the reading goes on: its names and texts are lent by the text that is read.
+//! A tree that is dropped before the reading goes on: its names and texts are borrowed from the text that is read.
 ghost use Rattle.std.specs.Prelude.{◌≡◌, ◌<◌, length, Some, None, Err, IfOk, OnOk};
 ghost use Rattle.json.specs.Json.{value, items, members};
 ghost use Rattle.serde_json.specs.Data.{no_members};

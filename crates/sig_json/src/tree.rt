@@ -90,7 +90,7 @@ impl<'t> Tree<'t> {
         }
     }
 
-    /// The element of a list at a place, counted from 0.
+    /// The element of a list at an index, counted from 0.
     pub(crate) fn item(&self, place: usize) -> Option<&Tree<'t>>
         ensures { option_map (λ t. view t.now) result ≡ at place (view self.now) }
     {

@@ -75,7 +75,7 @@ impl<'a, 't> Json<'a, 't> {
         }
     }
 
-    /// The element of a list at a place, counted from 0.
+    /// The element of a list at an index, counted from 0.
     pub fn item(self, place: usize) -> Option<Json<'a, 't>>
         ensures { option_map tree result ≡ at place (tree self.entry) }
     {

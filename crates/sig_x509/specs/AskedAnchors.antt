@@ -10,13 +10,13 @@ pub record IsSameSigner (x y : Cert) : Type 0 where
   pub subject : x.subject ≡ y.subject
   pub spki : x.spki ≡ y.spki
 
--- There is an anchor at the index, and none before it has its subject and SPKI.
+-- There is a trust anchor at the index, and none before it has its subject and SPKI.
 pub record IsFirstOfItsKey (anchors : List Cert) (index : ℕ) : Type 0 where
   pub anchor : Cert
   pub there : slice_get anchors index ≡ Some anchor
   pub first : (earlier : ℕ) (x : Cert) → earlier < index → slice_get anchors earlier ≡ Some x → ¬ IsSameSigner x anchor
 
--- The anchor x at the index is asked, or one before it that has its subject and SPKI.
+-- The trust anchor x at the index is asked, or one before it that has its subject and SPKI.
 pub record IsCovered (anchors : List Cert) (asked : List ℕ) (index : ℕ) (x : Cert) : Type 0 where
   pub first : ℕ
   pub anchor : Cert
@@ -25,17 +25,17 @@ pub record IsCovered (anchors : List Cert) (asked : List ℕ) (index : ℕ) (x :
   pub there : slice_get anchors first ≡ Some anchor
   pub same : IsSameSigner anchor x
 
--- the indices, ascending, of the anchors whose subject and SPKI no anchor before them has
+-- the indices, ascending, of the trust anchors whose subject and SPKI no anchor before them has
 pub record AreAsked (anchors : List Cert) (asked : List ℕ) : Type 0 where
   pub firsts : All (IsFirstOfItsKey anchors) asked
   pub covers : (index : ℕ) (x : Cert) → slice_get anchors index ≡ Some x → IsCovered anchors asked index x
   pub ascends : AllPairs (λ one later. one < later) asked
 
--- there is an anchor, and it signed c
+-- there is a trust anchor, and it signed c
 abbrev pub has_signed : Accepts → Cert → Option Cert → Bool
 has_signed accepts c None = false
 has_signed accepts c (Some x) = is_signed_by accepts c x
 
--- the anchor at the index signed c
+-- the trust anchor at the index signed c
 abbrev pub is_signed_at : Accepts → Cert → List Cert → ℕ → Bool
 is_signed_at accepts c anchors index = has_signed accepts c (slice_get anchors index)

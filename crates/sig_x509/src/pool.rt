@@ -17,7 +17,7 @@ use std::alloc::Global;
 use std::marker::Model;
 
 /// Trust anchors, in order: certificates that are trusted by themselves, and have no name constraints; and the indices
-/// of those that a checker is asked about. Contracts see the list of the anchors' records.
+/// of those that a checker is asked about. Contracts see the list of the trust anchors' records.
 #[derive(Drop)]
 pub struct CertificatePool {
     anchors: Register<Certificate>,
@@ -99,7 +99,7 @@ impl CertificatePool {
     }
 
     /// Returns the index of the first trust anchor that issued the leaf, which signs code at the time: that is asked
-    /// once, and not of each anchor.
+    /// once, and not of each trust anchor.
     #[tactic(auto, using(crate::proofs::FirstIssuers::first_issuers))]
     fn first_issuer<C: SignatureChecker>(
         &self,
