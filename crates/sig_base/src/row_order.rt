@@ -1,6 +1,6 @@
 //! The order in which a table of accepted rows is searched: the last bytes of signature, key and message first, which
-//! tell most rows apart at once; then the operation, the part in which its questions differ, and the message last, so that
-//! a message is compared only where all else is equal.
+//! tell most rows apart at once; then the operation, the part in which its questions differ, and the message last, so
+//! that a message is compared only where all else is equal.
 ghost use Rattle.std.specs.Prelude.{◌≡◌, Some, IfOk, slice_get, IsPermutation};
 ghost use Rattle.std.specs.Option.{option_cmp};
 ghost use Rattle.sig_base.specs.Checker.{operation_code};

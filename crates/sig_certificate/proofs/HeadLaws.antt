@@ -1,4 +1,5 @@
--- The TBSCertificate up to the issuer: what the reader takes is what the relations build, and what these build is taken.
+-- The TBSCertificate up to the issuer: what the reader takes is what the relations build, and what these build is
+-- taken.
 use Rattle.std.proofs.Common.{◌≡◌, ℕ, ◌+◌, ◌<◌, false, eqb, ltb, List, [], ◌∷◌, ◌++◌, length, Option, Some, None, refl}
 use Rattle.std.proofs.Common.{sym, ap, subst, ◌∙◌, inl, inr}
 use Rattle.std.proofs.lemmas.Bool.{ltb-true, lt-ltb, cond-true, cond-false}

@@ -13,9 +13,9 @@ use Rattle.sig_json.specs.declared.tree.Tree.TheOpen.{Tree-F}
 abbrev pub Words : Type 0
 Words = CowStr Global
 
-abbrev pub members_of : List (Words × Data) → Members
-members_of [] = no_members
-members_of (m ∷ ms) = member (cow_str_bytes m.0) m.1 (members_of ms)
+abbrev pub members_from : List (Words × Data) → Members
+members_from [] = no_members
+members_from (m ∷ ms) = member (cow_str_bytes m.0) m.1 (members_from ms)
 
 -- one level, where the values inside are seen already
 abbrev pub level : Tree-F Data → Data
@@ -24,7 +24,7 @@ level (Tree-F.Bool b) = boolean b
 level (Tree-F.Number n) = number (number_view n)
 level (Tree-F.Text text) = string (cow_str_bytes text)
 level (Tree-F.Array items) = array (items_of items.items)
-level (Tree-F.Object members) = object (members_of members.items)
+level (Tree-F.Object members) = object (members_from members.items)
 
 abbrev pub view : Tree → Data
 view = fold-Tree Data level
@@ -33,4 +33,4 @@ abbrev pub items_view : List Tree → Items
 items_view trees = items_of (map view trees)
 
 abbrev pub members_view : List (Words × Tree) → Members
-members_view members = members_of (map (λ m. (m.0, view m.1)) members)
+members_view members = members_from (map (λ m. (m.0, view m.1)) members)

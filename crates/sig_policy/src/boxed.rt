@@ -38,8 +38,8 @@ impl VerificationPolicy for AnyOf {
 
     ghost refusal = { λ p c. any_of (length p.children.items) };
 
-    /// Returns `Ok` if and only if at least one child holds; else `AnyOf` with the number of children. It takes the time
-    /// of the children's own calls, and lets go each refusal before the next child is asked.
+    /// Returns `Ok` if and only if at least one child holds; else `AnyOf` with the number of children. It takes the
+    /// time of the children's own calls, and lets go each refusal before the next child is asked.
     fn verify(&self, alloc: Global, cert: &Certificate) -> PolicyResult {
         verify_any(alloc, self.children.as_slice(), cert)
     }
