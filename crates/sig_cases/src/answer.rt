@@ -1,83 +1,136 @@
 //! The line that is written for a case.
-use crate::error::CaseError;
 use base64::engine::general_purpose::STANDARD;
 use std::alloc::Global;
-use std::fmt::{Debug, Display};
+use std::fmt::{Debug, Display, Write};
 
-/// The line that is written for a case, as far as it is written.
+/// The line that is written for a case: items, one space between two of them.
+///
+/// No call of it fails: out of memory is kept, and ends the program behind the case. So a case needs no `?`, which
+/// would have to be proved together with all that the case owns there.
 #[derive(Drop)]
 pub struct Answer {
     alloc: Global,
     text: String,
+    is_out_of_memory: bool,
 }
 
 impl Answer {
-    /// `ok`, to which the values of the result are added. Fails only if out of memory, as each call here.
-    pub fn ok(alloc: Global) -> Result<Answer, CaseError> {
-        Answer::of(alloc, &"ok")
-    }
-
-    /// An error, by its Debug text. Its Display text has to be the name of its variant, with which the Debug text
-    /// begins; if it is another, it follows in brackets.
-    pub fn error<E: Debug + Display>(alloc: Global, error: &E) -> Result<Answer, CaseError> {
-        let text = format!(in alloc; "{error:?}")?;
-        let name = format!(in alloc; "{error}")?;
-        if is_name_of(name.as_str(), text.as_str()) {
-            return Ok(Answer { alloc, text });
+    pub(crate) fn new(alloc: Global) -> Answer {
+        Answer {
+            alloc,
+            text: String::new(alloc),
+            is_out_of_memory: false,
         }
-        Answer::of(alloc, &text)?
-            .value(&"[")?
-            .value(&name)?
-            .value(&"]")
     }
 
-    /// A value alone, as it prints.
-    pub fn of<T: Display>(alloc: Global, value: &T) -> Result<Answer, CaseError> {
-        let text = format!(in alloc; "{value}")?;
-        Ok(Answer { alloc, text })
+    /// Adds `ok`, to which the values of the result are added.
+    pub fn ok(&mut self) {
+        self.value(&"ok");
     }
 
     /// Adds a value as it prints.
-    pub fn value<T: Display>(self, value: &T) -> Result<Answer, CaseError> {
-        let mut answer = self;
-        let written = format!(in answer.alloc; " {value}")?;
-        answer.text.push_str(written.as_str())?;
-        Ok(answer)
+    pub fn value<T: Display>(&mut self, value: &T) {
+        let between = if self.text.is_empty() { "" } else { " " };
+        if write!(self.text, "{between}{value}").is_err() {
+            self.is_out_of_memory = true;
+        }
     }
 
     /// Adds a value by its Debug text: of a `str` or a `String` in quotation marks and with escapes.
-    pub fn debug<T: Debug>(self, value: &T) -> Result<Answer, CaseError> {
-        let written = format!(in self.alloc; "{value:?}")?;
-        self.value(&written)
+    pub fn debug<T: Debug>(&mut self, value: &T) {
+        let between = if self.text.is_empty() { "" } else { " " };
+        if write!(self.text, "{between}{value:?}").is_err() {
+            self.is_out_of_memory = true;
+        }
     }
 
     /// Adds bytes in lower-case hexadecimal; `-` for no bytes.
-    pub fn hex(self, bytes: &[u8]) -> Result<Answer, CaseError> {
+    pub fn hex(&mut self, bytes: &[u8]) {
         if bytes.is_empty() {
             return self.value(&"-");
         }
-        let written = hex::encode(self.alloc, bytes)?;
-        self.value(&written)
+        match hex::encode(self.alloc, bytes) {
+            Ok(written) => self.value(&written),
+            Err(_) => self.is_out_of_memory = true,
+        }
     }
 
     /// Adds bytes in base64; `-` for no bytes.
-    pub fn base64(self, bytes: &[u8]) -> Result<Answer, CaseError> {
+    pub fn base64(&mut self, bytes: &[u8]) {
         if bytes.is_empty() {
             return self.value(&"-");
         }
-        let written = STANDARD.encode(self.alloc, bytes)?;
-        self.value(&written)
+        match STANDARD.encode(self.alloc, bytes) {
+            Ok(written) => self.value(&written),
+            Err(_) => self.is_out_of_memory = true,
+        }
     }
 
-    /// The line.
-    pub fn as_str(&self) -> &str {
-        self.text.as_str()
+    /// Adds the error that a call returned, as [`Answer::shown`] does. `OutOfMemory` ends the program.
+    pub fn error<E: Debug + Display>(&mut self, error: &E) {
+        self.shown(error);
+        if self.text.as_str().ends_with("OutOfMemory") {
+            self.is_out_of_memory = true;
+        }
+    }
+
+    /// Adds an error, by its Debug text. Its Display text has to be the name of its variant, with which the Debug text
+    /// begins; if it is another, it follows in brackets.
+    pub fn shown<E: Debug + Display>(&mut self, error: &E) {
+        let before = self.text.len();
+        self.debug(error);
+        self.name(error, before);
+    }
+
+    /// Adds each of these errors, as [`Answer::shown`] does.
+    pub fn each_shown<E: Debug + Display>(&mut self, errors: &[E]) {
+        for error in errors {
+            self.shown(error);
+        }
+    }
+
+    /// Adds the Display text of an error in brackets, unless the text behind `before` begins with it as a name.
+    fn name<E: Display>(&mut self, error: &E, before: usize) {
+        match format!(in self.alloc; "{error}") {
+            Ok(name) => {
+                if !begins_with_name(self.text.as_str(), before, name.as_str()) {
+                    self.value(&"[");
+                    self.value(&name);
+                    self.value(&"]");
+                }
+            }
+            Err(_) => self.is_out_of_memory = true,
+        }
+    }
+
+    /// Makes the line a bad one.
+    pub(crate) fn refuse(&mut self) {
+        self.text.clear();
+        self.value(&"bad line");
+    }
+
+    /// Ends the program behind the case. For a call whose error is out of memory alone.
+    pub fn out_of_memory(&mut self) {
+        self.is_out_of_memory = true;
+    }
+
+    /// The line. `None` if memory ran out.
+    pub(crate) fn line(&self) -> Option<&str> {
+        if self.is_out_of_memory {
+            None
+        } else {
+            Some(self.text.as_str())
+        }
     }
 }
 
-/// Whether a text is the name with which the Debug text of a variant begins.
-fn is_name_of(name: &str, text: &str) -> bool {
-    match text.strip_prefix(name) {
+/// Whether the Debug text of a variant, behind `before`, begins with this name.
+fn begins_with_name(text: &str, before: usize, name: &str) -> bool {
+    let debug = match text.get(before..) {
+        Some(debug) => debug.trim_start(),
+        None => "",
+    };
+    match debug.strip_prefix(name) {
         Some(rest) => rest.is_empty() || rest.starts_with('(') || rest.starts_with(' '),
         None => false,
     }

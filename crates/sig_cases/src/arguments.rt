@@ -1,134 +1,144 @@
 //! The arguments of a line.
+use crate::decode::{base64_bytes, hex_bytes, hex_lists, percent_text};
 use crate::error::CaseError;
-use base64::DecodeAllocError;
-use base64::engine::general_purpose::STANDARD;
-use hex::FromHexError;
-use percent_encoding::percent_decode;
 use std::alloc::Global;
 
 /// The arguments of a line that are still to be read.
+///
+/// No call of it fails: an argument that cannot be read is empty or 0, and makes the whole line a bad one, whatever
+/// the case answers. So a case needs no `?`, which would have to be proved together with all that the case owns there.
 #[derive(Drop)]
 pub struct Arguments<'a> {
+    alloc: Global,
     rest: Option<&'a str>,
+    fault: Option<CaseError>,
 }
 
 impl<'a> Arguments<'a> {
     /// Cuts a line at its first space: returns what is before it, the name of the call, and the arguments behind it.
-    pub fn of_line(line: &'a str) -> (&'a str, Arguments<'a>) {
-        match line.split_once(' ') {
-            Some((call, rest)) => (call, Arguments { rest: Some(rest) }),
-            None => (line, Arguments { rest: None }),
+    pub(crate) fn of_line(alloc: Global, line: &'a str) -> (&'a str, Arguments<'a>) {
+        let (call, rest) = match line.split_once(' ') {
+            Some((call, rest)) => (call, Some(rest)),
+            None => (line, None),
+        };
+        let fault = None;
+        (call, Arguments { alloc, rest, fault })
+    }
+
+    /// The allocator, for the calls of a case.
+    pub fn alloc(&self) -> Global {
+        self.alloc
+    }
+
+    /// Whether every argument was read, or one of them cannot be read.
+    pub fn is_empty(&self) -> bool {
+        self.rest.is_none() || self.fault.is_some()
+    }
+
+    /// Makes the line a bad one.
+    pub fn refuse(&mut self) {
+        self.fail(CaseError::BadLine);
+    }
+
+    /// Keeps the first fault.
+    pub(crate) fn fail(&mut self, fault: CaseError) {
+        if self.fault.is_none() {
+            self.fault = Some(fault);
         }
     }
 
-    /// Whether every argument was read.
-    pub fn is_empty(&self) -> bool {
-        self.rest.is_none()
+    /// Why the line has no answer: the first fault, or arguments that were not read.
+    pub(crate) fn fault(&self) -> Option<CaseError> {
+        match self.fault {
+            Some(fault) => Some(fault),
+            None if self.rest.is_some() => Some(CaseError::BadLine),
+            None => None,
+        }
     }
 
-    /// Returns the rest of the line, which may have spaces, as a JSON text. Fails with `BadLine` if the arguments are
-    /// at their end.
-    pub fn rest(&mut self) -> Result<&'a str, CaseError> {
-        self.rest.take().ok_or(CaseError::BadLine)
+    /// The value, or an empty one, which makes the line a bad one.
+    fn or_fail<T>(&mut self, read: Result<T, CaseError>, empty: T) -> T
+    where
+        T: Drop,
+    {
+        match read {
+            Ok(value) => value,
+            Err(fault) => {
+                self.fail(fault);
+                empty
+            }
+        }
     }
 
-    /// Returns the next argument as it is, up to the next space. Fails with `BadLine` if the arguments are at their
-    /// end.
-    pub fn word(&mut self) -> Result<&'a str, CaseError> {
-        let rest = self.rest()?;
+    /// The rest of the line, which may have spaces, as a JSON text.
+    pub fn rest(&mut self) -> &'a str {
+        match self.rest.take() {
+            Some(rest) => rest,
+            None => {
+                self.refuse();
+                ""
+            }
+        }
+    }
+
+    /// The next argument as it is, up to the next space.
+    pub fn word(&mut self) -> &'a str {
+        let rest = self.rest();
         match rest.split_once(' ') {
             Some((word, rest)) => {
                 self.rest = Some(rest);
-                Ok(word)
+                word
             }
-            None => Ok(rest),
+            None => rest,
         }
     }
 
-    /// Reads the next argument as bytes in hexadecimal, in either case; `-` is no bytes, and `3082+00*65535+ff` joins
-    /// parts of which one is so many times the same bytes. Fails with `BadLine` for other letters, and if the
-    /// arguments are at their end.
-    pub fn hex(&mut self, alloc: Global) -> Result<Vec<u8>, CaseError> {
-        hex_bytes(alloc, shown(self.word()?))
+    /// The next argument as bytes in hexadecimal, in either case; `-` is no bytes, and `3082+00*65535+ff` joins parts of
+    /// which one is so many times the same bytes.
+    pub fn hex(&mut self) -> Vec<u8> {
+        let read = hex_bytes(self.alloc, shown(self.word()));
+        self.or_fail(read, Vec::new(self.alloc))
     }
 
-    /// Reads the next argument as a list of bytes in hexadecimal, divided by commas, each as [`Arguments::hex`] reads
-    /// it; `-` is the empty list. Fails with `BadLine` for other letters, and if the arguments are at their end.
-    pub fn hex_list(&mut self, alloc: Global) -> Result<Vec<Vec<u8>>, CaseError> {
-        let mut list = Vec::new(alloc);
-        let word = self.word()?;
-        if word != "-" {
-            for item in word.split(',') {
-                list.push(hex_bytes(alloc, item)?)?;
+    /// The next argument as a list of bytes in hexadecimal, divided by commas, each as [`Arguments::hex`] reads it; `-`
+    /// is the empty list.
+    pub fn hex_list(&mut self) -> Vec<Vec<u8>> {
+        let read = hex_lists(self.alloc, self.word());
+        self.or_fail(read, Vec::new(self.alloc))
+    }
+
+    /// The next argument as bytes in base64, padded; `-` is no bytes.
+    pub fn base64(&mut self) -> Vec<u8> {
+        let read = base64_bytes(self.alloc, shown(self.word()));
+        self.or_fail(read, Vec::new(self.alloc))
+    }
+
+    /// The next argument as a text in percent-encoding, as `a%20b`; `-` is the empty text.
+    pub fn text(&mut self) -> String {
+        let read = percent_text(self.alloc, shown(self.word()));
+        self.or_fail(read, String::new(self.alloc))
+    }
+
+    /// The next argument as an integer in decimal.
+    pub fn integer(&mut self) -> i64 {
+        match self.word().parse::<i64>() {
+            Ok(number) => number,
+            Err(_) => {
+                self.refuse();
+                0
             }
         }
-        Ok(list)
     }
 
-    /// Reads the next argument as bytes in base64, padded; `-` is no bytes. Fails with `BadLine` for other letters,
-    /// and if the arguments are at their end.
-    pub fn base64(&mut self, alloc: Global) -> Result<Vec<u8>, CaseError> {
-        let word = self.word()?;
-        match STANDARD.decode(alloc, shown(word).as_bytes()) {
-            Ok(bytes) => Ok(bytes),
-            Err(DecodeAllocError::OutOfMemory) => Err(CaseError::OutOfMemory),
-            Err(DecodeAllocError::DecodeError(_)) => Err(CaseError::BadLine),
+    /// The next argument as a natural number in decimal.
+    pub fn natural(&mut self) -> u64 {
+        match self.word().parse::<u64>() {
+            Ok(number) => number,
+            Err(_) => {
+                self.refuse();
+                0
+            }
         }
-    }
-
-    /// Reads the next argument as a text in percent-encoding, as `a%20b`; `-` is the empty text. Fails with `BadLine`
-    /// if it stands for no UTF-8, and if the arguments are at their end.
-    pub fn text(&mut self, alloc: Global) -> Result<String, CaseError> {
-        let word = self.word()?;
-        let mut bytes = Vec::new(alloc);
-        percent_decode(shown(word).as_bytes()).append_to(&mut bytes)?;
-        String::from_utf8(bytes).map_err(|_| CaseError::BadLine)
-    }
-
-    /// Reads the next argument as an integer in decimal. Fails with `BadLine` if it is none in `i64`, and if the
-    /// arguments are at their end.
-    pub fn integer(&mut self) -> Result<i64, CaseError> {
-        self.word()?.parse::<i64>().map_err(|_| CaseError::BadLine)
-    }
-
-    /// Reads the next argument as a natural number in decimal. Fails with `BadLine` if it is none in `u64`, and if the
-    /// arguments are at their end.
-    pub fn natural(&mut self) -> Result<u64, CaseError> {
-        self.word()?.parse::<u64>().map_err(|_| CaseError::BadLine)
-    }
-}
-
-/// The bytes of parts in hexadecimal that are joined by `+`.
-fn hex_bytes(alloc: Global, word: &str) -> Result<Vec<u8>, CaseError> {
-    let mut bytes = Vec::new(alloc);
-    for part in word.split('+') {
-        push_part(alloc, &mut bytes, part)?;
-    }
-    Ok(bytes)
-}
-
-/// Appends the bytes of a part: digits, or digits, `*` and how many times they come.
-fn push_part(alloc: Global, bytes: &mut Vec<u8>, part: &str) -> Result<(), CaseError> {
-    let (digits, times) = match part.split_once('*') {
-        Some((digits, times)) => (
-            digits,
-            times.parse::<u32>().map_err(|_| CaseError::BadLine)?,
-        ),
-        None => (part, 1),
-    };
-    let piece = decoded(alloc, digits)?;
-    for _ in 0..times {
-        bytes.extend_from_slice(&piece)?;
-    }
-    Ok(())
-}
-
-/// The bytes of a text of hexadecimal digits.
-fn decoded(alloc: Global, digits: &str) -> Result<Vec<u8>, CaseError> {
-    match hex::decode(alloc, digits) {
-        Ok(bytes) => Ok(bytes),
-        Err(FromHexError::OutOfMemory) => Err(CaseError::OutOfMemory),
-        Err(_) => Err(CaseError::BadLine),
     }
 }
 

@@ -20,10 +20,14 @@
 //! struct HashCases;
 //!
 //! impl Cases for HashCases {
-//!     fn answer(alloc: Global, call: &str, arguments: &mut Arguments<'_>) -> Result<Answer, CaseError> {
+//!     fn answer(call: &str, arguments: &mut Arguments<'_>, answer: &mut Answer) {
 //!         match call {
-//!             "sha256" => Answer::ok(alloc)?.hex(&sha256(arguments.hex(alloc)?.as_slice())),
-//!             _ => Err(CaseError::BadLine),
+//!             "sha256" => {
+//!                 let bytes = arguments.hex();
+//!                 answer.ok();
+//!                 answer.hex(&sha256(&bytes));
+//!             }
+//!             _ => arguments.refuse(),
 //!         }
 //!     }
 //! }
@@ -36,11 +40,11 @@
 
 mod answer;
 mod arguments;
+mod decode;
 mod error;
 mod program;
 mod values;
 
 pub use answer::Answer;
 pub use arguments::Arguments;
-pub use error::CaseError;
 pub use program::{Cases, run};

@@ -2,19 +2,14 @@
 use crate::answer::Answer;
 use crate::arguments::Arguments;
 use crate::error::CaseError;
-use anyhow::{Context, Result, bail};
+use anyhow::Result;
 use std::alloc::Global;
 use std::io::{self, BufRead, BufReader, BufWriter, Write};
 
 /// A program of cases: what it returns for a line.
 pub trait Cases {
-    /// Calls what `call` names on the arguments. Fails with `BadLine` if there is no such call, or its arguments are
-    /// others.
-    fn answer(
-        alloc: Global,
-        call: &str,
-        arguments: &mut Arguments<'_>,
-    ) -> Result<Answer, CaseError>;
+    /// Calls what `call` names on the arguments, and writes what it returns. Refuses the line if there is no such call.
+    fn answer(call: &str, arguments: &mut Arguments<'_>, answer: &mut Answer);
 }
 
 /// Writes a line for each line of standard input, to its end. Fails if out of memory, or if a stream fails.
@@ -23,15 +18,16 @@ pub fn run<C: Cases>(rt: &HostRuntime) -> Result<()> {
     let mut written = BufWriter::new(alloc, io::writer(rt))?;
     for line in BufReader::new(alloc, rt.reader())?.lines(alloc) {
         let line = line?;
-        if is_comment(line.as_str()) {
-            writeln!(written, "{line}")?;
-        } else {
-            let reply = reply_to::<C>(alloc, line.as_str())?;
-            writeln!(written, "{}", reply.as_str())?;
-        }
+        let answer = answer_to::<C>(alloc, line.as_str());
+        writeln!(written, "{}", text_of(&answer)?)?;
     }
     written.flush()?;
     Ok(())
+}
+
+/// The line. Fails if out of memory.
+fn text_of(answer: &Answer) -> Result<&str, CaseError> {
+    answer.line().ok_or(CaseError::OutOfMemory)
 }
 
 /// Whether a line is no case: an empty one, or one that begins with `#`.
@@ -39,14 +35,19 @@ fn is_comment(line: &str) -> bool {
     line.is_empty() || line.starts_with('#')
 }
 
-/// The line that is written for a case.
-fn reply_to<C: Cases>(alloc: Global, line: &str) -> Result<Answer, CaseError> {
-    let (call, mut arguments) = Arguments::of_line(line);
-    let answer = C::answer(alloc, call, &mut arguments);
-    match answer {
-        Err(CaseError::BadLine) => Answer::of(alloc, &"bad line"),
-        Ok(_) if !arguments.is_empty() => Answer::of(alloc, &"bad line"),
-        Ok(answer) if answer.as_str() == "OutOfMemory" => Err(CaseError::OutOfMemory),
-        other => other,
+/// The line that is written for a line.
+fn answer_to<C: Cases>(alloc: Global, line: &str) -> Answer {
+    let mut answer = Answer::new(alloc);
+    if is_comment(line) {
+        answer.value(&line);
+        return answer;
     }
+    let (call, mut arguments) = Arguments::of_line(alloc, line);
+    C::answer(call, &mut arguments, &mut answer);
+    match arguments.fault() {
+        Some(CaseError::BadLine) => answer.refuse(),
+        Some(CaseError::OutOfMemory) => answer.out_of_memory(),
+        None => {}
+    }
+    answer
 }

@@ -1,61 +1,107 @@
 //! Arguments that are lists of bytes, digests and checkers.
 use crate::arguments::Arguments;
 use crate::error::CaseError;
-use sig_base::{AcceptedRow, Bytes, Entries, Operation, TableChecker};
+use sig_base::{AcceptedRow, Bytes, Entries, Operation, OutOfMemory, TableChecker};
 use std::alloc::Global;
 
 impl<'a> Arguments<'a> {
-    /// Reads the next argument as a list of bytes, as [`Arguments::hex_list`] does.
-    pub fn entries(&mut self, alloc: Global) -> Result<Entries, CaseError> {
-        let mut entries = Entries::new(alloc);
-        for bytes in &self.hex_list(alloc)? {
-            entries.push(bytes)?;
+    /// The next argument as a list of bytes, as [`Arguments::hex_list`] reads it.
+    pub fn entries(&mut self) -> Entries {
+        let list = self.hex_list();
+        match entries_of(self.alloc(), &list) {
+            Ok(entries) => entries,
+            Err(_) => {
+                self.fail(CaseError::OutOfMemory);
+                Entries::new(self.alloc())
+            }
         }
-        Ok(entries)
     }
 
-    /// Reads the next argument as 32 bytes in hexadecimal. Fails with `BadLine` if there are not 32.
-    pub fn digest(&mut self, alloc: Global) -> Result<[u8; 32], CaseError> {
-        let bytes = self.hex(alloc)?;
-        bytes.as_slice().try_into().map_err(|_| CaseError::BadLine)
+    /// The next argument as bytes that own their memory, in hexadecimal.
+    pub fn bytes(&mut self) -> Bytes {
+        Bytes::from(self.hex())
     }
 
-    /// Reads the arguments to their end as the rows of a checker, which accepts these signatures alone. A row is
+    /// The next argument as 32 bytes in hexadecimal.
+    pub fn digest(&mut self) -> [u8; 32] {
+        let bytes = self.hex();
+        match bytes.as_slice().try_into() {
+            Ok(digest) => digest,
+            Err(_) => {
+                self.refuse();
+                [0; 32]
+            }
+        }
+    }
+
+    /// The arguments to their end as the rows of a checker, which accepts these signatures alone. A row is
     /// `message SCHEME KEY MESSAGE SIGNATURE`, `prehash SCHEME KEY DIGEST SIGNATURE`, `point POINT MESSAGE SIGNATURE`
-    /// and `certificate ALGORITHM SPKI TBS SIGNATURE`, where a scheme is the name of one. Fails with `BadLine` for
-    /// other words.
-    pub fn checker(&mut self, alloc: Global) -> Result<TableChecker, CaseError> {
-        let mut checker = TableChecker::new(alloc);
+    /// and `certificate ALGORITHM SPKI TBS SIGNATURE`, where a scheme is the name of one.
+    pub fn checker(&mut self) -> TableChecker {
+        let mut checker = TableChecker::new(self.alloc());
         for _ in 0..u64::MAX {
             if self.is_empty() {
                 break;
             }
-            let row = self.row(alloc)?;
-            checker.push(row)?;
+            let row = self.row();
+            if checker.push(row).is_err() {
+                self.fail(CaseError::OutOfMemory);
+            }
         }
-        Ok(checker)
+        checker
     }
 
-    /// Reads the next arguments as a row of a checker.
-    fn row(&mut self, alloc: Global) -> Result<AcceptedRow, CaseError> {
-        let (operation, scheme) = match self.word()? {
-            "message" => (Operation::Message, self.name(alloc)?),
-            "prehash" => (Operation::Prehash, self.name(alloc)?),
-            "point" => (Operation::Point, Bytes::copy_of(alloc, &[])?),
-            "certificate" => (Operation::Certificate, Bytes::from(self.hex(alloc)?)),
-            _ => return Err(CaseError::BadLine),
-        };
-        Ok(AcceptedRow {
+    /// The next arguments as a row of a checker.
+    fn row(&mut self) -> AcceptedRow {
+        let operation = self.operation();
+        let scheme = self.scheme(operation);
+        AcceptedRow {
             operation,
             scheme,
-            key: Bytes::from(self.hex(alloc)?),
-            message: Bytes::from(self.hex(alloc)?),
-            signature: Bytes::from(self.hex(alloc)?),
-        })
+            key: self.bytes(),
+            message: self.bytes(),
+            signature: self.bytes(),
+        }
     }
 
-    /// Reads the next argument as the name of a scheme.
-    fn name(&mut self, alloc: Global) -> Result<Bytes, CaseError> {
-        Ok(Bytes::copy_of(alloc, self.word()?.as_bytes())?)
+    fn operation(&mut self) -> Operation {
+        match self.word() {
+            "message" => Operation::Message,
+            "prehash" => Operation::Prehash,
+            "point" => Operation::Point,
+            "certificate" => Operation::Certificate,
+            _ => {
+                self.refuse();
+                Operation::Point
+            }
+        }
     }
+
+    /// What a row of this operation has as its scheme: a name, the bytes of an algorithm, or nothing.
+    fn scheme(&mut self, operation: Operation) -> Bytes {
+        match operation {
+            Operation::Message | Operation::Prehash => self.name(),
+            Operation::Certificate => self.bytes(),
+            Operation::Point => Bytes::from(Vec::new(self.alloc())),
+        }
+    }
+
+    /// The bytes of the next argument as it is.
+    fn name(&mut self) -> Bytes {
+        match Bytes::copy_of(self.alloc(), self.word().as_bytes()) {
+            Ok(name) => name,
+            Err(_) => {
+                self.fail(CaseError::OutOfMemory);
+                Bytes::from(Vec::new(self.alloc()))
+            }
+        }
+    }
+}
+
+fn entries_of(alloc: Global, list: &[Vec<u8>]) -> Result<Entries, OutOfMemory> {
+    let mut entries = Entries::new(alloc);
+    for bytes in list {
+        entries.push(bytes)?;
+    }
+    Ok(entries)
 }

@@ -1,6 +1,6 @@
 //! What the program says of itself.
 ghost use Rattle.std.specs.Prelude.{◌≡◌, Some, None, option_map};
-ghost use Rattle.sigverify.specs.Run.{AsksHelp, AsksVersion};
+ghost use Rattle.sigverify.specs.Words.{AsksHelp, AsksVersion};
 
 use sig_base::Text;
 
@@ -18,7 +18,7 @@ commands:
   log    Is an entry in a transparency log? The request on standard input is a
          JSON object with the members
            entry       base64, the entry
-           logIndex    its place in the log, from 0
+           logIndex    its index in the tree, from 0
            treeSize    how many entries the log has
            rootHash    64 hex digits, the log's root hash
            hashes      list of 64 hex digits, the audit path from the leaf up
@@ -83,7 +83,7 @@ status:
   1   a link other than request fails
   2   the link request fails
   64  the words are no command
-  71  memory ran out
+  71  out of memory
   74  reading or writing failed
 ";
 
@@ -92,7 +92,7 @@ const VERSION: &str = "sigverify 0.1.0\n";
 /// Returns the text for the one word `--help`, and for the one word `--version`; `None` for all other words, which are
 /// [`run`]'s.
 ///
-/// [`run`]: crate::run::run
+/// [`run`]: sig_program::run
 pub fn answer_of(words: &[Text]) -> Option<&'static str>
     ensures help { AsksHelp words.now → option_map (λ text. text.now) result ≡ Some HELP.now }
     ensures version { AsksVersion words.now → option_map (λ text. text.now) result ≡ Some VERSION.now }

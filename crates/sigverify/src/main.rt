@@ -1,49 +1,16 @@
 //! `sigverify`: decides without a network whether a signed artifact may be trusted.
 //!
-//! A request of `log`; request.rt, verify_request.rt and consistency_request.rt show whole ones:
-//!
-//! ```text
-//! { "entry": "TDEyMzQ1Ng==", "logIndex": 0, "treeSize": 1, "rootHash": "395aa064..", "hashes": [],
-//!   "checkpoint": "log.example\n1\nOVqgZKpM..TVY=\n\n\u2014 log.example AAAAAXNpZw==\n",
-//!   "scheme": "ECDSA_P256_SHA256_ASN1", "key": "a2V5", "accepted": [] }
-//! ```
-//!
-//! [`run::run`] is the program, and its contract the promise of this project; `main` gives it the words and the
-//! standard streams.
+//! [`run`] of sig_program is the program, and its contract the promise of this project; `main` gives it the words and
+//! the standard streams, and answers `--help` and `--version` itself.
 #![tactic(auto)]
 
-mod brief_policy;
-mod command;
-mod consistency;
-mod consistency_request;
-mod digest_text;
-mod head;
-mod head_members;
 mod help;
-mod laws;
-mod log;
-mod log_questions;
-mod policy_rule;
-mod read;
-mod reply;
-mod request;
-mod request_text;
-mod row;
-mod rows_text;
-mod run;
-mod second_line;
 mod std_stream;
-#[cfg(test)]
-mod tests;
-mod verify;
-mod verify_questions;
-mod verify_request;
 mod words;
-mod write;
 
 use help::answer_of;
-use run::{FAULT, NO_MEMORY, USAGE, run};
 use sig_base::Text;
+use sig_program::{FAULT, NO_MEMORY, USAGE, run};
 use std::process::ExitCode;
 use std_stream::{StdSink, StdSource};
 use words::{WordsFault, words_of};

@@ -9,7 +9,7 @@ use std::{env, io};
 pub enum WordsFault {
     /// A word is not UTF-8.
     NotText,
-    /// Memory ran out.
+    /// Out of memory.
     OutOfMemory,
 }
 

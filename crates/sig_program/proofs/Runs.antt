@@ -1,0 +1,163 @@
+-- What a run owes, from what it read and what it replied.
+use Rattle.std.proofs.Common.{◌≡◌, ◌<◌, ◌≤◌, ℕ, inl, inr, List, [], ◌∷◌, ◌++◌, Option, Some, None, length, drop, ap}
+use Rattle.std.proofs.Common.{sym, ◌∙◌, refl, subst, arith, get_or, lit<, lit≤, length-append}
+use Rattle.std.proofs.lemmas.List.{append-nil, drop_all}
+use Rattle.std.proofs.Math.Seq.{drop-append_seam}
+use Rattle.sig_base.specs.Stream.{HandsOver, TookCount, Rose}
+use Rattle.sig_verify.specs.declared.link.Link.{Link}
+use Rattle.sig_verify.specs.declared.link.Link.TheVariants.{Request}
+use Rattle.sig_program.specs.declared.reply.Reply.{Reply}
+use Rattle.sig_program.specs.Reply.{IsReply, refusal_reply, status_of}
+use Rattle.sig_program.specs.declared.command.Command.{Command}
+use Rattle.sig_program.specs.declared.command.Command.TheVariants.{Log, Verify, Consistency, LogQuestions}
+use Rattle.sig_program.specs.declared.command.Command.TheVariants.{VerifyQuestions}
+use Rattle.sig_program.specs.Command.{words_of, Names, IsCommand}
+use Rattle.sig_program.specs.Limit.{TakesUpTo}
+use Rattle.sig_program.specs.Run.{RepliesTo, WriteFaulted, AppendsFront, HandsRests, WritesRests, usage_line}
+use Rattle.sig_program.proofs.Replies.{long-reply}
+
+-- all that was left, fewer than n bytes
+TakesUpTo-whole : (n : ℕ) (old new : Option (List ℕ)) (bytes : List ℕ) → HandsOver old new bytes → length bytes < n
+    → TakesUpTo n old new bytes
+TakesUpTo-whole n None new bytes all short = tt
+TakesUpTo-whole n (Some xs) None bytes all short = elim all.taken [ ]
+TakesUpTo-whole n (Some xs) (Some ys) bytes all short =
+    let same : xs ≡ bytes = all.taken ∙ ap (λ t. bytes ++ t) all.ended ∙ append-nil bytes in
+    let P : List ℕ → Type 0 = λ t. length t ≤ n in
+    let few : length xs ≤ n = subst P (sym same) (omega arith) in
+    (sym same, ap (λ t. Some t) (all.ended ∙ sym (drop_all n xs few)))
+
+-- n bytes of what was left, of which there were that many then
+TakesUpTo-long : (n : ℕ) (old new : Option (List ℕ)) → TookCount old new n
+    → (text : List ℕ) × TakesUpTo n old new text × (n ≤ length text)
+TakesUpTo-long n None new took = (took.0, tt, omega (arith, took.2))
+TakesUpTo-long n (Some xs) None took = elim took.1 [ ]
+TakesUpTo-long n (Some xs) (Some ys) took =
+    let seam : drop n xs ≡ ys = let P : ℕ → Type 0 = λ k. drop k xs ≡ ys in
+    subst P took.2 (ap (λ t. drop (length took.0) t) took.1 ∙ drop-append_seam took.0 ys) in
+    let long : n ≤ length xs = omega (arith, ap length took.1, length-append took.0 ys, took.2) in
+    (xs, (refl, ap (λ t. Some t) (sym seam)), long)
+
+-- the reply to a request that was read
+pub RepliesTo-whole : (command : Command) (old new : Option (List ℕ)) (bytes : List ℕ) (reply : Reply)
+    → HandsOver old new bytes → length bytes < 16777217 → IsReply command bytes reply → RepliesTo command old new reply
+RepliesTo-whole command old new bytes reply all short meant = record {
+  text = bytes;
+  request = TakesUpTo-whole 16777217 old new bytes all short;
+  meant = meant;
+}
+
+-- the reply to one that is too long
+pub RepliesTo-long : (command : Command) (old new : Option (List ℕ)) (reply : Reply) → TookCount old new 16777217
+    → reply ≡ refusal_reply Request → RepliesTo command old new reply
+RepliesTo-long command old new reply took refused =
+    let long = TakesUpTo-long 16777217 old new took in
+    let meant : IsReply command long.0 (refusal_reply Request) = long-reply command long.0 long.2 in
+    record { text = long.0; request = long.1; meant = subst (IsReply command long.0) (sym refused) meant }
+
+-- the status of a refusal, and of every reply
+status_of-small : (link : Link) → status_of link < 3
+status_of-small Request = lit< tt
+status_of-small other = lit< tt
+
+IsReply-small : (command : Command) (text : List ℕ) (reply : Reply) → IsReply command text reply → reply.status < 3
+IsReply-small command text reply meant =
+    elim meant.decided [
+      | inl every ↦ let zero = meant.succeeds.1 every in omega arith
+      | inr first ↦ let P : Reply → Type 0 = λ r. r.status < 3 in
+          subst P (sym (meant.refused first.0 first.1)) (status_of-small first.0)
+    ]
+
+pub RepliesTo-small : (command : Command) (old new : Option (List ℕ)) (reply : Reply) → RepliesTo command old new reply
+    → reply.status < 3
+RepliesTo-small command old new reply replies = IsReply-small command replies.text reply replies.meant
+
+-- a write of the line for other words that failed
+pub WriteFaulted-usage : (words : List (List ℕ)) (left_old left_new : Option (List ℕ)) (before now : ℕ)
+    (taken_old taken_new : Option (List ℕ))
+    → ¬ IsCommand words → Rose before now → AppendsFront taken_old taken_new usage_line
+    → WriteFaulted words left_old left_new before now taken_old taken_new
+WriteFaulted-usage words left_old left_new before now taken_old taken_new other rose written =
+    record { bytes = usage_line; output = inr (other, refl); rose = rose; written = written }
+
+-- a write of a reply that failed
+pub WriteFaulted-reply : (words : List (List ℕ)) (command : Command) (left_old left_new : Option (List ℕ))
+    (before now : ℕ) (taken_old taken_new : Option (List ℕ)) (reply : Reply)
+    → Names words command → RepliesTo command left_old left_new reply → Rose before now
+    → AppendsFront taken_old taken_new reply.text
+    → WriteFaulted words left_old left_new before now taken_old taken_new
+WriteFaulted-reply words command left_old left_new before now taken_old taken_new reply named replies rose written =
+    record {
+      bytes = reply.text;
+      output = inl (command, named, (reply, replies, refl));
+      rose = rose;
+      written = written;
+    }
+
+pub faulted-reply : (words : List (List ℕ)) (command : Command) (left_old left_new : Option (List ℕ)) (before now : ℕ)
+    (taken_old taken_new : Option (List ℕ)) (reply : Reply) (text : List ℕ)
+    → text ≡ reply.text → Names words command → RepliesTo command left_old left_new reply → Rose before now
+    → AppendsFront taken_old taken_new text
+    → WriteFaulted words left_old left_new before now taken_old taken_new
+faulted-reply words command left_old left_new before now taken_old taken_new reply text same named replies rose written
+    =
+    WriteFaulted-reply words command left_old left_new before now taken_old taken_new reply named replies rose
+    (subst (AppendsFront taken_old taken_new) same written)
+
+-- the pieces of the line for other words, and of a reply
+pub WritesRests-usage : (words : List (List ℕ)) (left_old left_new : Option (List ℕ))
+    (handed_old handed_new : Option (List (List ℕ)))
+    → ¬ IsCommand words → HandsRests handed_old handed_new usage_line
+    → WritesRests words left_old left_new handed_old handed_new
+WritesRests-usage words left_old left_new handed_old handed_new other rests =
+    inr (usage_line, inr (other, refl), rests)
+
+pub WritesRests-reply : (words : List (List ℕ)) (command : Command) (left_old left_new : Option (List ℕ))
+    (handed_old handed_new : Option (List (List ℕ))) (reply : Reply)
+    → Names words command → RepliesTo command left_old left_new reply → HandsRests handed_old handed_new reply.text
+    → WritesRests words left_old left_new handed_old handed_new
+WritesRests-reply words command left_old left_new handed_old handed_new reply named replies rests =
+    inr (reply.text, inl (command, named, (reply, replies, refl)), rests)
+
+-- a command has one word or two
+named-short : (command : Command) → (1 ≤ length (words_of command)) × (length (words_of command) ≤ 2)
+named-short Log = (lit≤ tt, lit≤ tt)
+named-short Verify = (lit≤ tt, lit≤ tt)
+named-short Consistency = (lit≤ tt, lit≤ tt)
+named-short LogQuestions = (lit≤ tt, lit≤ tt)
+named-short VerifyQuestions = (lit≤ tt, lit≤ tt)
+
+pub IsCommand-many : (words : List (List ℕ)) → 3 ≤ length words → ¬ IsCommand words
+IsCommand-many words many (command, named) = omega (arith, many, ap length named, (named-short command).1)
+
+pub IsCommand-none : (words : List (List ℕ)) → length words < 1 → ¬ IsCommand words
+IsCommand-none words few (command, named) = omega (arith, few, ap length named, (named-short command).0)
+
+-- one word, and the test whether it is a name
+pub is_one_word : (words : List (List ℕ)) (word : List ℕ) → word ≡ get_or words 0 word → 1 ≤ length words
+    → length words < 2 → words ≡ word ∷ []
+is_one_word [] word is some few = absurd (omega arith)
+is_one_word (first ∷ []) word is some few = ap (λ w. w ∷ []) (sym is)
+is_one_word (first ∷ second ∷ rest) word is some few = absurd (omega arith)
+
+-- two words, and the test whether they are names
+pub are_two_words : (words : List (List ℕ)) (first second : List ℕ) → first ≡ get_or words 0 first
+    → second ≡ get_or words 1 second → 2 ≤ length words → length words < 3 → words ≡ first ∷ second ∷ []
+are_two_words [] first second is then some few = absurd (omega arith)
+are_two_words (one ∷ []) first second is then some few = absurd (omega arith)
+are_two_words (one ∷ two ∷ []) first second is then some few = cc
+are_two_words (one ∷ two ∷ three ∷ rest) first second is then some few = absurd (omega arith)
+
+pub ruleset runs = (
+  RepliesTo-whole,
+  RepliesTo-long,
+  RepliesTo-small,
+  WriteFaulted-usage,
+  WriteFaulted-reply,
+  WritesRests-usage,
+  WritesRests-reply,
+  IsCommand-many,
+  IsCommand-none,
+  is_one_word,
+  are_two_words,
+)

@@ -1,0 +1,59 @@
+-- The second line, from what the entries are.
+use Rattle.std.proofs.Common.{◌≡◌, ℕ, pos, inl, inr, List, length, take, slice_get, Some}
+use Rattle.std.proofs.Common.{Result, IfOk, ap, subst}
+use Rattle.std.proofs.Math.Seq.{take-length}
+use Rattle.std.proofs.lemmas.Result.{IfOk-weaker}
+use Rattle.sig_base.specs.Collision.{IsCollision}
+use Rattle.sig_base.specs.declared.memory.OutOfMemory.{OutOfMemory}
+use Rattle.sig_merkle.specs.Inclusion.{IsIncluded}
+use Rattle.sig_merkle.specs.Root.{leaf_of, root}
+use Rattle.sig_rekor.specs.declared.inclusion_proof.InclusionProof.{InclusionProof}
+use Rattle.sig_verify.proofs.EntryPaths.{pos_same}
+use Rattle.sig_program.proofs.Logged.{included-at, logged-negative}
+use Rattle.sig_program.specs.ProofOf.{IsProofOf}
+use Rattle.sig_program.specs.SecondLine.{AreOfTree, IsEntryAt, IsLineOf, collision_line, entry_line, other_line}
+
+-- the root of as many entries as there are
+pub whole_list : (entries : List (List ℕ)) (count : ℕ) → count ≡ length entries
+    → root (take count entries) ≡ root entries
+whole_list entries count all = ap (λ list. root list) (rw all (take-length entries))
+
+-- the proof is accepted for the list's size and root
+pub included-in : (entries : List (List ℕ)) (body : List ℕ) (proof : InclusionProof) (index : ℕ)
+    → IsProofOf body proof → AreOfTree entries proof → proof.log_index ≡ pos index
+    → IsIncluded index (leaf_of body) (length entries) proof.hashes (root entries)
+included-in entries body proof index is tree place = rw (tree.0, tree.1) (included-at body proof index place is)
+
+pub other-line : (entries : List (List ℕ)) (body : List ℕ) (proof : InclusionProof) (r : Result (List ℕ) OutOfMemory)
+    → ¬ AreOfTree entries proof → IfOk r (λ line. line ≡ other_line) → IfOk r (IsLineOf entries body proof)
+other-line entries body proof r other is =
+    IfOk-weaker r (λ line. line ≡ other_line) (IsLineOf entries body proof) (λ line same. inl (other, same)) is
+
+pub entry-line : (entries : List (List ℕ)) (body : List ℕ) (proof : InclusionProof) (index : ℕ)
+    (r : Result (List ℕ) OutOfMemory) → AreOfTree entries proof → proof.log_index ≡ pos index
+    → slice_get entries index ≡ Some body → IfOk r (λ line. line ≡ entry_line proof.log_index)
+    → IfOk r (IsLineOf entries body proof)
+entry-line entries body proof index r tree place at is =
+    IfOk-weaker r (λ line. line ≡ entry_line proof.log_index) (IsLineOf entries body proof)
+    (λ line same. inr (inl (tree, (index, place, at), same))) is
+
+-- the body is not the entry at the one index
+not-at : (entries : List (List ℕ)) (body : List ℕ) (proof : InclusionProof) (index : ℕ) → proof.log_index ≡ pos index
+    → ¬ (slice_get entries index ≡ Some body) → ¬ IsEntryAt entries proof body
+not-at entries body proof index place other (found, found_place, at) =
+    let same : found ≡ index = pos_same found index cc in
+    other (subst (λ (i : ℕ). slice_get entries i ≡ Some body) same at)
+
+pub collision-line : (entries : List (List ℕ)) (body : List ℕ) (proof : InclusionProof) (index : ℕ)
+    (left right : List ℕ) (r : Result (List ℕ) OutOfMemory) → AreOfTree entries proof → proof.log_index ≡ pos index
+    → ¬ (slice_get entries index ≡ Some body) → IsCollision left right
+    → IfOk r (λ line. line ≡ collision_line left right) → IfOk r (IsLineOf entries body proof)
+collision-line entries body proof index left right r tree place other collides is =
+    IfOk-weaker r (λ line. line ≡ collision_line left right) (IsLineOf entries body proof)
+    (λ line same. inr (inr (
+      tree,
+      not-at entries body proof index place other,
+      record { left = left; right = right; collides = collides; shown = same },
+    ))) is
+
+pub ruleset second_lines = (included-in, other-line, entry-line, collision-line, logged-negative)

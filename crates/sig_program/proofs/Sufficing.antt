@@ -1,0 +1,153 @@
+-- Nothing but the listed signatures decides the reply of `log`.
+use Rattle.std.proofs.Common.{◌≡◌, ◌<◌, ◌↔◌, ℕ, inl, inr, List, [], ◌∷◌, length, get_or, refl, subst, ap, ◌∙◌}
+use Rattle.std.proofs.Common.{arith}
+use Rattle.std.proofs.Math.ListN.{get_or-map}
+use Rattle.std.proofs.lemmas.List.{length-map}
+use Rattle.std.specs.Prelude.{Contains}
+use Rattle.std.specs.List.{AllByRecursion}
+use Rattle.sig_base.specs.Rules.{FailsFirst}
+use Rattle.sig_base.specs.declared.checker.AcceptedRow.{AcceptedRow}
+use Rattle.sig_rekor.specs.CheckpointText.{IsCheckpoint}
+use Rattle.sig_rekor.specs.declared.checkpoint.CheckpointSignature.{CheckpointSignature}
+use Rattle.sig_rekor.specs.declared.checkpoint.SignedCheckpoint.{SignedCheckpoint}
+use Rattle.sig_verify.proofs.JudgedLaws.{alike_each, all_as, fails_as}
+use Rattle.sig_verify.specs.declared.link.Link.{Link}
+use Rattle.sig_verify.specs.declared.link.Link.TheVariants.{Checkpoint, NoteKey, NoteMatch, Inclusion}
+use Rattle.sig_program.proofs.RequestTexts.{one_request}
+use Rattle.sig_program.specs.Head.{HasAcceptedSignature, head_row}
+use Rattle.sig_program.specs.Link.{Holds, HoldsOfLog, links}
+use Rattle.sig_program.specs.LogQuestions.{AreLogQuestions, head_rows}
+use Rattle.sig_program.specs.Reply.{IsLoggedReply, IsReply, Succeeds}
+use Rattle.sig_program.specs.Request.{log_request}
+use Rattle.sig_program.specs.Suffice.{AgreeOn, LogQuestionsSuffice, with_accepted}
+use Rattle.sig_program.specs.declared.command.Command.{Command}
+use Rattle.sig_program.specs.declared.command.Command.TheVariants.{Log}
+use Rattle.sig_program.specs.declared.head.SignedHead.{SignedHead}
+use Rattle.sig_program.specs.declared.reply.Reply.{Reply}
+use Rattle.sig_program.specs.declared.request.LogRequest.{LogRequest}
+use Rattle.sig_program.specs.ReadFrom.{IsRequestOf}
+
+-- ---- texts of which the same links hold have the same reply
+
+pub record AreAlike (command : Command) (text other : List ℕ) : Type 0 where
+  pub holds : (link : Link) → Holds command text link ↔ Holds command other link
+  pub succeeds : (reply : Reply) → Succeeds command text reply ↔ Succeeds command other reply
+
+pub alike-other : (command : Command) (text other : List ℕ) → AreAlike command text other
+    → AreAlike command other text
+alike-other command text other alike = record {
+  holds = λ link. ((alike.holds link).1, (alike.holds link).0);
+  succeeds = λ reply. ((alike.succeeds reply).1, (alike.succeeds reply).0);
+}
+
+pub alike-reply : (command : Command) (text other : List ℕ) → AreAlike command text other → (reply : Reply)
+    → IsReply command text reply → IsReply command other reply
+alike-reply command text other alike reply is =
+    let there = alike_each (Holds command text) (Holds command other) (links command) alike.holds in
+    let back = alike_each (Holds command other) (Holds command text) (links command)
+    (alike-other command text other alike).holds in
+    let every = all_as (Holds command text) (Holds command other) (links command) there in
+    let every_back = all_as (Holds command other) (Holds command text) (links command) back in
+    record {
+      decided =
+          elim is.decided [
+            | inl all ↦ inl (every all)
+            | inr first ↦ inr (
+              first.0,
+              fails_as (Holds command text) (Holds command other) (links command) first.0 there first.1,
+            )
+          ];
+      succeeds = (λ zero. every (is.succeeds.0 zero), λ all. is.succeeds.1 (every_back all));
+      vouched = λ all. (alike.succeeds reply).0 (is.vouched (every_back all));
+      refused = λ link first. is.refused link
+          (fails_as (Holds command other) (Holds command text) (links command) link back first);
+    }
+
+-- ---- requests of `log` that differ in accepted signatures that are not listed
+
+-- each signature is among those that are listed
+listed-row : (head : SignedHead) (checkpoint : SignedCheckpoint) (k : ℕ) (signature : CheckpointSignature)
+    → k < length checkpoint.signatures → get_or checkpoint.signatures k signature ≡ signature
+    → Contains (head_rows head checkpoint) (head_row head checkpoint signature)
+listed-row head checkpoint k signature below is = (
+  k,
+  omega (arith, below, length-map checkpoint.signatures (head_row head checkpoint)),
+  get_or-map (head_row head checkpoint) checkpoint.signatures k signature ∙ ap (head_row head checkpoint) is,
+)
+
+-- the lists of two requests agree on what is listed
+abbrev AgreeOnListed : LogRequest → List AcceptedRow → Type 0
+AgreeOnListed request rows =
+    (asked : List AcceptedRow) → AreLogQuestions request asked → AgreeOn asked request.head.accepted rows
+
+signed-same : (request : LogRequest) (rows : List AcceptedRow) (checkpoint : SignedCheckpoint)
+    → IsCheckpoint request.head.checkpoint checkpoint → AgreeOnListed request rows
+    → HasAcceptedSignature request.head checkpoint ↔ HasAcceptedSignature (with_accepted request rows).head checkpoint
+signed-same request rows checkpoint read agree =
+    let same = agree (head_rows request.head checkpoint) (checkpoint, read, refl) in (
+      λ some. (
+        some.0,
+        some.1,
+        some.2,
+        some.3,
+        (same (head_row request.head checkpoint some.1)
+            (listed-row request.head checkpoint some.0 some.1 some.2 some.3)).0 some.4,
+      ),
+      λ some. (
+        some.0,
+        some.1,
+        some.2,
+        some.3,
+        (same (head_row request.head checkpoint some.1)
+            (listed-row request.head checkpoint some.0 some.1 some.2 some.3)).1 some.4,
+      ),
+    )
+
+holds-same : (request : LogRequest) (rows : List AcceptedRow) → AgreeOnListed request rows → (link : Link)
+    → HoldsOfLog request link ↔ HoldsOfLog (with_accepted request rows) link
+holds-same request rows agree Checkpoint = (λ h. h, λ h. h)
+holds-same request rows agree NoteKey = (
+  λ h. (h.0, h.1, (signed-same request rows h.0 h.1 agree).0 h.2),
+  λ h. (h.0, h.1, (signed-same request rows h.0 h.1 agree).1 h.2),
+)
+holds-same request rows agree NoteMatch = (λ h. h, λ h. h)
+holds-same request rows agree Inclusion = (λ h. h, λ h. h)
+holds-same request rows agree other = (λ h. tt, λ h. tt)
+
+log-alike : (text other : List ℕ) (request : LogRequest) (rows : List AcceptedRow)
+    → IsRequestOf log_request text request
+    → IsRequestOf log_request other (with_accepted request rows) → AgreeOnListed request rows → AreAlike Log text other
+log-alike text other request rows is other_is agree =
+    let changed : LogRequest = with_accepted request rows in
+    record {
+      holds = λ link. (
+        λ h. (
+          changed,
+          other_is,
+          (holds-same request rows agree link).0
+              (subst (λ (r : LogRequest). HoldsOfLog r link) (one_request log_request text h.0 request h.1 is) h.2),
+        ),
+        λ h. (
+          request,
+          is,
+          (holds-same request rows agree link).1
+              (subst (λ (r : LogRequest). HoldsOfLog r link)
+              (one_request log_request other h.0 changed h.1 other_is) h.2),
+        ),
+      );
+      succeeds = λ reply. (
+        λ s. λ r r_is. subst (λ (q : LogRequest). IsLoggedReply q reply)
+            (one_request log_request other changed r other_is r_is)
+            (s request is),
+        λ s. λ r r_is. subst (λ (q : LogRequest). IsLoggedReply q reply)
+            (one_request log_request text request r is r_is)
+            (s changed other_is),
+      );
+    }
+
+pub log_questions_suffice : LogQuestionsSuffice
+log_questions_suffice text other request rows is other_is agree reply =
+    let alike = log-alike text other request rows is other_is agree in (
+      alike-reply Log text other alike reply,
+      alike-reply Log other text (alike-other Log text other alike) reply,
+    )

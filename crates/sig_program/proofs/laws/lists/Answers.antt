@@ -1,0 +1,14 @@
+-- Nothing else matters, and a link that is named is the first that fails whatever is accepted.
+use Rattle.sig_program.proofs.Sufficing.{log_questions_suffice}
+use Rattle.sig_program.proofs.VerifyQuestionReplies.{refuses_for_all}
+use Rattle.sig_program.proofs.VerifySufficing.{verify_questions_suffice}
+use Rattle.sig_program.proofs.laws.lists.Goals as goal
+
+pub returns-clause-log : goal.returns-clause-log
+returns-clause-log c = log_questions_suffice
+
+pub returns-clause-verify : goal.returns-clause-verify
+returns-clause-verify c = verify_questions_suffice c.questions_suffice.ensures
+
+pub returns-clause-refusals : goal.returns-clause-refusals
+returns-clause-refusals c = refuses_for_all c.refusals.ensures

@@ -1,0 +1,9 @@
+-- The document lists the signatures so far.
+use Rattle.sig_json.specs.Tree.{document_tree}
+use Rattle.sig_program.proofs.RowsTexts.{IsListed}
+use Rattle.sig_program.specs.LogQuestions.{head_rows}
+use Rattle.sig_program.proofs.log_questions.note_document.Given as goal
+
+abbrev pub invariant-signatures : goal.invariant-signatures
+invariant-signatures l =
+    IsListed (head_rows l.head l.checkpoint) l.signature-index (document_tree l.list) l.size

@@ -1,0 +1,11 @@
+-- The links of `verify_offline`, of the texts and the time that the request holds.
+use Rattle.std.proofs.Common.{arith, rules, sym, w64, FitsSigned, ◌∙◌}
+use Rattle.std.proofs.lemmas.Int.{ints, to_z-of_z}
+use Rattle.sig_program.proofs.verify.verify_chain.Goals as goal
+
+pub returns-clause-links : goal.returns-clause-links
+returns-clause-links c =
+    let fits : FitsSigned w64 c.now_of-now.result = first_of
+    (omega (arith, ints, c.now_of-now.type_inv), search rules) in
+    let now = to_z-of_z w64 c.now_of-now.result fits ∙ c.now_of-now.ensures in
+    rw (sym c.trusted_root_of.ensures, sym c.bundle_of.ensures, sym now) c.verify_offline.ensures.links

@@ -1,0 +1,19 @@
+-- The commands, by their words.
+use Rattle.std.specs.Prelude.{◌≡◌, ℕ, List, [], ◌∷◌, codes}
+use Rattle.sig_program.specs.declared.command.Command.{Command}
+use Rattle.sig_program.specs.declared.command.Command.TheVariants.{Log, Verify, Consistency}
+use Rattle.sig_program.specs.declared.command.Command.TheVariants.{LogQuestions, VerifyQuestions}
+
+abbrev pub words_of : Command → List (List ℕ)
+words_of Log = codes "log" ∷ []
+words_of Verify = codes "verify" ∷ []
+words_of Consistency = codes "consistency" ∷ []
+words_of LogQuestions = codes "questions" ∷ codes "log" ∷ []
+words_of VerifyQuestions = codes "questions" ∷ codes "verify" ∷ []
+
+-- the words are the command's own
+abbrev pub Names : List (List ℕ) → Command → Type 0
+Names words command = words ≡ words_of command
+
+abbrev pub IsCommand : List (List ℕ) → Type 0
+IsCommand words = (command : Command) × Names words command

@@ -1,0 +1,66 @@
+-- The links of each command, in their order.
+use Rattle.std.specs.Prelude.{ℕ, List, [], ◌∷◌, Option}
+use Rattle.std.specs.List.{AllByRecursion}
+use Rattle.sig_base.specs.Rules.{FailsFirst}
+use Rattle.sig_program.specs.declared.command.Command.{Command}
+use Rattle.sig_program.specs.declared.command.Command.TheVariants.{Log, Verify, Consistency, LogQuestions}
+use Rattle.sig_program.specs.declared.command.Command.TheVariants.{VerifyQuestions}
+use Rattle.sig_verify.specs.declared.link.Link.{Link}
+use Rattle.sig_verify.specs.declared.link.Link.TheVariants.{Request, Checkpoint, NoteKey, NoteMatch, Inclusion}
+use Rattle.sig_program.specs.declared.request.LogRequest.{LogRequest}
+use Rattle.sig_program.specs.Head.{HoldsOfHead}
+use Rattle.sig_program.specs.ProofOf.{IsProofOf}
+use Rattle.sig_program.specs.Request.{log_request}
+use Rattle.sig_program.specs.VerifyLink.{HoldsVerify, verify_links}
+use Rattle.sig_program.specs.ConsistencyLink.{HoldsConsistency, consistency_links}
+use Rattle.sig_program.specs.LogQuestions.{HoldsLogQuestions, log_question_links}
+use Rattle.sig_program.specs.VerifyQuestions.{HoldsVerifyQuestions, verify_question_links}
+use Rattle.sig_program.specs.ReadFrom.{IsRequestOf}
+use Rattle.sig_program.specs.Verdict.{IsLinkVerdict}
+
+-- the links of `log`
+abbrev pub log_links : List Link
+log_links = Request ∷ Checkpoint ∷ NoteKey ∷ NoteMatch ∷ Inclusion ∷ []
+
+abbrev pub links : Command → List Link
+links Log = log_links
+links Verify = verify_links
+links Consistency = consistency_links
+links LogQuestions = log_question_links
+links VerifyQuestions = verify_question_links
+
+-- the proof is one of the entry
+abbrev pub IsLogged : LogRequest → Type 0
+IsLogged request = IsProofOf request.entry request.proof
+
+-- what a link asks of the head of a request of `log`: that of the proof's tree
+abbrev pub HoldsOfLogHead : LogRequest → Link → Type 0
+HoldsOfLogHead request = HoldsOfHead request.head request.proof.tree_size request.proof.root_hash
+
+-- what a link asks of a request of `log`, of which all links before it hold
+abbrev pub HoldsOfLog : LogRequest → Link → Type 0
+HoldsOfLog request Checkpoint = HoldsOfLogHead request Checkpoint
+HoldsOfLog request NoteKey = HoldsOfLogHead request NoteKey
+HoldsOfLog request NoteMatch = HoldsOfLogHead request NoteMatch
+HoldsOfLog request Inclusion = IsLogged request
+HoldsOfLog request other = Unit {0}
+
+-- a link holds of a text: the text is a request of the command, and the link holds of it
+abbrev pub Holds : Command → List ℕ → Link → Type 0
+Holds Log text link = (request : LogRequest) × IsRequestOf log_request text request × HoldsOfLog request link
+Holds Verify text link = HoldsVerify text link
+Holds Consistency text link = HoldsConsistency text link
+Holds LogQuestions text link = HoldsLogQuestions text link
+Holds VerifyQuestions text link = HoldsVerifyQuestions text link
+
+-- every link of the command holds of a text
+abbrev pub EveryLinkHolds : Command → List ℕ → Type 0
+EveryLinkHolds command text = AllByRecursion (Holds command text) (links command)
+
+-- of the command's links, the first that does not hold of a text
+abbrev pub IsFirstFailing : Command → List ℕ → Link → Type 0
+IsFirstFailing command text link = FailsFirst (Holds command text) (links command) link
+
+-- the first failing link of a request, or none
+abbrev pub IsLogVerdict : LogRequest → Option Link → Type 0
+IsLogVerdict request = IsLinkVerdict (HoldsOfLog request) log_links

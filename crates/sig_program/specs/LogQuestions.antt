@@ -1,0 +1,50 @@
+-- What `questions log` writes: every signature that a request of `log` can rest on.
+use Rattle.std.specs.Prelude.{◌≡◌, ℕ, ◌≤◌, List, [], ◌∷◌, length, map, Option, Some, None}
+use Rattle.sig_base.specs.declared.checker.AcceptedRow.{AcceptedRow}
+use Rattle.sig_rekor.specs.CheckpointText.{IsCheckpoint}
+use Rattle.sig_rekor.specs.declared.checkpoint.SignedCheckpoint.{SignedCheckpoint}
+use Rattle.sig_verify.specs.declared.link.Link.{Link}
+use Rattle.sig_verify.specs.declared.link.Link.TheVariants.{Request, Checkpoint}
+use Rattle.sig_program.specs.Head.{OfHeadCheckpoint, head_row}
+use Rattle.sig_program.specs.Limit.{most_bytes}
+use Rattle.sig_program.specs.Request.{log_request}
+use Rattle.sig_program.specs.RowsText.{rows_text}
+use Rattle.sig_program.specs.declared.head.SignedHead.{SignedHead}
+use Rattle.sig_program.specs.declared.request.LogRequest.{LogRequest}
+use Rattle.sig_program.specs.ReadFrom.{IsRequestOf}
+
+-- each signature of the checkpoint over its note, under the log's scheme and key, in order
+abbrev pub head_rows : SignedHead → SignedCheckpoint → List AcceptedRow
+head_rows head checkpoint = map (head_row head checkpoint) checkpoint.signatures
+
+-- the signatures that a request of `log` asks for
+abbrev pub AreLogQuestions : LogRequest → List AcceptedRow → Type 0
+AreLogQuestions request rows = OfHeadCheckpoint request.head (λ checkpoint. rows ≡ head_rows request.head checkpoint)
+
+-- their list has at most as many bytes as a request may have, so that a request can give them back
+abbrev pub LogQuestionsFit : LogRequest → Type 0
+LogQuestionsFit request =
+    (checkpoint : SignedCheckpoint) → IsCheckpoint request.head.checkpoint checkpoint
+    → length (rows_text (head_rows request.head checkpoint)) ≤ most_bytes
+
+-- the links of `questions log`: those of `log` before it asks for a signature
+abbrev pub log_question_links : List Link
+log_question_links = Request ∷ Checkpoint ∷ []
+
+-- what a link asks of a request
+abbrev pub HoldsOfLogQuestions : LogRequest → Link → Type 0
+HoldsOfLogQuestions request Request = LogQuestionsFit request
+HoldsOfLogQuestions request Checkpoint = OfHeadCheckpoint request.head (λ _. Unit {0})
+HoldsOfLogQuestions request other = Unit {0}
+
+-- a link holds of a text: the text is a request of `log`, and the link holds of it
+abbrev pub HoldsLogQuestions : List ℕ → Link → Type 0
+HoldsLogQuestions text link =
+    (request : LogRequest) × IsRequestOf log_request text request × HoldsOfLogQuestions request link
+
+-- the one checkpoint that the text of a head is, or none
+abbrev pub IsCheckpointOf : SignedHead → Option SignedCheckpoint → Type 0
+IsCheckpointOf head None = (checkpoint : SignedCheckpoint) → ¬ IsCheckpoint head.checkpoint checkpoint
+IsCheckpointOf head (Some checkpoint) =
+    IsCheckpoint head.checkpoint checkpoint
+    × ((other : SignedCheckpoint) → IsCheckpoint head.checkpoint other → other ≡ checkpoint)

@@ -1,0 +1,128 @@
+-- The reply to a request.
+use Rattle.std.specs.Prelude.{◌≡◌, ℕ, ◌<◌, ◌≤◌, ◌⊎◌, ◌↔◌, List, ◌++◌, length, codes, decimal, Contains}
+use Rattle.std.specs.Fmt.{signed_decimal}
+use Rattle.sig_rekor.specs.declared.inclusion_proof.InclusionProof.{InclusionProof}
+use Rattle.sig_program.specs.declared.command.Command.{Command}
+use Rattle.sig_program.specs.declared.command.Command.TheVariants.{Log, Verify, Consistency, LogQuestions}
+use Rattle.sig_program.specs.declared.command.Command.TheVariants.{VerifyQuestions}
+use Rattle.sig_questions.specs.Asked.{IsAskedBy}
+use Rattle.sig_questions.specs.Questions.{AreQuestions}
+use Rattle.sig_verify.specs.Link.{link_name}
+use Rattle.sig_verify.specs.LinkLaws.{IsKept}
+use Rattle.sig_verify.specs.Links.{OfPassed}
+use Rattle.sig_verify.specs.declared.link.Link.{Link}
+use Rattle.sig_verify.specs.declared.link.Link.TheVariants.{Request}
+use Rattle.sig_verify.specs.declared.offline.Offline.{Offline}
+use Rattle.sig_program.specs.declared.request.LogRequest.{LogRequest}
+use Rattle.sig_program.specs.declared.reply.Reply.{Reply}
+use Rattle.sig_program.specs.Request.{log_request}
+use Rattle.sig_program.specs.SecondLine.{IsSecondLine}
+use Rattle.sig_program.specs.ConsistencyRequest.{consistency_request}
+use Rattle.sig_program.specs.declared.consistency_request.ConsistencyRequest.{ConsistencyRequest}
+use Rattle.sig_program.specs.VerifyLink.{inputs}
+use Rattle.sig_program.specs.VerifyRequest.{verify_request}
+use Rattle.sig_program.specs.declared.verify_request.VerifyRequest.{VerifyRequest}
+use Rattle.sig_program.specs.Link.{EveryLinkHolds, IsFirstFailing}
+use Rattle.sig_base.specs.declared.checker.AcceptedRow.{AcceptedRow}
+use Rattle.sig_program.specs.Limit.{most_bytes}
+use Rattle.sig_program.specs.LogQuestions.{AreLogQuestions}
+use Rattle.sig_program.specs.RowsText.{IsReadBack, rows_text}
+use Rattle.sig_program.specs.ReadFrom.{IsRequestOf}
+
+-- status 2 for the link `request`, 1 for every other
+abbrev pub status_of : Link → ℕ
+status_of Request = 2
+status_of other = 1
+
+-- the reply where this link is the first that fails
+abbrev pub refusal_reply : Link → Reply
+refusal_reply link = record { status = status_of link; text = codes "refused " ++ (link_name link ++ codes "\n") }
+
+-- the reply where every link holds: the index and the size of the inclusion proof, and the second line
+abbrev pub success : List ℕ → InclusionProof → List ℕ → Reply
+success word proof second = record {
+  status = 0;
+  text =
+      word ++ (signed_decimal proof.log_index ++
+      (codes " " ++ (decimal proof.tree_size ++ (codes "\n" ++ second))));
+}
+
+abbrev pub logged : InclusionProof → List ℕ → Reply
+logged = success (codes "logged ")
+
+abbrev pub verified : InclusionProof → List ℕ → Reply
+verified = success (codes "verified ")
+
+-- the proof of a request of `log`, and what the log's entries say of its entry
+abbrev pub IsLoggedReply : LogRequest → Reply → Type 0
+IsLoggedReply request reply =
+    (second : List ℕ) × IsSecondLine request.entries request.entry request.proof second
+    × (reply ≡ logged request.proof second)
+
+-- the log entry of the request's bundle: its body, with the proof that its members are
+abbrev pub IsEntryIn : VerifyRequest → Offline → Type 0
+IsEntryIn request offline = OfPassed (inputs request) (λ c. IsKept c.entry offline)
+
+-- the proof of the log entry of the bundle of a request of `verify`, and what the log's entries say of the logged body
+abbrev pub IsVerifiedReply : VerifyRequest → Offline → Reply → Type 0
+IsVerifiedReply request offline reply =
+    (second : List ℕ) × IsSecondLine request.entries offline.body offline.proof second
+    × (reply ≡ verified offline.proof second)
+
+-- the reply of `consistency` where every link holds: the old and the new size
+abbrev pub consistent : ConsistencyRequest → Reply
+consistent request = record {
+  status = 0;
+  text =
+      codes "consistent " ++ (decimal request.old_size ++
+      (codes " " ++ (decimal request.tree_size ++ codes "\n")));
+}
+
+-- the reply of `questions`: the document of the signatures that are asked for, and a newline
+abbrev pub listed : List ℕ → Reply
+listed document = record { status = 0; text = document ++ codes "\n" }
+
+-- the reply to a request that asks for these signatures: their document, which is read back as them, if it has at most
+-- as many bytes as a request may have
+abbrev pub IsListingOf : List AcceptedRow → Reply → Type 0
+IsListingOf rows reply =
+    ((length (rows_text rows) ≤ most_bytes) × IsReadBack rows × (reply ≡ listed (rows_text rows)))
+    ⊎ ((most_bytes < length (rows_text rows)) × (reply ≡ refusal_reply Request))
+
+-- the reply lists the signatures that a request of `log` asks for, and is read back as them
+abbrev pub IsLogQuestionsReply : LogRequest → Reply → Type 0
+IsLogQuestionsReply request reply =
+    (rows : List AcceptedRow) × AreLogQuestions request rows × IsReadBack rows × (reply ≡ listed (rows_text rows))
+
+-- the reply lists the signatures that the links of a request of `verify` ask for, each of them and no other, in the
+-- order of the links, and is read back as them
+abbrev pub IsVerifyQuestionsReply : VerifyRequest → Reply → Type 0
+IsVerifyQuestionsReply request reply =
+    (rows : List AcceptedRow) × AreQuestions (inputs request) rows
+    × ((row : AcceptedRow) → Contains rows row ↔ IsAskedBy (inputs request) row)
+    × IsReadBack rows × (reply ≡ listed (rows_text rows))
+
+-- the reply of a command to a text of which every link holds: `log` shows the proof of the one request that the text
+-- is, `verify` that of the log entry of its bundle, and `consistency` the two sizes of its request; behind a proof,
+-- where the request gives the log's entries, comes the second line; `questions` lists the signatures that the
+-- command asks for
+abbrev pub Succeeds : Command → List ℕ → Reply → Type 0
+Succeeds Log text reply =
+    (request : LogRequest) → IsRequestOf log_request text request → IsLoggedReply request reply
+Succeeds Verify text reply =
+    (request : VerifyRequest) → IsRequestOf verify_request text request
+    → (offline : Offline) × IsEntryIn request offline × IsVerifiedReply request offline reply
+Succeeds Consistency text reply =
+    (request : ConsistencyRequest) → IsRequestOf consistency_request text request → reply ≡ consistent request
+Succeeds LogQuestions text reply =
+    (request : LogRequest) → IsRequestOf log_request text request → IsLogQuestionsReply request reply
+Succeeds VerifyQuestions text reply =
+    (request : VerifyRequest) → IsRequestOf verify_request text request → IsVerifyQuestionsReply request reply
+
+-- the reply to a request's text: the success line if and only if every link of the command holds, else the first link
+-- that fails
+pub record IsReply (command : Command) (text : List ℕ) (reply : Reply) : Type 0 where
+  pub decided : EveryLinkHolds command text ⊎ ((link : Link) × IsFirstFailing command text link)
+  pub succeeds : (reply.status ≡ 0) ↔ EveryLinkHolds command text
+  pub vouched : EveryLinkHolds command text → Succeeds command text reply
+  pub refused : (link : Link) → IsFirstFailing command text link → reply ≡ refusal_reply link

@@ -1,0 +1,70 @@
+-- What a run reads, replies and writes.
+use Rattle.std.specs.Prelude.{◌≡◌, ℕ, ◌⊎◌, List, [], ◌∷◌, ◌++◌, Option, None, Some, codes, ⊤}
+use Rattle.std.specs.Io.KnownBytes.{Appends}
+use Rattle.std.specs.List.{AllByRecursion}
+use Rattle.sig_base.specs.Stream.{Rose}
+use Rattle.sig_program.specs.Command.{IsCommand, Names}
+use Rattle.sig_program.specs.Limit.{TakesRequest}
+use Rattle.sig_program.specs.Reply.{IsReply}
+use Rattle.sig_program.specs.declared.command.Command.{Command}
+use Rattle.sig_program.specs.declared.reply.Reply.{Reply}
+
+-- the line that is written for words that name no command
+abbrev pub usage_line : List ℕ
+usage_line = codes "usage\n"
+
+-- the command's reply to the request that was taken from the source
+pub record RepliesTo (command : Command) (old new : Option (List ℕ)) (reply : Reply) : Type 0 where
+  pub text : List ℕ
+  pub request : TakesRequest old new text
+  pub meant : IsReply command text reply
+
+-- the run replied to a request of the command that the words name, and wrote the whole reply and nothing else
+pub record Answered (words : List (List ℕ)) (left_old left_new taken_old taken_new : Option (List ℕ))
+    (status : ℕ) : Type 0 where
+  pub command : Command
+  pub named : Names words command
+  pub reply : Reply
+  pub replies : RepliesTo command left_old left_new reply
+  pub answer : status ≡ reply.status
+  pub written : Appends taken_old taken_new reply.text
+
+-- what a run writes: the text of the reply of the command that the words name, or the line for other words
+abbrev pub IsOutput : List (List ℕ) → Option (List ℕ) → Option (List ℕ) → List ℕ → Type 0
+IsOutput words left_old left_new bytes =
+    ((command : Command) × Names words command × ((reply : Reply) × RepliesTo command left_old left_new reply
+    × (bytes ≡ reply.text)))
+    ⊎ (¬ IsCommand words × (bytes ≡ usage_line))
+
+-- a prefix of the bytes was written, and nothing else
+abbrev pub AppendsFront : Option (List ℕ) → Option (List ℕ) → List ℕ → Type 0
+AppendsFront old new bytes = (front : List ℕ) × (rest : List ℕ) × (bytes ≡ front ++ rest) × Appends old new front
+
+-- a write failed: the sink's count of faults rose, and a prefix of the output was written
+pub record WriteFaulted (words : List (List ℕ)) (left_old left_new : Option (List ℕ)) (before now : ℕ)
+    (taken_old taken_new : Option (List ℕ)) : Type 0 where
+  pub bytes : List ℕ
+  pub output : IsOutput words left_old left_new bytes
+  pub rose : Rose before now
+  pub written : AppendsFront taken_old taken_new bytes
+
+-- a read failed: the source's count of faults rose, and nothing was written
+abbrev pub ReadFaulted : {K : Type 0} → List (List ℕ) → ℕ → ℕ → K → K → Type 0
+ReadFaulted words before now sink_old sink_new = IsCommand words × Rose before now × (sink_new ≡ sink_old)
+
+-- the piece is all that is left of the bytes behind some front
+abbrev pub IsRestOf : List ℕ → List ℕ → Type 0
+IsRestOf bytes piece = (front : List ℕ) × (bytes ≡ front ++ piece)
+
+-- each piece that was handed over is all that was left of the bytes
+abbrev pub HandsRests : Option (List (List ℕ)) → Option (List (List ℕ)) → List ℕ → Type 0
+HandsRests None new bytes = ⊤
+HandsRests (Some before) new bytes =
+    (pieces : List (List ℕ)) × (new ≡ Some (before ++ pieces)) × AllByRecursion (IsRestOf bytes) pieces
+
+-- of the output, each write was handed all that was left; where there is none, nothing was handed over
+abbrev pub WritesRests : List (List ℕ) → Option (List ℕ) → Option (List ℕ) → Option (List (List ℕ))
+    → Option (List (List ℕ)) → Type 0
+WritesRests words left_old left_new handed_old handed_new =
+    (handed_new ≡ handed_old) ⊎ ((bytes : List ℕ) × IsOutput words left_old left_new bytes
+    × HandsRests handed_old handed_new bytes)

@@ -1,0 +1,43 @@
+//! The commands of the program.
+ghost use Rattle.std.specs.Prelude.{MatchOption};
+ghost use Rattle.sig_program.specs.Command.{IsCommand, Names};
+
+use sig_base::Text;
+
+/// A command: what a request is asked for.
+#[derive(Clone, Copy, PartialEq, Eq)]
+pub enum Command {
+    /// `log`: is this entry in the log, and does the log vouch for it?
+    Log,
+    /// `verify`: may this artifact be trusted, by this bundle?
+    Verify,
+    /// `consistency`: does the log still have the entries that it had?
+    Consistency,
+    /// `questions log`: which signatures can the reply of `log` rest on?
+    LogQuestions,
+    /// `questions verify`: which signatures can the reply of `verify` rest on?
+    VerifyQuestions,
+}
+
+impl Command {
+    /// Returns the command that the words name; `None` if and only if they name none. It takes no memory.
+    #[tactic(auto, using(crate::proofs::Runs::runs))]
+    pub fn named(words: &[Text]) -> Option<Command>
+        ensures { MatchOption result (¬ IsCommand words.now) (Names words.now) }
+    {
+        match words {
+            [word] => match word.as_str() {
+                "log" => Some(Command::Log),
+                "verify" => Some(Command::Verify),
+                "consistency" => Some(Command::Consistency),
+                _ => None,
+            },
+            [first, second] => match (first.as_str(), second.as_str()) {
+                ("questions", "log") => Some(Command::LogQuestions),
+                ("questions", "verify") => Some(Command::VerifyQuestions),
+                _ => None,
+            },
+            _ => None,
+        }
+    }
+}

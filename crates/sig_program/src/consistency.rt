@@ -1,0 +1,61 @@
+//! The command `consistency`: does the log still have the entries that it had, and does it vouch for that?
+ghost use Rattle.std.specs.Prelude.{◌↔◌, IfOk, IsTrue};
+ghost use Rattle.sig_program.specs.ConsistencyLink.{IsConsistencyVerdict, IsGrown};
+ghost use Rattle.sig_program.specs.Reply.{IsReply};
+ghost use Rattle.sig_program.specs.declared.command.Command.TheVariants.{Consistency};
+
+use crate::consistency_request::ConsistencyRequest;
+use crate::head::failing_link_of;
+use crate::reply::Reply;
+use sig_base::OutOfMemory;
+use sig_merkle::uncounted::verify_consistency;
+use sig_verify::Link;
+use std::alloc::Global;
+
+/// Returns the reply to a request's text: `consistent M N`, the old and the new size, with status 0 if every link
+/// holds, else `refused NAME` for the first that fails, with status 2 for the link `request` and 1 for every other.
+/// Fails if out of memory alone.
+pub fn consistency_reply(alloc: Global, request: &[u8]) -> Result<Reply, OutOfMemory>
+    ensures { IfOk result (IsReply Consistency request.now) }
+{
+    let Some(request) = ConsistencyRequest::read(alloc, request)? else {
+        return Reply::refused(alloc, Link::Request);
+    };
+    match failing_link(alloc, &request)? {
+        Some(link) => Reply::refused(alloc, link),
+        None => Reply::consistent(alloc, &request),
+    }
+}
+
+/// The first link that fails of a request, or none.
+#[tactic(auto, using(crate::proofs::ConsistencyVerdicts::verdicts))]
+fn failing_link(alloc: Global, request: &ConsistencyRequest) -> Result<Option<Link>, OutOfMemory>
+    ensures { IfOk result (IsConsistencyVerdict request.now) }
+{
+    if let Some(link) = failing_link_of(
+        alloc,
+        &request.head,
+        request.tree_size,
+        &request.root_hash,
+    )? {
+        return Ok(Some(link));
+    }
+    if !is_grown(request) {
+        return Ok(Some(Link::Consistency));
+    }
+    Ok(None)
+}
+
+/// Whether the hashes show that the tree has the older one as its first leaves.
+fn is_grown(request: &ConsistencyRequest) -> bool
+    ensures { IsTrue result ↔ IsGrown request.now }
+{
+    verify_consistency(
+        request.old_size,
+        request.tree_size,
+        request.hashes.as_slice(),
+        &request.old_root,
+        &request.root_hash,
+    )
+    .is_ok()
+}

@@ -1,0 +1,84 @@
+//! The head of a log that a request gives: the checkpoint that is to vouch for the size and root of its tree.
+ghost use Rattle.std.specs.Prelude.{◌↔◌, IfOk, IsTrue};
+ghost use Rattle.sig_program.specs.Head.{IsHeadVerdict, IsHeadVerdictUnder, IsMatched, HasAcceptedSignature};
+
+use sig_base::{Bytes, OutOfMemory, SigningScheme, SigstoreError, TableChecker, Text};
+use sig_key::CosignVerificationKey;
+use sig_rekor::{ParseCheckpointError, SignedNote};
+use sig_verify::Link;
+use std::alloc::Global;
+
+/// The checkpoint of a log, and what its signatures are checked by.
+#[derive(Drop)]
+pub struct SignedHead {
+    /// A signed note with the log's size and root.
+    pub checkpoint: Text,
+    /// The scheme of the log's key.
+    pub scheme: SigningScheme,
+    /// The log's key (DER).
+    pub key: Bytes,
+    /// The signatures that are taken for genuine.
+    pub accepted: TableChecker,
+}
+
+/// The first link that fails of the head of a tree of this size and root, or none.
+pub fn failing_link_of(
+    alloc: Global,
+    head: &SignedHead,
+    size: u64,
+    root: &[u8; 32],
+) -> Result<Option<Link>, OutOfMemory>
+    ensures { IfOk result (IsHeadVerdict head.now size root.now) }
+{
+    match SignedNote::decode(alloc, head.checkpoint.as_str()) {
+        Ok(checkpoint) => failing_link_under(alloc, head, size, root, &checkpoint),
+        Err(ParseCheckpointError::DecodeError(_)) => Ok(Some(Link::Checkpoint)),
+        Err(ParseCheckpointError::OutOfMemory) => Err(OutOfMemory),
+    }
+}
+
+/// The first link behind the checkpoint that fails, or none.
+fn failing_link_under(
+    alloc: Global,
+    head: &SignedHead,
+    size: u64,
+    root: &[u8; 32],
+    checkpoint: &SignedNote<'_>,
+) -> Result<Option<Link>, OutOfMemory>
+    ensures { IfOk result (IsHeadVerdictUnder head.now size root.now checkpoint.now) }
+{
+    if !has_accepted_signature(alloc, head, checkpoint)? {
+        return Ok(Some(Link::NoteKey));
+    }
+    if !is_matched(size, root, checkpoint) {
+        return Ok(Some(Link::NoteMatch));
+    }
+    Ok(None)
+}
+
+/// Whether one of the checkpoint's signatures over its note is accepted under the log's scheme and key.
+fn has_accepted_signature(
+    alloc: Global,
+    head: &SignedHead,
+    checkpoint: &SignedNote<'_>,
+) -> Result<bool, OutOfMemory>
+    ensures { IfOk result (λ signed. IsTrue signed ↔ HasAcceptedSignature head.now checkpoint.now) }
+{
+    let der = head.key.as_slice();
+    // Both calls fail otherwise only if out of memory.
+    let Ok(key) = CosignVerificationKey::from_der(alloc, der, &head.scheme) else {
+        return Err(OutOfMemory);
+    };
+    match checkpoint.verify_signature(alloc, &key, &head.accepted) {
+        Ok(()) => Ok(true),
+        Err(SigstoreError::CheckpointSignatureVerificationError) => Ok(false),
+        Err(_) => Err(OutOfMemory),
+    }
+}
+
+/// Whether the checkpoint's note speaks of a tree of this size and root.
+fn is_matched(size: u64, root: &[u8; 32], checkpoint: &SignedNote<'_>) -> bool
+    ensures { IsTrue result ↔ IsMatched size root.now checkpoint.now }
+{
+    checkpoint.is_valid_for_proof(root, size).is_ok()
+}

@@ -1,0 +1,78 @@
+//! The command `log`: is this entry in the log, and does the log vouch for it?
+ghost use Rattle.std.specs.Prelude.{◌↔◌, IfOk, IsTrue};
+ghost use Rattle.sig_program.specs.Link.{IsLogged, IsLogVerdict};
+ghost use Rattle.sig_program.specs.Reply.{IsLoggedReply, IsReply};
+ghost use Rattle.sig_program.specs.declared.command.Command.TheVariants.{Log};
+
+use crate::head::failing_link_of;
+use crate::reply::Reply;
+use crate::request::LogRequest;
+use crate::second_line::second_line;
+use sig_base::OutOfMemory;
+use sig_merkle::hash_leaf;
+use sig_merkle::uncounted::verify_inclusion;
+use sig_verify::Link;
+use std::alloc::Global;
+
+/// Returns the reply to a request's text: `logged I N` with status 0 if every link holds, and the second line where the
+/// request gives the log's entries, else `refused NAME` for the first link that fails, with status 2 for the link
+/// `request` and 1 for every other. Fails if out of memory alone.
+pub fn log_reply(alloc: Global, request: &[u8]) -> Result<Reply, OutOfMemory>
+    ensures { IfOk result (IsReply Log request.now) }
+{
+    let Some(request) = LogRequest::read(alloc, request)? else {
+        return Reply::refused(alloc, Link::Request);
+    };
+    match failing_link(alloc, &request)? {
+        Some(link) => Reply::refused(alloc, link),
+        None => logged(alloc, &request),
+    }
+}
+
+/// The reply to a request of which every link holds.
+fn logged(alloc: Global, request: &LogRequest) -> Result<Reply, OutOfMemory>
+    requires { IsLogged request.now }
+    ensures { IfOk result (IsLoggedReply request.now) }
+{
+    let second = second_line(
+        alloc,
+        &request.entries,
+        request.entry.as_slice(),
+        &request.proof,
+    )?;
+    Reply::logged(alloc, &request.proof, &second)
+}
+
+/// The first link that fails of a request, or none.
+#[tactic(auto, using(crate::proofs::LogVerdicts::verdicts))]
+fn failing_link(alloc: Global, request: &LogRequest) -> Result<Option<Link>, OutOfMemory>
+    ensures { IfOk result (IsLogVerdict request.now) }
+{
+    let proof = &request.proof;
+    if let Some(link) = failing_link_of(alloc, &request.head, proof.tree_size, &proof.root_hash)? {
+        return Ok(Some(link));
+    }
+    if !is_logged(request) {
+        return Ok(Some(Link::Inclusion));
+    }
+    Ok(None)
+}
+
+/// Whether the path leads from the entry's leaf to the root.
+#[tactic(auto, using(crate::proofs::Logged::logged))]
+fn is_logged(request: &LogRequest) -> bool
+    ensures { IsTrue result ↔ IsLogged request.now }
+{
+    let proof = &request.proof;
+    let Ok(index) = u64::try_from(proof.log_index) else {
+        return false;
+    };
+    verify_inclusion(
+        index,
+        &hash_leaf(request.entry.as_slice()),
+        proof.tree_size,
+        proof.hashes.as_slice(),
+        &proof.root_hash,
+    )
+    .is_ok()
+}

@@ -1,0 +1,159 @@
+//! The program but for its words and streams: it reads a request, and makes and writes the reply.
+ghost use Rattle.std.specs.Prelude.{◌≡◌, ◌⊎◌, ◌+◌, ◌<◌, ◌≤◌, IfOk, IsErrOf};
+ghost use Rattle.std.specs.Io.KnownBytes.{Appends};
+ghost use Rattle.sig_base.specs.Stream.{Rose, TookAtMost};
+ghost use Rattle.sig_program.specs.Command.{IsCommand};
+ghost use Rattle.sig_program.specs.Limit.{most_bytes};
+ghost use Rattle.sig_program.specs.Reply.{IsReply};
+ghost use Rattle.sig_program.specs.Run.{RepliesTo, Answered, ReadFaulted, WriteFaulted, HandsRests, WritesRests};
+ghost use Rattle.sig_program.specs.Run.{AppendsFront, usage_line};
+ghost use Rattle.sig_program.specs.Status.{usage_status, memory_status, fault_status};
+ghost use Rattle.sig_program.specs.Suffice.{LogQuestionsSuffice, VerifyQuestionsSuffice};
+ghost use Rattle.sig_program.specs.VerifyQuestions.{RefusesForAll};
+
+use crate::command::Command;
+use crate::consistency::consistency_reply;
+use crate::laws::lists;
+use crate::log::log_reply;
+use crate::log_questions::log_questions;
+use crate::read::{ReadFault, read_request};
+use crate::reply::{Reply, USAGE_LINE};
+use crate::verify::verify_reply;
+use crate::verify_questions::verify_questions;
+use crate::write::write_reply;
+use sig_base::{OutOfMemory, Sink, Source, Text};
+use sig_verify::Link;
+use std::alloc::Global;
+
+/// The status for words that are no command (EX_USAGE of sysexits.h).
+pub const USAGE: u8 = 64;
+
+/// The status for out of memory (EX_OSERR).
+pub const NO_MEMORY: u8 = 71;
+
+/// The status for a fault of the source or of the sink (EX_IOERR).
+pub const FAULT: u8 = 74;
+
+/// Why there is no reply to write.
+#[derive(Clone, Copy)]
+enum NoReply {
+    Failed,
+    OutOfMemory,
+}
+
+impl From<OutOfMemory> for NoReply {
+    ghost use Rattle.std.specs.Prelude.{◌≡◌};
+    ghost use Rattle.sig_program.specs.declared.run.NoReply.TheVariants.{OutOfMemory};
+
+    ghost from_gives = { λ _ e. e ≡ OutOfMemory };
+
+    fn from(_error: OutOfMemory) -> NoReply {
+        NoReply::OutOfMemory
+    }
+}
+
+/// Runs the command that the words name, and returns the program's status.
+///
+/// A command reads a request, at most 2^24 + 1 bytes of what the source has left, and writes one line: `logged I N` for
+/// `log`, `verified I N` for `verify` and `consistent M N` for `consistency`, with status 0, if every link of the
+/// command holds, else `refused NAME` for the first that fails, with status 1, or 2 for the link `request`. With
+/// status 0 of `log` or `verify` a second line follows if the request gives the log's entries: if they have the size
+/// and the RFC 6962 root of the proof, `entry I`, and the logged body is the entry at the index I, or
+/// `collision HEX HEX`, two different byte strings of equal SHA-256; else `other list`.
+///
+/// `questions log` and `questions verify` read a request of `log` or `verify`, and list the signatures that its reply
+/// can rest on, as a JSON list in the form of `accepted`, with status 0; else `refused NAME` for the first link that
+/// fails whatever signatures are accepted, and `refused request` for a list that has more than 2^24 bytes.
+///
+/// The reply is whole before its first byte is written, and each write is handed all that is left of it. Other
+/// statuses:
+///
+/// - 64: the words name no command. Nothing is read, no memory is taken (no call on the way has the allocator), and
+///   `usage` is written.
+/// - 71: out of memory; nothing is written.
+/// - 74, only if the count of faults of the source or of the sink rose: nothing is written after a fault of the
+///   source, and after one of the sink a prefix of the reply was.
+#[tactic(auto, using(crate::proofs::Runs::runs))]
+pub fn run<S: Source, K: Sink>(alloc: Global, words: &[Text], source: &mut S, sink: &mut K) -> u8
+    ensures status { (result < 3) ⊎ (result ≡ usage_status) ⊎ (result ≡ memory_status) ⊎ (result ≡ fault_status) }
+
+    // The headline: what `Answered` says of the reply is that every link holds if the status is 0, and that else it
+    // shows the first that fails; and of the log's entries, where they are given, what `IsSecondLine` says.
+    ensures answered { result < 3 →
+        Answered words.now (S.left source.old) (S.left source.new) (K.taken sink.old) (K.taken sink.new) result }
+    ensures usage { result ≡ usage_status → ¬ IsCommand words.now
+        × Appends (K.taken sink.old) (K.taken sink.new) usage_line }
+    ensures unread { ¬ IsCommand words.now → source.new ≡ source.old }
+    ensures most { TookAtMost (most_bytes + 1) (S.left source.old) (S.left source.new) }
+    ensures memory { result ≡ memory_status → IsCommand words.now × (sink.new ≡ sink.old) }
+    ensures fault { result ≡ fault_status →
+        ReadFaulted words.now (S.faults source.old) (S.faults source.new) sink.old sink.new
+        ⊎ WriteFaulted words.now (S.left source.old) (S.left source.new)
+        (K.faults sink.old) (K.faults sink.new) (K.taken sink.old) (K.taken sink.new) }
+    ensures pieces { WritesRests words.now (S.left source.old) (S.left source.new) (K.handed sink.old)
+        (K.handed sink.new) }
+    ensures later { (S.faults source.old ≤ S.faults source.new) × (K.faults sink.old ≤ K.faults sink.new) }
+
+    // Nothing else matters: of the accepted signatures of a request of `log`, those decide its reply that
+    // `questions log` lists, and of a request of `verify` those that `questions verify` lists.
+    ensures suffice { LogQuestionsSuffice × VerifyQuestionsSuffice }
+
+    // A link other than `request` is the first that fails in `questions verify` if and only if it is the first that
+    // fails in `verify`, whatever signatures are accepted and whatever the policy says.
+    ensures refusals { RefusesForAll }
+{
+    lists();
+    let Some(command) = Command::named(words) else {
+        return finish(sink, USAGE, USAGE_LINE.as_bytes());
+    };
+    match reply_to(alloc, command, source) {
+        Ok(reply) => finish(sink, reply.status, reply.text.as_str().as_bytes()),
+        Err(NoReply::Failed) => FAULT,
+        Err(NoReply::OutOfMemory) => NO_MEMORY,
+    }
+}
+
+/// Returns the command's reply to the request that the source has left.
+#[tactic(auto, using(crate::proofs::Runs::runs))]
+fn reply_to<S: Source>(alloc: Global, command: Command, source: &mut S) -> Result<Reply, NoReply>
+    ensures ok { IfOk result (RepliesTo command (S.left source.old) (S.left source.new)) }
+    ensures failed { IsErrOf result NoReply.Failed → Rose (S.faults source.old) (S.faults source.new) }
+    ensures most { TookAtMost (most_bytes + 1) (S.left source.old) (S.left source.new) }
+    ensures later { S.faults source.old ≤ S.faults source.new }
+{
+    match read_request(alloc, source) {
+        Ok(text) => Ok(reply_of(alloc, command, text.as_slice())?),
+        Err(ReadFault::TooLong) => Ok(Reply::refused(alloc, Link::Request)?),
+        Err(ReadFault::Failed) => Err(NoReply::Failed),
+        Err(ReadFault::OutOfMemory) => Err(NoReply::OutOfMemory),
+    }
+}
+
+/// Returns the command's reply to a request's text. Fails if out of memory alone.
+fn reply_of(alloc: Global, command: Command, request: &[u8]) -> Result<Reply, OutOfMemory>
+    ensures { IfOk result (IsReply command request.now) }
+{
+    match command {
+        Command::Log => log_reply(alloc, request),
+        Command::Verify => verify_reply(alloc, request),
+        Command::Consistency => consistency_reply(alloc, request),
+        Command::LogQuestions => log_questions(alloc, request),
+        Command::VerifyQuestions => verify_questions(alloc, request),
+    }
+}
+
+/// Writes the text, and returns the status, or that of a fault where a write failed. It takes no memory.
+fn finish<K: Sink>(sink: &mut K, status: u8, text: &[u8]) -> u8
+    requires { status < memory_status }
+    ensures written { result < memory_status → (result ≡ status)
+        × Appends (K.taken sink.old) (K.taken sink.new) text.now }
+    ensures fault { memory_status ≤ result → (result ≡ fault_status) × Rose (K.faults sink.old) (K.faults sink.new)
+        × AppendsFront (K.taken sink.old) (K.taken sink.new) text.now }
+    ensures pieces { HandsRests (K.handed sink.old) (K.handed sink.new) text.now }
+    ensures later { K.faults sink.old ≤ K.faults sink.new }
+{
+    match write_reply(sink, text) {
+        Ok(()) => status,
+        Err(_) => FAULT,
+    }
+}

@@ -1,0 +1,94 @@
+//! The second line of a reply: what the log's own entries say of the entry that the inclusion proof is of.
+//!
+//! ```text
+//! entry 2
+//! other list
+//! collision 00AB.. 00CD..
+//! ```
+ghost use Rattle.std.specs.Prelude.{◌≡◌, ◌↔◌, IfOk, IsTrue};
+ghost use Rattle.sig_base.specs.Collision.{IsCollision};
+ghost use Rattle.sig_program.specs.ProofOf.{IsProofOf};
+ghost use Rattle.sig_program.specs.SecondLine.{AreOfTree, IsLineOf, IsSecondLine, collision_line, entry_line};
+ghost use Rattle.sig_program.specs.SecondLine.{other_line};
+
+use sig_base::{Collision, Entries, OutOfMemory, Text};
+use sig_merkle::{inclusion_collision, root_of};
+use sig_rekor::InclusionProof;
+use std::alloc::Global;
+
+/// Returns the second line of a reply, empty if the request gives no entries:
+///
+/// - `other list` if the entries are not those of the proof's tree: their number is not its size, or their RFC 6962
+///   root is not its root;
+/// - `entry I` if they are, and the entry at the proof's index I is the logged body;
+/// - `collision HEX HEX` if they are, and it is not: two different byte strings of equal SHA-256, in lower case.
+///
+/// Fails if out of memory alone.
+pub fn second_line(
+    alloc: Global,
+    entries: &Option<Entries>,
+    body: &[u8],
+    proof: &InclusionProof,
+) -> Result<Text, OutOfMemory>
+    requires { IsProofOf body.now proof.now }
+    ensures { IfOk result (IsSecondLine entries.now body.now proof.now) }
+{
+    match entries {
+        Some(entries) => line_of(alloc, entries, body, proof),
+        None => Text::copy_of(alloc, ""),
+    }
+}
+
+/// The line of a list of entries.
+#[tactic(auto, using(crate::proofs::SecondLines::second_lines))]
+fn line_of(
+    alloc: Global,
+    entries: &Entries,
+    body: &[u8],
+    proof: &InclusionProof,
+) -> Result<Text, OutOfMemory>
+    requires { IsProofOf body.now proof.now }
+    ensures { IfOk result (IsLineOf entries.now body.now proof.now) }
+{
+    if !are_of_tree(entries, proof) {
+        return Text::copy_of(alloc, "other list\n");
+    }
+    // No leaf has a negative index.
+    let Ok(index) = u64::try_from(proof.log_index) else {
+        unreachable!()
+    };
+    match inclusion_collision(alloc, body, index, proof.hashes.as_slice(), entries)? {
+        None => entry_text(alloc, proof.log_index),
+        Some(found) => collision_text(alloc, &found),
+    }
+}
+
+/// Whether the entries have the size and the root of the proof's tree.
+#[tactic(auto, using(crate::proofs::SecondLines::whole_list))]
+fn are_of_tree(entries: &Entries, proof: &InclusionProof) -> bool
+    ensures { IsTrue result ↔ AreOfTree entries.now proof.now }
+{
+    if entries.len() as u64 != proof.tree_size {
+        return false;
+    }
+    if root_of(entries, entries.len()) != proof.root_hash {
+        return false;
+    }
+    true
+}
+
+/// `entry I`.
+fn entry_text(alloc: Global, index: i64) -> Result<Text, OutOfMemory>
+    ensures { IfOk result (λ line. line ≡ entry_line index) }
+{
+    Ok(Text::from(format!(in alloc; "entry {index}\n")?))
+}
+
+/// `collision HEX HEX`.
+fn collision_text(alloc: Global, found: &Collision) -> Result<Text, OutOfMemory>
+    ensures { IfOk result (λ line. line ≡ collision_line found.now.left found.now.right) }
+{
+    let left = hex::encode(alloc, found.left.as_slice())?;
+    let right = hex::encode(alloc, found.right.as_slice())?;
+    Ok(Text::from(format!(in alloc; "collision {left} {right}\n")?))
+}

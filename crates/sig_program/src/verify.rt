@@ -1,0 +1,82 @@
+//! The command `verify`: may this artifact be trusted, by this bundle?
+ghost use Rattle.std.specs.Prelude.{◌≡◌, ◌↔◌, IfOk};
+ghost use Rattle.sig_base.specs.Answers.{UnlessMemory};
+ghost use Rattle.sig_verify.specs.Judged.{Judged};
+ghost use Rattle.sig_verify.specs.Links.{chain_links};
+ghost use Rattle.sig_program.specs.Link.{EveryLinkHolds};
+ghost use Rattle.sig_program.specs.Reply.{IsEntryIn, IsReply, IsVerifiedReply};
+ghost use Rattle.sig_program.specs.ProofOf.{IsProofOf};
+ghost use Rattle.sig_program.specs.VerifyLink.{HoldsOfVerify, IsTrusted};
+ghost use Rattle.sig_program.specs.declared.command.Command.TheVariants.{Verify};
+
+use crate::brief_policy::BriefPolicy;
+use crate::reply::Reply;
+use crate::second_line::second_line;
+use crate::verify_request::{VerifyRequest, bundle_of, now_of, trusted_root_of};
+use sig_base::OutOfMemory;
+use sig_verify::{Link, Offline, OfflineError, verify_offline};
+use std::alloc::Global;
+
+/// Returns the reply to a request's text: `verified I N` with status 0 if every link holds, with the index and the
+/// size of the inclusion proof of the bundle's log entry, and the second line if the request gives the log's entries;
+/// else `refused NAME` for the first link that fails, with status 2 for the link `request` and 1 for every other. All
+/// links hold if and only if the text is a request with valid inputs, and the trust chain of its bundle holds. Fails if
+/// out of memory alone.
+pub fn verify_reply(alloc: Global, request: &[u8]) -> Result<Reply, OutOfMemory>
+    ensures reply { IfOk result (IsReply Verify request.now) }
+    ensures chain { EveryLinkHolds Verify request.now ↔ IsTrusted request.now }
+{
+    reply_to_text(alloc, request)
+}
+
+/// The reply to a request's text.
+fn reply_to_text(alloc: Global, request: &[u8]) -> Result<Reply, OutOfMemory>
+    ensures { IfOk result (IsReply Verify request.now) }
+{
+    let Some(request) = VerifyRequest::read(alloc, request)? else {
+        return Reply::refused(alloc, Link::Request);
+    };
+    match verify_chain(alloc, &request) {
+        Ok(offline) => verified(alloc, &request, &offline),
+        Err(error) => match error.link() {
+            Some(link) => Reply::refused(alloc, link),
+            None => Err(OutOfMemory),
+        },
+    }
+}
+
+/// The reply to a request of which every link holds, with the log entry of its bundle.
+fn verified(alloc: Global, request: &VerifyRequest, offline: &Offline) -> Result<Reply, OutOfMemory>
+    requires { IsProofOf offline.now.body offline.now.proof }
+    ensures { IfOk result (IsVerifiedReply request.entry.now offline.now) }
+{
+    let second = second_line(
+        alloc,
+        &request.entries,
+        offline.body.as_slice(),
+        &offline.proof,
+    )?;
+    Reply::verified(alloc, &offline.proof, &second)
+}
+
+/// The log entry of the request's bundle, or the error of the first link of the chain of trust that fails.
+fn verify_chain(alloc: Global, request: &VerifyRequest) -> Result<Offline, OfflineError>
+    ensures links { UnlessMemory OfflineError.OutOfMemory result
+        (Judged (HoldsOfVerify request.entry.now) chain_links result) }
+    ensures kept { IfOk result (λ offline. IsEntryIn request.entry.now offline) }
+{
+    let now = now_of(request);
+    // A refusal in full is never written, and may be longer than memory has room for.
+    let policy = BriefPolicy {
+        policy: &request.policy,
+    };
+    verify_offline(
+        alloc,
+        trusted_root_of(request),
+        now,
+        &request.digest,
+        bundle_of(request),
+        &policy,
+        &request.accepted,
+    )
+}

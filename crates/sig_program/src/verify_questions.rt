@@ -1,0 +1,91 @@
+//! The command `questions verify`: which signatures can the reply of `verify` rest on?
+ghost use Rattle.std.specs.Prelude.{◌≡◌, ◌↔◌, All, Contains, IfOk};
+ghost use Rattle.sig_base.specs.declared.checker.AcceptedRow.{AcceptedRow as row_type};
+ghost use Rattle.sig_questions.specs.Asked.{IsAskedBy};
+ghost use Rattle.sig_questions.specs.Questions.{IsDecided};
+ghost use Rattle.sig_questions.specs.Rows.{HasScheme};
+ghost use Rattle.sig_program.specs.Limit.{most_bytes};
+ghost use Rattle.sig_program.specs.Reply.{IsListingOf, IsReply};
+ghost use Rattle.sig_program.specs.Suffice.{VerifyQuestionsSuffice};
+ghost use Rattle.sig_program.specs.VerifyLink.{inputs};
+ghost use Rattle.sig_program.specs.VerifyQuestions.{RefusesForAll};
+ghost use Rattle.sig_program.specs.declared.command.Command.TheVariants.{VerifyQuestions};
+
+use crate::laws::lists;
+use crate::read::MOST_BYTES;
+use crate::reply::Reply;
+use crate::rows_text::rows_document;
+use crate::verify_request::{VerifyRequest, bundle_of, now_of, trusted_root_of};
+use sig_base::{AcceptedRow, OutOfMemory, Register};
+use sig_questions::laws::{one_list, schemes};
+use sig_questions::{NoQuestions, questions};
+use sig_verify::Link;
+use std::alloc::Global;
+
+/// Returns the reply to a request's text: the list of the signatures that the links of `verify` ask for, in their
+/// order, with status 0: the certificate under each trust anchor that may have issued it, its SCT as issued by each of
+/// these, the signature over the content, the log's promise, and each signature of the checkpoint's note. Else
+/// `refused NAME`, for the first link of `verify` that fails whatever is accepted: one before `issuer`, or `issuer` if
+/// no trust anchor may have issued the certificate; and `refused request` if the text is no request of `verify`, or the
+/// list would have more than 2^24 bytes. The request's own accepted signatures are ignored. Fails if out of memory
+/// alone.
+///
+/// Of two requests that differ in their accepted signatures alone, and in none of those that a link asks for, `verify`
+/// has the same reply.
+pub fn verify_questions(alloc: Global, request: &[u8]) -> Result<Reply, OutOfMemory>
+    ensures reply { IfOk result (IsReply VerifyQuestions request.now) }
+    ensures suffice { VerifyQuestionsSuffice }
+    ensures refusals { RefusesForAll }
+{
+    lists();
+    reply_to_text(alloc, request)
+}
+
+/// The reply to a request's text.
+fn reply_to_text(alloc: Global, request: &[u8]) -> Result<Reply, OutOfMemory>
+    ensures { IfOk result (IsReply VerifyQuestions request.now) }
+{
+    one_list();
+    schemes();
+    let Some(request) = VerifyRequest::read(alloc, request)? else {
+        return Reply::refused(alloc, Link::Request);
+    };
+    match questions_of(alloc, &request) {
+        Ok(rows) => listed(alloc, &rows),
+        Err(NoQuestions::Link(link)) => Reply::refused(alloc, link),
+        // A row has more bytes in the list than by itself.
+        Err(NoQuestions::TooLong) => Reply::refused(alloc, Link::Request),
+        Err(NoQuestions::OutOfMemory) => Err(OutOfMemory),
+    }
+}
+
+/// The signatures that the links of a request ask for, unless they have more bytes than a request may have.
+fn questions_of(
+    alloc: Global,
+    request: &VerifyRequest,
+) -> Result<Register<AcceptedRow>, NoQuestions>
+    ensures decided { IsDecided (inputs request.entry.now) most_bytes result }
+    ensures asked { IfOk result (λ rows.
+        (row : row_type) → Contains rows row ↔ IsAskedBy (inputs request.entry.now) row) }
+{
+    let now = now_of(request);
+    questions(
+        alloc,
+        trusted_root_of(request),
+        now,
+        &request.digest,
+        bundle_of(request),
+        MOST_BYTES,
+    )
+}
+
+/// The reply that lists these signatures.
+fn listed(alloc: Global, rows: &Register<AcceptedRow>) -> Result<Reply, OutOfMemory>
+    requires { All HasScheme rows.now }
+    ensures { IfOk result (IsListingOf rows.now) }
+{
+    match rows_document(alloc, rows.as_slice())? {
+        Some(document) => Reply::listed(alloc, &document),
+        None => Reply::refused(alloc, Link::Request),
+    }
+}

@@ -1,0 +1,106 @@
+#!/usr/bin/env python3
+"""Writes the table of run_cases: runs over streams that give and take pieces, and fail at one call. Run by hand: tools/run_cases.py
+
+What comes of a run is counted here by the contract of `run`: a request is read until the source gives nothing more, its calls counted from 0;
+the reply is written when it is whole, each call handed all that is left of it; a read that fails writes nothing, and a write that fails leaves
+what was written before it, with status 74 both times; words that are no command read nothing. The replies are those of tools/log_requests.py."""
+import sys
+import urllib.parse
+
+sys.dont_write_bytecode = True
+from case_table import Table
+from log_requests import FIRST
+
+# The most bytes that the program asks for at a time.
+ASKED = 16_384
+FAULT = 74
+NEVER = 999_999
+
+
+def read(text, piece, failing):
+    """Whether the request is read whole, and how many bytes are left then."""
+    left, call = len(text), 0
+    while call != failing:
+        count = min(left, piece, ASKED)
+        left, call = left - count, call + 1
+        if count == 0:
+            return True, 0
+    return False, left
+
+
+def write(reply, piece, failing, room):
+    """Whether the reply is written whole, and what is written."""
+    written, call = 0, 0
+    while written < len(reply):
+        count = min(len(reply) - written, piece, room - written)
+        if call == failing or count == 0:
+            return False, reply[:written]
+        written, call = written + count, call + 1
+    return True, reply
+
+
+def outcome(words, text, source, sink, reply, status):
+    """The line of a run. Of words that are no command nothing is read."""
+    is_read, left = read(text, *source) if status != 64 else (True, len(text))
+    if not is_read:
+        return f"{FAULT} - {left}"
+    is_written, taken = write(reply, *sink)
+    return f"{status if is_written else FAULT} {taken.hex() or '-'} {left}"
+
+
+def main():
+    table = Table("run_cases")
+
+    def run(words, text, source, sink, reply, status):
+        shown = urllib.parse.quote(text, safe="") or "-"
+        call = f"run {words} {shown} {source[0]} {source[1]} {sink[0]} {sink[1]} {sink[2]}"
+        table.case(call, outcome(words, text.encode(), source, sink, reply, status))
+
+    table.note("`run` over a source that gives pieces, and a sink that takes pieces: the status, what was written, what is left.")
+    steady, wide = (64, NEVER), (64, NEVER, 256)
+    logged, refused, usage = b"logged 0 1\n", b"refused request\n", b"usage\n"
+    size = len(FIRST)
+
+    table.group("A request that is logged, in pieces of every kind")
+    for piece in (1, 2, 3, 7, 63, 64, 65, size - 1, size, size + 1, 20_000):
+        run("log", FIRST, (piece, NEVER), wide, logged, 0)
+    for piece in range(1, len(logged) + 2):
+        run("log", FIRST, steady, (piece, NEVER, 256), logged, 0)
+
+    table.group("The source fails at each of its calls, the one that tells the end included: nothing is written")
+    for failing in range(-(-size // 64) + 3):
+        run("log", FIRST, (64, failing), wide, logged, 0)
+    for command in ("log", "verify", "consistency", "questions,log", "questions,verify"):
+        for failing in range(8):
+            run(command, "12345", (1, failing), wide, refused, 2)
+
+    table.group("The sink fails at each of its calls: what was written before stays written")
+    for piece in (1, 4, 10, 11):
+        for failing in range(-(-len(logged) // piece) + 1):
+            run("log", FIRST, steady, (piece, failing, 256), logged, 0)
+    for command in ("log", "verify", "consistency", "questions,log", "questions,verify"):
+        for failing in range(6):
+            run(command, "12345", steady, (4, failing, 256), refused, 2)
+
+    table.group("The sink has room for a part of the reply")
+    for room in range(len(logged) + 2):
+        run("log", FIRST, steady, (64, NEVER, room), logged, 0)
+
+    table.group("Both fail: the read comes first")
+    run("log", FIRST, (64, 2), (1, 3, 256), logged, 0)
+    run("log", "", (1, 0), (1, 0, 0), refused, 2)
+
+    table.group("Words that are no command, and those that `main` answers itself: nothing is read")
+    for words in ("x", "--help", "--version", "log,log", "questions", "questions,consistency", "Log", "log,"):
+        run(words, "12345", (1, 0), wide, usage, 64)
+        for failing in range(4):
+            run(words, "12345", steady, (2, failing, 256), usage, 64)
+
+    table.group("A source with nothing left")
+    for command in ("log", "verify", "consistency", "questions,log", "questions,verify"):
+        run(command, "", steady, wide, refused, 2)
+    table.write()
+
+
+if __name__ == "__main__":
+    main()
