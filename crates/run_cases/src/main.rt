@@ -1,5 +1,5 @@
-//! Cases of `run` over memory, whose streams give and take pieces, and fail. `stdin` lists runs, and `stdout` what comes
-//! of each.
+//! Cases of `run` over memory, whose streams give and take pieces, and fail. `stdin` lists runs, and `stdout` what
+//! comes of each.
 //!
 //! Who made them: `tools/run_cases.py`, a program in another language that counts reads and writes by the contract of
 //! `run` alone. What is written for a request that is read whole is stated there; whole requests are in `examples/`.

@@ -93,8 +93,8 @@ impl<'a> Arguments<'a> {
         }
     }
 
-    /// The next argument as bytes in hexadecimal, in either case; `-` is no bytes, and `3082+00*65535+ff` joins parts of
-    /// which one is so many times the same bytes.
+    /// The next argument as bytes in hexadecimal, in either case; `-` is no bytes, and `3082+00*65535+ff` joins parts,
+    /// of which one is so many times the same bytes.
     pub fn hex(&mut self) -> Vec<u8> {
         let read = hex_bytes(self.alloc, shown(self.word()));
         self.or_fail(read, Vec::new(self.alloc))

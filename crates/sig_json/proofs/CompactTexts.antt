@@ -38,7 +38,7 @@ use Rattle.sig_json.proofs.Trees.{view-Null, view-Bool, view-Number, view-Text, 
 use Rattle.sig_json.specs.Document.{document_of}
 use Rattle.sig_json.specs.Gathered.{Entry}
 use Rattle.sig_json.specs.Members.{members_list}
-use Rattle.sig_json.specs.Named.{IsNamed, AreNamed, HasNamedValues}
+use Rattle.sig_json.specs.Named.{IsNamedTree, AreNamed, HasNamedValues}
 use Rattle.sig_json.specs.Range.{InRange, AreInRange, HasValuesInRange}
 use Rattle.sig_json.specs.View.{view, items_view, members_view}
 use Rattle.sig_json.specs.declared.tree.Tree.{Tree}
@@ -214,7 +214,7 @@ put_next (member l e done) k d ms up =
     rw above (ap (member l e) (put_next done k d ms up.1))
 
 mutual
-  means : (d : Data) → InRange d → IsNamed d → of_json (outline d) ≡ Some d
+  means : (d : Data) → InRange d → IsNamedTree d → of_json (outline d) ≡ Some d
   means null fits named = refl
   means (boolean b) fits named = refl
   means (number (unsigned n)) fits named = ap (option_map number) (number_of-decimal n fits)
@@ -264,7 +264,7 @@ pub text_of_tokens : (d : Data) (start end : Written) (bytes : List ℕ) → sta
 text_of_tokens d start end bytes none empty same are is =
     is ∙ rw (same, none, are, empty) (print-outline d)
 
-pub read_back : (d : Data) (text : List ℕ) → IsNamed d → InRange d → IsUtf8 text → has_float d ≡ false
+pub read_back : (d : Data) (text : List ℕ) → IsNamedTree d → InRange d → IsUtf8 text → has_float d ≡ false
     → text ≡ compact_text d → tokens (compact_text d) ≡ json_tokens (outline d) → depth d ≤ max_depth
     → document_of text ≡ Ok d
 read_back d text named fits utf8 none is same shallow =

@@ -13,7 +13,7 @@ use Rattle.sig_json.proofs.MemberTexts.{items_named_at}
 use Rattle.sig_json.proofs.SameTrees.{items_floatless_at}
 use Rattle.sig_json.specs.List.{items_list}
 use Rattle.sig_json.specs.Member.{each, list_each}
-use Rattle.sig_json.specs.Named.{IsNamed}
+use Rattle.sig_json.specs.Named.{IsNamedTree}
 use Rattle.sig_json.specs.SeenAs.{SeenAs}
 use Rattle.sig_json.specs.View.{view, items_view}
 use Rattle.sig_json.specs.declared.tree.Tree.{Tree}
@@ -84,11 +84,11 @@ element_floatless d values i value whole e h is =
     items_floatless_at values i value h is
     (subst (λ t. has_float t ≡ false) (as_array_is d (items_view values) e) whole)
 
-pub element_named : (d : Data) (values : List Tree) (i : ℕ) (value : Tree) → IsNamed d
+pub element_named : (d : Data) (values : List Tree) (i : ℕ) (value : Tree) → IsNamedTree d
     → Some (items_view values) ≡ as_array d → i < length values → value ≡ get_or values i value
-    → IsNamed (view value)
+    → IsNamedTree (view value)
 element_named d values i value named e h is =
-    items_named_at values i value h is (subst IsNamed (as_array_is d (items_view values) e) named)
+    items_named_at values i value h is (subst IsNamedTree (as_array_is d (items_view values) e) named)
 
 pub ruleset elements = (
   list_each-no_list,

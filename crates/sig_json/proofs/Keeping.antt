@@ -20,7 +20,7 @@ use Rattle.sig_json.proofs.Ordered.{gathered_more}
 use Rattle.sig_json.proofs.Skipping.{object_is}
 use Rattle.sig_json.proofs.Tokens.{Means, object_meant, object_refused, text_read, text_and_more, text_refused}
 use Rattle.sig_json.specs.Gathered.{Entry, gathered}
-use Rattle.sig_json.specs.Named.{IsNamed, NamesAscend, HasNamedValues}
+use Rattle.sig_json.specs.Named.{IsNamedTree, NamesAscend, HasNamedValues}
 use Rattle.sig_json.specs.Only.{is_among, members_where}
 use Rattle.sig_json.specs.Skipped.{PassesValue, AreKeptMembers, KeepsMembers, KeepsOf, value_meant, members_meant}
 use Rattle.sig_json.specs.View.{Words, view, members_view}
@@ -61,7 +61,7 @@ pub at_more : (names : List (List ℕ)) (depth : ℕ) (start left inner next : L
     (found more : List Entry) (k : List ℕ) (name : Words) (tree : Tree)
     → KeptAt names depth start left all found
     → read_key left ≡ Some (Some k, inner) → is_among names k ≡ true → cow_str_bytes name ≡ k
-    → Means depth inner next (view tree) → length next < length inner → IsNamed (view tree)
+    → Means depth inner next (view tree) → length next < length inner → IsNamedTree (view tree)
     → IsUtf8 (cow_str_bytes name) → more ≡ found ++ (name, tree) ∷ []
     → KeptAt names depth start next (put k (view tree) all) more
 at_more names depth start left inner next all found more k name tree so_far key listed same means less one utf8
@@ -144,7 +144,7 @@ kept_start names depth start found none = record { all = no_members; at = at_sta
 pub kept_more : (names : List (List ℕ)) (depth : ℕ) (start left inner next : List Token) (found more : List Entry)
     (k : List ℕ) (name : Words) (tree : Tree) → KeptSoFar names depth start left found
     → read_key left ≡ Some (Some k, inner) → is_among names k ≡ true → cow_str_bytes name ≡ k
-    → Means depth inner next (view tree) → length next < length inner → IsNamed (view tree)
+    → Means depth inner next (view tree) → length next < length inner → IsNamedTree (view tree)
     → IsUtf8 (cow_str_bytes name) → more ≡ found ++ (name, tree) ∷ []
     → KeptSoFar names depth start next more
 kept_more names depth start left inner next found more k name tree so_far key listed same means less one utf8 pushed =

@@ -17,7 +17,7 @@ use Rattle.sig_json.proofs.Tokens.{object_is_named}
 use Rattle.sig_json.proofs.Trees.{view-Null, view-Bool, view-Number, view-Text, view-Array, view-Object}
 use Rattle.sig_json.specs.Document.{document_of}
 use Rattle.sig_json.specs.Gathered.{Entry}
-use Rattle.sig_json.specs.Named.{IsNamed}
+use Rattle.sig_json.specs.Named.{IsNamedTree}
 use Rattle.sig_json.specs.Only.{is_among, members_where, only, only_of}
 use Rattle.sig_json.specs.Skipped.{KeepsOf}
 use Rattle.sig_json.specs.View.{Words, view, members_view}
@@ -69,8 +69,8 @@ pub cut_floatless : (names : List (List ℕ)) (d e : Data) → has_float d ≡ f
     → has_float e ≡ false
 cut_floatless names d e none cut = ap has_float cut ∙ floatless-only names d none
 
-pub cut_named : (names : List (List ℕ)) (d e : Data) → IsNamed d → e ≡ only names d → IsNamed e
-cut_named names d e named cut = subst IsNamed (sym cut) (named-only names d named)
+pub cut_named : (names : List (List ℕ)) (d e : Data) → IsNamedTree d → e ≡ only names d → IsNamedTree e
+cut_named names d e named cut = subst IsNamedTree (sym cut) (named-only names d named)
 
 pub ruleset kept_reading = (only_not_utf8, only_unread, kept_read, kept_float, object_is_named)
 

@@ -15,7 +15,7 @@ use Rattle.std.specs.Str.{IsUtf8}
 use Rattle.std.specs.declared.cmp.Ordering.{Ordering}
 use Rattle.std.specs.declared.cmp.Ordering.TheVariants.{Less, Equal, Greater}
 use Rattle.serde_json.specs.Data.{Data, Members, no_members, member, depth, members_depth}
-use Rattle.sig_json.specs.Named.{IsNamed, AreNamed, NamesAscend, HasNamedValues}
+use Rattle.sig_json.specs.Named.{IsNamedTree, AreNamed, NamesAscend, HasNamedValues}
 use Rattle.sig_json.specs.View.{Words, view, items_view, members_view}
 use Rattle.sig_json.specs.declared.tree.Tree.{Tree, Array, Object}
 use Rattle.sig_json.proofs.Trees.{view-Array, view-Object}
@@ -323,24 +323,24 @@ values_of-entries (e ∷ es) = ap (λ rest. pair_of e.1 ∷ rest) (values_of-ent
 -- ---- named values
 
 pub items_named_at : (trees : List Tree) (i : ℕ) (tree : Tree) → i < length trees → tree ≡ get_or trees i tree
-    → AreNamed (items_view trees) → IsNamed (view tree)
+    → AreNamed (items_view trees) → IsNamedTree (view tree)
 items_named_at [] i tree h is named = absurd (omega arith)
 items_named_at (t ∷ trees) zero tree h is named = rw is named.0
 items_named_at (t ∷ trees) (suc i) tree h is named = items_named_at trees i tree (omega arith) is named.1
 
 pub members_named_at : (es : List (Words × Tree)) (i : ℕ) (e : Words × Tree) → i < length es
-    → e ≡ get_or es i e → HasNamedValues (members_view es) → IsNamed (view e.1)
+    → e ≡ get_or es i e → HasNamedValues (members_view es) → IsNamedTree (view e.1)
 members_named_at [] i e h is named = absurd (omega arith)
 members_named_at (f ∷ es) zero e h is named = rw is named.0
 members_named_at (f ∷ es) (suc i) e h is named = members_named_at es i e (omega arith) is named.1
 
-pub array_named : (tree : Tree) (items : Vec Tree Global) → tree ≡ Array items → IsNamed (view tree)
+pub array_named : (tree : Tree) (items : Vec Tree Global) → tree ≡ Array items → IsNamedTree (view tree)
     → AreNamed (items_view items.items)
-array_named tree items is named = subst IsNamed (ap view is ∙ view-Array items) named
+array_named tree items is named = subst IsNamedTree (ap view is ∙ view-Array items) named
 
 pub object_named : (tree : Tree) (members : Vec (Words × Tree) Global) → tree ≡ Object members
-    → IsNamed (view tree) → NamesAscend (members_view members.items) × HasNamedValues (members_view members.items)
-object_named tree members is named = subst IsNamed (ap view is ∙ view-Object members) named
+    → IsNamedTree (view tree) → NamesAscend (members_view members.items) × HasNamedValues (members_view members.items)
+object_named tree members is named = subst IsNamedTree (ap view is ∙ view-Object members) named
 
 pub ruleset parts = (
   whole-begins,

@@ -28,7 +28,7 @@ use Rattle.sig_json.proofs.MemberOrder.{object_exact}
 use Rattle.sig_json.specs.Builders.{with_member, with_last, items_with_last}
 use Rattle.sig_json.specs.Canonical.{Sorted, canon, canon_items, in_brackets}
 use Rattle.sig_json.specs.Members.{members_list}
-use Rattle.sig_json.specs.Named.{NamesAscend, IsNamed, AreNamed, HasNamedValues}
+use Rattle.sig_json.specs.Named.{NamesAscend, IsNamedTree, AreNamed, HasNamedValues}
 use Rattle.sig_json.specs.Order.{HasNames, KeepsOrder, InTurn, ValuesKeepOrder, member_texts}
 use Rattle.sig_json.specs.Gathered.{Entry}
 
@@ -51,7 +51,7 @@ names_differ (member name d ms) up =
     (up.0.0, unlike name (keys_of (members_list ms)) up.1.0, names_differ ms (up.0.1, up.1.1))
 
 mutual
-  pub keeps_order : (d : Data) (text : List ℕ) → IsNamed d → canon d ≡ Some text → KeepsOrder d text
+  pub keeps_order : (d : Data) (text : List ℕ) → IsNamedTree d → canon d ≡ Some text → KeepsOrder d text
   keeps_order null text named is = tt
   keeps_order (boolean b) text named is = tt
   keeps_order (number n) text named is = tt
@@ -81,7 +81,7 @@ mutual
       ((first.0, first.1, keeps_order d first.0 named.0 first.1), values_keep_order ms rest.0 named.1 rest.1)
 
 -- what is written on an empty text
-pub written_in_order : (d : Data) (before after text : List ℕ) → IsNamed d → before ≡ []
+pub written_in_order : (d : Data) (before after text : List ℕ) → IsNamedTree d → before ≡ []
     → option_map (λ text. before ++ text) (canon d) ≡ Some after → text ≡ after → KeepsOrder d text
 written_in_order d before after text named none written is =
     let same : canon d ≡ Some after = sym (option_map_id (canon d)) ∙ rw none at written in
@@ -90,10 +90,10 @@ written_in_order d before after text named none written is =
 -- ---- what is looked up
 
 abbrev FoundNamed : Option Data → Type 0
-FoundNamed found = (d : Data) → found ≡ Some d → IsNamed d
+FoundNamed found = (d : Data) → found ≡ Some d → IsNamedTree d
 
-this_named : (v : Data) → IsNamed v → FoundNamed (Some v)
-this_named v named = λ d e. let same : v ≡ d = cc in subst IsNamed same named
+this_named : (v : Data) → IsNamedTree v → FoundNamed (Some v)
+this_named v named = λ d e. let same : v ≡ d = cc in subst IsNamedTree same named
 
 get_member_named : (name : List ℕ) (ms : Members) → HasNamedValues ms → FoundNamed (get_member name ms)
 get_member_named name no_members named = λ d e. absurd cc
@@ -107,7 +107,7 @@ get_item_named place no_items named = λ d e. absurd cc
 get_item_named zero (item v ds) named = this_named v named.0
 get_item_named (suc place) (item v ds) named = get_item_named place ds named.1
 
-pub get_named : (name : List ℕ) (d found : Data) → IsNamed d → Some found ≡ get name d → IsNamed found
+pub get_named : (name : List ℕ) (d found : Data) → IsNamedTree d → Some found ≡ get name d → IsNamedTree found
 get_named name null found named e = absurd cc
 get_named name (boolean b) found named e = absurd cc
 get_named name (number n) found named e = absurd cc
@@ -115,7 +115,7 @@ get_named name (string s) found named e = absurd cc
 get_named name (array ds) found named e = absurd cc
 get_named name (object ms) found named e = get_member_named name ms named.1 found (sym e)
 
-pub at_named : (place : ℕ) (d found : Data) → IsNamed d → Some found ≡ at place d → IsNamed found
+pub at_named : (place : ℕ) (d found : Data) → IsNamedTree d → Some found ≡ at place d → IsNamedTree found
 at_named place null found named e = absurd cc
 at_named place (boolean b) found named e = absurd cc
 at_named place (number n) found named e = absurd cc
@@ -123,15 +123,15 @@ at_named place (string s) found named e = absurd cc
 at_named place (array ds) found named e = get_item_named place ds named found (sym e)
 at_named place (object ms) found named e = absurd cc
 
-pub as_object_named : (d : Data) (ms : Members) → IsNamed d → Some ms ≡ as_object d → HasNamedValues ms
-as_object_named d ms named e = (subst IsNamed (as_object_is d ms e) named).1
+pub as_object_named : (d : Data) (ms : Members) → IsNamedTree d → Some ms ≡ as_object d → HasNamedValues ms
+as_object_named d ms named e = (subst IsNamedTree (as_object_is d ms e) named).1
 
-pub as_object_ascends : (d : Data) (ms : Members) → IsNamed d → Some ms ≡ as_object d → KeysAscend (members_list ms)
-as_object_ascends d ms named e = (subst IsNamed (as_object_is d ms e) named).0.1
+pub as_object_ascends : (d : Data) (ms : Members) → IsNamedTree d → Some ms ≡ as_object d → KeysAscend (members_list ms)
+as_object_ascends d ms named e = (subst IsNamedTree (as_object_is d ms e) named).0.1
 
 -- a walk's next member, and what is left of it
 pub next_named : (d : Data) (ms : Members) (name : List ℕ) → HasNamedValues (member name d ms)
-    → IsNamed d × HasNamedValues ms
+    → IsNamedTree d × HasNamedValues ms
 next_named d ms name named = named
 
 pub ruleset named = (get_named, at_named, as_object_named, as_object_ascends, next_named)
@@ -156,14 +156,15 @@ ascend-put k d ms utf8 up =
       ascend-insert_entry (slice_cmp nat_cmp) nat_list_cmp_total (members_list ms) k d up.1,
     )
 
-pub values-put : (k : List ℕ) (d : Data) (ms : Members) → IsNamed d → HasNamedValues ms → HasNamedValues (put k d ms)
+pub values-put : (k : List ℕ) (d : Data) (ms : Members) → IsNamedTree d → HasNamedValues ms
+    → HasNamedValues (put k d ms)
 values-put k d no_members one rest = (one, tt)
 values-put k d (member l e ms) one rest =
     holds_of_choice HasNamedValues (slice_cmp nat_cmp k l) (member k d (member l e ms)) (member l d ms)
     (member l e (put k d ms)) (one, rest) (one, rest.1) (rest.0, values-put k d ms one rest.1)
 
-with_member_named : (name : List ℕ) (value tree : Data) → IsUtf8 name → IsNamed tree → IsNamed value
-    → IsNamed (with_member name value tree)
+with_member_named : (name : List ℕ) (value tree : Data) → IsUtf8 name → IsNamedTree tree → IsNamedTree value
+    → IsNamedTree (with_member name value tree)
 with_member_named name value null utf8 whole one = tt
 with_member_named name value (boolean b) utf8 whole one = tt
 with_member_named name value (number n) utf8 whole one = tt
@@ -172,11 +173,11 @@ with_member_named name value (array ds) utf8 whole one = whole
 with_member_named name value (object ms) utf8 whole one =
     (ascend-put name value ms utf8 whole.0, values-put name value ms one whole.1)
 
-last_named : (ds : Items) (value : Data) → AreNamed ds → IsNamed value → AreNamed (items_with_last ds value)
+last_named : (ds : Items) (value : Data) → AreNamed ds → IsNamedTree value → AreNamed (items_with_last ds value)
 last_named no_items value rest one = (one, tt)
 last_named (item d ds) value rest one = (rest.0, last_named ds value rest.1 one)
 
-with_last_named : (value tree : Data) → IsNamed tree → IsNamed value → IsNamed (with_last value tree)
+with_last_named : (value tree : Data) → IsNamedTree tree → IsNamedTree value → IsNamedTree (with_last value tree)
 with_last_named value null whole one = tt
 with_last_named value (boolean b) whole one = tt
 with_last_named value (number n) whole one = tt
@@ -185,44 +186,45 @@ with_last_named value (array ds) whole one = last_named ds value whole one
 with_last_named value (object ms) whole one = whole
 
 pub put_named : (name : List ℕ) (value : Data) (before after : Vec Entry Global) → IsUtf8 name
-    → members_view after.items ≡ put name value (members_view before.items) → IsNamed (view (Object before))
-    → IsNamed value → IsNamed (view (Object after))
+    → members_view after.items ≡ put name value (members_view before.items) → IsNamedTree (view (Object before))
+    → IsNamedTree value → IsNamedTree (view (Object after))
 put_named name value before after utf8 puts whole one =
-    subst IsNamed (sym (put_in name value before after puts))
+    subst IsNamedTree (sym (put_in name value before after puts))
     (with_member_named name value (view (Object before)) utf8 whole one)
 
 pub object_unchanged_named : (before after : Vec Entry Global) → after.items ≡ before.items
-    → IsNamed (view (Object before)) → IsNamed (view (Object after))
-object_unchanged_named before after same whole = subst IsNamed (sym (object_unchanged before after same)) whole
+    → IsNamedTree (view (Object before)) → IsNamedTree (view (Object after))
+object_unchanged_named before after same whole = subst IsNamedTree (sym (object_unchanged before after same)) whole
 
 pub pushed_named : (before after : Vec Tree Global) (last : Tree) → after.items ≡ before.items ++ last ∷ []
-    → IsNamed (view (Array before)) → IsNamed (view last) → IsNamed (view (Array after))
+    → IsNamedTree (view (Array before)) → IsNamedTree (view last) → IsNamedTree (view (Array after))
 pushed_named before after last pushes whole one =
-    subst IsNamed (sym (pushed_in before after last pushes))
+    subst IsNamedTree (sym (pushed_in before after last pushes))
     (with_last_named (view last) (view (Array before)) whole one)
 
 pub list_unchanged_named : (before after : Vec Tree Global) → after.items ≡ before.items
-    → IsNamed (view (Array before))
-    → IsNamed (view (Array after))
-list_unchanged_named before after same whole = subst IsNamed (sym (list_unchanged before after same)) whole
+    → IsNamedTree (view (Array before))
+    → IsNamedTree (view (Array after))
+list_unchanged_named before after same whole = subst IsNamedTree (sym (list_unchanged before after same)) whole
 
-pub same_named : (d e : Data) → d ≡ e → IsNamed e → IsNamed d
-same_named d e same named = subst IsNamed (sym same) named
+pub same_named : (d e : Data) → d ≡ e → IsNamedTree e → IsNamedTree d
+same_named d e same named = subst IsNamedTree (sym same) named
 
 -- what a change to a tree leaves as it has to be
 pub ruleset changes = (building, put_named, object_unchanged_named, pushed_named, list_unchanged_named)
 
-pub empty_object_named : (m : Vec Entry Global) → m.items ≡ [] → IsNamed (view (Object m))
+pub empty_object_named : (m : Vec Entry Global) → m.items ≡ [] → IsNamedTree (view (Object m))
 unfolding IsStrictlySortedBy
-empty_object_named m is = subst IsNamed (sym (view-Object m ∙ ap (λ es. object (members_view es)) is)) ((tt, tt), tt)
+empty_object_named m is =
+    subst IsNamedTree (sym (view-Object m ∙ ap (λ es. object (members_view es)) is)) ((tt, tt), tt)
 
-pub empty_list_named : (d : Data) → d ≡ array no_items → IsNamed d
-empty_list_named d is = subst IsNamed (sym is) tt
+pub empty_list_named : (d : Data) → d ≡ array no_items → IsNamedTree d
+empty_list_named d is = subst IsNamedTree (sym is) tt
 
-pub text_named : (d : Data) (text : List ℕ) → d ≡ string text → IsNamed d
-text_named d text is = subst IsNamed (sym is) tt
+pub text_named : (d : Data) (text : List ℕ) → d ≡ string text → IsNamedTree d
+text_named d text is = subst IsNamedTree (sym is) tt
 
-pub number_named : (d : Data) (n : Num) → d ≡ number n → IsNamed d
-number_named d n is = subst IsNamed (sym is) tt
+pub number_named : (d : Data) (n : Num) → d ≡ number n → IsNamedTree d
+number_named d n is = subst IsNamedTree (sym is) tt
 
 pub ruleset named_parts = (empty_list_named, text_named, number_named, same_named)

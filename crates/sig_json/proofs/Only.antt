@@ -20,7 +20,7 @@ use Rattle.sig_json.proofs.Ordered.{same_from_tie}
 use Rattle.sig_base.specs.OptionSteps.{◌>>=◌}
 use Rattle.sig_json.specs.Member.{member_of, not_null, there_or, required, optional_or}
 use Rattle.sig_json.specs.Members.{members_list}
-use Rattle.sig_json.specs.Named.{NamesAscend, HasNamedValues, IsNamed}
+use Rattle.sig_json.specs.Named.{NamesAscend, HasNamedValues, IsNamedTree}
 use Rattle.sig_json.specs.Only.{is_among, members_where, only}
 
 abbrev compare : List ℕ → List ℕ → Ordering
@@ -234,9 +234,9 @@ only-same names d none =
     by_kept (λ whole kept. as_object whole ≡ None → kept ≡ whole) names (λ whole other. refl)
     (λ ms other. absurd cc) d none
 
-pub named-only : (names : List (List ℕ)) (d : Data) → IsNamed d → IsNamed (only names d)
+pub named-only : (names : List (List ℕ)) (d : Data) → IsNamedTree d → IsNamedTree (only names d)
 named-only names d named =
-    by_kept (λ whole kept. IsNamed whole → IsNamed kept) names (λ whole is. is)
+    by_kept (λ whole kept. IsNamedTree whole → IsNamedTree kept) names (λ whole is. is)
     (λ ms is. (names-where (is_among names) ms is.0, values-where (is_among names) ms is.1)) d named
 
 pub floatless-only : (names : List (List ℕ)) (d : Data) → has_float d ≡ false → has_float (only names d) ≡ false

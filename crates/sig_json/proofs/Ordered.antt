@@ -23,7 +23,7 @@ use Rattle.sig_json.proofs.Named.{keys-put}
 use Rattle.sig_base.specs.ByText.{KeysAscend}
 use Rattle.sig_json.specs.Gathered.{Entry, put_each, gathered, InOrder, IsPlaceOf}
 use Rattle.sig_json.specs.Members.{members_list}
-use Rattle.sig_json.specs.Named.{IsNamed}
+use Rattle.sig_json.specs.Named.{IsNamedTree}
 use Rattle.sig_json.specs.View.{Words, view, items_view, members_view}
 use Rattle.sig_json.proofs.Trees.{view-Array, view-Object}
 use Rattle.sig_json.specs.declared.tree.Tree.{Tree, Array, Object}
@@ -242,8 +242,8 @@ in_order_from_steps (e ∷ es) steps =
 
 -- ---- in a tree
 
-pub in_order_from_named : (v : Vec Entry Global) → IsNamed (view (Object v)) → InOrder v.items
-in_order_from_named v named = (subst IsNamed (view-Object v) named).0.1
+pub in_order_from_named : (v : Vec Entry Global) → IsNamedTree (view (Object v)) → InOrder v.items
+in_order_from_named v named = (subst IsNamedTree (view-Object v) named).0.1
 
 pub found_in_object : (found : Option Data) (name : List ℕ) (v : Vec Entry Global)
     → found ≡ get_member name (members_view v.items) → found ≡ get name (view (Object v))

@@ -27,7 +27,7 @@ use Rattle.sig_json.specs.Document.{document_of}
 use Rattle.sig_json.specs.Gathered.{Entry, gathered}
 use Rattle.sig_json.specs.List.{items_list}
 use Rattle.sig_json.specs.Member.{each, list_each, optional_list, optional_or, member_of, not_null, there_or}
-use Rattle.sig_json.specs.Named.{IsNamed, NamesAscend, HasNamedValues}
+use Rattle.sig_json.specs.Named.{IsNamedTree, NamesAscend, HasNamedValues}
 use Rattle.sig_json.specs.Only.{is_among, members_where, only}
 use Rattle.sig_json.specs.Record.{record_in, members_and_list}
 use Rattle.sig_json.specs.Skipped.{PassesValue}
@@ -137,7 +137,7 @@ module _ {A : Type 0} (kind : Data → Option A) (names : List (List ℕ)) (list
   pub parts_more : (found more : List Entry) (name : Words) (tree : Tree) (is_listed : Bool) (xs : List A)
       → PartsSoFar kind names list depth start left found is_listed xs → bytes_eq k list ≡ false
       → is_among names k ≡ true → cow_str_bytes name ≡ k → Means depth inner next (view tree)
-      → length next < length inner → IsNamed (view tree) → IsUtf8 (cow_str_bytes name)
+      → length next < length inner → IsNamedTree (view tree) → IsUtf8 (cow_str_bytes name)
       → more ≡ found ++ (name, tree) ∷ []
       → PartsSoFar kind names list depth start next more is_listed xs
   parts_more found more name tree is_listed xs so_far other listed same means less one utf8 pushed =

@@ -23,7 +23,7 @@ use Rattle.sig_json.proofs.Named.{ascend-put, values-put}
 use Rattle.sig_json.proofs.Ordered.{in_order-none}
 use Rattle.sig_json.proofs.Trees.{view-Null, view-Bool, view-Number, view-Text, view-Array, view-Object}
 use Rattle.sig_json.specs.Gathered.{Entry, gathered, AreInOrderIfFew}
-use Rattle.sig_json.specs.Named.{IsNamed, AreNamed, NamesAscend, HasNamedValues}
+use Rattle.sig_json.specs.Named.{IsNamedTree, AreNamed, NamesAscend, HasNamedValues}
 use Rattle.sig_json.specs.View.{Words, view, items_view, members_view}
 use Rattle.sig_json.specs.declared.tree.Tree.{Tree, Null, Bool as Truth, Number as Numeral, Text, Array, Object}
 
@@ -101,24 +101,24 @@ nothing_means_nothing depth ts is = rw (is, value_is depth []) refl
 
 -- names
 
-pub list_is_named : (v : Vec Tree Global) → AreNamed (items_view v.items) → IsNamed (view (Array v))
-list_is_named v named = subst IsNamed (sym (view-Array v)) named
+pub list_is_named : (v : Vec Tree Global) → AreNamed (items_view v.items) → IsNamedTree (view (Array v))
+list_is_named v named = subst IsNamedTree (sym (view-Array v)) named
 
 pub object_is_named : (v : Vec Entry Global)
-    → NamesAscend (members_view v.items) × HasNamedValues (members_view v.items) → IsNamed (view (Object v))
-object_is_named v named = subst IsNamed (sym (view-Object v)) named
+    → NamesAscend (members_view v.items) × HasNamedValues (members_view v.items) → IsNamedTree (view (Object v))
+object_is_named v named = subst IsNamedTree (sym (view-Object v)) named
 
-pub leaf_null : IsNamed (view Null)
-leaf_null = subst IsNamed (sym view-Null) tt
+pub leaf_null : IsNamedTree (view Null)
+leaf_null = subst IsNamedTree (sym view-Null) tt
 
-pub leaf_bool : (b : Bool) → IsNamed (view (Truth b))
-leaf_bool b = subst IsNamed (sym (view-Bool b)) tt
+pub leaf_bool : (b : Bool) → IsNamedTree (view (Truth b))
+leaf_bool b = subst IsNamedTree (sym (view-Bool b)) tt
 
-pub leaf_number : (n : Number) → IsNamed (view (Numeral n))
-leaf_number n = subst IsNamed (sym (view-Number n)) tt
+pub leaf_number : (n : Number) → IsNamedTree (view (Numeral n))
+leaf_number n = subst IsNamedTree (sym (view-Number n)) tt
 
-pub leaf_text : (text : Words) → IsNamed (view (Text text))
-leaf_text text = subst IsNamed (sym (view-Text text)) tt
+pub leaf_text : (text : Words) → IsNamedTree (view (Text text))
+leaf_text text = subst IsNamedTree (sym (view-Text text)) tt
 
 pub ruleset values = (
   null_means,
@@ -163,7 +163,7 @@ before-step : (trees : List Tree) (tree : Tree) (r : Option (Items × List Token
 before-step trees tree None = refl
 before-step trees tree (Some p) = ap (λ ds. Some (ds, p.1)) (before-more trees tree p.0)
 
-named_more : (trees : List Tree) (tree : Tree) → AreNamed (items_view trees) → IsNamed (view tree)
+named_more : (trees : List Tree) (tree : Tree) → AreNamed (items_view trees) → IsNamedTree (view tree)
     → AreNamed (items_view (trees ++ tree ∷ []))
 named_more [] tree named one = (one, tt)
 named_more (t ∷ trees) tree named one = (named.0, named_more trees tree named.1 one)
@@ -191,7 +191,8 @@ list_start depth start found none =
 
 pub list_step : (depth : ℕ) (start left next : List Token) (found more : List Tree) (tree : Tree)
     → ListSoFar depth start left found → after_end_array left ≡ None
-    → Means depth left next (view tree) → length next < length left → IsNamed (view tree) → more ≡ found ++ tree ∷ []
+    → Means depth left next (view tree) → length next < length left → IsNamedTree (view tree)
+    → more ≡ found ++ tree ∷ []
     → ListSoFar depth start next more
 list_step depth start left next found more tree so_far going means less one pushed =
     rw pushed (record {
@@ -251,7 +252,7 @@ pub object_step :
     (tree : Tree)
     → ObjectSoFar depth start left found
     → read_key left ≡ Some (Some k, inner) → cow_str_bytes name ≡ k → Means depth inner next (view tree)
-    → length next < length inner → IsNamed (view tree) → IsUtf8 (cow_str_bytes name)
+    → length next < length inner → IsNamedTree (view tree) → IsUtf8 (cow_str_bytes name)
     → gathered more ≡ put (cow_str_bytes name) (view tree) (gathered found) → ObjectSoFar depth start next more
 object_step depth start left inner next found more k name tree so_far key same means less one utf8 added =
     let old = gathered found in

@@ -14,18 +14,18 @@ NamesAscend ms = AllByRecursion IsUtf8 (keys_of (members_list ms)) × KeysAscend
 
 -- the names of each object of a tree, at every depth
 abbrev mutual
-  pub IsNamed : Data → Type 0
-  IsNamed null = ⊤
-  IsNamed (boolean b) = ⊤
-  IsNamed (number n) = ⊤
-  IsNamed (string text) = ⊤
-  IsNamed (array ds) = AreNamed ds
-  IsNamed (object ms) = NamesAscend ms × HasNamedValues ms
+  pub IsNamedTree : Data → Type 0
+  IsNamedTree null = ⊤
+  IsNamedTree (boolean b) = ⊤
+  IsNamedTree (number n) = ⊤
+  IsNamedTree (string text) = ⊤
+  IsNamedTree (array ds) = AreNamed ds
+  IsNamedTree (object ms) = NamesAscend ms × HasNamedValues ms
 
   pub AreNamed : Items → Type 0
   AreNamed no_items = ⊤
-  AreNamed (item d ds) = IsNamed d × AreNamed ds
+  AreNamed (item d ds) = IsNamedTree d × AreNamed ds
 
   pub HasNamedValues : Members → Type 0
   HasNamedValues no_members = ⊤
-  HasNamedValues (member name d ms) = IsNamed d × HasNamedValues ms
+  HasNamedValues (member name d ms) = IsNamedTree d × HasNamedValues ms

@@ -9,7 +9,7 @@ use Rattle.serde_json.specs.View.{number_view, items_of}
 use Rattle.sig_json.specs.declared.tree.Tree.{Tree, fold-Tree}
 use Rattle.sig_json.specs.declared.tree.Tree.TheOpen.{Tree-F}
 
--- a name or a text, its own or lent
+-- a name or a text, owned or borrowed
 abbrev pub Words : Type 0
 Words = CowStr Global
 

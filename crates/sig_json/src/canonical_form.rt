@@ -10,7 +10,7 @@ ghost use Rattle.sig_json.specs.View.{view, items_view, members_view};
 ghost use Rattle.sig_json.specs.Canonical.{canon, canon_integer, canon_string, canon_items, canon_members};
 ghost use Rattle.sig_json.specs.Canonical.{canonical_of, in_braces, in_brackets, utf16_units};
 ghost use Rattle.sig_json.specs.Large.{has_large};
-ghost use Rattle.sig_json.specs.Named.{IsNamed, AreNamed, NamesAscend, HasNamedValues};
+ghost use Rattle.sig_json.specs.Named.{IsNamedTree, AreNamed, NamesAscend, HasNamedValues};
 ghost use Rattle.sig_json.specs.Order.{KeepsOrder};
 ghost use Rattle.sig_json.specs.Tree.{tree};
 ghost use Rattle.sig_json.specs.Writes.{WritesPart, comma_before, by_units, member_text, pair_of, texts_in_turn};
@@ -45,7 +45,7 @@ pub fn canonical(alloc: Global, json: Json<'_, '_>) -> Result<Text, CanonicalErr
 /// Writes a value behind the text so far.
 #[cycle(canon)]
 fn write_value(alloc: Global, value: &Tree<'_>, out: &mut String) -> Result<(), CanonicalError>
-    requires { IsNamed (view value.now) }
+    requires { IsNamedTree (view value.now) }
     ensures { WritesPart (string_bytes out.old) result (string_bytes out.new) (canon (view value.now)) }
 {
     match value {

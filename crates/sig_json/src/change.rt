@@ -2,7 +2,7 @@
 ghost use Rattle.std.specs.Prelude.{◌≡◌, false, OnOk, OnErr};
 ghost use Rattle.serde_json.specs.Written.{has_float};
 ghost use Rattle.sig_json.specs.Builders.{with_member, with_last};
-ghost use Rattle.sig_json.specs.Named.{IsNamed};
+ghost use Rattle.sig_json.specs.Named.{IsNamedTree};
 ghost use Rattle.sig_json.specs.View.{view};
 
 use crate::order::put;
@@ -18,12 +18,12 @@ pub(crate) fn put_member<'t>(
     name: &str,
     member: Tree<'t>,
 ) -> Result<(), OutOfMemory>
-    requires { IsNamed (view tree.old) }
+    requires { IsNamedTree (view tree.old) }
     ensures ok { OnOk result (view tree.new ≡ with_member name.now (view member.entry) (view tree.old)) }
     ensures err { OnErr result (view tree.new ≡ view tree.old) }
     ensures whole { has_float (view tree.old) ≡ false → has_float (view member.entry) ≡ false
         → has_float (view tree.new) ≡ false }
-    ensures named { IsNamed (view member.entry) → IsNamed (view tree.new) }
+    ensures named { IsNamedTree (view member.entry) → IsNamedTree (view tree.new) }
 {
     match tree {
         Tree::Object(members) => Ok(put(alloc, members, name, member)?),
@@ -38,7 +38,7 @@ pub(crate) fn push_last<'t>(tree: &mut Tree<'t>, element: Tree<'t>) -> Result<()
     ensures err { OnErr result (view tree.new ≡ view tree.old) }
     ensures whole { has_float (view tree.old) ≡ false → has_float (view element.entry) ≡ false
         → has_float (view tree.new) ≡ false }
-    ensures named { IsNamed (view tree.old) → IsNamed (view element.entry) → IsNamed (view tree.new) }
+    ensures named { IsNamedTree (view tree.old) → IsNamedTree (view element.entry) → IsNamedTree (view tree.new) }
 {
     match tree {
         Tree::Array(elements) => Ok(elements.push(element)?),

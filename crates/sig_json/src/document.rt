@@ -2,8 +2,8 @@
 ghost use Rattle.std.specs.Prelude.{◌≡◌, false};
 ghost use Rattle.sig_json.specs.View.{view};
 ghost use Rattle.serde_json.specs.Written.{has_float};
-ghost use Rattle.sig_json.specs.Named.{IsNamed};
-ghost use Rattle.sig_json.specs.NamedProofs.{IsNamed-prop};
+ghost use Rattle.sig_json.specs.Named.{IsNamedTree};
+ghost use Rattle.sig_json.specs.NamedProofs.{IsNamedTree-prop};
 
 use crate::error::DocumentError;
 use crate::floats::is_float_in;
@@ -19,7 +19,7 @@ use std::alloc::Global;
 pub struct Document {
     pub(crate) value: Tree<'static>,
     ghost without_float: { has_float (view value) ≡ false },
-    ghost named: { IsNamed (view value) } by { IsNamed-prop (view value) },
+    ghost named: { IsNamedTree (view value) } by { IsNamedTree-prop (view value) },
 }
 
 impl Document {
@@ -30,8 +30,8 @@ impl Document {
     ghost use Rattle.sig_json.specs.Document.{document_of};
     ghost use Rattle.sig_json.specs.Tree.{document_tree, tree};
 
-    /// Reads a text. Refuses with `NotJson` where it has no reading, and then with `Float` where the tree holds a
-    /// number with a point or an exponent, `-0`, or an integer outside -2^63 to 2^64 - 1.
+    /// Reads a text. Fails with `NotJson` if it has no reading, and then with `Float` if the tree holds a number with a
+    /// point or an exponent, `-0`, or an integer outside -2^63 to 2^64 - 1.
     #[tactic(auto, using(crate::proofs::Reading::reading))]
     pub fn read(alloc: Global, text: &[u8]) -> Result<Document, DocumentError>
         ensures value { Answers DocumentError.OutOfMemory document_tree result (document_of text.now) }

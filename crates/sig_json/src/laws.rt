@@ -11,7 +11,7 @@ ghost use Rattle.sig_json.specs.Builders.{with_last, with_member};
 ghost use Rattle.sig_json.specs.Canonical.{Sorted, canon, canon_members, in_braces, utf16_units};
 ghost use Rattle.sig_json.specs.Large.{has_large};
 ghost use Rattle.sig_json.specs.List.{list_of};
-ghost use Rattle.sig_json.specs.Named.{IsNamed, NamesAscend};
+ghost use Rattle.sig_json.specs.Named.{IsNamedTree, NamesAscend};
 ghost use Rattle.sig_json.specs.Only.{is_among, only};
 ghost use Rattle.sig_json.specs.Order.{HasNames, UnitsAscend, IsSorting};
 ghost use Rattle.sig_json.specs.SameTree.{same_tree};
@@ -49,8 +49,8 @@ pub fn large_integers()
 /// In every document, read or built, and in every view of one, the names of each object are texts that ascend in byte
 /// order, at every depth: the premise of `members_in_order`.
 pub fn trees_are_named()
-    ensures document { (document : Document) → IsNamed (document_tree document) }
-    ensures view { (json : Json) → IsNamed (tree json) }
+    ensures document { (document : Document) → IsNamedTree (document_tree document) }
+    ensures view { (json : Json) → IsNamedTree (tree json) }
     ensures names { (ms : Members) → NamesAscend ms → HasNames ms }
 {}
 

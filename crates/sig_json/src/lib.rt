@@ -34,6 +34,7 @@
 #![tactic(auto)]
 
 mod any;
+mod borrowed;
 mod build;
 mod canonical_form;
 mod change;
@@ -49,7 +50,6 @@ mod integer;
 mod kept;
 mod kind;
 pub mod laws;
-mod lent;
 mod member;
 mod members;
 mod members_and_list;

@@ -33,22 +33,22 @@ impl Document {
             (record_in (members_and_list (names_of names.now) list.now E.meaning) text.now) }
     {
         let Ok(valid) = simdutf8::compat::from_utf8(text) else {
-            return read_whole::<E>(alloc, text, names, list);
+            return read_whole_and_list::<E>(alloc, text, names, list);
         };
         if is_among(names, list) {
-            return read_whole::<E>(alloc, text, names, list);
+            return read_whole_and_list::<E>(alloc, text, names, list);
         }
         match stream_text::<E>(alloc, valid, names, list) {
             Ok((kept, elements)) => {
                 let value = Tree::Object(kept);
                 if is_float_in(&value) {
-                    return read_whole::<E>(alloc, text, names, list);
+                    return read_whole_and_list::<E>(alloc, text, names, list);
                 }
                 Ok((Document { value }, elements))
             }
             Err(SkipError::OutOfMemory) => Err(JsonError::OutOfMemory),
             Err(SkipError::NotJson | SkipError::Unsure) => {
-                read_whole::<E>(alloc, text, names, list)
+                read_whole_and_list::<E>(alloc, text, names, list)
             }
         }
     }
@@ -56,7 +56,7 @@ impl Document {
 
 /// The same by way of the whole tree.
 #[tactic(auto, unfolding(crate::specs::Record::record_in))]
-fn read_whole<E: ElementReader>(
+fn read_whole_and_list<E: ElementReader>(
     alloc: Global,
     text: &[u8],
     names: &[&str],

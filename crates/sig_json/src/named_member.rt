@@ -1,6 +1,6 @@
 //! `Member`: a member of an object, borrowed, while an object is sorted.
-ghost use Rattle.sig_json.specs.Named.{IsNamed};
-ghost use Rattle.sig_json.specs.NamedProofs.{IsNamed-prop};
+ghost use Rattle.sig_json.specs.Named.{IsNamedTree};
+ghost use Rattle.sig_json.specs.NamedProofs.{IsNamedTree-prop};
 ghost use Rattle.sig_json.specs.View.{view};
 
 use crate::tree::Tree;
@@ -10,5 +10,5 @@ use crate::tree::Tree;
 pub(crate) struct Member<'a, 't> {
     pub(crate) name: &'a str,
     pub(crate) value: &'a Tree<'t>,
-    ghost named: { IsNamed (view value.now) } by { IsNamed-prop (view value.now) },
+    ghost named: { IsNamedTree (view value.now) } by { IsNamedTree-prop (view value.now) },
 }

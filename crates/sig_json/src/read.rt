@@ -4,7 +4,7 @@ ghost use Rattle.json.specs.Json.{value, items, members};
 ghost use Rattle.serde_json.specs.Data.{no_members, depth as nesting};
 ghost use Rattle.serde_json.specs.Read.{of_json, of_items, of_members, converted, max_depth, read as tree_of};
 ghost use Rattle.sig_json.specs.Gathered.{gathered};
-ghost use Rattle.sig_json.specs.Named.{IsNamed, AreNamed, NamesAscend, HasNamedValues};
+ghost use Rattle.sig_json.specs.Named.{IsNamedTree, AreNamed, NamesAscend, HasNamedValues};
 ghost use Rattle.sig_json.specs.View.{view, items_view, members_view};
 
 use crate::error::ReadError;
@@ -25,7 +25,7 @@ pub(crate) fn read_text(alloc: Global, text: &str) -> Result<Tree<'static>, Read
     ensures ok { IfOk result (λ t. tree_of text.now ≡ Some (view t)) }
     ensures err { result ≡ Err ReadError.NotJson → tree_of text.now ≡ None }
     ensures nests { IfOk result (λ t. nesting (view t) ≤ max_depth) }
-    ensures named { IfOk result (λ t. IsNamed (view t)) }
+    ensures named { IfOk result (λ t. IsNamedTree (view t)) }
 {
     let mut scratch = Scratch::new(alloc);
     let mut reader = Reader::new(text, &mut scratch)?;
@@ -47,7 +47,7 @@ pub(crate) fn read_value(
     ensures ok { IfOk result (λ t. converted of_json (value depth reader.old) ≡ Some (view t, reader.new)) }
     ensures err { result ≡ Err ReadError.NotJson → converted of_json (value depth reader.old) ≡ None }
     ensures shorter { OnOk result (length reader.new < length reader.old) }
-    ensures named { IfOk result (λ t. IsNamed (view t)) }
+    ensures named { IfOk result (λ t. IsNamedTree (view t)) }
 {
     let token = reader.next().ok_or(ReadError::NotJson)?;
     match token {
@@ -68,7 +68,7 @@ pub(crate) fn read_value(
             if depth == 0 {
                 return Err(ReadError::NotJson);
             }
-            Ok(Tree::Object(read_members(alloc, reader, depth - 1)?))
+            Ok(Tree::Object(read_all_members(alloc, reader, depth - 1)?))
         }
         Token::EndObject | Token::EndArray | Token::Key(_) | Token::Bad => Err(ReadError::NotJson),
     }
@@ -101,7 +101,7 @@ fn read_items(
 /// The members of an object, behind its opening brace.
 #[cycle(read)]
 #[tactic(auto, using(crate::proofs::Tokens::objects))]
-fn read_members(
+fn read_all_members(
     alloc: Global,
     reader: &mut Reader<'_>,
     depth: usize,

@@ -4,7 +4,7 @@ ghost use Rattle.std.specs.Prelude.{◌≡◌, ◌++◌, [], ◌∷◌, OnOk};
 use sig_base::OutOfMemory;
 
 /// How many have room once there is a second.
-const FEW: usize = 8;
+const SECOND_ROOM: usize = 8;
 
 /// Makes room for one more. The first takes room for itself alone, since most lists and objects of a large document
 /// have no other, and the second takes it for a few.
@@ -13,7 +13,7 @@ pub(crate) fn make_room<T: Drop>(found: &mut Vec<T>) -> Result<(), OutOfMemory>
 {
     match found.len() {
         0 => Ok(found.reserve_exact(1)?),
-        1 => Ok(found.reserve_exact(FEW - 1)?),
+        1 => Ok(found.reserve_exact(SECOND_ROOM - 1)?),
         _ => Ok(()),
     }
 }

@@ -85,10 +85,10 @@ fn is_digit(text: &[u8]) -> bool
 fn is_short_integer(text: &[u8]) -> bool
     ensures { IsTrue result → IsWhole text.now }
 {
-    !text.is_empty() && text.len() <= FEW_DIGITS && are_digits(text)
+    !text.is_empty() && text.len() <= FEW_DIGITS && are_decimal_digits(text)
 }
 
-fn are_digits(text: &[u8]) -> bool
+fn are_decimal_digits(text: &[u8]) -> bool
     ensures { result ≡ list_all is_ascii_digit text.now }
 {
     text.iter().all(|letter| letter.is_ascii_digit())

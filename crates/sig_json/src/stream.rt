@@ -6,11 +6,11 @@ ghost use Rattle.sig_json.specs.Only.{is_among, names_of};
 ghost use Rattle.sig_json.specs.Streamed.{StreamsValue, StreamsItems, StreamsMembers, StreamsOf};
 ghost use Rattle.sig_json.specs.View.{members_view};
 
+use crate::borrowed::borrow_value;
 use crate::element::ElementReader;
 use crate::error::SkipError;
 use crate::floats::is_float_in;
 use crate::kept::{MEMBER_DEPTH, is_among};
-use crate::lent::lend_value;
 use crate::order::in_order;
 use crate::read::read_value;
 use crate::room::add;
@@ -138,7 +138,7 @@ fn stream_element<E: ElementReader>(
     ensures ok { IfOk result (λ x. StreamsValue E.meaning depth reader.old reader.new (E.seen_as.item x)) }
     ensures shorter { OnOk result (length reader.new < length reader.old) }
 {
-    let value = lend_value(alloc, reader, depth)?;
+    let value = borrow_value(alloc, reader, depth)?;
     if is_float_in(&value) {
         return Err(SkipError::Unsure);
     }

@@ -4,7 +4,7 @@ ghost use Rattle.std.specs.Prelude.{◌≡◌, is_some, option_map};
 ghost use Rattle.serde_json.specs.Find.{as_null, as_bool, as_number, as_str, as_array, as_object, get as member_in};
 ghost use Rattle.serde_json.specs.Find.{get_item, at};
 ghost use Rattle.serde_json.specs.View.{number_view};
-ghost use Rattle.sig_json.specs.Named.{IsNamed};
+ghost use Rattle.sig_json.specs.Named.{IsNamedTree};
 ghost use Rattle.sig_json.specs.View.{view, items_view, members_view};
 
 use crate::order::find;
@@ -14,7 +14,7 @@ use serde_json::Number;
 /// A member of an object: its name and its value.
 pub(crate) type Entry<'t> = (Words<'t>, Tree<'t>);
 
-/// A value. The members of an object are in the byte order of their names, each name once: `IsNamed`, which each
+/// A value. The members of an object are in the byte order of their names, each name once: `IsNamedTree`, which each
 /// document and each view of one carries.
 #[derive(Drop)]
 pub(crate) enum Tree<'t> {
@@ -81,7 +81,7 @@ impl<'t> Tree<'t> {
 
     /// The member of this name of an object.
     pub(crate) fn get(&self, name: &str) -> Option<&Tree<'t>>
-        requires { IsNamed (view self.now) }
+        requires { IsNamedTree (view self.now) }
         ensures { option_map (λ t. view t.now) result ≡ member_in name.now (view self.now) }
     {
         match self {

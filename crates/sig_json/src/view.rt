@@ -2,8 +2,8 @@
 ghost use Rattle.std.specs.Prelude.{◌≡◌, false};
 ghost use Rattle.sig_json.specs.View.{view};
 ghost use Rattle.serde_json.specs.Written.{has_float};
-ghost use Rattle.sig_json.specs.Named.{IsNamed};
-ghost use Rattle.sig_json.specs.NamedProofs.{IsNamed-prop};
+ghost use Rattle.sig_json.specs.Named.{IsNamedTree};
+ghost use Rattle.sig_json.specs.NamedProofs.{IsNamedTree-prop};
 
 use crate::tree::Tree;
 
@@ -13,7 +13,7 @@ use crate::tree::Tree;
 pub struct Json<'a, 't> {
     pub(crate) value: &'a Tree<'t>,
     ghost without_float: { has_float (view value.now) ≡ false },
-    ghost named: { IsNamed (view value.now) } by { IsNamed-prop (view value.now) },
+    ghost named: { IsNamedTree (view value.now) } by { IsNamedTree-prop (view value.now) },
 }
 
 #[tactic(auto, using(crate::proofs::Floatless::floatless, crate::proofs::Named::named, crate::proofs::Lists::lengths))]

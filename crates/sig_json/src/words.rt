@@ -20,7 +20,7 @@ pub(crate) fn own<'t>(alloc: Global, text: &str) -> Result<Words<'t>, OutOfMemor
 }
 
 /// The text where it is. It takes no memory.
-pub(crate) fn lend<'t>(text: &'t str) -> Words<'t>
+pub(crate) fn borrow<'t>(text: &'t str) -> Words<'t>
     ensures same { cow_str_bytes result ≡ text.now }
     ensures utf8 { IsUtf8 (cow_str_bytes result) }
 {

@@ -75,7 +75,10 @@ impl Reply {
     }
 
     /// Returns `consistent M N`, the old and the new size, with status 0. Fails if out of memory alone.
-    pub(crate) fn consistent(alloc: Global, request: &ConsistencyRequest) -> Result<Reply, OutOfMemory>
+    pub(crate) fn consistent(
+        alloc: Global,
+        request: &ConsistencyRequest,
+    ) -> Result<Reply, OutOfMemory>
         ensures { IfOk result (λ reply. reply ≡ consistent request.now) }
     {
         let old = request.old_size;

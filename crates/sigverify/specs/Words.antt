@@ -7,4 +7,3 @@ AsksHelp words = words ≡ codes "--help" ∷ []
 
 abbrev pub AsksVersion : List (List ℕ) → Type 0
 AsksVersion words = words ≡ codes "--version" ∷ []
-

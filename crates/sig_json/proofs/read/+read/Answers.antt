@@ -14,18 +14,18 @@ read_items-returns-in_err-item-clause-err t c refused =
     let going : (after_end_array l.reader ≡ None) × (c.take_end_array.new.self ≡ l.reader) = grind arith in
     list_refused _ _ _ _ l.invariant going.0 (rw (← going.1) (c.read_value.ensures.err (grind arith)))
 
-pub read_members-returns-in_err-name-clause-err : goal.read_members-returns-in_err-name-clause-err
-read_members-returns-in_err-name-clause-err t c refused =
+pub read_all_members-returns-in_err-name-clause-err : goal.read_all_members-returns-in_err-name-clause-err
+read_all_members-returns-in_err-name-clause-err t c refused =
     object_refused_at_key _ _ _ _ c.members.invariant.0 c.in_err-name.ensures.value
 
-pub read_members-returns-in_err-value-clause-err : goal.read_members-returns-in_err-value-clause-err
-read_members-returns-in_err-value-clause-err t c refused =
+pub read_all_members-returns-in_err-value-clause-err : goal.read_all_members-returns-in_err-value-clause-err
+read_all_members-returns-in_err-value-clause-err t c refused =
     let l = c.members in
     let key : read_key l.reader ≡ Some (Some c.in-Some.name.now, c.next_key.new.self) = grind arith in
     object_refused_at_value _ _ _ _ _ _ l.invariant.0 key (c.read_value.ensures.err (grind arith))
 
-pub read_members-members-preserved : goal.read_members-members-preserved
-read_members-members-preserved t c =
+pub read_all_members-members-preserved : goal.read_all_members-members-preserved
+read_all_members-members-preserved t c =
     let l = c.members in
     let key : read_key l.reader ≡ Some (Some c.in-Some.name.now, c.next_key.new.self) = grind arith in
     let done = c.in_ok-value.ensures in (
@@ -35,8 +35,8 @@ read_members-members-preserved t c =
       search rules,
     )
 
-pub read_members-returns-clause-ok : goal.read_members-returns-clause-ok
-read_members-returns-clause-ok t c =
+pub read_all_members-returns-clause-ok : goal.read_all_members-returns-clause-ok
+read_all_members-returns-clause-ok t c =
     let l = c.members in
     let end : read_key l.reader ≡ Some (None, c.next_key.new.self) = grind arith in
     ordered_end _ _ _ _ _ _ l.invariant.0 end (search rules)

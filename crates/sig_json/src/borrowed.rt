@@ -3,7 +3,7 @@ ghost use Rattle.std.specs.Prelude.{◌≡◌, ◌<◌, length, Some, None, Err,
 ghost use Rattle.json.specs.Json.{value, items, members};
 ghost use Rattle.serde_json.specs.Data.{no_members};
 ghost use Rattle.serde_json.specs.Read.{of_json, of_items, of_members, converted};
-ghost use Rattle.sig_json.specs.Named.{IsNamed, AreNamed, NamesAscend, HasNamedValues};
+ghost use Rattle.sig_json.specs.Named.{IsNamedTree, AreNamed, NamesAscend, HasNamedValues};
 ghost use Rattle.sig_json.specs.View.{view, items_view, members_view};
 
 use crate::error::ReadError;
@@ -11,14 +11,14 @@ use crate::number::number_in;
 use crate::order::{add_member, all_in_order};
 use crate::room::add;
 use crate::tree::{Entry, Tree};
-use crate::words::lend;
+use crate::words::borrow;
 use json::{Reader, Token};
 use std::alloc::Global;
 
 /// The next value, as `read_value` reads it.
-#[cycle(lent)]
+#[cycle(borrowed)]
 #[tactic(auto, using(crate::proofs::Tokens::values))]
-pub(crate) fn lend_value<'r>(
+pub(crate) fn borrow_value<'r>(
     alloc: Global,
     reader: &mut Reader<'r>,
     depth: usize,
@@ -26,7 +26,7 @@ pub(crate) fn lend_value<'r>(
     ensures ok { IfOk result (λ t. converted of_json (value depth reader.old) ≡ Some (view t, reader.new)) }
     ensures err { result ≡ Err ReadError.NotJson → converted of_json (value depth reader.old) ≡ None }
     ensures shorter { OnOk result (length reader.new < length reader.old) }
-    ensures named { IfOk result (λ t. IsNamed (view t)) }
+    ensures named { IfOk result (λ t. IsNamedTree (view t)) }
 {
     let token = reader.next().ok_or(ReadError::NotJson)?;
     match token {
@@ -36,27 +36,27 @@ pub(crate) fn lend_value<'r>(
             Some(number) => Ok(Tree::Number(number)),
             None => Err(ReadError::NotJson),
         },
-        Token::String(text) => Ok(Tree::Text(lend(text))),
+        Token::String(text) => Ok(Tree::Text(borrow(text))),
         Token::BeginArray => {
             if depth == 0 {
                 return Err(ReadError::NotJson);
             }
-            Ok(Tree::Array(lend_items(alloc, reader, depth - 1)?))
+            Ok(Tree::Array(borrow_items(alloc, reader, depth - 1)?))
         }
         Token::BeginObject => {
             if depth == 0 {
                 return Err(ReadError::NotJson);
             }
-            Ok(Tree::Object(lend_members(alloc, reader, depth - 1)?))
+            Ok(Tree::Object(borrow_members(alloc, reader, depth - 1)?))
         }
         Token::EndObject | Token::EndArray | Token::Key(_) | Token::Bad => Err(ReadError::NotJson),
     }
 }
 
 /// The elements of a list, behind its opening bracket.
-#[cycle(lent)]
+#[cycle(borrowed)]
 #[tactic(auto, using(crate::proofs::Tokens::lists))]
-fn lend_items<'r>(
+fn borrow_items<'r>(
     alloc: Global,
     reader: &mut Reader<'r>,
     depth: usize,
@@ -70,16 +70,16 @@ fn lend_items<'r>(
 {
     let mut found = Vec::new(alloc);
     'items: while !reader.take_end_array() {
-        let item = lend_value(alloc, reader, depth)?;
+        let item = borrow_value(alloc, reader, depth)?;
         add(&mut found, item)?;
     }
     Ok(found)
 }
 
 /// The members of an object, behind its opening brace.
-#[cycle(lent)]
+#[cycle(borrowed)]
 #[tactic(auto, using(crate::proofs::Tokens::objects))]
-fn lend_members<'r>(
+fn borrow_members<'r>(
     alloc: Global,
     reader: &mut Reader<'r>,
     depth: usize,
@@ -93,8 +93,8 @@ fn lend_members<'r>(
 {
     let mut found = Vec::new(alloc);
     'members: while let Some(name) = reader.next_key()? {
-        let key = lend(name);
-        let value = lend_value(alloc, reader, depth)?;
+        let key = borrow(name);
+        let value = borrow_value(alloc, reader, depth)?;
         add_member(&mut found, key, value)?;
     }
     Ok(all_in_order(alloc, found)?)

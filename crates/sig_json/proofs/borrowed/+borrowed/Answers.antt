@@ -6,73 +6,73 @@ use Rattle.serde_json.specs.Read.{of_json, converted}
 use Rattle.sig_json.proofs.Tokens.{null_means, number_means, number_refused, text_means, array_too_deep}
 use Rattle.sig_json.proofs.Tokens.{object_too_deep, list_refused, object_step, object_refused_at_key}
 use Rattle.sig_json.proofs.Tokens.{object_refused_at_value, ordered_end}
-use Rattle.sig_json.proofs.lent.+lent.Goals as goal
+use Rattle.sig_json.proofs.borrowed.+borrowed.Goals as goal
 
-pub lend_items-returns-in_err-item-clause-err : goal.lend_items-returns-in_err-item-clause-err
-lend_items-returns-in_err-item-clause-err t c refused =
+pub borrow_items-returns-in_err-item-clause-err : goal.borrow_items-returns-in_err-item-clause-err
+borrow_items-returns-in_err-item-clause-err t c refused =
     let l = c.items in
     let going : (after_end_array l.reader ≡ None) × (c.take_end_array.new.self ≡ l.reader) = grind arith in
-    list_refused _ _ _ _ l.invariant going.0 (rw (← going.1) (c.lend_value.ensures.err (grind arith)))
+    list_refused _ _ _ _ l.invariant going.0 (rw (← going.1) (c.borrow_value.ensures.err (grind arith)))
 
-pub lend_members-returns-in_err-name-clause-err : goal.lend_members-returns-in_err-name-clause-err
-lend_members-returns-in_err-name-clause-err t c refused =
+pub borrow_members-returns-in_err-name-clause-err : goal.borrow_members-returns-in_err-name-clause-err
+borrow_members-returns-in_err-name-clause-err t c refused =
     object_refused_at_key _ _ _ _ c.members.invariant.0 c.in_err-name.ensures.value
 
-pub lend_members-returns-in_err-value-clause-err : goal.lend_members-returns-in_err-value-clause-err
-lend_members-returns-in_err-value-clause-err t c refused =
+pub borrow_members-returns-in_err-value-clause-err : goal.borrow_members-returns-in_err-value-clause-err
+borrow_members-returns-in_err-value-clause-err t c refused =
     let l = c.members in
     let key : read_key l.reader ≡ Some (Some c.in-Some.name.now, c.next_key.new.self) = grind arith in
-    object_refused_at_value _ _ _ _ _ _ l.invariant.0 key (c.lend_value.ensures.err (grind arith))
+    object_refused_at_value _ _ _ _ _ _ l.invariant.0 key (c.borrow_value.ensures.err (grind arith))
 
-pub lend_members-members-preserved : goal.lend_members-members-preserved
-lend_members-members-preserved t c =
+pub borrow_members-members-preserved : goal.borrow_members-members-preserved
+borrow_members-members-preserved t c =
     let l = c.members in
     let key : read_key l.reader ≡ Some (Some c.in-Some.name.now, c.next_key.new.self) = grind arith in
     let done = c.in_ok-value.ensures in (
-      object_step _ _ _ _ _ l.found.items c.add_member.new.members.items c.in-Some.name.now c.lend-key.result
+      object_step _ _ _ _ _ l.found.items c.add_member.new.members.items c.in-Some.name.now c.borrow-key.result
           c.in_ok-value.value l.invariant.0 key (search rules) done.ok done.shorter done.named
           (search rules) (search rules),
       search rules,
     )
 
-pub lend_members-returns-clause-ok : goal.lend_members-returns-clause-ok
-lend_members-returns-clause-ok t c =
+pub borrow_members-returns-clause-ok : goal.borrow_members-returns-clause-ok
+borrow_members-returns-clause-ok t c =
     let l = c.members in
     let end : read_key l.reader ≡ Some (None, c.next_key.new.self) = grind arith in
     ordered_end _ _ _ _ _ _ l.invariant.0 end (search rules)
 
-pub lend_value-returns-then-depth-eq0-clause-err : goal.lend_value-returns-then-depth-eq0-clause-err
-lend_value-returns-then-depth-eq0-clause-err t c never =
+pub borrow_value-returns-then-depth-eq0-clause-err : goal.borrow_value-returns-then-depth-eq0-clause-err
+borrow_value-returns-then-depth-eq0-clause-err t c never =
     let first : c.args.reader.now ≡ token_of c.in_ok-token.token ∷ c.next.new.self = grind arith in
     array_too_deep _ _ _ (omega arith) (first ∙ ap (λ k. token_of k ∷ c.next.new.self) c.in-BeginArray.is)
 
-pub lend_value-returns-then-depth-eq0-2-clause-err : goal.lend_value-returns-then-depth-eq0-2-clause-err
-lend_value-returns-then-depth-eq0-2-clause-err t c never =
+pub borrow_value-returns-then-depth-eq0-2-clause-err : goal.borrow_value-returns-then-depth-eq0-2-clause-err
+borrow_value-returns-then-depth-eq0-2-clause-err t c never =
     let first : c.args.reader.now ≡ token_of c.in_ok-token.token ∷ c.next.new.self = grind arith in
     object_too_deep _ _ _ (omega arith) (first ∙ ap (λ k. token_of k ∷ c.next.new.self) c.in-BeginObject.is)
 
-pub lend_value-returns-in-Null-clause-ok : goal.lend_value-returns-in-Null-clause-ok
-lend_value-returns-in-Null-clause-ok t c =
+pub borrow_value-returns-in-Null-clause-ok : goal.borrow_value-returns-in-Null-clause-ok
+borrow_value-returns-in-Null-clause-ok t c =
     let first : c.args.reader.now ≡ token_of c.in_ok-token.token ∷ c.next.new.self = grind arith in
     null_means _ _ _ (first ∙ ap (λ k. token_of k ∷ c.next.new.self) c.in-Null.is)
 
-pub lend_value-returns-in-Some-clause-ok : goal.lend_value-returns-in-Some-clause-ok
-lend_value-returns-in-Some-clause-ok t c =
+pub borrow_value-returns-in-Some-clause-ok : goal.borrow_value-returns-in-Some-clause-ok
+borrow_value-returns-in-Some-clause-ok t c =
     let first : c.args.reader.now ≡ token_of c.in_ok-token.token ∷ c.next.new.self = grind arith in
     number_means _ _ _ _ _ (first ∙ ap (λ k. token_of k ∷ c.next.new.self) c.in-Number.is) c.in-Some.ensures
 
-pub lend_value-returns-in-None-clause-err : goal.lend_value-returns-in-None-clause-err
-lend_value-returns-in-None-clause-err t c refused =
+pub borrow_value-returns-in-None-clause-err : goal.borrow_value-returns-in-None-clause-err
+borrow_value-returns-in-None-clause-err t c refused =
     let first : c.args.reader.now ≡ token_of c.in_ok-token.token ∷ c.next.new.self = grind arith in
     number_refused _ _ _ _ (first ∙ ap (λ k. token_of k ∷ c.next.new.self) c.in-Number.is) c.in-None.ensures
 
-pub lend_value-returns-in-String-clause-ok : goal.lend_value-returns-in-String-clause-ok
-lend_value-returns-in-String-clause-ok t c =
+pub borrow_value-returns-in-String-clause-ok : goal.borrow_value-returns-in-String-clause-ok
+borrow_value-returns-in-String-clause-ok t c =
     let first : c.args.reader.now ≡ token_of c.in_ok-token.token ∷ c.next.new.self = grind arith in
     text_means _ _ _ _ _ (first ∙ ap (λ k. token_of k ∷ c.next.new.self) c.in-String.is) (search rules)
 
-pub lend_value-returns-in-EndObject-clause-err : goal.lend_value-returns-in-EndObject-clause-err
-lend_value-returns-in-EndObject-clause-err t c refused =
+pub borrow_value-returns-in-EndObject-clause-err : goal.borrow_value-returns-in-EndObject-clause-err
+borrow_value-returns-in-EndObject-clause-err t c refused =
     let first : c.args.reader.now ≡ token_of c.in_ok-token.token ∷ c.next.new.self = grind arith in
     let none : value c.args.depth c.args.reader.now ≡ None =
     rw (value_is c.args.depth c.args.reader.now, first) (grind arith) in
