@@ -85,16 +85,16 @@ fn row_document(alloc: Global, row: &AcceptedRow) -> Result<Document, OutOfMemor
     ensures tree { IfOk result (λ document. document_tree document ≡ row_tree row.now) }
     ensures back { IfOk result (λ _. IsRowReadBack row.now) }
 {
-    let operation = Document::of_text(alloc, operation_word(row.operation))?;
-    let scheme = scheme_document(alloc, row)?;
-    let key = bytes_document(alloc, &row.key)?;
-    let message = bytes_document(alloc, &row.message)?;
-    let signature = bytes_document(alloc, &row.signature)?;
     let mut object = Document::object(alloc);
+    let operation = Document::of_text(alloc, operation_word(row.operation))?;
     object.insert(alloc, "operation", operation)?;
+    let scheme = scheme_document(alloc, row)?;
     insert_some(alloc, &mut object, "scheme", scheme)?;
+    let key = bytes_document(alloc, &row.key)?;
     object.insert(alloc, "key", key)?;
+    let message = bytes_document(alloc, &row.message)?;
     object.insert(alloc, "message", message)?;
+    let signature = bytes_document(alloc, &row.signature)?;
     object.insert(alloc, "signature", signature)?;
     Ok(object)
 }
