@@ -21,7 +21,7 @@ pub enum BundleErrorKind {
     /// The material has no content, or a hint at a key, which is not read.
     #[error("VerificationMaterialContentUnsupported")]
     VerificationMaterialContentUnsupported,
-    /// The certificate at this index, counted from 0, is none.
+    /// The bytes at this index, counted from 0, are no certificate.
     #[error("CertificateMalformed")]
     CertificateMalformed(usize),
     /// The chain of certificates is empty.

@@ -11,7 +11,7 @@ use crate::bundle_error::BundleErrorKind;
 use crate::content_check::{CheckedContent, checked_content};
 use crate::log_body::is_body_about;
 use crate::material::{TransparencyLogEntry, VerificationMaterial};
-use crate::profile_check::{meets_profile, only_entry};
+use crate::profile_check::{entry_among, meets_profile};
 use crate::signing_certificate::signing_certificate;
 use sig_base::{Bytes, OutOfMemory};
 use sig_certificate::Certificate;
@@ -50,11 +50,11 @@ fn check(
     ensures { AnswersOnly BundleErrorKind.OutOfMemory (IsCheckedWith input.now (Some material.now)) result }
 {
     let certificate = signing_certificate(alloc, &material.content)?;
-    check_content(alloc, input, material, certificate)
+    check_behind_certificate(alloc, input, material, certificate)
 }
 
 /// The checks behind that of the signing certificate.
-fn check_content(
+fn check_behind_certificate(
     alloc: Global,
     input: &Bundle,
     material: &VerificationMaterial,
@@ -64,7 +64,7 @@ fn check_content(
         (checked input.now material.now (Ok certificate)) }
 {
     let content = checked_content(alloc, &input.content)?;
-    let entry = only_entry(&material.tlog_entries)?;
+    let entry = entry_among(&material.tlog_entries)?;
     meets_profile(alloc, &input.media_type, entry)?;
     Ok(CheckedBundle {
         certificate,

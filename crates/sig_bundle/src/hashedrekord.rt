@@ -21,7 +21,7 @@ use std::alloc::Global;
 
 /// The digest of the artifact. Fails only if memory runs out.
 #[tactic(auto, unfolding(crate::specs::Hashedrekord::hash_tree, hex::specs::Hex::encode_with))]
-fn hash(alloc: Global, digest: &[u8]) -> Result<Document, OutOfMemory>
+fn hash_tree(alloc: Global, digest: &[u8]) -> Result<Document, OutOfMemory>
     ensures { IfOk result (λ document. document_tree document ≡ hash_tree digest.now) }
 {
     let algorithm = Document::of_text(alloc, "sha256")?;
@@ -35,17 +35,17 @@ fn hash(alloc: Global, digest: &[u8]) -> Result<Document, OutOfMemory>
 
 /// What is signed. Fails only if memory runs out.
 #[tactic(auto, unfolding(crate::specs::Hashedrekord::data_tree))]
-fn data(alloc: Global, digest: &[u8]) -> Result<Document, OutOfMemory>
+fn data_tree(alloc: Global, digest: &[u8]) -> Result<Document, OutOfMemory>
     ensures { IfOk result (λ document. document_tree document ≡ data_tree digest.now) }
 {
-    let hash = hash(alloc, digest)?;
+    let hash = hash_tree(alloc, digest)?;
     let object = Object::new(alloc).with(alloc, "hash", hash)?;
     Ok(object.into_document())
 }
 
 /// The text of the certificate. Fails only if memory runs out.
 #[tactic(auto, unfolding(crate::specs::Hashedrekord::public_key_tree))]
-fn public_key(alloc: Global, pem: &[u8]) -> Result<Document, OutOfMemory>
+fn public_key_tree(alloc: Global, pem: &[u8]) -> Result<Document, OutOfMemory>
     ensures { IfOk result (λ document. document_tree document ≡ public_key_tree pem.now) }
 {
     let content = write_bytes(alloc, pem)?;
@@ -59,7 +59,7 @@ fn signature_tree(alloc: Global, signature: &[u8], pem: &[u8]) -> Result<Documen
     ensures { IfOk result (λ document. document_tree document ≡ signature_tree signature.now pem.now) }
 {
     let content = write_bytes(alloc, signature)?;
-    let key = public_key(alloc, pem)?;
+    let key = public_key_tree(alloc, pem)?;
     let object = Object::new(alloc)
         .with(alloc, "content", content)?
         .with(alloc, "publicKey", key)?;
@@ -71,7 +71,7 @@ fn signature_tree(alloc: Global, signature: &[u8], pem: &[u8]) -> Result<Documen
 fn spec(alloc: Global, digest: &[u8], signature: &[u8], pem: &[u8]) -> Result<Document, OutOfMemory>
     ensures { IfOk result (λ document. document_tree document ≡ spec_tree digest.now signature.now pem.now) }
 {
-    let data = data(alloc, digest)?;
+    let data = data_tree(alloc, digest)?;
     let signature = signature_tree(alloc, signature, pem)?;
     let object = Object::new(alloc)
         .with(alloc, "data", data)?

@@ -68,7 +68,7 @@ pub use proof_error::ProofFieldsError;
 pub use read::read_bundle;
 pub use sig_dsse::{
     ArtifactDigest, DigestName, Digests, DsseEnvelope, DsseSignature, DsseSignatures,
-    InTotoStatementV1, Subject, SubjectDigests, Subjects, compute_pae, envelope_json,
+    InTotoStatementV1,
 };
 pub use version::Version;
 pub use write::bundle_text;

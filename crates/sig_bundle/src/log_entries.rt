@@ -72,7 +72,7 @@ fn is_without_members(alloc: Global, entry: &TransparencyLogEntry) -> bool
 }
 
 impl SparseEntry {
-    /// The same entry. Fails if out of memory alone.
+    /// The same entry. Fails only if out of memory.
     pub(crate) fn new(
         alloc: Global,
         entry: TransparencyLogEntry,

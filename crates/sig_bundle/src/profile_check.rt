@@ -16,7 +16,7 @@ use std::alloc::Global;
 use std::str::FromStr;
 
 /// The one log entry. Fails with `TlogEntry` and their number if and only if there is not one.
-pub(crate) fn only_entry(entries: &LogEntries) -> Result<&TransparencyLogEntry, BundleErrorKind>
+pub(crate) fn entry_among(entries: &LogEntries) -> Result<&TransparencyLogEntry, BundleErrorKind>
     ensures { borrowed_now result ≡ entry_among entries.now }
 {
     match entries.only() {

@@ -20,22 +20,19 @@ impl ProofFields {
     /// - `HashLength` with the index of the first hash that has not 32 bytes;
     /// - `TreeSize`: the size is negative;
     /// - `CheckpointMissing`: there is no checkpoint;
-    /// - `Checkpoint`: its text is none, with the fault of [`SignedCheckpoint::decode`].
+    /// - `Checkpoint`: its text is no checkpoint, with the fault of [`SignedCheckpoint::decode`].
     pub fn to_proof(&self, alloc: Global) -> std::result::Result<InclusionProof, ProofFieldsError>
         // A proof is returned if and only if the members are it, and an error if and only if its cause is the first.
         ensures exact { AnswersOnly ProofFieldsError.OutOfMemory (IsProofOrFault self.now) result }
         // The same in one equation.
         ensures answer { Answers ProofFieldsError.OutOfMemory (λ proof. proof) result (proof_or_fault self.now) }
     {
-        proof_from_fields(alloc, self)
+        read_fields(alloc, self)
     }
 }
 
 /// The proof of these members.
-fn proof_from_fields(
-    alloc: Global,
-    fields: &ProofFields,
-) -> Result<InclusionProof, ProofFieldsError>
+fn read_fields(alloc: Global, fields: &ProofFields) -> Result<InclusionProof, ProofFieldsError>
     ensures { Answers ProofFieldsError.OutOfMemory (λ proof. proof) result (proof_or_fault fields.now) }
 {
     let root_hash = hash_of(fields.root_hash.as_slice(), ProofFieldsError::RootLength)?;

@@ -21,7 +21,7 @@ pub enum ProofFieldsError {
     /// There is no checkpoint.
     #[error("CheckpointMissing")]
     CheckpointMissing,
-    /// The text of the checkpoint is none: it breaks this rule first.
+    /// The text of the checkpoint is malformed: it breaks this rule first.
     #[error("Checkpoint")]
     Checkpoint(CheckpointFault),
     /// Out of memory.

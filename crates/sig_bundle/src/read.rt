@@ -40,9 +40,9 @@ impl ElementReader for BundleReader {
 }
 
 /// The bundle that a text is (Sigstore bundle format, in the JSON form of its protocol buffers). Absent and null
-/// members mean zero, empty or none. Members that are not read here, of whatever kind, are ignored and not kept: those
-/// that the format does not have, and `timestampVerificationData`, a message digest's `algorithm` and a public key's
-/// `hint`.
+/// members mean zero, empty or absent. Members that are not read here, of whatever kind, are ignored and not kept:
+/// those that the format does not have, and `timestampVerificationData`, a message digest's `algorithm` and a public
+/// key's `hint`.
 ///
 /// Fails with `NotJson` where the text has no reading, then with `Float` where its tree holds a number with a point or
 /// an exponent, `-0`, or an integer outside -2^63 to 2^64 - 1, and then with `Member` where a member is not of its
