@@ -7,7 +7,7 @@ use sig_base::{Bytes, Register, Text};
 pub struct DsseEnvelope {
     /// What is signed.
     pub payload: Bytes,
-    /// What kind of text the payload is.
+    /// What kind of bytes the payload is: its media type.
     pub payload_type: Text,
     /// The signatures, each over the pre-authentication encoding of type and payload.
     pub signatures: DsseSignatures,

@@ -6,7 +6,7 @@ ghost use Rattle.sig_dsse.specs.Seen.{seen, seen_subject};
 ghost use Rattle.sig_dsse.specs.Statement.{statement_in, subject_of};
 
 use crate::statement::{InTotoStatementV1, Subject};
-use sig_base::{Result as Answer, SigstoreError, UnexpectedKind};
+use sig_base::{SigstoreError, UnexpectedKind};
 use sig_json::{
     AnyReader, ElementReader, Json, JsonError, MemberError, TextMapReader, TextReader, optional,
     read_record, required, required_list, required_text,
@@ -61,7 +61,7 @@ impl InTotoStatementV1 {
     /// `annotations` anything or absent. Null means absent, but not inside a list or a digest; other members are
     /// ignored.
     #[tactic(auto, unfolding(crate::specs::Statement::statement_of))]
-    pub fn from_json(alloc: Global, bytes: &[u8]) -> Answer<InTotoStatementV1>
+    pub fn from_json(alloc: Global, bytes: &[u8]) -> sig_base::Result<InTotoStatementV1>
         ensures { Answers SigstoreError.OutOfMemory seen result (statement_or_fault bytes.now) }
     {
         match read_record::<StatementReader>(alloc, bytes) {
