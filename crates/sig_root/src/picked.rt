@@ -44,8 +44,8 @@ fn add_all(list: &mut Entries, certificates: &Entries) -> Result<(), OutOfMemory
     Ok(())
 }
 
-/// Returns all certificates, in order, of the authorities whose range has begun by this second. Fails if out of memory
-/// alone.
+/// Returns all certificates, in order, of the authorities whose range has begun by this second. Fails only if out of
+/// memory.
 pub(crate) fn pick_certificates(
     alloc: Global,
     authorities: &[CertificateAuthority],
@@ -75,7 +75,7 @@ fn add_certificates(
 }
 
 /// Returns the keys whose range holds at this second, by their log ids. Of equal log ids the last counts.
-/// Fails if out of memory alone.
+/// Fails only if out of memory.
 pub(crate) fn pick_keys(
     alloc: Global,
     instances: &[TransparencyLogInstance],

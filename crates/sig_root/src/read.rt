@@ -128,7 +128,7 @@ impl ElementReader for RootReader {
 }
 
 /// Returns the trusted root that a text is (Sigstore trusted root format, in the JSON form of its protocol buffers).
-/// Absent and null members mean empty or none. Members that are not read here, of whatever kind, are ignored. Nothing
+/// Absent and null members mean empty or absent. Members that are not read here, of whatever kind, are ignored. Nothing
 /// is checked of who made the text. Errors:
 ///
 /// - `NotJson` if the text has no reading;
