@@ -1,5 +1,5 @@
 -- *Consistency proof from Rekor*: what Rekor's API returns, as the proof that it is (RFC 6962 section 2.1.2), and the
--- result of its check, also from the head of a log.
+-- result of its check, also from a tree head.
 use Rattle.std.specs.Prelude.{ℕ, Bool, IsTrue, List, Option, Some, None, Result, Ok, Err}
 use Rattle.sig_base.specs.ResultSteps.{◌>>=◌}
 use Rattle.sig_base.specs.declared.error.SigstoreError.{SigstoreError}
@@ -30,8 +30,8 @@ abbrev pub as_consistency : Result (Unit {0}) MerkleProofError → Result (Unit 
 as_consistency (Ok _) = Ok tt
 as_consistency (Err refusal) = Err (ConsistencyProofError refusal)
 
--- the result of a check that a head's tree has an older one as its first leaves: the first of the head's signature, its
--- tree, and the proof that fails
+-- the result of a check that a tree head's tree has an older one as its first leaves: the first of the tree head's
+-- signature, its tree, and the proof that fails
 unfoldable pub head_answer : (List ℕ → List ℕ → Bool) → LogInfo → ℕ → List ℕ → ConsistencyProof
     → Result (Unit {0}) SigstoreError
 head_answer accepts head old_size old_root proof = do
@@ -39,7 +39,8 @@ head_answer accepts head old_size old_root proof = do
   _ ← tree_answer head.signed_tree_head head.root_hash head.tree_size
   as_consistency (consistency_answer old_size head.tree_size proof.hashes old_root head.root_hash)
 
--- *Grown head*: the log signed the head's own tree, and the proof shows that it has the older one as its first leaves
+-- *Grown tree head*: the log signed the tree head's own tree, and the proof shows that it has the older one as its
+-- first leaves
 pub record IsGrownHead (accepts : List ℕ → List ℕ → Bool) (head : LogInfo) (old_size : ℕ) (old_root : List ℕ)
     (proof : ConsistencyProof) : Type 0 where
   pub signed : IsTrue (has_accepted_signature accepts head.signed_tree_head)

@@ -1,4 +1,4 @@
--- *Head from Rekor*: what Rekor's API says of a log, as the head that it is.
+-- *Tree head from Rekor*: what Rekor's API says of a log, as the tree head that it is.
 use Rattle.std.specs.Prelude.{Result, Ok}
 use Rattle.sig_base.specs.ResultSteps.{◌>>=◌}
 use Rattle.sig_base.specs.declared.error.SigstoreError.{SigstoreError}
@@ -7,7 +7,7 @@ use Rattle.sig_rekor.specs.HashText.{hash_in}
 use Rattle.sig_rekor_models.specs.declared.log_info.LogInfo.{LogInfo}
 use Rattle.sig_rekor_models.specs.declared.log_info.RekorLogInfo.{RekorLogInfo}
 
--- the root hash is a text in hexadecimal, and the other parts are as they stand
+-- the root hash is a text in hexadecimal, and the other parts are as they are
 unfoldable pub log_info_from_rekor : RekorLogInfo → Result LogInfo SigstoreError
 log_info_from_rekor raw = do
   root ← hash_in RootLength raw.root_hash

@@ -101,7 +101,7 @@ impl Body {
         }
     }
 
-    /// Returns the object of the members `apiVersion`, `kind` and `spec`. Fails if out of memory alone.
+    /// Returns the object of the members `apiVersion`, `kind` and `spec`. Fails only if out of memory.
     pub fn json(&self, alloc: Global) -> Result<Document>
         ensures { Answers Memory document_tree result (Ok (body_tree (seen_body self.now))) }
     {

@@ -85,7 +85,7 @@ impl Hashedrekord {
         }
     }
 
-    /// Returns the object of the members `apiVersion`, `kind` and `spec`. Fails if out of memory alone.
+    /// Returns the object of the members `apiVersion`, `kind` and `spec`. Fails only if out of memory.
     pub fn json(&self, alloc: Global) -> Result<Document>
         ensures { Answers Memory document_tree result (Ok (hashedrekord_json self.now)) }
     {

@@ -40,14 +40,14 @@ pub fn equal_shards(one: &InactiveShardLogInfo, other: &InactiveShardLogInfo) ->
     one == other
 }
 
-/// Whether two heads of logs are equal: if and only if all their parts are.
+/// Whether two tree heads are equal: if and only if all their parts are.
 pub fn equal_heads(one: &LogInfo, other: &LogInfo) -> bool
     ensures { IsTrue result ↔ (one.now ≡ other.now) }
 {
     one == other
 }
 
-/// Whether two heads of Rekor's API are equal: if and only if all their parts are.
+/// Whether two tree heads of Rekor's API are equal: if and only if all their parts are.
 pub fn equal_api_heads(one: &RekorLogInfo, other: &RekorLogInfo) -> bool
     ensures { IsTrue result ↔ (one.now ≡ other.now) }
 {

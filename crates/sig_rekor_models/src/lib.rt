@@ -1,4 +1,4 @@
-//! Models of the transparency log Rekor's API: log entries, heads of logs, consistency proofs, and entries to propose.
+//! Models of the transparency log Rekor's API: log entries, tree heads, consistency proofs, and entries to propose.
 //!
 //! A log entry, long texts cut short:
 //!
@@ -11,7 +11,7 @@
 //!
 //! The layer above uses four facts. A text is read as the log entry that its members are, if and only if they fit the
 //! table of the format. A log entry's check of inclusion fails with the first condition that does not hold: a proof,
-//! its texts, a canonical body, and then those of [`InclusionProof::verify`]. What the API says of a log's head and of
+//! its texts, a canonical body, and then those of [`InclusionProof::verify`]. What the API says of a tree head and of
 //! a consistency proof is taken for them if and only if each hash is 64 hexadecimal digits, and else the first that is
 //! not is told. The JSON of a body and of a proposed entry is the object of its kind, version and spec.
 //!

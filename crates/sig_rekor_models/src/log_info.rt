@@ -1,4 +1,4 @@
-//! `LogInfo`: the head of a log, and the shards that it no longer writes to.
+//! `LogInfo`: the tree head of a log, and the shards that it no longer writes to.
 ghost use Rattle.std.specs.Prelude.{◌≡◌, None};
 ghost use Rattle.sig_rekor_models.specs.LogInfo.{log_info_from_rekor};
 
@@ -21,7 +21,7 @@ pub struct InactiveShardLogInfo {
 /// Shards in order.
 pub type Shards = Register<InactiveShardLogInfo>;
 
-/// The head of a log.
+/// A tree head.
 #[derive(Drop, PartialEq, Eq)]
 pub struct LogInfo {
     /// The root hash of the log's tree.
@@ -36,7 +36,7 @@ pub struct LogInfo {
     pub inactive_shards: Option<Shards>,
 }
 
-/// The head of a log as Rekor's API returns it: the root hash is a text in hexadecimal.
+/// A tree head as Rekor's API returns it: the root hash is a text in hexadecimal.
 #[derive(Drop, PartialEq, Eq)]
 pub struct RekorLogInfo {
     /// The root hash of the log's tree in hexadecimal.
@@ -52,7 +52,7 @@ pub struct RekorLogInfo {
 }
 
 impl LogInfo {
-    /// The head of these parts, without identifiers of shards.
+    /// The tree head of these parts, without identifiers of shards.
     pub fn new(root_hash: [u8; 32], tree_size: u64, signed_tree_head: SignedCheckpoint) -> LogInfo
         ensures { result ≡ record {
           root_hash = root_hash;
@@ -71,7 +71,7 @@ impl LogInfo {
         }
     }
 
-    /// Returns the head that the API's one is. It takes no memory.
+    /// Returns the tree head that the API's one is. It takes no memory.
     ///
     /// Errors, as of [`decode_hash`]:
     /// - `HexDecodeError`: the root hash is not an even number of hexadecimal digits;

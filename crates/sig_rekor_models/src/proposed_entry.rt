@@ -46,8 +46,7 @@ impl ProposedEntry {
     ghost use Rattle.sig_json.specs.Tree.{document_tree};
     ghost use Rattle.sig_rekor_models.specs.ProposedTree.{proposed_tree};
 
-    /// Returns the object of the members `apiVersion`, `kind`, in lower case, and `spec`. Fails if out of memory
-    /// alone.
+    /// Returns the object of the members `apiVersion`, `kind`, in lower case, and `spec`. Fails only if out of memory.
     pub fn json(&self, alloc: Global) -> Result<Document>
         ensures { Answers Memory document_tree result (Ok (proposed_tree self.now)) }
     {

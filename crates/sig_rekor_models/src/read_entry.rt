@@ -13,7 +13,7 @@ ghost use Rattle.sig_rekor_models.specs.LogEntry.{placed_of, rekor_proof_of, see
 
 use crate::log_entry::{Attestation, LogEntry, Verification};
 use crate::read_body::CodedBodyReader;
-use sig_base::{Bytes, Entries, Result as Answer, SigstoreError, Text};
+use sig_base::{Bytes, Entries, SigstoreError, Text};
 use sig_json::{
     ElementReader, I64NumberReader, Json, JsonError, MemberError, TextReader, U64NumberReader,
     optional, read_record, required, required_list, required_text,
@@ -226,7 +226,7 @@ impl LogEntry {
     /// `attestation` an object with an optional text `dummy`, or absent. Null means absent, but not inside a list. The
     /// entry itself may have no other members; those of the objects in it are ignored.
     #[tactic(auto, unfolding(crate::specs::LogEntry::entry_in))]
-    pub fn from_json_text(alloc: Global, text: &str) -> Answer<LogEntry>
+    pub fn from_json_text(alloc: Global, text: &str) -> sig_base::Result<LogEntry>
         ensures { Answers Memory seen_entry result (entry_or_error text.now) }
     {
         match read_record::<LogEntryReader>(alloc, text.as_bytes()) {

@@ -1,4 +1,4 @@
-//! Whether a log vouches for its head, and the head's tree has an older one as its first leaves.
+//! Whether a log vouches for its tree head, and that tree has an older one as its first leaves.
 ghost use Rattle.std.specs.Prelude.{◌≡◌, OnOk, IsOkUnless};
 ghost use Rattle.sig_base.specs.Answers.{Answers};
 ghost use Rattle.sig_base.specs.declared.error.SigstoreError.TheVariants.{OutOfMemory as Memory};
