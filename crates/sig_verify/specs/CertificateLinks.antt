@@ -54,7 +54,7 @@ HasIssuer k trust c = OfIssuer k.cert trust.anchors c (λ anchor. Unit {0})
 abbrev pub HasSignedBytes : Cert → Type 0
 HasSignedBytes c = OfSct c (λ s. IsLong (precertificate c) × IsShort s.extensions)
 
--- the log of the SCT has a point, under which the SCT's signature is over the certificate as issued by that trust
+-- the log of the SCT has a point, under which the SCT's signature is over the certificate as issued by that
 -- trust anchor
 abbrev pub IsVouchedFor : Checker → Trust → Cert → Type 0
 IsVouchedFor k trust c = OfSct c (λ s. OfIssuer k.cert trust.anchors c (λ anchor.

@@ -1,5 +1,5 @@
 -- *Signature and subject*, and the time of the log entry: the links `key`, `signature`, `subject` and `time` as one
--- answer.
+-- result.
 use Rattle.std.specs.Prelude.{ℕ, int_le, Bool, true, false, ◌&&◌, if◌then◌else◌, List, Result, Ok, Err}
 use Rattle.std.specs.List.{list_any}
 use Rattle.std.specs.Str.{bytes_eq}

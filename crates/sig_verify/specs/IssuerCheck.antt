@@ -1,6 +1,5 @@
 -- The links `issuance`, `issuer` and `sct` of a certificate (RFC 5280 section 6.1; RFC 6962 section 3.2), as one
--- answer:
--- the first of them that fails, or none.
+-- result: the first of them that fails, or none.
 use Rattle.std.specs.Prelude.{ℕ, Bool, List, Option, Some, None, option_map, slice_get, Result, Ok, Err}
 use Rattle.std.specs.Borrow.{Bor}
 use Rattle.sig_base.specs.ResultSteps.{◌>>=◌}

@@ -1,4 +1,4 @@
--- The links `log-key` to `inclusion` of a log's entry, as one answer: the first of them that fails, or the entry's
+-- The links `log-key` to `inclusion` of a log's entry, as one result: the first of them that fails, or the entry's
 -- body with its proof (Rekor's signed entry timestamp; RFC 6962 section 2.1.1).
 use Rattle.std.specs.Prelude.{ℕ, Bool, true, false, List, Option, Some, None, Result, Ok, Err}
 use Rattle.std.specs.Borrow.{Bor}

@@ -1,5 +1,5 @@
--- The links `material` to `time` of a bundle, as one answer: the first of them that fails, or none. The steps before
--- the policy, behind it, and behind the log's body are each an answer of their own.
+-- The links `material` to `time` of a bundle, as one result: the first of them that fails, or none. The steps before
+-- the policy, behind it, and behind the log's body are each a result of their own.
 use Rattle.std.specs.Prelude.{◌≡◌, ◌⊎◌, Bool, true, false, Result, Ok, Err}
 use Rattle.sig_base.specs.declared.checker.SignatureChecker as signature_checker
 use Rattle.sig_bundle.specs.Checked.{Checked, IsChecked}

@@ -56,11 +56,11 @@ pub fn verify_offline<P: VerificationPolicy, C: SignatureChecker>(
         trusted_root.now now digest.now bundle.now result) }
 {
     outcomes();
-    verify_root(alloc, trusted_root, now, digest, bundle, policy, checker)
+    judge_offline(alloc, trusted_root, now, digest, bundle, policy, checker)
 }
 
 /// All links.
-fn verify_root<P: VerificationPolicy, C: SignatureChecker>(
+fn judge_offline<P: VerificationPolicy, C: SignatureChecker>(
     alloc: Global,
     trusted_root: &[u8],
     now: i64,

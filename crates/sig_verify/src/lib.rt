@@ -28,8 +28,5 @@ pub use link::Link;
 pub use log_entry::verify_log_entry;
 pub use offline::Offline;
 pub use offline_error::{OfflineError, Part};
-pub use sig_root::{
-    CertificateAuthority, ManualTrustRoot, PublicKey, SigstoreTrustRoot, TimeRange,
-    TransparencyLogInstance, TrustRoot, TrustedRoot, read_trusted_root,
-};
+pub use sig_root::{ManualTrustRoot, SigstoreTrustRoot, TrustRoot};
 pub use verifier::{Verifier, keyring_of};

@@ -55,7 +55,7 @@ pub enum Link {
     LogKey,
     /// The log promised to include the entry.
     Promise,
-    /// The inclusion proof can be read.
+    /// There is an inclusion proof with a checkpoint, of hashes of 32 bytes and a size that is not negative.
     Proof,
     /// Its checkpoint can be read.
     Checkpoint,

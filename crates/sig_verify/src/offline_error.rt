@@ -29,7 +29,7 @@ pub enum Part {
 /// Why a bundle is not trusted, or that memory ran out. The variants are in the order of the links.
 #[derive(Debug, Drop)]
 pub enum OfflineError {
-    /// The text of this part is none of its kind.
+    /// The text of this part cannot be read.
     Json(Part, JsonError),
     /// The trusted root has nothing of this part at the time.
     TrustRoot(TrustPart),

@@ -59,7 +59,7 @@ fn pool_of(alloc: Global, certs: &Entries) -> sig_base::Result<CertificatePool>
     }
 }
 
-/// Returns the keyring of the keys of a map; of keys with one id it has the last. Fails if out of memory alone.
+/// Returns the keyring of the keys of a map; of keys with one id it has the last. Fails only if out of memory.
 pub fn keyring_of(alloc: Global, keys: &KeyMap) -> Result<Keyring, OutOfMemory>
     ensures { IfOk result (HasKeys keys.now) }
 {
@@ -70,7 +70,7 @@ pub fn keyring_of(alloc: Global, keys: &KeyMap) -> Result<Keyring, OutOfMemory>
     }
 }
 
-/// Returns the values of a map in order. Fails if out of memory alone.
+/// Returns the values of a map in order. Fails only if out of memory.
 fn values_of(alloc: Global, keys: &KeyMap) -> Result<Entries, OutOfMemory>
     ensures { IfOk result (λ values. values ≡ values_of keys.now) }
 {

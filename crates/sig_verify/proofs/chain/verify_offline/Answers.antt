@@ -10,8 +10,8 @@ returns-clause-links g c =
       checker = checker_of g.C.SignatureChecker c.args.checker.now;
       policy = policy_of g.P.VerificationPolicy c.args.policy.now;
     })
-    c.args.trusted_root.now c.args.now _ c.args.digest.now c.args.bundle.now c.verify_root.result
-    (to_z-of_z c.ranges.now) c.verify_root.ensures.read c.verify_root.ensures.steps
+    c.args.trusted_root.now c.args.now _ c.args.digest.now c.args.bundle.now c.judge_offline.result
+    (to_z-of_z c.ranges.now) c.judge_offline.ensures.read c.judge_offline.ensures.steps
 
 pub returns-clause-kept : goal.returns-clause-kept
 returns-clause-kept g c =
@@ -20,5 +20,5 @@ returns-clause-kept g c =
       checker = checker_of g.C.SignatureChecker c.args.checker.now;
       policy = policy_of g.P.VerificationPolicy c.args.policy.now;
     })
-    c.args.trusted_root.now c.args.now _ c.args.digest.now c.args.bundle.now c.verify_root.result
-    (to_z-of_z c.ranges.now) c.verify_root.ensures.read c.verify_root.ensures.steps
+    c.args.trusted_root.now c.args.now _ c.args.digest.now c.args.bundle.now c.judge_offline.result
+    (to_z-of_z c.ranges.now) c.judge_offline.ensures.read c.judge_offline.ensures.steps

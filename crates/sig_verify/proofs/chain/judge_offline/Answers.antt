@@ -6,7 +6,7 @@ use Rattle.sig_verify.proofs.Chains.{root_read}
 use Rattle.sig_verify.proofs.OfflineBytes.{are_read, inputs}
 use Rattle.sig_root.specs.OfBytes.{HasRawBytes}
 use Rattle.sig_verify.specs.Verdict.{checker_of, policy_of}
-use Rattle.sig_verify.proofs.chain.verify_root.Goals as goal
+use Rattle.sig_verify.proofs.chain.judge_offline.Goals as goal
 
 pub returns-in-Ok-clause-read : goal.returns-in-Ok-clause-read
 returns-in-Ok-clause-read g c =
