@@ -11,8 +11,7 @@ use sig_base::{Entries, Operation, OutOfMemory, Register};
 use sig_certificate::{Certificate, may_sign_code};
 use std::alloc::Global;
 
-/// Reads certificates. Fails if memory runs out, and if one of them is none; those of a trusted root with the link
-/// `anchor` all are.
+/// Reads certificates. Fails only if memory runs out: where the link `anchor` holds, all of them can be read.
 pub(crate) fn read_anchors(
     alloc: Global,
     ders: &Entries,

@@ -1,4 +1,4 @@
-//! What is read of a certificate whose text is bytes.
+//! What is read of a certificate whose DER is bytes.
 ghost use Rattle.sig_verify.specs.LinkLaws.{IsReadCertificate};
 
 use sig_base::laws::are_bytes;
@@ -6,7 +6,7 @@ use sig_bundle::CheckedBundle;
 
 /// The key of a bundle's certificate is bytes, and the reader of SCTs says what the certificate has. Its call does
 /// nothing.
-pub(crate) fn is_read_as(bundle: &CheckedBundle)
+pub(crate) fn is_read_certificate(bundle: &CheckedBundle)
     ensures { IsReadCertificate bundle.now }
 {
     let certificate = bundle.certificate();

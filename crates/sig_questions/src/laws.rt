@@ -35,7 +35,7 @@ pub fn refusals()
     ensures { RefusalsAreForAll }
 {}
 
-/// What is listed of texts of which the links before `issuer` hold are the questions, in order, or none where no trust
+/// What is listed of texts of which the links before `issuer` hold are the questions, in order, or none if no
 /// trust anchor may have issued the certificate.
 pub(crate) fn listed_texts()
     ensures { ListedTextsAreAnswered }

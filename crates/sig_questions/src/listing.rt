@@ -14,7 +14,7 @@ ghost use Rattle.sig_questions.specs.Questions.{AreQuestions, IsDecided, Suffice
 ghost use Rattle.sig_questions.specs.Written.{AddsRows};
 
 use crate::anchors::{push_certificates, read_anchors};
-use crate::bytes::is_read_as;
+use crate::bytes::is_read_certificate;
 use crate::content::push_content;
 use crate::entry::push_entry;
 use crate::front::check_front;
@@ -222,7 +222,7 @@ fn list(
     ensures read { OnOk result (IsReadCertificate bundle.now) }
     ensures bytes { OnOk result (IsOfBytes trust.now.log_keys bundle.now.entry) }
 {
-    is_read_as(bundle);
+    is_read_certificate(bundle);
     let mut rows = Rows {
         rows: Register::new(alloc),
         room: most,

@@ -2,7 +2,7 @@ use Rattle.std.proofs.Common.{List, ℕ, ap, subst, ◌∙◌}
 use Rattle.sig_base.specs.ByteLists.{AreBytes}
 use Rattle.sig_certificate.specs.Certificate.{Cert, IsCertificate}
 use Rattle.sig_verify.proofs.CertificateBytes.{read_as}
-use Rattle.sig_questions.proofs.bytes.is_read_as.Goals as goal
+use Rattle.sig_questions.proofs.bytes.is_read_certificate.Goals as goal
 
 pub returns : goal.returns
 returns c =
