@@ -14,7 +14,7 @@ use Rattle.sig_key.specs.Key.{key_scheme, key_info, key_accepts}
 use Rattle.sig_rekor.specs.declared.checkpoint.SignedCheckpoint.{SignedCheckpoint}
 use Rattle.sig_rekor.specs.NoteText.{note_text}
 use Rattle.sig_rekor.specs.Verify.{has_accepted_signature, signed_answer}
-use Rattle.sig_program.specs.declared.head.SignedHead.{SignedHead}
+use Rattle.sig_program.specs.declared.head.ClaimedHead.{ClaimedHead}
 use Rattle.sig_program.specs.Head.{HasAcceptedSignature}
 
 -- what holds of some element, where it follows of each
@@ -22,7 +22,7 @@ Any-more : {A : Type 0} {P Q : A → Type 0} (xs : List A) → ((x : A) → P x 
 Any-more xs more some = (some.0, some.1, some.2, some.3, more some.1 some.4)
 
 -- one of the signatures passes the test if and only if the table has its row
-has_accepted_signature-rows : (head : SignedHead) (checkpoint : SignedCheckpoint) (accepts : List ℕ → List ℕ → Bool)
+has_accepted_signature-rows : (head : ClaimedHead) (checkpoint : SignedCheckpoint) (accepts : List ℕ → List ℕ → Bool)
     → ((message signature : List ℕ) → accepts message signature
     ≡ accepted head.accepted Message (name_of (scheme_of head.scheme)) head.key message signature)
     → (has_accepted_signature accepts checkpoint ≡ true) ↔ HasAcceptedSignature head checkpoint
@@ -39,7 +39,7 @@ has_accepted_signature-rows head checkpoint accepts same =
     )
 
 -- the test under the head's key is the table's
-pub has_accepted_signature-key : (head : SignedHead) (checkpoint : SignedCheckpoint) (key : CosignVerificationKey)
+pub has_accepted_signature-key : (head : ClaimedHead) (checkpoint : SignedCheckpoint) (key : CosignVerificationKey)
     → key_scheme key ≡ scheme_of head.scheme → key_info key ≡ head.key
     → (has_accepted_signature (key_accepts (λ scheme info message signature. accepted head.accepted Message
     (name_of scheme) info message signature) key) checkpoint ≡ true)
@@ -50,7 +50,7 @@ has_accepted_signature-key head checkpoint key scheme info =
     (λ message signature. rw (scheme, info))
 
 -- the answers of the check under the head's key
-pub signed-yes : (head : SignedHead) (checkpoint : SignedCheckpoint) (key : CosignVerificationKey)
+pub signed-yes : (head : ClaimedHead) (checkpoint : SignedCheckpoint) (key : CosignVerificationKey)
     → key_scheme key ≡ scheme_of head.scheme → key_info key ≡ head.key
     → has_accepted_signature (key_accepts (λ scheme info message signature. accepted head.accepted Message
     (name_of scheme) info message signature) key) checkpoint ≡ true
@@ -63,7 +63,7 @@ unsigned : (accepts : List ℕ → List ℕ → Bool) (checkpoint : SignedCheckp
     → has_accepted_signature accepts checkpoint ≡ true → ⊥
 unsigned accepts checkpoint refused is = let answer = rw is at refused in cc
 
-pub signed-no : (head : SignedHead) (checkpoint : SignedCheckpoint) (key : CosignVerificationKey)
+pub signed-no : (head : ClaimedHead) (checkpoint : SignedCheckpoint) (key : CosignVerificationKey)
     → key_scheme key ≡ scheme_of head.scheme → key_info key ≡ head.key
     → (◌≡◌ {A = SigstoreError} CheckpointSignatureVerificationError OutOfMemory)
     ⊎ (signed_answer (key_accepts (λ scheme info message signature. accepted head.accepted Message

@@ -9,23 +9,23 @@ use Rattle.sig_rekor.specs.declared.fault.ParseCheckpointError.TheVariants.{Deco
 use Rattle.sig_rekor.specs.CheckpointText.{IsCheckpoint}
 use Rattle.sig_verify.specs.declared.link.Link.{Link}
 use Rattle.sig_verify.specs.declared.link.Link.TheVariants.{Checkpoint, NoteKey, NoteMatch}
-use Rattle.sig_program.specs.declared.head.SignedHead.{SignedHead}
+use Rattle.sig_program.specs.declared.head.ClaimedHead.{ClaimedHead}
 use Rattle.sig_program.specs.Head.{IsHeadVerdict, IsHeadVerdictUnder, OfHeadCheckpoint, HasAcceptedSignature, IsMatched}
 
 -- the text has no reading
-pub unread-verdict : (head : SignedHead) (size : ℕ) (root : List ℕ)
+pub unread-verdict : (head : ClaimedHead) (size : ℕ) (root : List ℕ)
     → ((checkpoint : SignedCheckpoint) → ¬ IsCheckpoint head.checkpoint checkpoint)
     → IsHeadVerdict head size root (Some Checkpoint)
 unread-verdict head size root none = inl (λ holds. none holds.0 holds.1, refl)
 
 -- what does not hold of the one reading holds of none
-other-reading : (head : SignedHead) (checkpoint : SignedCheckpoint) (P : SignedCheckpoint → Type 0)
+other-reading : (head : ClaimedHead) (checkpoint : SignedCheckpoint) (P : SignedCheckpoint → Type 0)
     → ((other : SignedCheckpoint) → IsCheckpoint head.checkpoint other → other ≡ checkpoint) → ¬ P checkpoint
     → ¬ OfHeadCheckpoint head P
 other-reading head checkpoint P only fails holds = fails (subst P (only holds.0 holds.1) holds.2)
 
 -- the verdict under the one reading is that of the head
-pub under-verdict : (head : SignedHead) (size : ℕ) (root : List ℕ) (checkpoint : SignedCheckpoint)
+pub under-verdict : (head : ClaimedHead) (size : ℕ) (root : List ℕ) (checkpoint : SignedCheckpoint)
     (verdict : Option Link)
     → IsCheckpoint head.checkpoint checkpoint
     → ((other : SignedCheckpoint) → IsCheckpoint head.checkpoint other → other ≡ checkpoint)
@@ -52,7 +52,7 @@ no_fault checkpoint fault (inl e) = absurd cc
 no_fault checkpoint fault (inr e) = absurd cc
 
 -- the results of the reader: no reading, and one
-pub refused-verdict : (head : SignedHead) (size : ℕ) (root : List ℕ) (text : List ℕ) (fault : CheckpointFault)
+pub refused-verdict : (head : ClaimedHead) (size : ℕ) (root : List ℕ) (text : List ℕ) (fault : CheckpointFault)
     → text ≡ head.checkpoint
     → ((other : SignedCheckpoint) → IsCheckpoint text other
     → (DecodeError fault ≡ Memory) ⊎ ◌≡◌ {A = Result SignedCheckpoint ParseCheckpointError} (Ok other)
@@ -62,7 +62,7 @@ refused-verdict head size root text fault same none =
     unread-verdict head size root (λ other is. no_fault other fault
     (none other (subst (λ t. IsCheckpoint t other) (sym same) is)))
 
-pub read-verdict : (head : SignedHead) (size : ℕ) (root : List ℕ) (text : List ℕ)
+pub read-verdict : (head : ClaimedHead) (size : ℕ) (root : List ℕ) (text : List ℕ)
     (checkpoint : SignedCheckpoint)
     (verdict : Result (Option Link) OutOfMemory) → text ≡ head.checkpoint
     → IsCheckpoint text checkpoint

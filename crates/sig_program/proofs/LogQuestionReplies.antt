@@ -20,14 +20,14 @@ use Rattle.sig_program.specs.Reply.{IsListingOf, IsLogQuestionsReply, IsReply, r
 use Rattle.sig_program.specs.Request.{log_request}
 use Rattle.sig_program.specs.RowsText.{rows_text}
 use Rattle.sig_program.specs.declared.command.Command.TheVariants.{LogQuestions}
-use Rattle.sig_program.specs.declared.head.SignedHead.{SignedHead}
+use Rattle.sig_program.specs.declared.head.ClaimedHead.{ClaimedHead}
 use Rattle.sig_program.specs.declared.reply.Reply.{Reply}
 use Rattle.sig_program.specs.declared.request.LogRequest.{LogRequest}
 use Rattle.sig_program.specs.ReadFrom.{IsReadFrom, IsRequestOf}
 
 -- ---- what the reader of checkpoints says
 
-pub one-checkpoint : (head : SignedHead) (text : List ℕ) (checkpoint : SignedCheckpoint) → text ≡ head.checkpoint
+pub one-checkpoint : (head : ClaimedHead) (text : List ℕ) (checkpoint : SignedCheckpoint) → text ≡ head.checkpoint
     → IsCheckpoint text checkpoint
     → ((other : SignedCheckpoint) → IsCheckpoint text other
     → ◌≡◌ {A = Result SignedCheckpoint ParseCheckpointError} (Ok other) (Ok checkpoint))
@@ -38,7 +38,7 @@ one-checkpoint head text checkpoint same is only = (
       (only other (subst (λ t. IsCheckpoint t other) (sym same) other_is)),
 )
 
-pub no-checkpoint : (head : SignedHead) (text : List ℕ) (fault : CheckpointFault) → text ≡ head.checkpoint
+pub no-checkpoint : (head : ClaimedHead) (text : List ℕ) (fault : CheckpointFault) → text ≡ head.checkpoint
     → ((other : SignedCheckpoint) → IsCheckpoint text other
     → (DecodeError fault ≡ Memory) ⊎ ◌≡◌ {A = Result SignedCheckpoint ParseCheckpointError} (Ok other)
     (Err (DecodeError fault)))

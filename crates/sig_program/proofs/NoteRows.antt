@@ -6,16 +6,16 @@ use Rattle.sig_rekor.specs.declared.checkpoint.CheckpointSignature.{CheckpointSi
 use Rattle.sig_rekor.specs.declared.checkpoint.SignedCheckpoint.{SignedCheckpoint}
 use Rattle.sig_program.specs.Head.{head_row}
 use Rattle.sig_program.specs.LogQuestions.{head_rows}
-use Rattle.sig_program.specs.declared.head.SignedHead.{SignedHead}
+use Rattle.sig_program.specs.declared.head.ClaimedHead.{ClaimedHead}
 
 -- there is a row for each signature
-pub rows-length : (head : SignedHead) (checkpoint : SignedCheckpoint) (items : List CheckpointSignature)
+pub rows-length : (head : ClaimedHead) (checkpoint : SignedCheckpoint) (items : List CheckpointSignature)
     → items ≡ checkpoint.signatures → length (head_rows head checkpoint) ≡ length items
 rows-length head checkpoint items are =
     length-map checkpoint.signatures (head_row head checkpoint) ∙ sym (ap length are)
 
 -- the row of a signature stands at its index
-pub row-at : (head : SignedHead) (checkpoint : SignedCheckpoint) (items : List CheckpointSignature) (i : ℕ)
+pub row-at : (head : ClaimedHead) (checkpoint : SignedCheckpoint) (items : List CheckpointSignature) (i : ℕ)
     (signature : CheckpointSignature) (row : AcceptedRow)
     → items ≡ checkpoint.signatures → i < length items → signature ≡ get_or items i signature
     → row ≡ head_row head checkpoint signature

@@ -22,7 +22,7 @@ use Rattle.sig_program.specs.Request.{log_request}
 use Rattle.sig_program.specs.Suffice.{AgreeOn, LogQuestionsSuffice, with_accepted}
 use Rattle.sig_program.specs.declared.command.Command.{Command}
 use Rattle.sig_program.specs.declared.command.Command.TheVariants.{Log}
-use Rattle.sig_program.specs.declared.head.SignedHead.{SignedHead}
+use Rattle.sig_program.specs.declared.head.ClaimedHead.{ClaimedHead}
 use Rattle.sig_program.specs.declared.reply.Reply.{Reply}
 use Rattle.sig_program.specs.declared.request.LogRequest.{LogRequest}
 use Rattle.sig_program.specs.ReadFrom.{IsRequestOf}
@@ -66,7 +66,7 @@ alike-reply command text other alike reply is =
 -- ---- requests of `log` that differ in accepted signatures that are not listed
 
 -- each signature is among those that are listed
-listed-row : (head : SignedHead) (checkpoint : SignedCheckpoint) (k : ℕ) (signature : CheckpointSignature)
+listed-row : (head : ClaimedHead) (checkpoint : SignedCheckpoint) (k : ℕ) (signature : CheckpointSignature)
     → k < length checkpoint.signatures → get_or checkpoint.signatures k signature ≡ signature
     → Contains (head_rows head checkpoint) (head_row head checkpoint signature)
 listed-row head checkpoint k signature below is = (

@@ -9,12 +9,12 @@ use Rattle.sig_program.specs.Head.{OfHeadCheckpoint, head_row}
 use Rattle.sig_program.specs.Limit.{most_bytes}
 use Rattle.sig_program.specs.Request.{log_request}
 use Rattle.sig_program.specs.RowsText.{rows_text}
-use Rattle.sig_program.specs.declared.head.SignedHead.{SignedHead}
+use Rattle.sig_program.specs.declared.head.ClaimedHead.{ClaimedHead}
 use Rattle.sig_program.specs.declared.request.LogRequest.{LogRequest}
 use Rattle.sig_program.specs.ReadFrom.{IsRequestOf}
 
 -- each signature of the checkpoint over its note, under the log's scheme and key, in order
-abbrev pub head_rows : SignedHead → SignedCheckpoint → List AcceptedRow
+abbrev pub head_rows : ClaimedHead → SignedCheckpoint → List AcceptedRow
 head_rows head checkpoint = map (head_row head checkpoint) checkpoint.signatures
 
 -- the signatures that a request of `log` asks for
@@ -43,7 +43,7 @@ HoldsLogQuestions text link =
     (request : LogRequest) × IsRequestOf log_request text request × HoldsOfLogQuestions request link
 
 -- the one checkpoint that the text of a head is, or none
-abbrev pub IsCheckpointOf : SignedHead → Option SignedCheckpoint → Type 0
+abbrev pub IsCheckpointOf : ClaimedHead → Option SignedCheckpoint → Type 0
 IsCheckpointOf head None = (checkpoint : SignedCheckpoint) → ¬ IsCheckpoint head.checkpoint checkpoint
 IsCheckpointOf head (Some checkpoint) =
     IsCheckpoint head.checkpoint checkpoint

@@ -14,7 +14,7 @@ use std::alloc::Global;
 
 /// Returns the reply to a request's text: `consistent M N`, the old and the new size, with status 0 if every link
 /// holds, else `refused NAME` for the first that fails, with status 2 for the link `request` and 1 for every other.
-/// Fails if out of memory alone.
+/// Fails only if out of memory.
 pub fn consistency_reply(alloc: Global, request: &[u8]) -> Result<Reply, OutOfMemory>
     ensures { IfOk result (IsReply Consistency request.now) }
 {

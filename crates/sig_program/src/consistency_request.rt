@@ -15,7 +15,7 @@
 //! ```
 ghost use Rattle.std.specs.Prelude.{IfOk};
 
-use crate::head::SignedHead;
+use crate::head::ClaimedHead;
 use crate::head_members::read_head;
 use crate::request_text::{RequestReader, request_from_text};
 use crate::row::AbsentReader;
@@ -39,7 +39,7 @@ pub struct ConsistencyRequest {
     /// The consistency proof, the smallest tree's hash first.
     pub hashes: Hashes,
     /// The checkpoint that is to vouch for the tree of now.
-    pub head: SignedHead,
+    pub head: ClaimedHead,
 }
 
 /// The names of the members that a request may have; `accepted` is read beside them, row by row. A member of another
@@ -90,7 +90,7 @@ impl ConsistencyRequest {
     ghost use Rattle.sig_program.specs.ConsistencyRequest.{consistency_request};
 
     /// Reads a request; `None` if and only if the text has more than 2^24 bytes, is no JSON document without floats,
-    /// or does not have the members of a request. Fails if out of memory alone.
+    /// or does not have the members of a request. Fails only if out of memory.
     pub fn read(alloc: Global, text: &[u8]) -> Result<Option<ConsistencyRequest>, OutOfMemory>
         ensures { IfOk result (IsReadFrom consistency_request text.now) }
     {

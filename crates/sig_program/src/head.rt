@@ -1,4 +1,4 @@
-//! The head of a log that a request gives: the checkpoint that is to vouch for the size and root of its tree.
+//! The tree head that a request gives: the checkpoint that is to vouch for the size and root of its tree.
 ghost use Rattle.std.specs.Prelude.{◌↔◌, IfOk, IsTrue};
 ghost use Rattle.sig_program.specs.Head.{IsHeadVerdict, IsHeadVerdictUnder, IsMatched, HasAcceptedSignature};
 
@@ -8,9 +8,9 @@ use sig_rekor::{ParseCheckpointError, SignedNote};
 use sig_verify::Link;
 use std::alloc::Global;
 
-/// The checkpoint of a log, and what its signatures are checked by.
+/// The tree head that a request claims: its checkpoint, and what its signatures are checked by.
 #[derive(Drop)]
-pub struct SignedHead {
+pub struct ClaimedHead {
     /// A signed note with the log's size and root.
     pub checkpoint: Text,
     /// The scheme of the log's key.
@@ -21,10 +21,10 @@ pub struct SignedHead {
     pub accepted: TableChecker,
 }
 
-/// The first link that fails of the head of a tree of this size and root, or none.
+/// The first link that fails of a tree head of this size and root, or none.
 pub fn failing_link_of(
     alloc: Global,
-    head: &SignedHead,
+    head: &ClaimedHead,
     size: u64,
     root: &[u8; 32],
 ) -> Result<Option<Link>, OutOfMemory>
@@ -40,7 +40,7 @@ pub fn failing_link_of(
 /// The first link behind the checkpoint that fails, or none.
 fn failing_link_under(
     alloc: Global,
-    head: &SignedHead,
+    head: &ClaimedHead,
     size: u64,
     root: &[u8; 32],
     checkpoint: &SignedNote<'_>,
@@ -59,7 +59,7 @@ fn failing_link_under(
 /// Whether one of the checkpoint's signatures over its note is accepted under the log's scheme and key.
 fn has_accepted_signature(
     alloc: Global,
-    head: &SignedHead,
+    head: &ClaimedHead,
     checkpoint: &SignedNote<'_>,
 ) -> Result<bool, OutOfMemory>
     ensures { IfOk result (λ signed. IsTrue signed ↔ HasAcceptedSignature head.now checkpoint.now) }

@@ -16,7 +16,7 @@ use std::alloc::Global;
 
 /// Returns the reply to a request's text: `logged I N` with status 0 if every link holds, and the second line where the
 /// request gives the log's entries, else `refused NAME` for the first link that fails, with status 2 for the link
-/// `request` and 1 for every other. Fails if out of memory alone.
+/// `request` and 1 for every other. Fails only if out of memory.
 pub fn log_reply(alloc: Global, request: &[u8]) -> Result<Reply, OutOfMemory>
     ensures { IfOk result (IsReply Log request.now) }
 {
@@ -25,12 +25,12 @@ pub fn log_reply(alloc: Global, request: &[u8]) -> Result<Reply, OutOfMemory>
     };
     match failing_link(alloc, &request)? {
         Some(link) => Reply::refused(alloc, link),
-        None => logged(alloc, &request),
+        None => logged_reply(alloc, &request),
     }
 }
 
 /// The reply to a request of which every link holds.
-fn logged(alloc: Global, request: &LogRequest) -> Result<Reply, OutOfMemory>
+fn logged_reply(alloc: Global, request: &LogRequest) -> Result<Reply, OutOfMemory>
     requires { IsLogged request.now }
     ensures { IfOk result (IsLoggedReply request.now) }
 {

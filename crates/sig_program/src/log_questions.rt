@@ -8,7 +8,7 @@ ghost use Rattle.sig_program.specs.Suffice.{LogQuestionsSuffice};
 ghost use Rattle.sig_program.specs.declared.command.Command.TheVariants.{LogQuestions};
 ghost use Rattle.sig_rekor.specs.NoteText.{note_text};
 
-use crate::head::SignedHead;
+use crate::head::ClaimedHead;
 use crate::reply::Reply;
 use crate::request::LogRequest;
 use crate::rows_text::add_row;
@@ -21,7 +21,7 @@ use std::alloc::Global;
 /// Returns the reply to a request's text: the list of the signatures that `log` asks for, each signature of the
 /// checkpoint over its note under the log's scheme and key, in order, with status 0; else `refused checkpoint` if the
 /// request's checkpoint has no reading, and `refused request` if the text is no request of `log`, or the list would
-/// have more than 2^24 bytes. The request's own accepted signatures are ignored. Fails if out of memory alone.
+/// have more than 2^24 bytes. The request's own accepted signatures are ignored. Fails only if out of memory.
 ///
 /// Of two requests that differ in their accepted signatures alone, and in none of those that are listed, `log` has the
 /// same reply.
@@ -42,11 +42,11 @@ fn reply_to_text(alloc: Global, request: &[u8]) -> Result<Reply, OutOfMemory>
     let Some(checkpoint) = head_checkpoint(alloc, &request.head)? else {
         return Reply::refused(alloc, Link::Checkpoint);
     };
-    listed(alloc, &request.head, &checkpoint)
+    listing_reply(alloc, &request.head, &checkpoint)
 }
 
 /// The checkpoint of a head, `None` if and only if its text is none.
-fn head_checkpoint(alloc: Global, head: &SignedHead) -> Result<Option<SignedNote<'_>>, OutOfMemory>
+fn head_checkpoint(alloc: Global, head: &ClaimedHead) -> Result<Option<SignedNote<'_>>, OutOfMemory>
     ensures { IfOk result (IsCheckpointOf head.now) }
 {
     match SignedNote::decode(alloc, head.checkpoint.as_str()) {
@@ -57,9 +57,9 @@ fn head_checkpoint(alloc: Global, head: &SignedHead) -> Result<Option<SignedNote
 }
 
 /// The reply to a request with this checkpoint.
-fn listed(
+fn listing_reply(
     alloc: Global,
-    head: &SignedHead,
+    head: &ClaimedHead,
     checkpoint: &SignedNote<'_>,
 ) -> Result<Reply, OutOfMemory>
     ensures { IfOk result (IsListingOf (head_rows head.now checkpoint.now)) }
@@ -73,7 +73,7 @@ fn listed(
 /// The document of the signatures of the checkpoint, `None` if it would have more bytes than a request may have.
 fn note_document(
     alloc: Global,
-    head: &SignedHead,
+    head: &ClaimedHead,
     checkpoint: &SignedNote<'_>,
 ) -> Result<Option<Text>, OutOfMemory>
     ensures { IfOk result (IsDocumentOf (head_rows head.now checkpoint.now)) }
@@ -94,7 +94,7 @@ fn note_document(
 /// A signature over the checkpoint's note, whose text this is, under the log's scheme and key.
 fn head_row(
     alloc: Global,
-    head: &SignedHead,
+    head: &ClaimedHead,
     checkpoint: &SignedNote<'_>,
     note: &Text,
     signature: &CheckpointSignature,

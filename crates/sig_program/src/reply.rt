@@ -20,8 +20,8 @@ pub struct Reply {
 impl Reply {
     ghost use Rattle.sig_program.specs.Reply.{consistent, listed, logged, refusal_reply, success, verified};
 
-    /// Returns `refused NAME`, for the first link that fails, with status 2 for the link `request`, else 1. Fails if
-    /// out of memory alone.
+    /// Returns `refused NAME`, for the first link that fails, with status 2 for the link `request`, else 1. Fails only
+    /// if out of memory.
     pub(crate) fn refused(alloc: Global, link: Link) -> Result<Reply, OutOfMemory>
         ensures { IfOk result (λ reply. reply ≡ refusal_reply link) }
     {
@@ -35,7 +35,7 @@ impl Reply {
     }
 
     /// Returns `logged I N`, the index and the size of the inclusion proof, and the second line behind it, with status
-    /// 0. Fails if out of memory alone.
+    /// 0. Fails only if out of memory.
     pub(crate) fn logged(
         alloc: Global,
         proof: &InclusionProof,
@@ -47,7 +47,7 @@ impl Reply {
     }
 
     /// Returns `verified I N`, the index and the size of the inclusion proof, and the second line behind it, with
-    /// status 0. Fails if out of memory alone.
+    /// status 0. Fails only if out of memory.
     pub(crate) fn verified(
         alloc: Global,
         proof: &InclusionProof,
@@ -74,7 +74,7 @@ impl Reply {
         Ok(Reply { status: 0, text })
     }
 
-    /// Returns `consistent M N`, the old and the new size, with status 0. Fails if out of memory alone.
+    /// Returns `consistent M N`, the old and the new size, with status 0. Fails only if out of memory.
     pub(crate) fn consistent(
         alloc: Global,
         request: &ConsistencyRequest,
@@ -87,7 +87,7 @@ impl Reply {
         Ok(Reply { status: 0, text })
     }
 
-    /// Returns the document of a list of signatures, and a newline, with status 0. Fails if out of memory alone.
+    /// Returns the document of a list of signatures, and a newline, with status 0. Fails only if out of memory.
     pub(crate) fn listed(alloc: Global, document: &Text) -> Result<Reply, OutOfMemory>
         ensures { IfOk result (λ reply. reply ≡ listed document.now) }
     {

@@ -24,7 +24,7 @@
 //! ```
 ghost use Rattle.std.specs.Prelude.{IfOk};
 
-use crate::head::SignedHead;
+use crate::head::ClaimedHead;
 use crate::head_members::read_head;
 use crate::request_text::{RequestReader, request_from_text};
 use crate::row::EntriesReader;
@@ -44,7 +44,7 @@ pub struct LogRequest {
     /// The proof that it is at an index of the log's tree; the tree's checkpoint is in `head`.
     pub proof: InclusionProof,
     /// The checkpoint that is to vouch for the tree.
-    pub head: SignedHead,
+    pub head: ClaimedHead,
     /// All entries of the log, if they are given.
     pub entries: Option<Entries>,
 }
@@ -100,7 +100,7 @@ impl LogRequest {
     ghost use Rattle.sig_program.specs.Request.{log_request};
 
     /// Reads a request; `None` if and only if the text has more than 2^24 bytes, is no JSON document without floats,
-    /// or does not have the members of a request. Fails if out of memory alone.
+    /// or does not have the members of a request. Fails only if out of memory.
     pub fn read(alloc: Global, text: &[u8]) -> Result<Option<LogRequest>, OutOfMemory>
         ensures { IfOk result (IsReadFrom log_request text.now) }
     {

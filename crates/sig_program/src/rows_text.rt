@@ -61,7 +61,7 @@ fn scheme_document(alloc: Global, row: &AcceptedRow) -> Result<Option<Document>,
     }
 }
 
-/// Sets a member of an object, if there is a value. Fails if out of memory alone.
+/// Sets a member of an object, if there is a value. Fails only if out of memory.
 fn insert_some(
     alloc: Global,
     object: &mut Document,
@@ -78,7 +78,7 @@ fn insert_some(
     }
 }
 
-/// A signature as an object, which is read back as an element of `accepted`. Fails if out of memory alone.
+/// A signature as an object, which is read back as an element of `accepted`. Fails only if out of memory.
 #[tactic(auto, using(sig_bundle::proofs::Objects::objects))]
 fn row_document(alloc: Global, row: &AcceptedRow) -> Result<Document, OutOfMemory>
     requires { IsSchemeUnder row.now.operation row.now.scheme }
@@ -100,7 +100,7 @@ fn row_document(alloc: Global, row: &AcceptedRow) -> Result<Document, OutOfMemor
 }
 
 /// Adds a signature at the end of a list that takes `size` bytes but for its closing bracket, and returns what it then
-/// takes; `None` if the document would have more bytes than a request may have. Fails if out of memory alone.
+/// takes; `None` if the document would have more bytes than a request may have. Fails only if out of memory.
 pub fn add_row(
     alloc: Global,
     list: &mut Document,
@@ -124,8 +124,8 @@ pub fn add_row(
     Ok(Some(size + 1 + length))
 }
 
-/// The document of a list of signatures, `None` if it would have more bytes than a request may have. Fails if out of
-/// memory alone.
+/// The document of a list of signatures, `None` if it would have more bytes than a request may have. Fails only if out
+/// of memory.
 pub fn rows_document(alloc: Global, rows: &[AcceptedRow]) -> Result<Option<Text>, OutOfMemory>
     requires { All HasScheme rows.now }
     ensures { IfOk result (IsDocumentOf rows.now) }

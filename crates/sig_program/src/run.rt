@@ -129,7 +129,7 @@ fn reply_to<S: Source>(alloc: Global, command: Command, source: &mut S) -> Resul
     }
 }
 
-/// Returns the command's reply to a request's text. Fails if out of memory alone.
+/// Returns the command's reply to a request's text. Fails only if out of memory.
 fn reply_of(alloc: Global, command: Command, request: &[u8]) -> Result<Reply, OutOfMemory>
     ensures { IfOk result (IsReply command request.now) }
 {

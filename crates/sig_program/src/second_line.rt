@@ -23,7 +23,7 @@ use std::alloc::Global;
 /// - `entry I` if they are, and the entry at the proof's index I is the logged body;
 /// - `collision HEX HEX` if they are, and it is not: two different byte strings of equal SHA-256, in lower case.
 ///
-/// Fails if out of memory alone.
+/// Fails only if out of memory.
 pub fn second_line(
     alloc: Global,
     entries: &Option<Entries>,

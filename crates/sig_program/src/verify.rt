@@ -20,8 +20,8 @@ use std::alloc::Global;
 /// Returns the reply to a request's text: `verified I N` with status 0 if every link holds, with the index and the
 /// size of the inclusion proof of the bundle's log entry, and the second line if the request gives the log's entries;
 /// else `refused NAME` for the first link that fails, with status 2 for the link `request` and 1 for every other. All
-/// links hold if and only if the text is a request with valid inputs, and the trust chain of its bundle holds. Fails if
-/// out of memory alone.
+/// links hold if and only if the text is a request with valid inputs, and the trust chain of its bundle holds. Fails
+/// only if out of memory.
 pub fn verify_reply(alloc: Global, request: &[u8]) -> Result<Reply, OutOfMemory>
     ensures reply { IfOk result (IsReply Verify request.now) }
     ensures chain { EveryLinkHolds Verify request.now ↔ IsTrusted request.now }
@@ -37,7 +37,7 @@ fn reply_to_text(alloc: Global, request: &[u8]) -> Result<Reply, OutOfMemory>
         return Reply::refused(alloc, Link::Request);
     };
     match verify_chain(alloc, &request) {
-        Ok(offline) => verified(alloc, &request, &offline),
+        Ok(offline) => verified_reply(alloc, &request, &offline),
         Err(error) => match error.link() {
             Some(link) => Reply::refused(alloc, link),
             None => Err(OutOfMemory),
@@ -46,7 +46,11 @@ fn reply_to_text(alloc: Global, request: &[u8]) -> Result<Reply, OutOfMemory>
 }
 
 /// The reply to a request of which every link holds, with the log entry of its bundle.
-fn verified(alloc: Global, request: &VerifyRequest, offline: &Offline) -> Result<Reply, OutOfMemory>
+fn verified_reply(
+    alloc: Global,
+    request: &VerifyRequest,
+    offline: &Offline,
+) -> Result<Reply, OutOfMemory>
     requires { IsProofOf offline.now.body offline.now.proof }
     ensures { IfOk result (IsVerifiedReply request.entry.now offline.now) }
 {

@@ -27,8 +27,8 @@ use std::alloc::Global;
 /// these, the signature over the content, the log's promise, and each signature of the checkpoint's note. Else
 /// `refused NAME`, for the first link of `verify` that fails whatever is accepted: one before `issuer`, or `issuer` if
 /// no trust anchor may have issued the certificate; and `refused request` if the text is no request of `verify`, or the
-/// list would have more than 2^24 bytes. The request's own accepted signatures are ignored. Fails if out of memory
-/// alone.
+/// list would have more than 2^24 bytes. The request's own accepted signatures are ignored. Fails only if out of
+/// memory.
 ///
 /// Of two requests that differ in their accepted signatures alone, and in none of those that a link asks for, `verify`
 /// has the same reply.
@@ -51,7 +51,7 @@ fn reply_to_text(alloc: Global, request: &[u8]) -> Result<Reply, OutOfMemory>
         return Reply::refused(alloc, Link::Request);
     };
     match questions_of(alloc, &request) {
-        Ok(rows) => listed(alloc, &rows),
+        Ok(rows) => listing_reply(alloc, &rows),
         Err(NoQuestions::Link(link)) => Reply::refused(alloc, link),
         // A row has more bytes in the list than by itself.
         Err(NoQuestions::TooLong) => Reply::refused(alloc, Link::Request),
@@ -80,7 +80,7 @@ fn questions_of(
 }
 
 /// The reply that lists these signatures.
-fn listed(alloc: Global, rows: &Register<AcceptedRow>) -> Result<Reply, OutOfMemory>
+fn listing_reply(alloc: Global, rows: &Register<AcceptedRow>) -> Result<Reply, OutOfMemory>
     requires { All HasScheme rows.now }
     ensures { IfOk result (IsListingOf rows.now) }
 {

@@ -86,7 +86,7 @@ impl VerifyRequest {
     ghost use Rattle.sig_program.specs.VerifyRequest.{verify_request};
 
     /// Reads a request; `None` if and only if the text has more than 2^24 bytes, is no JSON document without floats,
-    /// or does not have the members of a request. Fails if out of memory alone.
+    /// or does not have the members of a request. Fails only if out of memory.
     pub fn read(alloc: Global, text: &[u8]) -> Result<Option<VerifyRequest>, OutOfMemory>
         ensures { IfOk result (IsReadFrom verify_request text.now) }
     {

@@ -23,10 +23,10 @@ returns-in-Some-2 c =
 pub returns : goal.returns
 returns c =
     vouched-replied Log log_request IsLogVerdict c.args.request.now c.in_ok-request.field-0 c.in-Some.request
-    c.in_ok-link.field-0 c.logged.result c.in-Some.is c.in_ok-request.ensures c.in_ok-link.ensures
+    c.in_ok-link.field-0 c.logged_reply.result c.in-Some.is c.in_ok-request.ensures c.in_ok-link.ensures
     (IsLoggedReply c.in-Some.request) (logged-reply c.args.request.now c.in-Some.request)
-    c.logged.ensures c.in-None.is
+    c.logged_reply.ensures c.in-None.is
 
 -- the last of the links holds
-pub logged-requires : goal.logged-requires
-logged-requires c = (subst (IsLogVerdict c.in-Some.request) c.in-None.is c.in_ok-link.ensures).1.1.1.1.0
+pub logged_reply-requires : goal.logged_reply-requires
+logged_reply-requires c = (subst (IsLogVerdict c.in-Some.request) c.in-None.is c.in_ok-link.ensures).1.1.1.1.0

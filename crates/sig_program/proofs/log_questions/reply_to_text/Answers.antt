@@ -19,5 +19,5 @@ returns-in_default-2 c =
 pub returns : goal.returns
 returns c =
     listed-replied c.args.request.now c.in_ok-request.field-0 c.in-Some.request c.in_ok-checkpoint.field-0
-    c.in-Some-2.checkpoint c.listed.result c.listed.ensures c.in-Some.is c.in_ok-request.ensures c.in-Some-2.is
-    c.in_ok-checkpoint.ensures
+    c.in-Some-2.checkpoint c.listing_reply.result c.listing_reply.ensures c.in-Some.is c.in_ok-request.ensures
+    c.in-Some-2.is c.in_ok-checkpoint.ensures

@@ -14,8 +14,9 @@ returns-in_default c =
 
 pub returns-in-Ok : goal.returns-in-Ok
 returns-in-Ok c =
-    verified-replied c.args.request.now c.in_ok-request.field-0 c.in-Some.request c.in-Ok.offline c.verified.result
-    c.verified.ensures c.in-Some.is c.in_ok-request.ensures c.in-Ok.ensures.links c.in-Ok.ensures.kept
+    verified-replied c.args.request.now c.in_ok-request.field-0 c.in-Some.request c.in-Ok.offline
+    c.verified_reply.result c.verified_reply.ensures c.in-Some.is c.in_ok-request.ensures c.in-Ok.ensures.links
+    c.in-Ok.ensures.kept
 
 pub returns-in-Some-link : goal.returns-in-Some-link
 returns-in-Some-link c =
@@ -23,6 +24,6 @@ returns-in-Some-link c =
     c.in-Some-link.link c.refused-in-Some-link.result c.refused-in-Some-link.ensures c.in-Some.is
     c.in_ok-request.ensures (sym c.link.ensures ∙ c.in-Some-link.is) c.in-Err.ensures.links
 
-pub verified-requires : goal.verified-requires
-verified-requires c =
+pub verified_reply-requires : goal.verified_reply-requires
+verified_reply-requires c =
     chain-included c.in-Some.request c.in-Ok.offline c.in-Ok.ensures.links c.in-Ok.ensures.kept

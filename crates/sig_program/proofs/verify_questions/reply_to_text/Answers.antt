@@ -15,14 +15,14 @@ returns-in_default c =
     unread-replied VerifyQuestions verify_request c.args.request.now c.in_ok-request.field-0 c.refused.result
     (λ holds. (holds.0, holds.1)) c.refused.ensures c.in_default.is c.in_ok-request.ensures
 
-pub listed-requires : goal.listed-requires
-listed-requires c =
+pub listing_reply-requires : goal.listing_reply-requires
+listing_reply-requires c =
     all-schemes c.schemes.ensures c.in-Some.request c.in-Ok.rows c.in-Ok.ensures.decided.1
 
 pub returns-in-Ok : goal.returns-in-Ok
 returns-in-Ok c =
-    listed-replied c.args.request.now c.in_ok-request.field-0 c.in-Some.request c.listed.result c.in-Some.is
-    c.in_ok-request.ensures c.in-Ok.rows c.one_list.ensures c.listed.ensures c.in-Ok.ensures.decided
+    listed-replied c.args.request.now c.in_ok-request.field-0 c.in-Some.request c.listing_reply.result c.in-Some.is
+    c.in_ok-request.ensures c.in-Ok.rows c.one_list.ensures c.listing_reply.ensures c.in-Ok.ensures.decided
     c.in-Ok.ensures.asked
 
 pub returns-in-Err-Link : goal.returns-in-Err-Link
