@@ -68,9 +68,9 @@ commands:
 
   questions log, questions verify
          Which signatures can the reply of log, or of verify, rest on? The
-         request is the command's own, and its accepted is ignored. The reply is
-         a JSON list in the form of accepted, of every signature that has to be
-         checked; or
+         request is the command's own, and its accepted, if given, has to be a
+         list of signatures, and does not matter. The reply is a JSON list in
+         the form of accepted, of every signature that has to be checked; or
            refused LINK        the first that fails whatever is accepted; request
                                also for a list of more than 2^24 bytes
          Those that are genuine are what accepted needs: no other signature
