@@ -7,6 +7,7 @@
 
 use sig_base::{Bytes, MemorySink, MemorySource, Numbers, OutOfMemory, Source, Text};
 use sig_cases::{Answer, Arguments, Cases, run};
+use sig_program::run::run as program;
 use std::alloc::Global;
 
 struct RunCases;
@@ -30,7 +31,7 @@ fn ran(arguments: &mut Arguments<'_>, answer: &mut Answer) {
     let sink = sink(arguments);
     match (words, sink) {
         (Ok(words), Ok(mut sink)) => {
-            answer.value(&sig_program::run(alloc, &words, &mut source, &mut sink));
+            answer.value(&program(alloc, &words, &mut source, &mut sink));
             answer.hex(sink.taken());
             answer.value(&left(&mut source));
         }

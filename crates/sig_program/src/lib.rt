@@ -1,5 +1,5 @@
-//! The program but for its words and its standard streams: requests, replies and [`run`], which carries the promise of
-//! this project.
+//! The program but for its words and its standard streams: requests, replies and [`run::run`], which carries the promise
+//! of this project.
 //!
 //! A request of `log`; request.rt, verify_request.rt and consistency_request.rt show whole ones:
 //!
@@ -9,39 +9,30 @@
 //!   "scheme": "ECDSA_P256_SHA256_ASN1", "key": "a2V5", "accepted": [] }
 //! ```
 //!
-//! What the layer above uses: [`run`] over any source and sink; or, over a request in memory, the call that makes the
-//! reply of each command.
+//! What the layer above uses: [`run::run`] over any source and sink; or, over a request in memory, the call that makes
+//! the reply of each command.
 #![tactic(auto)]
 
 mod brief_policy;
 mod command;
-mod consistency;
+pub mod consistency;
 mod consistency_request;
 mod digest_text;
 mod head;
 mod head_members;
 mod laws;
-mod log;
-mod log_questions;
+pub mod log;
+pub mod log_questions;
 mod policy_rule;
-mod read;
-mod reply;
+pub mod read;
+pub mod reply;
 mod request;
 mod request_text;
 mod row;
 mod rows_text;
-mod run;
+pub mod run;
 mod second_line;
-mod verify;
-mod verify_questions;
+pub mod verify;
+pub mod verify_questions;
 mod verify_request;
 mod write;
-
-pub use consistency::consistency_reply;
-pub use log::log_reply;
-pub use log_questions::log_questions;
-pub use read::{ReadFault, read_request};
-pub use reply::Reply;
-pub use run::{FAULT, NO_MEMORY, USAGE, run};
-pub use verify::verify_reply;
-pub use verify_questions::verify_questions;

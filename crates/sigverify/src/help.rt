@@ -92,7 +92,7 @@ const VERSION: &str = "sigverify 0.1.0\n";
 /// Returns the text for the one word `--help`, and for the one word `--version`; `None` for all other words, which are
 /// [`run`]'s.
 ///
-/// [`run`]: sig_program::run
+/// [`run`]: sig_program::run::run
 pub fn answer_of(words: &[Text]) -> Option<&'static str>
     ensures help { AsksHelp words.now → option_map (λ text. text.now) result ≡ Some HELP.now }
     ensures version { AsksVersion words.now → option_map (λ text. text.now) result ≡ Some VERSION.now }

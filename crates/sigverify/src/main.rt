@@ -10,7 +10,7 @@ mod words;
 
 use help::answer_of;
 use sig_base::Text;
-use sig_program::{FAULT, NO_MEMORY, USAGE, run};
+use sig_program::run::{FAULT, NO_MEMORY, USAGE, run};
 use std::process::ExitCode;
 use std_stream::{StdSink, StdSource};
 use words::{WordsFault, words_of};
