@@ -1,5 +1,5 @@
-//! The program but for its words and its standard streams: requests, replies and [`run::run`], which carries the promise
-//! of this project.
+//! The program but for its words and its standard streams: requests, replies and [`run::run`], which carries the
+//! promise of this project.
 //!
 //! A request of `log`; request.rt, verify_request.rt and consistency_request.rt show whole ones:
 //!
