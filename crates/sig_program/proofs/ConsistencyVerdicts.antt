@@ -1,4 +1,4 @@
--- The first failing link of a request of `consistency`, from that of its head.
+-- The first failing link of a request of `consistency`, from that of its tree head.
 use Rattle.std.proofs.Common.{Option, Some, None}
 use Rattle.sig_verify.specs.declared.link.Link.{Link}
 use Rattle.sig_verify.specs.declared.link.Link.TheVariants.{Consistency}
@@ -7,7 +7,7 @@ use Rattle.sig_program.specs.ConsistencyLink.{HoldsOfConsistency, IsConsistencyV
 use Rattle.sig_program.specs.Head.{IsHeadVerdict}
 use Rattle.sig_program.specs.declared.consistency_request.ConsistencyRequest.{ConsistencyRequest}
 
--- the verdict on the head of the tree of now
+-- the verdict on the tree head of the tree of now
 abbrev pub ConsistencyHeadVerdict : ConsistencyRequest → Option Link → Type 0
 ConsistencyHeadVerdict request = IsHeadVerdict request.head request.tree_size request.root_hash
 

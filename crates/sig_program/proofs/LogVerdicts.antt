@@ -1,4 +1,4 @@
--- The first failing link of a request of `log`, from that of its head.
+-- The first failing link of a request of `log`, from that of its tree head.
 use Rattle.std.proofs.Common.{Option, Some, None}
 use Rattle.sig_verify.specs.declared.link.Link.{Link}
 use Rattle.sig_verify.specs.declared.link.Link.TheVariants.{Inclusion}
@@ -7,7 +7,7 @@ use Rattle.sig_program.specs.Head.{IsHeadVerdict}
 use Rattle.sig_program.specs.Link.{HoldsOfLog, IsLogged, IsLogVerdict}
 use Rattle.sig_program.specs.declared.request.LogRequest.{LogRequest}
 
--- the verdict on the head of the proof's tree
+-- the verdict on the tree head of the proof's tree
 abbrev pub LogHeadVerdict : LogRequest → Option Link → Type 0
 LogHeadVerdict request = IsHeadVerdict request.head request.proof.tree_size request.proof.root_hash
 

@@ -18,7 +18,7 @@ abbrev pub IsGrown : ConsistencyRequest → Type 0
 IsGrown request =
     IsConsistent request.old_size request.tree_size request.hashes request.old_root request.root_hash
 
--- what a link asks of the head of a request of `consistency`: that of the tree of now
+-- what a link asks of the tree head of a request of `consistency`: that of the tree of now
 abbrev pub HoldsOfGrownHead : ConsistencyRequest → Link → Type 0
 HoldsOfGrownHead request = HoldsOfHead request.head request.tree_size request.root_hash
 

@@ -33,7 +33,7 @@ links VerifyQuestions = verify_question_links
 abbrev pub IsLogged : LogRequest → Type 0
 IsLogged request = IsProofOf request.entry request.proof
 
--- what a link asks of the head of a request of `log`: that of the proof's tree
+-- what a link asks of the tree head of a request of `log`: that of the proof's tree
 abbrev pub HoldsOfLogHead : LogRequest → Link → Type 0
 HoldsOfLogHead request = HoldsOfHead request.head request.proof.tree_size request.proof.root_hash
 

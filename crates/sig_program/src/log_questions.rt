@@ -21,7 +21,7 @@ use std::alloc::Global;
 /// Returns the reply to a request's text: the list of the signatures that `log` asks for, each signature of the
 /// checkpoint over its note under the log's scheme and key, in order, with status 0; else `refused checkpoint` if the
 /// request's checkpoint has no reading, and `refused request` if the text is no request of `log`, or the list would
-/// have more than 2^24 bytes. The request's own accepted signatures are ignored. Fails only if out of memory.
+/// have more than 2^24 bytes. Which signatures the request itself accepts does not matter. Fails only if out of memory.
 ///
 /// Of two requests that differ in their accepted signatures alone, and in none of those that are listed, `log` has the
 /// same reply.
@@ -45,7 +45,7 @@ fn reply_to_text(alloc: Global, request: &[u8]) -> Result<Reply, OutOfMemory>
     listing_reply(alloc, &request.head, &checkpoint)
 }
 
-/// The checkpoint of a head, `None` if and only if its text is none.
+/// The checkpoint of a tree head; `None` if and only if its text is no checkpoint.
 fn head_checkpoint(alloc: Global, head: &ClaimedHead) -> Result<Option<SignedNote<'_>>, OutOfMemory>
     ensures { IfOk result (IsCheckpointOf head.now) }
 {

@@ -27,8 +27,8 @@ use std::alloc::Global;
 /// these, the signature over the content, the log's promise, and each signature of the checkpoint's note. Else
 /// `refused NAME`, for the first link of `verify` that fails whatever is accepted: one before `issuer`, or `issuer` if
 /// no trust anchor may have issued the certificate; and `refused request` if the text is no request of `verify`, or the
-/// list would have more than 2^24 bytes. The request's own accepted signatures are ignored. Fails only if out of
-/// memory.
+/// list would have more than 2^24 bytes. Which signatures the request itself accepts does not matter. Fails only if
+/// out of memory.
 ///
 /// Of two requests that differ in their accepted signatures alone, and in none of those that a link asks for, `verify`
 /// has the same reply.

@@ -12,12 +12,12 @@ use sig_key::CosignVerificationKey;
 use std::alloc::Global;
 
 impl LogInfo {
-    /// Checks that the log signed this head, that what it signed is of this tree, and that the proof shows that the
+    /// Checks that the log signed this tree head, that what it signed is of this tree, and that the proof shows that the
     /// tree has the tree of the old size and root as its first leaves.
     ///
     /// Errors, the first that applies:
     /// - `CheckpointSignatureVerificationError`, as of [`sig_rekor::SignedCheckpoint::verify_signature`];
-    /// - `ConsistencyProofError`, as of [`sig_rekor::SignedCheckpoint::is_valid_for_proof`] of the head;
+    /// - `ConsistencyProofError`, as of [`sig_rekor::SignedCheckpoint::is_valid_for_proof`] of the tree head;
     /// - `ConsistencyProofError`, as of [`ConsistencyProof::verify`].
     #[tactic(auto, unfolding(crate::specs::Consistency::head_answer))]
     pub fn verify_consistency<C: SignatureChecker>(
