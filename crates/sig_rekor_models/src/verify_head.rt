@@ -12,8 +12,8 @@ use sig_key::CosignVerificationKey;
 use std::alloc::Global;
 
 impl LogInfo {
-    /// Checks that the log signed this tree head, that what it signed is of this tree, and that the proof shows that the
-    /// tree has the tree of the old size and root as its first leaves.
+    /// Checks that the log signed this tree head, that what it signed is of this tree, and that the proof shows that
+    /// the tree has the tree of the old size and root as its first leaves.
     ///
     /// Errors, the first that applies:
     /// - `CheckpointSignatureVerificationError`, as of [`sig_rekor::SignedCheckpoint::verify_signature`];
