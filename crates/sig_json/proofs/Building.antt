@@ -1,15 +1,17 @@
 -- What the builders make of a tree.
-use Rattle.std.proofs.Common.{Vec, Global, ◌≡◌, ℕ, List, [], ◌∷◌, ◌++◌, Some, None, false, ◌||◌}
+use Rattle.std.proofs.Common.{Vec, Global, ◌≡◌, ℕ, List, [], ◌∷◌, ◌++◌, Some, None, Result, Ok, Err, false, ◌||◌}
 use Rattle.std.proofs.Common.{refl, ap}
 use Rattle.std.proofs.lemmas.Bool.{or_parts, or_from}
 use Rattle.std.specs.Cmp.Lexicographic.{slice_cmp}
+use Rattle.std.specs.Cow.{cow_str_bytes}
 use Rattle.std.specs.Ordering.{nat_cmp}
+use Rattle.std.specs.Prelude.{OnOk, OnErr}
 use Rattle.serde_json.specs.Data.{Data, null, boolean, number, string, array, object, Items, no_items, item, Members}
 use Rattle.serde_json.specs.Data.{no_members, member, put}
 use Rattle.serde_json.specs.Find.{as_array, as_object}
 use Rattle.sig_json.proofs.ByOrdering.{holds_of_choice}
 use Rattle.sig_json.proofs.Trees.{view-Array, view-Object}
-use Rattle.sig_json.specs.View.{view, items_view, members_view}
+use Rattle.sig_json.specs.View.{Words, view, items_view, members_view}
 use Rattle.serde_json.specs.Written.{has_float, items_have_float, members_have_float}
 use Rattle.sig_json.specs.declared.tree.Tree.{Tree, Array, Object}
 use Rattle.sig_json.proofs.ByKind.{as_object_is}
@@ -84,10 +86,10 @@ pub pushed_in : (before after : Vec Tree Global) (last : Tree) → after.items �
 pushed_in before after last pushes =
     rw (view-Array after, view-Array before, pushes) (ap array (items_view-append before.items last))
 
-pub put_in : (name : List ℕ) (value : Data) (before after : Vec Entry Global)
-    → members_view after.items ≡ put name value (members_view before.items)
+pub put_in : (words : Words) (name : List ℕ) (value : Data) (before after : Vec Entry Global)
+    → cow_str_bytes words ≡ name → members_view after.items ≡ put (cow_str_bytes words) value (members_view before.items)
     → view (Object after) ≡ with_member name value (view (Object before))
-put_in name value before after puts = rw (view-Object after, view-Object before, puts) refl
+put_in words name value before after same puts = rw (view-Object after, view-Object before, puts, same) refl
 
 pub object_unchanged : (before after : Vec Entry Global) → after.items ≡ before.items
     → view (Object after) ≡ view (Object before)
@@ -97,35 +99,23 @@ pub list_unchanged : (before after : Vec Tree Global) → after.items ≡ before
     → view (Array after) ≡ view (Array before)
 list_unchanged before after same = rw (view-Array after, view-Array before, same) refl
 
-pub put_in_floatless : (name : List ℕ) (value : Data) (before after : Vec Entry Global)
-    → members_view after.items ≡ put name value (members_view before.items) → has_float (view (Object before)) ≡ false
-    → has_float value ≡ false → has_float (view (Object after)) ≡ false
-put_in_floatless name value before after puts whole one =
-    rw (put_in name value before after puts) (with_member_floatless name value (view (Object before)) one whole)
+-- a tree that is changed, or stays where that fails
+pub set_floatless : {A E : Type 0} (r : Result A E) (name : List ℕ) (value before after : Data)
+    → OnOk r (after ≡ with_member name value before) → OnErr r (after ≡ before) → has_float before ≡ false
+    → has_float value ≡ false → has_float after ≡ false
+set_floatless (Ok a) name value before after set stays whole one =
+    rw set (with_member_floatless name value before one whole)
+set_floatless (Err e) name value before after set stays whole one = rw stays whole
 
-pub object_unchanged_floatless : (before after : Vec Entry Global) → after.items ≡ before.items
-    → has_float (view (Object before)) ≡ false → has_float (view (Object after)) ≡ false
-object_unchanged_floatless before after same whole = rw (object_unchanged before after same) whole
+pub added_floatless : {A E : Type 0} (r : Result A E) (value before after : Data)
+    → OnOk r (after ≡ with_last value before) → OnErr r (after ≡ before) → has_float before ≡ false
+    → has_float value ≡ false → has_float after ≡ false
+added_floatless (Ok a) value before after added stays whole one =
+    rw added (with_last_floatless value before one whole)
+added_floatless (Err e) value before after added stays whole one = rw stays whole
 
-pub pushed_floatless : (before after : Vec Tree Global) (last : Tree) → after.items ≡ before.items ++ last ∷ []
-    → has_float (view (Array before)) ≡ false → has_float (view last) ≡ false → has_float (view (Array after)) ≡ false
-pushed_floatless before after last pushes whole one =
-    rw (pushed_in before after last pushes) (with_last_floatless (view last) (view (Array before)) one whole)
+pub ruleset members_set = (with_member-object, with_member-other, put_in, object_unchanged)
 
-pub list_unchanged_floatless : (before after : Vec Tree Global) → after.items ≡ before.items
-    → has_float (view (Array before)) ≡ false → has_float (view (Array after)) ≡ false
-list_unchanged_floatless before after same whole = rw (list_unchanged before after same) whole
+pub ruleset elements_added = (with_last-other, pushed_in, list_unchanged)
 
-pub ruleset building = (
-  with_member-object,
-  with_member-other,
-  with_last-other,
-  pushed_in,
-  put_in,
-  object_unchanged,
-  list_unchanged,
-  put_in_floatless,
-  object_unchanged_floatless,
-  pushed_floatless,
-  list_unchanged_floatless,
-)
+pub ruleset building = (set_floatless, added_floatless)

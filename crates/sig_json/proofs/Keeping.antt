@@ -1,9 +1,10 @@
 -- An object of whose members some are kept, a member at a time, and the text that it is.
 use Rattle.std.proofs.Common.{◌≡◌, ℕ, ◌-◌, ◌<◌, ◌≤◌, Bool, true, false, not, List, [], ◌∷◌, ◌++◌, length, Some, None}
-use Rattle.std.proofs.Common.{refl, sym, ap, subst, ◌∙◌, arith}
+use Rattle.std.proofs.Common.{Result, Ok, Err, refl, inl, inr, sym, ap, subst, ◌∙◌, arith}
 use Rattle.std.proofs.lemmas.Bool.{not_from_false, not_from_true}
 use Rattle.std.specs.Cow.{cow_str_bytes}
 use Rattle.std.specs.List.Sorted.{IsStrictlySortedBy}
+use Rattle.std.specs.Prelude.{OnOk}
 use Rattle.std.specs.Str.{IsUtf8}
 use Rattle.json.proofs.Grammar.{read_key-shorter}
 use Rattle.json.specs.Json.{value, read_key}
@@ -22,7 +23,8 @@ use Rattle.sig_json.proofs.Tokens.{Means, object_meant, object_refused, text_rea
 use Rattle.sig_json.specs.Gathered.{Entry, gathered}
 use Rattle.sig_json.specs.Named.{IsNamedTree, NamesAscend, HasNamedValues}
 use Rattle.sig_json.specs.Only.{is_among, members_where}
-use Rattle.sig_json.specs.Skipped.{PassesValue, AreKeptMembers, KeepsMembers, KeepsOf, value_meant, members_meant}
+use Rattle.sig_json.specs.Skipped.{PassesValue, TakesValue, AreKeptMembers, KeepsMembers, KeepsOf, value_meant}
+use Rattle.sig_json.specs.Skipped.{members_meant}
 use Rattle.sig_json.specs.View.{Words, view, members_view}
 use Rattle.sig_json.specs.declared.tree.Tree.{Tree}
 
@@ -164,6 +166,26 @@ kept_same names depth start left inner next found k so_far key other passed less
       at = at_same names depth start left inner next so_far.all found k so_far.at key other passed less;
     }
 
+-- a value that was passed over
+pub passed_over : {A E : Type 0} (r : Result A E) (names : List (List ℕ)) (depth : ℕ) (name : List ℕ)
+    (ts rest : List Token) (kept : List Entry) → is_among names name ≡ false → OnOk r (PassesValue depth ts rest)
+    → OnOk r (TakesValue names depth name ts rest kept kept)
+passed_over (Ok a) names depth name ts rest kept other passed =
+    inr (record { other = other; passed = passed; stays = refl })
+passed_over (Err e) names depth name ts rest kept other passed = tt
+
+-- one more, kept or passed over
+pub kept_taken : (names : List (List ℕ)) (depth : ℕ) (start left inner next : List Token) (found more : List Entry)
+    (k : List ℕ) → KeptSoFar names depth start left found → read_key left ≡ Some (Some k, inner)
+    → TakesValue names depth k inner next found more → length next < length inner
+    → KeptSoFar names depth start next more
+kept_taken names depth start left inner next found more k so_far key (inl keeps) less =
+    kept_more names depth start left inner next found more k keeps.key keeps.value so_far key keeps.listed keeps.same
+    keeps.is less keeps.named keeps.utf8 keeps.added
+kept_taken names depth start left inner next found more k so_far key (inr leaves) less =
+    subst (KeptSoFar names depth start next) (sym leaves.stays)
+    (kept_same names depth start left inner next found k so_far key leaves.other leaves.passed less)
+
 pub kept_key_fault : (names : List (List ℕ)) (depth : ℕ) (start left : List Token) (found : List Entry)
     → KeptSoFar names depth start left found → read_key left ≡ None → members_meant depth start ≡ None
 kept_key_fault names depth start left found so_far none = so_far.at.meant
@@ -194,8 +216,7 @@ kept_named names depth start left found ordered so_far same = at_named names dep
 
 pub ruleset kept = (
   kept_start,
-  kept_more,
-  kept_same,
+  kept_taken,
   kept_key_fault,
   kept_member_fault,
   kept_end,

@@ -1,7 +1,7 @@
 -- The names of the objects of a tree ascend in byte order, at every depth: as a walk finds it, as a look inside keeps
 -- it, as the builders keep it.
 use Rattle.std.proofs.Common.{◌≡◌, ◌≢◌, ℕ, zero, suc, List, [], ◌∷◌, ◌++◌, Option}
-use Rattle.std.proofs.Common.{Some, option_map, Vec, Global, sym, subst, refl, ap, ◌∙◌}
+use Rattle.std.proofs.Common.{Some, option_map, Result, Ok, Err, Vec, Global, sym, subst, refl, ap, ◌∙◌}
 use Rattle.std.proofs.lemmas.Cmp.{nat_list_cmp_total, tied_itself}
 use Rattle.std.proofs.lemmas.Iterator.Adapters.{option_map_id}
 use Rattle.std.specs.BTreeMap.{insert_entry}
@@ -10,6 +10,7 @@ use Rattle.std.specs.List.{AllByRecursion}
 use Rattle.std.specs.List.Sorted.{IsStrictlySortedBy}
 use Rattle.std.specs.Map.{keys_of}
 use Rattle.std.specs.Ordering.{nat_cmp}
+use Rattle.std.specs.Prelude.{OnOk, OnErr}
 use Rattle.std.specs.Str.{IsUtf8}
 use Rattle.std.specs.declared.cmp.Ordering.TheVariants.{Less, Equal}
 use Rattle.sig_base.proofs.Ascending.{all_keys, ascend-insert_entry}
@@ -20,8 +21,7 @@ use Rattle.serde_json.specs.Data.{Num, Data, null, boolean, number, string, arra
 use Rattle.serde_json.specs.Data.{Members, no_members, member, put}
 use Rattle.serde_json.specs.Find.{get, at, get_member, get_item, as_object}
 use Rattle.sig_json.specs.View.{view, members_view}
-use Rattle.sig_json.specs.declared.tree.Tree.{Tree, Array, Object}
-use Rattle.sig_json.proofs.Building.{put_in, object_unchanged, pushed_in, list_unchanged, building}
+use Rattle.sig_json.specs.declared.tree.Tree.{Object}
 use Rattle.sig_json.proofs.ByKind.{as_object_is}
 use Rattle.sig_json.proofs.ByOrdering.{choice_of_each, holds_of_choice}
 use Rattle.sig_json.proofs.MemberOrder.{object_exact}
@@ -185,33 +185,23 @@ with_last_named value (string s) whole one = tt
 with_last_named value (array ds) whole one = last_named ds value whole one
 with_last_named value (object ms) whole one = whole
 
-pub put_named : (name : List ℕ) (value : Data) (before after : Vec Entry Global) → IsUtf8 name
-    → members_view after.items ≡ put name value (members_view before.items) → IsNamedTree (view (Object before))
-    → IsNamedTree value → IsNamedTree (view (Object after))
-put_named name value before after utf8 puts whole one =
-    subst IsNamedTree (sym (put_in name value before after puts))
-    (with_member_named name value (view (Object before)) utf8 whole one)
+-- a tree that is changed, or stays where that fails
+pub set_named : {A E : Type 0} (r : Result A E) (name : List ℕ) (value before after : Data)
+    → OnOk r (after ≡ with_member name value before) → OnErr r (after ≡ before) → IsUtf8 name → IsNamedTree before
+    → IsNamedTree value → IsNamedTree after
+set_named (Ok a) name value before after set stays utf8 whole one =
+    subst IsNamedTree (sym set) (with_member_named name value before utf8 whole one)
+set_named (Err e) name value before after set stays utf8 whole one = subst IsNamedTree (sym stays) whole
 
-pub object_unchanged_named : (before after : Vec Entry Global) → after.items ≡ before.items
-    → IsNamedTree (view (Object before)) → IsNamedTree (view (Object after))
-object_unchanged_named before after same whole = subst IsNamedTree (sym (object_unchanged before after same)) whole
-
-pub pushed_named : (before after : Vec Tree Global) (last : Tree) → after.items ≡ before.items ++ last ∷ []
-    → IsNamedTree (view (Array before)) → IsNamedTree (view last) → IsNamedTree (view (Array after))
-pushed_named before after last pushes whole one =
-    subst IsNamedTree (sym (pushed_in before after last pushes))
-    (with_last_named (view last) (view (Array before)) whole one)
-
-pub list_unchanged_named : (before after : Vec Tree Global) → after.items ≡ before.items
-    → IsNamedTree (view (Array before))
-    → IsNamedTree (view (Array after))
-list_unchanged_named before after same whole = subst IsNamedTree (sym (list_unchanged before after same)) whole
+pub added_named : {A E : Type 0} (r : Result A E) (value before after : Data)
+    → OnOk r (after ≡ with_last value before) → OnErr r (after ≡ before) → IsNamedTree before → IsNamedTree value
+    → IsNamedTree after
+added_named (Ok a) value before after added stays whole one =
+    subst IsNamedTree (sym added) (with_last_named value before whole one)
+added_named (Err e) value before after added stays whole one = subst IsNamedTree (sym stays) whole
 
 pub same_named : (d e : Data) → d ≡ e → IsNamedTree e → IsNamedTree d
 same_named d e same named = subst IsNamedTree (sym same) named
-
--- what a change to a tree leaves as it has to be
-pub ruleset changes = (building, put_named, object_unchanged_named, pushed_named, list_unchanged_named)
 
 pub empty_object_named : (m : Vec Entry Global) → m.items ≡ [] → IsNamedTree (view (Object m))
 unfolding IsStrictlySortedBy
@@ -227,4 +217,4 @@ text_named d text is = subst IsNamedTree (sym is) tt
 pub number_named : (d : Data) (n : Num) → d ≡ number n → IsNamedTree d
 number_named d n is = subst IsNamedTree (sym is) tt
 
-pub ruleset named_parts = (empty_list_named, text_named, number_named, same_named)
+pub ruleset named_parts = (empty_list_named, text_named, number_named, same_named, set_named, added_named)

@@ -1,6 +1,6 @@
 -- A list that is read as it comes: its elements, an object of whose members one is the list, and the text that it is.
 use Rattle.std.proofs.Common.{◌≡◌, ℕ, ◌-◌, ◌<◌, Bool, true, false, true≢false, List, [], ◌∷◌, ◌++◌, length, map}
-use Rattle.std.proofs.Common.{Option, Some, None, Ok, Vec, Global, refl, sym, ap, ◌∙◌, arith}
+use Rattle.std.proofs.Common.{Option, Some, None, Ok, Vec, Global, refl, inl, inr, sym, ap, subst, ◌∙◌, arith}
 use Rattle.std.proofs.Common.{append-nil, append_assoc}
 use Rattle.std.proofs.lemmas.List.{map-append}
 use Rattle.std.proofs.lemmas.Slice.Eq.{bytes_eq-Decides}
@@ -30,7 +30,7 @@ use Rattle.sig_json.specs.Member.{each, list_each, optional_list, optional_or, m
 use Rattle.sig_json.specs.Named.{IsNamedTree, NamesAscend, HasNamedValues}
 use Rattle.sig_json.specs.Only.{is_among, members_where, only}
 use Rattle.sig_json.specs.Record.{record_in, members_and_list}
-use Rattle.sig_json.specs.Skipped.{PassesValue}
+use Rattle.sig_json.specs.Skipped.{PassesValue, TakesValue}
 use Rattle.sig_json.specs.Streamed.{StreamsValue, StreamsItems, StreamsMembers, StreamsOf, listed_in}
 use Rattle.sig_json.specs.View.{Words, view, members_view}
 use Rattle.sig_json.specs.declared.tree.Tree.{Tree, Object}
@@ -166,6 +166,18 @@ module _ {A : Type 0} (kind : Data → Option A) (names : List (List ℕ)) (list
         first = λ so. stays ∙ so_far.first so;
       }
 
+  -- a member that is kept or passed over
+  pub parts_taken : (found more : List Entry) (is_listed : Bool) (xs : List A)
+      → PartsSoFar kind names list depth start left found is_listed xs → bytes_eq k list ≡ false
+      → TakesValue names depth k inner next found more → length next < length inner
+      → PartsSoFar kind names list depth start next more is_listed xs
+  parts_taken found more is_listed xs so_far other (inl keeps) less =
+      parts_more found more keeps.key keeps.value is_listed xs so_far other keeps.listed keeps.same keeps.is less
+      keeps.named keeps.utf8 keeps.added
+  parts_taken found more is_listed xs so_far other (inr leaves) less =
+      subst (λ es. PartsSoFar kind names list depth start next es is_listed xs) (sym leaves.stays)
+      (parts_same found is_listed xs so_far other leaves.other leaves.passed less)
+
   -- the list
   pub parts_list : (found : List Entry) (is_listed : Bool) (xs ys : List A)
       → PartsSoFar kind names list depth start left found is_listed xs → bytes_eq k list ≡ true
@@ -203,7 +215,7 @@ pub parts_named : {A : Type 0} (kind : Data → Option A) (names : List (List �
 parts_named kind names list depth start left found ordered is_listed xs so_far same =
     at_named names depth start left so_far.all found ordered so_far.at same
 
-pub ruleset parts = (parts_start, parts_more, parts_same, parts_list, parts_end, parts_named, read_key-shorter)
+pub ruleset parts = (parts_start, parts_list, parts_end, parts_named, read_key-shorter)
 
 -- ---- the whole text
 

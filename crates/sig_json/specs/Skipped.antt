@@ -1,5 +1,7 @@
 -- For private clauses: parts of a text that are read without a tree of them.
-use Rattle.std.specs.Prelude.{◌≡◌, ℕ, false, not, List, length, Option, Some}
+use Rattle.std.specs.Cow.{cow_str_bytes}
+use Rattle.std.specs.Prelude.{◌≡◌, ◌⊎◌, ℕ, true, false, not, List, [], ◌∷◌, ◌++◌, length, Option, Some}
+use Rattle.std.specs.Str.{IsUtf8}
 use Rattle.json.specs.Json.{value, items, members}
 use Rattle.json.specs.Token.{Token}
 use Rattle.serde_json.specs.Data.{Num, Data, object, Items, Members, no_members}
@@ -7,8 +9,12 @@ use Rattle.serde_json.specs.Find.{is_float}
 use Rattle.serde_json.specs.Read.{number_of, of_json, of_items, of_members, converted, read}
 use Rattle.serde_json.specs.Written.{has_float, items_have_float, members_have_float}
 use Rattle.sig_base.specs.ByText.{KeysAscend}
+use Rattle.sig_json.specs.Gathered.{Entry}
 use Rattle.sig_json.specs.Members.{members_list}
+use Rattle.sig_json.specs.Named.{IsNamedTree}
 use Rattle.sig_json.specs.Only.{is_among, members_where}
+use Rattle.sig_json.specs.View.{Words, view}
+use Rattle.sig_json.specs.declared.tree.Tree.{Tree}
 
 -- what the tokens mean as a value, as the elements of a list and as the members of an object, to this depth, and the
 -- tokens behind it
@@ -42,6 +48,29 @@ pub record PassesMembers (depth : ℕ) (ts rest : List Token) : Type 0 where
   pub members : Members
   pub are : members_meant depth ts ≡ Some (members, rest)
   pub whole : members_have_float members ≡ false
+
+-- the value of a member of a listed name, whose tokens end before `rest`, is kept behind those that were kept before
+pub record KeepsValue (names : List (List ℕ)) (depth : ℕ) (name : List ℕ) (ts rest : List Token)
+    (before after : List Entry) : Type 0 where
+  pub listed : is_among names name ≡ true
+  pub key : Words
+  pub value : Tree
+  pub same : cow_str_bytes key ≡ name
+  pub utf8 : IsUtf8 (cow_str_bytes key)
+  pub is : value_meant depth ts ≡ Some (view value, rest)
+  pub named : IsNamedTree (view value)
+  pub added : after ≡ before ++ (key, value) ∷ []
+
+-- the value of a member of another name is passed over, and what was kept stays
+pub record LeavesValue (names : List (List ℕ)) (depth : ℕ) (name : List ℕ) (ts rest : List Token)
+    (before after : List Entry) : Type 0 where
+  pub other : is_among names name ≡ false
+  pub passed : PassesValue depth ts rest
+  pub stays : after ≡ before
+
+abbrev pub TakesValue : List (List ℕ) → ℕ → List ℕ → List Token → List Token → List Entry → List Entry → Type 0
+TakesValue names depth name ts rest before after =
+    KeepsValue names depth name ts rest before after ⊎ LeavesValue names depth name ts rest before after
 
 -- of all members these are kept, and those that are not have no floats
 pub record AreKeptMembers (names : List (List ℕ)) (all kept : Members) : Type 0 where

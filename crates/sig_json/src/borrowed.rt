@@ -28,7 +28,9 @@ pub(crate) fn borrow_value<'r>(
     ensures shorter { OnOk result (length reader.new < length reader.old) }
     ensures named { IfOk result (λ t. IsNamedTree (view t)) }
 {
-    let token = reader.next().ok_or(ReadError::NotJson)?;
+    let Some(token) = reader.next() else {
+        return Err(ReadError::NotJson);
+    };
     match token {
         Token::Null => Ok(Tree::Null),
         Token::Bool(truth) => Ok(Tree::Bool(truth)),

@@ -1,17 +1,17 @@
 //! The changes that builders make to a tree.
-ghost use Rattle.std.specs.Prelude.{◌≡◌, false, OnOk, OnErr};
-ghost use Rattle.serde_json.specs.Written.{has_float};
+ghost use Rattle.std.specs.Prelude.{◌≡◌, OnOk, OnErr};
 ghost use Rattle.sig_json.specs.Builders.{with_member, with_last};
 ghost use Rattle.sig_json.specs.Named.{IsNamedTree};
 ghost use Rattle.sig_json.specs.View.{view};
 
 use crate::order::put;
 use crate::tree::Tree;
+use crate::words::own;
 use sig_base::OutOfMemory;
 use std::alloc::Global;
 
 /// Sets a member of an object; any other value stays.
-#[tactic(auto, using(crate::proofs::Named::changes, crate::proofs::Ordered::in_trees))]
+#[tactic(auto, using(crate::proofs::Building::members_set, crate::proofs::Ordered::in_trees))]
 pub(crate) fn put_member<'t>(
     alloc: Global,
     tree: &mut Tree<'t>,
@@ -21,24 +21,21 @@ pub(crate) fn put_member<'t>(
     requires { IsNamedTree (view tree.old) }
     ensures ok { OnOk result (view tree.new ≡ with_member name.now (view member.entry) (view tree.old)) }
     ensures err { OnErr result (view tree.new ≡ view tree.old) }
-    ensures whole { has_float (view tree.old) ≡ false → has_float (view member.entry) ≡ false
-        → has_float (view tree.new) ≡ false }
-    ensures named { IsNamedTree (view member.entry) → IsNamedTree (view tree.new) }
 {
     match tree {
-        Tree::Object(members) => Ok(put(alloc, members, name, member)?),
+        Tree::Object(members) => {
+            let name = own(alloc, name)?;
+            put(members, name, member)
+        }
         _ => Ok(()),
     }
 }
 
 /// Adds an element to a list; any other value stays.
-#[tactic(auto, using(crate::proofs::Named::changes))]
+#[tactic(auto, using(crate::proofs::Building::elements_added))]
 pub(crate) fn push_last<'t>(tree: &mut Tree<'t>, element: Tree<'t>) -> Result<(), OutOfMemory>
     ensures ok { OnOk result (view tree.new ≡ with_last (view element.entry) (view tree.old)) }
     ensures err { OnErr result (view tree.new ≡ view tree.old) }
-    ensures whole { has_float (view tree.old) ≡ false → has_float (view element.entry) ≡ false
-        → has_float (view tree.new) ≡ false }
-    ensures named { IsNamedTree (view tree.old) → IsNamedTree (view element.entry) → IsNamedTree (view tree.new) }
 {
     match tree {
         Tree::Array(elements) => Ok(elements.push(element)?),

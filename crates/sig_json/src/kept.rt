@@ -1,5 +1,5 @@
 //! A text that is read for the members of some names: every other member is passed over, and no tree is made of it.
-ghost use Rattle.std.specs.Prelude.{◌≡◌, None, Err, IfOk};
+ghost use Rattle.std.specs.Prelude.{◌≡◌, ◌<◌, None, Err, IfOk, OnOk, length};
 ghost use Rattle.std.specs.Cow.{cow_str_bytes};
 ghost use Rattle.std.specs.List.{filter};
 ghost use Rattle.serde_json.specs.Read.{read as tree_of};
@@ -7,7 +7,7 @@ ghost use Rattle.sig_base.specs.Answers.{Answers};
 ghost use Rattle.sig_json.specs.Document.{document_of};
 ghost use Rattle.sig_json.specs.Named.{NamesAscend, HasNamedValues};
 ghost use Rattle.sig_json.specs.Only.{is_among, members_where, names_of, only, only_of};
-ghost use Rattle.sig_json.specs.Skipped.{KeepsMembers, KeepsOf, members_meant};
+ghost use Rattle.sig_json.specs.Skipped.{KeepsMembers, KeepsOf, TakesValue, value_meant, members_meant};
 ghost use Rattle.sig_json.specs.Tree.{document_tree};
 ghost use Rattle.sig_json.specs.View.{view, members_view};
 
@@ -139,17 +139,33 @@ fn read_kept_members(
 {
     let mut found = Vec::new(alloc);
     'members: while let Some(name) = reader.next_key()? {
-        if !is_among(names, name) {
-            skip_value(reader, depth)?;
-            continue;
-        }
-        let key = own(alloc, name)?;
-        let value = read_value(alloc, reader, depth)?;
-        add(&mut found, (key, value))?;
+        take_value(alloc, reader, depth, names, name, &mut found)?;
     }
     let mut ordered = in_order(alloc, found)?;
     ordered.shrink_to_fit();
     Ok(ordered)
+}
+
+/// Reads the value of a member: kept behind the others if the name is one of these, and else passed over.
+pub(crate) fn take_value(
+    alloc: Global,
+    reader: &mut Reader<'_>,
+    depth: usize,
+    names: &[&str],
+    name: &str,
+    kept: &mut Vec<Entry<'static>>,
+) -> Result<(), SkipError>
+    ensures ok { OnOk result (TakesValue (names_of names.now) depth name.now reader.old reader.new
+        kept.old.items kept.new.items) }
+    ensures err { result ≡ Err SkipError.NotJson → value_meant depth reader.old ≡ None }
+    ensures shorter { OnOk result (length reader.new < length reader.old) }
+{
+    if !is_among(names, name) {
+        return skip_value(reader, depth);
+    }
+    let key = own(alloc, name)?;
+    let value = read_value(alloc, reader, depth)?;
+    Ok(add(kept, (key, value))?)
 }
 
 #[tactic(auto, using(sig_base::proofs::SeenTexts::list_any_seen))]

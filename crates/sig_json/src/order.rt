@@ -10,7 +10,7 @@ ghost use Rattle.sig_json.specs.View.{view, members_view};
 
 use crate::room::make_room;
 use crate::tree::{Entry, Tree};
-use crate::words::{Words, own};
+use crate::words::Words;
 use sig_base::OutOfMemory;
 use std::alloc::Global;
 use std::cmp::Ordering;
@@ -66,26 +66,21 @@ fn search(members: &Vec<Entry<'_>>, name: &str) -> Result<usize, usize>
 /// and the members are then unchanged.
 #[tactic(auto, using(crate::proofs::Ordered::placed))]
 pub(crate) fn put<'t>(
-    alloc: Global,
     members: &mut Vec<Entry<'t>>,
-    name: &str,
+    name: Words<'t>,
     value: Tree<'t>,
 ) -> Result<(), OutOfMemory>
     requires { InOrder members.old.items }
     ensures ok { OnOk result (members_view members.new.items
-        ≡ with_member name.now (view value.entry) (members_view members.old.items)) }
+        ≡ with_member (cow_str_bytes name.entry) (view value.entry) (members_view members.old.items)) }
     ensures err { OnErr result (members.new.items ≡ members.old.items) }
 {
-    match search(members, name) {
+    match search(members, name.as_str()) {
         Ok(place) => {
             members[place].1 = value;
             Ok(())
         }
-        Err(place) => {
-            let name = own(alloc, name)?;
-            members.insert(place, (name, value))?;
-            Ok(())
-        }
+        Err(place) => Ok(members.insert(place, (name, value))?),
     }
 }
 
@@ -103,7 +98,7 @@ pub(crate) fn add_member<'t>(
 {
     make_room(members)?;
     if goes_among(members, name.as_str()) {
-        return insert(members, name, value);
+        return put(members, name, value);
     }
     members.push((name, value))?;
     Ok(())
@@ -164,32 +159,9 @@ fn inserted<'t>(alloc: Global, members: Vec<Entry<'t>>) -> Result<Vec<Entry<'t>>
 {
     let mut ordered = Vec::with_capacity(alloc, members.len())?;
     'members: for (name, value) in members {
-        insert(&mut ordered, name, value)?;
+        put(&mut ordered, name, value)?;
     }
     Ok(ordered)
-}
-
-/// Sets the member of a name that is owned, as `put` does. Fails only if memory runs out.
-#[tactic(auto, using(crate::proofs::Ordered::placed))]
-fn insert<'t>(
-    members: &mut Vec<Entry<'t>>,
-    name: Words<'t>,
-    value: Tree<'t>,
-) -> Result<(), OutOfMemory>
-    requires { InOrder members.old.items }
-    ensures { OnOk result (members_view members.new.items
-        ≡ with_member (cow_str_bytes name.entry) (view value.entry) (members_view members.old.items)) }
-{
-    match search(members, name.as_str()) {
-        Ok(place) => {
-            members[place].1 = value;
-            Ok(())
-        }
-        Err(place) => {
-            members.insert(place, (name, value))?;
-            Ok(())
-        }
-    }
 }
 
 fn is_below(name: &str, other: &str) -> bool

@@ -49,7 +49,9 @@ pub(crate) fn read_value(
     ensures shorter { OnOk result (length reader.new < length reader.old) }
     ensures named { IfOk result (λ t. IsNamedTree (view t)) }
 {
-    let token = reader.next().ok_or(ReadError::NotJson)?;
+    let Some(token) = reader.next() else {
+        return Err(ReadError::NotJson);
+    };
     match token {
         Token::Null => Ok(Tree::Null),
         Token::Bool(truth) => Ok(Tree::Bool(truth)),

@@ -24,7 +24,9 @@ pub(crate) fn skip_value(reader: &mut Reader<'_>, depth: usize) -> Result<(), Sk
     ensures err { result ≡ Err SkipError.NotJson → value_meant depth reader.old ≡ None }
     ensures shorter { OnOk result (length reader.new < length reader.old) }
 {
-    let token = reader.next().ok_or(SkipError::NotJson)?;
+    let Some(token) = reader.next() else {
+        return Err(SkipError::NotJson);
+    };
     match token {
         Token::Null | Token::Bool(_) | Token::String(_) => Ok(()),
         Token::Number(text) => {

@@ -10,14 +10,10 @@ use crate::borrowed::borrow_value;
 use crate::element::ElementReader;
 use crate::error::SkipError;
 use crate::floats::is_float_in;
-use crate::kept::{MEMBER_DEPTH, is_among};
+use crate::kept::{MEMBER_DEPTH, take_value};
 use crate::order::in_order;
-use crate::read::read_value;
-use crate::room::add;
-use crate::skip::skip_value;
 use crate::tree::Entry;
 use crate::view::Json;
-use crate::words::own;
 use json::{Reader, Scratch, Token};
 use sig_base::Register;
 use std::alloc::Global;
@@ -76,13 +72,7 @@ fn stream_members<E: ElementReader>(
             is_listed = true;
             continue;
         }
-        if !is_among(names, name) {
-            skip_value(reader, depth)?;
-            continue;
-        }
-        let key = own(alloc, name)?;
-        let value = read_value(alloc, reader, depth)?;
-        add(&mut found, (key, value))?;
+        take_value(alloc, reader, depth, names, name, &mut found)?;
     }
     let mut ordered = in_order(alloc, found)?;
     ordered.shrink_to_fit();

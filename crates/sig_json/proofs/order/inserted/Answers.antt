@@ -9,4 +9,4 @@ members-init c =
 
 pub members-preserved : goal.members-preserved
 members-preserved c =
-    (rw c.in_ok-insert.ensures (search rules), in_order-put _ _ _ _ c.members.invariant.1 c.in_ok-insert.ensures)
+    (rw c.in_ok-put.ensures.ok (search rules), in_order-put _ _ _ _ c.members.invariant.1 c.in_ok-put.ensures.ok)

@@ -43,37 +43,37 @@ read_all_members-returns-clause-ok t c =
 
 pub read_value-returns-then-depth-eq0-clause-err : goal.read_value-returns-then-depth-eq0-clause-err
 read_value-returns-then-depth-eq0-clause-err t c never =
-    let first : c.args.reader.now ≡ token_of c.in_ok-token.token ∷ c.next.new.self = grind arith in
+    let first : c.args.reader.now ≡ token_of c.in-Some.token ∷ c.next.new.self = c.in-Some.ensures.value in
     array_too_deep _ _ _ (omega arith) (first ∙ ap (λ k. token_of k ∷ c.next.new.self) c.in-BeginArray.is)
 
 pub read_value-returns-then-depth-eq0-2-clause-err : goal.read_value-returns-then-depth-eq0-2-clause-err
 read_value-returns-then-depth-eq0-2-clause-err t c never =
-    let first : c.args.reader.now ≡ token_of c.in_ok-token.token ∷ c.next.new.self = grind arith in
+    let first : c.args.reader.now ≡ token_of c.in-Some.token ∷ c.next.new.self = c.in-Some.ensures.value in
     object_too_deep _ _ _ (omega arith) (first ∙ ap (λ k. token_of k ∷ c.next.new.self) c.in-BeginObject.is)
 
 pub read_value-returns-in-Null-clause-ok : goal.read_value-returns-in-Null-clause-ok
 read_value-returns-in-Null-clause-ok t c =
-    let first : c.args.reader.now ≡ token_of c.in_ok-token.token ∷ c.next.new.self = grind arith in
+    let first : c.args.reader.now ≡ token_of c.in-Some.token ∷ c.next.new.self = c.in-Some.ensures.value in
     null_means _ _ _ (first ∙ ap (λ k. token_of k ∷ c.next.new.self) c.in-Null.is)
 
-pub read_value-returns-in-Some-clause-ok : goal.read_value-returns-in-Some-clause-ok
-read_value-returns-in-Some-clause-ok t c =
-    let first : c.args.reader.now ≡ token_of c.in_ok-token.token ∷ c.next.new.self = grind arith in
-    number_means _ _ _ _ _ (first ∙ ap (λ k. token_of k ∷ c.next.new.self) c.in-Number.is) c.in-Some.ensures
+pub read_value-returns-in-Some-number_in-clause-ok : goal.read_value-returns-in-Some-number_in-clause-ok
+read_value-returns-in-Some-number_in-clause-ok t c =
+    let first : c.args.reader.now ≡ token_of c.in-Some.token ∷ c.next.new.self = c.in-Some.ensures.value in
+    number_means _ _ _ _ _ (first ∙ ap (λ k. token_of k ∷ c.next.new.self) c.in-Number.is) c.in-Some-number_in.ensures
 
 pub read_value-returns-in-None-clause-err : goal.read_value-returns-in-None-clause-err
 read_value-returns-in-None-clause-err t c refused =
-    let first : c.args.reader.now ≡ token_of c.in_ok-token.token ∷ c.next.new.self = grind arith in
+    let first : c.args.reader.now ≡ token_of c.in-Some.token ∷ c.next.new.self = c.in-Some.ensures.value in
     number_refused _ _ _ _ (first ∙ ap (λ k. token_of k ∷ c.next.new.self) c.in-Number.is) c.in-None.ensures
 
 pub read_value-returns-in_ok-own-in-String-clause-ok : goal.read_value-returns-in_ok-own-in-String-clause-ok
 read_value-returns-in_ok-own-in-String-clause-ok t c =
-    let first : c.args.reader.now ≡ token_of c.in_ok-token.token ∷ c.next.new.self = grind arith in
+    let first : c.args.reader.now ≡ token_of c.in-Some.token ∷ c.next.new.self = c.in-Some.ensures.value in
     text_means _ _ _ _ _ (first ∙ ap (λ k. token_of k ∷ c.next.new.self) c.in-String.is) (search rules)
 
 pub read_value-returns-in-EndObject-clause-err : goal.read_value-returns-in-EndObject-clause-err
 read_value-returns-in-EndObject-clause-err t c refused =
-    let first : c.args.reader.now ≡ token_of c.in_ok-token.token ∷ c.next.new.self = grind arith in
+    let first : c.args.reader.now ≡ token_of c.in-Some.token ∷ c.next.new.self = c.in-Some.ensures.value in
     let none : value c.args.depth c.args.reader.now ≡ None =
     rw (value_is c.args.depth c.args.reader.now, first) (grind arith) in
     ap (converted of_json) none

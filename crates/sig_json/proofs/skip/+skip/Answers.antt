@@ -28,17 +28,17 @@ skip_members-returns-in_err-next_key-clause-err t c refused =
 
 pub skip_value-returns-then-depth-eq0-clause-err : goal.skip_value-returns-then-depth-eq0-clause-err
 skip_value-returns-then-depth-eq0-clause-err t c never =
-    let first : c.args.reader.now ≡ token_of c.in_ok-token.token ∷ c.next.new.self = grind arith in
+    let first : c.args.reader.now ≡ token_of c.in-Some.token ∷ c.next.new.self = c.in-Some.ensures.value in
     array_too_deep _ _ _ (omega arith) (first ∙ ap (λ k. token_of k ∷ c.next.new.self) c.in-BeginArray.is)
 
 pub skip_value-returns-then-depth-eq0-2-clause-err : goal.skip_value-returns-then-depth-eq0-2-clause-err
 skip_value-returns-then-depth-eq0-2-clause-err t c never =
-    let first : c.args.reader.now ≡ token_of c.in_ok-token.token ∷ c.next.new.self = grind arith in
+    let first : c.args.reader.now ≡ token_of c.in-Some.token ∷ c.next.new.self = c.in-Some.ensures.value in
     object_too_deep _ _ _ (omega arith) (first ∙ ap (λ k. token_of k ∷ c.next.new.self) c.in-BeginObject.is)
 
 pub skip_value-returns-in-Null-clause-ok : goal.skip_value-returns-in-Null-clause-ok
 skip_value-returns-in-Null-clause-ok t c =
-    let first : c.args.reader.now ≡ token_of c.in_ok-token.token ∷ c.next.new.self = grind arith in
+    let first : c.args.reader.now ≡ token_of c.in-Some.token ∷ c.next.new.self = c.in-Some.ensures.value in
     elim c.in-Null.is [
       | inl is ↦ null_passed _ _ _ (first ∙ ap (λ k. token_of k ∷ c.next.new.self) is)
       | inr other ↦ elim other [
@@ -50,7 +50,7 @@ skip_value-returns-in-Null-clause-ok t c =
 pub skip_value-returns-in_err-skip_number-in-Number-clause-err
     : goal.skip_value-returns-in_err-skip_number-in-Number-clause-err
 skip_value-returns-in_err-skip_number-in-Number-clause-err t c refused =
-    let first : c.args.reader.now ≡ token_of c.in_ok-token.token ∷ c.next.new.self = grind arith in
+    let first : c.args.reader.now ≡ token_of c.in-Some.token ∷ c.next.new.self = c.in-Some.ensures.value in
     number_none _ _ _ _ (first ∙ ap (λ k. token_of k ∷ c.next.new.self) c.in-Number.is)
     (c.skip_number.ensures.err (grind arith))
 
@@ -68,7 +68,7 @@ skip_members-returns-clause-ok t c =
 
 pub skip_value-returns-in-EndObject-clause-err : goal.skip_value-returns-in-EndObject-clause-err
 skip_value-returns-in-EndObject-clause-err t c refused =
-    let first : c.args.reader.now ≡ token_of c.in_ok-token.token ∷ c.next.new.self = grind arith in
+    let first : c.args.reader.now ≡ token_of c.in-Some.token ∷ c.next.new.self = c.in-Some.ensures.value in
     let none : value c.args.depth c.args.reader.now ≡ None = rw (value_is c.args.depth c.args.reader.now, first)
     (grind arith) in
     ap (converted of_json) none

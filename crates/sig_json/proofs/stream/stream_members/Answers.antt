@@ -1,16 +1,13 @@
 use Rattle.std.proofs.Common.{◌≡◌, Some, None, arith, rules}
 use Rattle.json.specs.Json.{read_key}
-use Rattle.sig_json.proofs.Streaming.{parts_more, parts_end}
+use Rattle.sig_json.proofs.Streaming.{parts_taken, parts_end}
 use Rattle.sig_json.proofs.stream.stream_members.Goals as goal
 
 pub members-preserved : goal.members-preserved
 members-preserved g c =
-    let l = c.members in
-    let key : read_key l.reader ≡ Some (Some c.in-Some.name.now, c.next_key.new.self) = grind arith in
-    let done = c.in_ok-value.ensures in
-    parts_more _ _ _ _ _ _ _ _ c.in-Some.name.now key l.found.items c.add.new.found.items c.in_ok-key.key
-    c.in_ok-value.value _ _ l.invariant (grind arith) (grind arith) (search rules) done.ok done.shorter done.named
-    (search rules) (search rules)
+    let key : read_key c.members.reader ≡ Some (Some c.in-Some.name.now, c.next_key.new.self) = grind arith in
+    let taken = c.in_ok-take_value.ensures in
+    parts_taken _ _ _ _ _ _ _ _ c.in-Some.name.now key _ _ _ _ c.members.invariant (grind arith) taken.ok taken.shorter
 
 pub returns-clause-ok : goal.returns-clause-ok
 returns-clause-ok g c =
