@@ -87,7 +87,8 @@ pushed_in before after last pushes =
     rw (view-Array after, view-Array before, pushes) (ap array (items_view-append before.items last))
 
 pub put_in : (words : Words) (name : List ℕ) (value : Data) (before after : Vec Entry Global)
-    → cow_str_bytes words ≡ name → members_view after.items ≡ put (cow_str_bytes words) value (members_view before.items)
+    → cow_str_bytes words ≡ name
+    → members_view after.items ≡ put (cow_str_bytes words) value (members_view before.items)
     → view (Object after) ≡ with_member name value (view (Object before))
 put_in words name value before after same puts = rw (view-Object after, view-Object before, puts, same) refl
 
