@@ -5,6 +5,8 @@
 //! `run` alone. What is written for a request that is read whole is stated there; whole requests are in `examples/`.
 #![tactic(auto)]
 
+ghost use Rattle.std.specs.Prelude.{◌≤◌};
+
 use sig_base::{Bytes, MemorySink, MemorySource, Numbers, OutOfMemory, Source, Text};
 use sig_cases::{Answer, Arguments, Cases, run};
 use sig_program::run::run as program;
@@ -63,7 +65,9 @@ fn sink(arguments: &mut Arguments<'_>) -> Result<MemorySink, OutOfMemory> {
 }
 
 /// The next argument as how many bytes a call moves at most. There is at least one.
-fn piece(arguments: &mut Arguments<'_>) -> usize {
+fn piece(arguments: &mut Arguments<'_>) -> usize
+    ensures { 1 ≤ result }
+{
     match arguments.natural() as usize {
         0 => {
             arguments.refuse();
