@@ -7,32 +7,27 @@ mod calls;
 mod places;
 mod sweeps;
 
-use sig_cases::{Answer, Arguments, CaseError, Cases, run};
-use std::alloc::Global;
+use sig_cases::{Answer, Arguments, Cases, run};
 
 struct DerCases;
 
 impl Cases for DerCases {
-    fn answer(
-        alloc: Global,
-        call: &str,
-        arguments: &mut Arguments<'_>,
-    ) -> Result<Answer, CaseError> {
+    fn answer(call: &str, arguments: &mut Arguments<'_>, answer: &mut Answer) {
         match call {
-            "read_element" => calls::read(alloc, arguments),
-            "read_all" => calls::read_whole(alloc, arguments),
-            "children" => calls::read_children(alloc, arguments),
-            "write_element" => calls::write(alloc, arguments),
-            "close" => calls::close(alloc, arguments),
-            "time_of" => calls::time(alloc, arguments),
-            "rfc3339_second" => calls::instant(alloc, arguments),
-            "place_at" => places::front(alloc, arguments),
-            "optional_at" => places::optional(alloc, arguments),
-            "whole_at" => places::whole(alloc, arguments),
-            "key_info" => places::key_info(alloc, arguments),
-            "prefixes" => sweeps::prefixes(alloc, arguments),
-            "flips" => sweeps::flips(alloc, arguments),
-            _ => Err(CaseError::BadLine),
+            "read_element" => calls::read(arguments, answer),
+            "read_all" => calls::read_whole(arguments, answer),
+            "children" => calls::read_children(arguments, answer),
+            "write_element" => calls::write(arguments, answer),
+            "close" => calls::close(arguments, answer),
+            "time_of" => calls::time(arguments, answer),
+            "rfc3339_second" => calls::instant(arguments, answer),
+            "place_at" => places::front(arguments, answer),
+            "optional_at" => places::optional(arguments, answer),
+            "whole_at" => places::whole(arguments, answer),
+            "key_info" => places::key_info(arguments, answer),
+            "prefixes" => sweeps::prefixes(arguments, answer),
+            "flips" => sweeps::flips(arguments, answer),
+            _ => arguments.refuse(),
         }
     }
 }

@@ -1,29 +1,23 @@
 //! Calls that tell where an element begins and ends.
 
 use crate::calls::tag;
-use sig_cases::{Answer, Arguments, CaseError};
+use sig_cases::{Answer, Arguments};
 use sig_der::{Place, Reader, whole_key_info};
-use std::alloc::Global;
 
-fn none(alloc: Global) -> Result<Answer, CaseError> {
-    Answer::of(alloc, &"none")
-}
-
-fn placed(answer: Answer, place: Place) -> Result<Answer, CaseError> {
-    answer
-        .hex(&[place.tag])?
-        .value(&place.start)?
-        .value(&place.content)?
-        .value(&place.end)
+fn placed(answer: &mut Answer, place: Place) {
+    answer.hex(&[place.tag]);
+    answer.value(&place.start);
+    answer.value(&place.content);
+    answer.value(&place.end);
 }
 
 /// `place_at BYTES AT END`: the tag, and where the element, its content and what follows begin.
-pub(crate) fn front(alloc: Global, arguments: &mut Arguments<'_>) -> Result<Answer, CaseError> {
-    let bytes = arguments.hex(alloc)?;
-    let at = arguments.natural()?;
-    let end = arguments.natural()?;
+pub(crate) fn front(arguments: &mut Arguments<'_>, answer: &mut Answer) {
+    let bytes = arguments.hex();
+    let at = arguments.natural();
+    let end = arguments.natural();
     if at > end || end > bytes.len() as u64 {
-        return Err(CaseError::BadLine);
+        return arguments.refuse();
     }
     let reader = Reader {
         bytes: &bytes,
@@ -31,45 +25,55 @@ pub(crate) fn front(alloc: Global, arguments: &mut Arguments<'_>) -> Result<Answ
         end: end as usize,
     };
     match reader.any() {
-        Some((place, _)) => placed(Answer::ok(alloc)?, place),
-        None => none(alloc),
+        Some((place, _)) => {
+            answer.ok();
+            placed(answer, place);
+        }
+        None => answer.value(&"none"),
     }
 }
 
 /// `optional_at BYTES TAG`: where what follows begins, and the element, if there is one.
-pub(crate) fn optional(alloc: Global, arguments: &mut Arguments<'_>) -> Result<Answer, CaseError> {
-    let bytes = arguments.hex(alloc)?;
-    let tag = tag(alloc, arguments)?;
-    match Reader::new(&bytes).optional(tag) {
-        Some((Some(place), rest)) => placed(Answer::ok(alloc)?.value(&rest.at)?, place),
-        Some((None, rest)) => Answer::ok(alloc)?.value(&rest.at),
-        None => none(alloc),
+pub(crate) fn optional(arguments: &mut Arguments<'_>, answer: &mut Answer) {
+    let bytes = arguments.hex();
+    match Reader::new(&bytes).optional(tag(arguments)) {
+        Some((place, rest)) => {
+            answer.ok();
+            answer.value(&rest.at);
+            if let Some(place) = place {
+                placed(answer, place);
+            }
+        }
+        None => answer.value(&"none"),
     }
 }
 
 /// `whole_at BYTES TAG`: the element that the bytes are.
-pub(crate) fn whole(alloc: Global, arguments: &mut Arguments<'_>) -> Result<Answer, CaseError> {
-    let bytes = arguments.hex(alloc)?;
-    let tag = tag(alloc, arguments)?;
-    match Reader::new(&bytes).whole(tag) {
-        Some(place) => placed(Answer::ok(alloc)?, place),
-        None => none(alloc),
+pub(crate) fn whole(arguments: &mut Arguments<'_>, answer: &mut Answer) {
+    let bytes = arguments.hex();
+    match Reader::new(&bytes).whole(tag(arguments)) {
+        Some(place) => {
+            answer.ok();
+            placed(answer, place);
+        }
+        None => answer.value(&"none"),
     }
 }
 
 /// `key_info BYTES`: the object identifier of the algorithm, the tag of its parameters or `-`, and the bits.
-pub(crate) fn key_info(alloc: Global, arguments: &mut Arguments<'_>) -> Result<Answer, CaseError> {
-    let bytes = arguments.hex(alloc)?;
+pub(crate) fn key_info(arguments: &mut Arguments<'_>, answer: &mut Answer) {
+    let bytes = arguments.hex();
     match whole_key_info(&bytes) {
         Some(info) => {
             let oid = info.algorithm.oid;
-            let answer = Answer::ok(alloc)?.hex(&bytes[oid.content..oid.end])?;
-            let answer = match info.algorithm.parameters {
-                Some(parameters) => answer.hex(&[parameters.tag])?,
-                None => answer.hex(&[])?,
-            };
-            answer.hex(&bytes[info.bits..info.whole.end])
+            answer.ok();
+            answer.hex(&bytes[oid.content..oid.end]);
+            match info.algorithm.parameters {
+                Some(parameters) => answer.hex(&[parameters.tag]),
+                None => answer.hex(&[]),
+            }
+            answer.hex(&bytes[info.bits..info.whole.end]);
         }
-        None => none(alloc),
+        None => answer.value(&"none"),
     }
 }

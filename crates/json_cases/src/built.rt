@@ -3,9 +3,9 @@ ghost use Rattle.std.specs.Prelude.{IsSome};
 ghost use Rattle.sig_json.specs.Find.{as_array, as_object};
 ghost use Rattle.sig_json.specs.Tree.{document_tree};
 
-use crate::documents::{document, with_tree};
+use crate::documents::{add_tree, document_of};
 use sig_base::OutOfMemory;
-use sig_cases::{Answer, Arguments, CaseError};
+use sig_cases::{Answer, Arguments};
 use sig_json::Document;
 use std::alloc::Global;
 
@@ -18,17 +18,9 @@ struct BuiltObject {
 
 #[tactic(auto, using(sig_json::proofs::Staying::staying))]
 impl BuiltObject {
-    fn new(alloc: Global) -> BuiltObject {
-        BuiltObject {
-            document: Document::object(alloc),
-        }
-    }
-
-    /// The object in which this member is set. Fails only if memory runs out.
-    fn with(self, alloc: Global, name: &str, value: Document) -> Result<BuiltObject, OutOfMemory> {
-        let mut document = self.document;
-        document.insert(alloc, name, value)?;
-        Ok(BuiltObject { document })
+    /// Sets this member. Fails only if memory runs out.
+    fn set(&mut self, alloc: Global, name: &str, value: Document) -> Result<(), OutOfMemory> {
+        self.document.insert(alloc, name, value)
     }
 }
 
@@ -41,57 +33,79 @@ struct BuiltList {
 
 #[tactic(auto, using(sig_json::proofs::Staying::staying))]
 impl BuiltList {
-    fn new(alloc: Global) -> BuiltList {
-        BuiltList {
-            document: Document::list(alloc),
-        }
-    }
-
-    /// The list to which this value is added. Fails only if memory runs out.
-    fn with(self, value: Document) -> Result<BuiltList, OutOfMemory> {
-        let mut document = self.document;
-        document.push(value)?;
-        Ok(BuiltList { document })
+    /// Adds this value. Fails only if memory runs out.
+    fn push(&mut self, value: Document) -> Result<(), OutOfMemory> {
+        self.document.push(value)
     }
 }
 
 /// A value of the next two arguments: `integer` and an integer, or `text` or `json` and a text in percent-encoding.
 /// One of JSON is a copy of what was read.
-fn part(alloc: Global, arguments: &mut Arguments<'_>) -> Result<Document, CaseError> {
-    match arguments.word()? {
-        "integer" => Ok(Document::of_integer(arguments.integer()?)),
-        "text" => Ok(Document::of_text(alloc, arguments.text(alloc)?.as_str())?),
-        "json" => {
-            let read = document(alloc, arguments.text(alloc)?.as_str().as_bytes())?;
-            Ok(read.view().copy(alloc)?)
+fn part(arguments: &mut Arguments<'_>, answer: &mut Answer) -> Document {
+    let alloc = arguments.alloc();
+    match arguments.word() {
+        "integer" => Document::of_integer(arguments.integer()),
+        "text" => {
+            let text = arguments.text();
+            made(alloc, answer, Document::of_text(alloc, text.as_str()))
         }
-        _ => Err(CaseError::BadLine),
+        "json" => {
+            let text = arguments.text();
+            let read = document_of(arguments, text.as_bytes());
+            made(alloc, answer, read.view().copy(alloc))
+        }
+        _ => {
+            arguments.refuse();
+            Document::list(alloc)
+        }
+    }
+}
+
+/// The document that was made.
+fn made(alloc: Global, answer: &mut Answer, made: Result<Document, OutOfMemory>) -> Document {
+    match made {
+        Ok(document) => document,
+        Err(_) => {
+            answer.out_of_memory();
+            Document::list(alloc)
+        }
     }
 }
 
 /// `object NAME VALUE NAME VALUE ..`: the object in which these members are set in turn.
-pub(crate) fn object(alloc: Global, arguments: &mut Arguments<'_>) -> Result<Answer, CaseError> {
-    let mut object = BuiltObject::new(alloc);
+pub(crate) fn object(arguments: &mut Arguments<'_>, answer: &mut Answer) {
+    let alloc = arguments.alloc();
+    let mut object = BuiltObject {
+        document: Document::object(alloc),
+    };
     for _ in 0..u64::MAX {
         if arguments.is_empty() {
             break;
         }
-        let name = arguments.text(alloc)?;
-        let value = part(alloc, arguments)?;
-        object = object.with(alloc, name.as_str(), value)?;
+        let name = arguments.text();
+        let value = part(arguments, answer);
+        if object.set(alloc, name.as_str(), value).is_err() {
+            answer.out_of_memory();
+        }
     }
-    with_tree(alloc, Answer::ok(alloc)?, object.document.view())
+    answer.ok();
+    add_tree(alloc, answer, object.document.view());
 }
 
 /// `list VALUE VALUE ..`: the list to which these values are added in turn.
-pub(crate) fn list(alloc: Global, arguments: &mut Arguments<'_>) -> Result<Answer, CaseError> {
-    let mut list = BuiltList::new(alloc);
+pub(crate) fn list(arguments: &mut Arguments<'_>, answer: &mut Answer) {
+    let alloc = arguments.alloc();
+    let mut list = BuiltList {
+        document: Document::list(alloc),
+    };
     for _ in 0..u64::MAX {
         if arguments.is_empty() {
             break;
         }
-        let value = part(alloc, arguments)?;
-        list = list.with(value)?;
+        if list.push(part(arguments, answer)).is_err() {
+            answer.out_of_memory();
+        }
     }
-    with_tree(alloc, Answer::ok(alloc)?, list.document.view())
+    answer.ok();
+    add_tree(alloc, answer, list.document.view());
 }

@@ -1,185 +1,162 @@
-//! Texts, the trees that they are, and what a view shows of a tree.
-use sig_cases::{Answer, Arguments, CaseError};
-use sig_json::{Document, Json, canonical, compact, quoted};
+//! Texts, and the trees that they are.
+use sig_cases::{Answer, Arguments};
+use sig_json::{Document, DocumentError, Json, canonical, compact, quoted};
 use std::alloc::Global;
-use std::fmt::Display;
 
 /// The bytes of the next arguments: the rest of the line behind `json`, or one word in hexadecimal behind `hex`.
-pub(crate) fn bytes(alloc: Global, arguments: &mut Arguments<'_>) -> Result<Vec<u8>, CaseError> {
-    match arguments.word()? {
-        "json" => Ok(arguments.rest()?.as_bytes().to_vec(alloc)?),
-        "hex" => arguments.hex(alloc),
-        _ => Err(CaseError::BadLine),
+pub(crate) fn bytes(arguments: &mut Arguments<'_>, answer: &mut Answer) -> Vec<u8> {
+    match arguments.word() {
+        "json" => copied(arguments.alloc(), answer, arguments.rest()),
+        "hex" => arguments.hex(),
+        _ => {
+            arguments.refuse();
+            Vec::new(arguments.alloc())
+        }
+    }
+}
+
+fn copied(alloc: Global, answer: &mut Answer, text: &str) -> Vec<u8> {
+    let mut bytes = Vec::new(alloc);
+    if bytes.extend_from_slice(text.as_bytes()).is_err() {
+        answer.out_of_memory();
+    }
+    bytes
+}
+
+/// The document of the next arguments. A text that is none makes the line a bad one.
+pub(crate) fn document(arguments: &mut Arguments<'_>, answer: &mut Answer) -> Document {
+    let text = bytes(arguments, answer);
+    document_of(arguments, &text)
+}
+
+/// The document that a text is. One that is none makes the line a bad one.
+pub(crate) fn document_of(arguments: &mut Arguments<'_>, text: &[u8]) -> Document {
+    match Document::read(arguments.alloc(), text) {
+        Ok(document) => document,
+        Err(_) => {
+            arguments.refuse();
+            Document::list(arguments.alloc())
+        }
+    }
+}
+
+/// So many names as the next argument says.
+pub(crate) fn names(arguments: &mut Arguments<'_>, answer: &mut Answer) -> Vec<String> {
+    let mut names = Vec::new(arguments.alloc());
+    for _ in 0..arguments.natural() {
+        if names.push(arguments.text()).is_err() {
+            answer.out_of_memory();
+        }
+    }
+    names
+}
+
+pub(crate) fn borrowed<'a>(
+    alloc: Global,
+    answer: &mut Answer,
+    names: &'a [String],
+) -> Vec<&'a str> {
+    let mut borrowed = Vec::new(alloc);
+    for name in names {
+        if borrowed.push(name.as_str()).is_err() {
+            answer.out_of_memory();
+        }
+    }
+    borrowed
+}
+
+/// Adds a text in quotation marks.
+pub(crate) fn add_text(alloc: Global, answer: &mut Answer, text: &str) {
+    match quoted(alloc, text) {
+        Ok(written) => answer.value(&written.as_str()),
+        Err(_) => answer.out_of_memory(),
+    }
+}
+
+/// Adds the compact text of a tree.
+pub(crate) fn add_tree(alloc: Global, answer: &mut Answer, json: Json<'_, '_>) {
+    match compact(alloc, json) {
+        Ok(text) => answer.value(&text.as_str()),
+        Err(_) => answer.out_of_memory(),
+    }
+}
+
+/// Adds what was read: the compact text of the tree.
+fn add_read(alloc: Global, answer: &mut Answer, read: Result<Document, DocumentError>) {
+    match read {
+        Ok(document) => {
+            answer.ok();
+            add_tree(alloc, answer, document.view());
+        }
+        Err(error) => answer.error(&error),
     }
 }
 
 /// `read DOCUMENT`: the compact text of its tree.
-pub(crate) fn read(alloc: Global, arguments: &mut Arguments<'_>) -> Result<Answer, CaseError> {
-    match Document::read(alloc, &bytes(alloc, arguments)?) {
-        Ok(document) => with_tree(alloc, Answer::ok(alloc)?, document.view()),
-        Err(error) => Answer::error(alloc, &error),
-    }
+pub(crate) fn read(arguments: &mut Arguments<'_>, answer: &mut Answer) {
+    let alloc = arguments.alloc();
+    let text = bytes(arguments, answer);
+    add_read(alloc, answer, Document::read(alloc, &text));
 }
 
 /// `read_members COUNT NAME.. DOCUMENT`: the compact text of its tree, of an object with its members of these names
 /// alone.
-pub(crate) fn read_members(
-    alloc: Global,
-    arguments: &mut Arguments<'_>,
-) -> Result<Answer, CaseError> {
-    let names = names(alloc, arguments)?;
-    let lent = lent(alloc, &names)?;
-    match Document::read_members(alloc, &bytes(alloc, arguments)?, lent.as_slice()) {
-        Ok(document) => with_tree(alloc, Answer::ok(alloc)?, document.view()),
-        Err(error) => Answer::error(alloc, &error),
-    }
-}
-
-/// So many names as the first argument says.
-pub(crate) fn names(
-    alloc: Global,
-    arguments: &mut Arguments<'_>,
-) -> Result<Vec<String>, CaseError> {
-    let mut names = Vec::new(alloc);
-    for _ in 0..arguments.natural()? {
-        names.push(arguments.text(alloc)?)?;
-    }
-    Ok(names)
-}
-
-pub(crate) fn lent<'a>(alloc: Global, names: &'a Vec<String>) -> Result<Vec<&'a str>, CaseError> {
-    let mut lent = Vec::new(alloc);
-    for name in names {
-        lent.push(name.as_str())?;
-    }
-    Ok(lent)
+pub(crate) fn read_members(arguments: &mut Arguments<'_>, answer: &mut Answer) {
+    let alloc = arguments.alloc();
+    let names = names(arguments, answer);
+    let borrowed = borrowed(alloc, answer, &names);
+    let text = bytes(arguments, answer);
+    add_read(
+        alloc,
+        answer,
+        Document::read_members(alloc, &text, &borrowed),
+    );
 }
 
 /// `read_back DOCUMENT`: whether its compact text is read as an equal tree, and has itself as its compact text.
-pub(crate) fn read_back(alloc: Global, arguments: &mut Arguments<'_>) -> Result<Answer, CaseError> {
-    let document = match Document::read(alloc, &bytes(alloc, arguments)?) {
-        Ok(document) => document,
-        Err(error) => return Answer::error(alloc, &error),
-    };
-    let text = compact(alloc, document.view())?;
-    match Document::read(alloc, text.as_str().as_bytes()) {
+pub(crate) fn read_back(arguments: &mut Arguments<'_>, answer: &mut Answer) {
+    let alloc = arguments.alloc();
+    match Document::read(alloc, &bytes(arguments, answer)) {
+        Ok(document) => match compact(alloc, document.view()) {
+            Ok(text) => add_back(alloc, answer, &document, text.as_str()),
+            Err(_) => answer.out_of_memory(),
+        },
+        Err(error) => answer.error(&error),
+    }
+}
+
+/// Adds whether a text is read as this document, and has itself as its compact text.
+fn add_back(alloc: Global, answer: &mut Answer, document: &Document, text: &str) {
+    match Document::read(alloc, text.as_bytes()) {
         Ok(again) => {
-            let second = compact(alloc, again.view())?;
-            Answer::ok(alloc)?
-                .value(&(document == again))?
-                .value(&(text == second))
+            answer.ok();
+            answer.value(&(*document == again));
+            match compact(alloc, again.view()) {
+                Ok(second) => answer.value(&(second.as_str() == text)),
+                Err(_) => answer.out_of_memory(),
+            }
         }
-        Err(error) => Answer::error(alloc, &error),
+        Err(error) => answer.error(&error),
     }
 }
 
 /// `canonical DOCUMENT`: the canonical text.
-pub(crate) fn canonical_text(
-    alloc: Global,
-    arguments: &mut Arguments<'_>,
-) -> Result<Answer, CaseError> {
-    match Document::read(alloc, &bytes(alloc, arguments)?) {
+pub(crate) fn canonical_text(arguments: &mut Arguments<'_>, answer: &mut Answer) {
+    let alloc = arguments.alloc();
+    match Document::read(alloc, &bytes(arguments, answer)) {
         Ok(document) => match canonical(alloc, document.view()) {
-            Ok(text) => Answer::ok(alloc)?.value(&text.as_str()),
-            Err(error) => Answer::error(alloc, &error),
+            Ok(text) => {
+                answer.ok();
+                answer.value(&text.as_str());
+            }
+            Err(error) => answer.error(&error),
         },
-        Err(error) => Answer::error(alloc, &error),
+        Err(error) => answer.error(&error),
     }
 }
 
 /// `quoted TEXT`: the text in quotation marks.
-pub(crate) fn quoted_text(
-    alloc: Global,
-    arguments: &mut Arguments<'_>,
-) -> Result<Answer, CaseError> {
-    let text = arguments.text(alloc)?;
-    with_text(alloc, Answer::ok(alloc)?, text.as_str())
-}
-
-/// The answer, and behind it a text in quotation marks.
-pub(crate) fn with_text(alloc: Global, answer: Answer, text: &str) -> Result<Answer, CaseError> {
-    let written = quoted(alloc, text)?;
-    answer.value(&written.as_str())
-}
-
-/// The answer, and behind it the compact text of a tree.
-pub(crate) fn with_tree(
-    alloc: Global,
-    answer: Answer,
-    json: Json<'_, '_>,
-) -> Result<Answer, CaseError> {
-    let text = compact(alloc, json)?;
-    answer.value(&text.as_str())
-}
-
-/// The answer, and behind it the compact text of a tree, `none` where there is none.
-fn with_found(
-    alloc: Global,
-    answer: Answer,
-    found: Option<Json<'_, '_>>,
-) -> Result<Answer, CaseError> {
-    match found {
-        Some(json) => with_tree(alloc, answer, json),
-        None => answer.value(&"none"),
-    }
-}
-
-/// A document that has to be one. Fails with `BadLine` where the text is none.
-pub(crate) fn document(alloc: Global, text: &[u8]) -> Result<Document, CaseError> {
-    Document::read(alloc, text).map_err(|_| CaseError::BadLine)
-}
-
-/// `values DOCUMENT`: whether the value is null, its truth value, its integer, its text, how many elements it has,
-/// each `none` if it is no such value, and whether it has members.
-pub(crate) fn values(alloc: Global, arguments: &mut Arguments<'_>) -> Result<Answer, CaseError> {
-    let document = document(alloc, &bytes(alloc, arguments)?)?;
-    let json = document.view();
-    let mut answer = Answer::ok(alloc)?.value(&json.is_null())?;
-    answer = with_value(answer, json.boolean())?;
-    answer = with_value(answer, json.integer())?;
-    answer = match json.text() {
-        Some(text) => with_text(alloc, answer, text)?,
-        None => answer.value(&"none")?,
-    };
-    with_value(answer, json.list_len())?.value(&json.members().is_some())
-}
-
-/// The answer, and behind it a value, `none` where there is none.
-fn with_value<T: Display + Drop>(answer: Answer, value: Option<T>) -> Result<Answer, CaseError> {
-    match value {
-        Some(value) => answer.value(&value),
-        None => answer.value(&"none"),
-    }
-}
-
-/// `get NAME DOCUMENT`: the member of this name.
-pub(crate) fn member(alloc: Global, arguments: &mut Arguments<'_>) -> Result<Answer, CaseError> {
-    let name = arguments.text(alloc)?;
-    let document = document(alloc, &bytes(alloc, arguments)?)?;
-    with_found(
-        alloc,
-        Answer::ok(alloc)?,
-        document.view().get(name.as_str()),
-    )
-}
-
-/// `item PLACE DOCUMENT`: the element at this place, counted from 0.
-pub(crate) fn item(alloc: Global, arguments: &mut Arguments<'_>) -> Result<Answer, CaseError> {
-    let place = arguments.natural()? as usize;
-    let document = document(alloc, &bytes(alloc, arguments)?)?;
-    with_found(alloc, Answer::ok(alloc)?, document.view().item(place))
-}
-
-/// `members DOCUMENT`: names and values in turn.
-pub(crate) fn members(alloc: Global, arguments: &mut Arguments<'_>) -> Result<Answer, CaseError> {
-    let document = document(alloc, &bytes(alloc, arguments)?)?;
-    let Some(members) = document.view().members() else {
-        return Answer::ok(alloc)?.value(&"none");
-    };
-    let mut answer = Answer::ok(alloc)?;
-    for (name, value) in members {
-        answer = with_text(alloc, answer, name)?;
-        answer = with_tree(alloc, answer, value)?;
-    }
-    Ok(answer)
+pub(crate) fn quoted_text(arguments: &mut Arguments<'_>, answer: &mut Answer) {
+    answer.ok();
+    add_text(arguments.alloc(), answer, arguments.text().as_str());
 }

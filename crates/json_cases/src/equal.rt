@@ -1,8 +1,7 @@
 //! Equality.
-use crate::documents::document;
-use sig_cases::{Answer, Arguments, CaseError};
+use crate::documents::document_of;
+use sig_cases::{Answer, Arguments};
 use sig_json::Document;
-use std::alloc::Global;
 
 /// A document beside a number: its equality is derived from those of the two.
 #[derive(Drop, PartialEq, Eq)]
@@ -13,20 +12,19 @@ struct Numbered {
 
 /// `equal JSON JSON`, each in percent-encoding: whether the trees are equal, by views, by documents, and by what is
 /// derived of documents.
-pub(crate) fn equal(alloc: Global, arguments: &mut Arguments<'_>) -> Result<Answer, CaseError> {
-    let one = read_numbered(alloc, arguments)?;
-    let other = read_numbered(alloc, arguments)?;
-    Answer::ok(alloc)?
-        .value(&one.document.view().equals(other.document.view()))?
-        .value(&(one.document == other.document))?
-        .value(&(one == other))
+pub(crate) fn equal(arguments: &mut Arguments<'_>, answer: &mut Answer) {
+    let one = read_numbered(arguments);
+    let other = read_numbered(arguments);
+    answer.ok();
+    answer.value(&one.document.view().equals(other.document.view()));
+    answer.value(&(one.document == other.document));
+    answer.value(&(one == other));
 }
 
-fn read_numbered(alloc: Global, arguments: &mut Arguments<'_>) -> Result<Numbered, CaseError> {
-    let text = arguments.text(alloc)?;
-    let document = document(alloc, text.as_str().as_bytes())?;
-    Ok(Numbered {
+fn read_numbered(arguments: &mut Arguments<'_>) -> Numbered {
+    let text = arguments.text();
+    Numbered {
         number: 1,
-        document,
-    })
+        document: document_of(arguments, text.as_bytes()),
+    }
 }

@@ -1,7 +1,7 @@
 //! The kinds of values that have readers, and what is written of a value of each.
-use crate::documents::{with_text, with_tree};
+use crate::documents::{add_text, add_tree};
 use sig_base::{Bytes, Text, TextMap};
-use sig_cases::{Answer, CaseError};
+use sig_cases::Answer;
 use sig_json::{
     AnyReader, BytesReader, Document, ElementReader, HashReader, TextMapReader, TextReader,
 };
@@ -9,41 +9,40 @@ use std::alloc::Global;
 
 /// A kind of values.
 pub(crate) trait Kind: ElementReader {
-    /// The answer, and behind it a value that was read.
-    fn with_item(alloc: Global, answer: Answer, item: &Self::Item) -> Result<Answer, CaseError>;
+    /// Adds a value that was read.
+    fn add(alloc: Global, answer: &mut Answer, item: &Self::Item);
 }
 
 impl Kind for TextReader {
-    fn with_item(alloc: Global, answer: Answer, item: &Text) -> Result<Answer, CaseError> {
-        with_text(alloc, answer, item.as_str())
+    fn add(alloc: Global, answer: &mut Answer, item: &Text) {
+        add_text(alloc, answer, item.as_str());
     }
 }
 
 impl Kind for BytesReader {
-    fn with_item(_alloc: Global, answer: Answer, item: &Bytes) -> Result<Answer, CaseError> {
-        answer.hex(item.as_slice())
+    fn add(_alloc: Global, answer: &mut Answer, item: &Bytes) {
+        answer.hex(item.as_slice());
     }
 }
 
 impl Kind for HashReader {
-    fn with_item(_alloc: Global, answer: Answer, item: &[u8; 32]) -> Result<Answer, CaseError> {
-        answer.hex(item)
+    fn add(_alloc: Global, answer: &mut Answer, item: &[u8; 32]) {
+        answer.hex(item);
     }
 }
 
 impl Kind for TextMapReader {
-    fn with_item(alloc: Global, answer: Answer, item: &TextMap) -> Result<Answer, CaseError> {
-        let mut answer = answer.value(&item.len())?;
+    fn add(alloc: Global, answer: &mut Answer, item: &TextMap) {
+        answer.value(&item.len());
         for (name, text) in item.iter() {
-            answer = with_text(alloc, answer, name)?;
-            answer = with_text(alloc, answer, text)?;
+            add_text(alloc, answer, name);
+            add_text(alloc, answer, text);
         }
-        Ok(answer)
     }
 }
 
 impl Kind for AnyReader {
-    fn with_item(alloc: Global, answer: Answer, item: &Document) -> Result<Answer, CaseError> {
-        with_tree(alloc, answer, item.view())
+    fn add(alloc: Global, answer: &mut Answer, item: &Document) {
+        add_tree(alloc, answer, item.view());
     }
 }

@@ -12,45 +12,35 @@ mod documents;
 mod equal;
 mod errors;
 mod kinds;
-mod listed;
 mod readers;
+mod rows;
+mod views;
 
-use built::{list, object};
-use documents::{
-    canonical_text, item, member, members, quoted_text, read, read_back, read_members, values,
-};
-use equal::equal;
-use errors::errors;
-use listed::members_and_list;
-use readers::{integers, reader};
-use sig_cases::{Answer, Arguments, CaseError, Cases, run};
-use std::alloc::Global;
+use sig_cases::{Answer, Arguments, Cases, run};
 
 struct JsonCases;
 
 impl Cases for JsonCases {
-    fn answer(
-        alloc: Global,
-        call: &str,
-        arguments: &mut Arguments<'_>,
-    ) -> Result<Answer, CaseError> {
+    fn answer(call: &str, arguments: &mut Arguments<'_>, answer: &mut Answer) {
         match call {
-            "read" => read(alloc, arguments),
-            "read_members" => read_members(alloc, arguments),
-            "members_and_list" => members_and_list(alloc, arguments),
-            "read_back" => read_back(alloc, arguments),
-            "canonical" => canonical_text(alloc, arguments),
-            "quoted" => quoted_text(alloc, arguments),
-            "values" => values(alloc, arguments),
-            "get" => member(alloc, arguments),
-            "item" => item(alloc, arguments),
-            "members" => members(alloc, arguments),
-            "object" => object(alloc, arguments),
-            "list" => list(alloc, arguments),
-            "equal" => equal(alloc, arguments),
-            "errors" => errors(alloc),
-            "integers" => integers(alloc, arguments),
-            _ => reader(alloc, call, arguments),
+            "read" => documents::read(arguments, answer),
+            "read_members" => documents::read_members(arguments, answer),
+            "read_back" => documents::read_back(arguments, answer),
+            "canonical" => documents::canonical_text(arguments, answer),
+            "quoted" => documents::quoted_text(arguments, answer),
+            "values" => views::values(arguments, answer),
+            "get" => views::member(arguments, answer),
+            "item" => views::item(arguments, answer),
+            "members" => views::members(arguments, answer),
+            "object" => built::object(arguments, answer),
+            "list" => built::list(arguments, answer),
+            "equal" => equal::equal(arguments, answer),
+            "errors" => errors::errors(answer),
+            "integers" => rows::integers(arguments, answer),
+            "read_text" | "required_text" => rows::text(call, arguments, answer),
+            "read_bytes" | "required_bytes" => rows::bytes(call, arguments, answer),
+            "required_hash" => rows::hash(arguments, answer),
+            _ => readers::reader(call, arguments, answer),
         }
     }
 }

@@ -1,198 +1,141 @@
-//! Readers of members.
-use crate::documents::{bytes, document, with_text};
+//! Readers of each kind of values.
+use crate::documents::{add_tree, borrowed, bytes, document, names};
 use crate::kinds::Kind;
-use sig_base::{Bytes, Register, Text};
-use sig_cases::{Answer, Arguments, CaseError};
+use sig_base::Register;
+use sig_cases::{Answer, Arguments};
 use sig_json::{
-    AnyReader, BytesReader, Document, HashReader, MemberError, TextMapReader, TextReader, optional,
-    optional_list, read_bytes, read_i64, read_record, read_text, read_u64, required,
-    required_bytes, required_hash, required_i64, required_list, required_text, required_u64,
+    AnyReader, BytesReader, Document, HashReader, Json, MemberError, TextMapReader, TextReader,
+    optional, optional_list, read_record, required, required_list,
 };
 use std::alloc::Global;
-use std::fmt::Display;
+use std::fmt::{Debug, Display};
 
-/// A reader of one member, whatever its kind.
-enum MemberReader {
-    Required,
-    Optional,
-    RequiredList,
-    OptionalList,
+/// `record KIND DOCUMENT`, `required KIND NAME DOCUMENT` and its kin, and `members_and_list KIND ..`: what the reader
+/// of this kind returns.
+pub(crate) fn reader(call: &str, arguments: &mut Arguments<'_>, answer: &mut Answer) {
+    match arguments.word() {
+        "text" => reader_of::<TextReader>(call, arguments, answer),
+        "bytes" => reader_of::<BytesReader>(call, arguments, answer),
+        "hash" => reader_of::<HashReader>(call, arguments, answer),
+        "map" => reader_of::<TextMapReader>(call, arguments, answer),
+        "any" => reader_of::<AnyReader>(call, arguments, answer),
+        _ => arguments.refuse(),
+    }
 }
 
-/// `record KIND DOCUMENT`, or `required KIND NAME DOCUMENT` and its kin: what the reader of this kind returns; or a
-/// reader of one row of a table, as `read_text NAME DOCUMENT`.
-pub(crate) fn reader(
-    alloc: Global,
+fn reader_of<K: Kind>(call: &str, arguments: &mut Arguments<'_>, answer: &mut Answer) {
+    match call {
+        "record" => record::<K>(arguments, answer),
+        "members_and_list" => members_and_list::<K>(arguments, answer),
+        _ => member::<K>(call, arguments, answer),
+    }
+}
+
+fn record<K: Kind>(arguments: &mut Arguments<'_>, answer: &mut Answer) {
+    let alloc = arguments.alloc();
+    let text = bytes(arguments, answer);
+    add_read::<K, _>(alloc, answer, read_record::<K>(alloc, &text));
+}
+
+/// `members_and_list KIND LIST COUNT NAME.. DOCUMENT`: the compact text of its tree with the members of these names
+/// alone, and the elements of the list.
+fn members_and_list<K: Kind>(arguments: &mut Arguments<'_>, answer: &mut Answer) {
+    let alloc = arguments.alloc();
+    let list = arguments.text();
+    let names = names(arguments, answer);
+    let borrowed = borrowed(alloc, answer, &names);
+    let text = bytes(arguments, answer);
+    add_parts::<K>(alloc, answer, &text, &borrowed, list.as_str());
+}
+
+/// Adds what a text was read for.
+fn add_parts<K: Kind>(alloc: Global, answer: &mut Answer, text: &[u8], names: &[&str], list: &str) {
+    match Document::read_members_and_list::<K>(alloc, text, names, list) {
+        Ok((document, elements)) => {
+            answer.ok();
+            add_tree(alloc, answer, document.view());
+            add_list::<K>(alloc, answer, &elements);
+        }
+        Err(error) => answer.error(&error),
+    }
+}
+
+fn member<K: Kind>(call: &str, arguments: &mut Arguments<'_>, answer: &mut Answer) {
+    let name = arguments.text();
+    let document = document(arguments, answer);
+    add_member::<K>(call, arguments, answer, document.view(), name.as_str());
+}
+
+fn add_member<K: Kind>(
     call: &str,
     arguments: &mut Arguments<'_>,
-) -> Result<Answer, CaseError> {
+    answer: &mut Answer,
+    json: Json<'_, '_>,
+    name: &str,
+) {
+    let alloc = arguments.alloc();
     match call {
-        "record" => record(alloc, arguments),
-        "required" => member(alloc, &MemberReader::Required, arguments),
-        "optional" => member(alloc, &MemberReader::Optional, arguments),
-        "required_list" => member(alloc, &MemberReader::RequiredList, arguments),
-        "optional_list" => member(alloc, &MemberReader::OptionalList, arguments),
-        _ => row(alloc, call, arguments),
+        "required" => add_read::<K, _>(alloc, answer, required::<K>(alloc, json, name)),
+        "optional" => add_optional::<K>(alloc, answer, optional::<K>(alloc, json, name)),
+        "required_list" => add_each::<K>(alloc, answer, required_list::<K>(alloc, json, name)),
+        "optional_list" => add_each::<K>(alloc, answer, optional_list::<K>(alloc, json, name)),
+        _ => arguments.refuse(),
     }
 }
 
-fn record(alloc: Global, arguments: &mut Arguments<'_>) -> Result<Answer, CaseError> {
-    let kind = arguments.word()?;
-    let text = bytes(alloc, arguments)?;
-    match kind {
-        "text" => record_of::<TextReader>(alloc, &text),
-        "bytes" => record_of::<BytesReader>(alloc, &text),
-        "hash" => record_of::<HashReader>(alloc, &text),
-        "map" => record_of::<TextMapReader>(alloc, &text),
-        "any" => record_of::<AnyReader>(alloc, &text),
-        _ => Err(CaseError::BadLine),
-    }
-}
-
-fn record_of<K: Kind>(alloc: Global, text: &[u8]) -> Result<Answer, CaseError> {
-    match read_record::<K>(alloc, text) {
-        Ok(item) => K::with_item(alloc, Answer::ok(alloc)?, &item),
-        Err(error) => Answer::error(alloc, &error),
-    }
-}
-
-fn member(
+/// Adds what was read of a value.
+fn add_read<K: Kind, E: Debug + Display + Drop>(
     alloc: Global,
-    reader: &MemberReader,
-    arguments: &mut Arguments<'_>,
-) -> Result<Answer, CaseError> {
-    let kind = arguments.word()?;
-    let name = arguments.text(alloc)?;
-    let document = document(alloc, &bytes(alloc, arguments)?)?;
-    match kind {
-        "text" => member_of::<TextReader>(alloc, reader, name.as_str(), &document),
-        "bytes" => member_of::<BytesReader>(alloc, reader, name.as_str(), &document),
-        "hash" => member_of::<HashReader>(alloc, reader, name.as_str(), &document),
-        "map" => member_of::<TextMapReader>(alloc, reader, name.as_str(), &document),
-        "any" => member_of::<AnyReader>(alloc, reader, name.as_str(), &document),
-        _ => Err(CaseError::BadLine),
-    }
-}
-
-fn member_of<K: Kind>(
-    alloc: Global,
-    reader: &MemberReader,
-    name: &str,
-    document: &Document,
-) -> Result<Answer, CaseError> {
-    match reader {
-        MemberReader::Required => required_of::<K>(alloc, name, document),
-        MemberReader::Optional => optional_of::<K>(alloc, name, document),
-        MemberReader::RequiredList => {
-            list_answer::<K>(alloc, required_list::<K>(alloc, document.view(), name))
+    answer: &mut Answer,
+    read: Result<K::Item, E>,
+) {
+    match read {
+        Ok(item) => {
+            answer.ok();
+            K::add(alloc, answer, &item);
         }
-        MemberReader::OptionalList => {
-            list_answer::<K>(alloc, optional_list::<K>(alloc, document.view(), name))
+        Err(error) => answer.error(&error),
+    }
+}
+
+/// Adds what was read of a member, `none` where it is absent.
+fn add_optional<K: Kind>(
+    alloc: Global,
+    answer: &mut Answer,
+    read: Result<Option<K::Item>, MemberError>,
+) {
+    match read {
+        Ok(Some(item)) => {
+            answer.ok();
+            K::add(alloc, answer, &item);
         }
+        Ok(None) => {
+            answer.ok();
+            answer.value(&"none");
+        }
+        Err(error) => answer.error(&error),
     }
 }
 
-fn required_of<K: Kind>(
+/// Adds what was read of a list.
+fn add_each<K: Kind>(
     alloc: Global,
-    name: &str,
-    document: &Document,
-) -> Result<Answer, CaseError> {
-    match required::<K>(alloc, document.view(), name) {
-        Ok(item) => K::with_item(alloc, Answer::ok(alloc)?, &item),
-        Err(error) => Answer::error(alloc, &error),
+    answer: &mut Answer,
+    read: Result<Register<K::Item>, MemberError>,
+) {
+    match read {
+        Ok(list) => {
+            answer.ok();
+            add_list::<K>(alloc, answer, &list);
+        }
+        Err(error) => answer.error(&error),
     }
 }
 
-/// `none` where the member is absent.
-fn optional_of<K: Kind>(
-    alloc: Global,
-    name: &str,
-    document: &Document,
-) -> Result<Answer, CaseError> {
-    match optional::<K>(alloc, document.view(), name) {
-        Ok(Some(item)) => K::with_item(alloc, Answer::ok(alloc)?, &item),
-        Ok(None) => Answer::ok(alloc)?.value(&"none"),
-        Err(error) => Answer::error(alloc, &error),
-    }
-}
-
-/// What a reader of a list returns.
-fn list_answer<K: Kind>(
-    alloc: Global,
-    found: Result<Register<K::Item>, MemberError>,
-) -> Result<Answer, CaseError> {
-    match found {
-        Ok(list) => with_list::<K>(alloc, Answer::ok(alloc)?, &list),
-        Err(error) => Answer::error(alloc, &error),
-    }
-}
-
-/// The answer, and behind it how many elements a list has, and each.
-pub(crate) fn with_list<K: Kind>(
-    alloc: Global,
-    answer: Answer,
-    list: &Register<K::Item>,
-) -> Result<Answer, CaseError> {
-    let mut answer = answer.value(&list.len())?;
+/// Adds how many elements a list has, and each.
+fn add_list<K: Kind>(alloc: Global, answer: &mut Answer, list: &Register<K::Item>) {
+    answer.value(&list.len());
     for item in list.as_slice() {
-        answer = K::with_item(alloc, answer, item)?;
-    }
-    Ok(answer)
-}
-
-/// `read_text NAME DOCUMENT` and its kin: what a reader of one row returns.
-fn row(alloc: Global, call: &str, arguments: &mut Arguments<'_>) -> Result<Answer, CaseError> {
-    let name = arguments.text(alloc)?;
-    let name = name.as_str();
-    let document = document(alloc, &bytes(alloc, arguments)?)?;
-    let json = document.view();
-    match call {
-        "read_text" => text_answer(alloc, read_text(alloc, json, name)),
-        "required_text" => text_answer(alloc, required_text(alloc, json, name)),
-        "read_bytes" => bytes_answer(alloc, read_bytes(alloc, json, name)),
-        "required_bytes" => bytes_answer(alloc, required_bytes(alloc, json, name)),
-        "required_hash" => match required_hash(json, name) {
-            Ok(hash) => Answer::ok(alloc)?.hex(&hash),
-            Err(error) => Answer::error(alloc, &error),
-        },
-        _ => Err(CaseError::BadLine),
-    }
-}
-
-fn text_answer(alloc: Global, found: Result<Text, MemberError>) -> Result<Answer, CaseError> {
-    match found {
-        Ok(text) => with_text(alloc, Answer::ok(alloc)?, text.as_str()),
-        Err(error) => Answer::error(alloc, &error),
-    }
-}
-
-fn bytes_answer(alloc: Global, found: Result<Bytes, MemberError>) -> Result<Answer, CaseError> {
-    match found {
-        Ok(bytes) => Answer::ok(alloc)?.hex(bytes.as_slice()),
-        Err(error) => Answer::error(alloc, &error),
-    }
-}
-
-/// `integers NAME DOCUMENT`: what `read_i64`, `read_u64`, `required_i64` and `required_u64` return.
-pub(crate) fn integers(alloc: Global, arguments: &mut Arguments<'_>) -> Result<Answer, CaseError> {
-    let name = arguments.text(alloc)?;
-    let name = name.as_str();
-    let document = document(alloc, &bytes(alloc, arguments)?)?;
-    let json = document.view();
-    let mut answer = Answer::ok(alloc)?;
-    answer = with_integer(answer, read_i64(json, name))?;
-    answer = with_integer(answer, read_u64(json, name))?;
-    answer = with_integer(answer, required_i64(json, name))?;
-    with_integer(answer, required_u64(json, name))
-}
-
-/// The answer, and behind it an integer or why there is none.
-fn with_integer<T: Display + Drop>(
-    answer: Answer,
-    found: Result<T, MemberError>,
-) -> Result<Answer, CaseError> {
-    match found {
-        Ok(integer) => answer.value(&integer),
-        Err(error) => answer.value(&error),
+        K::add(alloc, answer, item);
     }
 }

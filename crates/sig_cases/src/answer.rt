@@ -15,7 +15,8 @@ pub struct Answer {
 }
 
 impl Answer {
-    pub(crate) fn new(alloc: Global) -> Answer {
+    /// A line without items.
+    pub fn new(alloc: Global) -> Answer {
         Answer {
             alloc,
             text: String::new(alloc),
@@ -115,7 +116,7 @@ impl Answer {
     }
 
     /// The line. `None` if memory ran out.
-    pub(crate) fn line(&self) -> Option<&str> {
+    pub fn line(&self) -> Option<&str> {
         if self.is_out_of_memory {
             None
         } else {

@@ -16,27 +16,22 @@ mod root;
 mod rooted;
 mod verified;
 
-use sig_cases::{Answer, Arguments, CaseError, Cases, run};
-use std::alloc::Global;
+use sig_cases::{Answer, Arguments, Cases, run};
 
 struct VerifyCases;
 
 impl Cases for VerifyCases {
-    fn answer(
-        alloc: Global,
-        call: &str,
-        arguments: &mut Arguments<'_>,
-    ) -> Result<Answer, CaseError> {
+    fn answer(call: &str, arguments: &mut Arguments<'_>, answer: &mut Answer) {
         match call {
-            "verify" => artifact::source_answer(alloc, arguments),
-            "verify_digest" => artifact::digest_answer(alloc, arguments),
-            "verify_digest_with" => rooted::bundle_answer(alloc, arguments),
-            "verify_log_entry" => rooted::entry_answer(alloc, arguments),
-            "verify_offline" => verified::answer(alloc, arguments),
-            "questions" => questions::answer(alloc, arguments),
-            "fulcio_certs" | "rekor_keys" | "ctfe_keys" => root::answer(alloc, call, arguments),
-            "errors" => errors::answer(alloc, arguments),
-            _ => Err(CaseError::BadLine),
+            "verify" => artifact::by_source(arguments, answer),
+            "verify_digest" => artifact::by_digest(arguments, answer),
+            "verify_digest_with" => rooted::bundle(arguments, answer),
+            "verify_log_entry" => rooted::entry(arguments, answer),
+            "verify_offline" => verified::offline(arguments, answer),
+            "questions" => questions::listed(arguments, answer),
+            "fulcio_certs" | "rekor_keys" | "ctfe_keys" => root::at(call, arguments, answer),
+            "errors" => errors::of_type(arguments, answer),
+            _ => arguments.refuse(),
         }
     }
 }

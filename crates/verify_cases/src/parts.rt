@@ -1,70 +1,68 @@
 //! What a case verifies a bundle with.
-//!
-//! The bundle is read last, when every other argument stands: a call that fails then has no bundle to drop, and the
-//! proof of each function speaks of one path on which it does.
 
 use crate::policy::policy;
 use sig_base::{KeyMap, TableChecker, Text};
 use sig_bundle::{Bundle, read_bundle};
-use sig_cases::{Arguments, CaseError};
+use sig_cases::{Answer, Arguments};
 use sig_verify::ManualTrustRoot;
 use sig_x509::RequestPolicy;
-use std::alloc::Global;
 
 /// The bundle, and what it is verified with.
 #[derive(Drop)]
 pub(crate) struct Parts {
     pub(crate) policy: RequestPolicy,
     pub(crate) root: ManualTrustRoot,
-    pub(crate) checker: TableChecker,
     pub(crate) bundle: Bundle,
+    pub(crate) checker: TableChecker,
 }
 
-/// The parts of the last arguments, `POLICY ROOT BUNDLE ROW ..`.
-pub(crate) fn read_parts(alloc: Global, arguments: &mut Arguments<'_>) -> Result<Parts, CaseError> {
-    let policy = policy(alloc, arguments)?;
-    let root = root(alloc, arguments)?;
-    let (text, checker) = signed(alloc, arguments)?;
-    Ok(Parts {
-        policy,
-        root,
-        checker,
-        bundle: bundle(alloc, &text)?,
-    })
+impl Parts {
+    /// The parts of the last arguments, `POLICY ROOT BUNDLE ROW ..`.
+    pub(crate) fn read(arguments: &mut Arguments<'_>, answer: &mut Answer) -> Parts {
+        Parts {
+            policy: policy(arguments, answer),
+            root: root(arguments, answer),
+            bundle: bundle(arguments),
+            checker: arguments.checker(),
+        }
+    }
 }
 
-/// The text and the checker of the last arguments, `BUNDLE ROW ..`.
-pub(crate) fn signed(
-    alloc: Global,
-    arguments: &mut Arguments<'_>,
-) -> Result<(Text, TableChecker), CaseError> {
-    let text = Text::from(arguments.text(alloc)?);
-    let checker = arguments.checker(alloc)?;
-    Ok((text, checker))
-}
-
-/// The bundle of a text. `BadLine` where it is none.
-pub(crate) fn bundle(alloc: Global, text: &Text) -> Result<Bundle, CaseError> {
-    read_bundle(alloc, text.as_str().as_bytes()).map_err(|_| CaseError::BadLine)
+/// The bundle of the next argument.
+pub(crate) fn bundle(arguments: &mut Arguments<'_>) -> Bundle {
+    let text = arguments.text();
+    match read_bundle(arguments.alloc(), text.as_bytes()) {
+        Ok(bundle) => bundle,
+        Err(_) => {
+            arguments.refuse();
+            Bundle {
+                media_type: Text::from(String::new(arguments.alloc())),
+                verification_material: None,
+                content: None,
+            }
+        }
+    }
 }
 
 /// The trust root of the next arguments, `CERTIFICATES KEYS KEYS`: those of the authorities, a list, and the keys of
 /// logs and of Certificate Transparency logs.
-fn root(alloc: Global, arguments: &mut Arguments<'_>) -> Result<ManualTrustRoot, CaseError> {
-    Ok(ManualTrustRoot {
-        fulcio_certs: arguments.entries(alloc)?,
-        rekor_keys: keys(alloc, arguments)?,
-        ctfe_keys: keys(alloc, arguments)?,
-    })
+fn root(arguments: &mut Arguments<'_>, answer: &mut Answer) -> ManualTrustRoot {
+    ManualTrustRoot {
+        fulcio_certs: arguments.entries(),
+        rekor_keys: keys(arguments, answer),
+        ctfe_keys: keys(arguments, answer),
+    }
 }
 
 /// The keys of the next arguments, `COUNT ID KEY ..`.
-pub(crate) fn keys(alloc: Global, arguments: &mut Arguments<'_>) -> Result<KeyMap, CaseError> {
-    let mut keys = KeyMap::new(alloc);
-    for _ in 0..arguments.natural()? {
-        let id = arguments.word()?;
-        let key = arguments.hex(alloc)?;
-        keys.insert(id, key.as_slice())?;
+pub(crate) fn keys(arguments: &mut Arguments<'_>, answer: &mut Answer) -> KeyMap {
+    let mut keys = KeyMap::new(arguments.alloc());
+    for _ in 0..arguments.natural() {
+        let id = arguments.word();
+        let key = arguments.hex();
+        if keys.insert(id, &key).is_err() {
+            answer.out_of_memory();
+        }
     }
-    Ok(keys)
+    keys
 }

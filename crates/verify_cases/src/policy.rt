@@ -1,50 +1,66 @@
 //! The policy of a case.
 
 use sig_base::Text;
-use sig_cases::{Arguments, CaseError};
+use sig_cases::{Answer, Arguments};
 use sig_x509::{
     GitHubWorkflowName, GitHubWorkflowRef, GitHubWorkflowRepository, GitHubWorkflowSHA,
     GitHubWorkflowTrigger, Identity, LeafPolicies, LeafPolicy, OIDCIssuer, RequestPolicy,
 };
-use std::alloc::Global;
 
-/// The policy of the next arguments, `all COUNT RULE ..` or `any COUNT RULE ..`. `BadLine` where it is none.
-pub(crate) fn policy(
-    alloc: Global,
-    arguments: &mut Arguments<'_>,
-) -> Result<RequestPolicy, CaseError> {
-    match arguments.word()? {
-        "all" => Ok(RequestPolicy::All(rules(alloc, arguments)?)),
-        "any" => Ok(RequestPolicy::Any(rules(alloc, arguments)?)),
-        _ => Err(CaseError::BadLine),
+/// The policy of the next arguments, `all COUNT RULE ..` or `any COUNT RULE ..`.
+pub(crate) fn policy(arguments: &mut Arguments<'_>, answer: &mut Answer) -> RequestPolicy {
+    let word = arguments.word();
+    let rules = rules(arguments, answer);
+    match word {
+        "all" => RequestPolicy::All(rules),
+        "any" => RequestPolicy::Any(rules),
+        _ => {
+            arguments.refuse();
+            RequestPolicy::Any(rules)
+        }
     }
 }
 
 /// The rules of the next arguments, behind their number.
-fn rules(alloc: Global, arguments: &mut Arguments<'_>) -> Result<LeafPolicies, CaseError> {
-    let mut rules = LeafPolicies::new(alloc);
-    for _ in 0..arguments.natural()? {
-        rules.push(rule(alloc, arguments)?)?;
+fn rules(arguments: &mut Arguments<'_>, answer: &mut Answer) -> LeafPolicies {
+    let mut rules = LeafPolicies::new(arguments.alloc());
+    for _ in 0..arguments.natural() {
+        let rule = rule(arguments, answer);
+        if rules.push(rule).is_err() {
+            answer.out_of_memory();
+        }
     }
-    Ok(rules)
+    rules
 }
 
 /// The rule of the next arguments: `Identity IDENTITY ISSUER`, or the name of another policy and the text that it asks
 /// for.
-fn rule(alloc: Global, arguments: &mut Arguments<'_>) -> Result<LeafPolicy, CaseError> {
-    let name = arguments.word()?;
-    let text = arguments.text(alloc)?;
-    if name == "Identity" {
-        let issuer = arguments.text(alloc)?;
-        let identity = Identity::new(alloc, text.as_str(), issuer.as_str())?;
-        return Ok(LeafPolicy::Identity(identity));
+fn rule(arguments: &mut Arguments<'_>, answer: &mut Answer) -> LeafPolicy {
+    match arguments.word() {
+        "Identity" => identity(arguments, answer),
+        name => {
+            let text = Text::from(arguments.text());
+            single(arguments, name, text)
+        }
     }
-    single(name, Text::from(text))
+}
+
+/// The identity of the next arguments, `IDENTITY ISSUER`.
+fn identity(arguments: &mut Arguments<'_>, answer: &mut Answer) -> LeafPolicy {
+    let name = arguments.text();
+    let issuer = arguments.text();
+    match Identity::new(arguments.alloc(), name.as_str(), issuer.as_str()) {
+        Ok(identity) => LeafPolicy::Identity(identity),
+        Err(_) => {
+            answer.out_of_memory();
+            LeafPolicy::OIDCIssuer(OIDCIssuer(Text::from(issuer)))
+        }
+    }
 }
 
 /// The policy of this name that asks for this text.
-fn single(name: &str, text: Text) -> Result<LeafPolicy, CaseError> {
-    Ok(match name {
+fn single(arguments: &mut Arguments<'_>, name: &str, text: Text) -> LeafPolicy {
+    match name {
         "OIDCIssuer" => LeafPolicy::OIDCIssuer(OIDCIssuer(text)),
         "GitHubWorkflowTrigger" => LeafPolicy::GitHubWorkflowTrigger(GitHubWorkflowTrigger(text)),
         "GitHubWorkflowSHA" => LeafPolicy::GitHubWorkflowSHA(GitHubWorkflowSHA(text)),
@@ -53,6 +69,9 @@ fn single(name: &str, text: Text) -> Result<LeafPolicy, CaseError> {
             LeafPolicy::GitHubWorkflowRepository(GitHubWorkflowRepository(text))
         }
         "GitHubWorkflowRef" => LeafPolicy::GitHubWorkflowRef(GitHubWorkflowRef(text)),
-        _ => return Err(CaseError::BadLine),
-    })
+        _ => {
+            arguments.refuse();
+            LeafPolicy::OIDCIssuer(OIDCIssuer(text))
+        }
+    }
 }

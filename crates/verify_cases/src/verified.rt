@@ -2,66 +2,78 @@
 
 use crate::policy::policy;
 use sig_bundle::ArtifactDigest;
-use sig_cases::{Answer, Arguments, CaseError};
+use sig_cases::{Answer, Arguments};
 use sig_verify::{Offline, OfflineError, verify_offline};
-use std::alloc::Global;
 
 /// `verify_offline NOW DIGEST POLICY ROOT BUNDLE ROW ..`: `ok`, and index and tree size of the proof; or the name of
 /// the first link that fails, and the error.
-pub(crate) fn answer(alloc: Global, arguments: &mut Arguments<'_>) -> Result<Answer, CaseError> {
-    let now = arguments.integer()?;
-    let digest = digest(alloc, arguments)?;
-    let policy = policy(alloc, arguments)?;
-    let root = arguments.text(alloc)?;
-    let bundle = arguments.text(alloc)?;
-    let checker = arguments.checker(alloc)?;
-    let (root, bundle) = (root.as_str().as_bytes(), bundle.as_str().as_bytes());
+pub(crate) fn offline(arguments: &mut Arguments<'_>, answer: &mut Answer) {
+    let now = arguments.integer();
+    let digest = digest(arguments);
+    let policy = policy(arguments, answer);
+    let root = arguments.text();
+    let bundle = arguments.text();
+    let checker = arguments.checker();
+    let (root, bundle) = (root.as_bytes(), bundle.as_bytes());
     known(
-        alloc,
-        verify_offline(alloc, root, now, &digest, bundle, &policy, &checker),
-    )
+        verify_offline(
+            arguments.alloc(),
+            root,
+            now,
+            &digest,
+            bundle,
+            &policy,
+            &checker,
+        ),
+        answer,
+    );
 }
 
 /// `ok`, and index and tree size of the proof; or the name of the first link that fails, and the error.
-pub(crate) fn known(
-    alloc: Global,
-    answer: Result<Offline, OfflineError>,
-) -> Result<Answer, CaseError> {
-    match answer {
-        Ok(known) => Answer::ok(alloc)?
-            .value(&known.proof.log_index)?
-            .value(&known.proof.tree_size),
-        Err(error) => failed(alloc, &error),
+pub(crate) fn known(verified: Result<Offline, OfflineError>, answer: &mut Answer) {
+    match verified {
+        Ok(known) => {
+            answer.ok();
+            answer.value(&known.proof.log_index);
+            answer.value(&known.proof.tree_size);
+        }
+        Err(error) => failed(&error, answer),
     }
 }
 
-/// The name of the link that fails, and the error.
-fn failed(alloc: Global, error: &OfflineError) -> Result<Answer, CaseError> {
+/// The name of the link that fails, and the error. Out of memory has no link.
+fn failed(error: &OfflineError, answer: &mut Answer) {
     match error.link() {
         Some(link) => {
-            let shown = Answer::error(alloc, error)?;
-            Answer::of(alloc, &link.name())?.value(&shown.as_str())
+            answer.value(&link.name());
+            answer.shown(error);
         }
-        None => Err(CaseError::OutOfMemory),
+        None => answer.out_of_memory(),
     }
 }
 
-/// The digest of the next argument, `sha256:DIGITS` or `sha512:DIGITS`. `BadLine` where it is none.
-pub(crate) fn digest(
-    alloc: Global,
-    arguments: &mut Arguments<'_>,
-) -> Result<ArtifactDigest, CaseError> {
-    let word = arguments.word()?;
-    let (algorithm, digits) = word.split_once(':').ok_or(CaseError::BadLine)?;
-    let bytes = hex::decode(alloc, digits).map_err(|_| CaseError::BadLine)?;
+/// The digest of the next argument, `sha256:DIGITS` or `sha512:DIGITS`.
+pub(crate) fn digest(arguments: &mut Arguments<'_>) -> ArtifactDigest {
+    match digest_of(arguments) {
+        Some(digest) => digest,
+        None => {
+            arguments.refuse();
+            ArtifactDigest::Sha256([0; 32])
+        }
+    }
+}
+
+fn digest_of(arguments: &mut Arguments<'_>) -> Option<ArtifactDigest> {
+    let (algorithm, digits) = arguments.word().split_once(':')?;
+    let bytes = hex::decode(arguments.alloc(), digits).ok()?;
     match algorithm {
-        "sha256" => Ok(ArtifactDigest::Sha256(sized(&bytes)?)),
-        "sha512" => Ok(ArtifactDigest::Sha512(sized(&bytes)?)),
-        _ => Err(CaseError::BadLine),
+        "sha256" => Some(ArtifactDigest::Sha256(sized(&bytes)?)),
+        "sha512" => Some(ArtifactDigest::Sha512(sized(&bytes)?)),
+        _ => None,
     }
 }
 
 /// The bytes, if there are as many.
-fn sized<const N: usize>(bytes: &[u8]) -> Result<[u8; N], CaseError> {
-    bytes.try_into().map_err(|_| CaseError::BadLine)
+fn sized<const N: usize>(bytes: &[u8]) -> Option<[u8; N]> {
+    bytes.try_into().ok()
 }
