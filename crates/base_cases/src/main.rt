@@ -13,21 +13,73 @@ mod errors;
 mod keys;
 mod maps;
 mod merkle;
-mod trees;
 mod walks;
 
-use sig_cases::{Answer, Arguments, CaseError, Cases, run};
-use std::alloc::Global;
+use sig_cases::{Answer, Arguments, Cases, run};
 
 struct BaseCases;
 
 impl Cases for BaseCases {
-    fn answer(
-        alloc: Global,
-        call: &str,
-        arguments: &mut Arguments<'_>,
-    ) -> Result<Answer, CaseError> {
-        base::answer(alloc, call, arguments)
+    fn answer(call: &str, arguments: &mut Arguments<'_>, answer: &mut Answer) {
+        match call {
+            "sha256" => base::digest(arguments, answer),
+            "of_base64" => base::of_base64(arguments, answer),
+            "in_base64" => base::in_base64(arguments, answer),
+            "root_hex" => base::root_hex(arguments, answer),
+            "scheme" => base::scheme(arguments, answer),
+            "equal" => base::equal(arguments, answer),
+            "accepts" => base::accepts(arguments, answer),
+            "errors" => errors::all(arguments, answer),
+            _ => of_lists(call, arguments, answer),
+        }
+    }
+}
+
+/// The calls on maps and lists.
+fn of_lists(call: &str, arguments: &mut Arguments<'_>, answer: &mut Answer) {
+    match call {
+        "key_map" => maps::key_map(arguments, answer),
+        "text_map" => maps::text_map(arguments, answer),
+        "entries" => maps::entries(arguments, answer),
+        "numbers" => maps::numbers(arguments, answer),
+        "hashes" => maps::hashes(arguments, answer),
+        "root_of" => merkle::root(arguments, answer),
+        "path_of" => merkle::audit_path(arguments, answer),
+        "proof_of" => consistency::proof(arguments, answer),
+        _ => of_trees(call, arguments, answer),
+    }
+}
+
+/// The calls on hashes and proofs.
+fn of_trees(call: &str, arguments: &mut Arguments<'_>, answer: &mut Answer) {
+    match call {
+        "empty_root" => merkle::empty(answer),
+        "hash_leaf" => merkle::leaf(arguments, answer),
+        "hash_children" => merkle::children(arguments, answer),
+        "verify_inclusion" => merkle::inclusion(arguments, answer),
+        "counted" => merkle::counted(arguments, answer),
+        "decomposed" => walks::decomposed(arguments, answer),
+        "both_ways" => walks::both_ways(arguments, answer),
+        "both_growths" => walks::both_growths(arguments, answer),
+        "verify_consistency" => consistency::check(arguments, answer),
+        "sweep" => consistency::sweep(arguments, answer),
+        _ => of_keys(call, arguments, answer),
+    }
+}
+
+/// The calls of sig_key.
+fn of_keys(call: &str, arguments: &mut Arguments<'_>, answer: &mut Answer) {
+    match call {
+        "key_kind" => keys::kind(arguments, answer),
+        "try_from_der" => keys::try_from_der(arguments, answer),
+        "try_from_spki" => keys::try_from_spki(arguments, answer),
+        "from_der" => keys::from_der(arguments, answer),
+        "decode_bytes" => keys::decode(arguments, answer),
+        "key_accepts" => keys::accepts(arguments, answer),
+        "verify_signature" => keys::verify_signature(arguments, answer),
+        "verify_prehash" => keys::verify_prehash(arguments, answer),
+        "keys" => keys::found(arguments, answer),
+        _ => arguments.refuse(),
     }
 }
 

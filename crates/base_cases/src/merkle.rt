@@ -1,89 +1,115 @@
-//! Calls of sig_merkle.
+//! Calls of sig_merkle on hashes, lists of entries and inclusion proofs.
 ghost use Rattle.std.specs.Prelude.{◌≡◌, ◌<◌};
 
-use sig_base::Steps;
-use sig_cases::{Answer, Arguments, CaseError};
+use sig_base::{Hashes, OutOfMemory, Steps};
+use sig_cases::{Answer, Arguments};
 use sig_merkle::uncounted::verify_inclusion;
-use sig_merkle::{empty_root, hash_children, hash_leaf, root_from_inclusion_proof};
-use std::alloc::Global;
+use sig_merkle::{
+    empty_root, hash_children, hash_leaf, path_of, root_from_inclusion_proof, root_of,
+};
 use std::marker::Brand;
 use std::sync::ledger::{Blank, Ledger};
 
-/// The line for a call on trees.
-pub fn answer(
-    alloc: Global,
-    call: &str,
-    arguments: &mut Arguments<'_>,
-) -> Result<Answer, CaseError> {
-    match call {
-        "empty_root" => Answer::ok(alloc)?.hex(&empty_root()),
-        "hash_leaf" => Answer::ok(alloc)?.hex(&hash_leaf(arguments.hex(alloc)?.as_slice())),
-        "hash_children" => children(alloc, arguments),
-        "verify_inclusion" => inclusion(alloc, arguments),
-        "counted" => counted(alloc, arguments),
-        _ => Err(CaseError::BadLine),
+/// `empty_root`: the hash of no entries.
+pub(crate) fn empty(answer: &mut Answer) {
+    answer.ok();
+    answer.hex(&empty_root());
+}
+
+/// `hash_leaf ENTRY`: the hash of a leaf.
+pub(crate) fn leaf(arguments: &mut Arguments<'_>, answer: &mut Answer) {
+    answer.ok();
+    answer.hex(&hash_leaf(&arguments.hex()));
+}
+
+/// `hash_children LEFT RIGHT`: the hash of a node of two children, given as they are.
+pub(crate) fn children(arguments: &mut Arguments<'_>, answer: &mut Answer) {
+    let left = arguments.hex();
+    let right = arguments.hex();
+    answer.ok();
+    answer.hex(&hash_children(&left, &right));
+}
+
+/// `root_of COUNT ENTRY,..`: the root of the tree of so many of the entries.
+pub(crate) fn root(arguments: &mut Arguments<'_>, answer: &mut Answer) {
+    let count = arguments.natural() as usize;
+    let entries = arguments.entries();
+    if count > entries.len() {
+        return arguments.refuse();
+    }
+    answer.ok();
+    answer.hex(&root_of(&entries, count));
+}
+
+/// `path_of INDEX ENTRY,..`: the audit path of an entry.
+pub(crate) fn audit_path(arguments: &mut Arguments<'_>, answer: &mut Answer) {
+    let index = arguments.natural() as usize;
+    let entries = arguments.entries();
+    if index >= entries.len() {
+        return arguments.refuse();
+    }
+    show(answer, path_of(arguments.alloc(), &entries, index));
+}
+
+/// Adds hashes.
+pub(crate) fn show(answer: &mut Answer, hashes: Result<Hashes, OutOfMemory>) {
+    match hashes {
+        Ok(hashes) => {
+            answer.ok();
+            for hash in hashes.as_slice() {
+                answer.hex(hash);
+            }
+        }
+        Err(_) => answer.out_of_memory(),
     }
 }
 
-/// The hash of a node of two children, given as they are.
-fn children(alloc: Global, arguments: &mut Arguments<'_>) -> Result<Answer, CaseError> {
-    let left = arguments.hex(alloc)?;
-    let right = arguments.hex(alloc)?;
-    Answer::ok(alloc)?.hex(&hash_children(left.as_slice(), right.as_slice()))
-}
-
-/// Reads a list of hashes.
-pub fn path(alloc: Global, arguments: &mut Arguments<'_>) -> Result<Vec<[u8; 32]>, CaseError> {
-    let mut path = Vec::new(alloc);
-    for hash in &arguments.hex_list(alloc)? {
-        path.push(hash.as_slice().try_into().map_err(|_| CaseError::BadLine)?)?;
+/// The next argument as a list of hashes.
+pub(crate) fn path(arguments: &mut Arguments<'_>, answer: &mut Answer) -> Hashes {
+    let mut path = Hashes::new(arguments.alloc());
+    for hash in &arguments.hex_list() {
+        let Ok(hash) = hash.as_slice().try_into() else {
+            arguments.refuse();
+            break;
+        };
+        if path.push(hash).is_err() {
+            answer.out_of_memory();
+        }
     }
-    Ok(path)
+    path
 }
 
-/// `INDEX LEAF SIZE PATH ROOT`: whether the leaf of this hash is at the index of the tree.
-fn inclusion(alloc: Global, arguments: &mut Arguments<'_>) -> Result<Answer, CaseError> {
-    let index = arguments.natural()?;
-    let leaf = arguments.digest(alloc)?;
-    let size = arguments.natural()?;
-    let path = path(alloc, arguments)?;
-    included(alloc, arguments, index, &leaf, size, path.as_slice())
-}
-
-/// `ROOT`: the check of this path.
-fn included(
-    alloc: Global,
-    arguments: &mut Arguments<'_>,
-    index: u64,
-    leaf: &[u8; 32],
-    size: u64,
-    path: &[[u8; 32]],
-) -> Result<Answer, CaseError> {
-    let root = arguments.digest(alloc)?;
-    match verify_inclusion(index, leaf, size, path, &root) {
-        Ok(()) => Answer::ok(alloc),
-        Err(error) => Answer::error(alloc, &error),
+/// `verify_inclusion INDEX LEAF SIZE PATH ROOT`: whether the leaf of this hash is at the index of the tree.
+pub(crate) fn inclusion(arguments: &mut Arguments<'_>, answer: &mut Answer) {
+    let index = arguments.natural();
+    let leaf = arguments.digest();
+    let size = arguments.natural();
+    let path = path(arguments, answer);
+    let root = arguments.digest();
+    match verify_inclusion(index, &leaf, size, path.as_slice(), &root) {
+        Ok(()) => answer.ok(),
+        Err(error) => answer.error(&error),
     }
 }
 
-/// `INDEX LEAF SIZE PATH`: the root that the path leads to, with a counter of steps.
-fn counted(alloc: Global, arguments: &mut Arguments<'_>) -> Result<Answer, CaseError> {
-    let index = arguments.natural()?;
-    let leaf = arguments.digest(alloc)?;
-    let size = arguments.natural()?;
-    let path = path(alloc, arguments)?;
-    counted_on::<Brand>(alloc, Blank::new(1), index, &leaf, size, path.as_slice())
+/// `counted INDEX LEAF SIZE PATH`: the root that the path leads to, with a counter of steps.
+pub(crate) fn counted(arguments: &mut Arguments<'_>, answer: &mut Answer) {
+    let index = arguments.natural();
+    let leaf = arguments.digest();
+    let size = arguments.natural();
+    let path = path(arguments, answer);
+    counted_on::<Brand>(answer, Blank::new(1), index, &leaf, size, path.as_slice());
 }
 
 /// The root that a path leads to, and the check against it, on a ledger.
 fn counted_on<L: Ledger>(
-    alloc: Global,
+    answer: &mut Answer,
     blank: Blank,
     index: u64,
     leaf: &[u8; 32],
     size: u64,
     path: &[[u8; 32]],
-) -> Result<Answer, CaseError>
+)
     requires name { blank.name ≡ L.name }
     requires parts { blank.parts ≡ L.parts }
     requires some { 0 < blank.parts }
@@ -91,10 +117,13 @@ fn counted_on<L: Ledger>(
     let mut steps = Steps::<L>::new(blank);
     let root = match root_from_inclusion_proof(index, leaf, size, path, &mut steps) {
         Ok(root) => root,
-        Err(error) => return Answer::error(alloc, &error),
+        Err(error) => return answer.error(&error),
     };
     match sig_merkle::verify_inclusion(index, leaf, size, path, &root, &mut steps) {
-        Ok(()) => Answer::ok(alloc)?.hex(&root),
-        Err(error) => Answer::error(alloc, &error),
+        Ok(()) => {
+            answer.ok();
+            answer.hex(&root);
+        }
+        Err(error) => answer.error(&error),
     }
 }

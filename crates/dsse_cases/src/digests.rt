@@ -1,52 +1,77 @@
-//! Digests of artifacts.
-use crate::statements::with_digest;
+//! Digests of artifacts, and those that are taken of statements.
 use sha2::{Digest, Sha256, Sha512};
-use sig_cases::{Answer, Arguments, CaseError};
-use sig_dsse::{ArtifactDigest, laws};
+use sig_cases::{Answer, Arguments};
+use sig_dsse::{ArtifactDigest, Digests, laws, payload_digests};
 use std::alloc::Global;
+use std::fmt::{Debug, Display};
+
+/// Adds a digest with its algorithm.
+fn add_digest(alloc: Global, answer: &mut Answer, digest: &ArtifactDigest) {
+    answer.value(&digest.algorithm());
+    match digest.to_hex(alloc) {
+        Ok(text) => answer.value(&text.as_str()),
+        Err(_) => answer.out_of_memory(),
+    }
+}
+
+/// Adds the digests that were taken.
+pub(crate) fn add_taken<E: Debug + Display + Drop>(
+    alloc: Global,
+    answer: &mut Answer,
+    taken: Result<Digests, E>,
+) {
+    match taken {
+        Ok(digests) => {
+            answer.ok();
+            for digest in digests.as_slice() {
+                add_digest(alloc, answer, digest);
+            }
+        }
+        Err(error) => answer.error(&error),
+    }
+}
+
+/// `payload_digests PAYLOAD`: the digests of the statement that the payload is.
+pub(crate) fn of_payload(arguments: &mut Arguments<'_>, answer: &mut Answer) {
+    let alloc = arguments.alloc();
+    let payload = arguments.rest().as_bytes();
+    add_taken(alloc, answer, payload_digests(alloc, payload));
+}
 
 /// `sha256 BYTES`: the digest of the bytes, by a hasher that took them.
-pub(crate) fn sha256(alloc: Global, arguments: &mut Arguments<'_>) -> Result<Answer, CaseError> {
-    let bytes = arguments.hex(alloc)?;
+pub(crate) fn sha256(arguments: &mut Arguments<'_>, answer: &mut Answer) {
     let mut hasher = Sha256::new();
-    hasher.update(bytes.as_slice());
-    with_digest(
-        alloc,
-        Answer::ok(alloc)?,
-        &ArtifactDigest::from_sha256(hasher),
-    )
+    hasher.update(arguments.hex().as_slice());
+    let digest = ArtifactDigest::from_sha256(hasher);
+    answer.ok();
+    add_digest(arguments.alloc(), answer, &digest);
 }
 
 /// `sha512 BYTES`: the same.
-pub(crate) fn sha512(alloc: Global, arguments: &mut Arguments<'_>) -> Result<Answer, CaseError> {
-    let bytes = arguments.hex(alloc)?;
+pub(crate) fn sha512(arguments: &mut Arguments<'_>, answer: &mut Answer) {
     let mut hasher = Sha512::new();
-    hasher.update(bytes.as_slice());
-    with_digest(
-        alloc,
-        Answer::ok(alloc)?,
-        &ArtifactDigest::from_sha512(hasher),
-    )
+    hasher.update(arguments.hex().as_slice());
+    let digest = ArtifactDigest::from_sha512(hasher);
+    answer.ok();
+    add_digest(arguments.alloc(), answer, &digest);
 }
 
 /// `equal_digests BYTES BYTES`: whether two digests of so many bytes are equal.
-pub(crate) fn equal_digests(
-    alloc: Global,
-    arguments: &mut Arguments<'_>,
-) -> Result<Answer, CaseError> {
-    let one = read_digest(alloc, arguments)?;
-    let other = read_digest(alloc, arguments)?;
-    Answer::ok(alloc)?.value(&laws::equal_digests(&one, &other))
+pub(crate) fn equal_digests(arguments: &mut Arguments<'_>, answer: &mut Answer) {
+    let one = digest_of(arguments.hex().as_slice());
+    let other = digest_of(arguments.hex().as_slice());
+    let (Some(one), Some(other)) = (one, other) else {
+        return arguments.refuse();
+    };
+    answer.ok();
+    answer.value(&laws::equal_digests(&one, &other));
 }
 
-/// A digest of its bytes. Fails with `BadLine` where they are neither 32 nor 64.
-fn read_digest(alloc: Global, arguments: &mut Arguments<'_>) -> Result<ArtifactDigest, CaseError> {
-    let bytes = arguments.hex(alloc)?;
-    if let Ok(short) = <[u8; 32]>::try_from(bytes.as_slice()) {
-        return Ok(ArtifactDigest::from(short));
+/// A digest of its bytes; none where they are neither 32 nor 64.
+fn digest_of(bytes: &[u8]) -> Option<ArtifactDigest> {
+    if let Ok(short) = <[u8; 32]>::try_from(bytes) {
+        return Some(ArtifactDigest::from(short));
     }
-    match <[u8; 64]>::try_from(bytes.as_slice()) {
-        Ok(long) => Ok(ArtifactDigest::from(long)),
-        Err(_) => Err(CaseError::BadLine),
-    }
+    let long = <[u8; 64]>::try_from(bytes).ok()?;
+    Some(ArtifactDigest::from(long))
 }

@@ -12,36 +12,23 @@ mod envelopes;
 mod faults;
 mod statements;
 
-use digests::{equal_digests, sha256, sha512};
-use envelopes::{encoding, envelope, equal_envelopes, equal_signatures};
-use faults::fault;
-use sig_cases::{Answer, Arguments, CaseError, Cases, run};
-use statements::{cosign, digests_of_payload, digests_of_statement, first_sha256, statement};
-use std::alloc::Global;
+use sig_cases::{Answer, Arguments, Cases, run};
 
 struct DsseCases;
 
 impl Cases for DsseCases {
-    fn answer(
-        alloc: Global,
-        call: &str,
-        arguments: &mut Arguments<'_>,
-    ) -> Result<Answer, CaseError> {
+    fn answer(call: &str, arguments: &mut Arguments<'_>, answer: &mut Answer) {
         match call {
-            "encoding" => encoding(alloc, arguments),
-            "envelope" => envelope(alloc, arguments),
-            "equal_envelopes" => equal_envelopes(alloc, arguments),
-            "equal_signatures" => equal_signatures(alloc, arguments),
-            "statement" => statement(alloc, arguments.rest()?),
-            "payload_digests" => digests_of_payload(alloc, arguments.rest()?),
-            "recognized_digests" => digests_of_statement(alloc, arguments.rest()?),
-            "cosign" => cosign(alloc, arguments.rest()?),
-            "first_sha256" => first_sha256(alloc, arguments.rest()?),
-            "sha256" => sha256(alloc, arguments),
-            "sha512" => sha512(alloc, arguments),
-            "equal_digests" => equal_digests(alloc, arguments),
-            "fault" => fault(alloc, arguments.word()?),
-            _ => Err(CaseError::BadLine),
+            "encoding" => envelopes::encoding(arguments, answer),
+            "envelope" => envelopes::envelope(arguments, answer),
+            "equal_envelopes" => envelopes::equal_envelopes(arguments, answer),
+            "equal_signatures" => envelopes::equal_signatures(arguments, answer),
+            "payload_digests" => digests::of_payload(arguments, answer),
+            "sha256" => digests::sha256(arguments, answer),
+            "sha512" => digests::sha512(arguments, answer),
+            "equal_digests" => digests::equal_digests(arguments, answer),
+            "fault" => faults::fault(arguments, answer),
+            _ => statements::of_payload(call, arguments, answer),
         }
     }
 }

@@ -1,0 +1,117 @@
+//! What a case is read into. What cannot be read is empty, and makes the line a bad one.
+
+use sig_base::{
+    AcceptedRow, Bytes, Hashes, Operation, Register, SigningScheme, TableChecker, Text,
+};
+use sig_cases::{Answer, Arguments};
+use sig_key::CosignVerificationKey;
+use sig_rekor::{Checkpoint, CheckpointSignatures, OtherContents, SignedCheckpoint};
+use std::alloc::Global;
+
+/// The next argument as a text that owns its memory.
+pub(crate) fn text(arguments: &mut Arguments<'_>) -> Text {
+    Text::from(arguments.text())
+}
+
+/// The next argument as a checkpoint.
+pub(crate) fn checkpoint(arguments: &mut Arguments<'_>) -> SignedCheckpoint {
+    match SignedCheckpoint::decode(arguments.alloc(), arguments.text().as_str()) {
+        Ok(checkpoint) => checkpoint,
+        Err(_) => {
+            arguments.refuse();
+            no_checkpoint(arguments.alloc())
+        }
+    }
+}
+
+fn no_checkpoint(alloc: Global) -> SignedCheckpoint {
+    SignedCheckpoint {
+        note: Checkpoint {
+            origin: Text::from(String::new(alloc)),
+            size: 0,
+            hash: [0; 32],
+            other_content: OtherContents::new(alloc),
+        },
+        signatures: CheckpointSignatures::new(alloc),
+    }
+}
+
+/// The next argument as an audit path.
+pub(crate) fn hashes(arguments: &mut Arguments<'_>, answer: &mut Answer) -> Hashes {
+    let mut hashes = Hashes::new(arguments.alloc());
+    for bytes in &arguments.hex_list() {
+        match bytes.as_slice().try_into() {
+            Ok(hash) => made(answer, hashes.push(hash), ()),
+            Err(_) => arguments.refuse(),
+        }
+    }
+    hashes
+}
+
+/// What was made; where memory ran out, the empty value.
+pub(crate) fn made<T: Drop, E: Drop>(answer: &mut Answer, outcome: Result<T, E>, empty: T) -> T {
+    match outcome {
+        Ok(value) => value,
+        Err(_) => {
+            answer.out_of_memory();
+            empty
+        }
+    }
+}
+
+/// The key of the cases that name none.
+pub(crate) const KEY: &[u8] = b"key";
+
+/// A key, and the table of the signatures that are accepted.
+#[derive(Drop)]
+pub(crate) struct Accepted {
+    pub(crate) key: CosignVerificationKey,
+    pub(crate) table: TableChecker,
+}
+
+/// The key of these bytes, whose scheme is ECDSA over P-256, and the table of the next arguments `NOTES SIGNATURES`:
+/// the notes over which a signature is accepted under that scheme and key, and those signatures.
+pub(crate) fn keyed(arguments: &mut Arguments<'_>, answer: &mut Answer, key: &[u8]) -> Accepted {
+    Accepted {
+        key: verification_key(arguments.alloc(), answer, key),
+        table: table(arguments, answer, key),
+    }
+}
+
+fn verification_key(alloc: Global, answer: &mut Answer, key: &[u8]) -> CosignVerificationKey {
+    made(
+        answer,
+        CosignVerificationKey::from_der(alloc, key, &SigningScheme::default()),
+        CosignVerificationKey::ECDSA_P256_SHA256_ASN1(Bytes::from(Vec::new(alloc))),
+    )
+}
+
+fn table(arguments: &mut Arguments<'_>, answer: &mut Answer, key: &[u8]) -> TableChecker {
+    let alloc = arguments.alloc();
+    let messages = arguments.hex_list();
+    let signatures = arguments.hex_list();
+    let mut rows = Register::new(alloc);
+    for (message, signature) in messages.into_iter().zip(signatures) {
+        let row = AcceptedRow {
+            operation: Operation::Message,
+            scheme: copied(alloc, answer, b"ECDSA_P256_SHA256_ASN1"),
+            key: copied(alloc, answer, key),
+            message: Bytes::from(message),
+            signature: Bytes::from(signature),
+        };
+        made(answer, rows.push(row), ());
+    }
+    made(
+        answer,
+        TableChecker::from_rows(alloc, rows),
+        TableChecker::new(alloc),
+    )
+}
+
+fn copied(alloc: Global, answer: &mut Answer, bytes: &[u8]) -> Bytes {
+    made(
+        answer,
+        Bytes::copy_of(alloc, bytes),
+        Bytes::from(Vec::new(alloc)),
+    )
+}
