@@ -1,5 +1,5 @@
-//! The texts of the errors: the Debug text of each variant, which begins with its Display text; where the Display text is
-//! not the name of the variant, it follows in brackets.
+//! The texts of the errors: the Debug text of each variant, which begins with its Display text; where the Display text
+//! is not the name of the variant, it follows in brackets.
 
 use sig_base::{CheckpointFault, MerkleProofError, Text, TrustPart};
 use sig_bundle::BundleErrorKind;
