@@ -4,6 +4,7 @@ use crate::parts::Parts;
 use sig_base::{Bytes, MemorySource, Numbers};
 use sig_cases::{Answer, Arguments};
 use sig_verify::{VerificationResult, Verifier};
+use std::alloc::Global;
 
 /// `verify NOW BYTES PIECE FAILING POLICY ROOT BUNDLE ROW ..`, of a source that gives the bytes in pieces, and whose
 /// call with the number `FAILING` fails: `ok`, or the error.
@@ -11,13 +12,22 @@ pub(crate) fn by_source(arguments: &mut Arguments<'_>, answer: &mut Answer) {
     let now = arguments.integer();
     let mut source = source(arguments);
     let parts = Parts::read(arguments, answer);
-    let alloc = arguments.alloc();
+    of_source(arguments.alloc(), now, &mut source, &parts, answer);
+}
+
+fn of_source(
+    alloc: Global,
+    now: i64,
+    source: &mut MemorySource,
+    parts: &Parts,
+    answer: &mut Answer,
+) {
     match Verifier::new(alloc, &parts.root, now) {
         Ok(verifier) => {
             let (bundle, policy, checker) = (&parts.bundle, &parts.policy, &parts.checker);
             told(
                 answer,
-                verifier.verify(alloc, &mut source, bundle, policy, true, checker),
+                verifier.verify(alloc, source, bundle, policy, true, checker),
             );
         }
         Err(error) => answer.error(&error),
@@ -40,7 +50,10 @@ pub(crate) fn by_digest(arguments: &mut Arguments<'_>, answer: &mut Answer) {
     let now = arguments.integer();
     let digest = arguments.digest();
     let parts = Parts::read(arguments, answer);
-    let alloc = arguments.alloc();
+    of_digest(arguments.alloc(), now, digest, &parts, answer);
+}
+
+fn of_digest(alloc: Global, now: i64, digest: [u8; 32], parts: &Parts, answer: &mut Answer) {
     match Verifier::new(alloc, &parts.root, now) {
         Ok(verifier) => {
             let (bundle, policy, checker) = (&parts.bundle, &parts.policy, &parts.checker);
