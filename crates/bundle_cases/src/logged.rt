@@ -1,82 +1,74 @@
 //! The log entry of a bundle: its proof, and whether it is about what the bundle holds.
 
-use crate::read::{bundle, entry};
-use sig_bundle::{Bundle, CheckedBundle, ProofFields};
-use sig_cases::{Answer, Arguments, CaseError};
+use crate::read::{bundle, proof_fields};
+use sig_bundle::{CheckedBundle, ProofFieldsError};
+use sig_cases::{Answer, Arguments};
 use sig_rekor::{InclusionProof, SignedCheckpoint};
 use std::alloc::Global;
 
 /// `to_proof TEXT`: the inclusion proof of the first log entry: index, root, size, how many hashes, the hashes, and
 /// of the checkpoint the origin, the size, the root and how many signatures.
-pub(crate) fn proof(alloc: Global, text: &str) -> Result<Answer, CaseError> {
-    let bundle = bundle(alloc, text)?;
-    match fields(&bundle) {
-        Some(fields) => proof_of(alloc, fields),
-        None => Err(CaseError::BadLine),
+pub(crate) fn proof(arguments: &mut Arguments<'_>, answer: &mut Answer) {
+    let bundle = bundle(arguments.rest(), arguments, answer);
+    match proof_fields(&bundle) {
+        Some(fields) => answer_to(answer, fields.to_proof(arguments.alloc())),
+        None => arguments.refuse(),
     }
 }
 
-fn fields(bundle: &Bundle) -> Option<&ProofFields> {
-    entry(bundle)?.inclusion_proof.as_ref()
-}
-
-fn proof_of(alloc: Global, fields: &ProofFields) -> Result<Answer, CaseError> {
-    match fields.to_proof(alloc) {
-        Ok(proof) => shown(alloc, &proof),
-        Err(error) => Answer::error(alloc, &error),
+fn answer_to(answer: &mut Answer, made: Result<InclusionProof, ProofFieldsError>) {
+    match made {
+        Ok(proof) => add_proof(answer, &proof),
+        Err(error) => answer.error(&error),
     }
 }
 
-fn shown(alloc: Global, proof: &InclusionProof) -> Result<Answer, CaseError> {
-    let answer = Answer::ok(alloc)?
-        .value(&proof.log_index)?
-        .hex(&proof.root_hash)?
-        .value(&proof.tree_size)?;
-    let answer = with_hashes(answer, proof.hashes.as_slice())?;
+/// `ok`, and a proof.
+fn add_proof(answer: &mut Answer, proof: &InclusionProof) {
+    answer.ok();
+    answer.value(&proof.log_index);
+    answer.hex(&proof.root_hash);
+    answer.value(&proof.tree_size);
+    answer.value(&proof.hashes.len());
+    for hash in proof.hashes.as_slice() {
+        answer.hex(hash);
+    }
     match &proof.checkpoint {
-        Some(checkpoint) => with_checkpoint(answer, checkpoint),
+        Some(checkpoint) => add_checkpoint(answer, checkpoint),
         None => answer.value(&"-"),
     }
 }
 
-fn with_hashes(answer: Answer, hashes: &[[u8; 32]]) -> Result<Answer, CaseError> {
-    let mut answer = answer.value(&hashes.len())?;
-    for hash in hashes {
-        answer = answer.hex(hash)?;
-    }
-    Ok(answer)
-}
-
-fn with_checkpoint(answer: Answer, checkpoint: &SignedCheckpoint) -> Result<Answer, CaseError> {
-    let note = &checkpoint.note;
-    answer
-        .debug(&note.origin)?
-        .value(&note.size)?
-        .hex(&note.hash)?
-        .value(&checkpoint.signatures.len())
+fn add_checkpoint(answer: &mut Answer, checkpoint: &SignedCheckpoint) {
+    answer.debug(&checkpoint.note.origin);
+    answer.value(&checkpoint.note.size);
+    answer.hex(&checkpoint.note.hash);
+    answer.value(&checkpoint.signatures.len());
 }
 
 /// `tlog_entry OFFLINE DIGEST TEXT`: whether the checked bundle hands out its log entry, for an artifact of this
-/// SHA-256 digest. `BadLine` where the bundle does not pass its checks.
-pub(crate) fn logged(alloc: Global, arguments: &mut Arguments<'_>) -> Result<Answer, CaseError> {
-    let offline = arguments.word()? == "true";
-    let digest = arguments.hex(alloc)?;
-    let bundle = bundle(alloc, arguments.rest()?)?;
-    match CheckedBundle::try_from_bundle(alloc, &bundle) {
-        Ok(checked) => entry_of(alloc, &checked, offline, &digest),
-        Err(_) => Err(CaseError::BadLine),
+/// SHA-256 digest. The line is a bad one where the bundle does not pass its checks.
+pub(crate) fn logged(arguments: &mut Arguments<'_>, answer: &mut Answer) {
+    let offline = arguments.word() == "true";
+    let digest = arguments.hex();
+    let bundle = bundle(arguments.rest(), arguments, answer);
+    match CheckedBundle::try_from_bundle(arguments.alloc(), &bundle) {
+        Ok(checked) => add_logged(answer, arguments.alloc(), &checked, offline, &digest),
+        Err(_) => arguments.refuse(),
     }
 }
 
-fn entry_of(
+/// `ok`, and whether the checked bundle hands out its log entry.
+fn add_logged(
+    answer: &mut Answer,
     alloc: Global,
     checked: &CheckedBundle,
     offline: bool,
     digest: &[u8],
-) -> Result<Answer, CaseError> {
-    let answer = Answer::ok(alloc)?;
-    match checked.tlog_entry(alloc, offline, digest)? {
-        Some(entry) => answer.value(&(*entry == *checked.entry())),
-        None => answer.value(&false),
+) {
+    answer.ok();
+    match checked.tlog_entry(alloc, offline, digest) {
+        Ok(found) => answer.value(&(found == Some(checked.entry()))),
+        Err(_) => answer.out_of_memory(),
     }
 }

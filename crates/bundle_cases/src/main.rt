@@ -11,27 +11,22 @@ mod parts;
 mod read;
 mod shown;
 
-use sig_cases::{Answer, Arguments, CaseError, Cases, run};
-use std::alloc::Global;
+use sig_cases::{Answer, Arguments, Cases, run};
 
 struct BundleCases;
 
 impl Cases for BundleCases {
-    fn answer(
-        alloc: Global,
-        call: &str,
-        arguments: &mut Arguments<'_>,
-    ) -> Result<Answer, CaseError> {
+    fn answer(call: &str, arguments: &mut Arguments<'_>, answer: &mut Answer) {
         match call {
-            "read_bundle" => read::written(alloc, arguments.rest()?),
-            "copied_entry" => read::copied(alloc, arguments.rest()?),
-            "promise_text" => read::promise(alloc, arguments.rest()?),
-            "equal" => equal::answer(alloc, arguments),
-            "try_from_bundle" => checked::digests(alloc, arguments.rest()?),
-            "checked" => checked::lent(alloc, arguments.rest()?),
-            "to_proof" => logged::proof(alloc, arguments.rest()?),
-            "tlog_entry" => logged::logged(alloc, arguments),
-            _ => parts::answer(alloc, call, arguments),
+            "read_bundle" => read::written(arguments, answer),
+            "copied_entry" => read::copied(arguments, answer),
+            "promise_text" => read::promise(arguments, answer),
+            "equal" => equal::equal_parts(arguments, answer),
+            "try_from_bundle" => checked::digests(arguments, answer),
+            "checked" => checked::lent(arguments, answer),
+            "to_proof" => logged::proof(arguments, answer),
+            "tlog_entry" => logged::logged(arguments, answer),
+            _ => parts::answer(call, arguments, answer),
         }
     }
 }

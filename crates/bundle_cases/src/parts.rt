@@ -1,57 +1,64 @@
 //! Versions, digests and statements.
 
-use crate::checked::with_digest;
-use crate::shown;
+use crate::checked::add_digest;
+use crate::read::text;
+use crate::shown::shown;
 use sig_bundle::{ArtifactDigest, InTotoStatementV1, Version};
-use sig_cases::{Answer, Arguments, CaseError};
-use std::alloc::Global;
+use sig_cases::{Answer, Arguments};
 use std::str::FromStr;
 
 /// What a call of a part returns.
-pub(crate) fn answer(
-    alloc: Global,
-    call: &str,
-    arguments: &mut Arguments<'_>,
-) -> Result<Answer, CaseError> {
+pub(crate) fn answer(call: &str, arguments: &mut Arguments<'_>, answer: &mut Answer) {
     match call {
-        "version" => version(alloc, arguments.rest()?),
-        "artifact_digest" => digest(alloc, &arguments.hex(alloc)?),
-        "subject_sha256_digest" => subject(alloc, arguments.rest()?),
-        "shown" => shown::answer(alloc, arguments.word()?),
-        _ => Err(CaseError::BadLine),
+        "version" => version(arguments, answer),
+        "artifact_digest" => digest(arguments, answer),
+        "subject_sha256_digest" => subject(arguments, answer),
+        "shown" => shown(arguments, answer),
+        _ => arguments.refuse(),
     }
 }
 
 /// `version TEXT`: the version that the media type names, and the media type that it is shown as.
-fn version(alloc: Global, text: &str) -> Result<Answer, CaseError> {
-    match Version::from_str(text) {
-        Ok(version) => Answer::ok(alloc)?.debug(&version)?.value(&version),
-        Err(()) => Answer::of(alloc, &"no version"),
+fn version(arguments: &mut Arguments<'_>, answer: &mut Answer) {
+    match Version::from_str(arguments.rest()) {
+        Ok(version) => {
+            answer.ok();
+            answer.debug(&version);
+            answer.value(&version);
+        }
+        Err(()) => answer.value(&"no version"),
     }
 }
 
 /// `artifact_digest BYTES`: the digest of 32 or 64 bytes, and its hexadecimal text.
-fn digest(alloc: Global, bytes: &[u8]) -> Result<Answer, CaseError> {
-    let digest = match <[u8; 32]>::try_from(bytes) {
-        Ok(narrow) => ArtifactDigest::Sha256(narrow),
-        Err(_) => match <[u8; 64]>::try_from(bytes) {
-            Ok(wide) => ArtifactDigest::Sha512(wide),
-            Err(_) => return Err(CaseError::BadLine),
-        },
+fn digest(arguments: &mut Arguments<'_>, answer: &mut Answer) {
+    let Some(digest) = digest_of(&arguments.hex()) else {
+        return arguments.refuse();
     };
-    let text = digest.to_hex(alloc)?;
-    with_digest(Answer::ok(alloc)?, &digest)?.value(&text.as_str())
+    match digest.to_hex(arguments.alloc()) {
+        Ok(text) => {
+            answer.ok();
+            add_digest(answer, &digest);
+            answer.value(&text.as_str());
+        }
+        Err(_) => answer.out_of_memory(),
+    }
+}
+
+fn digest_of(bytes: &[u8]) -> Option<ArtifactDigest> {
+    if let Ok(narrow) = bytes.try_into() {
+        return Some(ArtifactDigest::Sha256(narrow));
+    }
+    match bytes.try_into() {
+        Ok(wide) => Some(ArtifactDigest::Sha512(wide)),
+        Err(_) => None,
+    }
 }
 
 /// `subject_sha256_digest JSON`: the SHA-256 digest of the statement's first subject.
-fn subject(alloc: Global, text: &str) -> Result<Answer, CaseError> {
-    let read = InTotoStatementV1::from_json(alloc, text.as_bytes());
-    let statement = match read {
-        Ok(statement) => statement,
-        Err(refusal) => return Answer::error(alloc, &refusal),
-    };
-    match statement.subject_sha256_digest(alloc) {
-        Ok(digest) => Answer::ok(alloc)?.value(&digest.as_str()),
-        Err(refusal) => Answer::error(alloc, &refusal),
+fn subject(arguments: &mut Arguments<'_>, answer: &mut Answer) {
+    match InTotoStatementV1::from_json(arguments.alloc(), arguments.rest().as_bytes()) {
+        Ok(statement) => text(answer, statement.subject_sha256_digest(arguments.alloc())),
+        Err(error) => answer.error(&error),
     }
 }

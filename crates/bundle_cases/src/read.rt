@@ -1,32 +1,50 @@
 //! Bundles as texts.
-ghost use Rattle.std.specs.Prelude.{IsSome};
 
-use crate::checked::is_copied;
-use sig_bundle::{Bundle, TransparencyLogEntry, bundle_text, promise_text, read_bundle};
-use sig_cases::{Answer, CaseError};
-use sig_json::JsonError;
+use sig_base::Text;
+use sig_bundle::{
+    Bundle, ProofFields, TransparencyLogEntry, bundle_text, promise_text, read_bundle,
+};
+use sig_cases::{Answer, Arguments};
 use std::alloc::Global;
+use std::fmt::{Debug, Display};
 
-/// The bundle that the text is. `BadLine` where it is none.
-pub(crate) fn bundle(alloc: Global, text: &str) -> Result<Bundle, CaseError> {
-    match read_bundle(alloc, text.as_bytes()) {
-        Ok(bundle) => Ok(bundle),
-        Err(JsonError::OutOfMemory) => Err(CaseError::OutOfMemory),
-        Err(_) => Err(CaseError::BadLine),
+/// The bundle that a text is. Where it is none, an empty one, and the line is a bad one.
+pub(crate) fn bundle(text: &str, arguments: &mut Arguments<'_>, answer: &mut Answer) -> Bundle {
+    match read_bundle(arguments.alloc(), text.as_bytes()) {
+        Ok(bundle) => bundle,
+        Err(error) => {
+            answer.error(&error);
+            arguments.refuse();
+            no_bundle(arguments.alloc())
+        }
+    }
+}
+
+fn no_bundle(alloc: Global) -> Bundle {
+    Bundle {
+        media_type: Text::from(String::new(alloc)),
+        verification_material: None,
+        content: None,
+    }
+}
+
+/// The line for a text that is made.
+pub(crate) fn text<E: Debug + Display + Drop>(answer: &mut Answer, made: Result<Text, E>) {
+    match made {
+        Ok(text) => {
+            answer.ok();
+            answer.value(&text.as_str());
+        }
+        Err(error) => answer.error(&error),
     }
 }
 
 /// `read_bundle TEXT`: the text that is written for the bundle.
-pub(crate) fn written(alloc: Global, text: &str) -> Result<Answer, CaseError> {
-    match read_bundle(alloc, text.as_bytes()) {
-        Ok(bundle) => written_bundle(alloc, &bundle),
-        Err(refusal) => Answer::error(alloc, &refusal),
+pub(crate) fn written(arguments: &mut Arguments<'_>, answer: &mut Answer) {
+    match read_bundle(arguments.alloc(), arguments.rest().as_bytes()) {
+        Ok(bundle) => text(answer, bundle_text(arguments.alloc(), &bundle)),
+        Err(error) => answer.error(&error),
     }
-}
-
-fn written_bundle(alloc: Global, bundle: &Bundle) -> Result<Answer, CaseError> {
-    let text = bundle_text(alloc, bundle)?;
-    Answer::ok(alloc)?.value(&text.as_str())
 }
 
 /// The first log entry of a bundle.
@@ -34,35 +52,39 @@ pub(crate) fn entry(bundle: &Bundle) -> Option<&TransparencyLogEntry> {
     bundle.verification_material.as_ref()?.tlog_entries.get(0)
 }
 
+/// The members of the inclusion proof of the first log entry.
+pub(crate) fn proof_fields(bundle: &Bundle) -> Option<&ProofFields> {
+    entry(bundle)?.inclusion_proof.as_ref()
+}
+
 /// `copied_entry TEXT`: whether a copy of the first log entry is equal to it.
-pub(crate) fn copied(alloc: Global, text: &str) -> Result<Answer, CaseError> {
-    let bundle = bundle(alloc, text)?;
+pub(crate) fn copied(arguments: &mut Arguments<'_>, answer: &mut Answer) {
+    let bundle = bundle(arguments.rest(), arguments, answer);
     match entry(&bundle) {
-        Some(entry) => copied_entry(alloc, entry),
-        None => Err(CaseError::BadLine),
+        Some(entry) => {
+            answer.ok();
+            add_copied(answer, arguments.alloc(), entry);
+        }
+        None => arguments.refuse(),
     }
 }
 
-fn copied_entry(alloc: Global, entry: &TransparencyLogEntry) -> Result<Answer, CaseError> {
-    let is_copied = is_copied(alloc, entry)?;
-    Answer::ok(alloc)?.value(&is_copied)
-}
-
-/// `promise_text TEXT`: the text that the log signed to promise that it includes the first log entry. `BadLine`
-/// where the entry has no log id.
-pub(crate) fn promise(alloc: Global, text: &str) -> Result<Answer, CaseError> {
-    let bundle = bundle(alloc, text)?;
-    match entry(&bundle) {
-        Some(entry) if entry.log_id.is_some() => promised(alloc, entry),
-        _ => Err(CaseError::BadLine),
+/// Adds whether a copy of a log entry is equal to it.
+pub(crate) fn add_copied(answer: &mut Answer, alloc: Global, entry: &TransparencyLogEntry) {
+    match entry.copy(alloc) {
+        Ok(copied) => answer.value(&(copied == *entry)),
+        Err(_) => answer.out_of_memory(),
     }
 }
 
-fn promised(alloc: Global, entry: &TransparencyLogEntry) -> Result<Answer, CaseError>
-    requires { IsSome entry.now.log_id }
-{
-    match promise_text(alloc, entry) {
-        Ok(text) => Answer::ok(alloc)?.value(&text.as_str()),
-        Err(refusal) => Answer::error(alloc, &refusal),
+/// `promise_text TEXT`: the text that the log signed to promise that it includes the first log entry. The line is a
+/// bad one where the entry has no log id.
+pub(crate) fn promise(arguments: &mut Arguments<'_>, answer: &mut Answer) {
+    let bundle = bundle(arguments.rest(), arguments, answer);
+    match entry(&bundle) {
+        Some(entry) if entry.log_id.is_some() => {
+            text(answer, promise_text(arguments.alloc(), entry));
+        }
+        _ => arguments.refuse(),
     }
 }

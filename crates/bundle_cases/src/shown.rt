@@ -4,37 +4,32 @@ use sig_base::Text;
 use sig_bundle::{
     Bundle01ProfileErrorKind, Bundle02ProfileErrorKind, BundleErrorKind, BundleProfileErrorKind,
 };
-use sig_cases::{Answer, CaseError};
+use sig_cases::{Answer, Arguments};
 use std::alloc::Global;
 
 /// `shown NAME`: the error of this name; out of memory comes behind `ok`, since by itself it would end the program.
-pub(crate) fn answer(alloc: Global, name: &str) -> Result<Answer, CaseError> {
-    match name {
-        "InclusionPromiseMissing" => {
-            Answer::error(alloc, &Bundle01ProfileErrorKind::InclusionPromiseMissing)
+pub(crate) fn shown(arguments: &mut Arguments<'_>, answer: &mut Answer) {
+    let promise = Bundle01ProfileErrorKind::InclusionPromiseMissing;
+    let proof = Bundle02ProfileErrorKind::InclusionProofMissing;
+    let checkpoint = Bundle02ProfileErrorKind::CheckpointMissing;
+    match arguments.word() {
+        "InclusionPromiseMissing" => answer.error(&promise),
+        "InclusionProofMissing" => answer.error(&proof),
+        "CheckpointMissing" => answer.error(&checkpoint),
+        "Bundle01Profile" => answer.error(&BundleProfileErrorKind::Bundle01Profile(promise)),
+        "Bundle02Profile" => answer.error(&BundleProfileErrorKind::Bundle02Profile(checkpoint)),
+        "Unknown" => unknown(answer, arguments.alloc()),
+        "OutOfMemory" => {
+            answer.ok();
+            answer.value(&BundleErrorKind::OutOfMemory);
         }
-        "InclusionProofMissing" => {
-            Answer::error(alloc, &Bundle02ProfileErrorKind::InclusionProofMissing)
-        }
-        "OutOfMemory" => Answer::ok(alloc)?.value(&BundleErrorKind::OutOfMemory),
-        "CheckpointMissing" => Answer::error(alloc, &Bundle02ProfileErrorKind::CheckpointMissing),
-        _ => profile(alloc, name),
+        _ => arguments.refuse(),
     }
 }
 
-/// The same of a bundle's profile.
-fn profile(alloc: Global, name: &str) -> Result<Answer, CaseError> {
-    let error = match name {
-        "Bundle01Profile" => {
-            let missing = Bundle01ProfileErrorKind::InclusionPromiseMissing;
-            BundleProfileErrorKind::Bundle01Profile(missing)
-        }
-        "Bundle02Profile" => {
-            let missing = Bundle02ProfileErrorKind::CheckpointMissing;
-            BundleProfileErrorKind::Bundle02Profile(missing)
-        }
-        "Unknown" => BundleProfileErrorKind::Unknown(Text::copy_of(alloc, "text/plain")?),
-        _ => return Err(CaseError::BadLine),
-    };
-    Answer::error(alloc, &error)
+fn unknown(answer: &mut Answer, alloc: Global) {
+    match Text::copy_of(alloc, "text/plain") {
+        Ok(text) => answer.error(&BundleProfileErrorKind::Unknown(text)),
+        Err(_) => answer.out_of_memory(),
+    }
 }

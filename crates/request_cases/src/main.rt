@@ -5,7 +5,8 @@
 //! the request's rows, or all but one.
 #![tactic(auto)]
 
-use sig_cases::{Answer, Arguments, CaseError, Cases, run};
+use sig_base::{Bytes, TableChecker};
+use sig_cases::{Answer, Arguments, Cases, run};
 use sig_dsse::compute_pae;
 use sig_json::{Document, canonical};
 use sig_key::{CosignVerificationKey, Signature};
@@ -15,78 +16,103 @@ use std::alloc::Global;
 struct RequestCases;
 
 impl Cases for RequestCases {
-    fn answer(
-        alloc: Global,
-        call: &str,
-        arguments: &mut Arguments<'_>,
-    ) -> Result<Answer, CaseError> {
+    fn answer(call: &str, arguments: &mut Arguments<'_>, answer: &mut Answer) {
         match call {
-            "envelope" => envelope(alloc, arguments),
-            "promise" => promise(alloc, arguments),
-            "checkpoint" => checkpoint(alloc, arguments),
-            _ => Err(CaseError::BadLine),
+            "envelope" => envelope(arguments, answer),
+            "promise" => promise(arguments, answer),
+            "checkpoint" => checkpoint(arguments, answer),
+            _ => arguments.refuse(),
         }
     }
 }
 
-/// The key of the next argument. `BadLine` where it is none.
-fn key(alloc: Global, arguments: &mut Arguments<'_>) -> Result<CosignVerificationKey, CaseError> {
-    let spki = arguments.hex(alloc)?;
-    CosignVerificationKey::try_from_spki(alloc, &spki).map_err(|_| CaseError::BadLine)
-}
-
-/// Whether the signature over the message is the key's, by the rows of the next arguments.
-fn accepts_signature(
-    alloc: Global,
-    arguments: &mut Arguments<'_>,
-    key: &CosignVerificationKey,
-    signature: &[u8],
-    message: &[u8],
-) -> Result<Answer, CaseError> {
-    let checker = arguments.checker(alloc)?;
-    match key.verify_signature(alloc, Signature::Raw(signature), message, &checker) {
-        Ok(()) => Answer::ok(alloc),
-        Err(refusal) => Answer::error(alloc, &refusal),
+/// The key of the next argument. Refuses the line if it is none.
+fn key(arguments: &mut Arguments<'_>) -> CosignVerificationKey {
+    match CosignVerificationKey::try_from_spki(arguments.alloc(), &arguments.hex()) {
+        Ok(key) => key,
+        Err(_) => {
+            arguments.refuse();
+            CosignVerificationKey::ED25519(Bytes::from(Vec::new(arguments.alloc())))
+        }
     }
 }
 
 /// `envelope SPKI TYPE PAYLOAD SIGNATURE ROW ..`: whether the envelope's signature is the key's.
-fn envelope(alloc: Global, arguments: &mut Arguments<'_>) -> Result<Answer, CaseError> {
-    let key = key(alloc, arguments)?;
-    let payload_type = arguments.text(alloc)?;
-    let payload = arguments.hex(alloc)?;
-    let signature = arguments.hex(alloc)?;
-    let pae = compute_pae(alloc, payload_type.as_str(), &payload)?;
-    accepts_signature(alloc, arguments, &key, &signature, pae.as_slice())
+fn envelope(arguments: &mut Arguments<'_>, answer: &mut Answer) {
+    let alloc = arguments.alloc();
+    let key = key(arguments);
+    let payload_type = arguments.text();
+    let payload = arguments.hex();
+    let signature = arguments.hex();
+    let checker = arguments.checker();
+    match compute_pae(alloc, payload_type.as_str(), &payload) {
+        Ok(pae) => signed(alloc, answer, &key, &signature, pae.as_slice(), &checker),
+        Err(_) => answer.out_of_memory(),
+    }
 }
 
 /// `promise SPKI JSON SIGNATURE ROW ..`: whether the signature over the canonical form of the JSON text is the key's.
-fn promise(alloc: Global, arguments: &mut Arguments<'_>) -> Result<Answer, CaseError> {
-    let key = key(alloc, arguments)?;
-    let json = arguments.text(alloc)?;
-    let signature = arguments.hex(alloc)?;
-    let document = match Document::read(alloc, json.as_bytes()) {
-        Ok(document) => document,
-        Err(refusal) => return Answer::error(alloc, &refusal),
-    };
+fn promise(arguments: &mut Arguments<'_>, answer: &mut Answer) {
+    let alloc = arguments.alloc();
+    let key = key(arguments);
+    let json = arguments.text();
+    let signature = arguments.hex();
+    let checker = arguments.checker();
+    match Document::read(alloc, json.as_bytes()) {
+        Ok(document) => promised(alloc, answer, &key, &document, &signature, &checker),
+        Err(refusal) => answer.error(&refusal),
+    }
+}
+
+/// Whether the signature over the canonical form of the document is the key's.
+fn promised(
+    alloc: Global,
+    answer: &mut Answer,
+    key: &CosignVerificationKey,
+    document: &Document,
+    signature: &[u8],
+    checker: &TableChecker,
+) {
     match canonical(alloc, document.view()) {
-        Ok(text) => accepts_signature(alloc, arguments, &key, &signature, text.as_str().as_bytes()),
-        Err(refusal) => Answer::error(alloc, &refusal),
+        Ok(text) => signed(
+            alloc,
+            answer,
+            key,
+            signature,
+            text.as_str().as_bytes(),
+            checker,
+        ),
+        Err(refusal) => answer.error(&refusal),
+    }
+}
+
+/// Whether the signature over the message is the key's.
+fn signed(
+    alloc: Global,
+    answer: &mut Answer,
+    key: &CosignVerificationKey,
+    signature: &[u8],
+    message: &[u8],
+    checker: &TableChecker,
+) {
+    match key.verify_signature(alloc, Signature::Raw(signature), message, checker) {
+        Ok(()) => answer.ok(),
+        Err(refusal) => answer.error(&refusal),
     }
 }
 
 /// `checkpoint SPKI TEXT ROW ..`: whether the key signed the checkpoint.
-fn checkpoint(alloc: Global, arguments: &mut Arguments<'_>) -> Result<Answer, CaseError> {
-    let key = key(alloc, arguments)?;
-    let text = arguments.text(alloc)?;
-    let checker = arguments.checker(alloc)?;
-    let signed = match SignedCheckpoint::decode(alloc, text.as_str()) {
-        Ok(signed) => signed,
-        Err(refusal) => return Answer::error(alloc, &refusal),
-    };
-    match signed.verify_signature(alloc, &key, &checker) {
-        Ok(()) => Answer::ok(alloc),
-        Err(refusal) => Answer::error(alloc, &refusal),
+fn checkpoint(arguments: &mut Arguments<'_>, answer: &mut Answer) {
+    let alloc = arguments.alloc();
+    let key = key(arguments);
+    let text = arguments.text();
+    let checker = arguments.checker();
+    match SignedCheckpoint::decode(alloc, text.as_str()) {
+        Ok(checkpoint) => match checkpoint.verify_signature(alloc, &key, &checker) {
+            Ok(()) => answer.ok(),
+            Err(refusal) => answer.error(&refusal),
+        },
+        Err(refusal) => answer.error(&refusal),
     }
 }
 

@@ -1,7 +1,7 @@
 //! Boxed policies of a type of this program, which [`AllOf`] and [`AnyOf`] know through the trait alone.
 
-use crate::policy::policy;
-use sig_cases::CaseError;
+use crate::policy::listed;
+use sig_cases::{Answer, Arguments};
 use sig_x509::{AllOf, AnyOf, Certificate, LeafPolicy, PolicyResult, VerificationPolicy};
 use std::alloc::Global;
 
@@ -21,26 +21,60 @@ impl VerificationPolicy for Outside {
     }
 }
 
-/// What all or any of the policies of a list, of which `-` is the empty one, say over boxes. `None` for all of none.
+/// What all or any of the policies of a list, of which `-` is the empty one, say over boxes.
 pub(crate) fn verify(
-    alloc: Global,
     list: &str,
     is_all: bool,
     leaf: &Certificate,
-) -> Result<Option<PolicyResult>, CaseError> {
+    arguments: &mut Arguments<'_>,
+    answer: &mut Answer,
+) -> PolicyResult {
+    let alloc = arguments.alloc();
     let mut children: Vec<Box<dyn VerificationPolicy>> = Vec::new(alloc);
     if list != "-" {
         for item in list.split(',') {
-            let (name, text) = item.split_once('=').ok_or(CaseError::BadLine)?;
-            let policy = policy(alloc, name, text)?;
-            children.push(Box::new(alloc, Outside { policy })?)?;
+            let policy = listed(item, arguments, answer);
+            if let Some(child) = boxed(alloc, answer, policy) {
+                push(&mut children, child, answer);
+            }
         }
     }
-    if !is_all {
-        return Ok(Some(AnyOf::new(children).verify(alloc, leaf)));
+    if is_all {
+        verify_all(alloc, children, leaf)
+    } else {
+        AnyOf::new(children).verify(alloc, leaf)
     }
+}
+
+/// The policy in a box. `None` if out of memory.
+fn boxed(alloc: Global, answer: &mut Answer, policy: LeafPolicy) -> Option<Box<Outside>> {
+    match Box::new(alloc, Outside { policy }) {
+        Ok(child) => Some(child),
+        Err(_) => {
+            answer.out_of_memory();
+            None
+        }
+    }
+}
+
+fn push(
+    children: &mut Vec<Box<dyn VerificationPolicy>>,
+    child: Box<dyn VerificationPolicy>,
+    answer: &mut Answer,
+) {
+    if children.push(child).is_err() {
+        answer.out_of_memory();
+    }
+}
+
+/// What all of the children say: that they hold, if there are none, of which [`AllOf`] is never made.
+fn verify_all(
+    alloc: Global,
+    children: Vec<Box<dyn VerificationPolicy>>,
+    leaf: &Certificate,
+) -> PolicyResult {
     match AllOf::new(children) {
-        Some(all) => Ok(Some(all.verify(alloc, leaf))),
-        None => Ok(None),
+        Some(all) => all.verify(alloc, leaf),
+        None => Ok(()),
     }
 }

@@ -1,97 +1,122 @@
 //! Certificates: what can be borrowed of them, and their text.
 
-use crate::flipped::{cut, flipped};
-use crate::profile;
-use sig_cases::{Answer, Arguments, CaseError};
-use sig_x509::{Certificate, ExtensionRef, Lookup, X509ReadError, der_to_pem};
+use crate::parts::{Extension, Parts};
+use sig_base::sha256;
+use sig_cases::{Answer, Arguments};
+use sig_x509::{Certificate, Lookup, X509ReadError, der_to_pem};
 use std::alloc::Global;
+use std::fmt::Write;
 
-/// What a call that reads a certificate returns.
-pub(crate) fn answer(
-    alloc: Global,
-    call: &str,
-    arguments: &mut Arguments<'_>,
-) -> Result<Answer, CaseError> {
-    match call {
-        "certificate" => read(alloc, &arguments.hex(alloc)?),
-        "extension" => found(alloc, arguments),
-        "flipped" => flipped(alloc, arguments),
-        "cut" => cut(alloc, &arguments.hex(alloc)?),
-        "der_to_pem" => {
-            let text = der_to_pem(alloc, &arguments.hex(alloc)?)?;
-            Answer::ok(alloc)?.debug(&text)
-        }
-        _ => profile::answer(alloc, call, arguments),
-    }
-}
-
-/// The certificate of the next argument. `BadLine` where it is none.
+/// The next argument as a certificate. Refuses the line if it is none.
 pub(crate) fn certificate(
-    alloc: Global,
     arguments: &mut Arguments<'_>,
-) -> Result<Certificate, CaseError> {
-    certificate_of(alloc, &arguments.hex(alloc)?)
+    answer: &mut Answer,
+) -> Option<Certificate> {
+    let read = certificate_of(arguments.alloc(), answer, &arguments.hex());
+    if read.is_none() {
+        arguments.refuse();
+    }
+    read
 }
 
-/// The certificate that the bytes are. `BadLine` where they are none.
-pub(crate) fn certificate_of(alloc: Global, der: &[u8]) -> Result<Certificate, CaseError> {
+/// The certificate that the bytes are, if they are one.
+pub(crate) fn certificate_of(
+    alloc: Global,
+    answer: &mut Answer,
+    der: &[u8],
+) -> Option<Certificate> {
     match Certificate::try_from_der(alloc, der) {
-        Ok(read) => Ok(read),
-        Err(X509ReadError::Der) => Err(CaseError::BadLine),
-        Err(X509ReadError::OutOfMemory) => Err(CaseError::OutOfMemory),
+        Ok(read) => Some(read),
+        Err(X509ReadError::Der) => None,
+        Err(X509ReadError::OutOfMemory) => {
+            answer.out_of_memory();
+            None
+        }
     }
 }
 
 /// `certificate DER`: the parts of the certificate.
-pub(crate) fn read(alloc: Global, der: &[u8]) -> Result<Answer, CaseError> {
-    match Certificate::try_from_der(alloc, der) {
-        Ok(read) => with_extensions(with_fields(Answer::ok(alloc)?, &read)?, &read),
-        Err(refusal) => Answer::error(alloc, &refusal),
+pub(crate) fn read(arguments: &mut Arguments<'_>, answer: &mut Answer) {
+    match Certificate::try_from_der(arguments.alloc(), &arguments.hex()) {
+        Ok(read) => {
+            answer.ok();
+            answer.value(&Parts(&read));
+        }
+        Err(refusal) => answer.error(&refusal),
     }
-}
-
-/// Adds the version, both seconds of the validity, both algorithms, issuer, subject, SPKI, TBSCertificate and
-/// signature.
-fn with_fields(answer: Answer, read: &Certificate) -> Result<Answer, CaseError> {
-    answer
-        .value(&read.version())?
-        .value(&read.not_before())?
-        .value(&read.not_after())?
-        .hex(read.inner_algorithm())?
-        .hex(read.algorithm())?
-        .hex(read.issuer())?
-        .hex(read.subject())?
-        .hex(read.spki())?
-        .hex(read.tbs())?
-        .hex(read.signature())
-}
-
-/// Adds the number of extensions, and each of them.
-fn with_extensions(answer: Answer, read: &Certificate) -> Result<Answer, CaseError> {
-    let mut answer = answer.value(&read.extension_count())?;
-    for found in read.extensions() {
-        answer = with_extension(answer, found)?;
-    }
-    Ok(answer)
-}
-
-/// Adds an extension: its object identifier, whether it is critical, its value, and the whole of it.
-fn with_extension(answer: Answer, found: ExtensionRef<'_>) -> Result<Answer, CaseError> {
-    answer
-        .hex(found.oid)?
-        .value(&found.critical)?
-        .hex(found.value)?
-        .hex(found.whole)
 }
 
 /// `extension OID DER`: the extension of this object identifier.
-fn found(alloc: Global, arguments: &mut Arguments<'_>) -> Result<Answer, CaseError> {
-    let oid = arguments.hex(alloc)?;
-    let read = certificate(alloc, arguments)?;
-    let answer = Answer::ok(alloc)?;
+pub(crate) fn found(arguments: &mut Arguments<'_>, answer: &mut Answer) {
+    let oid = arguments.hex();
+    let Some(read) = certificate(arguments, answer) else {
+        return;
+    };
+    answer.ok();
     match read.extension(&oid) {
         Lookup::Absent => answer.value(&"absent"),
-        Lookup::One(found) => with_extension(answer, found),
+        Lookup::One(found) => answer.value(&Extension(found)),
         Lookup::Several => answer.value(&"several"),
+    }
+}
+
+/// `der_to_pem BYTES`: their PEM text.
+pub(crate) fn pem(arguments: &mut Arguments<'_>, answer: &mut Answer) {
+    match der_to_pem(arguments.alloc(), &arguments.hex()) {
+        Ok(text) => {
+            answer.ok();
+            answer.debug(&text);
+        }
+        Err(_) => answer.out_of_memory(),
+    }
+}
+
+/// `flipped MASK DER`: the offsets at which the bytes stay a certificate once these bits are flipped there, and the
+/// SHA-256 of what is written for each of these certificates, one after another.
+pub(crate) fn flipped(arguments: &mut Arguments<'_>, answer: &mut Answer) {
+    let mask = mask(arguments);
+    let mut der = arguments.hex();
+    let mut written = String::new(arguments.alloc());
+    answer.ok();
+    for place in 0..der.len() {
+        der[place] ^= mask;
+        push_read(arguments.alloc(), answer, &mut written, place, &der);
+        der[place] ^= mask;
+    }
+    answer.hex(&sha256(written.as_bytes()));
+}
+
+/// The next argument as one byte.
+fn mask(arguments: &mut Arguments<'_>) -> u8 {
+    match arguments.hex().as_slice() {
+        [mask] => *mask,
+        _ => {
+            arguments.refuse();
+            0
+        }
+    }
+}
+
+/// Adds the offset, and to what is written the line for the bytes, if they are a certificate.
+fn push_read(alloc: Global, answer: &mut Answer, written: &mut String, place: usize, der: &[u8]) {
+    if let Some(read) = certificate_of(alloc, answer, der) {
+        answer.value(&place);
+        if write!(written, "ok {}", Parts(&read)).is_err() {
+            answer.out_of_memory();
+        }
+    }
+}
+
+/// `cut DER`: the lengths at which the bytes, and a byte 00 behind them, are a certificate.
+pub(crate) fn cut(arguments: &mut Arguments<'_>, answer: &mut Answer) {
+    let mut longer = arguments.hex();
+    if longer.push(0).is_err() {
+        answer.out_of_memory();
+    }
+    answer.ok();
+    for length in 0..=longer.len() {
+        if certificate_of(arguments.alloc(), answer, &longer[..length]).is_some() {
+            answer.value(&length);
+        }
     }
 }

@@ -8,25 +8,59 @@
 
 mod boxed;
 mod certificate;
-mod flipped;
+mod parts;
 mod policy;
 mod pool;
 mod profile;
 mod sct;
 mod shown;
 
-use sig_cases::{Answer, Arguments, CaseError, Cases, run};
-use std::alloc::Global;
+use sig_cases::{Answer, Arguments, Cases, run};
 
 struct X509Cases;
 
 impl Cases for X509Cases {
-    fn answer(
-        alloc: Global,
-        call: &str,
-        arguments: &mut Arguments<'_>,
-    ) -> Result<Answer, CaseError> {
-        certificate::answer(alloc, call, arguments)
+    fn answer(call: &str, arguments: &mut Arguments<'_>, answer: &mut Answer) {
+        match call {
+            "certificate" => certificate::read(arguments, answer),
+            "extension" => certificate::found(arguments, answer),
+            "flipped" => certificate::flipped(arguments, answer),
+            "cut" => certificate::cut(arguments, answer),
+            "der_to_pem" => certificate::pem(arguments, answer),
+            "from_certificates" => pool::made(arguments, answer),
+            "anchor_spki" => pool::spki(arguments, answer),
+            "verify_der_cert" => pool::issuer(arguments, answer),
+            _ => of_scts(call, arguments, answer),
+        }
+    }
+}
+
+/// The calls of SCTs.
+fn of_scts(call: &str, arguments: &mut Arguments<'_>, answer: &mut Answer) {
+    match call {
+        "key" => sct::key(arguments, answer),
+        "keyring" => sct::vouched(arguments, answer),
+        "embedded_sct" => sct::embedded(arguments, answer),
+        "embedded_sct_of_chain" => sct::embedded_of_chain(arguments, answer),
+        "verify_sct" => sct::verified(arguments, answer),
+        "precert_tbs_der" => sct::precert(arguments, answer),
+        "precert_tbs_digest" => sct::precert_digest(arguments, answer),
+        _ => of_policies(call, arguments, answer),
+    }
+}
+
+/// The calls of policies, errors and profiles.
+fn of_policies(call: &str, arguments: &mut Arguments<'_>, answer: &mut Answer) {
+    match call {
+        "policy" => policy::single(arguments, answer),
+        "identity" => policy::identity(arguments, answer),
+        "all" => policy::several(true, arguments, answer),
+        "any" => policy::several(false, arguments, answer),
+        "shown" => shown::shown(arguments, answer),
+        "verify_validity" => profile::validity(arguments, answer),
+        "verify_expiration" => profile::expiration(arguments, answer),
+        "is_trusted" => profile::trusted(arguments, answer),
+        _ => profile::judged(call, arguments, answer),
     }
 }
 

@@ -1,9 +1,10 @@
 //! Policies: what a certificate has to say of who signed.
 
+use crate::boxed;
 use crate::certificate::certificate;
-use crate::{boxed, shown};
+use crate::profile::checked;
 use sig_base::Text;
-use sig_cases::{Answer, Arguments, CaseError};
+use sig_cases::{Answer, Arguments};
 use sig_x509::{
     Certificate, GitHubWorkflowName, GitHubWorkflowRef, GitHubWorkflowRepository,
     GitHubWorkflowSHA, GitHubWorkflowTrigger, Identity, LeafPolicies, LeafPolicy, OIDCIssuer,
@@ -11,51 +12,67 @@ use sig_x509::{
 };
 use std::alloc::Global;
 
-/// What a call of policies returns.
-pub(crate) fn answer(
+/// Adds what a policy says alone, and what it says in a request, if that is something else.
+fn said<P: VerificationPolicy>(
     alloc: Global,
-    call: &str,
-    arguments: &mut Arguments<'_>,
-) -> Result<Answer, CaseError> {
-    match call {
-        "policy" => single(alloc, arguments),
-        "identity" => identity(alloc, arguments),
-        "all" => several(alloc, arguments, true),
-        "any" => several(alloc, arguments, false),
-        _ => shown::answer(alloc, call, arguments),
+    answer: &mut Answer,
+    alone: &PolicyResult,
+    requested: &P,
+    leaf: &Certificate,
+) {
+    checked(answer, alone);
+    let held = requested.verify(alloc, leaf);
+    let one = text_of(alloc, answer, alone);
+    let other = text_of(alloc, answer, &held);
+    if one != other {
+        checked(answer, &held);
     }
 }
 
-/// What a policy says.
-fn said(alloc: Global, found: PolicyResult) -> Result<Answer, CaseError> {
-    match found {
-        Ok(()) => Answer::ok(alloc),
-        Err(refusal) => Answer::error(alloc, &refusal),
+/// The Debug text of what a policy says.
+fn text_of(alloc: Global, answer: &mut Answer, found: &PolicyResult) -> String {
+    match format!(in alloc; "{found:?}") {
+        Ok(text) => text,
+        Err(_) => {
+            answer.out_of_memory();
+            String::new(alloc)
+        }
     }
-}
-
-/// What a policy says alone, if it says the same as one of a request's; else both.
-fn same(alone: Answer, held: &Answer) -> Result<Answer, CaseError> {
-    if alone.as_str() == held.as_str() {
-        return Ok(alone);
-    }
-    alone.value(&held.as_str())
 }
 
 /// `policy NAME TEXT DER`: what the policy of this name that asks for this text says.
-fn single(alloc: Global, arguments: &mut Arguments<'_>) -> Result<Answer, CaseError> {
-    let name = arguments.word()?;
-    let text = arguments.text(alloc)?;
-    let leaf = certificate(alloc, arguments)?;
-    let held = policy(alloc, name, text.as_str())?.verify(alloc, &leaf);
-    let alone = alone(alloc, name, text.as_str(), &leaf)?;
-    same(said(alloc, alone)?, &said(alloc, held)?)
+pub(crate) fn single(arguments: &mut Arguments<'_>, answer: &mut Answer) {
+    let alloc = arguments.alloc();
+    let name = arguments.word();
+    let text = arguments.text();
+    if let Some(leaf) = certificate(arguments, answer) {
+        let requested = policy(name, text.as_str(), arguments, answer);
+        single_of(alloc, answer, name, text.as_str(), &requested, &leaf);
+    }
 }
 
-/// The policy of this name as one of a request's.
-pub(crate) fn policy(alloc: Global, name: &str, text: &str) -> Result<LeafPolicy, CaseError> {
-    let text = Text::copy_of(alloc, text)?;
-    Ok(match name {
+/// What the policy says.
+fn single_of(
+    alloc: Global,
+    answer: &mut Answer,
+    name: &str,
+    text: &str,
+    requested: &LeafPolicy,
+    leaf: &Certificate,
+) {
+    let alone = alone(alloc, name, text, leaf);
+    said(alloc, answer, &alone, requested, leaf);
+}
+
+/// The policy of this name as one of a request's. Refuses the line if there is none.
+fn policy(
+    name: &str,
+    text: &str,
+    arguments: &mut Arguments<'_>,
+    answer: &mut Answer,
+) -> LeafPolicy {
+    let text = copy_of(arguments.alloc(), answer, text);
+    match name {
         "OIDCIssuer" => LeafPolicy::OIDCIssuer(OIDCIssuer(text)),
         "GitHubWorkflowTrigger" => LeafPolicy::GitHubWorkflowTrigger(GitHubWorkflowTrigger(text)),
         "GitHubWorkflowSHA" => LeafPolicy::GitHubWorkflowSHA(GitHubWorkflowSHA(text)),
@@ -64,17 +81,25 @@ pub(crate) fn policy(alloc: Global, name: &str, text: &str) -> Result<LeafPolicy
             LeafPolicy::GitHubWorkflowRepository(GitHubWorkflowRepository(text))
         }
         "GitHubWorkflowRef" => LeafPolicy::GitHubWorkflowRef(GitHubWorkflowRef(text)),
-        _ => return Err(CaseError::BadLine),
-    })
+        _ => {
+            arguments.refuse();
+            LeafPolicy::OIDCIssuer(OIDCIssuer(text))
+        }
+    }
+}
+
+fn copy_of(alloc: Global, answer: &mut Answer, text: &str) -> Text {
+    match Text::copy_of(alloc, text) {
+        Ok(copied) => copied,
+        Err(_) => {
+            answer.out_of_memory();
+            Text::from(String::new(alloc))
+        }
+    }
 }
 
 /// What the policy of this name says by itself.
-fn alone(
-    alloc: Global,
-    name: &str,
-    text: &str,
-    leaf: &Certificate,
-) -> Result<PolicyResult, CaseError> {
+fn alone(alloc: Global, name: &str, text: &str, leaf: &Certificate) -> PolicyResult {
     match name {
         "OIDCIssuer" => by_itself::<OIDCIssuer>(alloc, text, leaf),
         "GitHubWorkflowTrigger" => by_itself::<GitHubWorkflowTrigger>(alloc, text, leaf),
@@ -82,60 +107,71 @@ fn alone(
         "GitHubWorkflowName" => by_itself::<GitHubWorkflowName>(alloc, text, leaf),
         "GitHubWorkflowRepository" => by_itself::<GitHubWorkflowRepository>(alloc, text, leaf),
         "GitHubWorkflowRef" => by_itself::<GitHubWorkflowRef>(alloc, text, leaf),
-        _ => Err(CaseError::BadLine),
+        _ => Ok(()),
     }
 }
 
 /// What a policy of this type says.
-fn by_itself<P: SingleX509ExtPolicy + Drop>(
-    alloc: Global,
-    text: &str,
-    leaf: &Certificate,
-) -> Result<PolicyResult, CaseError> {
-    let policy = P::new(alloc, text)?;
-    Ok(policy.verify(alloc, leaf))
+fn by_itself<P>(alloc: Global, text: &str, leaf: &Certificate) -> PolicyResult
+where
+    P: SingleX509ExtPolicy + Drop,
+{
+    P::new(alloc, text)?.verify(alloc, leaf)
 }
 
 /// `identity IDENTITY ISSUER DER`: what the policy of this identity and this issuer says.
-fn identity(alloc: Global, arguments: &mut Arguments<'_>) -> Result<Answer, CaseError> {
-    let text = arguments.text(alloc)?;
-    let issuer = arguments.text(alloc)?;
-    let leaf = certificate(alloc, arguments)?;
-    let policy = Identity::new(alloc, text.as_str(), issuer.as_str())?;
-    let alone = policy.verify(alloc, &leaf);
-    let held = LeafPolicy::Identity(policy).verify(alloc, &leaf);
-    same(said(alloc, alone)?, &said(alloc, held)?)
+pub(crate) fn identity(arguments: &mut Arguments<'_>, answer: &mut Answer) {
+    let alloc = arguments.alloc();
+    let text = arguments.text();
+    let issuer = arguments.text();
+    let Some(leaf) = certificate(arguments, answer) else {
+        return;
+    };
+    match Identity::new(alloc, text.as_str(), issuer.as_str()) {
+        Ok(policy) => identity_of(alloc, answer, policy, &leaf),
+        Err(_) => answer.out_of_memory(),
+    }
+}
+
+/// What the policy says.
+fn identity_of(alloc: Global, answer: &mut Answer, policy: Identity, leaf: &Certificate) {
+    let alone = policy.verify(alloc, leaf);
+    said(alloc, answer, &alone, &LeafPolicy::Identity(policy), leaf);
 }
 
 /// `all NAME=TEXT,.. DER` and `any NAME=TEXT,.. DER`: what the policy of all or any of these says, in a request and
 /// over boxes.
-fn several(
-    alloc: Global,
-    arguments: &mut Arguments<'_>,
-    is_all: bool,
-) -> Result<Answer, CaseError> {
-    let list = arguments.word()?;
-    let policies = policies(alloc, list)?;
-    let leaf = certificate(alloc, arguments)?;
-    let request = match is_all {
-        true => RequestPolicy::All(policies),
-        false => RequestPolicy::Any(policies),
+pub(crate) fn several(is_all: bool, arguments: &mut Arguments<'_>, answer: &mut Answer) {
+    let list = arguments.word();
+    let policies = policies(list, arguments, answer);
+    let requested = if is_all {
+        RequestPolicy::All(policies)
+    } else {
+        RequestPolicy::Any(policies)
     };
-    let held = said(alloc, request.verify(alloc, &leaf))?;
-    match boxed::verify(alloc, list, is_all, &leaf)? {
-        Some(found) => same(said(alloc, found)?, &held),
-        None => Ok(held),
+    if let Some(leaf) = certificate(arguments, answer) {
+        let boxed = boxed::verify(list, is_all, &leaf, arguments, answer);
+        said(arguments.alloc(), answer, &boxed, &requested, &leaf);
     }
 }
 
 /// The policies of a list, of which `-` is the empty one.
-fn policies(alloc: Global, list: &str) -> Result<LeafPolicies, CaseError> {
-    let mut policies = LeafPolicies::new(alloc);
+fn policies(list: &str, arguments: &mut Arguments<'_>, answer: &mut Answer) -> LeafPolicies {
+    let mut policies = LeafPolicies::new(arguments.alloc());
     if list != "-" {
         for item in list.split(',') {
-            let (name, text) = item.split_once('=').ok_or(CaseError::BadLine)?;
-            policies.push(policy(alloc, name, text)?)?;
+            if policies.push(listed(item, arguments, answer)).is_err() {
+                answer.out_of_memory();
+            }
         }
     }
-    Ok(policies)
+    policies
+}
+
+/// The policy that an item of a list is.
+pub(crate) fn listed(item: &str, arguments: &mut Arguments<'_>, answer: &mut Answer) -> LeafPolicy {
+    match item.split_once('=') {
+        Some((name, text)) => policy(name, text, arguments, answer),
+        None => policy("", "", arguments, answer),
+    }
 }

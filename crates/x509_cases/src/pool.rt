@@ -1,75 +1,84 @@
 //! Pools of trust anchors.
 
 use crate::certificate::certificate_of;
-use crate::sct;
 use sig_base::PoolError;
-use sig_cases::{Answer, Arguments, CaseError};
+use sig_cases::{Answer, Arguments};
 use sig_x509::CertificatePool;
-use std::alloc::Global;
-
-/// What a call of a pool returns.
-pub(crate) fn answer(
-    alloc: Global,
-    call: &str,
-    arguments: &mut Arguments<'_>,
-) -> Result<Answer, CaseError> {
-    match call {
-        "from_certificates" => made(alloc, arguments),
-        "anchor_spki" => spki(alloc, arguments),
-        "verify_der_cert" => issuer(alloc, arguments),
-        _ => sct::answer(alloc, call, arguments),
-    }
-}
 
 /// `from_certificates ANCHOR,..`: whether they are trust anchors.
-fn made(alloc: Global, arguments: &mut Arguments<'_>) -> Result<Answer, CaseError> {
-    match CertificatePool::from_certificates(alloc, &arguments.entries(alloc)?) {
-        Ok(_) => Answer::ok(alloc),
-        Err(refusal) => Answer::error(alloc, &refusal),
+pub(crate) fn made(arguments: &mut Arguments<'_>, answer: &mut Answer) {
+    match CertificatePool::from_certificates(arguments.alloc(), &arguments.entries()) {
+        Ok(_) => answer.ok(),
+        Err(refusal) => answer.error(&refusal),
     }
 }
 
-/// The pool of the next argument. `BadLine` where it is refused.
-fn pool(alloc: Global, arguments: &mut Arguments<'_>) -> Result<CertificatePool, CaseError> {
-    match CertificatePool::from_certificates(alloc, &arguments.entries(alloc)?) {
-        Ok(pool) => Ok(pool),
-        Err(PoolError::OutOfMemory) => Err(CaseError::OutOfMemory),
-        Err(_) => Err(CaseError::BadLine),
+/// The pool of the next argument. Refuses the line if there is none.
+fn pool(arguments: &mut Arguments<'_>, answer: &mut Answer) -> Option<CertificatePool> {
+    match CertificatePool::from_certificates(arguments.alloc(), &arguments.entries()) {
+        Ok(pool) => Some(pool),
+        Err(PoolError::OutOfMemory) => {
+            answer.out_of_memory();
+            None
+        }
+        Err(_) => {
+            arguments.refuse();
+            None
+        }
     }
 }
 
 /// `anchor_spki PLACE ANCHOR,..`: the SPKI of the trust anchor at the index.
-fn spki(alloc: Global, arguments: &mut Arguments<'_>) -> Result<Answer, CaseError> {
-    let place = arguments.natural()?;
-    let pool = pool(alloc, arguments)?;
-    match pool.anchor_spki(place as usize) {
-        Some(spki) => Answer::ok(alloc)?.hex(spki),
-        None => Answer::of(alloc, &"none"),
+pub(crate) fn spki(arguments: &mut Arguments<'_>, answer: &mut Answer) {
+    let place = arguments.natural() as usize;
+    let Some(pool) = pool(arguments, answer) else {
+        return;
+    };
+    match pool.anchor_spki(place) {
+        Some(spki) => {
+            answer.ok();
+            answer.hex(spki);
+        }
+        None => answer.value(&"none"),
     }
 }
 
 /// `verify_der_cert TIME LEAF ANCHOR,.. ROW ..`: the index of the leaf's issuer. `verify_cert_with_time` has to say
-/// the same of a leaf that is a certificate; where it does not, its answer follows.
-fn issuer(alloc: Global, arguments: &mut Arguments<'_>) -> Result<Answer, CaseError> {
-    let time = arguments.integer()?;
-    let leaf = arguments.hex(alloc)?;
-    let pool = pool(alloc, arguments)?;
-    let checker = arguments.checker(alloc)?;
-    let answer = place(alloc, pool.verify_der_cert(alloc, &leaf, time, &checker))?;
-    let Ok(read) = certificate_of(alloc, &leaf) else {
-        return Ok(answer);
-    };
-    let same = place(alloc, pool.verify_cert_with_time(&read, time, &checker))?;
-    if answer.as_str() == same.as_str() {
-        return Ok(answer);
+/// the same of a leaf that is a certificate; if it does not, its answer follows.
+pub(crate) fn issuer(arguments: &mut Arguments<'_>, answer: &mut Answer) {
+    let time = arguments.integer();
+    let leaf = arguments.hex();
+    if let Some(pool) = pool(arguments, answer) {
+        issuer_in(&pool, &leaf, time, arguments, answer);
     }
-    answer.value(&same.as_str())
 }
 
-/// An index, or why there is none.
-fn place(alloc: Global, found: Result<usize, PoolError>) -> Result<Answer, CaseError> {
+/// `ROW ..`: the index of the leaf's issuer in this pool.
+fn issuer_in(
+    pool: &CertificatePool,
+    leaf: &[u8],
+    time: i64,
+    arguments: &mut Arguments<'_>,
+    answer: &mut Answer,
+) {
+    let checker = arguments.checker();
+    let found = pool.verify_der_cert(arguments.alloc(), leaf, time, &checker);
+    place(answer, &found);
+    if let Some(read) = certificate_of(arguments.alloc(), answer, leaf) {
+        let other = pool.verify_cert_with_time(&read, time, &checker);
+        if other != found {
+            place(answer, &other);
+        }
+    }
+}
+
+/// Adds an index, or why there is none.
+fn place(answer: &mut Answer, found: &Result<usize, PoolError>) {
     match found {
-        Ok(place) => Answer::ok(alloc)?.value(&place),
-        Err(refusal) => Answer::error(alloc, &refusal),
+        Ok(place) => {
+            answer.ok();
+            answer.value(place);
+        }
+        Err(refusal) => answer.error(refusal),
     }
 }

@@ -1,118 +1,149 @@
 //! SCTs of certificates, the keys that vouch for them, and precertificates.
 
 use crate::certificate::{certificate, certificate_of};
-use crate::policy;
+use crate::profile::checked;
 use sig_base::{Bytes, sha256};
-use sig_cases::{Answer, Arguments, CaseError};
+use sig_cases::{Answer, Arguments};
 use sig_x509::{
     Certificate, CertificateEmbeddedSCT, DigitallySigned, Key, Keyring, SCTError, precert_tbs_der,
     verify_sct,
 };
 use std::alloc::Global;
 
-/// What a call of SCTs returns.
-pub(crate) fn answer(
-    alloc: Global,
-    call: &str,
-    arguments: &mut Arguments<'_>,
-) -> Result<Answer, CaseError> {
-    match call {
-        "key" => match Key::new(alloc, &arguments.hex(alloc)?) {
-            Ok(_) => Answer::ok(alloc),
-            Err(refusal) => Answer::error(alloc, &refusal),
-        },
-        "keyring" => vouched(alloc, arguments),
-        "embedded_sct" => embedded(alloc, arguments),
-        "embedded_sct_of_chain" => embedded_of_chain(alloc, arguments),
-        "verify_sct" => verified(alloc, arguments),
-        "precert_tbs_der" => {
-            let body = precert_tbs_der(alloc, &certificate(alloc, arguments)?)?;
-            Answer::ok(alloc)?.hex(body.as_slice())
-        }
-        "precert_tbs_digest" => {
-            let body = precert_tbs_der(alloc, &certificate(alloc, arguments)?)?;
-            let body = body.as_slice();
-            Answer::ok(alloc)?.value(&body.len())?.hex(&sha256(body))
-        }
-        _ => policy::answer(alloc, call, arguments),
+/// `key SPKI`: whether a keyring can have the key.
+pub(crate) fn key(arguments: &mut Arguments<'_>, answer: &mut Answer) {
+    match Key::new(arguments.alloc(), &arguments.hex()) {
+        Ok(_) => answer.ok(),
+        Err(refusal) => answer.error(&refusal),
     }
 }
 
-/// The keyring of the keys of the next argument.
-fn keyring(alloc: Global, arguments: &mut Arguments<'_>) -> Result<Keyring, CaseError> {
-    match Keyring::new(alloc, &arguments.entries(alloc)?) {
-        Ok(keyring) => Ok(keyring),
-        Err(_) => Err(CaseError::OutOfMemory),
+/// The keyring of the keys of the next argument. `None` if out of memory.
+fn keyring(arguments: &mut Arguments<'_>, answer: &mut Answer) -> Option<Keyring> {
+    match Keyring::new(arguments.alloc(), &arguments.entries()) {
+        Ok(keyring) => Some(keyring),
+        Err(_) => {
+            answer.out_of_memory();
+            None
+        }
     }
 }
 
 /// `keyring KEY,.. ID SIGNATURE MESSAGE ROW ..`: whether the keyring vouches for the signature.
-fn vouched(alloc: Global, arguments: &mut Arguments<'_>) -> Result<Answer, CaseError> {
-    let keyring = keyring(alloc, arguments)?;
-    let id = arguments.digest(alloc)?;
-    let signature = arguments.hex(alloc)?;
-    let message = arguments.hex(alloc)?;
-    let checker = arguments.checker(alloc)?;
-    match keyring.verify(&id, &signature, &message, &checker) {
-        Ok(()) => Answer::ok(alloc),
-        Err(refusal) => Answer::error(alloc, &refusal),
-    }
+pub(crate) fn vouched(arguments: &mut Arguments<'_>, answer: &mut Answer) {
+    let Some(keyring) = keyring(arguments, answer) else {
+        return;
+    };
+    let id = arguments.digest();
+    let signature = arguments.hex();
+    let message = arguments.hex();
+    let checker = arguments.checker();
+    checked(answer, &keyring.verify(&id, &signature, &message, &checker));
 }
 
 /// `embedded_sct DER ISSUER_SPKI`: what the certificate's SCT signs.
-fn embedded(alloc: Global, arguments: &mut Arguments<'_>) -> Result<Answer, CaseError> {
-    let leaf = certificate(alloc, arguments)?;
-    let spki = arguments.hex(alloc)?;
-    sct_fields(
-        alloc,
-        CertificateEmbeddedSCT::new_with_verified_path(alloc, &leaf, &spki),
-    )
+pub(crate) fn embedded(arguments: &mut Arguments<'_>, answer: &mut Answer) {
+    let Some(leaf) = certificate(arguments, answer) else {
+        return;
+    };
+    let (alloc, spki) = (arguments.alloc(), arguments.hex());
+    let found = CertificateEmbeddedSCT::new_with_verified_path(alloc, &leaf, &spki);
+    show(alloc, answer, found);
 }
 
 /// `embedded_sct_of_chain DER CERTIFICATE,..`: the same by the issuer that the chain begins with.
-fn embedded_of_chain(alloc: Global, arguments: &mut Arguments<'_>) -> Result<Answer, CaseError> {
-    let leaf = certificate(alloc, arguments)?;
+pub(crate) fn embedded_of_chain(arguments: &mut Arguments<'_>, answer: &mut Answer) {
+    let Some(leaf) = certificate(arguments, answer) else {
+        return;
+    };
+    let alloc = arguments.alloc();
     let mut chain: Vec<Certificate> = Vec::new(alloc);
-    for der in &arguments.hex_list(alloc)? {
-        chain.push(certificate_of(alloc, der)?)?;
+    for der in &arguments.hex_list() {
+        push_certificate(&mut chain, der, arguments, answer);
     }
-    sct_fields(alloc, CertificateEmbeddedSCT::new(alloc, &leaf, &chain))
+    let found = CertificateEmbeddedSCT::new(alloc, &leaf, &chain);
+    show(alloc, answer, found);
 }
 
-/// The fields of what an SCT signs: log id, time, SHA-256 of the issuer's SPKI, TBSCertificate, extensions, signature.
-fn sct_fields(
-    alloc: Global,
-    found: Result<CertificateEmbeddedSCT, SCTError>,
-) -> Result<Answer, CaseError> {
-    let embedded = match found {
-        Ok(embedded) => embedded,
-        Err(refusal) => return Answer::error(alloc, &refusal),
-    };
-    let signed = DigitallySigned::from_embedded(alloc, &embedded)?;
-    Answer::ok(alloc)?
-        .hex(&signed.log_id)?
-        .value(&signed.timestamp)?
-        .hex(&signed.issuer_key_hash)?
-        .hex(signed.tbs_certificate.as_slice())?
-        .hex(signed.extensions.as_slice())?
-        .hex(signed.signature.as_slice())
+fn push_certificate(
+    chain: &mut Vec<Certificate>,
+    der: &[u8],
+    arguments: &mut Arguments<'_>,
+    answer: &mut Answer,
+) {
+    match certificate_of(arguments.alloc(), answer, der) {
+        Some(read) => {
+            if chain.push(read).is_err() {
+                answer.out_of_memory();
+            }
+        }
+        None => arguments.refuse(),
+    }
+}
+
+/// Adds what an SCT signs.
+fn show(alloc: Global, answer: &mut Answer, found: Result<CertificateEmbeddedSCT, SCTError>) {
+    match found {
+        Ok(embedded) => match DigitallySigned::from_embedded(alloc, &embedded) {
+            Ok(signed) => show_fields(answer, &signed),
+            Err(_) => answer.out_of_memory(),
+        },
+        Err(refusal) => answer.error(&refusal),
+    }
+}
+
+/// Adds log id, time, SHA-256 of the issuer's SPKI, TBSCertificate, extensions and signature.
+fn show_fields(answer: &mut Answer, signed: &DigitallySigned) {
+    answer.ok();
+    answer.hex(&signed.log_id);
+    answer.value(&signed.timestamp);
+    answer.hex(&signed.issuer_key_hash);
+    answer.hex(signed.tbs_certificate.as_slice());
+    answer.hex(signed.extensions.as_slice());
+    answer.hex(signed.signature.as_slice());
 }
 
 /// `verify_sct LOG_ID TIME ISSUER_KEY_HASH TBS EXTENSIONS SIGNATURE KEY,.. ROW ..`: whether the keyring vouches for
 /// what is signed.
-fn verified(alloc: Global, arguments: &mut Arguments<'_>) -> Result<Answer, CaseError> {
+pub(crate) fn verified(arguments: &mut Arguments<'_>, answer: &mut Answer) {
     let signed = DigitallySigned {
-        log_id: arguments.digest(alloc)?,
-        timestamp: arguments.natural()?,
-        issuer_key_hash: arguments.digest(alloc)?,
-        tbs_certificate: Bytes::from(arguments.hex(alloc)?),
-        extensions: Bytes::from(arguments.hex(alloc)?),
-        signature: Bytes::from(arguments.hex(alloc)?),
+        log_id: arguments.digest(),
+        timestamp: arguments.natural(),
+        issuer_key_hash: arguments.digest(),
+        tbs_certificate: arguments.bytes(),
+        extensions: arguments.bytes(),
+        signature: arguments.bytes(),
     };
-    let keyring = keyring(alloc, arguments)?;
-    let checker = arguments.checker(alloc)?;
-    match verify_sct(alloc, &signed, &keyring, &checker) {
-        Ok(()) => Answer::ok(alloc),
-        Err(refusal) => Answer::error(alloc, &refusal),
+    if let Some(keyring) = keyring(arguments, answer) {
+        let (alloc, checker) = (arguments.alloc(), arguments.checker());
+        checked(answer, &verify_sct(alloc, &signed, &keyring, &checker));
+    }
+}
+
+/// `precert_tbs_der DER`: the TBSCertificate of the precertificate.
+pub(crate) fn precert(arguments: &mut Arguments<'_>, answer: &mut Answer) {
+    if let Some(body) = precert_body(arguments, answer) {
+        answer.ok();
+        answer.hex(body.as_slice());
+    }
+}
+
+fn precert_body(arguments: &mut Arguments<'_>, answer: &mut Answer) -> Option<Bytes> {
+    let read = certificate(arguments, answer)?;
+    match precert_tbs_der(arguments.alloc(), &read) {
+        Ok(body) => Some(body),
+        Err(_) => {
+            answer.out_of_memory();
+            None
+        }
+    }
+}
+
+/// `precert_tbs_digest DER`: the length and the SHA-256 of the same.
+pub(crate) fn precert_digest(arguments: &mut Arguments<'_>, answer: &mut Answer) {
+    if let Some(body) = precert_body(arguments, answer) {
+        answer.ok();
+        answer.value(&body.as_slice().len());
+        answer.hex(&sha256(body.as_slice()));
     }
 }

@@ -1,68 +1,53 @@
 //! Errors inside errors: each shows the name of its variant.
 
-use sig_cases::{Answer, Arguments, CaseError};
+use sig_cases::{Answer, Arguments};
 use sig_der::DerWriteError;
 use sig_x509::{
     CertificateErrorKind, ExtensionErrorKind, KeyringError, NotCAErrorKind, NotLeafErrorKind,
     PartName, PolicyError, SCTError, X509ReadError,
 };
-use std::alloc::Global;
 
 /// `shown NAME`: the error of this name.
-pub(crate) fn answer(
-    alloc: Global,
-    call: &str,
-    arguments: &mut Arguments<'_>,
-) -> Result<Answer, CaseError> {
-    match call {
-        "shown" => shown(alloc, arguments.word()?),
-        _ => Err(CaseError::BadLine),
-    }
-}
-
-/// The error of this name, of a profile.
-fn shown(alloc: Global, name: &str) -> Result<Answer, CaseError> {
-    match name {
-        "IsCA" => Answer::error(alloc, &NotLeafErrorKind::IsCA),
-        "NotCA" => Answer::error(alloc, &NotCAErrorKind::NotCA),
-        "NotRootCA" => Answer::error(alloc, &NotCAErrorKind::NotRootCA),
+pub(crate) fn shown(arguments: &mut Arguments<'_>, answer: &mut Answer) {
+    match arguments.word() {
+        "IsCA" => answer.error(&NotLeafErrorKind::IsCA),
+        "NotCA" => answer.error(&NotCAErrorKind::NotCA),
+        "NotRootCA" => answer.error(&NotCAErrorKind::NotRootCA),
         "Invalid" => {
             let (ca, key_cert_sign) = (true, false);
-            Answer::error(alloc, &NotCAErrorKind::Invalid { ca, key_cert_sign })
+            answer.error(&NotCAErrorKind::Invalid { ca, key_cert_sign });
         }
-        "Missing" => Answer::error(alloc, &ExtensionErrorKind::Missing(PartName::KeyUsage)),
+        "Missing" => answer.error(&ExtensionErrorKind::Missing(PartName::KeyUsage)),
         "NotCritical" => {
-            let part = PartName::BasicConstraints;
-            Answer::error(alloc, &ExtensionErrorKind::NotCritical(part))
+            answer.error(&ExtensionErrorKind::NotCritical(PartName::BasicConstraints));
         }
         "BitUnset" => {
-            let part = PartName::KeyUsageDigitalSignature;
-            Answer::error(alloc, &ExtensionErrorKind::BitUnset(part))
+            answer.error(&ExtensionErrorKind::BitUnset(PartName::KeyUsageDigitalSignature));
         }
-        _ => shown_of_sct(alloc, name),
+        name => shown_of_sct(name, arguments, answer),
     }
 }
 
 /// The same of an SCT or a keyring.
-fn shown_of_sct(alloc: Global, name: &str) -> Result<Answer, CaseError> {
+fn shown_of_sct(name: &str, arguments: &mut Arguments<'_>, answer: &mut Answer) {
     match name {
-        "LeafSCTMissing" => Answer::error(alloc, &CertificateErrorKind::LeafSCTMissing),
-        "LeafSCTMalformed" => Answer::error(alloc, &CertificateErrorKind::LeafSCTMalformed),
-        "IssuerMissing" => Answer::error(alloc, &CertificateErrorKind::IssuerMissing),
-        "KeyNotFound" => Answer::error(alloc, &KeyringError::KeyNotFound),
-        "VerificationFailed" => Answer::error(alloc, &KeyringError::VerificationFailed),
-        "TooLong" => Answer::error(alloc, &DerWriteError::TooLong),
-        "OutOfMemory" => shown_out_of_memory(alloc),
-        _ => Err(CaseError::BadLine),
+        "LeafSCTMissing" => answer.error(&CertificateErrorKind::LeafSCTMissing),
+        "LeafSCTMalformed" => answer.error(&CertificateErrorKind::LeafSCTMalformed),
+        "IssuerMissing" => answer.error(&CertificateErrorKind::IssuerMissing),
+        "KeyNotFound" => answer.error(&KeyringError::KeyNotFound),
+        "VerificationFailed" => answer.error(&KeyringError::VerificationFailed),
+        "TooLong" => answer.error(&DerWriteError::TooLong),
+        "OutOfMemory" => shown_out_of_memory(answer),
+        _ => arguments.refuse(),
     }
 }
 
 /// What each type's error for memory shows, behind `ok`, since by itself it would end the program.
-fn shown_out_of_memory(alloc: Global) -> Result<Answer, CaseError> {
-    Answer::ok(alloc)?
-        .value(&X509ReadError::OutOfMemory)?
-        .value(&DerWriteError::OutOfMemory)?
-        .value(&KeyringError::OutOfMemory)?
-        .value(&SCTError::OutOfMemory)?
-        .value(&PolicyError::OutOfMemory)
+fn shown_out_of_memory(answer: &mut Answer) {
+    answer.ok();
+    answer.value(&X509ReadError::OutOfMemory);
+    answer.value(&DerWriteError::OutOfMemory);
+    answer.value(&KeyringError::OutOfMemory);
+    answer.value(&SCTError::OutOfMemory);
+    answer.value(&PolicyError::OutOfMemory);
 }
