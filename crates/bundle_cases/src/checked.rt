@@ -1,8 +1,9 @@
 //! The checks of a bundle.
 
 use crate::read::{add_copied, bundle, entry};
-use sig_bundle::{ArtifactDigest, Bundle, CheckedBundle, CheckedContent};
+use sig_bundle::{ArtifactDigest, Bundle};
 use sig_cases::{Answer, Arguments};
+use sig_checked_bundle::{CheckedBundle, CheckedContent};
 use std::alloc::Global;
 
 /// `try_from_bundle TEXT`: the digests of the subjects, in order.

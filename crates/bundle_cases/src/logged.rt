@@ -1,8 +1,9 @@
 //! The log entry of a bundle: its proof, and whether it is about what the bundle holds.
 
 use crate::read::{bundle, proof_fields};
-use sig_bundle::{CheckedBundle, ProofFieldsError};
+use sig_bundle::ProofFieldsError;
 use sig_cases::{Answer, Arguments};
+use sig_checked_bundle::CheckedBundle;
 use sig_rekor::{InclusionProof, SignedCheckpoint};
 use std::alloc::Global;
 

@@ -3,8 +3,9 @@
 use crate::checked::add_digest;
 use crate::read::text;
 use crate::shown::shown;
-use sig_bundle::{ArtifactDigest, InTotoStatementV1, Version};
+use sig_bundle::{ArtifactDigest, InTotoStatementV1};
 use sig_cases::{Answer, Arguments};
+use sig_checked_bundle::Version;
 use std::str::FromStr;
 
 /// What a call of a part returns.

@@ -1,10 +1,10 @@
 //! Errors inside errors, and out of memory: each shows the name of its variant.
 
 use sig_base::Text;
-use sig_bundle::{
+use sig_cases::{Answer, Arguments};
+use sig_checked_bundle::{
     Bundle01ProfileErrorKind, Bundle02ProfileErrorKind, BundleErrorKind, BundleProfileErrorKind,
 };
-use sig_cases::{Answer, Arguments};
 use std::alloc::Global;
 
 /// `shown NAME`: the error of this name; out of memory comes behind `ok`, since by itself it would end the program.

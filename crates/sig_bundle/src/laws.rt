@@ -1,13 +1,8 @@
 //! What the definitions mean, and what equality is.
 ghost use Rattle.std.specs.Prelude.{◌≡◌, ◌↔◌, [], IsTrue, Ok, Err, unwrap_or};
 ghost use Rattle.sig_base.specs.ByteLists.{AreBytes};
-ghost use Rattle.sig_bundle.specs.Checked.{Checked, IsChecked};
-ghost use Rattle.sig_bundle.specs.Passed.{IsPassed};
-ghost use Rattle.sig_bundle.specs.OfBytes.{HasCertificateOfBytes, IsFirstOfBytes};
 ghost use Rattle.sig_bundle.specs.Promise.{IsExactEntry, promise_of_entry, promise_tree_of};
 ghost use Rattle.sig_bundle.specs.Proof.{IsProof, IsProofFault, proof_or_fault};
-ghost use Rattle.sig_bundle.specs.Refusals.{RefusalsHaveTheirCause};
-ghost use Rattle.sig_bundle.specs.declared.bundle.Bundle.{Bundle};
 ghost use Rattle.sig_bundle.specs.declared.material.ProofFields.{ProofFields as Members};
 ghost use Rattle.sig_bundle.specs.declared.proof_error.ProofFieldsError.{ProofFieldsError};
 ghost use Rattle.sig_bundle.specs.declared.material.TransparencyLogEntry.{TransparencyLogEntry as Entry};
@@ -18,21 +13,7 @@ use crate::bundle::{Bundle, Content, MessageSignature};
 use crate::material::{
     KindVersion, MaterialContent, ProofFields, TransparencyLogEntry, VerificationMaterial,
 };
-use sig_base::Entries;
-use sig_base::laws::{are_bytes, are_owned_bytes};
 use sig_json::CanonicalError;
-
-/// A bundle passes its own checks if and only if it has all that the format demands of a signature, over an artifact or
-/// a statement, with certificates and one log entry, under its version. It has no code.
-pub fn passed_bundles()
-    ensures { (bundle : Bundle) (c : Checked) → IsChecked bundle (Ok c) ↔ IsPassed bundle c }
-{}
-
-/// Each error of a bundle's own checks comes if and only if it has its cause in the words of the bundle: the rules
-/// before it hold, and this one does not. It has no code.
-pub fn causes_of_refusals()
-    ensures { RefusalsHaveTheirCause }
-{}
 
 /// The text of a log's promise is the template of Rekor's signed entry timestamp, if both integers are within plus or
 /// minus 2^53 - 1, and there is none if one is not. It has no code.
@@ -55,30 +36,6 @@ pub fn proof_faults()
     ensures { (fields : Members) (error : ProofFieldsError) →
         (proof_or_fault fields ≡ Err error) ↔ IsProofFault fields error }
 {}
-
-/// The DER of a bundle's first certificate is bytes. Its call does nothing.
-pub fn is_certificate_bytes(bundle: &Bundle)
-    ensures { HasCertificateOfBytes bundle.now }
-{
-    match &bundle.verification_material {
-        Some(material) => match &material.content {
-            Some(MaterialContent::Certificate(der)) => are_owned_bytes(der),
-            Some(MaterialContent::X509CertificateChain(ders)) => is_first_of_bytes(ders),
-            _ => (),
-        },
-        None => (),
-    }
-}
-
-/// The first of byte strings is bytes.
-fn is_first_of_bytes(entries: &Entries)
-    ensures { IsFirstOfBytes entries.now }
-{
-    match entries.get(0) {
-        Some(first) => are_bytes(first),
-        None => (),
-    }
-}
 
 /// Two bundles are equal if and only if all their parts are.
 pub fn equal_bundles(one: &Bundle, other: &Bundle) -> bool

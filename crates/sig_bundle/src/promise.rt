@@ -4,16 +4,13 @@
 //! {"body":"eyJhcGlWZXJzaW9uIjoiMC4wLjEifQ==","integratedTime":1702446656,"logID":"dd3d306a","logIndex":56111}
 //! ```
 ghost use Rattle.std.specs.Prelude.{◌≡◌, [], IsSome, IfOk, Err, unwrap_or};
-ghost use Rattle.hex.specs.Hex.{encode_lower};
 ghost use Rattle.sig_base.specs.Answers.{Answers, ComesWhere};
 ghost use Rattle.sig_bundle.specs.Promise.{IsExactEntry, promise_of_entry, promise_tree_of};
 ghost use Rattle.sig_json.specs.Canonical.{canonical_of};
-ghost use Rattle.sig_json.specs.Data.{string};
 ghost use Rattle.sig_json.specs.Tree.{document_tree};
 
 use crate::material::TransparencyLogEntry;
 use crate::object::Object;
-use crate::write_value::write_bytes;
 use sig_base::laws::{are_optional_bytes, are_owned_bytes};
 use sig_base::{Bytes, OutOfMemory, Text};
 use sig_json::{CanonicalError, Document, canonical};
@@ -53,30 +50,24 @@ fn write_promise(alloc: Global, entry: &TransparencyLogEntry) -> Result<Text, Ca
 fn promise_object(alloc: Global, entry: &TransparencyLogEntry) -> Result<Document, OutOfMemory>
     ensures { IfOk result (λ document. document_tree document ≡ promise_tree_of entry.now) }
 {
-    let body = write_bytes(alloc, entry.canonicalized_body.as_slice())?;
-    let id = log_id(alloc, &entry.log_id)?;
     let object = Object::new(alloc)
-        .with(alloc, "body", body)?
+        .with_bytes(alloc, "body", entry.canonicalized_body.as_slice())?
         .with(
             alloc,
             "integratedTime",
             Document::of_integer(entry.integrated_time),
         )?
-        .with(alloc, "logID", id)?
+        .with_hex(alloc, "logID", id_bytes(&entry.log_id))?
         .with(alloc, "logIndex", Document::of_integer(entry.log_index))?;
     Ok(object.into_document())
 }
 
-/// The id of a log in lower-case hexadecimal, empty where there is none. Fails only if memory runs out.
-#[tactic(auto, unfolding(hex::specs::Hex::encode_with))]
-fn log_id(alloc: Global, id: &Option<Bytes>) -> Result<Document, OutOfMemory>
-    ensures { IfOk result (λ document. document_tree document ≡ string (encode_lower (unwrap_or id.now []))) }
+/// The id of a log, empty where there is none.
+fn id_bytes(id: &Option<Bytes>) -> &[u8]
+    ensures { result.now ≡ unwrap_or id.now [] }
 {
     match id {
-        Some(id) => {
-            let digits = hex::encode(alloc, id.as_slice())?;
-            Document::of_text(alloc, digits.as_str())
-        }
-        None => Document::of_text(alloc, ""),
+        Some(id) => id.as_slice(),
+        None => &[],
     }
 }

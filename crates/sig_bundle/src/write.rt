@@ -9,7 +9,6 @@ use crate::bundle::Bundle;
 use crate::object::Object;
 use crate::write_content::with_content;
 use crate::write_material::MaterialWriter;
-use crate::write_value::write_option;
 use sig_base::{OutOfMemory, Text};
 use sig_json::{Document, compact};
 use std::alloc::Global;
@@ -20,11 +19,13 @@ fn write_bundle(alloc: Global, bundle: &Bundle) -> Result<Document, OutOfMemory>
     ensures tree { IfOk result (λ document. document_tree document ≡ bundle_tree bundle.now) }
     ensures back { IfOk result (λ _. bundle_of (bundle_tree bundle.now) ≡ Some bundle.now) }
 {
-    let media_type = Document::of_text(alloc, bundle.media_type.as_str())?;
-    let material = write_option::<MaterialWriter>(alloc, &bundle.verification_material)?;
     let object = Object::new(alloc)
-        .with(alloc, "mediaType", media_type)?
-        .with_some(alloc, "verificationMaterial", material)?;
+        .with_text(alloc, "mediaType", bundle.media_type.as_str())?
+        .with_option::<MaterialWriter>(
+            alloc,
+            "verificationMaterial",
+            &bundle.verification_material,
+        )?;
     let object = with_content(object, alloc, &bundle.content)?;
     Ok(object.into_document())
 }

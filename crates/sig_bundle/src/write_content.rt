@@ -10,7 +10,7 @@ ghost use Rattle.sig_json.specs.Tree.{document_tree};
 
 use crate::bundle::{Content, MessageSignature};
 use crate::object::Object;
-use crate::write_value::{ElementWriter, write_bytes, write_list, write_option};
+use crate::write_value::ElementWriter;
 use sig_base::{Bytes, OutOfMemory};
 use sig_dsse::{DsseEnvelope, DsseSignature};
 use sig_json::Document;
@@ -28,8 +28,7 @@ impl ElementWriter for DigestWriter {
 
     #[tactic(auto, using(crate::proofs::MaterialBack::back), unfolding(crate::specs::BundleTree::digest_tree))]
     fn write(alloc: Global, item: &Bytes) -> Result<Document, OutOfMemory> {
-        let digest = write_bytes(alloc, item.as_slice())?;
-        let object = Object::new(alloc).with(alloc, "digest", digest)?;
+        let object = Object::new(alloc).with_bytes(alloc, "digest", item.as_slice())?;
         Ok(object.into_document())
     }
 }
@@ -46,11 +45,9 @@ impl ElementWriter for MessageSignatureWriter {
 
     #[tactic(auto, using(crate::proofs::MaterialBack::back), unfolding(crate::specs::BundleTree::message_tree))]
     fn write(alloc: Global, item: &MessageSignature) -> Result<Document, OutOfMemory> {
-        let signature = write_bytes(alloc, item.signature.as_slice())?;
-        let digest = write_option::<DigestWriter>(alloc, &item.message_digest)?;
         let object = Object::new(alloc)
-            .with(alloc, "signature", signature)?
-            .with_some(alloc, "messageDigest", digest)?;
+            .with_bytes(alloc, "signature", item.signature.as_slice())?
+            .with_option::<DigestWriter>(alloc, "messageDigest", &item.message_digest)?;
         Ok(object.into_document())
     }
 }
@@ -67,11 +64,9 @@ impl ElementWriter for SignatureWriter {
 
     #[tactic(auto, using(crate::proofs::MaterialBack::back), unfolding(crate::specs::BundleTree::dsse_signature_tree))]
     fn write(alloc: Global, item: &DsseSignature) -> Result<Document, OutOfMemory> {
-        let sig = write_bytes(alloc, item.sig.as_slice())?;
-        let keyid = Document::of_text(alloc, item.keyid.as_str())?;
         let object = Object::new(alloc)
-            .with(alloc, "sig", sig)?
-            .with(alloc, "keyid", keyid)?;
+            .with_bytes(alloc, "sig", item.sig.as_slice())?
+            .with_text(alloc, "keyid", item.keyid.as_str())?;
         Ok(object.into_document())
     }
 }
@@ -88,13 +83,10 @@ impl ElementWriter for EnvelopeWriter {
 
     #[tactic(auto, using(crate::proofs::MaterialBack::back), unfolding(crate::specs::BundleTree::envelope_tree))]
     fn write(alloc: Global, item: &DsseEnvelope) -> Result<Document, OutOfMemory> {
-        let payload = write_bytes(alloc, item.payload.as_slice())?;
-        let payload_type = Document::of_text(alloc, item.payload_type.as_str())?;
-        let signatures = write_list::<SignatureWriter>(alloc, item.signatures.as_slice())?;
         let object = Object::new(alloc)
-            .with(alloc, "payload", payload)?
-            .with(alloc, "payloadType", payload_type)?
-            .with(alloc, "signatures", signatures)?;
+            .with_bytes(alloc, "payload", item.payload.as_slice())?
+            .with_text(alloc, "payloadType", item.payload_type.as_str())?
+            .with_list::<SignatureWriter>(alloc, "signatures", item.signatures.as_slice())?;
         Ok(object.into_document())
     }
 }

@@ -13,9 +13,7 @@ ghost use Rattle.sig_json.specs.Tree.{document_tree};
 use crate::log_entries::{SparseEntry, without_members};
 use crate::material::{KindVersion, ProofFields, TransparencyLogEntry};
 use crate::object::Object;
-use crate::write_value::{
-    BytesWriter, ElementWriter, write_bytes, write_integer, write_list, write_option,
-};
+use crate::write_value::{BytesWriter, ElementWriter};
 use sig_base::{Bytes, OutOfMemory, Text};
 use sig_json::Document;
 use std::alloc::Global;
@@ -32,8 +30,8 @@ impl ElementWriter for LogIdWriter {
 
     #[tactic(auto, using(crate::proofs::EntriesBack::back), unfolding(crate::specs::BundleTree::log_id_tree))]
     fn write(alloc: Global, item: &Bytes) -> Result<Document, OutOfMemory> {
-        let id = write_bytes(alloc, item.as_slice())?;
-        Ok(Object::new(alloc).with(alloc, "keyId", id)?.into_document())
+        let object = Object::new(alloc).with_bytes(alloc, "keyId", item.as_slice())?;
+        Ok(object.into_document())
     }
 }
 
@@ -49,8 +47,7 @@ impl ElementWriter for PromiseWriter {
 
     #[tactic(auto, using(crate::proofs::EntriesBack::back), unfolding(crate::specs::BundleTree::promise_record_tree))]
     fn write(alloc: Global, item: &Bytes) -> Result<Document, OutOfMemory> {
-        let promise = write_bytes(alloc, item.as_slice())?;
-        let object = Object::new(alloc).with(alloc, "signedEntryTimestamp", promise)?;
+        let object = Object::new(alloc).with_bytes(alloc, "signedEntryTimestamp", item.as_slice())?;
         Ok(object.into_document())
     }
 }
@@ -67,12 +64,8 @@ impl ElementWriter for CheckpointWriter {
 
     #[tactic(auto, using(crate::proofs::EntriesBack::back), unfolding(crate::specs::BundleTree::checkpoint_tree))]
     fn write(alloc: Global, item: &Text) -> Result<Document, OutOfMemory> {
-        let text = Document::of_text(alloc, item.as_str())?;
-        Ok(
-            Object::new(alloc)
-                .with(alloc, "envelope", text)?
-                .into_document(),
-        )
+        let object = Object::new(alloc).with_text(alloc, "envelope", item.as_str())?;
+        Ok(object.into_document())
     }
 }
 
@@ -88,11 +81,9 @@ impl ElementWriter for KindVersionWriter {
 
     #[tactic(auto, using(crate::proofs::EntriesBack::back), unfolding(crate::specs::BundleTree::kind_version_tree))]
     fn write(alloc: Global, item: &KindVersion) -> Result<Document, OutOfMemory> {
-        let kind = Document::of_text(alloc, item.kind.as_str())?;
-        let version = Document::of_text(alloc, item.version.as_str())?;
         let object = Object::new(alloc)
-            .with(alloc, "kind", kind)?
-            .with(alloc, "version", version)?;
+            .with_text(alloc, "kind", item.kind.as_str())?
+            .with_text(alloc, "version", item.version.as_str())?;
         Ok(object.into_document())
     }
 }
@@ -109,17 +100,12 @@ impl ElementWriter for ProofWriter {
 
     #[tactic(auto, using(crate::proofs::EntriesBack::back), unfolding(crate::specs::BundleTree::proof_tree))]
     fn write(alloc: Global, item: &ProofFields) -> Result<Document, OutOfMemory> {
-        let log_index = write_integer(alloc, &item.log_index)?;
-        let root_hash = write_bytes(alloc, item.root_hash.as_slice())?;
-        let tree_size = write_integer(alloc, &item.tree_size)?;
-        let hashes = write_list::<BytesWriter>(alloc, item.hashes.as_slice())?;
-        let checkpoint = write_option::<CheckpointWriter>(alloc, &item.checkpoint)?;
         let object = Object::new(alloc)
-            .with(alloc, "logIndex", log_index)?
-            .with(alloc, "rootHash", root_hash)?
-            .with(alloc, "treeSize", tree_size)?
-            .with(alloc, "hashes", hashes)?
-            .with_some(alloc, "checkpoint", checkpoint)?;
+            .with_integer(alloc, "logIndex", &item.log_index)?
+            .with_bytes(alloc, "rootHash", item.root_hash.as_slice())?
+            .with_integer(alloc, "treeSize", &item.tree_size)?
+            .with_list::<BytesWriter>(alloc, "hashes", item.hashes.as_slice())?
+            .with_option::<CheckpointWriter>(alloc, "checkpoint", &item.checkpoint)?;
         Ok(object.into_document())
     }
 }
@@ -136,21 +122,18 @@ impl ElementWriter for EntryWriter {
 
     #[tactic(auto, using(crate::proofs::EntriesBack::back), unfolding(crate::specs::BundleTree::entry_tree))]
     fn write(alloc: Global, item: &TransparencyLogEntry) -> Result<Document, OutOfMemory> {
-        let log_index = write_integer(alloc, &item.log_index)?;
-        let log_id = write_option::<LogIdWriter>(alloc, &item.log_id)?;
-        let kind_version = write_option::<KindVersionWriter>(alloc, &item.kind_version)?;
-        let integrated_time = write_integer(alloc, &item.integrated_time)?;
-        let promise = write_option::<PromiseWriter>(alloc, &item.inclusion_promise)?;
-        let proof = write_option::<ProofWriter>(alloc, &item.inclusion_proof)?;
-        let body = write_bytes(alloc, item.canonicalized_body.as_slice())?;
         let object = Object::new(alloc)
-            .with(alloc, "logIndex", log_index)?
-            .with_some(alloc, "logId", log_id)?
-            .with_some(alloc, "kindVersion", kind_version)?
-            .with(alloc, "integratedTime", integrated_time)?
-            .with_some(alloc, "inclusionPromise", promise)?
-            .with_some(alloc, "inclusionProof", proof)?
-            .with(alloc, "canonicalizedBody", body)?;
+            .with_integer(alloc, "logIndex", &item.log_index)?
+            .with_option::<LogIdWriter>(alloc, "logId", &item.log_id)?
+            .with_option::<KindVersionWriter>(alloc, "kindVersion", &item.kind_version)?
+            .with_integer(alloc, "integratedTime", &item.integrated_time)?
+            .with_option::<PromiseWriter>(alloc, "inclusionPromise", &item.inclusion_promise)?
+            .with_option::<ProofWriter>(alloc, "inclusionProof", &item.inclusion_proof)?
+            .with_bytes(
+                alloc,
+                "canonicalizedBody",
+                item.canonicalized_body.as_slice(),
+            )?;
         Ok(object.into_document())
     }
 }

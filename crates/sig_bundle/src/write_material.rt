@@ -11,7 +11,7 @@ ghost use Rattle.sig_json.specs.Tree.{document_tree};
 use crate::material::{MaterialContent, VerificationMaterial};
 use crate::object::Object;
 use crate::write_entry::SparseEntryWriter;
-use crate::write_value::{ElementWriter, write_bytes, write_list};
+use crate::write_value::ElementWriter;
 use sig_base::{Bytes, Entries, OutOfMemory};
 use sig_json::Document;
 use std::alloc::Global;
@@ -28,8 +28,7 @@ impl ElementWriter for CertificateWriter {
 
     #[tactic(auto, using(crate::proofs::MaterialBack::back), unfolding(crate::specs::BundleTree::certificate_tree))]
     fn write(alloc: Global, item: &Bytes) -> Result<Document, OutOfMemory> {
-        let der = write_bytes(alloc, item.as_slice())?;
-        let object = Object::new(alloc).with(alloc, "rawBytes", der)?;
+        let object = Object::new(alloc).with_bytes(alloc, "rawBytes", item.as_slice())?;
         Ok(object.into_document())
     }
 }
@@ -46,8 +45,11 @@ impl ElementWriter for ChainWriter {
 
     #[tactic(auto, using(crate::proofs::MaterialBack::back), unfolding(crate::specs::BundleTree::chain_tree))]
     fn write(alloc: Global, item: &Entries) -> Result<Document, OutOfMemory> {
-        let certificates = write_list::<CertificateWriter>(alloc, item.as_slice())?;
-        let object = Object::new(alloc).with(alloc, "certificates", certificates)?;
+        let object = Object::new(alloc).with_list::<CertificateWriter>(
+            alloc,
+            "certificates",
+            item.as_slice(),
+        )?;
         Ok(object.into_document())
     }
 }
@@ -91,8 +93,11 @@ impl ElementWriter for MaterialWriter {
     #[tactic(auto, using(crate::proofs::MaterialBack::back), unfolding(crate::specs::BundleTree::material_tree))]
     fn write(alloc: Global, item: &VerificationMaterial) -> Result<Document, OutOfMemory> {
         let object = with_material_content(Object::new(alloc), alloc, &item.content)?;
-        let entries = write_list::<SparseEntryWriter>(alloc, item.tlog_entries.as_slice())?;
-        let object = object.with(alloc, "tlogEntries", entries)?;
+        let object = object.with_list::<SparseEntryWriter>(
+            alloc,
+            "tlogEntries",
+            item.tlog_entries.as_slice(),
+        )?;
         Ok(object.into_document())
     }
 }

@@ -1,7 +1,7 @@
 //! Writers of values, and the one writer of lists over them.
-ghost use Rattle.std.specs.Prelude.{◌≡◌, IfOk, Option, option_map};
+ghost use Rattle.std.specs.Prelude.{◌≡◌, IfOk, Option};
 ghost use Rattle.sig_json.specs.Data.{Data};
-ghost use Rattle.sig_bundle.specs.Written.{IsReadAs, OptionIsRead, bytes_tree, integer_tree, list_tree};
+ghost use Rattle.sig_bundle.specs.Written.{IsReadAs, bytes_tree, integer_tree, list_tree};
 ghost use Rattle.sig_json.specs.Kinds.{bytes_of, i64_of};
 ghost use Rattle.sig_json.specs.Member.{list_each};
 ghost use Rattle.sig_json.specs.Tree.{document_tree};
@@ -23,21 +23,6 @@ pub(crate) trait ElementWriter {
     fn write(alloc: Global, item: &Self::Item) -> Result<Document, OutOfMemory>
         ensures tree { IfOk result (λ document. document_tree document ≡ written item.now) }
         ensures back { IfOk result (λ _. IsReadAs meaning (written item.now) item.now) };
-}
-
-/// Writes a value that may be absent. Fails only if memory runs out.
-pub(crate) fn write_option<T: ElementWriter>(
-    alloc: Global,
-    item: &Option<T::Item>,
-) -> Result<Option<Document>, OutOfMemory>
-    ensures tree { IfOk result (λ document. option_map document_tree document
-        ≡ option_map T.written item.now) }
-    ensures back { IfOk result (λ _. OptionIsRead T.meaning T.written item.now) }
-{
-    match item {
-        Some(item) => Ok(Some(T::write(alloc, item)?)),
-        None => Ok(None),
-    }
 }
 
 /// Writes a list. Fails only if memory runs out.

@@ -1,7 +1,7 @@
 -- The rows that inputs ask for are those of their parts.
 use Rattle.std.proofs.Common.{◌↔◌, ◌⊎◌, inl, inr}
 use Rattle.sig_base.specs.declared.checker.AcceptedRow.{AcceptedRow}
-use Rattle.sig_bundle.proofs.Certificates.{OneCertificate}
+use Rattle.sig_checked_bundle.proofs.Certificates.{OneCertificate}
 use Rattle.sig_verify.specs.Links.{Inputs}
 use Rattle.sig_verify.proofs.Parts.{AnchoredParts, Parts, checked_from, checked_to, log_keys_of, logged_from}
 use Rattle.sig_verify.proofs.Parts.{logged_to, trust_with}

@@ -12,10 +12,10 @@ use Rattle.sig_base.specs.declared.fault.CheckpointFault.{CheckpointFault}
 use Rattle.sig_base.specs.declared.scheme.VerifyScheme.{VerifyScheme}
 use Rattle.sig_base.specs.ByteLists.{AreBytes}
 use Rattle.sig_bundle.proofs.PromiseLaws.{exact-promise, exact_or_wide, wide-promise}
-use Rattle.sig_bundle.specs.Checked.{Checked}
+use Rattle.sig_checked_bundle.specs.Checked.{Checked}
 use Rattle.sig_bundle.specs.Promise.{IsExactEntry, promise_of_entry, promise_tree_of}
-use Rattle.sig_bundle.specs.declared.content_check.CheckedContent.{CheckedContent}
-use Rattle.sig_bundle.specs.declared.content_check.CheckedContent.TheVariants.{MessageSignature, Dsse}
+use Rattle.sig_checked_bundle.specs.declared.content_check.CheckedContent.{CheckedContent}
+use Rattle.sig_checked_bundle.specs.declared.content_check.CheckedContent.TheVariants.{MessageSignature, Dsse}
 use Rattle.sig_bundle.specs.declared.material.ProofFields.{ProofFields}
 use Rattle.sig_bundle.specs.declared.material.TransparencyLogEntry.{TransparencyLogEntry}
 use Rattle.sig_dsse.specs.declared.artifact_digest.ArtifactDigest.{ArtifactDigest}

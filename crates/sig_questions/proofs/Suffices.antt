@@ -1,7 +1,7 @@
 -- No other row matters than the questions.
 use Rattle.std.proofs.Common.{◌↔◌}
 use Rattle.sig_base.specs.declared.checker.AcceptedRow.{AcceptedRow}
-use Rattle.sig_bundle.proofs.Certificates.{OneCertificate}
+use Rattle.sig_checked_bundle.proofs.Certificates.{OneCertificate}
 use Rattle.sig_verify.proofs.JudgedLaws.{Alike, alike_each, all_as, fails_as}
 use Rattle.sig_verify.specs.Links.{HoldsOf, Inputs, Outside, chain_links}
 use Rattle.sig_verify.specs.Verdict.{Checker, PolicyOf}

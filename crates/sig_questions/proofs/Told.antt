@@ -7,8 +7,8 @@ use Rattle.std.proofs.lemmas.List.Elements.{Contains-append_left}
 use Rattle.sig_base.proofs.ResultSteps.{ok_is}
 use Rattle.sig_base.specs.Rules.{FailsFirst}
 use Rattle.sig_base.specs.declared.checker.AcceptedRow.{AcceptedRow}
-use Rattle.sig_bundle.proofs.Certificates.{OneCertificate}
-use Rattle.sig_bundle.specs.Checked.{Checked}
+use Rattle.sig_checked_bundle.proofs.Certificates.{OneCertificate}
+use Rattle.sig_checked_bundle.specs.Checked.{Checked}
 use Rattle.sig_certificate.specs.Certificate.{Cert}
 use Rattle.sig_certificate.specs.Certificates.{AreCertificates}
 use Rattle.sig_root.specs.declared.record.TrustedRoot.{TrustedRoot}

@@ -2,7 +2,7 @@
 ghost use Rattle.sig_verify.specs.LinkLaws.{IsReadCertificate};
 
 use sig_base::laws::are_bytes;
-use sig_bundle::CheckedBundle;
+use sig_checked_bundle::CheckedBundle;
 
 /// The key of a bundle's certificate is bytes, and the reader of SCTs says what the certificate has. Its call does
 /// nothing.

@@ -5,7 +5,8 @@ ghost use Rattle.sig_questions.specs.Written.{AddsRows};
 use crate::listing::NoQuestions;
 use crate::rows::{RowParts, Rows};
 use sig_base::{Operation, VerifyScheme};
-use sig_bundle::{ArtifactDigest, CheckedBundle, CheckedContent};
+use sig_bundle::ArtifactDigest;
+use sig_checked_bundle::{CheckedBundle, CheckedContent};
 use sig_key::{KeyKind, key_kind};
 use std::alloc::Global;
 

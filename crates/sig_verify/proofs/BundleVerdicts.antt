@@ -3,32 +3,35 @@ use Rattle.std.proofs.Common.{◌≡◌, ◌↔◌, ℕ, List, [], ◌∷◌, le
 use Rattle.std.proofs.Common.{Err, inl, inr, refl, sym, ap, subst, ◌∙◌}
 use Rattle.std.specs.List.{AllByRecursion}
 use Rattle.sig_base.proofs.OptionSteps.{some_is}
-use Rattle.sig_bundle.proofs.Certificates.{OneCertificate, certificates_one, none_malformed, rootless-none}
-use Rattle.sig_bundle.proofs.VersionLaws.{version-meant}
-use Rattle.sig_bundle.specs.Checked.{Checked, IsChecked}
-use Rattle.sig_bundle.specs.Passed.{HasPromise, HasProof, IsContentOf, IsMet, IsPassed}
-use Rattle.sig_bundle.specs.Refusals.{DemandsProof, HasCertificates, HasContent, HasEncodings, HasEntry, HasEnvelope}
-use Rattle.sig_bundle.specs.Refusals.{HasLeaf, HasMaterial, HasNoRoot, HasStatement, HasVersion}
-use Rattle.sig_bundle.specs.Refusals.{IsCause, IsProfileCauseOf, RefusalsHaveTheirCause}
-use Rattle.sig_bundle.specs.SigningCertificate.{IsNoRoot, encodings_in}
+use Rattle.sig_checked_bundle.proofs.Certificates.{OneCertificate, certificates_one, none_malformed, rootless-none}
+use Rattle.sig_checked_bundle.proofs.VersionLaws.{version-meant}
+use Rattle.sig_checked_bundle.specs.Checked.{Checked, IsChecked}
+use Rattle.sig_checked_bundle.specs.Passed.{HasPromise, HasProof, IsContentOf, IsMet, IsPassed}
+use Rattle.sig_checked_bundle.specs.Refusals.{DemandsProof, HasCertificates, HasContent, HasEncodings, HasEntry}
+use Rattle.sig_checked_bundle.specs.Refusals.{HasEnvelope, HasLeaf, HasMaterial, HasNoRoot, HasStatement, HasVersion}
+use Rattle.sig_checked_bundle.specs.Refusals.{IsCause, IsProfileCauseOf, RefusalsHaveTheirCause}
+use Rattle.sig_checked_bundle.specs.SigningCertificate.{IsNoRoot, encodings_in}
 use Rattle.sig_bundle.specs.declared.bundle.Bundle.{Bundle}
 use Rattle.sig_bundle.specs.declared.bundle.Content.{Content}
 use Rattle.sig_bundle.specs.declared.bundle.Content.TheVariants.{MessageSignature as Message, DsseEnvelope as Enveloped}
-use Rattle.sig_bundle.specs.declared.bundle_error.BundleErrorKind.{BundleErrorKind}
-use Rattle.sig_bundle.specs.declared.bundle_error.BundleErrorKind.TheVariants as refusal
-use Rattle.sig_bundle.specs.declared.bundle_error.BundleProfileErrorKind.{BundleProfileErrorKind}
-use Rattle.sig_bundle.specs.declared.bundle_error.BundleProfileErrorKind.TheVariants.{Bundle01Profile}
-use Rattle.sig_bundle.specs.declared.bundle_error.BundleProfileErrorKind.TheVariants.{Bundle02Profile, Unknown}
-use Rattle.sig_bundle.specs.declared.bundle_error.Bundle01ProfileErrorKind.TheVariants.{InclusionPromiseMissing}
-use Rattle.sig_bundle.specs.declared.bundle_error.Bundle02ProfileErrorKind.TheVariants.{InclusionProofMissing}
-use Rattle.sig_bundle.specs.declared.bundle_error.Bundle02ProfileErrorKind.TheVariants.{CheckpointMissing}
-use Rattle.sig_bundle.specs.declared.content_check.CheckedContent.{CheckedContent}
-use Rattle.sig_bundle.specs.declared.content_check.CheckedContent.TheVariants.{MessageSignature as CheckedMessage, Dsse}
+use Rattle.sig_checked_bundle.specs.declared.bundle_error.BundleErrorKind.{BundleErrorKind}
+use Rattle.sig_checked_bundle.specs.declared.bundle_error.BundleErrorKind.TheVariants as refusal
+use Rattle.sig_checked_bundle.specs.declared.bundle_error.BundleProfileErrorKind.{BundleProfileErrorKind}
+use Rattle.sig_checked_bundle.specs.declared.bundle_error.BundleProfileErrorKind.TheVariants.{Bundle01Profile}
+use Rattle.sig_checked_bundle.specs.declared.bundle_error.BundleProfileErrorKind.TheVariants.{Bundle02Profile, Unknown}
+use Rattle.sig_checked_bundle.specs.declared.bundle_error.Bundle01ProfileErrorKind.TheVariants.{InclusionPromiseMissing}
+use Rattle.sig_checked_bundle.specs.declared.bundle_error.Bundle02ProfileErrorKind.TheVariants.{InclusionProofMissing}
+use Rattle.sig_checked_bundle.specs.declared.bundle_error.Bundle02ProfileErrorKind.TheVariants.{CheckpointMissing}
+use Rattle.sig_checked_bundle.specs.declared.content_check.CheckedContent.{CheckedContent}
+use Rattle.sig_checked_bundle.specs.declared.content_check.CheckedContent.TheVariants.{
+  MessageSignature as CheckedMessage,
+}
+use Rattle.sig_checked_bundle.specs.declared.content_check.CheckedContent.TheVariants.{Dsse}
 use Rattle.sig_bundle.specs.declared.material.ProofFields.{ProofFields}
 use Rattle.sig_bundle.specs.declared.material.TransparencyLogEntry.{TransparencyLogEntry}
 use Rattle.sig_bundle.specs.declared.material.VerificationMaterial.{VerificationMaterial}
-use Rattle.sig_bundle.specs.declared.version.Version.{Version}
-use Rattle.sig_bundle.specs.declared.version.Version.TheVariants.{Bundle0_1, Bundle0_2, Bundle0_3}
+use Rattle.sig_checked_bundle.specs.declared.version.Version.{Version}
+use Rattle.sig_checked_bundle.specs.declared.version.Version.TheVariants.{Bundle0_1, Bundle0_2, Bundle0_3}
 use Rattle.sig_certificate.specs.Certificate.{Cert}
 use Rattle.sig_certificate.specs.Certificates.{AreCertificates}
 use Rattle.sig_certificate.specs.Profile.{leaf_refusal}

@@ -2,9 +2,9 @@
 use Rattle.std.proofs.Common.{ℕ, List, [], ◌∷◌}
 use Rattle.sig_base.proofs.ByteLists.{byte_at, each_byte}
 use Rattle.sig_base.specs.ByteLists.{AreBytes}
-use Rattle.sig_bundle.specs.Checked.{Checked}
-use Rattle.sig_bundle.specs.OfBytes.{HasCertificateOfBytes, IsFirstOfBytes}
-use Rattle.sig_bundle.specs.Passed.{IsPassed}
+use Rattle.sig_checked_bundle.specs.Checked.{Checked}
+use Rattle.sig_checked_bundle.specs.OfBytes.{HasCertificateOfBytes, IsFirstOfBytes}
+use Rattle.sig_checked_bundle.specs.Passed.{IsPassed}
 use Rattle.sig_bundle.specs.declared.bundle.Bundle.{Bundle}
 use Rattle.sig_certificate.proofs.CertificateBytes.{key_fits}
 use Rattle.sig_certificate.specs.Certificate.{Cert, IsCertificate}

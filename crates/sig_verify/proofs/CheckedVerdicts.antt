@@ -1,6 +1,6 @@
 -- The links `issuance` to `time`: the result of a verifier says which of them fails first.
 use Rattle.std.proofs.Common.{◌≡◌, Bool, true, false, List, [], ◌∷◌, ◌++◌, Ok, Err, inl, inr, refl, sym, subst, ◌∙◌}
-use Rattle.sig_bundle.specs.Checked.{Checked}
+use Rattle.sig_checked_bundle.specs.Checked.{Checked}
 use Rattle.sig_dsse.specs.declared.artifact_digest.ArtifactDigest.{ArtifactDigest}
 use Rattle.sig_policy.specs.Refusals.{Refusal}
 use Rattle.sig_verify.proofs.ContentVerdicts.{judged_content, judged_time}

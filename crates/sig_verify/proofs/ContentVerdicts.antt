@@ -9,9 +9,9 @@ use Rattle.std.specs.Prelude.{slice_index_or}
 use Rattle.sig_base.proofs.IntOrders.{le_from, le_is}
 use Rattle.sig_base.specs.ResultSteps.{◌>>=◌}
 use Rattle.sig_base.specs.declared.scheme.VerifyScheme.{VerifyScheme}
-use Rattle.sig_bundle.specs.Checked.{Checked}
-use Rattle.sig_bundle.specs.declared.content_check.CheckedContent.{CheckedContent}
-use Rattle.sig_bundle.specs.declared.content_check.CheckedContent.TheVariants.{MessageSignature, Dsse}
+use Rattle.sig_checked_bundle.specs.Checked.{Checked}
+use Rattle.sig_checked_bundle.specs.declared.content_check.CheckedContent.{CheckedContent}
+use Rattle.sig_checked_bundle.specs.declared.content_check.CheckedContent.TheVariants.{MessageSignature, Dsse}
 use Rattle.sig_dsse.specs.declared.artifact_digest.ArtifactDigest.{ArtifactDigest}
 use Rattle.sig_dsse.specs.declared.artifact_digest.ArtifactDigest.TheVariants.{Sha256, Sha512}
 use Rattle.sig_base.specs.ByteLists.{AreBytes}

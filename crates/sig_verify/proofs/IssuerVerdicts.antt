@@ -9,7 +9,7 @@ use Rattle.sig_base.specs.Answers.{Answers}
 use Rattle.sig_base.specs.ResultSteps.{◌>>=◌}
 use Rattle.sig_base.specs.declared.fault.PoolError.{PoolError}
 use Rattle.sig_base.specs.declared.fault.PoolError.TheVariants as pool
-use Rattle.sig_bundle.specs.Checked.{Checked}
+use Rattle.sig_checked_bundle.specs.Checked.{Checked}
 use Rattle.sig_certificate.specs.Certificate.{Cert}
 use Rattle.sig_dsse.specs.declared.artifact_digest.ArtifactDigest.{ArtifactDigest}
 use Rattle.sig_timestamp.proofs.EmbeddedLaws.{embedded}

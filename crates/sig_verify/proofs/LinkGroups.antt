@@ -3,11 +3,11 @@ use Rattle.std.proofs.Common.{◌≡◌, ◌↔◌, ◌≢◌, ℕ, true, List, 
 use Rattle.std.proofs.Math.Path.{fun_ext}
 use Rattle.std.specs.List.{AllByRecursion}
 use Rattle.sig_base.specs.declared.fault.TrustPart.TheVariants as part
-use Rattle.sig_bundle.proofs.Certificates.{OneCertificate}
+use Rattle.sig_checked_bundle.proofs.Certificates.{OneCertificate}
 use Rattle.sig_bundle.specs.BundleRecord.{bundle_in}
-use Rattle.sig_bundle.specs.Checked.{Checked}
-use Rattle.sig_bundle.specs.Passed.{IsMet, IsPassed}
-use Rattle.sig_bundle.specs.SigningCertificate.{IsNoRoot}
+use Rattle.sig_checked_bundle.specs.Checked.{Checked}
+use Rattle.sig_checked_bundle.specs.Passed.{IsMet, IsPassed}
+use Rattle.sig_checked_bundle.specs.SigningCertificate.{IsNoRoot}
 use Rattle.sig_bundle.specs.declared.bundle.Bundle.{Bundle}
 use Rattle.sig_bundle.specs.declared.material.TransparencyLogEntry.{TransparencyLogEntry}
 use Rattle.sig_certificate.specs.Certificate.{Cert}

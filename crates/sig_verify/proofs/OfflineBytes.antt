@@ -11,8 +11,8 @@ use Rattle.sig_base.specs.Answers.{UnlessMemory}
 use Rattle.sig_base.specs.OptionSteps.{◌>>=◌}
 use Rattle.sig_bundle.specs.LogEntries.{only_entry}
 use Rattle.sig_bundle.specs.BundleRecord.{bundle_in}
-use Rattle.sig_bundle.specs.Checked.{Checked}
-use Rattle.sig_bundle.specs.OfBytes.{HasCertificateOfBytes}
+use Rattle.sig_checked_bundle.specs.Checked.{Checked}
+use Rattle.sig_checked_bundle.specs.OfBytes.{HasCertificateOfBytes}
 use Rattle.sig_bundle.specs.declared.bundle.Bundle.{Bundle}
 use Rattle.sig_dsse.specs.declared.artifact_digest.ArtifactDigest.{ArtifactDigest}
 use Rattle.sig_root.proofs.LastKeys.{only_last}

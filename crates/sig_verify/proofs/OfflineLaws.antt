@@ -6,10 +6,10 @@ use Rattle.sig_base.proofs.OptionSteps.{some_is}
 use Rattle.sig_base.specs.declared.error.SigstoreError.{SigstoreError}
 use Rattle.sig_base.specs.declared.error.SigstoreError.TheVariants as sigstore
 use Rattle.sig_bundle.specs.LogEntries.{only_entry}
-use Rattle.sig_bundle.proofs.Certificates.{OneCertificate}
+use Rattle.sig_checked_bundle.proofs.Certificates.{OneCertificate}
 use Rattle.sig_bundle.specs.BundleRecord.{bundle_in}
-use Rattle.sig_bundle.specs.Checked.{Checked, IsChecked}
-use Rattle.sig_bundle.specs.Passed.{IsPassed}
+use Rattle.sig_checked_bundle.specs.Checked.{Checked, IsChecked}
+use Rattle.sig_checked_bundle.specs.Passed.{IsPassed}
 use Rattle.sig_bundle.specs.declared.bundle.Bundle.{Bundle as BundleType}
 use Rattle.sig_bundle.specs.declared.material.TransparencyLogEntry.{TransparencyLogEntry}
 use Rattle.sig_json.specs.declared.error.JsonError.{JsonError}

@@ -2,10 +2,10 @@
 use Rattle.std.proofs.Common.{◌≡◌, ℕ, List, [], ◌∷◌, Ok, sym, subst, ◌∙◌}
 use Rattle.sig_base.proofs.ResultSteps.{ok_is}
 use Rattle.sig_base.proofs.Zipped.{zip_one}
-use Rattle.sig_bundle.proofs.Certificates.{OneCertificate}
+use Rattle.sig_checked_bundle.proofs.Certificates.{OneCertificate}
 use Rattle.sig_bundle.specs.BundleRecord.{bundle_in}
-use Rattle.sig_bundle.specs.Checked.{Checked}
-use Rattle.sig_bundle.specs.Passed.{IsPassed}
+use Rattle.sig_checked_bundle.specs.Checked.{Checked}
+use Rattle.sig_checked_bundle.specs.Passed.{IsPassed}
 use Rattle.sig_bundle.specs.declared.bundle.Bundle.{Bundle}
 use Rattle.sig_bundle.specs.declared.material.TransparencyLogEntry.{TransparencyLogEntry}
 use Rattle.sig_certificate.specs.Certificate.{Cert, IsCertificate}

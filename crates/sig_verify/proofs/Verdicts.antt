@@ -1,10 +1,10 @@
 -- The verdict on a bundle that passed its own checks.
 use Rattle.std.proofs.Common.{◌≡◌, Bool, Result, Ok, Err, inl, inr}
 use Rattle.std.specs.Prelude.{◌⊎◌}
-use Rattle.sig_bundle.specs.Checked.{Checked, IsChecked}
+use Rattle.sig_checked_bundle.specs.Checked.{Checked, IsChecked}
 use Rattle.sig_bundle.specs.declared.bundle.Bundle.{Bundle}
-use Rattle.sig_bundle.specs.declared.bundle_error.BundleErrorKind.{BundleErrorKind}
-use Rattle.sig_bundle.specs.declared.bundle_error.BundleErrorKind.TheVariants as bundle
+use Rattle.sig_checked_bundle.specs.declared.bundle_error.BundleErrorKind.{BundleErrorKind}
+use Rattle.sig_checked_bundle.specs.declared.bundle_error.BundleErrorKind.TheVariants as bundle
 use Rattle.sig_dsse.specs.declared.artifact_digest.ArtifactDigest.{ArtifactDigest}
 use Rattle.sig_verify.specs.Verdict.{Answer, Checker, IsVerdictFromIssuance, IsVerdict, PolicyOf}
 use Rattle.sig_verify.specs.Verifier.{Trusted}

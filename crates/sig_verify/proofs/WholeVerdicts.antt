@@ -2,15 +2,15 @@
 use Rattle.std.proofs.Common.{◌≡◌, ◌↔◌, ℕ, Bool, List, [], ◌∷◌, ◌++◌, Option, Ok, inl, inr, sym, ap, subst, ◌∙◌}
 use Rattle.sig_base.proofs.OptionSteps.{some_is}
 use Rattle.sig_base.proofs.ResultSteps.{ok_is}
-use Rattle.sig_bundle.proofs.Certificates.{OneCertificate, certificates_one}
-use Rattle.sig_bundle.proofs.ContentLaws.{content-meant}
-use Rattle.sig_bundle.specs.Checked.{Checked, IsChecked}
-use Rattle.sig_bundle.specs.Content.{ContentWithSignature}
-use Rattle.sig_bundle.specs.Passed.{IsContentOf, IsPassed}
-use Rattle.sig_bundle.specs.SigningCertificate.{encodings_in}
+use Rattle.sig_checked_bundle.proofs.Certificates.{OneCertificate, certificates_one}
+use Rattle.sig_checked_bundle.proofs.ContentLaws.{content-meant}
+use Rattle.sig_checked_bundle.specs.Checked.{Checked, IsChecked}
+use Rattle.sig_checked_bundle.specs.Content.{ContentWithSignature}
+use Rattle.sig_checked_bundle.specs.Passed.{IsContentOf, IsPassed}
+use Rattle.sig_checked_bundle.specs.SigningCertificate.{encodings_in}
 use Rattle.sig_bundle.specs.declared.bundle.Bundle.{Bundle}
 use Rattle.sig_bundle.specs.declared.bundle.Content.{Content}
-use Rattle.sig_bundle.specs.declared.content_check.CheckedContent.{CheckedContent}
+use Rattle.sig_checked_bundle.specs.declared.content_check.CheckedContent.{CheckedContent}
 use Rattle.sig_bundle.specs.declared.material.TransparencyLogEntry.{TransparencyLogEntry}
 use Rattle.sig_bundle.specs.declared.material.VerificationMaterial.{VerificationMaterial}
 use Rattle.sig_certificate.specs.Certificate.{Cert}

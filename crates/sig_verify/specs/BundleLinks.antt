@@ -2,15 +2,15 @@
 -- bundle format; RFC 5280 section 4.1; DSSE protocol; in-toto attestation framework).
 use Rattle.std.specs.Prelude.{◌≡◌, ℕ, List, [], ◌∷◌, Some, None}
 use Rattle.std.specs.List.{AllByRecursion}
-use Rattle.sig_bundle.specs.Passed.{IsMet}
-use Rattle.sig_bundle.specs.SigningCertificate.{IsNoRoot, encodings_in}
-use Rattle.sig_bundle.specs.Version.{IsMediaType}
+use Rattle.sig_checked_bundle.specs.Passed.{IsMet}
+use Rattle.sig_checked_bundle.specs.SigningCertificate.{IsNoRoot, encodings_in}
+use Rattle.sig_checked_bundle.specs.Version.{IsMediaType}
 use Rattle.sig_bundle.specs.declared.bundle.Bundle.{Bundle}
 use Rattle.sig_bundle.specs.declared.bundle.Content.{Content as ContentType}
 use Rattle.sig_bundle.specs.declared.bundle.Content.TheVariants.{MessageSignature as Message, DsseEnvelope as Enveloped}
 use Rattle.sig_bundle.specs.declared.material.TransparencyLogEntry.{TransparencyLogEntry}
 use Rattle.sig_bundle.specs.declared.material.VerificationMaterial.{VerificationMaterial}
-use Rattle.sig_bundle.specs.declared.version.Version.{Version}
+use Rattle.sig_checked_bundle.specs.declared.version.Version.{Version}
 use Rattle.sig_certificate.specs.Certificate.{Cert}
 use Rattle.sig_certificate.specs.Certificates.{AreCertificates}
 use Rattle.sig_certificate.specs.Profile.{leaf_refusal}

@@ -2,9 +2,9 @@
 -- entry of a bundle that passed its own checks need (RFC 5280; RFC 6962 sections 3.2 and 3.3; DSSE protocol).
 use Rattle.std.specs.Prelude.{◌≡◌, ℕ, ◌≤ℤ◌, Bool, true, List, [], ◌∷◌, Contains, Option, Some}
 use Rattle.sig_base.specs.declared.scheme.VerifyScheme.{VerifyScheme}
-use Rattle.sig_bundle.specs.Checked.{Checked}
-use Rattle.sig_bundle.specs.declared.content_check.CheckedContent.{CheckedContent}
-use Rattle.sig_bundle.specs.declared.content_check.CheckedContent.TheVariants.{MessageSignature, Dsse}
+use Rattle.sig_checked_bundle.specs.Checked.{Checked}
+use Rattle.sig_checked_bundle.specs.declared.content_check.CheckedContent.{CheckedContent}
+use Rattle.sig_checked_bundle.specs.declared.content_check.CheckedContent.TheVariants.{MessageSignature, Dsse}
 use Rattle.sig_certificate.specs.Certificate.{Cert}
 use Rattle.sig_dsse.specs.declared.artifact_digest.ArtifactDigest.{ArtifactDigest}
 use Rattle.sig_dsse.specs.declared.artifact_digest.ArtifactDigest.TheVariants.{Sha256, Sha512}

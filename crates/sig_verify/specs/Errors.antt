@@ -1,8 +1,8 @@
 -- The errors of the layers below, as this crate's. Out of memory stays out of memory.
 use Rattle.sig_base.specs.declared.fault.PoolError.{PoolError}
 use Rattle.sig_base.specs.declared.fault.PoolError.TheVariants as pool
-use Rattle.sig_bundle.specs.declared.bundle_error.BundleErrorKind.{BundleErrorKind}
-use Rattle.sig_bundle.specs.declared.bundle_error.BundleErrorKind.TheVariants as bundle
+use Rattle.sig_checked_bundle.specs.declared.bundle_error.BundleErrorKind.{BundleErrorKind}
+use Rattle.sig_checked_bundle.specs.declared.bundle_error.BundleErrorKind.TheVariants as bundle
 use Rattle.sig_policy.specs.declared.failure.PolicyError.{PolicyError}
 use Rattle.sig_policy.specs.declared.failure.PolicyError.TheVariants as policy
 use Rattle.sig_timestamp.specs.declared.sct_error.SCTError.{SCTError}

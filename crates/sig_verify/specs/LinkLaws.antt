@@ -4,11 +4,11 @@ use Rattle.std.specs.List.{AllByRecursion}
 use Rattle.sig_base.specs.ByteLists.{AreBytes}
 use Rattle.sig_base.specs.declared.error.SigstoreError.{SigstoreError}
 use Rattle.sig_base.specs.declared.error.SigstoreError.TheVariants.{OutOfMemory}
-use Rattle.sig_bundle.specs.Checked.{Checked, IsChecked}
-use Rattle.sig_bundle.specs.Passed.{IsPassed}
+use Rattle.sig_checked_bundle.specs.Checked.{Checked, IsChecked}
+use Rattle.sig_checked_bundle.specs.Passed.{IsPassed}
 use Rattle.sig_bundle.specs.Proof.{IsProof}
 use Rattle.sig_bundle.specs.declared.bundle.Bundle.{Bundle}
-use Rattle.sig_bundle.specs.declared.bundle_error.BundleErrorKind.{BundleErrorKind}
+use Rattle.sig_checked_bundle.specs.declared.bundle_error.BundleErrorKind.{BundleErrorKind}
 use Rattle.sig_bundle.specs.declared.material.TransparencyLogEntry.{TransparencyLogEntry}
 use Rattle.sig_dsse.specs.declared.artifact_digest.ArtifactDigest.{ArtifactDigest}
 use Rattle.sig_root.specs.declared.record.TrustedRoot.{TrustedRoot}

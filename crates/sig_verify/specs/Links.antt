@@ -3,9 +3,9 @@
 use Rattle.std.specs.Prelude.{◌≡◌, ◌≢◌, ℕ, ℤ, true, List, [], ◌∷◌, None, Ok}
 use Rattle.std.specs.List.{AllByRecursion}
 use Rattle.sig_bundle.specs.BundleRecord.{bundle_in}
-use Rattle.sig_bundle.specs.Checked.{Checked}
-use Rattle.sig_bundle.specs.Passed.{IsMet, IsPassed}
-use Rattle.sig_bundle.specs.SigningCertificate.{IsNoRoot}
+use Rattle.sig_checked_bundle.specs.Checked.{Checked}
+use Rattle.sig_checked_bundle.specs.Passed.{IsMet, IsPassed}
+use Rattle.sig_checked_bundle.specs.SigningCertificate.{IsNoRoot}
 use Rattle.sig_bundle.specs.declared.bundle.Bundle.{Bundle}
 use Rattle.sig_bundle.specs.declared.material.TransparencyLogEntry.{TransparencyLogEntry}
 use Rattle.sig_certificate.specs.Profile.{leaf_refusal}

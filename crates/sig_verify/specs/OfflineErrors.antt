@@ -3,8 +3,8 @@ use Rattle.std.specs.Prelude.{Option, Some, None}
 use Rattle.sig_base.specs.declared.error.SigstoreError.{SigstoreError}
 use Rattle.sig_base.specs.declared.error.SigstoreError.TheVariants as sigstore
 use Rattle.sig_base.specs.declared.fault.TrustPart.TheVariants as part
-use Rattle.sig_bundle.specs.declared.bundle_error.BundleErrorKind.{BundleErrorKind}
-use Rattle.sig_bundle.specs.declared.bundle_error.BundleErrorKind.TheVariants as bundle
+use Rattle.sig_checked_bundle.specs.declared.bundle_error.BundleErrorKind.{BundleErrorKind}
+use Rattle.sig_checked_bundle.specs.declared.bundle_error.BundleErrorKind.TheVariants as bundle
 use Rattle.sig_bundle.specs.declared.proof_error.ProofFieldsError.{ProofFieldsError}
 use Rattle.sig_bundle.specs.declared.proof_error.ProofFieldsError.TheVariants as fields
 use Rattle.sig_base.specs.declared.fault.PoolError.{PoolError}

@@ -3,9 +3,9 @@ use Rattle.std.specs.Prelude.{◌≡◌, ℕ, List, [], Some, unwrap_or, Ok, Err
 use Rattle.sig_base.specs.Answers.{UnlessMemory}
 use Rattle.sig_base.specs.ByteLists.{AreBytes}
 use Rattle.sig_bundle.specs.BundleRecord.{bundle_in}
-use Rattle.sig_bundle.specs.Checked.{Checked}
-use Rattle.sig_bundle.specs.OfBytes.{HasCertificateOfBytes}
-use Rattle.sig_bundle.specs.Passed.{IsPassed}
+use Rattle.sig_checked_bundle.specs.Checked.{Checked}
+use Rattle.sig_checked_bundle.specs.OfBytes.{HasCertificateOfBytes}
+use Rattle.sig_checked_bundle.specs.Passed.{IsPassed}
 use Rattle.sig_bundle.specs.declared.bundle.Bundle.{Bundle}
 use Rattle.sig_bundle.specs.declared.material.TransparencyLogEntry.{TransparencyLogEntry}
 use Rattle.sig_root.specs.RootRecord.{trusted_root_in}

@@ -1,8 +1,8 @@
 -- *Trust chain*, its ten items, and all else that the links ask.
 use Rattle.std.specs.Prelude.{◌≡◌, ◌≢◌, ◌↔◌, true, [], None}
 use Rattle.std.specs.List.{AllByRecursion}
-use Rattle.sig_bundle.specs.Passed.{IsMet}
-use Rattle.sig_bundle.specs.SigningCertificate.{IsNoRoot}
+use Rattle.sig_checked_bundle.specs.Passed.{IsMet}
+use Rattle.sig_checked_bundle.specs.SigningCertificate.{IsNoRoot}
 use Rattle.sig_certificate.specs.Profile.{leaf_refusal}
 use Rattle.sig_x509.specs.Issued.{HasProfile}
 use Rattle.sig_verify.specs.BundleLinks.{IsContentRead, OfCertificates, OfContent, OfEncodings, OfEntry, OfVersion}

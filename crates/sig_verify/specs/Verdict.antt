@@ -2,10 +2,10 @@
 -- the policy, behind it, and behind the log's body are each a result of their own.
 use Rattle.std.specs.Prelude.{◌≡◌, ◌⊎◌, Bool, true, false, Result, Ok, Err}
 use Rattle.sig_base.specs.declared.checker.SignatureChecker as signature_checker
-use Rattle.sig_bundle.specs.Checked.{Checked, IsChecked}
-use Rattle.sig_bundle.specs.LogBody.{IsLogBody, NeedsNoFetch}
+use Rattle.sig_checked_bundle.specs.Checked.{Checked, IsChecked}
+use Rattle.sig_checked_bundle.specs.LogBody.{IsLogBody, NeedsNoFetch}
 use Rattle.sig_bundle.specs.declared.bundle.Bundle.{Bundle as BundleType}
-use Rattle.sig_bundle.specs.declared.bundle_error.BundleErrorKind.{BundleErrorKind}
+use Rattle.sig_checked_bundle.specs.declared.bundle_error.BundleErrorKind.{BundleErrorKind}
 use Rattle.sig_certificate.specs.Certificate.{Cert}
 use Rattle.sig_dsse.specs.Digest.{digest_bytes}
 use Rattle.sig_dsse.specs.declared.artifact_digest.ArtifactDigest.{ArtifactDigest}

@@ -10,7 +10,8 @@ ghost use Rattle.sig_verify.specs.ContentCheck.{time_answer};
 
 use crate::error::{CertificateErrorKind, SignatureErrorKind, VerificationError};
 use sig_base::{SignatureChecker, SigstoreError};
-use sig_bundle::{ArtifactDigest, CheckedBundle, CheckedContent};
+use sig_bundle::ArtifactDigest;
+use sig_checked_bundle::{CheckedBundle, CheckedContent};
 use sig_key::CosignVerificationKey;
 use sig_x509::Certificate;
 use std::alloc::Global;

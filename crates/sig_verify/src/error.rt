@@ -5,7 +5,7 @@ ghost use Rattle.sig_verify.specs.declared.error.VerificationError.TheVariants.{
 
 use crate::artifact::InputFault;
 use sig_base::{OutOfMemory, PoolError};
-use sig_bundle::BundleErrorKind;
+use sig_checked_bundle::BundleErrorKind;
 use sig_x509::{PolicyError, SCTError};
 use thiserror::Error;
 

@@ -6,8 +6,9 @@ ghost use Rattle.sig_verify.specs.LinkLaws.{RootsAreJudged, VerdictsAreJudged};
 ghost use Rattle.sig_verify.specs.OfflineLaws.{OutcomesAreJudged};
 ghost use Rattle.sig_verify.specs.TrustChain.{AllLinksAreTheTrustChain};
 
-use sig_bundle::laws::{causes_of_refusals, passed_bundles, proof_faults, proofs};
+use sig_bundle::laws::{proof_faults, proofs};
 use sig_certificate::laws::certificates;
+use sig_checked_bundle::laws::{causes_of_refusals, passed_bundles};
 
 /// Every link holds if and only if the inputs are valid and the chain of trust holds.
 pub fn trust_chain()

@@ -10,7 +10,8 @@ use crate::link::Link;
 use sig_base::{
     CheckpointFault, MerkleProofError, OutOfMemory, PoolError, SigstoreError, Text, TrustPart,
 };
-use sig_bundle::{BundleErrorKind, ProofFieldsError};
+use sig_bundle::ProofFieldsError;
+use sig_checked_bundle::BundleErrorKind;
 use sig_json::{CanonicalError, JsonError};
 use sig_x509::PolicyError;
 use std::alloc::AllocError;

@@ -14,9 +14,10 @@ use crate::error::{SignatureErrorKind, VerificationError, VerificationResult};
 use crate::laws::bundles;
 use crate::verifier::Verifier;
 use sig_base::SignatureChecker;
-use sig_bundle::laws::{is_certificate_bytes, passed_bundles};
-use sig_bundle::{ArtifactDigest, Bundle, CheckedBundle};
+use sig_bundle::{ArtifactDigest, Bundle};
 use sig_certificate::laws::certificates;
+use sig_checked_bundle::CheckedBundle;
+use sig_checked_bundle::laws::{is_certificate_bytes, passed_bundles};
 use sig_x509::VerificationPolicy;
 use std::alloc::Global;
 

@@ -2,8 +2,8 @@
 //! is not the name of the variant, it follows in brackets.
 
 use sig_base::{CheckpointFault, MerkleProofError, Text, TrustPart};
-use sig_bundle::BundleErrorKind;
 use sig_cases::{Answer, Arguments};
+use sig_checked_bundle::BundleErrorKind;
 use sig_json::JsonError;
 use sig_questions::NoQuestions;
 use sig_verify::{

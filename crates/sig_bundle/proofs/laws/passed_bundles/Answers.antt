@@ -1,5 +1,0 @@
-use Rattle.sig_bundle.proofs.PassedLaws.{passed-iff}
-use Rattle.sig_bundle.proofs.laws.passed_bundles.Goals as goal
-
-pub returns : goal.returns
-returns c = passed-iff

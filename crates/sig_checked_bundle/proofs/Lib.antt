@@ -1,0 +1,14 @@
+pub mod Certificates
+mod Caused
+mod CheckedLaws
+pub mod ContentLaws
+pub mod Hashedrekords
+mod LeafLaws
+mod PassedLaws
+mod ProfileLaws
+mod RefusalCauses
+pub mod SigningCertificateLaws
+mod Told
+pub mod VersionLaws
+pub mod DsseBodies
+pub mod PayloadDigests

@@ -1,0 +1,12 @@
+pub mod Checked
+pub mod Content
+pub mod DsseBody
+pub mod Hashedrekord
+pub mod Borrowed
+pub mod LogBody
+pub mod Passed
+pub mod Refusals
+pub mod Profile
+pub mod SigningCertificate
+pub mod OfBytes
+pub mod Version

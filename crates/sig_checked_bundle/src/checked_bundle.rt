@@ -1,0 +1,165 @@
+//! `CheckedBundle`: a bundle that passed its own checks.
+
+ghost use Rattle.std.specs.Prelude.{◌≡◌, ◌↔◌, Some, Ok, IfOk, IfSome, IsSome};
+ghost use Rattle.sig_base.specs.Answers.{Answers};
+ghost use Rattle.sig_bundle.specs.AnswersOnly.{AnswersOnly};
+ghost use Rattle.sig_checked_bundle.specs.Checked.{Checked, checked, IsChecked, IsCheckedWith};
+ghost use Rattle.sig_checked_bundle.specs.LogBody.{IsLogBody, NeedsNoFetch};
+
+use crate::bundle_error::BundleErrorKind;
+use crate::content_check::{CheckedContent, checked_content};
+use crate::log_body::is_body_about;
+use crate::profile_check::{entry_among, meets_profile};
+use crate::signing_certificate::signing_certificate;
+use sig_base::{Bytes, OutOfMemory};
+use sig_bundle::{Bundle, TransparencyLogEntry, VerificationMaterial};
+use sig_certificate::Certificate;
+use std::alloc::Global;
+use std::marker::Model;
+
+/// A bundle of which all holds that a bundle alone can show. No signature is checked, and no digest compared.
+/// Contracts see the record of *Checked bundle*.
+#[derive(Drop)]
+pub struct CheckedBundle {
+    certificate: Certificate,
+    signature: Bytes,
+    content: CheckedContent,
+    entry: TransparencyLogEntry,
+}
+
+impl Model for CheckedBundle {
+    ghost use Rattle.sig_checked_bundle.specs.Checked.{Checked};
+
+    ghost Value = { Checked };
+
+    ghost view = { λ b. record {
+      certificate = b.certificate;
+      signature = b.signature;
+      content = b.content;
+      entry = b.entry;
+    } };
+}
+
+/// The checks behind the one for material.
+fn check(
+    alloc: Global,
+    input: &Bundle,
+    material: &VerificationMaterial,
+) -> Result<CheckedBundle, BundleErrorKind>
+    ensures { AnswersOnly BundleErrorKind.OutOfMemory (IsCheckedWith input.now (Some material.now)) result }
+{
+    let certificate = signing_certificate(alloc, &material.content)?;
+    check_behind_certificate(alloc, input, material, certificate)
+}
+
+/// The checks behind that of the signing certificate.
+fn check_behind_certificate(
+    alloc: Global,
+    input: &Bundle,
+    material: &VerificationMaterial,
+    certificate: Certificate,
+) -> Result<CheckedBundle, BundleErrorKind>
+    ensures { Answers BundleErrorKind.OutOfMemory (λ checked. checked) result
+        (checked input.now material.now (Ok certificate)) }
+{
+    let content = checked_content(alloc, &input.content)?;
+    let entry = entry_among(&material.tlog_entries)?;
+    meets_profile(alloc, &input.media_type, entry)?;
+    Ok(CheckedBundle {
+        certificate,
+        signature: content.signature,
+        content: content.content,
+        entry: entry.copy(alloc)?,
+    })
+}
+
+impl CheckedBundle {
+    /// Checks what a bundle alone can show, and keeps what the checks behind it need. Fails with the first of these
+    /// that has its cause:
+    ///
+    /// 1. `VerificationMaterialMissing`: there is no verification material.
+    /// 2. `VerificationMaterialContentUnsupported`: the material has no content, or a hint at a key.
+    /// 3. `CertificateMalformed` with the index of the first that is no certificate (RFC 5280 section 4.1); a
+    ///    certificate alone has index 0.
+    /// 4. `CertificatesMissing`: the chain is empty.
+    /// 5. `NoLeaf`: the first certificate may not sign, with the error of [`sig_certificate::is_leaf`].
+    /// 6. `RootInChain`: a later certificate of the chain is a root, as [`sig_certificate::is_root_ca`] says.
+    /// 7. `SignatureMissing`: there is no content.
+    /// 8. `DsseInvalidSignatureCount`: an envelope has not one signature.
+    /// 9. `DssePayloadDecode`: its payload is no statement.
+    /// 10. `DsseTooManySubjects` above 1024, `DsseTooManySubjectDigests` above 32, `DsseSubjectDigestMalformed`, and
+    ///     `DsseNoRecognizedSubjectDigest`, as [`sig_dsse::recognized_digests`].
+    /// 11. `TlogEntry`: there is not one log entry.
+    /// 12. `BundleProfile`: `Unknown` for a media type that names no version; under 0.1 `InclusionPromiseMissing`;
+    ///     under 0.2 and 0.3 `InclusionProofMissing`, then `CheckpointMissing`.
+    pub fn try_from_bundle(alloc: Global, input: &Bundle) -> Result<CheckedBundle, BundleErrorKind>
+        // What is returned is the result of the checks, of which there is one, unless memory ran out.
+        ensures { AnswersOnly BundleErrorKind.OutOfMemory (IsChecked input.now) result }
+    {
+        match &input.verification_material {
+            Some(material) => check(alloc, input, material),
+            None => Err(BundleErrorKind::VerificationMaterialMissing),
+        }
+    }
+
+    /// The signing certificate.
+    pub fn certificate(&self) -> &Certificate
+        ensures { result.now ≡ self.now.certificate }
+    {
+        &self.certificate
+    }
+
+    /// The signature.
+    pub fn signature(&self) -> &[u8]
+        ensures { result.now ≡ self.now.signature }
+    {
+        self.signature.as_slice()
+    }
+
+    /// What the signature is over.
+    pub fn content(&self) -> &CheckedContent
+        ensures { result.now ≡ self.now.content }
+    {
+        &self.content
+    }
+
+    /// The log entry.
+    pub fn entry(&self) -> &TransparencyLogEntry
+        ensures { result.now ≡ self.now.entry }
+    {
+        &self.entry
+    }
+
+    /// Returns the log entry if its body is about what the bundle holds, and nothing has to be fetched to check it:
+    /// with `offline`, or with an inclusion proof at hand. Returns `None` if and only if one of both does not hold.
+    /// Fails only if memory runs out.
+    ///
+    /// The body of an entry about a signature over an artifact is the document of kind `hashedrekord`, version 0.0.1
+    /// (Rekor), that has `input_digest`, the artifact's SHA-256, in lower-case hexadecimal, the signature, and the PEM
+    /// of the signing certificate (RFC 7468 section 5.1), and no other member. The body of an envelope's entry is one
+    /// of kind `dsse`, version 0.0.1: its hashes are the SHA-256 of the envelope's text and of the payload, its first
+    /// signature is the envelope's, and the verifier of that is that PEM; `input_digest` is not looked at.
+    pub fn tlog_entry(
+        &self,
+        alloc: Global,
+        offline: bool,
+        input_digest: &[u8],
+    ) -> Result<Option<&TransparencyLogEntry>, OutOfMemory>
+        ensures entry { IfOk result (λ found. IfSome found (λ entry. entry.now ≡ self.now.entry)) }
+        ensures exact { IfOk result (λ found. IsSome found
+            ↔ (IsLogBody self.now input_digest.now × NeedsNoFetch offline self.now.entry)) }
+    {
+        if !offline && self.entry.inclusion_proof.is_none() {
+            return Ok(None);
+        }
+        let is_about = is_body_about(
+            alloc,
+            &self.content,
+            input_digest,
+            self.signature.as_slice(),
+            self.certificate.der(),
+            self.entry.canonicalized_body.as_slice(),
+        )?;
+        Ok(if is_about { Some(&self.entry) } else { None })
+    }
+}
