@@ -49,21 +49,24 @@ fn write_value(alloc: Global, value: &Tree<'_>, out: &mut String) -> Result<(), 
     ensures { WritesPart (string_bytes out.old) result (string_bytes out.new) (canon (view value.now)) }
 {
     match value {
-        Tree::Null => Ok(write_text(out, "null")?),
-        Tree::Bool(true) => Ok(write_text(out, "true")?),
-        Tree::Bool(false) => Ok(write_text(out, "false")?),
+        Tree::Null => write_text(out, "null"),
+        Tree::Bool(true) => write_text(out, "true"),
+        Tree::Bool(false) => write_text(out, "false"),
         Tree::Number(number) => write_number(alloc, number, out),
-        Tree::Text(text) => Ok(write_quoted(alloc, text.as_str(), out)?),
+        Tree::Text(text) => write_quoted(alloc, text.as_str(), out),
         Tree::Array(items) => write_list(alloc, items, out),
         Tree::Object(members) => write_object(alloc, members, out),
     }
 }
 
-fn write_text(out: &mut String, text: &str) -> Result<(), OutOfMemory>
-    ensures { OnOk result (string_bytes out.new ≡ string_bytes out.old ++ text.now) }
+fn write_text(out: &mut String, text: &str) -> Result<(), CanonicalError>
+    ensures written { OnOk result (string_bytes out.new ≡ string_bytes out.old ++ text.now) }
+    ensures memory { IfErr result (λ e. e ≡ CanonicalError.OutOfMemory) }
 {
-    out.push_str(text)?;
-    Ok(())
+    match out.push_str(text) {
+        Ok(()) => Ok(()),
+        Err(_) => Err(CanonicalError::OutOfMemory),
+    }
 }
 
 #[tactic(auto, unfolding(crate::specs::Canonical::canon_integer))]
@@ -77,18 +80,22 @@ fn write_number(alloc: Global, number: &Number, out: &mut String) -> Result<(), 
     if integer.unsigned_abs() > GREATEST_INTEGER {
         return Err(CanonicalError::IntegerTooLarge);
     }
-    Ok(write_integer(alloc, integer, out)?)
+    write_integer(alloc, integer, out)
 }
 
-fn write_integer(alloc: Global, integer: i128, out: &mut String) -> Result<(), OutOfMemory>
-    ensures { OnOk result (string_bytes out.new ≡ string_bytes out.old ++ signed_decimal integer) }
+fn write_integer(alloc: Global, integer: i128, out: &mut String) -> Result<(), CanonicalError>
+    ensures written { OnOk result (string_bytes out.new ≡ string_bytes out.old ++ signed_decimal integer) }
+    ensures memory { IfErr result (λ e. e ≡ CanonicalError.OutOfMemory) }
 {
-    let digits = format!(in alloc; "{integer}")?;
+    let Ok(digits) = format!(in alloc; "{integer}") else {
+        return Err(CanonicalError::OutOfMemory);
+    };
     write_text(out, digits.as_str())
 }
 
-fn write_quoted(alloc: Global, text: &str, out: &mut String) -> Result<(), OutOfMemory>
-    ensures { OnOk result (string_bytes out.new ≡ string_bytes out.old ++ canon_string text.now) }
+fn write_quoted(alloc: Global, text: &str, out: &mut String) -> Result<(), CanonicalError>
+    ensures written { OnOk result (string_bytes out.new ≡ string_bytes out.old ++ canon_string text.now) }
+    ensures memory { IfErr result (λ e. e ≡ CanonicalError.OutOfMemory) }
 {
     let quoted = quoted_text(alloc, text)?;
     write_text(out, quoted.as_str())
@@ -104,8 +111,9 @@ fn quoted_text(alloc: Global, text: &str) -> Result<String, OutOfMemory>
 }
 
 /// The comma before a part of a list or an object, none before the first.
-fn write_comma(out: &mut String, place: usize) -> Result<(), OutOfMemory>
-    ensures { OnOk result (string_bytes out.new ≡ string_bytes out.old ++ comma_before place) }
+fn write_comma(out: &mut String, place: usize) -> Result<(), CanonicalError>
+    ensures written { OnOk result (string_bytes out.new ≡ string_bytes out.old ++ comma_before place) }
+    ensures memory { IfErr result (λ e. e ≡ CanonicalError.OutOfMemory) }
 {
     if place == 0 {
         return Ok(());
@@ -125,7 +133,7 @@ fn write_list(alloc: Global, items: &Vec<Tree<'_>>, out: &mut String) -> Result<
         write_comma(out, place)?;
         write_value(alloc, item, out)?;
     }
-    Ok(write_text(out, "]")?)
+    write_text(out, "]")
 }
 
 #[cycle(canon)]
@@ -160,7 +168,7 @@ fn write_members(
         write_comma(out, place)?;
         write_member(alloc, member, out)?;
     }
-    Ok(write_text(out, "}")?)
+    write_text(out, "}")
 }
 
 #[cycle(canon)]

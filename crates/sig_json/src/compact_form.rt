@@ -17,7 +17,7 @@ use crate::view::Json;
 use json::Writer;
 use serde_json::Number;
 use sig_base::{OutOfMemory, Text};
-use std::alloc::Global;
+use std::alloc::{AllocError, Global};
 
 /// The text of a value without white space, members in the byte order of their names. Where lists and objects nest to
 /// at most 127 it is read as a document of the same tree. Fails only if memory runs out.
@@ -39,23 +39,23 @@ pub fn compact(alloc: Global, json: Json<'_, '_>) -> Result<Text, OutOfMemory>
 /// Writes a value as the tokens of its text.
 #[cycle(write)]
 #[tactic(auto, using(crate::proofs::CompactTexts::values))]
-fn write_value(value: &Tree<'_>, out: &mut Writer) -> Result<(), OutOfMemory>
+fn write_value(value: &Tree<'_>, out: &mut Writer) -> Result<(), AllocError>
     requires { has_float (view value.now) ≡ false }
     ensures tokens { OnOk result (out.new.tokens ≡ out.old.tokens ++ json_tokens (outline (view value.now))) }
     ensures before { OnOk result (out.new.before ≡ out.old.before) }
     ensures range { OnOk result (InRange (view value.now)) }
 {
     match value {
-        Tree::Null => Ok(out.null()?),
-        Tree::Bool(truth) => Ok(out.boolean(*truth)?),
+        Tree::Null => out.null(),
+        Tree::Bool(truth) => out.boolean(*truth),
         Tree::Number(number) => write_number(number, out),
-        Tree::Text(text) => Ok(out.string(text.as_str())?),
+        Tree::Text(text) => out.string(text.as_str()),
         Tree::Array(items) => write_items(items, out),
         Tree::Object(members) => write_members(members, out),
     }
 }
 
-fn write_number(number: &Number, out: &mut Writer) -> Result<(), OutOfMemory>
+fn write_number(number: &Number, out: &mut Writer) -> Result<(), AllocError>
     requires { is_float (number_view number.now) ≡ false }
     ensures tokens { OnOk result (out.new.tokens
         ≡ out.old.tokens ++ json_tokens (outline (numeral (number_view number.now)))) }
@@ -63,18 +63,18 @@ fn write_number(number: &Number, out: &mut Writer) -> Result<(), OutOfMemory>
     ensures range { OnOk result (InRange (numeral (number_view number.now))) }
 {
     if let Some(natural) = number.as_u64() {
-        return Ok(out.u64(natural)?);
+        return out.u64(natural);
     }
     // A number that is no float is an integer.
     match number.as_i64() {
-        Some(integer) => Ok(out.i64(integer)?),
+        Some(integer) => out.i64(integer),
         None => Ok(()),
     }
 }
 
 #[cycle(write)]
 #[tactic(auto, using(crate::proofs::CompactTexts::lists))]
-fn write_items(items: &Vec<Tree<'_>>, out: &mut Writer) -> Result<(), OutOfMemory>
+fn write_items(items: &Vec<Tree<'_>>, out: &mut Writer) -> Result<(), AllocError>
     requires { items_have_float (items_view items.now.items) ≡ false }
     ensures tokens { OnOk result (out.new.tokens
         ≡ out.old.tokens ++ json_tokens (outline (array (items_view items.now.items)))) }
@@ -85,12 +85,12 @@ fn write_items(items: &Vec<Tree<'_>>, out: &mut Writer) -> Result<(), OutOfMemor
     'items: for item in items {
         write_value(item, out)?;
     }
-    Ok(out.end_array()?)
+    out.end_array()
 }
 
 #[cycle(write)]
 #[tactic(auto, using(crate::proofs::CompactTexts::objects))]
-fn write_members(members: &Vec<Entry<'_>>, out: &mut Writer) -> Result<(), OutOfMemory>
+fn write_members(members: &Vec<Entry<'_>>, out: &mut Writer) -> Result<(), AllocError>
     requires { members_have_float (members_view members.now.items) ≡ false }
     ensures tokens { OnOk result (out.new.tokens
         ≡ out.old.tokens ++ json_tokens (outline (object (members_view members.now.items)))) }
@@ -102,5 +102,5 @@ fn write_members(members: &Vec<Entry<'_>>, out: &mut Writer) -> Result<(), OutOf
         out.key(member.0.as_str())?;
         write_value(&member.1, out)?;
     }
-    Ok(out.end_object()?)
+    out.end_object()
 }
