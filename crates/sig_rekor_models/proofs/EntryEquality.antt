@@ -4,13 +4,12 @@ use Rattle.std.proofs.Common.{◌≡◌, Bool, refl, ap}
 use Rattle.std.proofs.lemmas.Bool.Decides.{Decides-and, Decides-int_eq}
 use Rattle.std.specs.Bool.{Decides}
 use Rattle.sig_base.proofs.Decisions.{decides_bytes, decides_result, decides_same}
-use Rattle.sig_json.specs.SameTree.{same_tree}
 use Rattle.sig_json.specs.SameTreeProofs.{same_tree_exact}
 use Rattle.sig_json.specs.Tree.{document_tree}
-use Rattle.sig_json.specs.declared.document.Document.{Document}
 use Rattle.sig_rekor.proofs.Equality.{api_proof_eq-tells}
 use Rattle.sig_base.proofs.PartEquality.{decides_option}
-use Rattle.sig_rekor_models.specs.Body.{Body, Content, seen_body, seen_body_content}
+use Rattle.sig_rekor_models.proofs.KindEquality.{apart}
+use Rattle.sig_rekor_models.specs.Body.{Body, Content, kind_of, seen_body, seen_body_content}
 use Rattle.sig_rekor_models.specs.LogEntry.{seen_entry}
 use Rattle.sig_rekor_models.specs.contracts.body.BodyContentPartialEq.TheImpl as content_eq
 use Rattle.sig_rekor_models.specs.contracts.body.BodyPartialEq.TheImpl as body_eq
@@ -78,7 +77,7 @@ body_eq-tells (rekord x) (rekord y) = same_kind kinds.Rekord x y
 body_eq-tells (rfc3161 x) (rfc3161 y) = same_kind kinds.Rfc3161 x y
 body_eq-tells (rpm x) (rpm y) = same_kind kinds.Rpm x y
 body_eq-tells (tuf x) (tuf y) = same_kind kinds.Tuf x y
-body_eq-tells a b = (λ e. absurd cc, λ e. absurd (let kind = ap (λ (body : Body). body.kind) e in cc))
+body_eq-tells a b = apart (kind_of a) (kind_of b) _ refl refl (λ e. ap (λ (body : Body). body.kind) e)
 
 pub content_law : (a b : BodyContent) (r : Bool) → r ≡ (content_eq.ghosts).eq a b
     → Decides r (seen_body_content a ≡ seen_body_content b)

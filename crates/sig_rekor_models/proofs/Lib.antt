@@ -1,4 +1,5 @@
 mod VouchedEntries
 mod Equality
+mod KindEquality
 mod EntryEquality
 mod ProposedEquality

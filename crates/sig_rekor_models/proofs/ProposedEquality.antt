@@ -11,10 +11,10 @@ use Rattle.sig_json.specs.SameTree.{same_tree}
 use Rattle.sig_json.specs.Tree.{document_tree}
 use Rattle.sig_json.specs.declared.document.Document.{Document}
 use Rattle.sig_json.specs.SameTreeProofs.{same_tree_exact}
+use Rattle.sig_rekor_models.proofs.KindEquality.{apart, kind_law}
 use Rattle.sig_rekor_models.specs.Body.{Body}
 use Rattle.sig_rekor_models.specs.HashedrekordTree.{algorithm_name, hash_json, data_json, signature_json, spec_json}
 use Rattle.sig_rekor_models.specs.ProposedTree.{seen_proposed}
-use Rattle.sig_rekor_models.specs.contracts.entry_kind.EntryKindPartialEq.TheImpl as kind_eq
 use Rattle.sig_rekor_models.specs.contracts.hashedrekord.AlgorithmKindPartialEq.TheImpl as algorithm_eq
 use Rattle.sig_rekor_models.specs.contracts.hashedrekord.DataPartialEq.TheImpl as data_eq
 use Rattle.sig_rekor_models.specs.contracts.hashedrekord.HashPartialEq.TheImpl as hash_eq
@@ -35,23 +35,6 @@ use Rattle.sig_rekor_models.specs.declared.hashedrekord.Spec.{Spec}
 use Rattle.sig_rekor_models.specs.declared.proposed_entry.ProposedEntry.{ProposedEntry}
 use Rattle.sig_rekor_models.specs.declared.proposed_entry.ProposedEntry.TheVariants as entries
 use Rattle.sig_rekor_models.specs.declared.public_key.PublicKey.{PublicKey}
-
--- ---- kinds
-
-kind_eq-tells : (a b : EntryKind) → Decides ((kind_eq.ghosts).eq a b) (a ≡ b)
-kind_eq-tells kinds.Alpine kinds.Alpine = (λ e. refl, λ e. refl)
-kind_eq-tells kinds.Hashedrekord kinds.Hashedrekord = (λ e. refl, λ e. refl)
-kind_eq-tells kinds.Helm kinds.Helm = (λ e. refl, λ e. refl)
-kind_eq-tells kinds.Intoto kinds.Intoto = (λ e. refl, λ e. refl)
-kind_eq-tells kinds.Jar kinds.Jar = (λ e. refl, λ e. refl)
-kind_eq-tells kinds.Rekord kinds.Rekord = (λ e. refl, λ e. refl)
-kind_eq-tells kinds.Rfc3161 kinds.Rfc3161 = (λ e. refl, λ e. refl)
-kind_eq-tells kinds.Rpm kinds.Rpm = (λ e. refl, λ e. refl)
-kind_eq-tells kinds.Tuf kinds.Tuf = (λ e. refl, λ e. refl)
-kind_eq-tells a b = (λ e. absurd cc, λ e. absurd cc)
-
-pub kind_law : (a b : EntryKind) (r : Bool) → r ≡ (kind_eq.ghosts).eq a b → Decides r (a ≡ b)
-kind_law a b r is = decides_result r _ is (kind_eq-tells a b)
 
 -- ---- what an entry of kind `hashedrekord` says
 
@@ -190,7 +173,8 @@ proposed_eq-tells (entries.Rekord v x) (entries.Rekord w y) = of_kind-tells kind
 proposed_eq-tells (entries.Rfc3161 v x) (entries.Rfc3161 w y) = of_kind-tells kinds.Rfc3161 v w x y
 proposed_eq-tells (entries.Rpm v x) (entries.Rpm w y) = of_kind-tells kinds.Rpm v w x y
 proposed_eq-tells (entries.Tuf v x) (entries.Tuf w y) = of_kind-tells kinds.Tuf v w x y
-proposed_eq-tells a b = (λ e. absurd cc, λ e. absurd (let kind = ap (λ (body : Body). body.kind) e in cc))
+proposed_eq-tells a b =
+    apart (seen_proposed a).kind (seen_proposed b).kind _ refl refl (λ e. ap (λ (body : Body). body.kind) e)
 
 pub proposed_law : (a b : ProposedEntry) (r : Bool) → r ≡ (proposed_eq.ghosts).eq a b
     → Decides r (seen_proposed a ≡ seen_proposed b)

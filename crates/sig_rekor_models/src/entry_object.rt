@@ -1,6 +1,6 @@
 //! Objects of JSON that are written: one or two members, and an entry's kind, version and spec.
 ghost use Rattle.std.specs.Prelude.{◌≡◌, IfOk};
-ghost use Rattle.sig_json.specs.Data.{object, no_members, put};
+ghost use Rattle.sig_json.specs.Data.{object, string, no_members, put};
 ghost use Rattle.sig_json.specs.Tree.{document_tree};
 ghost use Rattle.sig_rekor_models.specs.EntryTree.{entry_json};
 
@@ -38,6 +38,30 @@ pub(crate) fn object_of_two(
     Ok(object)
 }
 
+/// The object of this member, a text.
+pub(crate) fn object_of_text(alloc: Global, name: &str, text: &str) -> Result<Document, OutOfMemory>
+    ensures { IfOk result (λ made. document_tree made
+        ≡ object (put name.now (string text.now) no_members)) }
+{
+    object_of_one(alloc, name, Document::of_text(alloc, text)?)
+}
+
+/// The object of these two members, which are texts.
+pub(crate) fn object_of_texts(
+    alloc: Global,
+    first: &str,
+    one: &str,
+    second: &str,
+    two: &str,
+) -> Result<Document, OutOfMemory>
+    ensures { IfOk result (λ made. document_tree made
+        ≡ object (put second.now (string two.now) (put first.now (string one.now) no_members))) }
+{
+    let one = Document::of_text(alloc, one)?;
+    let two = Document::of_text(alloc, two)?;
+    object_of_two(alloc, first, one, second, two)
+}
+
 /// The object of an entry of this kind, version and spec.
 #[tactic(auto, unfolding(crate::specs::EntryTree::entry_json))]
 pub(crate) fn entry_object(
@@ -49,9 +73,7 @@ pub(crate) fn entry_object(
     ensures { IfOk result (λ made. document_tree made
         ≡ entry_json kind.now api_version.now (document_tree spec)) }
 {
-    let kind = Document::of_text(alloc, kind)?;
-    let api_version = Document::of_text(alloc, api_version)?;
-    let mut object = object_of_two(alloc, "apiVersion", api_version, "kind", kind)?;
+    let mut object = object_of_texts(alloc, "apiVersion", api_version, "kind", kind)?;
     object.insert(alloc, "spec", spec)?;
     Ok(object)
 }

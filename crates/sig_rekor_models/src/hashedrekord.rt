@@ -5,7 +5,9 @@
 //!   "data":{"hash":{"algorithm":"sha256","value":"47c1db9fb5fe7ff66e3d7c15b2ca5d3a046ee8f4aa043dedd317e46b321c4390"}},
 //!   "signature":{"content":"MEYCIQDT..","publicKey":{"content":"LS0tLS1CRUdJTi.."}}}}
 //! ```
-use crate::entry_object::{entry_object, object_of_one, object_of_two};
+use crate::entry_object::{
+    entry_object, object_of_one, object_of_text, object_of_texts, object_of_two,
+};
 use crate::public_key::PublicKey;
 use sig_base::{OutOfMemory, Result, Text};
 use sig_json::Document;
@@ -141,8 +143,7 @@ impl Signature {
         ensures { IfOk result (λ document. document_tree document ≡ signature_json self.now) }
     {
         let content = Document::of_text(alloc, self.content.as_str())?;
-        let key = Document::of_text(alloc, self.public_key.content())?;
-        let public_key = object_of_one(alloc, "content", key)?;
+        let public_key = object_of_text(alloc, "content", self.public_key.content())?;
         object_of_two(alloc, "content", content, "publicKey", public_key)
     }
 }
@@ -164,8 +165,7 @@ impl Data {
     fn json(&self, alloc: Global) -> std::result::Result<Document, OutOfMemory>
         ensures { IfOk result (λ document. document_tree document ≡ data_json self.now) }
     {
-        let hash = self.hash.json(alloc)?;
-        object_of_one(alloc, "hash", hash)
+        object_of_one(alloc, "hash", self.hash.json(alloc)?)
     }
 }
 
@@ -186,9 +186,13 @@ impl Hash {
     fn json(&self, alloc: Global) -> std::result::Result<Document, OutOfMemory>
         ensures { IfOk result (λ document. document_tree document ≡ hash_json self.now) }
     {
-        let algorithm = Document::of_text(alloc, self.algorithm.name())?;
-        let value = Document::of_text(alloc, self.value.as_str())?;
-        object_of_two(alloc, "algorithm", algorithm, "value", value)
+        object_of_texts(
+            alloc,
+            "algorithm",
+            self.algorithm.name(),
+            "value",
+            self.value.as_str(),
+        )
     }
 }
 

@@ -51,8 +51,12 @@ impl LogEntry {
             (entry_answer (key_accepts (C.spki_accepts checker.now) rekor_key.now) (seen_entry self.now)) }
     {
         let proof = self.proof(alloc)?;
-        let leaf = canonical_body(alloc, &self.body)?;
-        proof.verify(alloc, leaf.as_str().as_bytes(), rekor_key, checker)
+        let answer = match canonical_body(alloc, &self.body) {
+            Ok(leaf) => proof.verify(alloc, leaf.as_str().as_bytes(), rekor_key, checker),
+            Err(error) => Err(error),
+        };
+        drop(proof);
+        answer
     }
 
     /// The proof that the entry carries.
