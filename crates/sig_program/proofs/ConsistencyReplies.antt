@@ -2,13 +2,13 @@
 use Rattle.std.proofs.Common.{◌≡◌, ℕ, List, Some, None, ap, refl, sym, subst}
 use Rattle.sig_verify.specs.declared.link.Link.{Link}
 use Rattle.sig_program.proofs.Replies.{every-of_text, every-reply, first-of_text, first-reply}
-use Rattle.sig_program.proofs.RequestTexts.{one_request}
+use Rattle.sig_request.proofs.RequestTexts.{one_request}
 use Rattle.sig_program.specs.ConsistencyLink.{consistency_links, HoldsOfConsistency, IsConsistencyVerdict}
-use Rattle.sig_program.specs.ConsistencyRequest.{consistency_request}
-use Rattle.sig_program.specs.ReadFrom.{IsRequestOf}
+use Rattle.sig_request.specs.ConsistencyRequest.{consistency_request}
+use Rattle.sig_request.specs.ReadFrom.{IsRequestOf}
 use Rattle.sig_program.specs.Reply.{IsReply, refusal_reply, consistent}
 use Rattle.sig_program.specs.declared.command.Command.TheVariants.{Consistency}
-use Rattle.sig_program.specs.declared.consistency_request.ConsistencyRequest.{ConsistencyRequest}
+use Rattle.sig_request.specs.declared.consistency_request.ConsistencyRequest.{ConsistencyRequest}
 use Rattle.sig_program.specs.declared.reply.Reply.{Reply}
 
 pub consistent-reply : (text : List ℕ) (request : ConsistencyRequest) (reply : Reply)

@@ -5,7 +5,7 @@ use Rattle.sig_verify.specs.declared.link.Link.TheVariants.{Consistency}
 use Rattle.sig_program.proofs.Verdicts.{head-fails, last-fails, all-hold}
 use Rattle.sig_program.specs.ConsistencyLink.{HoldsOfConsistency, IsConsistencyVerdict, IsGrown}
 use Rattle.sig_program.specs.Head.{IsHeadVerdict}
-use Rattle.sig_program.specs.declared.consistency_request.ConsistencyRequest.{ConsistencyRequest}
+use Rattle.sig_request.specs.declared.consistency_request.ConsistencyRequest.{ConsistencyRequest}
 
 -- the verdict on the tree head of the tree of now
 abbrev pub ConsistencyHeadVerdict : ConsistencyRequest → Option Link → Type 0

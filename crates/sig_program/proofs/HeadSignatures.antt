@@ -14,7 +14,7 @@ use Rattle.sig_key.specs.Key.{key_scheme, key_info, key_accepts}
 use Rattle.sig_rekor.specs.declared.checkpoint.SignedCheckpoint.{SignedCheckpoint}
 use Rattle.sig_rekor.specs.NoteText.{note_text}
 use Rattle.sig_rekor.specs.Verify.{has_accepted_signature, signed_answer}
-use Rattle.sig_program.specs.declared.head.ClaimedHead.{ClaimedHead}
+use Rattle.sig_request.specs.declared.head_members.ClaimedHead.{ClaimedHead}
 use Rattle.sig_program.specs.Head.{HasAcceptedSignature}
 
 -- what holds of some element, where it follows of each

@@ -9,7 +9,7 @@ use Rattle.sig_rekor.specs.declared.fault.ParseCheckpointError.TheVariants.{Deco
 use Rattle.sig_rekor.specs.CheckpointText.{IsCheckpoint}
 use Rattle.sig_verify.specs.declared.link.Link.{Link}
 use Rattle.sig_verify.specs.declared.link.Link.TheVariants.{Checkpoint, NoteKey, NoteMatch}
-use Rattle.sig_program.specs.declared.head.ClaimedHead.{ClaimedHead}
+use Rattle.sig_request.specs.declared.head_members.ClaimedHead.{ClaimedHead}
 use Rattle.sig_program.specs.Head.{IsHeadVerdict, IsHeadVerdictUnder, OfHeadCheckpoint, HasAcceptedSignature, IsMatched}
 
 -- the text has no reading

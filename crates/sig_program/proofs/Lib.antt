@@ -1,6 +1,5 @@
 pub mod ConsistencyReplies
 pub mod ConsistencyVerdicts
-pub mod DigestTexts
 pub mod HeadSignatures
 pub mod HeadVerdicts
 pub mod Included
@@ -9,9 +8,7 @@ pub mod LogReplies
 pub mod LogVerdicts
 pub mod Logged
 pub mod NoteRows
-pub mod Reading
 pub mod Replies
-pub mod RequestTexts
 pub mod RowSizes
 pub mod RowsTexts
 pub mod Runs

@@ -12,18 +12,18 @@ use Rattle.sig_rekor.specs.declared.checkpoint.SignedCheckpoint.{SignedCheckpoin
 use Rattle.sig_verify.specs.declared.link.Link.TheVariants.{Request, Checkpoint}
 use Rattle.sig_program.proofs.HeadVerdicts.{no_fault}
 use Rattle.sig_program.proofs.Replies.{every-of_text, every-reply, first-of_text, first-reply, replied}
-use Rattle.sig_program.proofs.RequestTexts.{one_request}
-use Rattle.sig_program.specs.Limit.{most_bytes}
+use Rattle.sig_request.proofs.RequestTexts.{one_request}
+use Rattle.sig_request.specs.Limit.{most_bytes}
 use Rattle.sig_program.specs.LogQuestions.{HoldsOfLogQuestions, IsCheckpointOf, LogQuestionsFit, log_question_links}
 use Rattle.sig_program.specs.LogQuestions.{head_rows}
 use Rattle.sig_program.specs.Reply.{IsListingOf, IsLogQuestionsReply, IsReply, refusal_reply}
-use Rattle.sig_program.specs.Request.{log_request}
+use Rattle.sig_request.specs.Request.{log_request}
 use Rattle.sig_program.specs.RowsText.{rows_text}
 use Rattle.sig_program.specs.declared.command.Command.TheVariants.{LogQuestions}
-use Rattle.sig_program.specs.declared.head.ClaimedHead.{ClaimedHead}
+use Rattle.sig_request.specs.declared.head_members.ClaimedHead.{ClaimedHead}
 use Rattle.sig_program.specs.declared.reply.Reply.{Reply}
-use Rattle.sig_program.specs.declared.request.LogRequest.{LogRequest}
-use Rattle.sig_program.specs.ReadFrom.{IsReadFrom, IsRequestOf}
+use Rattle.sig_request.specs.declared.request.LogRequest.{LogRequest}
+use Rattle.sig_request.specs.ReadFrom.{IsReadFrom, IsRequestOf}
 
 -- ---- what the reader of checkpoints says
 

@@ -2,14 +2,14 @@
 use Rattle.std.proofs.Common.{ℕ, List, Some, None, ap, subst}
 use Rattle.sig_verify.specs.declared.link.Link.{Link}
 use Rattle.sig_program.proofs.Replies.{every-of_text, every-reply, first-of_text, first-reply}
-use Rattle.sig_program.proofs.RequestTexts.{one_request}
+use Rattle.sig_request.proofs.RequestTexts.{one_request}
 use Rattle.sig_program.specs.Link.{log_links, HoldsOfLog, IsLogVerdict}
-use Rattle.sig_program.specs.ReadFrom.{IsRequestOf}
+use Rattle.sig_request.specs.ReadFrom.{IsRequestOf}
 use Rattle.sig_program.specs.Reply.{IsLoggedReply, IsReply, refusal_reply}
-use Rattle.sig_program.specs.Request.{log_request}
+use Rattle.sig_request.specs.Request.{log_request}
 use Rattle.sig_program.specs.declared.command.Command.TheVariants.{Log}
 use Rattle.sig_program.specs.declared.reply.Reply.{Reply}
-use Rattle.sig_program.specs.declared.request.LogRequest.{LogRequest}
+use Rattle.sig_request.specs.declared.request.LogRequest.{LogRequest}
 
 pub logged-reply : (text : List ℕ) (request : LogRequest) (reply : Reply) → IsRequestOf log_request text request
     → IsLogVerdict request None → IsLoggedReply request reply → IsReply Log text reply

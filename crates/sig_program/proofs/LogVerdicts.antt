@@ -5,7 +5,7 @@ use Rattle.sig_verify.specs.declared.link.Link.TheVariants.{Inclusion}
 use Rattle.sig_program.proofs.Verdicts.{head-fails, last-fails, all-hold}
 use Rattle.sig_program.specs.Head.{IsHeadVerdict}
 use Rattle.sig_program.specs.Link.{HoldsOfLog, IsLogged, IsLogVerdict}
-use Rattle.sig_program.specs.declared.request.LogRequest.{LogRequest}
+use Rattle.sig_request.specs.declared.request.LogRequest.{LogRequest}
 
 -- the verdict on the tree head of the proof's tree
 abbrev pub LogHeadVerdict : LogRequest → Option Link → Type 0

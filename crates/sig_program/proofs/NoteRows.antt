@@ -6,7 +6,7 @@ use Rattle.sig_rekor.specs.declared.checkpoint.CheckpointSignature.{CheckpointSi
 use Rattle.sig_rekor.specs.declared.checkpoint.SignedCheckpoint.{SignedCheckpoint}
 use Rattle.sig_program.specs.Head.{head_row}
 use Rattle.sig_program.specs.LogQuestions.{head_rows}
-use Rattle.sig_program.specs.declared.head.ClaimedHead.{ClaimedHead}
+use Rattle.sig_request.specs.declared.head_members.ClaimedHead.{ClaimedHead}
 
 -- there is a row for each signature
 pub rows-length : (head : ClaimedHead) (checkpoint : SignedCheckpoint) (items : List CheckpointSignature)

@@ -9,9 +9,9 @@ use Rattle.sig_base.specs.Rules.{FailsFirst}
 use Rattle.sig_json.specs.Data.{Data}
 use Rattle.sig_verify.specs.declared.link.Link.{Link}
 use Rattle.sig_verify.specs.declared.link.Link.TheVariants.{Request}
-use Rattle.sig_program.specs.Limit.{most_bytes}
+use Rattle.sig_request.specs.Limit.{most_bytes}
 use Rattle.sig_program.specs.Link.{links, Holds, EveryLinkHolds, IsFirstFailing}
-use Rattle.sig_program.specs.ReadFrom.{IsReadFrom, IsRequestOf}
+use Rattle.sig_request.specs.ReadFrom.{IsReadFrom, IsRequestOf}
 use Rattle.sig_program.specs.Reply.{IsReply, Succeeds, refusal_reply, status_of}
 use Rattle.sig_program.specs.declared.command.Command.{Command}
 use Rattle.sig_program.specs.declared.command.Command.TheVariants.{Log}

@@ -19,8 +19,8 @@ use Rattle.sig_json.specs.Kinds.{bytes_of, text_of}
 use Rattle.sig_json.specs.Member.{list_each, member_of, required, optional, optional_or}
 use Rattle.sig_json.specs.Read.{max_depth}
 use Rattle.sig_json.specs.Written.{compact_text, items_text}
-use Rattle.sig_program.specs.Limit.{most_bytes}
-use Rattle.sig_program.specs.Row.{no_kind, operation_kind, row_of, scheme_for, scheme_kind}
+use Rattle.sig_request.specs.Limit.{most_bytes}
+use Rattle.sig_request.specs.Row.{no_kind, operation_kind, row_of, scheme_for, scheme_kind}
 use Rattle.sig_program.specs.RowsText.{AddsRow, IsDocumentOf, IsRowReadBack, IsSchemeRead, row_tree, rows_size}
 use Rattle.sig_program.specs.RowsText.{rows_text}
 use Rattle.sig_program.specs.RowsText.{operation_word, rows_tree, scheme_tree, with_some}

@@ -12,7 +12,7 @@ use Rattle.sig_program.specs.declared.command.Command.{Command}
 use Rattle.sig_program.specs.declared.command.Command.TheVariants.{Log, Verify, Consistency, LogQuestions}
 use Rattle.sig_program.specs.declared.command.Command.TheVariants.{VerifyQuestions}
 use Rattle.sig_program.specs.Command.{words_of, Names, IsCommand}
-use Rattle.sig_program.specs.Limit.{TakesUpTo}
+use Rattle.sig_request.specs.Limit.{TakesUpTo}
 use Rattle.sig_program.specs.Run.{RepliesTo, WriteFaulted, AppendsFront, HandsRests, WritesRests, usage_line}
 use Rattle.sig_program.proofs.Replies.{long-reply}
 

@@ -13,19 +13,19 @@ use Rattle.sig_rekor.specs.declared.checkpoint.SignedCheckpoint.{SignedCheckpoin
 use Rattle.sig_verify.proofs.JudgedLaws.{alike_each, all_as, fails_as}
 use Rattle.sig_verify.specs.declared.link.Link.{Link}
 use Rattle.sig_verify.specs.declared.link.Link.TheVariants.{Checkpoint, NoteKey, NoteMatch, Inclusion}
-use Rattle.sig_program.proofs.RequestTexts.{one_request}
+use Rattle.sig_request.proofs.RequestTexts.{one_request}
 use Rattle.sig_program.specs.Head.{HasAcceptedSignature, head_row}
 use Rattle.sig_program.specs.Link.{Holds, HoldsOfLog, links}
 use Rattle.sig_program.specs.LogQuestions.{AreLogQuestions, head_rows}
 use Rattle.sig_program.specs.Reply.{IsLoggedReply, IsReply, Succeeds}
-use Rattle.sig_program.specs.Request.{log_request}
+use Rattle.sig_request.specs.Request.{log_request}
 use Rattle.sig_program.specs.Suffice.{AgreeOn, LogQuestionsSuffice, with_accepted}
 use Rattle.sig_program.specs.declared.command.Command.{Command}
 use Rattle.sig_program.specs.declared.command.Command.TheVariants.{Log}
-use Rattle.sig_program.specs.declared.head.ClaimedHead.{ClaimedHead}
+use Rattle.sig_request.specs.declared.head_members.ClaimedHead.{ClaimedHead}
 use Rattle.sig_program.specs.declared.reply.Reply.{Reply}
-use Rattle.sig_program.specs.declared.request.LogRequest.{LogRequest}
-use Rattle.sig_program.specs.ReadFrom.{IsRequestOf}
+use Rattle.sig_request.specs.declared.request.LogRequest.{LogRequest}
+use Rattle.sig_request.specs.ReadFrom.{IsRequestOf}
 
 -- ---- texts of which the same links hold have the same reply
 

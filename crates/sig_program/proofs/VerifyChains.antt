@@ -5,11 +5,11 @@ use Rattle.sig_verify.proofs.ChainLaws.{all_links_are_the_trust_chain}
 use Rattle.sig_verify.specs.Links.{chain_links}
 use Rattle.sig_verify.specs.declared.link.Link.{Link}
 use Rattle.sig_program.proofs.Replies.{every-of_text}
-use Rattle.sig_program.proofs.RequestTexts.{one_request}
+use Rattle.sig_request.proofs.RequestTexts.{one_request}
 use Rattle.sig_program.specs.VerifyLink.{HoldsOfVerify, HoldsVerify, IsTrusted, inputs, outside, verify_links}
-use Rattle.sig_program.specs.VerifyRequest.{verify_request}
-use Rattle.sig_program.specs.declared.verify_request.VerifyRequest.{VerifyRequest}
-use Rattle.sig_program.specs.ReadFrom.{IsRequestOf}
+use Rattle.sig_request.specs.VerifyRequest.{verify_request}
+use Rattle.sig_request.specs.declared.verify_request.VerifyRequest.{VerifyRequest}
+use Rattle.sig_request.specs.ReadFrom.{IsRequestOf}
 
 -- what holds of a text holds of the one request that it is
 every-of_request : (text : List ℕ) (request : VerifyRequest) (ls : List Link) → IsRequestOf verify_request text request

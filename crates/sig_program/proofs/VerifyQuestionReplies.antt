@@ -18,19 +18,19 @@ use Rattle.sig_verify.proofs.JudgedLaws.{alike_each, fails_as}
 use Rattle.sig_verify.specs.declared.link.Link.{Link}
 use Rattle.sig_verify.specs.declared.link.Link.TheVariants.{Request}
 use Rattle.sig_program.proofs.Replies.{every-of_text, every-reply, first-of_text, first-reply, replied}
-use Rattle.sig_program.proofs.RequestTexts.{one_request}
+use Rattle.sig_request.proofs.RequestTexts.{one_request}
 use Rattle.sig_program.proofs.RowSizes.{too-long}
-use Rattle.sig_program.specs.Limit.{most_bytes}
+use Rattle.sig_request.specs.Limit.{most_bytes}
 use Rattle.sig_program.specs.Reply.{IsListingOf, IsReply, IsVerifyQuestionsReply, refusal_reply}
 use Rattle.sig_program.specs.RowsText.{rows_text}
 use Rattle.sig_program.specs.VerifyLink.{inputs}
 use Rattle.sig_program.specs.VerifyQuestions.{HoldsOfVerifyQuestions, HoldsVerifyQuestions, IsOpen, RefusesForAll}
 use Rattle.sig_program.specs.VerifyQuestions.{VerifyQuestionsFit, verify_question_links}
-use Rattle.sig_program.specs.VerifyRequest.{verify_request}
+use Rattle.sig_request.specs.VerifyRequest.{verify_request}
 use Rattle.sig_program.specs.declared.command.Command.TheVariants.{VerifyQuestions}
 use Rattle.sig_program.specs.declared.reply.Reply.{Reply}
-use Rattle.sig_program.specs.declared.verify_request.VerifyRequest.{VerifyRequest}
-use Rattle.sig_program.specs.ReadFrom.{IsReadFrom, IsRequestOf}
+use Rattle.sig_request.specs.declared.verify_request.VerifyRequest.{VerifyRequest}
+use Rattle.sig_request.specs.ReadFrom.{IsReadFrom, IsRequestOf}
 
 -- ---- the reply to a request
 

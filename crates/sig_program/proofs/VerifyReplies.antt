@@ -15,15 +15,15 @@ use Rattle.sig_verify.specs.declared.offline_error.OfflineError.TheVariants.{Out
 use Rattle.std.proofs.lemmas.Result.{IfOk-weaker}
 use Rattle.sig_program.proofs.Included.{every-included}
 use Rattle.sig_program.proofs.Replies.{every-of_text, every-reply, first-of_text, first-reply, replied}
-use Rattle.sig_program.proofs.RequestTexts.{one_request}
+use Rattle.sig_request.proofs.RequestTexts.{one_request}
 use Rattle.sig_program.specs.Reply.{IsEntryIn, IsReply, IsVerifiedReply, refusal_reply}
 use Rattle.sig_program.specs.ProofOf.{IsProofOf}
 use Rattle.sig_program.specs.VerifyLink.{HoldsOfVerify, inputs, outside, verify_links}
-use Rattle.sig_program.specs.VerifyRequest.{verify_request}
+use Rattle.sig_request.specs.VerifyRequest.{verify_request}
 use Rattle.sig_program.specs.declared.command.Command.TheVariants.{Verify}
 use Rattle.sig_program.specs.declared.reply.Reply.{Reply}
-use Rattle.sig_program.specs.declared.verify_request.VerifyRequest.{VerifyRequest}
-use Rattle.sig_program.specs.ReadFrom.{IsReadFrom, IsRequestOf}
+use Rattle.sig_request.specs.declared.verify_request.VerifyRequest.{VerifyRequest}
+use Rattle.sig_request.specs.ReadFrom.{IsReadFrom, IsRequestOf}
 
 -- every link of the chain holds
 pub verified-reply : (text : List ℕ) (request : VerifyRequest) (offline : Offline) (reply : Reply)

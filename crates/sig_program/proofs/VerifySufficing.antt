@@ -15,15 +15,15 @@ use Rattle.sig_verify.specs.declared.link.Link.{Link}
 use Rattle.sig_verify.specs.declared.offline.Offline.{Offline}
 use Rattle.sig_base.proofs.AcceptedRows.{as_row}
 use Rattle.sig_program.proofs.Sufficing.{AreAlike, alike-other, alike-reply}
-use Rattle.sig_program.proofs.RequestTexts.{one_request}
+use Rattle.sig_request.proofs.RequestTexts.{one_request}
 use Rattle.sig_program.specs.Reply.{IsEntryIn, IsVerifiedReply}
 use Rattle.sig_program.specs.Suffice.{AgreeOnAsked, VerifyQuestionsSuffice, verify_with_accepted}
 use Rattle.sig_program.specs.VerifyLink.{HoldsOfVerify, checker, inputs, policy}
-use Rattle.sig_program.specs.VerifyRequest.{verify_request}
+use Rattle.sig_request.specs.VerifyRequest.{verify_request}
 use Rattle.sig_program.specs.declared.command.Command.TheVariants.{Verify}
 use Rattle.sig_program.specs.declared.reply.Reply.{Reply}
-use Rattle.sig_program.specs.declared.verify_request.VerifyRequest.{VerifyRequest}
-use Rattle.sig_program.specs.ReadFrom.{IsRequestOf}
+use Rattle.sig_request.specs.declared.verify_request.VerifyRequest.{VerifyRequest}
+use Rattle.sig_request.specs.ReadFrom.{IsRequestOf}
 
 -- ---- the checkers of two lists that agree on what is asked
 

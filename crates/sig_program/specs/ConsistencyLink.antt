@@ -3,10 +3,10 @@ use Rattle.std.specs.Prelude.{ℕ, List, [], ◌∷◌, Option}
 use Rattle.sig_merkle.specs.ConsistencyAnswer.{IsConsistent}
 use Rattle.sig_verify.specs.declared.link.Link.{Link}
 use Rattle.sig_verify.specs.declared.link.Link.TheVariants.{Request, Checkpoint, NoteKey, NoteMatch, Consistency}
-use Rattle.sig_program.specs.ConsistencyRequest.{consistency_request}
+use Rattle.sig_request.specs.ConsistencyRequest.{consistency_request}
 use Rattle.sig_program.specs.Head.{HoldsOfHead}
-use Rattle.sig_program.specs.declared.consistency_request.ConsistencyRequest.{ConsistencyRequest}
-use Rattle.sig_program.specs.ReadFrom.{IsRequestOf}
+use Rattle.sig_request.specs.declared.consistency_request.ConsistencyRequest.{ConsistencyRequest}
+use Rattle.sig_request.specs.ReadFrom.{IsRequestOf}
 use Rattle.sig_program.specs.Verdict.{IsLinkVerdict}
 
 -- the links of `consistency`

@@ -9,7 +9,7 @@ use Rattle.sig_rekor.specs.CheckpointText.{IsCheckpoint}
 use Rattle.sig_rekor.specs.NoteText.{note_text}
 use Rattle.sig_verify.specs.declared.link.Link.{Link}
 use Rattle.sig_verify.specs.declared.link.Link.TheVariants.{Checkpoint, NoteKey, NoteMatch}
-use Rattle.sig_program.specs.declared.head.ClaimedHead.{ClaimedHead}
+use Rattle.sig_request.specs.declared.head_members.ClaimedHead.{ClaimedHead}
 use Rattle.sig_program.specs.Verdict.{IsLinkVerdict}
 
 -- the links on a tree head, in their order

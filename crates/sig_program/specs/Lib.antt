@@ -1,18 +1,9 @@
-pub mod Accepted
 pub mod Command
 pub mod ConsistencyLink
-pub mod ConsistencyRequest
-pub mod DigestText
 pub mod Head
-pub mod HeadMembers
-pub mod Limit
 pub mod Link
 pub mod LogQuestions
-pub mod Policy
-pub mod ReadFrom
 pub mod Reply
-pub mod Request
-pub mod Row
 pub mod RowsText
 pub mod Run
 pub mod Status
@@ -20,6 +11,5 @@ pub mod Suffice
 pub mod Verdict
 pub mod VerifyLink
 pub mod VerifyQuestions
-pub mod VerifyRequest
 pub mod ProofOf
 pub mod SecondLine

@@ -7,15 +7,15 @@ use Rattle.sig_program.specs.declared.command.Command.TheVariants.{Log, Verify, 
 use Rattle.sig_program.specs.declared.command.Command.TheVariants.{VerifyQuestions}
 use Rattle.sig_verify.specs.declared.link.Link.{Link}
 use Rattle.sig_verify.specs.declared.link.Link.TheVariants.{Request, Checkpoint, NoteKey, NoteMatch, Inclusion}
-use Rattle.sig_program.specs.declared.request.LogRequest.{LogRequest}
+use Rattle.sig_request.specs.declared.request.LogRequest.{LogRequest}
 use Rattle.sig_program.specs.Head.{HoldsOfHead}
 use Rattle.sig_program.specs.ProofOf.{IsProofOf}
-use Rattle.sig_program.specs.Request.{log_request}
+use Rattle.sig_request.specs.Request.{log_request}
 use Rattle.sig_program.specs.VerifyLink.{HoldsVerify, verify_links}
 use Rattle.sig_program.specs.ConsistencyLink.{HoldsConsistency, consistency_links}
 use Rattle.sig_program.specs.LogQuestions.{HoldsLogQuestions, log_question_links}
 use Rattle.sig_program.specs.VerifyQuestions.{HoldsVerifyQuestions, verify_question_links}
-use Rattle.sig_program.specs.ReadFrom.{IsRequestOf}
+use Rattle.sig_request.specs.ReadFrom.{IsRequestOf}
 use Rattle.sig_program.specs.Verdict.{IsLinkVerdict}
 
 -- the links of `log`

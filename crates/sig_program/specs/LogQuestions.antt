@@ -6,12 +6,12 @@ use Rattle.sig_rekor.specs.declared.checkpoint.SignedCheckpoint.{SignedCheckpoin
 use Rattle.sig_verify.specs.declared.link.Link.{Link}
 use Rattle.sig_verify.specs.declared.link.Link.TheVariants.{Request, Checkpoint}
 use Rattle.sig_program.specs.Head.{OfHeadCheckpoint, head_row}
-use Rattle.sig_program.specs.Limit.{most_bytes}
-use Rattle.sig_program.specs.Request.{log_request}
+use Rattle.sig_request.specs.Limit.{most_bytes}
+use Rattle.sig_request.specs.Request.{log_request}
 use Rattle.sig_program.specs.RowsText.{rows_text}
-use Rattle.sig_program.specs.declared.head.ClaimedHead.{ClaimedHead}
-use Rattle.sig_program.specs.declared.request.LogRequest.{LogRequest}
-use Rattle.sig_program.specs.ReadFrom.{IsRequestOf}
+use Rattle.sig_request.specs.declared.head_members.ClaimedHead.{ClaimedHead}
+use Rattle.sig_request.specs.declared.request.LogRequest.{LogRequest}
+use Rattle.sig_request.specs.ReadFrom.{IsRequestOf}
 
 -- each signature of the checkpoint over its note, under the log's scheme and key, in order
 abbrev pub head_rows : ClaimedHead → SignedCheckpoint → List AcceptedRow

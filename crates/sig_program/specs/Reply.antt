@@ -13,21 +13,21 @@ use Rattle.sig_verify.specs.Links.{OfPassed}
 use Rattle.sig_verify.specs.declared.link.Link.{Link}
 use Rattle.sig_verify.specs.declared.link.Link.TheVariants.{Request}
 use Rattle.sig_verify.specs.declared.offline.Offline.{Offline}
-use Rattle.sig_program.specs.declared.request.LogRequest.{LogRequest}
+use Rattle.sig_request.specs.declared.request.LogRequest.{LogRequest}
 use Rattle.sig_program.specs.declared.reply.Reply.{Reply}
-use Rattle.sig_program.specs.Request.{log_request}
+use Rattle.sig_request.specs.Request.{log_request}
 use Rattle.sig_program.specs.SecondLine.{IsSecondLine}
-use Rattle.sig_program.specs.ConsistencyRequest.{consistency_request}
-use Rattle.sig_program.specs.declared.consistency_request.ConsistencyRequest.{ConsistencyRequest}
+use Rattle.sig_request.specs.ConsistencyRequest.{consistency_request}
+use Rattle.sig_request.specs.declared.consistency_request.ConsistencyRequest.{ConsistencyRequest}
 use Rattle.sig_program.specs.VerifyLink.{inputs}
-use Rattle.sig_program.specs.VerifyRequest.{verify_request}
-use Rattle.sig_program.specs.declared.verify_request.VerifyRequest.{VerifyRequest}
+use Rattle.sig_request.specs.VerifyRequest.{verify_request}
+use Rattle.sig_request.specs.declared.verify_request.VerifyRequest.{VerifyRequest}
 use Rattle.sig_program.specs.Link.{EveryLinkHolds, IsFirstFailing}
 use Rattle.sig_base.specs.declared.checker.AcceptedRow.{AcceptedRow}
-use Rattle.sig_program.specs.Limit.{most_bytes}
+use Rattle.sig_request.specs.Limit.{most_bytes}
 use Rattle.sig_program.specs.LogQuestions.{AreLogQuestions}
 use Rattle.sig_program.specs.RowsText.{IsReadBack, rows_text}
-use Rattle.sig_program.specs.ReadFrom.{IsRequestOf}
+use Rattle.sig_request.specs.ReadFrom.{IsRequestOf}
 
 -- status 2 for the link `request`, 1 for every other
 abbrev pub status_of : Link → ℕ

@@ -12,8 +12,8 @@ use Rattle.sig_json.specs.Document.{document_of}
 use Rattle.sig_json.specs.Kinds.{bytes_of}
 use Rattle.sig_json.specs.Member.{list_each}
 use Rattle.sig_json.specs.Written.{compact_text}
-use Rattle.sig_program.specs.Limit.{most_bytes}
-use Rattle.sig_program.specs.Row.{row_of}
+use Rattle.sig_request.specs.Limit.{most_bytes}
+use Rattle.sig_request.specs.Row.{row_of}
 
 -- an operation's name
 abbrev pub operation_word : Operation → List ℕ

@@ -4,7 +4,7 @@ use Rattle.std.specs.Io.KnownBytes.{Appends}
 use Rattle.std.specs.List.{AllByRecursion}
 use Rattle.sig_base.specs.Stream.{Rose}
 use Rattle.sig_program.specs.Command.{IsCommand, Names}
-use Rattle.sig_program.specs.Limit.{TakesRequest}
+use Rattle.sig_request.specs.Limit.{TakesRequest}
 use Rattle.sig_program.specs.Reply.{IsReply}
 use Rattle.sig_program.specs.declared.command.Command.{Command}
 use Rattle.sig_program.specs.declared.reply.Reply.{Reply}

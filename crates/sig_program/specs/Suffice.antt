@@ -4,14 +4,14 @@ use Rattle.sig_base.specs.declared.checker.AcceptedRow.{AcceptedRow}
 use Rattle.sig_questions.specs.Asked.{IsAskedBy}
 use Rattle.sig_program.specs.LogQuestions.{AreLogQuestions}
 use Rattle.sig_program.specs.Reply.{IsReply}
-use Rattle.sig_program.specs.Request.{log_request}
+use Rattle.sig_request.specs.Request.{log_request}
 use Rattle.sig_program.specs.VerifyLink.{inputs}
-use Rattle.sig_program.specs.VerifyRequest.{verify_request}
+use Rattle.sig_request.specs.VerifyRequest.{verify_request}
 use Rattle.sig_program.specs.declared.command.Command.TheVariants.{Log, Verify}
 use Rattle.sig_program.specs.declared.reply.Reply.{Reply}
-use Rattle.sig_program.specs.declared.request.LogRequest.{LogRequest}
-use Rattle.sig_program.specs.declared.verify_request.VerifyRequest.{VerifyRequest}
-use Rattle.sig_program.specs.ReadFrom.{IsRequestOf}
+use Rattle.sig_request.specs.declared.request.LogRequest.{LogRequest}
+use Rattle.sig_request.specs.declared.verify_request.VerifyRequest.{VerifyRequest}
+use Rattle.sig_request.specs.ReadFrom.{IsRequestOf}
 
 -- the request with these accepted signatures in place of its own
 abbrev pub with_accepted : LogRequest → List AcceptedRow → LogRequest

@@ -11,9 +11,9 @@ use Rattle.sig_verify.specs.TrustChain.{IsValid, TrustChain}
 use Rattle.sig_verify.specs.Verdict.{Checker, PolicyOf}
 use Rattle.sig_verify.specs.declared.link.Link.{Link}
 use Rattle.sig_verify.specs.declared.link.Link.TheVariants.{Request}
-use Rattle.sig_program.specs.VerifyRequest.{verify_request}
-use Rattle.sig_program.specs.declared.verify_request.VerifyRequest.{VerifyRequest}
-use Rattle.sig_program.specs.ReadFrom.{IsRequestOf}
+use Rattle.sig_request.specs.VerifyRequest.{verify_request}
+use Rattle.sig_request.specs.declared.verify_request.VerifyRequest.{VerifyRequest}
+use Rattle.sig_request.specs.ReadFrom.{IsRequestOf}
 
 abbrev pub inputs : VerifyRequest → Inputs
 inputs request = record {

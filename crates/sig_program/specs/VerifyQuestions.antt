@@ -6,12 +6,12 @@ use Rattle.sig_base.specs.declared.checker.AcceptedRow.{AcceptedRow}
 use Rattle.sig_questions.specs.Questions.{AreQuestions, FailsForAll, HoldsUnasked, question_links}
 use Rattle.sig_verify.specs.declared.link.Link.{Link}
 use Rattle.sig_verify.specs.declared.link.Link.TheVariants.{Request}
-use Rattle.sig_program.specs.Limit.{most_bytes}
+use Rattle.sig_request.specs.Limit.{most_bytes}
 use Rattle.sig_program.specs.RowsText.{rows_text}
 use Rattle.sig_program.specs.VerifyLink.{inputs}
-use Rattle.sig_program.specs.VerifyRequest.{verify_request}
-use Rattle.sig_program.specs.declared.verify_request.VerifyRequest.{VerifyRequest}
-use Rattle.sig_program.specs.ReadFrom.{IsRequestOf}
+use Rattle.sig_request.specs.VerifyRequest.{verify_request}
+use Rattle.sig_request.specs.declared.verify_request.VerifyRequest.{VerifyRequest}
+use Rattle.sig_request.specs.ReadFrom.{IsRequestOf}
 
 -- no link fails whatever signatures are accepted
 abbrev pub IsOpen : VerifyRequest → Type 0

@@ -4,11 +4,11 @@ ghost use Rattle.sig_program.specs.ConsistencyLink.{IsConsistencyVerdict, IsGrow
 ghost use Rattle.sig_program.specs.Reply.{IsReply};
 ghost use Rattle.sig_program.specs.declared.command.Command.TheVariants.{Consistency};
 
-use crate::consistency_request::ConsistencyRequest;
 use crate::head::failing_link_of;
 use crate::reply::Reply;
 use sig_base::OutOfMemory;
 use sig_merkle::uncounted::verify_consistency;
+use sig_request::ConsistencyRequest;
 use sig_verify::Link;
 use std::alloc::Global;
 

@@ -1,25 +1,13 @@
-//! The tree head that a request gives: the checkpoint that is to vouch for the size and root of its tree.
+//! The links on the tree head that a request gives: its checkpoint has to vouch for the size and root of its tree.
 ghost use Rattle.std.specs.Prelude.{◌↔◌, IfOk, IsTrue};
 ghost use Rattle.sig_program.specs.Head.{IsHeadVerdict, IsHeadVerdictUnder, IsMatched, HasAcceptedSignature};
 
-use sig_base::{Bytes, OutOfMemory, SigningScheme, SigstoreError, TableChecker, Text};
+use sig_base::{OutOfMemory, SigstoreError};
 use sig_key::CosignVerificationKey;
 use sig_rekor::{ParseCheckpointError, SignedNote};
+use sig_request::ClaimedHead;
 use sig_verify::Link;
 use std::alloc::Global;
-
-/// The tree head that a request claims: its checkpoint, and what its signatures are checked by.
-#[derive(Drop)]
-pub struct ClaimedHead {
-    /// A signed note with the log's size and root.
-    pub checkpoint: Text,
-    /// The scheme of the log's key.
-    pub scheme: SigningScheme,
-    /// The log's key (DER).
-    pub key: Bytes,
-    /// The signatures that are taken for genuine.
-    pub accepted: TableChecker,
-}
 
 /// The first link that fails of a tree head of this size and root, or none.
 pub fn failing_link_of(

@@ -6,11 +6,11 @@ ghost use Rattle.sig_program.specs.declared.command.Command.TheVariants.{Log};
 
 use crate::head::failing_link_of;
 use crate::reply::Reply;
-use crate::request::LogRequest;
 use crate::second_line::second_line;
 use sig_base::OutOfMemory;
 use sig_merkle::hash_leaf;
 use sig_merkle::uncounted::verify_inclusion;
+use sig_request::LogRequest;
 use sig_verify::Link;
 use std::alloc::Global;
 

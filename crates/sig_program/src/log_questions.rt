@@ -8,13 +8,12 @@ ghost use Rattle.sig_program.specs.Suffice.{LogQuestionsSuffice};
 ghost use Rattle.sig_program.specs.declared.command.Command.TheVariants.{LogQuestions};
 ghost use Rattle.sig_rekor.specs.NoteText.{note_text};
 
-use crate::head::ClaimedHead;
 use crate::reply::Reply;
-use crate::request::LogRequest;
 use crate::rows_text::add_row;
 use sig_base::{AcceptedRow, Bytes, Operation, OutOfMemory, Text};
 use sig_json::{Document, compact};
 use sig_rekor::{CheckpointSignature, ParseCheckpointError, SignedNote};
+use sig_request::{ClaimedHead, LogRequest};
 use sig_verify::Link;
 use std::alloc::Global;
 

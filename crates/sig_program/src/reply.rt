@@ -1,9 +1,9 @@
 //! The texts of replies, all of them.
 ghost use Rattle.std.specs.Prelude.{◌≡◌, IfOk};
 
-use crate::consistency_request::ConsistencyRequest;
 use sig_base::{OutOfMemory, Text};
 use sig_rekor::InclusionProof;
+use sig_request::ConsistencyRequest;
 use sig_verify::Link;
 use std::alloc::Global;
 

@@ -8,14 +8,14 @@ ghost use Rattle.sig_bundle.specs.Written.{IsReadAs, bytes_tree};
 ghost use Rattle.sig_json.specs.Find.{as_array, as_object};
 ghost use Rattle.sig_json.specs.Kinds.{bytes_of};
 ghost use Rattle.sig_json.specs.Tree.{document_tree};
-ghost use Rattle.sig_program.specs.Limit.{most_bytes};
+ghost use Rattle.sig_request.specs.Limit.{most_bytes};
 ghost use Rattle.sig_questions.specs.Rows.{HasScheme, IsSchemeUnder};
 ghost use Rattle.sig_program.specs.RowsText.{AddsRow, IsDocumentOf, IsRowReadBack, IsSchemeRead};
 ghost use Rattle.sig_program.specs.RowsText.{operation_word, row_tree, scheme_tree, with_some};
 
-use crate::read::MOST_BYTES;
 use sig_base::{AcceptedRow, Bytes, Operation, OutOfMemory, Text};
 use sig_json::{Document, compact};
+use sig_request::MOST_BYTES;
 use std::alloc::Global;
 
 /// The name of an operation in a row.

@@ -3,7 +3,7 @@ ghost use Rattle.std.specs.Prelude.{◌≡◌, ◌⊎◌, ◌+◌, ◌<◌, ◌�
 ghost use Rattle.std.specs.Io.KnownBytes.{Appends};
 ghost use Rattle.sig_base.specs.Stream.{Rose, TookAtMost};
 ghost use Rattle.sig_program.specs.Command.{IsCommand};
-ghost use Rattle.sig_program.specs.Limit.{most_bytes};
+ghost use Rattle.sig_request.specs.Limit.{most_bytes};
 ghost use Rattle.sig_program.specs.Reply.{IsReply};
 ghost use Rattle.sig_program.specs.Run.{RepliesTo, Answered, ReadFaulted, WriteFaulted, HandsRests, WritesRests};
 ghost use Rattle.sig_program.specs.Run.{AppendsFront, usage_line};
@@ -16,12 +16,12 @@ use crate::consistency::consistency_reply;
 use crate::laws::lists;
 use crate::log::log_reply;
 use crate::log_questions::log_questions;
-use crate::read::{ReadFault, read_request};
 use crate::reply::{Reply, USAGE_LINE};
 use crate::verify::verify_reply;
 use crate::verify_questions::verify_questions;
 use crate::write::write_reply;
 use sig_base::{OutOfMemory, Sink, Source, Text};
+use sig_request::{ReadFault, read_request};
 use sig_verify::Link;
 use std::alloc::Global;
 

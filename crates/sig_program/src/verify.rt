@@ -12,8 +12,8 @@ ghost use Rattle.sig_program.specs.declared.command.Command.TheVariants.{Verify}
 use crate::brief_policy::BriefPolicy;
 use crate::reply::Reply;
 use crate::second_line::second_line;
-use crate::verify_request::{VerifyRequest, bundle_of, now_of, trusted_root_of};
 use sig_base::OutOfMemory;
+use sig_request::{VerifyRequest, bundle_of, now_of, trusted_root_of};
 use sig_verify::{Link, Offline, OfflineError, verify_offline};
 use std::alloc::Global;
 

@@ -4,7 +4,7 @@ ghost use Rattle.sig_base.specs.declared.checker.AcceptedRow.{AcceptedRow as row
 ghost use Rattle.sig_questions.specs.Asked.{IsAskedBy};
 ghost use Rattle.sig_questions.specs.Questions.{IsDecided};
 ghost use Rattle.sig_questions.specs.Rows.{HasScheme};
-ghost use Rattle.sig_program.specs.Limit.{most_bytes};
+ghost use Rattle.sig_request.specs.Limit.{most_bytes};
 ghost use Rattle.sig_program.specs.Reply.{IsListingOf, IsReply};
 ghost use Rattle.sig_program.specs.Suffice.{VerifyQuestionsSuffice};
 ghost use Rattle.sig_program.specs.VerifyLink.{inputs};
@@ -12,13 +12,12 @@ ghost use Rattle.sig_program.specs.VerifyQuestions.{RefusesForAll};
 ghost use Rattle.sig_program.specs.declared.command.Command.TheVariants.{VerifyQuestions};
 
 use crate::laws::lists;
-use crate::read::MOST_BYTES;
 use crate::reply::Reply;
 use crate::rows_text::rows_document;
-use crate::verify_request::{VerifyRequest, bundle_of, now_of, trusted_root_of};
 use sig_base::{AcceptedRow, OutOfMemory, Register};
 use sig_questions::laws::{one_list, schemes};
 use sig_questions::{NoQuestions, questions};
+use sig_request::{MOST_BYTES, VerifyRequest, bundle_of, now_of, trusted_root_of};
 use sig_verify::Link;
 use std::alloc::Global;
 

@@ -3,7 +3,7 @@ use Rattle.std.proofs.Common.{◌≡◌}
 use Rattle.sig_program.proofs.ConsistencyReplies.{consistent-reply, refused-consistency}
 use Rattle.sig_program.proofs.Replies.{unread-replied, refused-replied, vouched-replied}
 use Rattle.sig_program.specs.ConsistencyLink.{IsConsistencyVerdict}
-use Rattle.sig_program.specs.ConsistencyRequest.{consistency_request}
+use Rattle.sig_request.specs.ConsistencyRequest.{consistency_request}
 use Rattle.sig_program.specs.Reply.{consistent}
 use Rattle.sig_program.specs.declared.command.Command.TheVariants.{Consistency}
 use Rattle.sig_program.specs.declared.reply.Reply.{Reply}

@@ -4,7 +4,7 @@ use Rattle.sig_program.proofs.LogReplies.{logged-reply, refused-log}
 use Rattle.sig_program.proofs.Replies.{unread-replied, refused-replied, vouched-replied}
 use Rattle.sig_program.specs.Link.{IsLogVerdict}
 use Rattle.sig_program.specs.Reply.{IsLoggedReply}
-use Rattle.sig_program.specs.Request.{log_request}
+use Rattle.sig_request.specs.Request.{log_request}
 use Rattle.sig_program.specs.declared.command.Command.TheVariants.{Log}
 use Rattle.sig_program.proofs.log.log_reply.Goals as goal
 

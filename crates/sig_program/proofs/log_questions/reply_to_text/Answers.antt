@@ -1,7 +1,7 @@
 -- The reply to what was read.
 use Rattle.sig_program.proofs.LogQuestionReplies.{listed-replied, unchecked-replied}
 use Rattle.sig_program.proofs.Replies.{unread-replied}
-use Rattle.sig_program.specs.Request.{log_request}
+use Rattle.sig_request.specs.Request.{log_request}
 use Rattle.sig_program.specs.declared.command.Command.TheVariants.{LogQuestions}
 use Rattle.sig_program.proofs.log_questions.reply_to_text.Goals as goal
 

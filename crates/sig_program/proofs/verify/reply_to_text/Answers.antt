@@ -3,7 +3,7 @@ use Rattle.std.proofs.Common.{sym, ◌∙◌}
 use Rattle.sig_program.proofs.VerifyReplies.{chain-included, refused-verify-replied}
 use Rattle.sig_program.proofs.VerifyReplies.{verified-replied}
 use Rattle.sig_program.proofs.Replies.{unread-replied}
-use Rattle.sig_program.specs.VerifyRequest.{verify_request}
+use Rattle.sig_request.specs.VerifyRequest.{verify_request}
 use Rattle.sig_program.specs.declared.command.Command.TheVariants.{Verify}
 use Rattle.sig_program.proofs.verify.reply_to_text.Goals as goal
 

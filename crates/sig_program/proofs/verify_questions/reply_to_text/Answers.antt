@@ -3,10 +3,10 @@ use Rattle.std.proofs.Common.{Err, subst}
 use Rattle.sig_questions.specs.Questions.{IsDecided}
 use Rattle.sig_questions.specs.declared.listing.NoQuestions.{NoQuestions}
 use Rattle.sig_program.proofs.VerifyQuestionReplies.{all-schemes, listed-replied, past-replied, refused-replied}
-use Rattle.sig_program.specs.Limit.{most_bytes}
+use Rattle.sig_request.specs.Limit.{most_bytes}
 use Rattle.sig_program.specs.VerifyLink.{inputs}
 use Rattle.sig_program.proofs.Replies.{unread-replied}
-use Rattle.sig_program.specs.VerifyRequest.{verify_request}
+use Rattle.sig_request.specs.VerifyRequest.{verify_request}
 use Rattle.sig_program.specs.declared.command.Command.TheVariants.{VerifyQuestions}
 use Rattle.sig_program.proofs.verify_questions.reply_to_text.Goals as goal
 

@@ -1,0 +1,3 @@
+pub mod DigestTexts
+pub mod Reading
+pub mod RequestTexts

@@ -1,0 +1,21 @@
+-- What the parts of a text mean.
+use Rattle.std.proofs.Common.{arith}
+use Rattle.std.proofs.lemmas.Grind.{common_steps}
+use Rattle.sig_json.specs.Only.{names_of}
+use Rattle.sig_request.proofs.RequestTexts.{parts-meant}
+use Rattle.sig_request.proofs.request_text.read_parts.Goals as goal
+
+pub returns-in_err-members : goal.returns-in_err-members
+returns-in_err-members g c =
+    let same = parts-meant g.T.RequestReader.meaning (names_of c.args.names.now) c.requires c.args.text.now in
+    grind (arith, common_steps)
+
+pub returns-in_err-read : goal.returns-in_err-read
+returns-in_err-read g c =
+    let same = parts-meant g.T.RequestReader.meaning (names_of c.args.names.now) c.requires c.args.text.now in
+    grind (arith, common_steps)
+
+pub returns : goal.returns
+returns g c =
+    let same = parts-meant g.T.RequestReader.meaning (names_of c.args.names.now) c.requires c.args.text.now in
+    grind (arith, common_steps)

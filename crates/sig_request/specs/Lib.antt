@@ -1,0 +1,10 @@
+pub mod Accepted
+pub mod ConsistencyRequest
+pub mod DigestText
+pub mod HeadMembers
+pub mod Limit
+pub mod Policy
+pub mod ReadFrom
+pub mod Request
+pub mod Row
+pub mod VerifyRequest

@@ -1,0 +1,31 @@
+//! The requests of all commands: the bytes of one, taken from a source up to their limit, and the JSON document that
+//! they are, read by the table of its members, with its accepted signatures row by row.
+//!
+//! A request of `log`; request.rt, verify_request.rt and consistency_request.rt show whole ones:
+//!
+//! ```text
+//! { "entry": "TDEyMzQ1Ng==", "logIndex": 0, "treeSize": 1, "rootHash": "395aa064..", "hashes": [],
+//!   "checkpoint": "log.example\n1\nOVqgZKpM..TVY=\n\n\u2014 log.example AAAAAXNpZw==\n",
+//!   "scheme": "ECDSA_P256_SHA256_ASN1", "key": "a2V5", "accepted": [] }
+//! ```
+//!
+//! The layer above uses two facts. A request is read if and only if the text is one, of at most 2^24 bytes, and it is
+//! the one request that the text is. And [`read_request`] takes all that a source has left, or shows that it is too
+//! much.
+#![tactic(auto)]
+
+mod consistency_request;
+mod digest_text;
+mod head_members;
+mod policy_rule;
+mod read;
+mod request;
+mod request_text;
+mod row;
+mod verify_request;
+
+pub use consistency_request::ConsistencyRequest;
+pub use head_members::ClaimedHead;
+pub use read::{MOST_BYTES, REQUEST_LIMIT, ReadFault, read_request};
+pub use request::LogRequest;
+pub use verify_request::{VerifyRequest, bundle_of, now_of, trusted_root_of};
