@@ -1,4 +1,5 @@
 pub mod Trees
+pub mod Enclosed
 pub mod OrMember
 pub mod Ordered
 pub mod Scanned

@@ -1,22 +1,18 @@
--- Values that are passed over, a step at a time: what the tokens mean is some value without floats, a list so far,
--- an object so far.
+-- Values that are passed over, a step at a time: what the tokens mean is some value without floats, or a list so far.
 use Rattle.std.proofs.Common.{◌≡◌, ℕ, ◌-◌, ◌<◌, ◌≤◌, Bool, false, List, ◌∷◌, length, Option, Some, None, refl, sym}
 use Rattle.std.proofs.Common.{ap, ◌∙◌, arith}
 use Rattle.std.proofs.lemmas.Bool.{or_from}
-use Rattle.json.proofs.Grammar.{value_is, value-begin_array, value-begin_object, read_key-shorter}
-use Rattle.json.proofs.Grammar.{after_end_array-shorter}
-use Rattle.json.specs.Json.{value, items, members, parse_map, after_end_array, read_key}
+use Rattle.json.proofs.Grammar.{value_is, value-begin_array, value-begin_object}
+use Rattle.json.specs.Json.{value, items, members, parse_map, after_end_array}
 use Rattle.json.specs.Token.{Token}
 use Rattle.serde_json.specs.Data.{null, boolean, number, string, array, object, Items, no_items, item, Members}
-use Rattle.serde_json.specs.Data.{no_members, put}
 use Rattle.serde_json.specs.Read.{number_of, of_json, converted}
-use Rattle.serde_json.specs.Written.{has_float, items_have_float, members_have_float}
-use Rattle.sig_json.proofs.Converted.{as_it_is, converted-array, converted-object, item_read, item_refused}
-use Rattle.sig_json.proofs.Converted.{items_over, member_read, member_refused, key_refused, members_over}
-use Rattle.sig_json.proofs.Building.{put_floatless}
-use Rattle.sig_json.proofs.Tokens.{list_meant, object_meant, number_refused, array_refused, array_too_deep}
-use Rattle.sig_json.proofs.Tokens.{object_refused, object_too_deep, nothing_means_nothing}
-use Rattle.sig_json.specs.Skipped.{IsWhole, PassesValue, PassesItems, PassesMembers, value_meant, items_meant}
+use Rattle.serde_json.specs.Written.{has_float, items_have_float}
+use Rattle.sig_json.proofs.Converted.{as_it_is, converted-array, converted-object, item_read}
+use Rattle.sig_json.proofs.Converted.{items_over}
+use Rattle.sig_json.proofs.Tokens.{list_meant, number_refused}
+use Rattle.sig_json.proofs.Tokens.{nothing_means_nothing}
+use Rattle.sig_json.specs.Skipped.{IsWhole, PassesValue, value_meant, items_meant}
 use Rattle.sig_json.specs.Skipped.{members_meant}
 
 -- ---- one value
@@ -62,48 +58,17 @@ array_is depth ts inner rest ds some is meant =
     ap (λ us. converted of_json (value depth us)) is ∙ ap (converted of_json) (value-begin_array depth inner some)
     ∙ converted-array (items (value (depth - 1)) (length inner) inner) ∙ ap (parse_map array) meant
 
-pub array_passed : (depth : ℕ) (ts inner rest : List Token) → 0 < depth → ts ≡ Token.begin_array ∷ inner
-    → PassesItems (depth - 1) inner rest → PassesValue depth ts rest
-array_passed depth ts inner rest some is passed =
-    record {
-      value = array passed.items;
-      is = array_is depth ts inner rest passed.items some is passed.are;
-      whole = passed.whole;
-    }
-
 pub object_is : (depth : ℕ) (ts inner rest : List Token) (ms : Members) → 0 < depth → ts ≡ Token.begin_object ∷ inner
     → members_meant (depth - 1) inner ≡ Some (ms, rest) → value_meant depth ts ≡ Some (object ms, rest)
 object_is depth ts inner rest ms some is meant =
     ap (λ us. converted of_json (value depth us)) is ∙ ap (converted of_json) (value-begin_object depth inner some)
     ∙ converted-object (members (value (depth - 1)) (length inner) inner) ∙ ap (parse_map object) meant
 
-pub object_passed : (depth : ℕ) (ts inner rest : List Token) → 0 < depth → ts ≡ Token.begin_object ∷ inner
-    → PassesMembers (depth - 1) inner rest → PassesValue depth ts rest
-object_passed depth ts inner rest some is passed =
-    record {
-      value = object passed.members;
-      is = object_is depth ts inner rest passed.members some is passed.are;
-      whole = passed.whole;
-    }
-
-pub ruleset values = (
-  null_passed,
-  bool_passed,
-  text_passed,
-  number_passed,
-  number_none,
-  array_passed,
-  object_passed,
-  array_refused,
-  array_too_deep,
-  object_refused,
-  object_too_deep,
-  nothing_means_nothing,
-)
+pub ruleset values = (null_passed, bool_passed, text_passed, number_passed, nothing_means_nothing)
 
 -- ---- a list so far
 
-twice : {A B C : Type 0} → (f : B → C) (g : A → B) (r : Option (A × List Token))
+pub twice : {A B C : Type 0} → (f : B → C) (g : A → B) (r : Option (A × List Token))
     → parse_map f (parse_map g r) ≡ parse_map (λ a. f (g a)) r
 twice f g None = refl
 twice f g (Some p) = refl
@@ -147,93 +112,3 @@ pub list_at_end : (depth : ℕ) (start left rest : List Token) (behind : Items �
     → items_meant depth start ≡ Some (behind no_items, rest)
 list_at_end depth start left rest behind so_far end = so_far.meant
     ∙ ap (parse_map behind) (items_over (value depth) so_far.turns left rest so_far.enough end)
-
--- some values were passed
-pub record ListPassed (depth : ℕ) (start left : List Token) : Type 0 where
-  pub behind : Items → Items
-  pub at : ListAt depth start left behind
-
-pub list_start : (depth : ℕ) (start : List Token) → ListPassed depth start start
-list_start depth start = record { behind = λ ds. ds; at = list_at_start depth start }
-
-pub list_step : (depth : ℕ) (start left next : List Token) → ListPassed depth start left → after_end_array left ≡ None
-    → PassesValue depth left next → length next < length left → ListPassed depth start next
-list_step depth start left next so_far going passed less =
-    record {
-      behind = λ ds. so_far.behind (item passed.value ds);
-      at = list_at_step depth start left next so_far.behind so_far.at going passed less;
-    }
-
-pub list_fault : (depth : ℕ) (start left : List Token) → ListPassed depth start left → after_end_array left ≡ None
-    → value_meant depth left ≡ None → items_meant depth start ≡ None
-list_fault depth start left so_far going none =
-    so_far.at.meant ∙ ap (parse_map so_far.behind) (item_refused (value depth) so_far.at.turns left going none)
-
-pub list_passed : (depth : ℕ) (start left rest : List Token) → ListPassed depth start left
-    → after_end_array left ≡ Some rest → PassesItems depth start rest
-list_passed depth start left rest so_far end = record {
-  items = so_far.behind no_items;
-  are = list_at_end depth start left rest so_far.behind so_far.at end;
-  whole = so_far.at.whole no_items refl;
-}
-
-pub ruleset lists = (list_start, list_step, list_fault, list_passed, after_end_array-shorter)
-
--- ---- an object so far
-
--- the object is what was passed, put one after another, and what the tokens that are left put into it
-pub record ObjectPassed (depth : ℕ) (start left : List Token) : Type 0 where
-  pub passed : Members
-  pub turns : ℕ
-  pub enough : length left ≤ turns
-  pub meant : object_meant depth (length start) start no_members ≡ object_meant depth turns left passed
-  pub below : length left ≤ length start
-  pub whole : members_have_float passed ≡ false
-
-pub object_start : (depth : ℕ) (start : List Token) → ObjectPassed depth start start
-object_start depth start =
-    record {
-      passed = no_members;
-      turns = length start;
-      enough = omega arith;
-      meant = refl;
-      below = omega arith;
-      whole = refl;
-    }
-
-pub object_step : (depth : ℕ) (start left inner next : List Token) (k : List ℕ) → ObjectPassed depth start left
-    → read_key left ≡ Some (Some k, inner) → PassesValue depth inner next → length next < length inner
-    → ObjectPassed depth start next
-object_step depth start left inner next k so_far key passes less =
-    let within = read_key-shorter left (Some k) inner key in
-    record {
-      passed = put k passes.value so_far.passed;
-      turns = so_far.turns - 1;
-      enough = omega (arith, so_far.enough);
-      meant = so_far.meant
-          ∙ member_read (value depth) so_far.passed so_far.turns k left inner next passes.value
-          (omega (arith, so_far.enough)) key passes.is;
-      below = omega (arith, so_far.below);
-      whole = put_floatless k passes.value so_far.passed passes.whole so_far.whole;
-    }
-
-pub key_fault : (depth : ℕ) (start left : List Token) → ObjectPassed depth start left → read_key left ≡ None
-    → members_meant depth start ≡ None
-key_fault depth start left so_far none = so_far.meant ∙ key_refused (value depth) so_far.passed so_far.turns left none
-
-pub member_fault : (depth : ℕ) (start left inner : List Token) (k : List ℕ) → ObjectPassed depth start left
-    → read_key left ≡ Some (Some k, inner) → value_meant depth inner ≡ None → members_meant depth start ≡ None
-member_fault depth start left inner k so_far key none = so_far.meant
-    ∙ member_refused (value depth) so_far.passed so_far.turns k left inner key none
-
-pub object_passed_over : (depth : ℕ) (start left rest : List Token) → ObjectPassed depth start left
-    → read_key left ≡ Some (None, rest) → PassesMembers depth start rest
-object_passed_over depth start left rest so_far end =
-    record {
-      members = so_far.passed;
-      are = so_far.meant
-          ∙ members_over (value depth) so_far.passed so_far.turns left rest so_far.enough end;
-      whole = so_far.whole;
-    }
-
-pub ruleset objects = (object_start, object_step, key_fault, member_fault, object_passed_over, read_key-shorter)

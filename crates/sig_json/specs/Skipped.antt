@@ -1,8 +1,8 @@
 -- For private clauses: parts of a text that are read without a tree of them.
 use Rattle.std.specs.Cow.{cow_str_bytes}
-use Rattle.std.specs.Prelude.{◌≡◌, ◌⊎◌, ℕ, true, false, not, List, [], ◌∷◌, ◌++◌, length, Option, Some}
+use Rattle.std.specs.Prelude.{◌≡◌, ◌⊎◌, ℕ, Bool, true, false, not, List, [], ◌∷◌, ◌++◌, length, Option, Some, None}
 use Rattle.std.specs.Str.{IsUtf8}
-use Rattle.json.specs.Json.{value, items, members}
+use Rattle.json.specs.Json.{value, items, members, after_end_array, read_key}
 use Rattle.json.specs.Token.{Token}
 use Rattle.serde_json.specs.Data.{Num, Data, object, Items, Members, no_members}
 use Rattle.serde_json.specs.Find.{is_float}
@@ -14,6 +14,8 @@ use Rattle.sig_json.specs.Members.{members_list}
 use Rattle.sig_json.specs.Named.{IsNamedTree}
 use Rattle.sig_json.specs.Only.{is_among, members_where}
 use Rattle.sig_json.specs.View.{Words, view}
+use Rattle.sig_json.specs.declared.skip.Rest.{Rest}
+use Rattle.sig_json.specs.declared.skip.Rest.TheVariants as left_of
 use Rattle.sig_json.specs.declared.tree.Tree.{Tree}
 
 -- what the tokens mean as a value, as the elements of a list and as the members of an object, to this depth, and the
@@ -44,10 +46,22 @@ pub record PassesItems (depth : ℕ) (ts rest : List Token) : Type 0 where
   pub are : items_meant depth ts ≡ Some (items, rest)
   pub whole : items_have_float items ≡ false
 
-pub record PassesMembers (depth : ℕ) (ts rest : List Token) : Type 0 where
-  pub members : Members
-  pub are : members_meant depth ts ≡ Some (members, rest)
-  pub whole : members_have_float members ≡ false
+-- the first token of a list and of an object
+abbrev pub opening : Bool → Token
+opening true = Token.begin_object
+opening false = Token.begin_array
+
+-- the first token of a value is passed over, and this is left of the value
+abbrev pub BeginsValue : Rest → List Token → List Token → Type 0
+BeginsValue left_of.Nothing ts rest = (depth : ℕ) → PassesValue depth ts rest
+BeginsValue (left_of.Parts of_object) ts rest = ts ≡ opening of_object ∷ rest
+
+-- of an object, or else of a list: its end is taken if it is next, and else of an object the name of the next member
+abbrev pub TakesEnd : (of_object is_over : Bool) → List Token → List Token → Type 0
+TakesEnd true true ts rest = read_key ts ≡ Some (None, rest)
+TakesEnd true false ts rest = (name : List ℕ) × (read_key ts ≡ Some (Some name, rest))
+TakesEnd false true ts rest = after_end_array ts ≡ Some rest
+TakesEnd false false ts rest = (after_end_array ts ≡ None) × (rest ≡ ts)
 
 -- the value of a member of a listed name, whose tokens end before `rest`, is kept behind those that were kept before
 pub record KeepsValue (names : List (List ℕ)) (depth : ℕ) (name : List ℕ) (ts rest : List Token)

@@ -1,10 +1,10 @@
 //! A value that is passed over: checked as it would be read, but no tree is made of it.
-ghost use Rattle.std.specs.Prelude.{◌≡◌, ◌<◌, None, Err, length, OnOk, IsTrue};
+ghost use Rattle.std.specs.Prelude.{◌≡◌, ◌∷◌, ◌<◌, ◌≤◌, ℕ, true, None, Err, length, IfOk, OnOk, IsTrue};
 ghost use Rattle.std.specs.Char.{is_ascii_digit};
 ghost use Rattle.std.specs.List.{list_all};
+ghost use Rattle.json.specs.Json.{read_key};
 ghost use Rattle.serde_json.specs.Read.{number_of};
-ghost use Rattle.sig_json.specs.Skipped.{IsWhole, PassesValue, PassesItems, PassesMembers};
-ghost use Rattle.sig_json.specs.Skipped.{value_meant, items_meant, members_meant};
+ghost use Rattle.sig_json.specs.Skipped.{BeginsValue, IsWhole, PassesValue, TakesEnd, opening, value_meant};
 
 use crate::error::SkipError;
 use crate::number::number_in;
@@ -13,43 +13,106 @@ use json::{Reader, Token};
 /// So many decimal digits write a number below 2^64.
 const FEW_DIGITS: usize = 19;
 
+/// So many lists and objects may be open: as many as `MEMBER_DEPTH` lets nest in a member.
+const MOST_OPEN: usize = 126;
+
+/// What of a value is left behind its first token.
+#[derive(Clone, Copy, Drop)]
+enum Rest {
+    Nothing,
+    Parts { of_object: bool },
+}
+
 /// Passes over the next value, whose lists and objects nest to at most `depth`. It takes no memory. Fails with
-/// `NotJson` only if there is no such value, and with `Unsure` at the first number that is held as a float: a later
-/// member of the same name may take the place of the one that it is in, and then the tree has no float.
-#[cycle(skip)]
-#[tactic(auto, using(crate::proofs::Skipping::values))]
+/// `NotJson` only if there is no such value, and with `Unsure` where more than `MOST_OPEN` lists and objects are open,
+/// and at the first number that is held as a float: a later member of the same name may take the place of the one that
+/// it is in, and then the tree has no float.
 #[inline(always)]
 pub(crate) fn skip_value(reader: &mut Reader<'_>, depth: usize) -> Result<(), SkipError>
     ensures ok { OnOk result (PassesValue depth reader.old reader.new) }
     ensures err { result ≡ Err SkipError.NotJson → value_meant depth reader.old ≡ None }
     ensures shorter { OnOk result (length reader.new < length reader.old) }
 {
+    match begin_value(reader)? {
+        Rest::Nothing => Ok(()),
+        Rest::Parts { of_object } => skip_rest(reader, depth, of_object),
+    }
+}
+
+/// Passes over the first token of a value.
+#[tactic(auto, using(crate::proofs::Skipping::values))]
+#[inline(always)]
+fn begin_value(reader: &mut Reader<'_>) -> Result<Rest, SkipError>
+    ensures ok { IfOk result (λ rest. BeginsValue rest reader.old reader.new) }
+    ensures err { result ≡ Err SkipError.NotJson → (depth : ℕ) → value_meant depth reader.old ≡ None }
+    ensures shorter { OnOk result (length reader.new < length reader.old) }
+{
     let Some(token) = reader.next() else {
         return Err(SkipError::NotJson);
     };
     match token {
-        Token::Null | Token::Bool(_) | Token::String(_) => Ok(()),
+        Token::Null | Token::Bool(_) | Token::String(_) => Ok(Rest::Nothing),
         Token::Number(text) => {
             skip_number(text)?;
-            Ok(())
+            Ok(Rest::Nothing)
         }
-        Token::BeginArray => {
-            if depth == 0 {
-                return Err(SkipError::NotJson);
-            }
-            skip_items(reader, depth - 1)?;
-            Ok(())
-        }
-        Token::BeginObject => {
-            if depth == 0 {
-                return Err(SkipError::NotJson);
-            }
-            skip_members(reader, depth - 1)?;
-            Ok(())
-        }
+        Token::BeginArray => Ok(Rest::Parts { of_object: false }),
+        Token::BeginObject => Ok(Rest::Parts { of_object: true }),
         Token::EndObject | Token::EndArray | Token::Key(_) | Token::Bad => {
             Err(SkipError::NotJson)
         }
+    }
+}
+
+/// Takes the end of an object or a list if it is next, and else of an object the name of the next member.
+#[tactic(auto, using(crate::proofs::Enclosed::ends))]
+#[inline(always)]
+fn take_end(reader: &mut Reader<'_>, of_object: bool) -> Result<bool, SkipError>
+    ensures ok { IfOk result (λ is_over. TakesEnd of_object is_over reader.old reader.new) }
+    ensures err { result ≡ Err SkipError.NotJson → (of_object ≡ true) × (read_key reader.old ≡ None) }
+    ensures over { IfOk result (λ is_over. is_over ≡ true → length reader.new < length reader.old) }
+    ensures no_longer { OnOk result (length reader.new ≤ length reader.old) }
+{
+    if of_object {
+        Ok(reader.next_key()?.is_none())
+    } else {
+        Ok(reader.take_end_array())
+    }
+}
+
+/// Passes over the rest of a list or an object, behind its bracket or brace. A loop: a call for each list and object
+/// that is nested in another takes longer.
+#[inline(never)]
+fn skip_rest(reader: &mut Reader<'_>, depth: usize, of_object: bool) -> Result<(), SkipError>
+    ensures ok { OnOk result (PassesValue depth (opening of_object ∷ reader.old) reader.new) }
+    ensures err { result ≡ Err SkipError.NotJson → value_meant depth (opening of_object ∷ reader.old) ≡ None }
+    ensures shorter { OnOk result (length reader.new < length reader.old) }
+{
+    if depth == 0 {
+        return Err(SkipError::NotJson);
+    }
+    // Of each list and object that is open, the outermost first, whether it is an object.
+    let mut objects = [of_object; MOST_OPEN];
+    let mut level = 1;
+    'parts: loop {
+        if take_end(reader, objects[level - 1])? {
+            level -= 1;
+            if level == 0 {
+                return Ok(());
+            }
+            continue;
+        }
+        let Rest::Parts { of_object } = begin_value(reader)? else {
+            continue;
+        };
+        if level == depth {
+            return Err(SkipError::NotJson);
+        }
+        if level == MOST_OPEN {
+            return Err(SkipError::Unsure);
+        }
+        objects[level] = of_object;
+        level += 1;
     }
 }
 
@@ -94,34 +157,4 @@ fn are_decimal_digits(text: &[u8]) -> bool
     ensures { result ≡ list_all is_ascii_digit text.now }
 {
     text.iter().all(|letter| letter.is_ascii_digit())
-}
-
-/// The elements of a list, behind its opening bracket.
-#[cycle(skip)]
-#[tactic(auto, using(crate::proofs::Skipping::lists))]
-#[inline(never)]
-fn skip_items(reader: &mut Reader<'_>, depth: usize) -> Result<(), SkipError>
-    ensures ok { OnOk result (PassesItems depth reader.old reader.new) }
-    ensures err { result ≡ Err SkipError.NotJson → items_meant depth reader.old ≡ None }
-    ensures shorter { OnOk result (length reader.new < length reader.old) }
-{
-    'items: while !reader.take_end_array() {
-        skip_value(reader, depth)?;
-    }
-    Ok(())
-}
-
-/// The members of an object, behind its opening brace.
-#[cycle(skip)]
-#[tactic(auto, using(crate::proofs::Skipping::objects))]
-#[inline(never)]
-fn skip_members(reader: &mut Reader<'_>, depth: usize) -> Result<(), SkipError>
-    ensures ok { OnOk result (PassesMembers depth reader.old reader.new) }
-    ensures err { result ≡ Err SkipError.NotJson → members_meant depth reader.old ≡ None }
-    ensures shorter { OnOk result (length reader.new < length reader.old) }
-{
-    'members: while let Some(_) = reader.next_key()? {
-        skip_value(reader, depth)?;
-    }
-    Ok(())
 }

@@ -1,0 +1,457 @@
+-- Lists and objects that are passed over without recursion: what the whole means, where parts of all that is open were
+-- passed.
+use Rattle.std.proofs.Common.{◌≡◌, ℕ, suc, ◌-◌, ◌+◌, ◌<◌, ◌≤◌, Bool, true, false, true≢false, List, [], ◌∷◌, length, get_or}
+use Rattle.std.proofs.Common.{Option, Some, None, option_and_then, refl, sym, ap, ◌∙◌, subst, arith}
+use Rattle.std.specs.Prelude.{⊤, set}
+use Rattle.std.proofs.lemmas.Bool.{or_from}
+use Rattle.std.proofs.lemmas.List.{get_or-set_same, get_or-set_other}
+use Rattle.json.proofs.Grammar.{value-begin_array, value-begin_object, read_key-shorter, after_end_array-shorter}
+use Rattle.json.specs.Json.{value, items, members, parse_map, after_end_array, read_key}
+use Rattle.json.specs.Token.{Token}
+use Rattle.serde_json.specs.Data.{Data, array, object, Items, no_items, item, Members, no_members, put}
+use Rattle.serde_json.specs.Read.{of_json, converted}
+use Rattle.serde_json.specs.Written.{has_float, items_have_float, members_have_float}
+use Rattle.sig_json.proofs.Converted.{converted-array, converted-object, item_read, item_refused, items_over}
+use Rattle.sig_json.proofs.Converted.{member_read, member_refused, key_refused, members_over}
+use Rattle.sig_json.proofs.Building.{put_floatless}
+use Rattle.sig_json.proofs.Skipping.{twice}
+use Rattle.sig_json.proofs.Tokens.{list_meant, object_meant, array_too_deep, object_too_deep, nothing_means_nothing}
+use Rattle.sig_json.specs.Skipped.{PassesValue, TakesEnd, opening, value_meant}
+
+-- ---- what is open
+
+-- a list or an object, of which a part was passed; so many turns are enough for the tokens that are left
+pub data Open : Type 0 where
+  list : (turns : ℕ) → (Items → Items) → Open
+  members_of : (turns : ℕ) (key : List ℕ) → Members → Open
+
+abbrev pub is_object : Open → Bool
+is_object (list turns behind) = false
+is_object (members_of turns key passed) = true
+
+abbrev pub turns_of : Open → ℕ
+turns_of (list turns behind) = turns
+turns_of (members_of turns key passed) = turns
+
+abbrev pub IsWholeSoFar : Open → Type 0
+IsWholeSoFar (list turns behind) = (ds : Items) → items_have_float ds ≡ false → items_have_float (behind ds) ≡ false
+IsWholeSoFar (members_of turns key passed) = members_have_float passed ≡ false
+
+-- one more value was passed
+abbrev pub with_value : Data → Open → Open
+with_value d (list turns behind) = list (turns - 1) (λ ds. behind (item d ds))
+with_value d (members_of turns key passed) = members_of (turns - 1) key (put key d passed)
+
+-- what was passed and what the tokens that are left mean
+abbrev pub closed : ℕ → Open → List Token → Option (Data × List Token)
+closed depth (list turns behind) ts = parse_map (λ ds. array (behind ds)) (list_meant depth turns ts)
+closed depth (members_of turns key passed) ts = parse_map object (object_meant depth turns ts passed)
+
+-- what the outermost value means, if the value in the innermost of these means this
+abbrev pub outermost : ℕ → List Open → Option (Data × List Token) → Option (Data × List Token)
+outermost depth [] meant = meant
+outermost depth (f ∷ fs) meant =
+    outermost depth fs (option_and_then (λ p. closed (depth - length (f ∷ fs)) (with_value p.0 f) p.1) meant)
+
+outermost-none : (depth : ℕ) (fs : List Open) → outermost depth fs None ≡ None
+outermost-none depth [] = refl
+outermost-none depth (f ∷ fs) = outermost-none depth fs
+
+-- each of these goes on for so many tokens, and its kind is at its level
+abbrev pub AreOpen : List Bool → ℕ → List Open → Type 0
+AreOpen kinds few [] = ⊤
+AreOpen kinds few (f ∷ fs) =
+    (get_or kinds (length fs) false ≡ is_object f) × (few ≤ turns_of f) × IsWholeSoFar f × AreOpen kinds few fs
+
+fewer : (kinds : List Bool) (few more : ℕ) (fs : List Open) → few ≤ more → AreOpen kinds more fs → AreOpen kinds few fs
+fewer kinds few more [] less are = tt
+fewer kinds few more (f ∷ fs) less are =
+    (are.0, omega (arith, are.1), are.2, fewer kinds few more fs less are.3)
+
+opened_above : (kinds : List Bool) (few level : ℕ) (kind : Bool) (fs : List Open) → length fs ≤ level
+    → AreOpen kinds few fs → AreOpen (set kinds level kind) few fs
+opened_above kinds few level kind [] above are = tt
+opened_above kinds few level kind (f ∷ fs) above are = (
+  get_or-set_other kinds level (length fs) kind false (omega arith) ∙ are.0,
+  are.1,
+  are.2,
+  opened_above kinds few level kind fs (omega arith) are.3,
+)
+
+-- ---- before a value, and behind one
+
+-- at the next value in the innermost
+pub record Before (depth : ℕ) (start : List Token) (kinds : List Bool) (level : ℕ) (left : List Token) : Type 0 where
+  pub enclosing : List Open
+  pub at : level ≡ length enclosing
+  pub meant : value_meant depth start ≡ outermost depth enclosing (value_meant (depth - level) left)
+  pub are : AreOpen kinds (length left) enclosing
+  pub below : length left ≤ length start
+
+-- behind a value in the innermost, or behind its bracket or brace
+pub record Inside (depth : ℕ) (start : List Token) (kinds : List Bool) (level : ℕ) (left : List Token) : Type 0 where
+  pub innermost : Open
+  pub others : List Open
+  pub at : level ≡ suc (length others)
+  pub meant : value_meant depth start ≡ outermost depth others (closed (depth - level) innermost left)
+  pub kind : get_or kinds (length others) false ≡ is_object innermost
+  pub enough : length left ≤ turns_of innermost
+  pub whole : IsWholeSoFar innermost
+  pub are : AreOpen kinds (suc (length left)) others
+  pub below : length left < length start
+
+pub at_start : (depth : ℕ) (start : List Token) (kinds : List Bool) → Before depth start kinds 0 start
+at_start depth start kinds = record {
+  enclosing = [];
+  at = refl;
+  meant = ap (λ n. value_meant n start) (omega arith);
+  are = tt;
+  below = omega arith;
+}
+
+-- ---- the value that is next
+
+module _ (depth : ℕ) (start : List Token) (kinds : List Bool) (level : ℕ) (left : List Token)
+    (so_far : Before depth start kinds level left) where
+  pub value_fault : value_meant (depth - level) left ≡ None → value_meant depth start ≡ None
+  value_fault none = so_far.meant ∙ ap (outermost depth so_far.enclosing) none ∙ outermost-none depth so_far.enclosing
+
+  pub too_deep : (kind : Bool) (inner : List Token) → level ≡ depth → left ≡ opening kind ∷ inner
+      → value_meant depth start ≡ None
+  too_deep true inner all is = value_fault (object_too_deep (depth - level) left inner (omega (arith, all)) is)
+  too_deep false inner all is = value_fault (array_too_deep (depth - level) left inner (omega (arith, all)) is)
+
+opened : Bool → ℕ → Open
+opened true turns = members_of turns [] no_members
+opened false turns = list turns (λ ds. ds)
+
+opened_meant : (depth level : ℕ) (kind : Bool) (left inner : List Token) → level < depth → left ≡ opening kind ∷ inner
+    → value_meant (depth - level) left ≡ closed (depth - (level + 1)) (opened kind (length inner)) inner
+unfolding opened
+opened_meant depth level true left inner above is =
+    let some : 0 < depth - level = omega (arith, above) in
+    ap (value_meant (depth - level)) is ∙ ap (converted of_json) (value-begin_object (depth - level) inner some)
+    ∙ converted-object (members (value (depth - level - 1)) (length inner) inner)
+    ∙ ap (λ n. closed n (opened true (length inner)) inner) (omega (arith, above))
+opened_meant depth level false left inner above is =
+    let some : 0 < depth - level = omega (arith, above) in
+    ap (value_meant (depth - level)) is ∙ ap (converted of_json) (value-begin_array (depth - level) inner some)
+    ∙ converted-array (items (value (depth - level - 1)) (length inner) inner)
+    ∙ ap (λ n. closed n (opened false (length inner)) inner) (omega (arith, above))
+
+opened_kind : (kind : Bool) (turns : ℕ) → kind ≡ is_object (opened kind turns)
+unfolding opened
+opened_kind true turns = refl
+opened_kind false turns = refl
+
+opened_turns : (kind : Bool) (turns : ℕ) → turns ≡ turns_of (opened kind turns)
+unfolding opened
+opened_turns true turns = refl
+opened_turns false turns = refl
+
+opened_whole : (kind : Bool) (turns : ℕ) → IsWholeSoFar (opened kind turns)
+unfolding opened
+opened_whole true turns = refl
+opened_whole false turns = λ ds whole. whole
+
+pub value_opened : (depth : ℕ) (start : List Token) (kinds : List Bool) (level : ℕ) (left : List Token) (kind : Bool)
+    (inner : List Token) → Before depth start kinds level left → left ≡ opening kind ∷ inner → level < depth
+    → level < length kinds → Inside depth start (set kinds level kind) (level + 1) inner
+value_opened depth start kinds level left kind inner so_far is above room =
+    let one_less : length left ≡ suc (length inner) = ap length is in
+    record {
+      innermost = opened kind (length inner);
+      others = so_far.enclosing;
+      at = omega (arith, so_far.at);
+      meant = so_far.meant ∙ ap (outermost depth so_far.enclosing) (opened_meant depth level kind left inner above is);
+      kind = ap (λ n. get_or (set kinds level kind) n false) (sym so_far.at)
+          ∙ get_or-set_same kinds level kind false room ∙ opened_kind kind (length inner);
+      enough = omega (arith, opened_turns kind (length inner));
+      whole = opened_whole kind (length inner);
+      are = opened_above kinds (suc (length inner)) level kind so_far.enclosing (omega (arith, so_far.at))
+          (fewer kinds (suc (length inner)) (length left) so_far.enclosing (omega (arith, one_less)) so_far.are);
+      below = omega (arith, so_far.below, one_less);
+    }
+
+with_value-object : (d : Data) (f : Open) → is_object (with_value d f) ≡ is_object f
+with_value-object d (list turns behind) = refl
+with_value-object d (members_of turns key passed) = refl
+
+with_value-turns : (d : Data) (f : Open) → turns_of (with_value d f) ≡ turns_of f - 1
+with_value-turns d (list turns behind) = refl
+with_value-turns d (members_of turns key passed) = refl
+
+with_value-whole : (d : Data) (f : Open) → has_float d ≡ false → IsWholeSoFar f → IsWholeSoFar (with_value d f)
+with_value-whole d (list turns behind) one whole =
+    λ ds none. whole (item d ds) (or_from (has_float d) (items_have_float ds) one none)
+with_value-whole d (members_of turns key passed) one whole = put_floatless key d passed one whole
+
+-- a value of the next one out was passed
+taken : (depth : ℕ) (start : List Token) (kinds : List Bool) (d : Data) (rest : List Token) (f : Open)
+    (fs : List Open) → value_meant depth start ≡ outermost depth (f ∷ fs) (Some (d, rest)) → has_float d ≡ false
+    → AreOpen kinds (suc (length rest)) (f ∷ fs) → length rest < length start
+    → Inside depth start kinds (suc (length fs)) rest
+taken depth start kinds d rest f fs meant one are less =
+    record {
+      innermost = with_value d f;
+      others = fs;
+      at = refl;
+      meant = meant;
+      kind = are.0 ∙ sym (with_value-object d f);
+      enough = omega (arith, are.1, with_value-turns d f);
+      whole = with_value-whole d f one are.2;
+      are = are.3;
+      below = less;
+    }
+
+pub value_taken : (depth : ℕ) (start : List Token) (kinds : List Bool) (level : ℕ) (left next : List Token)
+    → Before depth start kinds level left → 0 < level → PassesValue (depth - level) left next
+    → length next < length left → Inside depth start kinds level next
+value_taken depth start kinds level left next so_far some passed less =
+    go so_far.enclosing so_far.at so_far.meant so_far.are where
+      go : (enclosing : List Open) → level ≡ length enclosing
+          → value_meant depth start ≡ outermost depth enclosing (value_meant (depth - level) left)
+          → AreOpen kinds (length left) enclosing → Inside depth start kinds level next
+      go [] at meant are = absurd (omega (arith, at, some))
+      go (f ∷ fs) at meant are =
+          subst (λ n. Inside depth start kinds n next) (sym at)
+          (taken depth start kinds passed.value next f fs (meant ∙ ap (outermost depth (f ∷ fs)) passed.is) passed.whole
+          (fewer kinds (suc (length next)) (length left) (f ∷ fs) (omega (arith, less)) are)
+          (omega (arith, less, so_far.below)))
+
+-- ---- what is behind the values that were passed
+
+has_token : (depth : ℕ) (left : List Token) (p : Data × List Token) → value_meant depth left ≡ Some p
+    → 0 < length left
+has_token depth [] p is = let none = sym (nothing_means_nothing depth [] refl) ∙ is in absurd cc
+has_token depth (t ∷ ts) p is = omega arith
+
+list_turn : (depth turns : ℕ) (behind : Items → Items) (left : List Token) → after_end_array left ≡ None
+    → length left ≤ turns → closed depth (list turns behind) left
+    ≡ option_and_then (λ p. closed depth (with_value p.0 (list turns behind)) p.1) (value_meant depth left)
+list_turn depth turns behind left going enough = turn (value_meant depth left) refl where
+  turn : (meant : Option (Data × List Token)) → value_meant depth left ≡ meant → closed depth (list turns behind) left
+      ≡ option_and_then (λ p. closed depth (with_value p.0 (list turns behind)) p.1) meant
+  turn None is = ap (parse_map (λ ds. array (behind ds))) (item_refused (value depth) turns left going is)
+  turn (Some p) is =
+      let some = has_token depth left p is in
+      ap (parse_map (λ ds. array (behind ds)))
+      (item_read (value depth) turns left p.1 p.0 (omega (arith, enough, some)) going is)
+      ∙ twice (λ ds. array (behind ds)) (item p.0) (list_meant depth (turns - 1) p.1)
+
+object_turn : (depth turns : ℕ) (old k : List ℕ) (passed : Members) (left inner : List Token)
+    → read_key left ≡ Some (Some k, inner) → length left ≤ turns → closed depth (members_of turns old passed) left
+    ≡ option_and_then (λ p. closed depth (with_value p.0 (members_of turns k passed)) p.1) (value_meant depth inner)
+object_turn depth turns old k passed left inner key enough = turn (value_meant depth inner) refl where
+  turn : (meant : Option (Data × List Token)) → value_meant depth inner ≡ meant
+      → closed depth (members_of turns old passed) left
+      ≡ option_and_then (λ p. closed depth (with_value p.0 (members_of turns k passed)) p.1) meant
+  turn None is = ap (parse_map object) (member_refused (value depth) passed turns k left inner key is)
+  turn (Some p) is =
+      let less = read_key-shorter left (Some k) inner key in
+      ap (parse_map object)
+      (member_read (value depth) passed turns k left inner p.1 p.0 (omega (arith, enough, less)) key is)
+
+-- the innermost ends here, and its value was passed
+pub record Over (depth : ℕ) (start : List Token) (kinds : List Bool) (level : ℕ) (rest : List Token) : Type 0 where
+  pub others : List Open
+  pub at : level ≡ suc (length others)
+  pub value : Data
+  pub meant : value_meant depth start ≡ outermost depth others (Some (value, rest))
+  pub whole : has_float value ≡ false
+  pub are : AreOpen kinds (suc (length rest)) others
+  pub below : length rest < length start
+
+pub over_last : (depth : ℕ) (start : List Token) (kinds : List Bool) (level : ℕ) (rest : List Token)
+    → Over depth start kinds level rest → level - 1 ≡ 0 → PassesValue depth start rest
+over_last depth start kinds level rest over last = go over.others over.at over.meant where
+  go : (others : List Open) → level ≡ suc (length others)
+      → value_meant depth start ≡ outermost depth others (Some (over.value, rest)) → PassesValue depth start rest
+  go [] at meant = record { value = over.value; is = meant; whole = over.whole }
+  go (f ∷ fs) at meant = absurd (omega (arith, at, last))
+
+pub over_inner : (depth : ℕ) (start : List Token) (kinds : List Bool) (level : ℕ) (rest : List Token)
+    → Over depth start kinds level rest → 0 < level - 1 → Inside depth start kinds (level - 1) rest
+over_inner depth start kinds level rest over more = go over.others over.at over.meant over.are where
+  go : (others : List Open) → level ≡ suc (length others)
+      → value_meant depth start ≡ outermost depth others (Some (over.value, rest))
+      → AreOpen kinds (suc (length rest)) others → Inside depth start kinds (level - 1) rest
+  go [] at meant are = absurd (omega (arith, at, more))
+  go (f ∷ fs) at meant are =
+      subst (λ n. Inside depth start kinds n rest) (omega (arith, at))
+      (taken depth start kinds over.value rest f fs meant over.whole are over.below)
+
+module _ (depth : ℕ) (start : List Token) (kinds : List Bool) (level : ℕ) (left : List Token)
+    (so_far : Inside depth start kinds level left) where
+  at_level : value_meant depth start
+      ≡ outermost depth so_far.others (closed (depth - suc (length so_far.others)) so_far.innermost left)
+  at_level = so_far.meant ∙ ap (λ n. outermost depth so_far.others (closed (depth - n) so_far.innermost left)) so_far.at
+
+  inner_over : (d : Data) (rest : List Token) → closed (depth - level) so_far.innermost left ≡ Some (d, rest)
+      → has_float d ≡ false → length rest < length left → Over depth start kinds level rest
+  inner_over d rest is one less =
+      record {
+        others = so_far.others;
+        at = so_far.at;
+        value = d;
+        meant = so_far.meant ∙ ap (outermost depth so_far.others) is;
+        whole = one;
+        are = fewer kinds (suc (length rest)) (suc (length left)) so_far.others (omega (arith, less)) so_far.are;
+        below = omega (arith, less, so_far.below);
+      }
+
+  next_in : (f : Open) (inner : List Token)
+      → closed (depth - suc (length so_far.others)) so_far.innermost left
+      ≡ option_and_then (λ p. closed (depth - suc (length so_far.others)) (with_value p.0 f) p.1)
+      (value_meant (depth - suc (length so_far.others)) inner)
+      → is_object so_far.innermost ≡ is_object f → turns_of so_far.innermost ≡ turns_of f → IsWholeSoFar f
+      → length inner ≤ length left → Before depth start kinds level inner
+  next_in f inner turn kind turns whole less =
+      subst (λ n. Before depth start kinds n inner) (sym so_far.at)
+      (record {
+        enclosing = f ∷ so_far.others;
+        at = refl;
+        meant = at_level ∙ ap (outermost depth so_far.others) turn;
+        are = (
+          so_far.kind ∙ kind,
+          omega (arith, so_far.enough, turns, less),
+          whole,
+          fewer kinds (length inner) (suc (length left)) so_far.others (omega (arith, less)) so_far.are,
+        );
+        below = omega (arith, less, so_far.below);
+      })
+
+pub list_over : (depth : ℕ) (start : List Token) (kinds : List Bool) (level : ℕ) (left rest : List Token)
+    → Inside depth start kinds level left → get_or kinds (level - 1) false ≡ false → after_end_array left ≡ Some rest
+    → Over depth start kinds level rest
+list_over depth start kinds level left rest so_far kind end =
+    go so_far.innermost refl so_far.enough so_far.whole where
+      here : get_or kinds (level - 1) false ≡ is_object so_far.innermost
+      here = ap (λ n. get_or kinds n false) (omega (arith, so_far.at)) ∙ so_far.kind
+
+      go : (f : Open) → so_far.innermost ≡ f → length left ≤ turns_of f → IsWholeSoFar f
+          → Over depth start kinds level rest
+      go (list turns behind) is enough whole =
+          inner_over depth start kinds level left so_far (array (behind no_items)) rest
+          (ap (λ f. closed (depth - level) f left) is
+          ∙ ap (parse_map (λ ds. array (behind ds))) (items_over (value (depth - level)) turns left rest enough end))
+          (whole no_items refl) (after_end_array-shorter left rest end)
+      go (members_of turns key passed) is enough whole =
+          absurd (true≢false (sym (here ∙ ap is_object is) ∙ kind))
+
+pub object_over : (depth : ℕ) (start : List Token) (kinds : List Bool) (level : ℕ) (left rest : List Token)
+    → Inside depth start kinds level left → get_or kinds (level - 1) false ≡ true → read_key left ≡ Some (None, rest)
+    → Over depth start kinds level rest
+object_over depth start kinds level left rest so_far kind end =
+    go so_far.innermost refl so_far.enough so_far.whole where
+      here : get_or kinds (level - 1) false ≡ is_object so_far.innermost
+      here = ap (λ n. get_or kinds n false) (omega (arith, so_far.at)) ∙ so_far.kind
+
+      go : (f : Open) → so_far.innermost ≡ f → length left ≤ turns_of f → IsWholeSoFar f
+          → Over depth start kinds level rest
+      go (list turns behind) is enough whole = absurd (true≢false (sym kind ∙ here ∙ ap is_object is))
+      go (members_of turns key passed) is enough whole =
+          inner_over depth start kinds level left so_far (object passed) rest
+          (ap (λ f. closed (depth - level) f left) is
+          ∙ ap (parse_map object) (members_over (value (depth - level)) passed turns left rest enough end))
+          whole (read_key-shorter left None rest end)
+
+pub list_next : (depth : ℕ) (start : List Token) (kinds : List Bool) (level : ℕ) (left : List Token)
+    → Inside depth start kinds level left → get_or kinds (level - 1) false ≡ false → after_end_array left ≡ None
+    → Before depth start kinds level left
+list_next depth start kinds level left so_far kind going =
+    go so_far.innermost refl so_far.enough so_far.whole where
+      here : get_or kinds (level - 1) false ≡ is_object so_far.innermost
+      here = ap (λ n. get_or kinds n false) (omega (arith, so_far.at)) ∙ so_far.kind
+
+      go : (f : Open) → so_far.innermost ≡ f → length left ≤ turns_of f → IsWholeSoFar f
+          → Before depth start kinds level left
+      go (list turns behind) is enough whole =
+          next_in depth start kinds level left so_far (list turns behind) left
+          (ap (λ f. closed (depth - suc (length so_far.others)) f left) is
+          ∙ list_turn (depth - suc (length so_far.others)) turns behind left going enough)
+          (ap is_object is) (ap turns_of is) whole (omega arith)
+      go (members_of turns key passed) is enough whole =
+          absurd (true≢false (sym (here ∙ ap is_object is) ∙ kind))
+
+pub object_next : (depth : ℕ) (start : List Token) (kinds : List Bool) (level : ℕ) (left inner : List Token)
+    (k : List ℕ) → Inside depth start kinds level left → get_or kinds (level - 1) false ≡ true
+    → read_key left ≡ Some (Some k, inner) → Before depth start kinds level inner
+object_next depth start kinds level left inner k so_far kind key =
+    go so_far.innermost refl so_far.enough so_far.whole where
+      here : get_or kinds (level - 1) false ≡ is_object so_far.innermost
+      here = ap (λ n. get_or kinds n false) (omega (arith, so_far.at)) ∙ so_far.kind
+
+      go : (f : Open) → so_far.innermost ≡ f → length left ≤ turns_of f → IsWholeSoFar f
+          → Before depth start kinds level inner
+      go (list turns behind) is enough whole = absurd (true≢false (sym kind ∙ here ∙ ap is_object is))
+      go (members_of turns old passed) is enough whole =
+          next_in depth start kinds level left so_far (members_of turns k passed) inner
+          (ap (λ f. closed (depth - suc (length so_far.others)) f left) is
+          ∙ object_turn (depth - suc (length so_far.others)) turns old k passed left inner key enough)
+          (ap is_object is) (ap turns_of is) whole
+          (omega (arith, read_key-shorter left (Some k) inner key))
+
+pub key_fault : (depth : ℕ) (start : List Token) (kinds : List Bool) (level : ℕ) (left : List Token)
+    → Inside depth start kinds level left → get_or kinds (level - 1) false ≡ true → read_key left ≡ None
+    → value_meant depth start ≡ None
+key_fault depth start kinds level left so_far kind none = go so_far.innermost refl where
+  here : get_or kinds (level - 1) false ≡ is_object so_far.innermost
+  here = ap (λ n. get_or kinds n false) (omega (arith, so_far.at)) ∙ so_far.kind
+
+  go : (f : Open) → so_far.innermost ≡ f → value_meant depth start ≡ None
+  go (list turns behind) is = absurd (true≢false (sym kind ∙ here ∙ ap is_object is))
+  go (members_of turns key passed) is = so_far.meant
+      ∙ ap (λ f. outermost depth so_far.others (closed (depth - level) f left)) is
+      ∙ ap (λ r. outermost depth so_far.others (parse_map object r))
+      (key_refused (value (depth - level)) passed turns left none)
+      ∙ outermost-none depth so_far.others
+
+-- the first list or object
+pub opens : (depth : ℕ) (kind : Bool) (inner : List Token) (kinds : List Bool) → 0 < depth
+    → get_or kinds 0 false ≡ kind → Inside depth (opening kind ∷ inner) kinds 1 inner
+opens depth kind inner kinds some first =
+    record {
+      innermost = opened kind (length inner);
+      others = [];
+      at = refl;
+      meant = ap (λ n. value_meant n (opening kind ∷ inner)) (omega arith)
+          ∙ opened_meant depth 0 kind (opening kind ∷ inner) inner some refl;
+      kind = first ∙ opened_kind kind (length inner);
+      enough = omega (arith, opened_turns kind (length inner));
+      whole = opened_whole kind (length inner);
+      are = tt;
+      below = omega arith;
+    }
+
+pub none_opens : (depth : ℕ) (kind : Bool) (inner : List Token) → depth ≡ 0
+    → value_meant depth (opening kind ∷ inner) ≡ None
+none_opens depth true inner none = object_too_deep depth (opening true ∷ inner) inner none refl
+none_opens depth false inner none = array_too_deep depth (opening false ∷ inner) inner none refl
+
+-- ---- a turn
+
+module _ (depth : ℕ) (start : List Token) (kinds : List Bool) (level : ℕ) (left rest : List Token)
+    (so_far : Inside depth start kinds level left) where
+  end_taken : (kind : Bool) → get_or kinds (level - 1) false ≡ kind → TakesEnd kind true left rest
+      → Over depth start kinds level rest
+  end_taken true is end = object_over depth start kinds level left rest so_far is end
+  end_taken false is end = list_over depth start kinds level left rest so_far is end
+
+  going_on : (kind : Bool) → get_or kinds (level - 1) false ≡ kind → TakesEnd kind false left rest
+      → Before depth start kinds level rest
+  going_on true is more = object_next depth start kinds level left rest more.0 so_far is more.1
+  going_on false is more =
+      subst (Before depth start kinds level) (sym more.1) (list_next depth start kinds level left so_far is more.0)
+
+  pub ended : (kind is_over : Bool) → get_or kinds (level - 1) false ≡ kind → is_over ≡ true
+      → TakesEnd kind is_over left rest → Over depth start kinds level rest
+  ended kind true is over end = end_taken kind is end
+  ended kind false is over end = absurd (true≢false (sym over))
+
+  pub goes_on : (kind is_over : Bool) → get_or kinds (level - 1) false ≡ kind → is_over ≡ false
+      → TakesEnd kind is_over left rest → Before depth start kinds level rest
+  goes_on kind true is more end = absurd (true≢false more)
+  goes_on kind false is more end = going_on kind is end
+
+pub ruleset ends = (read_key-shorter, after_end_array-shorter)
