@@ -60,14 +60,20 @@ impl TransparencyLogEntry {
     pub fn copy(&self, alloc: Global) -> Result<TransparencyLogEntry, OutOfMemory>
         ensures { IfOk result (λ copied. copied ≡ self.now) }
     {
+        // What has most parts comes last: what is there already is dropped where the next copy fails.
+        let canonicalized_body = self.canonicalized_body.copy(alloc)?;
+        let log_id = copied_option(alloc, &self.log_id)?;
+        let inclusion_promise = copied_option(alloc, &self.inclusion_promise)?;
+        let kind_version = copied_option(alloc, &self.kind_version)?;
+        let inclusion_proof = copied_option(alloc, &self.inclusion_proof)?;
         Ok(TransparencyLogEntry {
             log_index: self.log_index,
-            log_id: copied_option(alloc, &self.log_id)?,
-            kind_version: copied_option(alloc, &self.kind_version)?,
+            log_id,
+            kind_version,
             integrated_time: self.integrated_time,
-            inclusion_promise: copied_option(alloc, &self.inclusion_promise)?,
-            inclusion_proof: copied_option(alloc, &self.inclusion_proof)?,
-            canonicalized_body: self.canonicalized_body.copy(alloc)?,
+            inclusion_promise,
+            inclusion_proof,
+            canonicalized_body,
         })
     }
 }

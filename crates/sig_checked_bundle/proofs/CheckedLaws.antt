@@ -1,14 +1,63 @@
 -- The checks behind the certificate's, where the certificate is known.
 use Rattle.std.proofs.Common.{◌≡◌, ◌⊎◌, inl, inr, Option, Some, Result, Ok, Err, refl, sym, ap, subst, ◌∙◌}
 use Rattle.sig_base.specs.Answers.{Answers, UnlessMemory}
+use Rattle.sig_base.proofs.ResultSteps.{err_is, ok_is}
+use Rattle.sig_base.specs.ResultSteps.{◌>>=◌}
 use Rattle.sig_bundle.specs.AnswersOnly.{AnswersOnly}
 use Rattle.sig_certificate.specs.Certificate.{Cert}
+use Rattle.sig_checked_bundle.specs.Borrowed.{entry_under_profile}
 use Rattle.sig_checked_bundle.specs.Checked.{Checked, checked, IsCheckedWith}
+use Rattle.sig_checked_bundle.specs.Content.{ContentWithSignature, content_with_signature}
+use Rattle.sig_checked_bundle.specs.Profile.{entry_among, meets_profile}
 use Rattle.sig_checked_bundle.specs.SigningCertificate.{IsSigningCertificate}
 use Rattle.sig_bundle.specs.declared.bundle.Bundle.{Bundle}
 use Rattle.sig_checked_bundle.specs.declared.bundle_error.BundleErrorKind.{BundleErrorKind}
 use Rattle.sig_checked_bundle.specs.declared.bundle_error.BundleErrorKind.TheVariants.{OutOfMemory}
+use Rattle.sig_bundle.specs.declared.material.TransparencyLogEntry.{TransparencyLogEntry}
 use Rattle.sig_bundle.specs.declared.material.VerificationMaterial.{VerificationMaterial}
+
+-- ---- a step and a test of what it gives, and then more made of it
+
+tested-ok : {A B E : Type 0} (x y : A) (test : Result (Unit {0}) E) (make : A → B)
+    → (test >>= λ _. Ok x) ≡ Ok y → (test >>= λ _. Ok (make x)) ≡ Ok (make y)
+tested-ok x y (Ok t) make is = ap (λ z. Ok (make z)) (ok_is x y is)
+tested-ok x y (Err e) make is = absurd cc
+
+tested-err : {A B E : Type 0} (x : A) (test : Result (Unit {0}) E) (make : A → B) (e : E)
+    → (test >>= λ _. Ok x) ≡ Err e → (test >>= λ _. Ok (make x)) ≡ Err e
+tested-err x (Ok t) make e is = absurd cc
+tested-err x (Err d) make e is = ap Err (err_is d e is)
+
+made-ok : {A B E : Type 0} (found : Result A E) (test : A → Result (Unit {0}) E) (make : A → B) (y : A)
+    → (found >>= λ x. test x >>= λ _. Ok x) ≡ Ok y → (found >>= λ x. test x >>= λ _. Ok (make x)) ≡ Ok (make y)
+made-ok (Ok x) test make y is = tested-ok x y (test x) make is
+made-ok (Err e) test make y is = absurd cc
+
+made-err : {A B E : Type 0} (found : Result A E) (test : A → Result (Unit {0}) E) (make : A → B) (e : E)
+    → (found >>= λ x. test x >>= λ _. Ok x) ≡ Err e → (found >>= λ x. test x >>= λ _. Ok (make x)) ≡ Err e
+made-err (Ok x) test make e is = tested-err x (test x) make e is
+made-err (Err d) test make e is = ap Err (err_is d e is)
+
+abbrev made : Cert → ContentWithSignature → TransparencyLogEntry → Checked
+made c content entry =
+    record { certificate = c; signature = content.signature; content = content.content; entry = entry }
+
+pub checked-found : (b : Bundle) (m : VerificationMaterial) (c : Cert) (content : ContentWithSignature)
+    (entry : TransparencyLogEntry)
+    → content_with_signature b.content ≡ Ok content
+    → entry_under_profile b.media_type m.tlog_entries ≡ Ok entry
+    → checked b m (Ok c) ≡ Ok (made c content entry)
+checked-found b m c content entry is of =
+    rw is (made-ok (entry_among m.tlog_entries) (meets_profile b.media_type) (made c content) entry of)
+
+pub checked-refused : (b : Bundle) (m : VerificationMaterial) (c : Cert) (content : ContentWithSignature)
+    (e : BundleErrorKind)
+    → content_with_signature b.content ≡ Ok content
+    → (e ≡ OutOfMemory) ⊎ (entry_under_profile b.media_type m.tlog_entries ≡ Err e)
+    → (e ≡ OutOfMemory) ⊎ (checked b m (Ok c) ≡ Err e)
+checked-refused b m c content e is (inl memory) = inl memory
+checked-refused b m c content e is (inr of) =
+    inr (rw is (made-err (entry_among m.tlog_entries) (meets_profile b.media_type) (made c content) e of))
 
 -- the answer is the one that is meant, unless memory ran out
 answered : (r m : Result Checked BundleErrorKind) → Answers OutOfMemory (λ x. x) r m → (r ≡ Err OutOfMemory) ⊎ (r ≡ m)

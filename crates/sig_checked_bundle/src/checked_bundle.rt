@@ -3,6 +3,7 @@
 ghost use Rattle.std.specs.Prelude.{◌≡◌, ◌↔◌, Some, Ok, IfOk, IfSome, IsSome};
 ghost use Rattle.sig_base.specs.Answers.{Answers};
 ghost use Rattle.sig_bundle.specs.AnswersOnly.{AnswersOnly};
+ghost use Rattle.sig_checked_bundle.specs.Borrowed.{entry_under_profile};
 ghost use Rattle.sig_checked_bundle.specs.Checked.{Checked, checked, IsChecked, IsCheckedWith};
 ghost use Rattle.sig_checked_bundle.specs.LogBody.{IsLogBody, NeedsNoFetch};
 
@@ -52,6 +53,20 @@ fn check(
     check_behind_certificate(alloc, input, material, certificate)
 }
 
+/// The log entry, in memory of its own, if it has what the media type demands.
+fn checked_entry(
+    alloc: Global,
+    input: &Bundle,
+    material: &VerificationMaterial,
+) -> Result<TransparencyLogEntry, BundleErrorKind>
+    ensures { Answers BundleErrorKind.OutOfMemory (λ entry. entry) result
+        (entry_under_profile input.now.media_type material.now.tlog_entries) }
+{
+    let entry = entry_among(&material.tlog_entries)?;
+    meets_profile(alloc, &input.media_type, entry)?;
+    Ok(entry.copy(alloc)?)
+}
+
 /// The checks behind that of the signing certificate.
 fn check_behind_certificate(
     alloc: Global,
@@ -63,13 +78,12 @@ fn check_behind_certificate(
         (checked input.now material.now (Ok certificate)) }
 {
     let content = checked_content(alloc, &input.content)?;
-    let entry = entry_among(&material.tlog_entries)?;
-    meets_profile(alloc, &input.media_type, entry)?;
+    let entry = checked_entry(alloc, input, material)?;
     Ok(CheckedBundle {
         certificate,
         signature: content.signature,
         content: content.content,
-        entry: entry.copy(alloc)?,
+        entry,
     })
 }
 

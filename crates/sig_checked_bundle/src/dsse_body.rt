@@ -172,6 +172,22 @@ impl DsseBody {
             && self.spec.payload_hash.is_of(payload)
             && self.spec.signature.is_of(signature, pem)
     }
+
+    /// The same for the certificate of this DER. Fails only if memory runs out.
+    fn is_about_signed(
+        &self,
+        alloc: Global,
+        envelope: &[u8],
+        payload: &[u8],
+        signature: &[u8],
+        certificate: &[u8],
+    ) -> Result<bool, OutOfMemory>
+        ensures { IfOk result (λ about. IsTrue about ↔ (self.now
+            ≡ body_about envelope.now payload.now signature.now (pem_of certificate.now))) }
+    {
+        let pem = der_to_pem(alloc, certificate)?;
+        Ok(self.is_about(envelope, payload, signature, pem.as_str().as_bytes()))
+    }
 }
 
 /// What the body of an entry says. `None` if it is no document of these members.
@@ -202,9 +218,6 @@ pub(crate) fn is_about_envelope(
 {
     match read_body(alloc, body)? {
         None => Ok(false),
-        Some(found) => {
-            let pem = der_to_pem(alloc, certificate)?;
-            Ok(found.is_about(envelope, payload, signature, pem.as_str().as_bytes()))
-        }
+        Some(found) => found.is_about_signed(alloc, envelope, payload, signature, certificate),
     }
 }

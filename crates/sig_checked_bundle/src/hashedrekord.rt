@@ -66,10 +66,9 @@ fn spec(alloc: Global, digest: &[u8], signature: &[u8], pem: &[u8]) -> Result<Do
     ensures { IfOk result (λ document. document_tree document ≡ spec_tree digest.now signature.now pem.now) }
 {
     let data = data_tree(alloc, digest)?;
+    let object = Object::new(alloc).with(alloc, "data", data)?;
     let signature = signature_tree(alloc, signature, pem)?;
-    let object = Object::new(alloc)
-        .with(alloc, "data", data)?
-        .with(alloc, "signature", signature)?;
+    let object = object.with(alloc, "signature", signature)?;
     Ok(object.into_document())
 }
 
@@ -93,6 +92,21 @@ fn entry_about(
     Ok(object.into_document())
 }
 
+/// The entry about an artifact of this SHA-256 digest, with this signature, which the certificate of this DER
+/// verifies. Fails only if memory runs out.
+fn entry_with(
+    alloc: Global,
+    digest: &[u8],
+    signature: &[u8],
+    certificate: &[u8],
+) -> Result<Document, OutOfMemory>
+    ensures { IfOk result (λ document. document_tree document
+        ≡ hashedrekord_tree digest.now signature.now (pem_of certificate.now)) }
+{
+    let pem = der_to_pem(alloc, certificate)?;
+    entry_about(alloc, digest, signature, pem.as_str().as_bytes())
+}
+
 /// Whether the body of an entry is about an artifact of this SHA-256 digest, with this signature, which the
 /// certificate of this DER verifies: whether its tree is the one of kind `hashedrekord`, version 0.0.1, that says so,
 /// without any other member. Fails only if memory runs out.
@@ -108,8 +122,7 @@ pub(crate) fn is_about_artifact(
 {
     match Document::read(alloc, body) {
         Ok(document) => {
-            let pem = der_to_pem(alloc, certificate)?;
-            let entry = entry_about(alloc, digest, signature, pem.as_str().as_bytes())?;
+            let entry = entry_with(alloc, digest, signature, certificate)?;
             Ok(document == entry)
         }
         Err(DocumentError::NotJson | DocumentError::Float) => Ok(false),

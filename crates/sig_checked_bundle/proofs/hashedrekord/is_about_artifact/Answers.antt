@@ -1,4 +1,3 @@
-use Rattle.std.proofs.Common.{◌≡◌, ℕ, List, ap, rules, ◌∙◌}
 use Rattle.sig_certificate.specs.Pem.{pem_of}
 use Rattle.sig_json.specs.Document.{document_of}
 use Rattle.sig_json.specs.Tree.{document_tree}
@@ -8,12 +7,7 @@ use Rattle.sig_checked_bundle.proofs.hashedrekord.is_about_artifact.Goals as goa
 
 pub returns-in_ok-entry-in-Ok : goal.returns-in_ok-entry-in-Ok
 returns-in_ok-entry-in-Ok c =
-    let pem : c.as_bytes.result.now ≡ pem_of c.args.certificate.now = search rules in
-    let entry : document_tree c.in_ok-entry-in-Ok.entry
-    ≡ hashedrekord_tree c.args.digest.now c.args.signature.now (pem_of c.args.certificate.now) =
-    c.in_ok-entry-in-Ok.ensures ∙ ap
-    (λ (t : List ℕ). hashedrekord_tree c.args.digest.now c.args.signature.now t) pem in
     tree-compared (document_of c.args.body.now) (document_tree c.in-Ok.document)
     (document_tree c.in_ok-entry-in-Ok.entry)
     (hashedrekord_tree c.args.digest.now c.args.signature.now (pem_of c.args.certificate.now)) c.eq.result
-    c.in-Ok.ensures.value c.eq.ensures.exact entry
+    c.in-Ok.ensures.value c.eq.ensures.exact c.in_ok-entry-in-Ok.ensures
