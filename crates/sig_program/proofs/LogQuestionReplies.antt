@@ -23,7 +23,7 @@ use Rattle.sig_program.specs.declared.command.Command.TheVariants.{LogQuestions}
 use Rattle.sig_request.specs.declared.head_members.ClaimedHead.{ClaimedHead}
 use Rattle.sig_program.specs.declared.reply.Reply.{Reply}
 use Rattle.sig_request.specs.declared.request.LogRequest.{LogRequest}
-use Rattle.sig_request.specs.ReadFrom.{IsReadFrom, IsRequestOf}
+use Rattle.sig_request.specs.ReadFrom.{IsRequestOf}
 
 -- ---- what the reader of checkpoints says
 
@@ -85,21 +85,18 @@ listed-reply text request checkpoint reply is read (inr made) =
 
 -- ---- the replies of a call
 
-pub unchecked-replied : (text : List ℕ) (found : Option LogRequest) (request : LogRequest)
-    (checkpoint : Option SignedCheckpoint) (r : Result Reply OutOfMemory)
-    → IfOk r (λ reply. reply ≡ refusal_reply Checkpoint) → found ≡ Some request → IsReadFrom log_request text found
-    → checkpoint ≡ None → IsCheckpointOf request.head checkpoint → IfOk r (IsReply LogQuestions text)
-unchecked-replied text found request checkpoint r is some read none missing =
-    replied LogQuestions text (refusal_reply Checkpoint) r is (unchecked-reply text request (subst
-    (IsReadFrom log_request text) some read)
-    (subst (IsCheckpointOf request.head) none missing))
+pub unchecked-replied : (text : List ℕ) (request : LogRequest) (checkpoint : Option SignedCheckpoint)
+    (r : Result Reply OutOfMemory) → IfOk r (λ reply. reply ≡ refusal_reply Checkpoint)
+    → IsRequestOf log_request text request → checkpoint ≡ None → IsCheckpointOf request.head checkpoint
+    → IfOk r (IsReply LogQuestions text)
+unchecked-replied text request checkpoint r made is none missing =
+    replied LogQuestions text (refusal_reply Checkpoint) r made
+    (unchecked-reply text request is (subst (IsCheckpointOf request.head) none missing))
 
-pub listed-replied : (text : List ℕ) (found : Option LogRequest) (request : LogRequest)
-    (had : Option SignedCheckpoint) (checkpoint : SignedCheckpoint) (r : Result Reply OutOfMemory)
-    → IfOk r (IsListingOf (head_rows request.head checkpoint)) → found ≡ Some request
-    → IsReadFrom log_request text found
+pub listed-replied : (text : List ℕ) (request : LogRequest) (had : Option SignedCheckpoint)
+    (checkpoint : SignedCheckpoint) (r : Result Reply OutOfMemory)
+    → IfOk r (IsListingOf (head_rows request.head checkpoint)) → IsRequestOf log_request text request
     → had ≡ Some checkpoint → IsCheckpointOf request.head had → IfOk r (IsReply LogQuestions text)
-listed-replied text found request had checkpoint r made some read which is =
+listed-replied text request had checkpoint r made is which read =
     IfOk-weaker r (IsListingOf (head_rows request.head checkpoint)) (IsReply LogQuestions text)
-    (λ reply. listed-reply text request checkpoint reply (subst (IsReadFrom log_request text) some read)
-    (subst (IsCheckpointOf request.head) which is)) made
+    (λ reply. listed-reply text request checkpoint reply is (subst (IsCheckpointOf request.head) which read)) made

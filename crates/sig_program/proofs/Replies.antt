@@ -101,19 +101,21 @@ unread-replied {R} command meaning text found r needs is none read =
     replied command text (refusal_reply Request) r is (unread-reply command text
     (λ holds. let its = needs holds in no_request its.0 its.1))
 
--- a request was read, and its links have a verdict
-module _ {R : Type 0} (command : Command) (meaning : Data → Option R) (Of : R → Option Link → Type 0)
-    (text : List ℕ) (found : Option R) (request : R) (verdict : Option Link) (r : Result Reply OutOfMemory)
-    (some : found ≡ Some request) (read : IsReadFrom meaning text found) (judged : Of request verdict) where
-  its_request : IsRequestOf meaning text request
-  its_request = subst (IsReadFrom meaning text) some read
+-- what was read is the text's request
+pub its-request : {R : Type 0} (meaning : Data → Option R) (text : List ℕ) (found : Option R) (request : R)
+    → found ≡ Some request → IsReadFrom meaning text found → IsRequestOf meaning text request
+its-request meaning text found request some read = subst (IsReadFrom meaning text) some read
 
+-- the links of the text's request have a verdict
+module _ {R : Type 0} (command : Command) (meaning : Data → Option R) (Of : R → Option Link → Type 0)
+    (text : List ℕ) (request : R) (verdict : Option Link) (r : Result Reply OutOfMemory)
+    (is : IsRequestOf meaning text request) (judged : Of request verdict) where
   -- a link failed
   pub refused-replied : (link : Link)
       → (IsRequestOf meaning text request → Of request (Some link) → IsReply command text (refusal_reply link))
       → IfOk r (λ reply. reply ≡ refusal_reply link) → verdict ≡ Some link → IfOk r (IsReply command text)
-  refused-replied link refused is which =
-      replied command text (refusal_reply link) r is (refused its_request (subst (Of request) which judged))
+  refused-replied link refused made which =
+      replied command text (refusal_reply link) r made (refused is (subst (Of request) which judged))
 
   -- every link holds
   pub vouched-replied : (Made : Reply → Type 0)
@@ -122,4 +124,4 @@ module _ {R : Type 0} (command : Command) (meaning : Data → Option R) (Of : R 
       → IfOk r Made → verdict ≡ None → IfOk r (IsReply command text)
   vouched-replied Made vouched made none =
       IfOk-weaker r Made (IsReply command text)
-      (λ reply. vouched reply its_request (subst (Of request) none judged)) made
+      (λ reply. vouched reply is (subst (Of request) none judged)) made

@@ -32,17 +32,16 @@ with_some-object : (name : List ℕ) (value : Option Data) (ms : Members)
 with_some-object name None ms = refl
 with_some-object name (Some d) ms = refl
 
-pub row_written : (row : AcceptedRow) (start one two three four whole : Data) (operation key message signature : Data)
-    (scheme : Option Data)
-    → operation ≡ string (operation_word row.operation) → scheme ≡ scheme_tree row.operation row.scheme
-    → key ≡ bytes_tree row.key → message ≡ bytes_tree row.message → signature ≡ bytes_tree row.signature
-    → start ≡ object no_members → one ≡ with_member (codes "operation") operation start
-    → two ≡ with_some (codes "scheme") scheme one → three ≡ with_member (codes "key") key two
-    → four ≡ with_member (codes "message") message three → whole ≡ with_member (codes "signature") signature four
-    → whole ≡ row_tree row
+pub row_written : (row : AcceptedRow) (start one two three four whole : Data) (word : List ℕ)
+    → word ≡ operation_word row.operation
+    → start ≡ object no_members → one ≡ with_member (codes "operation") (string word) start
+    → two ≡ with_some (codes "scheme") (scheme_tree row.operation row.scheme) one
+    → three ≡ with_member (codes "key") (bytes_tree row.key) two
+    → four ≡ with_member (codes "message") (bytes_tree row.message) three
+    → whole ≡ with_member (codes "signature") (bytes_tree row.signature) four → whole ≡ row_tree row
 unfolding row_tree
-row_written r start one two three four whole operation key message signature scheme o s k m g a b c d e f =
-    rw (f, e, d, c, b, a, o, s, k, m, g, with_some-object (codes "scheme") (scheme_tree r.operation r.scheme) _) refl
+row_written r start one two three four whole word named a b c d e f =
+    rw (f, e, d, c, b, a, named, with_some-object (codes "scheme") (scheme_tree r.operation r.scheme) _) refl
 
 -- ---- a signature is read back
 

@@ -30,7 +30,7 @@ use Rattle.sig_request.specs.VerifyRequest.{verify_request}
 use Rattle.sig_program.specs.declared.command.Command.TheVariants.{VerifyQuestions}
 use Rattle.sig_program.specs.declared.reply.Reply.{Reply}
 use Rattle.sig_request.specs.declared.verify_request.VerifyRequest.{VerifyRequest}
-use Rattle.sig_request.specs.ReadFrom.{IsReadFrom, IsRequestOf}
+use Rattle.sig_request.specs.ReadFrom.{IsRequestOf}
 
 -- ---- the reply to a request
 
@@ -85,11 +85,8 @@ fails-of_text text request link is first =
 
 -- ---- the replies of a call
 
-module _ (text : List ℕ) (found : Option VerifyRequest) (request : VerifyRequest) (r : Result Reply OutOfMemory)
-    (some : found ≡ Some request) (read : IsReadFrom verify_request text found) where
-  its_request : IsRequestOf verify_request text request
-  its_request = subst (IsReadFrom verify_request text) some read
-
+module _ (text : List ℕ) (request : VerifyRequest) (r : Result Reply OutOfMemory)
+    (its_request : IsRequestOf verify_request text request) where
   pub refused-replied : (link : Link) → IfOk r (λ reply. reply ≡ refusal_reply link)
       → IsDecided (inputs request) most_bytes (Err (Refused link)) → IfOk r (IsReply VerifyQuestions text)
   refused-replied link is first =

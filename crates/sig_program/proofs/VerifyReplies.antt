@@ -16,14 +16,14 @@ use Rattle.std.proofs.lemmas.Result.{IfOk-weaker}
 use Rattle.sig_program.proofs.Included.{every-included}
 use Rattle.sig_program.proofs.Replies.{every-of_text, every-reply, first-of_text, first-reply, replied}
 use Rattle.sig_request.proofs.RequestTexts.{one_request}
-use Rattle.sig_program.specs.Reply.{IsEntryIn, IsReply, IsVerifiedReply, refusal_reply}
+use Rattle.sig_program.specs.Reply.{IsEntryIn, IsRefusal, IsReply, IsVerifiedReply, refusal_reply}
 use Rattle.sig_program.specs.ProofOf.{IsProofOf}
 use Rattle.sig_program.specs.VerifyLink.{HoldsOfVerify, inputs, outside, verify_links}
 use Rattle.sig_request.specs.VerifyRequest.{verify_request}
 use Rattle.sig_program.specs.declared.command.Command.TheVariants.{Verify}
 use Rattle.sig_program.specs.declared.reply.Reply.{Reply}
 use Rattle.sig_request.specs.declared.verify_request.VerifyRequest.{VerifyRequest}
-use Rattle.sig_request.specs.ReadFrom.{IsReadFrom, IsRequestOf}
+use Rattle.sig_request.specs.ReadFrom.{IsRequestOf}
 
 -- every link of the chain holds
 pub verified-reply : (text : List ℕ) (request : VerifyRequest) (offline : Offline) (reply : Reply)
@@ -79,18 +79,17 @@ pub chain-included : (request : VerifyRequest) (offline : Offline) → IsChainOf
 chain-included request offline chain kept =
     every-included (outside request) (inputs request) offline (chain_held request offline chain) kept
 
-pub verified-replied : (text : List ℕ) (found : Option VerifyRequest) (request : VerifyRequest) (offline : Offline)
-    (r : Result Reply OutOfMemory)
-    → IfOk r (IsVerifiedReply request offline) → found ≡ Some request → IsReadFrom verify_request text found
-    → IsChainOf request (Ok offline) → IsEntryIn request offline → IfOk r (IsReply Verify text)
-verified-replied text found request offline r made some read chain kept =
-    IfOk-weaker r (IsVerifiedReply request offline) (IsReply Verify text) (λ reply. verified-reply text request offline
-    reply (subst (IsReadFrom verify_request text) some read) (chain_held request offline chain) kept) made
+module _ (text : List ℕ) (request : VerifyRequest) (r : Result Reply OutOfMemory)
+    (is : IsRequestOf verify_request text request) where
+  pub verified-replied : (offline : Offline) → IfOk r (IsVerifiedReply request offline) → IsChainOf request (Ok offline)
+      → IsEntryIn request offline → IfOk r (IsReply Verify text)
+  verified-replied offline made chain kept =
+      IfOk-weaker r (IsVerifiedReply request offline) (IsReply Verify text)
+      (λ reply. verified-reply text request offline reply is (chain_held request offline chain) kept) made
 
-pub refused-verify-replied : (text : List ℕ) (found : Option VerifyRequest) (request : VerifyRequest)
-    (error : OfflineError) (link : Link) (r : Result Reply OutOfMemory)
-    → IfOk r (λ reply. reply ≡ refusal_reply link) → found ≡ Some request → IsReadFrom verify_request text found
-    → link_of error ≡ Some link → IsChainOf request (Err error) → IfOk r (IsReply Verify text)
-refused-verify-replied text found request error link r is some read named chain =
-    replied Verify text (refusal_reply link) r is (refused-verify text request error link
-    (subst (IsReadFrom verify_request text) some read) named (chain_failed request error link named chain))
+  pub refused-verify-replied : (error : OfflineError) (link : Option Link) → link ≡ link_of error
+      → IfOk r (IsRefusal link) → IsChainOf request (Err error) → IfOk r (IsReply Verify text)
+  refused-verify-replied error None named made chain = IfOk-weaker r (λ reply. ⊥) (IsReply Verify text) (λ reply. absurd) made
+  refused-verify-replied error (Some link) named made chain =
+      replied Verify text (refusal_reply link) r made (refused-verify text request error link is (sym named)
+      (chain_failed request error link (sym named) chain))

@@ -1,5 +1,6 @@
 -- The reply to a request.
 use Rattle.std.specs.Prelude.{◌≡◌, ℕ, ◌<◌, ◌≤◌, ◌⊎◌, ◌↔◌, List, ◌++◌, length, codes, decimal, Contains}
+use Rattle.std.specs.Prelude.{Option, Some, None}
 use Rattle.std.specs.Fmt.{signed_decimal}
 use Rattle.sig_rekor.specs.declared.inclusion_proof.InclusionProof.{InclusionProof}
 use Rattle.sig_program.specs.declared.command.Command.{Command}
@@ -37,6 +38,11 @@ status_of other = 1
 -- the reply where this link is the first that fails
 abbrev pub refusal_reply : Link → Reply
 refusal_reply link = record { status = status_of link; text = codes "refused " ++ (link_name link ++ codes "\n") }
+
+-- for private clauses: the reply where this link, if there is one, is the first that fails
+abbrev pub IsRefusal : Option Link → Reply → Type 0
+IsRefusal None reply = ⊥
+IsRefusal (Some link) reply = reply ≡ refusal_reply link
 
 -- the reply where every link holds: the index and the size of the inclusion proof, and the second line
 abbrev pub success : List ℕ → InclusionProof → List ℕ → Reply

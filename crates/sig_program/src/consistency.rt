@@ -1,8 +1,10 @@
 //! The command `consistency`: does the log still have the entries that it had, and does it vouch for that?
-ghost use Rattle.std.specs.Prelude.{◌↔◌, IfOk, IsTrue};
+ghost use Rattle.std.specs.Prelude.{◌↔◌, ℕ, IfOk, IsTrue, List};
 ghost use Rattle.sig_program.specs.ConsistencyLink.{IsConsistencyVerdict, IsGrown};
 ghost use Rattle.sig_program.specs.Reply.{IsReply};
 ghost use Rattle.sig_program.specs.declared.command.Command.TheVariants.{Consistency};
+ghost use Rattle.sig_request.specs.ConsistencyRequest.{consistency_request};
+ghost use Rattle.sig_request.specs.ReadFrom.{IsRequestOf};
 
 use crate::head::failing_link_of;
 use crate::reply::Reply;
@@ -21,9 +23,19 @@ pub fn consistency_reply(alloc: Global, request: &[u8]) -> Result<Reply, OutOfMe
     let Some(request) = ConsistencyRequest::read(alloc, request)? else {
         return Reply::refused(alloc, Link::Request);
     };
-    match failing_link(alloc, &request)? {
+    let reply = reply_to(alloc, &request);
+    drop(request);
+    reply
+}
+
+/// The reply to a request.
+fn reply_to(alloc: Global, request: &ConsistencyRequest) -> Result<Reply, OutOfMemory>
+    ensures { (text : List ℕ) → IsRequestOf consistency_request text request.now
+        → IfOk result (IsReply Consistency text) }
+{
+    match failing_link(alloc, request)? {
         Some(link) => Reply::refused(alloc, link),
-        None => Reply::consistent(alloc, &request),
+        None => Reply::consistent(alloc, request),
     }
 }
 

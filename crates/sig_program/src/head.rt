@@ -1,5 +1,7 @@
 //! The links on the tree head that a request gives: its checkpoint has to vouch for the size and root of its tree.
-ghost use Rattle.std.specs.Prelude.{◌↔◌, IfOk, IsTrue};
+ghost use Rattle.std.specs.Prelude.{◌≡◌, ◌↔◌, IfOk, IsTrue};
+ghost use Rattle.sig_base.specs.Scheme.{scheme_of};
+ghost use Rattle.sig_key.specs.Key.{key_info, key_scheme};
 ghost use Rattle.sig_program.specs.Head.{IsHeadVerdict, IsHeadVerdictUnder, IsMatched, HasAcceptedSignature};
 
 use sig_base::{OutOfMemory, SigstoreError};
@@ -19,7 +21,11 @@ pub fn failing_link_of(
     ensures { IfOk result (IsHeadVerdict head.now size root.now) }
 {
     match SignedNote::decode(alloc, head.checkpoint.as_str()) {
-        Ok(checkpoint) => failing_link_under(alloc, head, size, root, &checkpoint),
+        Ok(checkpoint) => {
+            let link = failing_link_under(alloc, head, size, root, &checkpoint);
+            drop(checkpoint);
+            link
+        }
         Err(ParseCheckpointError::DecodeError(_)) => Ok(Some(Link::Checkpoint)),
         Err(ParseCheckpointError::OutOfMemory) => Err(OutOfMemory),
     }
@@ -52,15 +58,32 @@ fn has_accepted_signature(
 ) -> Result<bool, OutOfMemory>
     ensures { IfOk result (λ signed. IsTrue signed ↔ HasAcceptedSignature head.now checkpoint.now) }
 {
-    let der = head.key.as_slice();
-    // Both calls fail otherwise only if out of memory.
-    let Ok(key) = CosignVerificationKey::from_der(alloc, der, &head.scheme) else {
-        return Err(OutOfMemory);
-    };
-    match checkpoint.verify_signature(alloc, &key, &head.accepted) {
+    let key = head_key(alloc, head)?;
+    let answer = checkpoint.verify_signature(alloc, &key, &head.accepted);
+    drop(key);
+    match answer {
         Ok(()) => Ok(true),
         Err(SigstoreError::CheckpointSignatureVerificationError) => Ok(false),
-        Err(_) => Err(OutOfMemory),
+        // It fails otherwise only if out of memory.
+        Err(error) => {
+            drop(error);
+            Err(OutOfMemory)
+        }
+    }
+}
+
+/// The log's key under its scheme.
+fn head_key(alloc: Global, head: &ClaimedHead) -> Result<CosignVerificationKey, OutOfMemory>
+    ensures scheme { IfOk result (λ key. key_scheme key ≡ scheme_of head.now.scheme) }
+    ensures info { IfOk result (λ key. key_info key ≡ head.now.key) }
+{
+    match CosignVerificationKey::from_der(alloc, head.key.as_slice(), &head.scheme) {
+        Ok(key) => Ok(key),
+        // It fails only if out of memory.
+        Err(error) => {
+            drop(error);
+            Err(OutOfMemory)
+        }
     }
 }
 

@@ -1,8 +1,10 @@
 //! The command `log`: is this entry in the log, and does the log vouch for it?
-ghost use Rattle.std.specs.Prelude.{◌↔◌, IfOk, IsTrue};
+ghost use Rattle.std.specs.Prelude.{◌↔◌, ℕ, IfOk, IsTrue, List};
 ghost use Rattle.sig_program.specs.Link.{IsLogged, IsLogVerdict};
 ghost use Rattle.sig_program.specs.Reply.{IsLoggedReply, IsReply};
 ghost use Rattle.sig_program.specs.declared.command.Command.TheVariants.{Log};
+ghost use Rattle.sig_request.specs.ReadFrom.{IsRequestOf};
+ghost use Rattle.sig_request.specs.Request.{log_request};
 
 use crate::head::failing_link_of;
 use crate::reply::Reply;
@@ -23,9 +25,18 @@ pub fn log_reply(alloc: Global, request: &[u8]) -> Result<Reply, OutOfMemory>
     let Some(request) = LogRequest::read(alloc, request)? else {
         return Reply::refused(alloc, Link::Request);
     };
-    match failing_link(alloc, &request)? {
+    let reply = reply_to(alloc, &request);
+    drop(request);
+    reply
+}
+
+/// The reply to a request.
+fn reply_to(alloc: Global, request: &LogRequest) -> Result<Reply, OutOfMemory>
+    ensures { (text : List ℕ) → IsRequestOf log_request text request.now → IfOk result (IsReply Log text) }
+{
+    match failing_link(alloc, request)? {
         Some(link) => Reply::refused(alloc, link),
-        None => logged_reply(alloc, &request),
+        None => logged_reply(alloc, request),
     }
 }
 

@@ -1,12 +1,17 @@
 //! The command `questions log`: which signatures can the reply of `log` rest on?
-ghost use Rattle.std.specs.Prelude.{◌≡◌, IfOk};
+ghost use Rattle.std.specs.Prelude.{◌≡◌, ◌<◌, ℕ, IfOk, IsSome, List};
+ghost use Rattle.sig_json.specs.Find.{as_array};
+ghost use Rattle.sig_json.specs.Tree.{document_tree};
 ghost use Rattle.sig_program.specs.Head.{head_row};
 ghost use Rattle.sig_program.specs.LogQuestions.{IsCheckpointOf, head_rows};
 ghost use Rattle.sig_program.specs.Reply.{IsListingOf, IsReply};
-ghost use Rattle.sig_program.specs.RowsText.{IsDocumentOf};
+ghost use Rattle.sig_program.specs.RowsText.{AddsRow, IsDocumentOf, IsRowReadBack};
 ghost use Rattle.sig_program.specs.Suffice.{LogQuestionsSuffice};
 ghost use Rattle.sig_program.specs.declared.command.Command.TheVariants.{LogQuestions};
 ghost use Rattle.sig_rekor.specs.NoteText.{note_text};
+ghost use Rattle.sig_request.specs.Limit.{most_bytes};
+ghost use Rattle.sig_request.specs.ReadFrom.{IsRequestOf};
+ghost use Rattle.sig_request.specs.Request.{log_request};
 
 use crate::reply::Reply;
 use crate::rows_text::add_row;
@@ -38,10 +43,21 @@ fn reply_to_text(alloc: Global, request: &[u8]) -> Result<Reply, OutOfMemory>
     let Some(request) = LogRequest::read(alloc, request)? else {
         return Reply::refused(alloc, Link::Request);
     };
+    let reply = reply_to(alloc, &request);
+    drop(request);
+    reply
+}
+
+/// The reply to a request.
+fn reply_to(alloc: Global, request: &LogRequest) -> Result<Reply, OutOfMemory>
+    ensures { (text : List ℕ) → IsRequestOf log_request text request.now → IfOk result (IsReply LogQuestions text) }
+{
     let Some(checkpoint) = head_checkpoint(alloc, &request.head)? else {
         return Reply::refused(alloc, Link::Checkpoint);
     };
-    listing_reply(alloc, &request.head, &checkpoint)
+    let reply = listing_reply(alloc, &request.head, &checkpoint);
+    drop(checkpoint);
+    reply
 }
 
 /// The checkpoint of a tree head; `None` if and only if its text is no checkpoint.
@@ -78,16 +94,57 @@ fn note_document(
     ensures { IfOk result (IsDocumentOf (head_rows head.now checkpoint.now)) }
 {
     let note = checkpoint.marshal(alloc)?;
+    let document = rows_of_note(alloc, head, checkpoint, &note);
+    drop(note);
+    document
+}
+
+/// The document of the signatures of the checkpoint, whose note has this text, as `note_document`.
+fn rows_of_note(
+    alloc: Global,
+    head: &ClaimedHead,
+    checkpoint: &SignedNote<'_>,
+    note: &Text,
+) -> Result<Option<Text>, OutOfMemory>
+    requires { note.now ≡ note_text checkpoint.now.note }
+    ensures { IfOk result (IsDocumentOf (head_rows head.now checkpoint.now)) }
+{
     let mut list = Document::list(alloc);
     let mut size = 0;
     'signatures: for signature in checkpoint.signatures() {
-        let row = head_row(alloc, head, checkpoint, &note, signature)?;
-        let Some(sum) = add_row(alloc, &mut list, size, &row)? else {
+        let Some(sum) = add_signature(alloc, &mut list, size, head, checkpoint, note, signature)?
+        else {
+            drop(list);
             return Ok(None);
         };
         size = sum;
     }
-    Ok(Some(compact(alloc, list.view())?))
+    let text = compact(alloc, list.view());
+    drop(list);
+    Ok(Some(text?))
+}
+
+/// Adds a signature over the checkpoint's note, whose text this is, at the end of a list, as `add_row`.
+fn add_signature(
+    alloc: Global,
+    list: &mut Document,
+    size: usize,
+    head: &ClaimedHead,
+    checkpoint: &SignedNote<'_>,
+    note: &Text,
+    signature: &CheckpointSignature,
+) -> Result<Option<usize>, OutOfMemory>
+    requires list { IsSome (as_array (document_tree list.old)) }
+    requires room { size < most_bytes }
+    requires note { note.now ≡ note_text checkpoint.now.note }
+    ensures added { IfOk result (AddsRow (document_tree list.old) (document_tree list.new) size
+        (head_row head.now checkpoint.now signature.now)) }
+    ensures back { IfOk result (λ _. IsRowReadBack (head_row head.now checkpoint.now signature.now)) }
+{
+    let row = head_row(alloc, head, checkpoint, note, signature)?;
+    let sum = add_row(alloc, list, size, &row);
+    drop(row);
+    sum
 }
 
 /// A signature over the checkpoint's note, whose text this is, under the log's scheme and key.

@@ -3,11 +3,14 @@
 //! ```text
 //! [{"key":"a2V5","message":"bG9n..YPQo=","operation":"message","scheme":"ED25519","signature":"c2ln"}]
 //! ```
-ghost use Rattle.std.specs.Prelude.{◌≡◌, ◌<◌, All, IfOk, IsSome, OnOk, option_map};
+ghost use Rattle.std.specs.Prelude.{◌≡◌, ◌<◌, All, IfOk, IsSome, OnOk, codes, length};
 ghost use Rattle.sig_bundle.specs.Written.{IsReadAs, bytes_tree};
+ghost use Rattle.sig_json.specs.Builders.{with_member};
+ghost use Rattle.sig_json.specs.Data.{no_members, object, string};
 ghost use Rattle.sig_json.specs.Find.{as_array, as_object};
 ghost use Rattle.sig_json.specs.Kinds.{bytes_of};
 ghost use Rattle.sig_json.specs.Tree.{document_tree};
+ghost use Rattle.sig_json.specs.Written.{compact_text};
 ghost use Rattle.sig_request.specs.Limit.{most_bytes};
 ghost use Rattle.sig_questions.specs.Rows.{HasScheme, IsSchemeUnder};
 ghost use Rattle.sig_program.specs.RowsText.{AddsRow, IsDocumentOf, IsRowReadBack, IsSchemeRead};
@@ -30,23 +33,50 @@ fn operation_word(operation: Operation) -> &'static str
     }
 }
 
-/// Bytes in base64.
-#[tactic(auto, using(sig_bundle::proofs::Values::values), unfolding(sig_bundle::specs::Written::bytes_tree))]
-fn bytes_document(alloc: Global, bytes: &Bytes) -> Result<Document, OutOfMemory>
-    ensures tree { IfOk result (λ document. document_tree document ≡ bytes_tree bytes.now) }
-    ensures back { IfOk result (λ _. IsReadAs bytes_of (bytes_tree bytes.now) bytes.now) }
+/// Sets a member of an object to a text. Fails only if out of memory.
+fn insert_text(
+    alloc: Global,
+    document: &mut Document,
+    name: &str,
+    text: &str,
+) -> Result<(), OutOfMemory>
+    requires { IsSome (as_object (document_tree document.old)) }
+    ensures { OnOk result (document_tree document.new
+        ≡ with_member name.now (string text.now) (document_tree document.old)) }
 {
-    let text = Text::in_base64(alloc, bytes.as_slice())?;
-    Document::of_text(alloc, text.as_str())
+    let value = Document::of_text(alloc, text)?;
+    document.insert(alloc, name, value)
 }
 
-/// The scheme of a row: a scheme's name for a message and for a digest, absent for a point, and base64 of the
-/// AlgorithmIdentifier for a certificate.
-fn scheme_document(alloc: Global, row: &AcceptedRow) -> Result<Option<Document>, OutOfMemory>
-    requires { IsSchemeUnder row.now.operation row.now.scheme }
-    ensures tree { IfOk result (λ scheme. option_map document_tree scheme
-        ≡ scheme_tree row.now.operation row.now.scheme) }
-    ensures back { IfOk result (λ _. IsSchemeRead row.now.operation row.now.scheme) }
+/// Sets a member of an object to bytes in base64. Fails only if out of memory.
+#[tactic(auto, using(sig_bundle::proofs::Values::values), unfolding(sig_bundle::specs::Written::bytes_tree))]
+fn insert_bytes(
+    alloc: Global,
+    document: &mut Document,
+    name: &str,
+    bytes: &Bytes,
+) -> Result<(), OutOfMemory>
+    requires { IsSome (as_object (document_tree document.old)) }
+    ensures tree { OnOk result (document_tree document.new
+        ≡ with_member name.now (bytes_tree bytes.now) (document_tree document.old)) }
+    ensures back { OnOk result (IsReadAs bytes_of (bytes_tree bytes.now) bytes.now) }
+{
+    let text = Text::in_base64(alloc, bytes.as_slice())?;
+    insert_text(alloc, document, name, text.as_str())
+}
+
+/// Sets the scheme of a row: a scheme's name for a message and for a digest, absent for a point, and base64 of the
+/// AlgorithmIdentifier for a certificate. Fails only if out of memory.
+fn insert_scheme(
+    alloc: Global,
+    document: &mut Document,
+    row: &AcceptedRow,
+) -> Result<(), OutOfMemory>
+    requires object { IsSome (as_object (document_tree document.old)) }
+    requires scheme { IsSchemeUnder row.now.operation row.now.scheme }
+    ensures tree { OnOk result (document_tree document.new
+        ≡ with_some (codes "scheme") (scheme_tree row.now.operation row.now.scheme) (document_tree document.old)) }
+    ensures back { OnOk result (IsSchemeRead row.now.operation row.now.scheme) }
 {
     match row.operation {
         Operation::Message | Operation::Prehash => {
@@ -54,49 +84,50 @@ fn scheme_document(alloc: Global, row: &AcceptedRow) -> Result<Option<Document>,
             let Ok(name) = std::str::from_utf8(row.scheme.as_slice()) else {
                 return Err(OutOfMemory);
             };
-            Ok(Some(Document::of_text(alloc, name)?))
+            insert_text(alloc, document, "scheme", name)
         }
-        Operation::Point => Ok(None),
-        Operation::Certificate => Ok(Some(bytes_document(alloc, &row.scheme)?)),
+        Operation::Point => Ok(()),
+        Operation::Certificate => insert_bytes(alloc, document, "scheme", &row.scheme),
     }
 }
 
-/// Sets a member of an object, if there is a value. Fails only if out of memory.
-fn insert_some(
+/// Sets the members of a signature's object. Fails only if out of memory.
+#[tactic(auto, using(sig_bundle::proofs::Objects::objects))]
+fn insert_members(
     alloc: Global,
-    object: &mut Document,
-    name: &str,
-    value: Option<Document>,
+    document: &mut Document,
+    row: &AcceptedRow,
 ) -> Result<(), OutOfMemory>
-    requires { IsSome (as_object (document_tree object.old)) }
-    ensures { OnOk result (document_tree object.new
-        ≡ with_some name.now (option_map document_tree value) (document_tree object.old)) }
+    requires empty { document_tree document.old ≡ object no_members }
+    requires scheme { IsSchemeUnder row.now.operation row.now.scheme }
+    ensures tree { OnOk result (document_tree document.new ≡ row_tree row.now) }
+    ensures back { OnOk result (IsRowReadBack row.now) }
 {
-    match value {
-        Some(value) => object.insert(alloc, name, value),
-        None => Ok(()),
-    }
+    insert_text(alloc, document, "operation", operation_word(row.operation))?;
+    insert_scheme(alloc, document, row)?;
+    insert_bytes(alloc, document, "key", &row.key)?;
+    insert_bytes(alloc, document, "message", &row.message)?;
+    insert_bytes(alloc, document, "signature", &row.signature)?;
+    Ok(())
 }
 
 /// A signature as an object, which is read back as an element of `accepted`. Fails only if out of memory.
-#[tactic(auto, using(sig_bundle::proofs::Objects::objects))]
 fn row_document(alloc: Global, row: &AcceptedRow) -> Result<Document, OutOfMemory>
     requires { IsSchemeUnder row.now.operation row.now.scheme }
     ensures tree { IfOk result (λ document. document_tree document ≡ row_tree row.now) }
     ensures back { IfOk result (λ _. IsRowReadBack row.now) }
 {
-    let mut object = Document::object(alloc);
-    let operation = Document::of_text(alloc, operation_word(row.operation))?;
-    object.insert(alloc, "operation", operation)?;
-    let scheme = scheme_document(alloc, row)?;
-    insert_some(alloc, &mut object, "scheme", scheme)?;
-    let key = bytes_document(alloc, &row.key)?;
-    object.insert(alloc, "key", key)?;
-    let message = bytes_document(alloc, &row.message)?;
-    object.insert(alloc, "message", message)?;
-    let signature = bytes_document(alloc, &row.signature)?;
-    object.insert(alloc, "signature", signature)?;
-    Ok(object)
+    let mut document = Document::object(alloc);
+    insert_members(alloc, &mut document, row)?;
+    Ok(document)
+}
+
+/// How many bytes a document has as text. Fails only if out of memory.
+fn compact_len(alloc: Global, document: &Document) -> Result<usize, OutOfMemory>
+    ensures { IfOk result (λ count. count ≡ length (compact_text (document_tree document.now))) }
+{
+    let text = compact(alloc, document.view())?;
+    Ok(text.as_str().len())
 }
 
 /// Adds a signature at the end of a list that takes `size` bytes but for its closing bracket, and returns what it then
@@ -114,14 +145,14 @@ pub fn add_row(
     ensures back { IfOk result (λ _. IsRowReadBack row.now) }
 {
     let document = row_document(alloc, row)?;
-    let text = compact(alloc, document.view())?;
-    let length = text.as_str().len();
+    let count = compact_len(alloc, &document)?;
     // With the comma or the bracket before it.
-    if length >= MOST_BYTES - 1 - size {
+    if count >= MOST_BYTES - 1 - size {
+        drop(document);
         return Ok(None);
     }
     list.push(document)?;
-    Ok(Some(size + 1 + length))
+    Ok(Some(size + 1 + count))
 }
 
 /// The document of a list of signatures, `None` if it would have more bytes than a request may have. Fails only if out
@@ -134,9 +165,12 @@ pub fn rows_document(alloc: Global, rows: &[AcceptedRow]) -> Result<Option<Text>
     let mut size = 0;
     'rows: for row in rows {
         let Some(sum) = add_row(alloc, &mut list, size, row)? else {
+            drop(list);
             return Ok(None);
         };
         size = sum;
     }
-    Ok(Some(compact(alloc, list.view())?))
+    let text = compact(alloc, list.view());
+    drop(list);
+    Ok(Some(text?))
 }

@@ -1,13 +1,15 @@
 //! The command `verify`: may this artifact be trusted, by this bundle?
-ghost use Rattle.std.specs.Prelude.{◌≡◌, ◌↔◌, IfOk};
+ghost use Rattle.std.specs.Prelude.{◌≡◌, ◌↔◌, ℕ, IfOk, List};
 ghost use Rattle.sig_base.specs.Answers.{UnlessMemory};
 ghost use Rattle.sig_verify.specs.Judged.{Judged};
 ghost use Rattle.sig_verify.specs.Links.{chain_links};
 ghost use Rattle.sig_program.specs.Link.{EveryLinkHolds};
-ghost use Rattle.sig_program.specs.Reply.{IsEntryIn, IsReply, IsVerifiedReply};
+ghost use Rattle.sig_program.specs.Reply.{IsEntryIn, IsRefusal, IsReply, IsVerifiedReply};
 ghost use Rattle.sig_program.specs.ProofOf.{IsProofOf};
 ghost use Rattle.sig_program.specs.VerifyLink.{HoldsOfVerify, IsTrusted};
 ghost use Rattle.sig_program.specs.declared.command.Command.TheVariants.{Verify};
+ghost use Rattle.sig_request.specs.ReadFrom.{IsRequestOf};
+ghost use Rattle.sig_request.specs.VerifyRequest.{verify_request};
 
 use crate::brief_policy::BriefPolicy;
 use crate::reply::Reply;
@@ -36,12 +38,37 @@ fn reply_to_text(alloc: Global, request: &[u8]) -> Result<Reply, OutOfMemory>
     let Some(request) = VerifyRequest::read(alloc, request)? else {
         return Reply::refused(alloc, Link::Request);
     };
-    match verify_chain(alloc, &request) {
-        Ok(offline) => verified_reply(alloc, &request, &offline),
-        Err(error) => match error.link() {
-            Some(link) => Reply::refused(alloc, link),
-            None => Err(OutOfMemory),
-        },
+    let reply = reply_to(alloc, &request);
+    drop(request);
+    reply
+}
+
+/// The reply to a request.
+fn reply_to(alloc: Global, request: &VerifyRequest) -> Result<Reply, OutOfMemory>
+    ensures { (text : List ℕ) → IsRequestOf verify_request text request.entry.now
+        → IfOk result (IsReply Verify text) }
+{
+    match verify_chain(alloc, request) {
+        Ok(offline) => {
+            let reply = verified_reply(alloc, request, &offline);
+            drop(offline);
+            reply
+        }
+        Err(error) => {
+            let link = error.link();
+            drop(error);
+            refused_reply(alloc, link)
+        }
+    }
+}
+
+/// The reply where this link of the chain of trust is the first that fails; without one memory ran out.
+fn refused_reply(alloc: Global, link: Option<Link>) -> Result<Reply, OutOfMemory>
+    ensures { IfOk result (IsRefusal link) }
+{
+    match link {
+        Some(link) => Reply::refused(alloc, link),
+        None => Err(OutOfMemory),
     }
 }
 

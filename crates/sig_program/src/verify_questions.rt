@@ -1,5 +1,5 @@
 //! The command `questions verify`: which signatures can the reply of `verify` rest on?
-ghost use Rattle.std.specs.Prelude.{◌≡◌, ◌↔◌, All, Contains, IfOk};
+ghost use Rattle.std.specs.Prelude.{◌≡◌, ◌↔◌, ℕ, All, Contains, IfOk, List};
 ghost use Rattle.sig_base.specs.declared.checker.AcceptedRow.{AcceptedRow as row_type};
 ghost use Rattle.sig_questions.specs.Asked.{IsAskedBy};
 ghost use Rattle.sig_questions.specs.Questions.{IsDecided};
@@ -10,6 +10,8 @@ ghost use Rattle.sig_program.specs.Suffice.{VerifyQuestionsSuffice};
 ghost use Rattle.sig_program.specs.VerifyLink.{inputs};
 ghost use Rattle.sig_program.specs.VerifyQuestions.{RefusesForAll};
 ghost use Rattle.sig_program.specs.declared.command.Command.TheVariants.{VerifyQuestions};
+ghost use Rattle.sig_request.specs.ReadFrom.{IsRequestOf};
+ghost use Rattle.sig_request.specs.VerifyRequest.{verify_request};
 
 use crate::laws::lists;
 use crate::reply::Reply;
@@ -44,13 +46,27 @@ pub fn verify_questions(alloc: Global, request: &[u8]) -> Result<Reply, OutOfMem
 fn reply_to_text(alloc: Global, request: &[u8]) -> Result<Reply, OutOfMemory>
     ensures { IfOk result (IsReply VerifyQuestions request.now) }
 {
-    one_list();
-    schemes();
     let Some(request) = VerifyRequest::read(alloc, request)? else {
         return Reply::refused(alloc, Link::Request);
     };
-    match questions_of(alloc, &request) {
-        Ok(rows) => listing_reply(alloc, &rows),
+    let reply = reply_to(alloc, &request);
+    drop(request);
+    reply
+}
+
+/// The reply to a request.
+fn reply_to(alloc: Global, request: &VerifyRequest) -> Result<Reply, OutOfMemory>
+    ensures { (text : List ℕ) → IsRequestOf verify_request text request.entry.now
+        → IfOk result (IsReply VerifyQuestions text) }
+{
+    one_list();
+    schemes();
+    match questions_of(alloc, request) {
+        Ok(rows) => {
+            let reply = listing_reply(alloc, &rows);
+            drop(rows);
+            reply
+        }
         Err(NoQuestions::Link(link)) => Reply::refused(alloc, link),
         // A row has more bytes in the list than by itself.
         Err(NoQuestions::TooLong) => Reply::refused(alloc, Link::Request),

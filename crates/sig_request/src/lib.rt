@@ -9,9 +9,8 @@
 //!   "scheme": "ECDSA_P256_SHA256_ASN1", "key": "a2V5", "accepted": [] }
 //! ```
 //!
-//! The layer above uses two facts. A request is read if and only if the text is one, of at most 2^24 bytes, and it is
-//! the one request that the text is. And [`read_request`] takes all that a source has left, or shows that it is too
-//! much.
+//! The layer above uses two facts. A text is read as a request if and only if it is one, of at most 2^24 bytes. And
+//! [`read_request`] takes all that a source has left, or one byte more than a request may have.
 #![tactic(auto)]
 
 mod consistency_request;

@@ -36,10 +36,15 @@ fn issuer_policy(
         (None, None) => Ok(None),
         (None, Some(issuer)) => Ok(Some(LeafPolicy::OIDCIssuer(OIDCIssuer(issuer)))),
         (Some(identity), Some(issuer)) => {
-            let policy = Identity::new(alloc, identity.as_str(), issuer.as_str())?;
-            Ok(Some(LeafPolicy::Identity(policy)))
+            let policy = Identity::new(alloc, identity.as_str(), issuer.as_str());
+            drop(identity);
+            drop(issuer);
+            Ok(Some(LeafPolicy::Identity(policy?)))
         }
-        (Some(_), None) => Err(MemberError::Member),
+        (Some(identity), None) => {
+            drop(identity);
+            Err(MemberError::Member)
+        }
     }
 }
 
@@ -51,12 +56,14 @@ fn one_at_most(
 ) -> Result<Option<LeafPolicy>, MemberError>
     ensures { Answers MemberError.OutOfMemory (λ x. x) result (or_member (one_at_most found next)) }
 {
-    let Some(next) = next else {
-        return Ok(found);
-    };
-    match found {
-        None => Ok(Some(next)),
-        Some(_) => Err(MemberError::Member),
+    match (found, next) {
+        (found, None) => Ok(found),
+        (None, next) => Ok(next),
+        (Some(found), Some(next)) => {
+            drop(found);
+            drop(next);
+            Err(MemberError::Member)
+        }
     }
 }
 
@@ -168,8 +175,13 @@ impl ElementReader for RuleReader {
         let identity = optional::<TextReader>(alloc, json, "identity")?;
         let issuer = optional::<TextReader>(alloc, json, "issuer")?;
         let by_issuer = issuer_policy(alloc, identity, issuer)?;
-        let by_workflow = workflow_policy(alloc, json)?;
-        exactly_one(by_issuer, by_workflow)
+        match workflow_policy(alloc, json) {
+            Ok(by_workflow) => exactly_one(by_issuer, by_workflow),
+            Err(error) => {
+                drop(by_issuer);
+                Err(error)
+            }
+        }
     }
 }
 

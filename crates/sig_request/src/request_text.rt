@@ -1,5 +1,6 @@
 //! The text of a request, read by the table of its members, and of `accepted` row by row.
 ghost use Rattle.std.specs.Prelude.{IfOk, List, Option};
+ghost use Rattle.std.specs.Option.{ok_or};
 ghost use Rattle.sig_base.specs.Answers.{Answers};
 ghost use Rattle.sig_base.specs.declared.checker.AcceptedRow.{AcceptedRow as row_type};
 ghost use Rattle.sig_json.specs.Data.{Data};
@@ -12,7 +13,7 @@ ghost use Rattle.sig_request.specs.ReadFrom.{IsReadFrom};
 
 use crate::read::MOST_BYTES;
 use crate::row::RowReader;
-use sig_base::{OutOfMemory, TableChecker};
+use sig_base::{AcceptedRow, OutOfMemory, Register, TableChecker};
 use sig_json::{Document, Json, JsonError, MemberError};
 use std::alloc::Global;
 
@@ -70,8 +71,22 @@ fn read_parts<T: RequestReader>(
     let (members, rows) = Document::read_members_and_list::<RowReader>(
         alloc, text, names, "accepted",
     )?;
+    let request = request_of_parts::<T>(alloc, members.view(), rows);
+    drop(members);
+    request
+}
+
+/// The request of its members and the rows of `accepted`.
+fn request_of_parts<T: RequestReader>(
+    alloc: Global,
+    members: Json<'_, '_>,
+    rows: Register<AcceptedRow>,
+) -> Result<T::Item, JsonError>
+    ensures { Answers JsonError.OutOfMemory (λ request. request) result
+        (ok_or (T.meaning rows (tree members.entry)) JsonError.Member) }
+{
     let Ok(accepted) = TableChecker::from_rows(alloc, rows) else {
         return Err(JsonError::OutOfMemory);
     };
-    Ok(T::read(alloc, members.view(), accepted)?)
+    Ok(T::read(alloc, members, accepted)?)
 }

@@ -29,5 +29,5 @@ pub returns : goal.returns
 returns c =
     let all : length c.args.rows.now ≤ c.rows.row-index = omega (arith, c.rows-test.false) in
     listed-whole c.args.rows.now c.rows.row-index (document_tree c.rows.list) (tree c.view.result) c.rows.size
-    c.in_ok-compact.field-0 all c.rows.invariant c.view.ensures c.in_ok-compact.ensures.text
-    c.in_ok-compact.ensures.reads_back
+    c.in_ok-text.field-0 all c.rows.invariant c.view.ensures c.in_ok-text.ensures.text
+    c.in_ok-text.ensures.reads_back

@@ -10,11 +10,6 @@ returns-in_err-members g c =
     let same = parts-meant g.T.RequestReader.meaning (names_of c.args.names.now) c.requires c.args.text.now in
     grind (arith, common_steps)
 
-pub returns-in_err-read : goal.returns-in_err-read
-returns-in_err-read g c =
-    let same = parts-meant g.T.RequestReader.meaning (names_of c.args.names.now) c.requires c.args.text.now in
-    grind (arith, common_steps)
-
 pub returns : goal.returns
 returns g c =
     let same = parts-meant g.T.RequestReader.meaning (names_of c.args.names.now) c.requires c.args.text.now in

@@ -1,11 +1,12 @@
 -- The document lists the signatures so far, and in the end all of them, or has no room for the next.
-use Rattle.std.proofs.Common.{◌<◌, ◌≤◌, length, subst, arith}
+use Rattle.std.proofs.Common.{◌≤◌, length, refl, subst, arith}
 use Rattle.sig_json.specs.Tree.{document_tree, tree}
 use Rattle.sig_program.proofs.NoteRows.{row-at, rows-length}
 use Rattle.sig_program.proofs.RowsTexts.{listed-more, listed-none, listed-past, listed-whole}
+use Rattle.sig_program.specs.Head.{head_row}
 use Rattle.sig_program.specs.LogQuestions.{head_rows}
 use Rattle.sig_program.specs.RowsText.{AddsRow}
-use Rattle.sig_program.proofs.log_questions.note_document.Goals as goal
+use Rattle.sig_program.proofs.log_questions.rows_of_note.Goals as goal
 
 pub signatures-init : goal.signatures-init
 signatures-init c =
@@ -15,28 +16,26 @@ signatures-init c =
 pub signatures-preserved : goal.signatures-preserved
 signatures-preserved c =
     let rows = head_rows c.args.head.now c.args.checkpoint.now in
+    let row = head_row c.args.head.now c.args.checkpoint.now c.signature-item.result in
     let items = c.signatures-signature-items.result.now in
     let at = row-at c.args.head.now c.args.checkpoint.now items c.signatures.signature-index c.signature-item.result
-    c.in_ok-row.row c.signatures-signature-items.ensures (omega (arith, c.signatures-test.true)) c.signature-item.is
-    c.in_ok-row.ensures in
-    listed-more rows c.signatures.signature-index c.in_ok-row.row (document_tree c.signatures.list)
-    (document_tree c.add_row.new.list) c.signatures.size c.in-Some.sum at.0 at.1 c.signatures.invariant
+    row c.signatures-signature-items.ensures (omega (arith, c.signatures-test.true)) c.signature-item.is refl in
+    listed-more rows c.signatures.signature-index row (document_tree c.signatures.list)
+    (document_tree c.add_signature.new.list) c.signatures.size c.in-Some.sum at.0 at.1 c.signatures.invariant
     c.in_ok-sum.ensures.back
-    (subst (AddsRow (document_tree c.signatures.list)
-    (document_tree c.add_row.new.list) c.signatures.size c.in_ok-row.row)
+    (subst (AddsRow (document_tree c.signatures.list) (document_tree c.add_signature.new.list) c.signatures.size row)
     c.in-Some.is c.in_ok-sum.ensures.added)
 
 pub returns-in_default : goal.returns-in_default
 returns-in_default c =
     let rows = head_rows c.args.head.now c.args.checkpoint.now in
+    let row = head_row c.args.head.now c.args.checkpoint.now c.signature-item.result in
     let items = c.signatures-signature-items.result.now in
     let at = row-at c.args.head.now c.args.checkpoint.now items c.signatures.signature-index c.signature-item.result
-    c.in_ok-row.row c.signatures-signature-items.ensures (omega (arith, c.signatures-test.true)) c.signature-item.is
-    c.in_ok-row.ensures in
-    listed-past rows c.signatures.signature-index c.in_ok-row.row (document_tree c.signatures.list)
-    (document_tree c.add_row.new.list) c.signatures.size at.0 at.1 c.signatures.invariant
-    (subst (AddsRow (document_tree c.signatures.list)
-    (document_tree c.add_row.new.list) c.signatures.size c.in_ok-row.row)
+    row c.signatures-signature-items.ensures (omega (arith, c.signatures-test.true)) c.signature-item.is refl in
+    listed-past rows c.signatures.signature-index row (document_tree c.signatures.list)
+    (document_tree c.add_signature.new.list) c.signatures.size at.0 at.1 c.signatures.invariant
+    (subst (AddsRow (document_tree c.signatures.list) (document_tree c.add_signature.new.list) c.signatures.size row)
     c.in_default.is c.in_ok-sum.ensures.added)
 
 pub returns : goal.returns
@@ -46,5 +45,5 @@ returns c =
     let long = rows-length c.args.head.now c.args.checkpoint.now items c.signatures-signature-items.ensures in
     let all : length rows ≤ c.signatures.signature-index = omega (arith, c.signatures-test.false, long) in
     listed-whole rows c.signatures.signature-index (document_tree c.signatures.list) (tree c.view.result)
-    c.signatures.size c.in_ok-compact.field-0 all c.signatures.invariant c.view.ensures c.in_ok-compact.ensures.text
-    c.in_ok-compact.ensures.reads_back
+    c.signatures.size c.in_ok-text.field-0 all c.signatures.invariant c.view.ensures c.in_ok-text.ensures.text
+    c.in_ok-text.ensures.reads_back

@@ -2,7 +2,7 @@
 use Rattle.sig_json.specs.Tree.{document_tree}
 use Rattle.sig_program.proofs.RowsTexts.{IsListed}
 use Rattle.sig_program.specs.LogQuestions.{head_rows}
-use Rattle.sig_program.proofs.log_questions.note_document.Given as goal
+use Rattle.sig_program.proofs.log_questions.rows_of_note.Given as goal
 
 abbrev pub invariant-signatures : goal.invariant-signatures
 invariant-signatures l =

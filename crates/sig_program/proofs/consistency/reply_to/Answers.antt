@@ -1,0 +1,23 @@
+-- The reply to a request, by the verdict on it.
+use Rattle.std.proofs.Common.{◌≡◌}
+use Rattle.sig_program.proofs.ConsistencyReplies.{consistent-reply, refused-consistency}
+use Rattle.sig_program.proofs.Replies.{refused-replied, vouched-replied}
+use Rattle.sig_program.specs.ConsistencyLink.{IsConsistencyVerdict}
+use Rattle.sig_request.specs.ConsistencyRequest.{consistency_request}
+use Rattle.sig_program.specs.Reply.{consistent}
+use Rattle.sig_program.specs.declared.command.Command.TheVariants.{Consistency}
+use Rattle.sig_program.specs.declared.reply.Reply.{Reply}
+use Rattle.sig_program.proofs.consistency.reply_to.Goals as goal
+
+pub returns-in-Some : goal.returns-in-Some
+returns-in-Some c = λ text is.
+    refused-replied Consistency consistency_request IsConsistencyVerdict text c.args.request.now
+    c.in_ok-link.field-0 c.refused.result is c.in_ok-link.ensures c.in-Some.link
+    (refused-consistency text c.args.request.now c.in-Some.link) c.refused.ensures c.in-Some.is
+
+pub returns-in-None : goal.returns-in-None
+returns-in-None c = λ text is.
+    vouched-replied Consistency consistency_request IsConsistencyVerdict text c.args.request.now
+    c.in_ok-link.field-0 c.consistent.result is c.in_ok-link.ensures
+    (λ (reply : Reply). reply ≡ consistent c.args.request.now) (consistent-reply text c.args.request.now)
+    c.consistent.ensures c.in-None.is
