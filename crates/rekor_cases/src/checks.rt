@@ -12,6 +12,8 @@ pub(crate) fn signed(arguments: &mut Arguments<'_>, answer: &mut Answer) {
     let by = keyed(arguments, answer, KEY);
     let check = checkpoint.verify_signature(arguments.alloc(), &by.key, &by.table);
     answer_to(answer, check);
+    drop(by);
+    drop(checkpoint);
 }
 
 /// `tree CHECKPOINT ROOT SIZE`: whether the checkpoint is of that tree.
@@ -30,9 +32,11 @@ pub(crate) fn borrowed_signed(arguments: &mut Arguments<'_>, answer: &mut Answer
         Ok(note) => {
             let check = note.verify_signature(arguments.alloc(), &by.key, &by.table);
             answer_to(answer, check);
+            drop(note);
         }
-        Err(error) => answer.error(&error),
+        Err(error) => answer.error(error),
     }
+    drop(by);
 }
 
 /// `borrowed_tree CHECKPOINT ROOT SIZE`: whether the checkpoint is of that tree.
@@ -41,8 +45,11 @@ pub(crate) fn borrowed_tree(arguments: &mut Arguments<'_>, answer: &mut Answer) 
     let root = arguments.digest();
     let size = arguments.natural();
     match SignedNote::decode(arguments.alloc(), text.as_str()) {
-        Ok(note) => answer_to(answer, note.is_valid_for_proof(&root, size)),
-        Err(error) => answer.error(&error),
+        Ok(note) => {
+            answer_to(answer, note.is_valid_for_proof(&root, size));
+            drop(note);
+        }
+        Err(error) => answer.error(error),
     }
 }
 
@@ -58,6 +65,8 @@ pub(crate) fn proof(arguments: &mut Arguments<'_>, answer: &mut Answer) {
     let proof = InclusionProof::new(index, root, size, hashes, last_checkpoint(arguments));
     let check = proof.verify(arguments.alloc(), &entry, &by.key, &by.table);
     answer_to(answer, check);
+    drop(proof);
+    drop(by);
 }
 
 /// The last argument as a checkpoint, if it is there.
@@ -77,7 +86,12 @@ pub(crate) fn entry_inclusion(arguments: &mut Arguments<'_>, answer: &mut Answer
         Ok(entry) => {
             let check = entry.verify_inclusion(arguments.alloc(), &by.key, &by.table);
             answer_to(answer, check);
+            drop(entry);
         }
-        Err(_) => arguments.refuse(),
+        Err(error) => {
+            drop(error);
+            arguments.refuse();
+        }
     }
+    drop(by);
 }

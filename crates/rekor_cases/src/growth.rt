@@ -111,8 +111,9 @@ pub(crate) fn consistency(arguments: &mut Arguments<'_>, answer: &mut Answer) {
         Ok(proof) => {
             let check = proof.verify(old_size, &old_root, new_size, new_root.as_ref());
             answer_to(answer, check);
+            drop(proof);
         }
-        Err(error) => answer.error(&error),
+        Err(error) => answer.error(error),
     }
 }
 
@@ -139,9 +140,12 @@ pub(crate) fn grown(arguments: &mut Arguments<'_>, answer: &mut Answer) {
             let alloc = arguments.alloc();
             let check = info.verify_consistency(alloc, old_size, &old_root, &proof, key, table);
             answer_to(answer, check);
+            drop(info);
+            drop(proof);
         }
-        Err(error) => answer.error(&error),
+        Err(error) => answer.error(error),
     }
+    drop(by);
 }
 
 /// The head and the proof that the API's are.

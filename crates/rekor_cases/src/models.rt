@@ -4,7 +4,7 @@ use crate::parts::text;
 use crate::shown::{Shown, answer_to};
 use sig_base::Result as Made;
 use sig_cases::{Answer, Arguments};
-use sig_json::{Document, compact};
+use sig_json::{Document, Json, compact};
 use sig_rekor::{InclusionProof, RekorInclusionProof};
 use sig_rekor_models::{Attestation, LogEntry};
 use std::alloc::Global;
@@ -45,8 +45,9 @@ pub(crate) fn entry(arguments: &mut Arguments<'_>, answer: &mut Answer) {
                 arguments.alloc(),
                 entry.body.json(arguments.alloc()),
             );
+            drop(entry);
         }
-        Err(error) => answer.error(&error),
+        Err(error) => answer.error(error),
     }
 }
 
@@ -86,10 +87,17 @@ impl Shown for RekorInclusionProof {
 /// Adds the compact text of a document that was made.
 pub(crate) fn add_json(answer: &mut Answer, alloc: Global, made: Made<Document>) {
     match made {
-        Ok(document) => match compact(alloc, document.view()) {
-            Ok(text) => answer.value(&text.as_str()),
-            Err(_) => answer.out_of_memory(),
-        },
+        Ok(document) => {
+            add_compact(answer, alloc, document.view());
+            drop(document);
+        }
+        Err(error) => answer.error(error),
+    }
+}
+
+fn add_compact(answer: &mut Answer, alloc: Global, document: Json<'_, '_>) {
+    match compact(alloc, document) {
+        Ok(text) => answer.value(&text.as_str()),
         Err(_) => answer.out_of_memory(),
     }
 }

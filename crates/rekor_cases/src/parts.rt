@@ -17,7 +17,8 @@ pub(crate) fn text(arguments: &mut Arguments<'_>) -> Text {
 pub(crate) fn checkpoint(arguments: &mut Arguments<'_>) -> SignedCheckpoint {
     match SignedCheckpoint::decode(arguments.alloc(), arguments.text().as_str()) {
         Ok(checkpoint) => checkpoint,
-        Err(_) => {
+        Err(error) => {
+            drop(error);
             arguments.refuse();
             no_checkpoint(arguments.alloc())
         }

@@ -18,7 +18,7 @@ pub(crate) fn public_key(arguments: &mut Arguments<'_>, answer: &mut Answer) {
             answer.debug(&key.content());
             answer.debug(&text);
         }
-        Err(error) => answer.error(&error),
+        Err(error) => answer.error(error),
     }
 }
 
@@ -59,6 +59,7 @@ pub(crate) fn proposed(arguments: &mut Arguments<'_>, answer: &mut Answer) {
     let entry = proposed_entry(kind, text(arguments), arguments);
     answer.ok();
     add_json(answer, arguments.alloc(), entry.json(arguments.alloc()));
+    drop(entry);
 }
 
 /// The entry of a kind, with what the last arguments say.

@@ -21,7 +21,7 @@ pub(crate) fn answer_to<T: Shown, E: Debug + Display + Drop>(
             answer.ok();
             value.add_to(answer);
         }
-        Err(error) => answer.error(&error),
+        Err(error) => answer.error(error),
     }
 }
 

@@ -30,7 +30,7 @@ fn note(arguments: &mut Arguments<'_>, answer: &mut Answer) {
 fn note_text(arguments: &mut Arguments<'_>, answer: &mut Answer) {
     match Checkpoint::unmarshal(arguments.alloc(), arguments.text().as_str()) {
         Ok(note) => answer_to(answer, note.marshal(arguments.alloc())),
-        Err(error) => answer.error(&error),
+        Err(error) => answer.error(error),
     }
 }
 
@@ -44,7 +44,7 @@ fn signature(arguments: &mut Arguments<'_>, answer: &mut Answer) {
 fn signature_text(arguments: &mut Arguments<'_>, answer: &mut Answer) {
     match CheckpointSignature::decode(arguments.alloc(), arguments.text().as_str()) {
         Ok(signature) => answer_to(answer, signature.encode(arguments.alloc())),
-        Err(error) => answer.error(&error),
+        Err(error) => answer.error(error),
     }
 }
 
@@ -58,7 +58,7 @@ fn checkpoint(arguments: &mut Arguments<'_>, answer: &mut Answer) {
 fn checkpoint_text(arguments: &mut Arguments<'_>, answer: &mut Answer) {
     match SignedCheckpoint::decode(arguments.alloc(), arguments.text().as_str()) {
         Ok(checkpoint) => answer_to(answer, checkpoint.encode(arguments.alloc())),
-        Err(error) => answer.error(&error),
+        Err(error) => answer.error(error),
     }
 }
 
@@ -74,7 +74,7 @@ fn counts(arguments: &mut Arguments<'_>, answer: &mut Answer) {
             answer.value(&checkpoint.note.other_content.len());
             answer.value(&checkpoint.signatures.len());
         }
-        Err(error) => answer.error(&error),
+        Err(error) => answer.error(error),
     }
 }
 
@@ -86,7 +86,7 @@ fn borrowed(arguments: &mut Arguments<'_>, answer: &mut Answer) {
             answer_to(answer, note.marshal(arguments.alloc()));
             add_signatures(answer, note.signatures());
         }
-        Err(error) => answer.error(&error),
+        Err(error) => answer.error(error),
     }
 }
 
@@ -95,6 +95,6 @@ fn borrowed_text(arguments: &mut Arguments<'_>, answer: &mut Answer) {
     let text = arguments.text();
     match Note::read(arguments.alloc(), text.as_str()) {
         Ok(note) => answer_to(answer, note.marshal(arguments.alloc())),
-        Err(error) => answer.error(&error),
+        Err(error) => answer.error(error),
     }
 }
