@@ -10,9 +10,13 @@ use std::alloc::Global;
 pub(crate) fn digests(arguments: &mut Arguments<'_>, answer: &mut Answer) {
     let bundle = bundle(arguments.rest(), arguments, answer);
     match CheckedBundle::try_from_bundle(arguments.alloc(), &bundle) {
-        Ok(checked) => add_digests(answer, checked.content()),
-        Err(error) => answer.error(&error),
+        Ok(checked) => {
+            add_digests(answer, checked.content());
+            drop(checked);
+        }
+        Err(error) => answer.error(error),
     }
+    drop(bundle);
 }
 
 /// `ok`, and the digests of the subjects.
@@ -40,9 +44,13 @@ pub(crate) fn add_digest(answer: &mut Answer, digest: &ArtifactDigest) {
 pub(crate) fn lent(arguments: &mut Arguments<'_>, answer: &mut Answer) {
     let bundle = bundle(arguments.rest(), arguments, answer);
     match CheckedBundle::try_from_bundle(arguments.alloc(), &bundle) {
-        Ok(checked) => add_parts(answer, arguments.alloc(), &checked, &bundle),
-        Err(error) => answer.error(&error),
+        Ok(checked) => {
+            add_parts(answer, arguments.alloc(), &checked, &bundle);
+            drop(checked);
+        }
+        Err(error) => answer.error(error),
     }
+    drop(bundle);
 }
 
 /// `ok`, and what is borrowed of the checked bundle.

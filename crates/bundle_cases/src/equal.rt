@@ -18,6 +18,8 @@ pub(crate) fn equal_parts(arguments: &mut Arguments<'_>, answer: &mut Answer) {
     compare(answer, entry(&one), entry(&other));
     compare(answer, kind(&one), kind(&other));
     compare(answer, proof_fields(&one), proof_fields(&other));
+    drop(one);
+    drop(other);
 }
 
 fn material(bundle: &Bundle) -> Option<&VerificationMaterial> {

@@ -15,12 +15,13 @@ pub(crate) fn proof(arguments: &mut Arguments<'_>, answer: &mut Answer) {
         Some(fields) => answer_to(answer, fields.to_proof(arguments.alloc())),
         None => arguments.refuse(),
     }
+    drop(bundle);
 }
 
 fn answer_to(answer: &mut Answer, made: Result<InclusionProof, ProofFieldsError>) {
     match made {
         Ok(proof) => add_proof(answer, &proof),
-        Err(error) => answer.error(&error),
+        Err(error) => answer.error(error),
     }
 }
 
@@ -54,9 +55,16 @@ pub(crate) fn logged(arguments: &mut Arguments<'_>, answer: &mut Answer) {
     let digest = arguments.hex();
     let bundle = bundle(arguments.rest(), arguments, answer);
     match CheckedBundle::try_from_bundle(arguments.alloc(), &bundle) {
-        Ok(checked) => add_logged(answer, arguments.alloc(), &checked, offline, &digest),
-        Err(_) => arguments.refuse(),
+        Ok(checked) => {
+            add_logged(answer, arguments.alloc(), &checked, offline, &digest);
+            drop(checked);
+        }
+        Err(error) => {
+            drop(error);
+            arguments.refuse();
+        }
     }
+    drop(bundle);
 }
 
 /// `ok`, and whether the checked bundle hands out its log entry.

@@ -60,6 +60,6 @@ fn digest_of(bytes: &[u8]) -> Option<ArtifactDigest> {
 fn subject(arguments: &mut Arguments<'_>, answer: &mut Answer) {
     match InTotoStatementV1::from_json(arguments.alloc(), arguments.rest().as_bytes()) {
         Ok(statement) => text(answer, statement.subject_sha256_digest(arguments.alloc())),
-        Err(error) => answer.error(&error),
+        Err(error) => answer.error(error),
     }
 }

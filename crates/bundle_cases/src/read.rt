@@ -13,7 +13,7 @@ pub(crate) fn bundle(text: &str, arguments: &mut Arguments<'_>, answer: &mut Ans
     match read_bundle(arguments.alloc(), text.as_bytes()) {
         Ok(bundle) => bundle,
         Err(error) => {
-            answer.error(&error);
+            answer.error(error);
             arguments.refuse();
             no_bundle(arguments.alloc())
         }
@@ -35,15 +35,18 @@ pub(crate) fn text<E: Debug + Display + Drop>(answer: &mut Answer, made: Result<
             answer.ok();
             answer.value(&text.as_str());
         }
-        Err(error) => answer.error(&error),
+        Err(error) => answer.error(error),
     }
 }
 
 /// `read_bundle TEXT`: the text that is written for the bundle.
 pub(crate) fn written(arguments: &mut Arguments<'_>, answer: &mut Answer) {
     match read_bundle(arguments.alloc(), arguments.rest().as_bytes()) {
-        Ok(bundle) => text(answer, bundle_text(arguments.alloc(), &bundle)),
-        Err(error) => answer.error(&error),
+        Ok(bundle) => {
+            text(answer, bundle_text(arguments.alloc(), &bundle));
+            drop(bundle);
+        }
+        Err(error) => answer.error(error),
     }
 }
 
@@ -67,12 +70,16 @@ pub(crate) fn copied(arguments: &mut Arguments<'_>, answer: &mut Answer) {
         }
         None => arguments.refuse(),
     }
+    drop(bundle);
 }
 
 /// Adds whether a copy of a log entry is equal to it.
 pub(crate) fn add_copied(answer: &mut Answer, alloc: Global, entry: &TransparencyLogEntry) {
     match entry.copy(alloc) {
-        Ok(copied) => answer.value(&(copied == *entry)),
+        Ok(copied) => {
+            answer.value(&(copied == *entry));
+            drop(copied);
+        }
         Err(_) => answer.out_of_memory(),
     }
 }
@@ -87,4 +94,5 @@ pub(crate) fn promise(arguments: &mut Arguments<'_>, answer: &mut Answer) {
         }
         _ => arguments.refuse(),
     }
+    drop(bundle);
 }

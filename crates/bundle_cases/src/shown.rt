@@ -13,11 +13,11 @@ pub(crate) fn shown(arguments: &mut Arguments<'_>, answer: &mut Answer) {
     let proof = Bundle02ProfileErrorKind::InclusionProofMissing;
     let checkpoint = Bundle02ProfileErrorKind::CheckpointMissing;
     match arguments.word() {
-        "InclusionPromiseMissing" => answer.error(&promise),
-        "InclusionProofMissing" => answer.error(&proof),
-        "CheckpointMissing" => answer.error(&checkpoint),
-        "Bundle01Profile" => answer.error(&BundleProfileErrorKind::Bundle01Profile(promise)),
-        "Bundle02Profile" => answer.error(&BundleProfileErrorKind::Bundle02Profile(checkpoint)),
+        "InclusionPromiseMissing" => answer.error(promise),
+        "InclusionProofMissing" => answer.error(proof),
+        "CheckpointMissing" => answer.error(checkpoint),
+        "Bundle01Profile" => answer.error(BundleProfileErrorKind::Bundle01Profile(promise)),
+        "Bundle02Profile" => answer.error(BundleProfileErrorKind::Bundle02Profile(checkpoint)),
         "Unknown" => unknown(answer, arguments.alloc()),
         "OutOfMemory" => {
             answer.ok();
@@ -29,7 +29,7 @@ pub(crate) fn shown(arguments: &mut Arguments<'_>, answer: &mut Answer) {
 
 fn unknown(answer: &mut Answer, alloc: Global) {
     match Text::copy_of(alloc, "text/plain") {
-        Ok(text) => answer.error(&BundleProfileErrorKind::Unknown(text)),
+        Ok(text) => answer.error(BundleProfileErrorKind::Unknown(text)),
         Err(_) => answer.out_of_memory(),
     }
 }
