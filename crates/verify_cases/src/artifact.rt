@@ -13,6 +13,7 @@ pub(crate) fn by_source(arguments: &mut Arguments<'_>, answer: &mut Answer) {
     let mut source = source(arguments);
     let parts = Parts::read(arguments, answer);
     of_source(arguments.alloc(), now, &mut source, &parts, answer);
+    drop(parts);
 }
 
 fn of_source(
@@ -29,8 +30,9 @@ fn of_source(
                 answer,
                 verifier.verify(alloc, source, bundle, policy, true, checker),
             );
+            drop(verifier);
         }
-        Err(error) => answer.error(&error),
+        Err(error) => answer.error(error),
     }
 }
 
@@ -51,6 +53,7 @@ pub(crate) fn by_digest(arguments: &mut Arguments<'_>, answer: &mut Answer) {
     let digest = arguments.digest();
     let parts = Parts::read(arguments, answer);
     of_digest(arguments.alloc(), now, digest, &parts, answer);
+    drop(parts);
 }
 
 fn of_digest(alloc: Global, now: i64, digest: [u8; 32], parts: &Parts, answer: &mut Answer) {
@@ -61,8 +64,9 @@ fn of_digest(alloc: Global, now: i64, digest: [u8; 32], parts: &Parts, answer: &
                 answer,
                 verifier.verify_digest(alloc, digest, bundle, policy, true, checker),
             );
+            drop(verifier);
         }
-        Err(error) => answer.error(&error),
+        Err(error) => answer.error(error),
     }
 }
 
@@ -70,6 +74,6 @@ fn of_digest(alloc: Global, now: i64, digest: [u8; 32], parts: &Parts, answer: &
 fn told(answer: &mut Answer, verified: VerificationResult) {
     match verified {
         Ok(()) => answer.ok(),
-        Err(error) => answer.error(&error),
+        Err(error) => answer.error(error),
     }
 }

@@ -50,51 +50,57 @@ fn signature_errors(answer: &mut Answer) {
 }
 
 fn verification_errors(answer: &mut Answer) {
-    answer.shown(&VerificationError::Input(InputFault::Fault));
-    answer.shown(&VerificationError::Bundle(BundleErrorKind::SignatureMissing));
-    answer.shown(&VerificationError::Certificate(CertificateErrorKind::Expired));
-    answer.shown(&VerificationError::Signature(SignatureErrorKind::Transparency));
-    answer.shown(&VerificationError::Policy(PolicyError::ExtensionNotFound));
-    answer.shown(&VerificationError::OutOfMemory);
+    answer.each_shown(&[
+        VerificationError::Input(InputFault::Fault),
+        VerificationError::Bundle(BundleErrorKind::SignatureMissing),
+        VerificationError::Certificate(CertificateErrorKind::Expired),
+        VerificationError::Signature(SignatureErrorKind::Transparency),
+        VerificationError::Policy(PolicyError::ExtensionNotFound),
+        VerificationError::OutOfMemory,
+    ]);
 }
 
 fn offline_errors(arguments: &Arguments<'_>, answer: &mut Answer) {
     plain(answer);
     with_value(answer);
     match Text::copy_of(arguments.alloc(), "id") {
-        Ok(id) => answer.shown(&OfflineError::RekorPublicKeyNotFoundError(id)),
+        Ok(id) => answer.error(OfflineError::RekorPublicKeyNotFoundError(id)),
         Err(_) => answer.out_of_memory(),
     }
 }
 
 /// The variants that hold nothing.
 fn plain(answer: &mut Answer) {
-    answer.shown(&OfflineError::LogIdMissing);
-    answer.shown(&OfflineError::KeyParsingError);
-    answer.shown(&OfflineError::PublicKeyUnsupportedAlgorithmError);
-    answer.shown(&OfflineError::PromiseMissing);
-    answer.shown(&OfflineError::PromiseInteger);
-    answer.shown(&OfflineError::Promise);
-    answer.shown(&OfflineError::ProofMissing);
-    answer.shown(&OfflineError::RootLength);
-    answer.shown(&OfflineError::TreeSize);
-    answer.shown(&OfflineError::CheckpointMissing);
-    answer.shown(&OfflineError::CheckpointSignatureVerificationError);
-    answer.shown(&OfflineError::OutOfMemory);
+    answer.each_shown(&[
+        OfflineError::LogIdMissing,
+        OfflineError::KeyParsingError,
+        OfflineError::PublicKeyUnsupportedAlgorithmError,
+        OfflineError::PromiseMissing,
+        OfflineError::PromiseInteger,
+        OfflineError::Promise,
+        OfflineError::ProofMissing,
+        OfflineError::RootLength,
+        OfflineError::TreeSize,
+        OfflineError::CheckpointMissing,
+        OfflineError::CheckpointSignatureVerificationError,
+        OfflineError::OutOfMemory,
+    ]);
 }
 
 /// Those that hold errors and numbers.
 fn with_value(answer: &mut Answer) {
-    answer.shown(&OfflineError::Json(Part::Root, JsonError::NotJson));
-    answer.shown(&OfflineError::Json(Part::Bundle, JsonError::Float));
-    answer.shown(&OfflineError::TrustRoot(TrustPart::Ctfe));
-    answer.shown(&OfflineError::Anchor(3));
-    answer.shown(&OfflineError::Bundle(BundleErrorKind::SignatureMissing));
-    answer.shown(&OfflineError::Certificate(CertificateErrorKind::Expired));
-    answer.shown(&OfflineError::Policy(PolicyError::ExtensionNotFound));
-    answer.shown(&OfflineError::Signature(SignatureErrorKind::Transparency));
-    answer.shown(&OfflineError::HashLength(4));
-    answer.shown(&OfflineError::ParseCheckpointError(CheckpointFault::Size));
-    answer.shown(&OfflineError::ConsistencyProofError(MerkleProofError::IndexGtTreeSize));
-    answer.shown(&OfflineError::InclusionProofError(MerkleProofError::IndexGtTreeSize));
+    answer.each_shown(&[
+        OfflineError::Json(Part::Root, JsonError::NotJson),
+        OfflineError::Json(Part::Bundle, JsonError::Float),
+        OfflineError::TrustRoot(TrustPart::Ctfe),
+        OfflineError::Anchor(3),
+        OfflineError::Bundle(BundleErrorKind::SignatureMissing),
+        OfflineError::Certificate(CertificateErrorKind::Expired),
+        OfflineError::Policy(PolicyError::ExtensionNotFound),
+        OfflineError::Signature(SignatureErrorKind::Transparency),
+        OfflineError::HashLength(4),
+        OfflineError::ParseCheckpointError(CheckpointFault::Size),
+        OfflineError::ConsistencyProofError(MerkleProofError::IndexGtTreeSize),
+        OfflineError::InclusionProofError(MerkleProofError::IndexGtTreeSize),
+    ]);
 }

@@ -25,7 +25,7 @@ pub(crate) fn listed(arguments: &mut Arguments<'_>, answer: &mut Answer) {
     ) {
         Ok(rows) => rows_of(alloc, rows.as_slice(), answer),
         Err(NoQuestions::Link(link)) => answer.value(&link.name()),
-        Err(error) => answer.error(&error),
+        Err(error) => answer.error(error),
     }
 }
 

@@ -13,7 +13,7 @@ pub(crate) fn at(call: &str, arguments: &mut Arguments<'_>, answer: &mut Answer)
     let alloc = arguments.alloc();
     match SigstoreTrustRoot::from_trusted_root_json_unchecked(alloc, text.as_bytes()) {
         Ok(root) => found(alloc, call, &root, now, answer),
-        Err(error) => answer.error(&error),
+        Err(error) => answer.error(error),
     }
 }
 
@@ -34,7 +34,7 @@ fn certificates(found: sig_base::Result<Entries>, answer: &mut Answer) {
                 answer.hex(certificate.as_slice());
             }
         }
-        Err(error) => answer.error(&error),
+        Err(error) => answer.error(error),
     }
 }
 
@@ -48,6 +48,6 @@ fn keys(found: sig_base::Result<KeyMap>, answer: &mut Answer) {
                 answer.hex(key);
             }
         }
-        Err(error) => answer.error(&error),
+        Err(error) => answer.error(error),
     }
 }

@@ -15,6 +15,7 @@ pub(crate) fn bundle(arguments: &mut Arguments<'_>, answer: &mut Answer) {
     let digest = digest(arguments);
     let parts = Parts::read(arguments, answer);
     of_bundle(arguments.alloc(), now, &digest, &parts, answer);
+    drop(parts);
 }
 
 fn of_bundle(alloc: Global, now: i64, digest: &ArtifactDigest, parts: &Parts, answer: &mut Answer) {
@@ -24,9 +25,10 @@ fn of_bundle(alloc: Global, now: i64, digest: &ArtifactDigest, parts: &Parts, an
             let verified = verifier.verify_digest_with(
                 alloc, digest, bundle, policy, true, checker,
             );
+            drop(verifier);
             told(alloc, now, parts, verified, answer);
         }
-        Err(error) => answer.error(&error),
+        Err(error) => answer.error(error),
     }
 }
 
@@ -34,7 +36,7 @@ fn of_bundle(alloc: Global, now: i64, digest: &ArtifactDigest, parts: &Parts, an
 fn told(alloc: Global, now: i64, parts: &Parts, verified: VerificationResult, answer: &mut Answer) {
     match verified {
         Ok(()) => log_keys(alloc, now, parts, answer),
-        Err(error) => answer.error(&error),
+        Err(error) => answer.error(error),
     }
 }
 
@@ -45,7 +47,7 @@ fn log_keys(alloc: Global, now: i64, parts: &Parts, answer: &mut Answer) {
             answer.ok();
             answer.value(&keys.len());
         }
-        Err(error) => answer.error(&error),
+        Err(error) => answer.error(error),
     }
 }
 
@@ -59,6 +61,7 @@ pub(crate) fn entry(arguments: &mut Arguments<'_>, answer: &mut Answer) {
         Some(entry) => of_entry(arguments.alloc(), entry, &keys, &checker, answer),
         None => arguments.refuse(),
     }
+    drop(bundle);
 }
 
 fn of_entry(

@@ -1,11 +1,9 @@
 //! Certificates: what can be borrowed of them, and their text.
 
-use crate::parts::{Extension, Parts};
 use sig_base::sha256;
 use sig_cases::{Answer, Arguments};
-use sig_x509::{Certificate, Lookup, X509ReadError, der_to_pem};
+use sig_x509::{Certificate, ExtensionRef, Lookup, X509ReadError, der_to_pem};
 use std::alloc::Global;
-use std::fmt::Write;
 
 /// The next argument as a certificate. Refuses the line if it is none.
 pub(crate) fn certificate(
@@ -38,12 +36,41 @@ pub(crate) fn certificate_of(
 /// `certificate DER`: the parts of the certificate.
 pub(crate) fn read(arguments: &mut Arguments<'_>, answer: &mut Answer) {
     match Certificate::try_from_der(arguments.alloc(), &arguments.hex()) {
-        Ok(read) => {
-            answer.ok();
-            answer.value(&Parts(&read));
-        }
-        Err(refusal) => answer.error(&refusal),
+        Ok(read) => add_parts(answer, &read),
+        Err(refusal) => answer.error(refusal),
     }
+}
+
+/// `ok`, and the parts of a certificate: the version, both seconds of the validity, both algorithms, issuer, subject,
+/// SPKI, TBSCertificate and signature, the number of extensions, and each of them.
+fn add_parts(answer: &mut Answer, read: &Certificate) {
+    answer.ok();
+    answer.value(&read.version());
+    answer.value(&read.not_before());
+    answer.value(&read.not_after());
+    answer.hex(read.inner_algorithm());
+    answer.hex(read.algorithm());
+    answer.hex(read.issuer());
+    answer.hex(read.subject());
+    answer.hex(read.spki());
+    answer.hex(read.tbs());
+    answer.hex(read.signature());
+    add_extensions(answer, read);
+}
+
+fn add_extensions(answer: &mut Answer, read: &Certificate) {
+    answer.value(&read.extension_count());
+    for found in read.extensions() {
+        add_extension(answer, found);
+    }
+}
+
+/// Adds an extension: its object identifier, whether it is critical, its value, and the whole of it.
+fn add_extension(answer: &mut Answer, found: ExtensionRef<'_>) {
+    answer.hex(found.oid);
+    answer.value(&found.critical);
+    answer.hex(found.value);
+    answer.hex(found.whole);
 }
 
 /// `extension OID DER`: the extension of this object identifier.
@@ -55,7 +82,7 @@ pub(crate) fn found(arguments: &mut Arguments<'_>, answer: &mut Answer) {
     answer.ok();
     match read.extension(&oid) {
         Lookup::Absent => answer.value(&"absent"),
-        Lookup::One(found) => answer.value(&Extension(found)),
+        Lookup::One(found) => add_extension(answer, found),
         Lookup::Several => answer.value(&"several"),
     }
 }
@@ -101,9 +128,20 @@ fn mask(arguments: &mut Arguments<'_>) -> u8 {
 fn push_read(alloc: Global, answer: &mut Answer, written: &mut String, place: usize, der: &[u8]) {
     if let Some(read) = certificate_of(alloc, answer, der) {
         answer.value(&place);
-        if write!(written, "ok {}", Parts(&read)).is_err() {
-            answer.out_of_memory();
-        }
+        let mut line = Answer::new(alloc);
+        add_parts(&mut line, &read);
+        push_line(answer, written, &line);
+    }
+}
+
+/// Adds a line to what is written.
+fn push_line(answer: &mut Answer, written: &mut String, line: &Answer) {
+    let is_pushed = match line.line() {
+        Some(text) => written.push_str(text).is_ok(),
+        None => false,
+    };
+    if !is_pushed {
+        answer.out_of_memory();
     }
 }
 

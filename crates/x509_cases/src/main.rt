@@ -8,7 +8,6 @@
 
 mod boxed;
 mod certificate;
-mod parts;
 mod policy;
 mod pool;
 mod profile;

@@ -16,16 +16,18 @@ use std::alloc::Global;
 fn said<P: VerificationPolicy>(
     alloc: Global,
     answer: &mut Answer,
-    alone: &PolicyResult,
+    alone: PolicyResult,
     requested: &P,
     leaf: &Certificate,
 ) {
+    let one = text_of(alloc, answer, &alone);
     checked(answer, alone);
     let held = requested.verify(alloc, leaf);
-    let one = text_of(alloc, answer, alone);
     let other = text_of(alloc, answer, &held);
-    if one != other {
-        checked(answer, &held);
+    if one == other {
+        drop(held);
+    } else {
+        checked(answer, held);
     }
 }
 
@@ -61,7 +63,7 @@ fn single_of(
     leaf: &Certificate,
 ) {
     let alone = alone(alloc, name, text, leaf);
-    said(alloc, answer, &alone, requested, leaf);
+    said(alloc, answer, alone, requested, leaf);
 }
 
 /// The policy of this name as one of a request's. Refuses the line if there is none.
@@ -136,7 +138,7 @@ pub(crate) fn identity(arguments: &mut Arguments<'_>, answer: &mut Answer) {
 /// What the policy says.
 fn identity_of(alloc: Global, answer: &mut Answer, policy: Identity, leaf: &Certificate) {
     let alone = policy.verify(alloc, leaf);
-    said(alloc, answer, &alone, &LeafPolicy::Identity(policy), leaf);
+    said(alloc, answer, alone, &LeafPolicy::Identity(policy), leaf);
 }
 
 /// `all NAME=TEXT,.. DER` and `any NAME=TEXT,.. DER`: what the policy of all or any of these says, in a request and
@@ -151,7 +153,7 @@ pub(crate) fn several(is_all: bool, arguments: &mut Arguments<'_>, answer: &mut 
     };
     if let Some(leaf) = certificate(arguments, answer) {
         let boxed = boxed::verify(list, is_all, &leaf, arguments, answer);
-        said(arguments.alloc(), answer, &boxed, &requested, &leaf);
+        said(arguments.alloc(), answer, boxed, &requested, &leaf);
     }
 }
 

@@ -9,7 +9,7 @@ use sig_x509::CertificatePool;
 pub(crate) fn made(arguments: &mut Arguments<'_>, answer: &mut Answer) {
     match CertificatePool::from_certificates(arguments.alloc(), &arguments.entries()) {
         Ok(_) => answer.ok(),
-        Err(refusal) => answer.error(&refusal),
+        Err(refusal) => answer.error(refusal),
     }
 }
 
@@ -63,21 +63,21 @@ fn issuer_in(
 ) {
     let checker = arguments.checker();
     let found = pool.verify_der_cert(arguments.alloc(), leaf, time, &checker);
-    place(answer, &found);
+    place(answer, found);
     if let Some(read) = certificate_of(arguments.alloc(), answer, leaf) {
         let other = pool.verify_cert_with_time(&read, time, &checker);
         if other != found {
-            place(answer, &other);
+            place(answer, other);
         }
     }
 }
 
 /// Adds an index, or why there is none.
-fn place(answer: &mut Answer, found: &Result<usize, PoolError>) {
+fn place(answer: &mut Answer, found: Result<usize, PoolError>) {
     match found {
         Ok(place) => {
             answer.ok();
-            answer.value(place);
+            answer.value(&place);
         }
         Err(refusal) => answer.error(refusal),
     }

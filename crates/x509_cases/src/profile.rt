@@ -9,9 +9,9 @@ use sig_x509::{
 use std::fmt::{Debug, Display};
 
 /// Adds the result of a check.
-pub(crate) fn checked<E>(answer: &mut Answer, found: &Result<(), E>)
+pub(crate) fn checked<E>(answer: &mut Answer, found: Result<(), E>)
 where
-    E: Debug + Display,
+    E: Debug + Display + Drop,
 {
     match found {
         Ok(()) => answer.ok(),
@@ -28,11 +28,11 @@ pub(crate) fn judged(call: &str, arguments: &mut Arguments<'_>, answer: &mut Ans
 
 fn judge(call: &str, read: &Certificate, arguments: &mut Arguments<'_>, answer: &mut Answer) {
     match call {
-        "is_leaf" => checked(answer, &is_leaf(read)),
-        "is_ca" => checked(answer, &is_ca(read)),
-        "is_root_ca" => checked(answer, &is_root_ca(read)),
-        "verify_key_usages" => checked(answer, &verify_key_usages(read)),
-        "verify_has_san" => checked(answer, &verify_has_san(read)),
+        "is_leaf" => checked(answer, is_leaf(read)),
+        "is_ca" => checked(answer, is_ca(read)),
+        "is_root_ca" => checked(answer, is_root_ca(read)),
+        "verify_key_usages" => checked(answer, verify_key_usages(read)),
+        "verify_has_san" => checked(answer, verify_has_san(read)),
         _ => arguments.refuse(),
     }
 }
@@ -41,7 +41,7 @@ fn judge(call: &str, read: &Certificate, arguments: &mut Arguments<'_>, answer: 
 pub(crate) fn validity(arguments: &mut Arguments<'_>, answer: &mut Answer) {
     let now = arguments.integer();
     if let Some(read) = certificate(arguments, answer) {
-        checked(answer, &verify_validity(&read, now));
+        checked(answer, verify_validity(&read, now));
     }
 }
 
@@ -49,7 +49,7 @@ pub(crate) fn validity(arguments: &mut Arguments<'_>, answer: &mut Answer) {
 pub(crate) fn expiration(arguments: &mut Arguments<'_>, answer: &mut Answer) {
     let integrated_time = arguments.integer();
     if let Some(read) = certificate(arguments, answer) {
-        checked(answer, &verify_expiration(&read, integrated_time));
+        checked(answer, verify_expiration(&read, integrated_time));
     }
 }
 
@@ -58,6 +58,6 @@ pub(crate) fn trusted(arguments: &mut Arguments<'_>, answer: &mut Answer) {
     let integrated_time = arguments.integer();
     let now = arguments.integer();
     if let Some(read) = certificate(arguments, answer) {
-        checked(answer, &is_trusted(&read, integrated_time, now));
+        checked(answer, is_trusted(&read, integrated_time, now));
     }
 }

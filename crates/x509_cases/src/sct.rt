@@ -14,7 +14,7 @@ use std::alloc::Global;
 pub(crate) fn key(arguments: &mut Arguments<'_>, answer: &mut Answer) {
     match Key::new(arguments.alloc(), &arguments.hex()) {
         Ok(_) => answer.ok(),
-        Err(refusal) => answer.error(&refusal),
+        Err(refusal) => answer.error(refusal),
     }
 }
 
@@ -38,7 +38,7 @@ pub(crate) fn vouched(arguments: &mut Arguments<'_>, answer: &mut Answer) {
     let signature = arguments.hex();
     let message = arguments.hex();
     let checker = arguments.checker();
-    checked(answer, &keyring.verify(&id, &signature, &message, &checker));
+    checked(answer, keyring.verify(&id, &signature, &message, &checker));
 }
 
 /// `embedded_sct DER ISSUER_SPKI`: what the certificate's SCT signs.
@@ -88,7 +88,7 @@ fn show(alloc: Global, answer: &mut Answer, found: Result<CertificateEmbeddedSCT
             Ok(signed) => show_fields(answer, &signed),
             Err(_) => answer.out_of_memory(),
         },
-        Err(refusal) => answer.error(&refusal),
+        Err(refusal) => answer.error(refusal),
     }
 }
 
@@ -116,7 +116,7 @@ pub(crate) fn verified(arguments: &mut Arguments<'_>, answer: &mut Answer) {
     };
     if let Some(keyring) = keyring(arguments, answer) {
         let (alloc, checker) = (arguments.alloc(), arguments.checker());
-        checked(answer, &verify_sct(alloc, &signed, &keyring, &checker));
+        checked(answer, verify_sct(alloc, &signed, &keyring, &checker));
     }
 }
 

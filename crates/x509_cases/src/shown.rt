@@ -10,19 +10,19 @@ use sig_x509::{
 /// `shown NAME`: the error of this name.
 pub(crate) fn shown(arguments: &mut Arguments<'_>, answer: &mut Answer) {
     match arguments.word() {
-        "IsCA" => answer.error(&NotLeafErrorKind::IsCA),
-        "NotCA" => answer.error(&NotCAErrorKind::NotCA),
-        "NotRootCA" => answer.error(&NotCAErrorKind::NotRootCA),
+        "IsCA" => answer.error(NotLeafErrorKind::IsCA),
+        "NotCA" => answer.error(NotCAErrorKind::NotCA),
+        "NotRootCA" => answer.error(NotCAErrorKind::NotRootCA),
         "Invalid" => {
             let (ca, key_cert_sign) = (true, false);
-            answer.error(&NotCAErrorKind::Invalid { ca, key_cert_sign });
+            answer.error(NotCAErrorKind::Invalid { ca, key_cert_sign });
         }
-        "Missing" => answer.error(&ExtensionErrorKind::Missing(PartName::KeyUsage)),
+        "Missing" => answer.error(ExtensionErrorKind::Missing(PartName::KeyUsage)),
         "NotCritical" => {
-            answer.error(&ExtensionErrorKind::NotCritical(PartName::BasicConstraints));
+            answer.error(ExtensionErrorKind::NotCritical(PartName::BasicConstraints));
         }
         "BitUnset" => {
-            answer.error(&ExtensionErrorKind::BitUnset(PartName::KeyUsageDigitalSignature));
+            answer.error(ExtensionErrorKind::BitUnset(PartName::KeyUsageDigitalSignature));
         }
         name => shown_of_sct(name, arguments, answer),
     }
@@ -31,12 +31,12 @@ pub(crate) fn shown(arguments: &mut Arguments<'_>, answer: &mut Answer) {
 /// The same of an SCT or a keyring.
 fn shown_of_sct(name: &str, arguments: &mut Arguments<'_>, answer: &mut Answer) {
     match name {
-        "LeafSCTMissing" => answer.error(&CertificateErrorKind::LeafSCTMissing),
-        "LeafSCTMalformed" => answer.error(&CertificateErrorKind::LeafSCTMalformed),
-        "IssuerMissing" => answer.error(&CertificateErrorKind::IssuerMissing),
-        "KeyNotFound" => answer.error(&KeyringError::KeyNotFound),
-        "VerificationFailed" => answer.error(&KeyringError::VerificationFailed),
-        "TooLong" => answer.error(&DerWriteError::TooLong),
+        "LeafSCTMissing" => answer.error(CertificateErrorKind::LeafSCTMissing),
+        "LeafSCTMalformed" => answer.error(CertificateErrorKind::LeafSCTMalformed),
+        "IssuerMissing" => answer.error(CertificateErrorKind::IssuerMissing),
+        "KeyNotFound" => answer.error(KeyringError::KeyNotFound),
+        "VerificationFailed" => answer.error(KeyringError::VerificationFailed),
+        "TooLong" => answer.error(DerWriteError::TooLong),
         "OutOfMemory" => shown_out_of_memory(answer),
         _ => arguments.refuse(),
     }
