@@ -18,7 +18,7 @@ struct BuiltObject {
 
 #[tactic(auto, using(sig_json::proofs::Staying::staying))]
 impl BuiltObject {
-    /// Sets this member. Fails only if memory runs out.
+    /// Sets this member. Fails only if out of memory.
     fn set(&mut self, alloc: Global, name: &str, value: Document) -> Result<(), OutOfMemory> {
         self.document.insert(alloc, name, value)
     }
@@ -33,7 +33,7 @@ struct BuiltList {
 
 #[tactic(auto, using(sig_json::proofs::Staying::staying))]
 impl BuiltList {
-    /// Adds this value. Fails only if memory runs out.
+    /// Adds this value. Fails only if out of memory.
     fn push(&mut self, value: Document) -> Result<(), OutOfMemory> {
         self.document.push(value)
     }

@@ -12,7 +12,7 @@ use std::alloc::Global;
 
 impl Bytes {
     /// Returns the bytes of a base64 text, or `None` if it is none: other letters, line ends, padding that is missing
-    /// or too much, stray bits. The empty text is that of no bytes. Fails if out of memory alone.
+    /// or too much, stray bits. The empty text is that of no bytes. Fails only if out of memory.
     #[tactic(auto, unfolding(crate::specs::Base64::base64_bytes))]
     pub fn of_base64(alloc: Global, text: &[u8]) -> Result<Option<Bytes>, OutOfMemory>
         ensures { IfOk result (λ found. found ≡ base64_bytes text.now) }
@@ -26,7 +26,7 @@ impl Bytes {
 }
 
 impl Text {
-    /// Returns bytes in base64. Fails if out of memory alone.
+    /// Returns bytes in base64. Fails only if out of memory.
     #[tactic(auto, unfolding(crate::specs::Base64::base64_text, crate::specs::Base64::base64_bytes))]
     pub fn in_base64(alloc: Global, bytes: &[u8]) -> Result<Text, OutOfMemory>
         ensures text { IfOk result (λ text. text ≡ base64_text bytes.now) }

@@ -81,7 +81,7 @@ impl<V> ByText<V> {
 }
 
 impl<V: Drop> ByText<V> {
-    /// Gives a text this value, in place of the one that it may have. Fails if out of memory alone; the map is then
+    /// Gives a text this value, in place of the one that it may have. Fails only if out of memory; the map is then
     /// unchanged.
     #[tactic(auto, using(crate::proofs::Texts::text_maps))]
     pub fn insert(&mut self, key: &str, value: V) -> Result<(), OutOfMemory>

@@ -21,7 +21,7 @@ impl Model for Bytes {
 }
 
 impl Bytes {
-    /// Returns a copy of these bytes. Fails if out of memory alone.
+    /// Returns a copy of these bytes. Fails only if out of memory.
     pub fn copy_of(alloc: Global, bytes: &[u8]) -> Result<Bytes, OutOfMemory>
         ensures { IfOk result (λ b. b ≡ bytes.now) }
     {
@@ -29,7 +29,7 @@ impl Bytes {
         Ok(Bytes { held })
     }
 
-    /// Returns one byte, and behind it the bytes of both slices. Fails if out of memory alone.
+    /// Returns one byte, and behind it the bytes of both slices. Fails only if out of memory.
     pub fn join(alloc: Global, first: u8, left: &[u8], right: &[u8]) -> Result<Bytes, OutOfMemory>
         ensures { IfOk result (λ b. b ≡ first ∷ left.now ++ right.now) }
     {
@@ -47,7 +47,7 @@ impl Bytes {
         self.held.as_slice()
     }
 
-    /// Returns the same bytes in memory of their own. Fails if out of memory alone.
+    /// Returns the same bytes in memory of their own. Fails only if out of memory.
     pub fn copy(&self, alloc: Global) -> Result<Bytes, OutOfMemory>
         ensures { IfOk result (λ b. b ≡ self.now) }
     {

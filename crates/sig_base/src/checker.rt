@@ -129,7 +129,7 @@ impl TableChecker {
         }
     }
 
-    /// Returns the table of these rows, which it sorts once. Fails if out of memory alone.
+    /// Returns the table of these rows, which it sorts once. Fails only if out of memory.
     pub fn from_rows(
         alloc: Global,
         rows: Register<AcceptedRow>,
@@ -140,8 +140,8 @@ impl TableChecker {
         Ok(TableChecker { rows, order })
     }
 
-    /// Adds a row at the end. It sorts the table anew, so make a table of many rows by `from_rows`. Fails if out of
-    /// memory alone; the table is then unchanged.
+    /// Adds a row at the end. It sorts the table anew, so make a table of many rows by `from_rows`. Fails only if out of
+    /// memory; the table is then unchanged.
     pub fn push(&mut self, row: AcceptedRow) -> Result<(), OutOfMemory>
         ensures ok { OnOk result (self.new ≡ self.old ++ row ∷ []) }
         ensures err { OnErr result (self.new ≡ self.old) }

@@ -54,7 +54,7 @@ impl<V> CopyMap<V> {
         self.entries.len()
     }
 
-    /// Gives a text a copy of this value, in place of the one that it may have. Fails if out of memory alone; the map
+    /// Gives a text a copy of this value, in place of the one that it may have. Fails only if out of memory; the map
     /// is then unchanged.
     pub fn insert<'v>(&mut self, key: &str, value: V::Borrowed) -> Result<(), OutOfMemory>
     where
@@ -103,7 +103,7 @@ impl<V> CopyMap<V> {
         }
     }
 
-    /// Returns the same map in memory of its own. Fails if out of memory alone.
+    /// Returns the same map in memory of its own. Fails only if out of memory.
     pub fn copy<'a>(&'a self, alloc: Global) -> Result<CopyMap<V>, OutOfMemory>
     where
         V: Owned<'a>,

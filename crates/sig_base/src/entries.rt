@@ -40,7 +40,7 @@ impl Entries {
         Entries { alloc, items }
     }
 
-    /// Adds a copy of an entry at the end. Fails if out of memory alone; the list is then unchanged.
+    /// Adds a copy of an entry at the end. Fails only if out of memory; the list is then unchanged.
     pub fn push(&mut self, entry: &[u8]) -> Result<(), OutOfMemory>
         ensures ok { OnOk result (self.new ≡ self.old ++ entry.now ∷ []) }
         ensures err { OnErr result (self.new ≡ self.old) }
@@ -73,7 +73,7 @@ impl Entries {
         self.items.as_slice()
     }
 
-    /// Returns the same list in memory of its own. Fails if out of memory alone.
+    /// Returns the same list in memory of its own. Fails only if out of memory.
     pub fn copy(&self, alloc: Global) -> Result<Entries, OutOfMemory>
         ensures { IfOk result (λ e. e ≡ self.now) }
     {

@@ -44,7 +44,7 @@ impl Model for MemorySink {
 
 impl MemorySink {
     /// A sink with room for `room` bytes, which it takes here and not in a write. Each call takes at most `piece`; the
-    /// calls with these numbers, counted from 0, fail. Fails if out of memory alone.
+    /// calls with these numbers, counted from 0, fail. Fails only if out of memory.
     pub fn new(
         alloc: Global,
         room: usize,

@@ -14,7 +14,7 @@ pub trait Owned<'a>: Drop {
     /// The value that owns a copy of this.
     ghost owned: { Self.Borrowed → Self };
 
-    /// Returns a value that owns a copy of what is borrowed. Fails if out of memory alone.
+    /// Returns a value that owns a copy of what is borrowed. Fails only if out of memory.
     fn own(alloc: Global, borrowed: Self::Borrowed) -> Result<Self, OutOfMemory>
         ensures { IfOk result (λ value. value ≡ owned borrowed) };
 

@@ -62,7 +62,7 @@ impl<T> Register<T> {
 }
 
 impl<T: Drop> Register<T> {
-    /// Adds an element at the end. Fails if out of memory alone; the list is then unchanged.
+    /// Adds an element at the end. Fails only if out of memory; the list is then unchanged.
     pub fn push(&mut self, item: T) -> Result<(), OutOfMemory>
         ensures ok { OnOk result (self.new ≡ self.old ++ item ∷ []) }
         ensures err { OnErr result (self.new ≡ self.old) }
@@ -73,7 +73,7 @@ impl<T: Drop> Register<T> {
 }
 
 impl<T: Copy> Register<T> {
-    /// Returns the same list in memory of its own. Fails if out of memory alone.
+    /// Returns the same list in memory of its own. Fails only if out of memory.
     pub fn copy(&self, alloc: Global) -> Result<Register<T>, OutOfMemory>
         ensures { IfOk result (λ r. r ≡ self.now) }
     {

@@ -194,7 +194,7 @@ pub fn put_in_order(rows: &[AcceptedRow], order: &mut Vec<usize>)
     order.sort_unstable_by(|one, other| order_between(rows, *one, *other));
 }
 
-/// Returns the indices of all rows in the order of the rows. Fails if out of memory alone.
+/// Returns the indices of all rows in the order of the rows. Fails only if out of memory.
 pub fn order_of(alloc: Global, rows: &[AcceptedRow]) -> Result<Vec<usize>, OutOfMemory>
     ensures { IfOk result (λ order. IsOrderOf rows.now order.items) }
 {

@@ -21,7 +21,7 @@ impl Model for Text {
 }
 
 impl Text {
-    /// Returns a copy of this text. Fails if out of memory alone.
+    /// Returns a copy of this text. Fails only if out of memory.
     pub fn copy_of(alloc: Global, text: &str) -> Result<Text, OutOfMemory>
         ensures { IfOk result (λ t. t ≡ text.now) }
     {
@@ -36,7 +36,7 @@ impl Text {
         self.held.as_str()
     }
 
-    /// Returns the same text in memory of its own. Fails if out of memory alone.
+    /// Returns the same text in memory of its own. Fails only if out of memory.
     pub fn copy(&self, alloc: Global) -> Result<Text, OutOfMemory>
         ensures { IfOk result (λ t. t ≡ self.now) }
     {

@@ -7,7 +7,7 @@ use std::alloc::Global;
 
 /// A value that can be had once more, in memory of its own.
 trait Copies: Drop {
-    /// The same value in memory of its own. Fails only if memory runs out.
+    /// The same value in memory of its own. Fails only if out of memory.
     fn copied(&self, alloc: Global) -> Result<Self, OutOfMemory>
         ensures { IfOk result (λ copy. copy ≡ self.now) };
 }
@@ -56,7 +56,7 @@ fn copied_option<T: Copies>(alloc: Global, value: &Option<T>) -> Result<Option<T
 }
 
 impl TransparencyLogEntry {
-    /// The same entry in memory of its own. Fails only if memory runs out.
+    /// The same entry in memory of its own. Fails only if out of memory.
     pub fn copy(&self, alloc: Global) -> Result<TransparencyLogEntry, OutOfMemory>
         ensures { IfOk result (λ copied. copied ≡ self.now) }
     {

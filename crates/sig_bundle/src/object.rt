@@ -35,7 +35,7 @@ impl Object {
         }
     }
 
-    /// The object with this member. Fails only if memory runs out.
+    /// The object with this member. Fails only if out of memory.
     pub fn with(self, alloc: Global, name: &str, value: Document) -> Result<Object, OutOfMemory>
         ensures { IfOk result (λ made. members made
             ≡ put name.now (document_tree value) (members self)) }
@@ -45,7 +45,7 @@ impl Object {
         Ok(Object { document })
     }
 
-    /// The object with this text as a member. Fails only if memory runs out.
+    /// The object with this text as a member. Fails only if out of memory.
     pub fn with_text(self, alloc: Global, name: &str, text: &str) -> Result<Object, OutOfMemory>
         ensures { IfOk result (λ made. members made ≡ put name.now (string text.now) (members self)) }
     {
@@ -53,7 +53,7 @@ impl Object {
         self.with(alloc, name, value)
     }
 
-    /// The object with these bytes in lower-case hexadecimal as a member. Fails only if memory runs out.
+    /// The object with these bytes in lower-case hexadecimal as a member. Fails only if out of memory.
     #[tactic(auto, unfolding(hex::specs::Hex::encode_with))]
     pub fn with_hex(self, alloc: Global, name: &str, bytes: &[u8]) -> Result<Object, OutOfMemory>
         ensures { IfOk result (λ made. members made
@@ -63,7 +63,7 @@ impl Object {
         self.with_text(alloc, name, digits.as_str())
     }
 
-    /// The object with these bytes in base64 as a member. Fails only if memory runs out.
+    /// The object with these bytes in base64 as a member. Fails only if out of memory.
     pub fn with_bytes(self, alloc: Global, name: &str, bytes: &[u8]) -> Result<Object, OutOfMemory>
         ensures tree { IfOk result (λ made. members made ≡ put name.now (bytes_tree bytes.now) (members self)) }
         ensures back { IfOk result (λ _. IsReadAs bytes_of (bytes_tree bytes.now) bytes.now) }
@@ -72,7 +72,7 @@ impl Object {
         self.with(alloc, name, value)
     }
 
-    /// The object with this integer, as a text, as a member. Fails only if memory runs out.
+    /// The object with this integer, as a text, as a member. Fails only if out of memory.
     pub(crate) fn with_integer(
         self,
         alloc: Global,
@@ -87,7 +87,7 @@ impl Object {
         self.with(alloc, name, value)
     }
 
-    /// The object with this value as a member, if it is there. Fails only if memory runs out.
+    /// The object with this value as a member, if it is there. Fails only if out of memory.
     pub(crate) fn with_option<T: ElementWriter>(
         self,
         alloc: Global,
@@ -107,7 +107,7 @@ impl Object {
         }
     }
 
-    /// The object with this list as a member. Fails only if memory runs out.
+    /// The object with this list as a member. Fails only if out of memory.
     pub(crate) fn with_list<T: ElementWriter>(
         self,
         alloc: Global,

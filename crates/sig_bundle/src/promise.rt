@@ -45,7 +45,7 @@ fn write_promise(alloc: Global, entry: &TransparencyLogEntry) -> Result<Text, Ca
     canonical(alloc, object.view())
 }
 
-/// The object of a promise. Fails only if memory runs out.
+/// The object of a promise. Fails only if out of memory.
 #[tactic(auto, unfolding(crate::specs::Promise::promise_tree_of, crate::specs::Written::bytes_tree))]
 fn promise_object(alloc: Global, entry: &TransparencyLogEntry) -> Result<Document, OutOfMemory>
     ensures { IfOk result (λ document. document_tree document ≡ promise_tree_of entry.now) }

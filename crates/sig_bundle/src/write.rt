@@ -32,7 +32,7 @@ fn write_bundle(alloc: Global, bundle: &Bundle) -> Result<Document, OutOfMemory>
 
 /// The text of a bundle, without white space, the members of each object in the byte order of their names. Every text,
 /// integer and bytes value is written, also where it is empty; integers are written as texts; only what is absent is
-/// left out. The text is read back as the same bundle. Fails only if memory runs out.
+/// left out. The text is read back as the same bundle. Fails only if out of memory.
 #[tactic(auto, using(crate::proofs::Nesting::nesting))]
 pub fn bundle_text(alloc: Global, bundle: &Bundle) -> Result<Text, OutOfMemory>
     ensures text { IfOk result (λ text. text ≡ compact_text (bundle_tree bundle.now)) }

@@ -91,7 +91,7 @@ impl ElementWriter for EnvelopeWriter {
     }
 }
 
-/// The object with the member of the content's kind. Fails only if memory runs out.
+/// The object with the member of the content's kind. Fails only if out of memory.
 pub(crate) fn with_content(
     object: Object,
     alloc: Global,

@@ -54,7 +54,7 @@ impl ElementWriter for ChainWriter {
     }
 }
 
-/// The object with the member of the content's kind. Fails only if memory runs out.
+/// The object with the member of the content's kind. Fails only if out of memory.
 fn with_material_content(
     object: Object,
     alloc: Global,

@@ -19,13 +19,13 @@ pub(crate) trait ElementWriter {
 
     ghost meaning: { Data → Option Self.Item };
 
-    /// Writes a value, which its reader reads back. Fails only if memory runs out.
+    /// Writes a value, which its reader reads back. Fails only if out of memory.
     fn write(alloc: Global, item: &Self::Item) -> Result<Document, OutOfMemory>
         ensures tree { IfOk result (λ document. document_tree document ≡ written item.now) }
         ensures back { IfOk result (λ _. IsReadAs meaning (written item.now) item.now) };
 }
 
-/// Writes a list. Fails only if memory runs out.
+/// Writes a list. Fails only if out of memory.
 #[tactic(auto, using(crate::proofs::Lists::lists))]
 pub(crate) fn write_list<T: ElementWriter>(
     alloc: Global,

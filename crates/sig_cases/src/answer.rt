@@ -111,7 +111,7 @@ impl Answer {
         self.value(&"bad line");
     }
 
-    /// Ends the program behind the case. For a call whose error is out of memory alone.
+    /// Ends the program behind the case. For a call that fails only if out of memory.
     pub fn out_of_memory(&mut self) {
         self.is_out_of_memory = true;
     }

@@ -146,7 +146,7 @@ impl CheckedBundle {
 
     /// Returns the log entry if its body is about what the bundle holds, and nothing has to be fetched to check it:
     /// with `offline`, or with an inclusion proof at hand. Returns `None` if and only if one of both does not hold.
-    /// Fails only if memory runs out.
+    /// Fails only if out of memory.
     ///
     /// The body of an entry about a signature over an artifact is the document of kind `hashedrekord`, version 0.0.1
     /// (Rekor), that has `input_digest`, the artifact's SHA-256, in lower-case hexadecimal, the signature, and the PEM

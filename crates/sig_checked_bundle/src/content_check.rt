@@ -92,7 +92,7 @@ fn checked_envelope(
     })
 }
 
-/// The content of a signature over an artifact. Fails only if memory runs out.
+/// The content of a signature over an artifact. Fails only if out of memory.
 fn checked_message(
     alloc: Global,
     message: &MessageSignature,

@@ -173,7 +173,7 @@ impl DsseBody {
             && self.spec.signature.is_of(signature, pem)
     }
 
-    /// The same for the certificate of this DER. Fails only if memory runs out.
+    /// The same for the certificate of this DER. Fails only if out of memory.
     fn is_about_signed(
         &self,
         alloc: Global,
@@ -203,7 +203,7 @@ fn read_body(alloc: Global, body: &[u8]) -> Result<Option<DsseBody>, OutOfMemory
 
 /// Whether the body of an entry is about an envelope of this text and payload, with this signature, which the
 /// certificate of this DER verifies: it is one of kind `dsse`, version 0.0.1, whose hashes are the SHA-256 of both, and
-/// whose first signature is this one. Fails only if memory runs out.
+/// whose first signature is this one. Fails only if out of memory.
 #[tactic(auto, using(crate::proofs::DsseBodies::bodies))]
 pub(crate) fn is_about_envelope(
     alloc: Global,

@@ -18,7 +18,7 @@ use sig_certificate::der_to_pem;
 use sig_json::{Document, DocumentError};
 use std::alloc::Global;
 
-/// The digest of the artifact. Fails only if memory runs out.
+/// The digest of the artifact. Fails only if out of memory.
 #[tactic(auto, unfolding(crate::specs::Hashedrekord::hash_tree))]
 fn hash_tree(alloc: Global, digest: &[u8]) -> Result<Document, OutOfMemory>
     ensures { IfOk result (λ document. document_tree document ≡ hash_tree digest.now) }
@@ -29,7 +29,7 @@ fn hash_tree(alloc: Global, digest: &[u8]) -> Result<Document, OutOfMemory>
     Ok(object.into_document())
 }
 
-/// What is signed. Fails only if memory runs out.
+/// What is signed. Fails only if out of memory.
 #[tactic(auto, unfolding(crate::specs::Hashedrekord::data_tree))]
 fn data_tree(alloc: Global, digest: &[u8]) -> Result<Document, OutOfMemory>
     ensures { IfOk result (λ document. document_tree document ≡ data_tree digest.now) }
@@ -39,7 +39,7 @@ fn data_tree(alloc: Global, digest: &[u8]) -> Result<Document, OutOfMemory>
     Ok(object.into_document())
 }
 
-/// The text of the certificate. Fails only if memory runs out.
+/// The text of the certificate. Fails only if out of memory.
 #[tactic(auto, unfolding(crate::specs::Hashedrekord::public_key_tree))]
 fn public_key_tree(alloc: Global, pem: &[u8]) -> Result<Document, OutOfMemory>
     ensures { IfOk result (λ document. document_tree document ≡ public_key_tree pem.now) }
@@ -48,7 +48,7 @@ fn public_key_tree(alloc: Global, pem: &[u8]) -> Result<Document, OutOfMemory>
     Ok(object.into_document())
 }
 
-/// The signature, and the certificate that verifies it. Fails only if memory runs out.
+/// The signature, and the certificate that verifies it. Fails only if out of memory.
 #[tactic(auto, unfolding(crate::specs::Hashedrekord::signature_tree))]
 fn signature_tree(alloc: Global, signature: &[u8], pem: &[u8]) -> Result<Document, OutOfMemory>
     ensures { IfOk result (λ document. document_tree document ≡ signature_tree signature.now pem.now) }
@@ -60,7 +60,7 @@ fn signature_tree(alloc: Global, signature: &[u8], pem: &[u8]) -> Result<Documen
     Ok(object.into_document())
 }
 
-/// What the entry says. Fails only if memory runs out.
+/// What the entry says. Fails only if out of memory.
 #[tactic(auto, unfolding(crate::specs::Hashedrekord::spec_tree))]
 fn spec(alloc: Global, digest: &[u8], signature: &[u8], pem: &[u8]) -> Result<Document, OutOfMemory>
     ensures { IfOk result (λ document. document_tree document ≡ spec_tree digest.now signature.now pem.now) }
@@ -73,7 +73,7 @@ fn spec(alloc: Global, digest: &[u8], signature: &[u8], pem: &[u8]) -> Result<Do
 }
 
 /// The entry about an artifact of this SHA-256 digest, with this signature, which the certificate of this PEM
-/// verifies. Fails only if memory runs out.
+/// verifies. Fails only if out of memory.
 #[tactic(auto, unfolding(crate::specs::Hashedrekord::hashedrekord_tree))]
 fn entry_about(
     alloc: Global,
@@ -93,7 +93,7 @@ fn entry_about(
 }
 
 /// The entry about an artifact of this SHA-256 digest, with this signature, which the certificate of this DER
-/// verifies. Fails only if memory runs out.
+/// verifies. Fails only if out of memory.
 fn entry_with(
     alloc: Global,
     digest: &[u8],
@@ -109,7 +109,7 @@ fn entry_with(
 
 /// Whether the body of an entry is about an artifact of this SHA-256 digest, with this signature, which the
 /// certificate of this DER verifies: whether its tree is the one of kind `hashedrekord`, version 0.0.1, that says so,
-/// without any other member. Fails only if memory runs out.
+/// without any other member. Fails only if out of memory.
 pub(crate) fn is_about_artifact(
     alloc: Global,
     digest: &[u8],

@@ -9,7 +9,7 @@ use sig_base::OutOfMemory;
 use std::alloc::Global;
 
 /// Whether the body of a log's entry is about the content, with this signature, which the certificate of this DER
-/// verifies: a signature over an artifact of this SHA-256 digest, or an envelope. Fails only if memory runs out.
+/// verifies: a signature over an artifact of this SHA-256 digest, or an envelope. Fails only if out of memory.
 pub(crate) fn is_body_about(
     alloc: Global,
     content: &CheckedContent,

@@ -34,7 +34,7 @@ impl DerOut {
         }
     }
 
-    /// Appends the bytes to the content. Fails only if memory runs out, and then changes nothing.
+    /// Appends the bytes to the content. Fails only if out of memory, and then changes nothing.
     pub fn push(&mut self, bytes: &[u8]) -> Result<(), OutOfMemory>
         ensures ok { OnOk result (self.new ≡ self.old ++ bytes.now) }
         ensures err { OnErr result (self.new ≡ self.old) }

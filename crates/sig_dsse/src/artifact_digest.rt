@@ -47,7 +47,7 @@ impl ArtifactDigest {
         }
     }
 
-    /// The bytes as hexadecimal digits in lower case. Fails only if memory runs out.
+    /// The bytes as hexadecimal digits in lower case. Fails only if out of memory.
     pub fn to_hex(&self, alloc: Global) -> Result<Text, OutOfMemory>
         ensures { IfOk result (λ text. text ≡ encode_lower (digest_bytes self.now)) }
     {

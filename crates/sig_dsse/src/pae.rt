@@ -7,7 +7,7 @@ use sig_base::{Bytes, OutOfMemory};
 use std::alloc::Global;
 
 /// `DSSEv1`, the length of the type in bytes, the type, the length of the payload in bytes and the payload, a space
-/// between each two. Fails only if memory runs out.
+/// between each two. Fails only if out of memory.
 #[tactic(auto, unfolding(crate::specs::Pae::pae))]
 pub fn compute_pae(alloc: Global, payload_type: &str, payload: &[u8]) -> Result<Bytes, OutOfMemory>
     ensures { IfOk result (λ bytes. bytes ≡ pae payload_type.now payload.now) }

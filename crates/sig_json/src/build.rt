@@ -35,7 +35,7 @@ impl Document {
         }
     }
 
-    /// A text. Fails only if memory runs out.
+    /// A text. Fails only if out of memory.
     pub fn of_text(alloc: Global, text: &str) -> Result<Document, OutOfMemory>
         ensures { IfOk result (λ document. document_tree document ≡ string text.now) }
     {
@@ -53,7 +53,7 @@ impl Document {
     }
 
     /// Sets the member of this name of an object, new or in place of the old one; all other members stay. Fails only
-    /// if memory runs out, and the object is then unchanged.
+    /// if out of memory, and the object is then unchanged.
     pub fn insert(&mut self, alloc: Global, name: &str, value: Document) -> Result<(), OutOfMemory>
         requires { IsSome (as_object (document_tree self.old)) }
         ensures ok { OnOk result (document_tree self.new
@@ -63,7 +63,7 @@ impl Document {
         put_member(alloc, &mut self.value, name, value.value)
     }
 
-    /// Adds a value at the end of a list. Fails only if memory runs out, and the list is then unchanged.
+    /// Adds a value at the end of a list. Fails only if out of memory, and the list is then unchanged.
     pub fn push(&mut self, value: Document) -> Result<(), OutOfMemory>
         requires { IsSome (as_array (document_tree self.old)) }
         ensures ok { OnOk result (document_tree self.new
@@ -79,7 +79,7 @@ impl Json<'_, '_> {
     ghost use Rattle.std.specs.Prelude.{◌≡◌, IfOk};
     ghost use Rattle.sig_json.specs.Tree.{document_tree, tree};
 
-    /// The value in memory of its own. Fails only if memory runs out.
+    /// The value in memory of its own. Fails only if out of memory.
     pub fn copy(self, alloc: Global) -> Result<Document, OutOfMemory>
         ensures { IfOk result (λ document. document_tree document ≡ tree self.entry) }
     {

@@ -20,7 +20,7 @@ use sig_base::{OutOfMemory, Text};
 use std::alloc::{AllocError, Global};
 
 /// The text of a value without white space, members in the byte order of their names. Where lists and objects nest to
-/// at most 127 it is read as a document of the same tree. Fails only if memory runs out.
+/// at most 127 it is read as a document of the same tree. Fails only if out of memory.
 #[tactic(auto, using(crate::proofs::CompactTexts::compact_texts))]
 pub fn compact(alloc: Global, json: Json<'_, '_>) -> Result<Text, OutOfMemory>
     ensures text { IfOk result (λ text. text ≡ compact_text (tree json.entry)) }

@@ -7,7 +7,7 @@ use crate::words::own;
 use sig_base::OutOfMemory;
 use std::alloc::Global;
 
-/// Copies a tree, each list and each object into a vector of its own size. Fails only if memory runs out.
+/// Copies a tree, each list and each object into a vector of its own size. Fails only if out of memory.
 #[cycle(copy)]
 #[tactic(auto, using(crate::proofs::Copies::copies))]
 pub(crate) fn copy(alloc: Global, tree: &Tree<'_>) -> Result<Tree<'static>, OutOfMemory>

@@ -62,7 +62,7 @@ fn search(members: &Vec<Entry<'_>>, name: &str) -> Result<usize, usize>
     )
 }
 
-/// Sets the member of a name, in place of the old one or at its place among the others. Fails only if memory runs out,
+/// Sets the member of a name, in place of the old one or at its place among the others. Fails only if out of memory,
 /// and the members are then unchanged.
 #[tactic(auto, using(crate::proofs::Ordered::placed))]
 pub(crate) fn put<'t>(

@@ -11,7 +11,7 @@ use std::borrow::CowStr;
 /// that is dropped before the reading goes on.
 pub(crate) type Words<'t> = CowStr<'t, Global>;
 
-/// The text in memory of its own. Fails only if memory runs out.
+/// The text in memory of its own. Fails only if out of memory.
 pub(crate) fn own<'t>(alloc: Global, text: &str) -> Result<Words<'t>, OutOfMemory>
     ensures same { IfOk result (λ words. cow_str_bytes words ≡ text.now) }
     ensures utf8 { IfOk result (λ words. IsUtf8 (cow_str_bytes words)) }

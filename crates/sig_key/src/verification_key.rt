@@ -33,7 +33,7 @@ pub enum CosignVerificationKey {
 }
 
 impl CosignVerificationKey {
-    /// Returns the key of this scheme with a copy of this DER, whatever it holds. Fails if out of memory alone.
+    /// Returns the key of this scheme with a copy of this DER, whatever it holds. Fails only if out of memory.
     pub fn from_der(
         alloc: Global,
         der: &[u8],

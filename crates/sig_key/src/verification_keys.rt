@@ -42,7 +42,7 @@ impl VerificationKeys {
         self.keys.get(key)
     }
 
-    /// Gives a text this key, in place of the one that it may have. Fails if out of memory alone; the map is then
+    /// Gives a text this key, in place of the one that it may have. Fails only if out of memory; the map is then
     /// unchanged.
     pub fn insert(&mut self, key: &str, value: CosignVerificationKey) -> Result<()>
         ensures ok { OnOk result (self.new ≡ text_put key.now value self.old) }

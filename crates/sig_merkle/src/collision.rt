@@ -30,8 +30,8 @@ struct Children {
 }
 
 /// Returns two different byte strings of equal SHA-256 that the inclusion proof of an entry exhibits, where the list of
-/// that size and root has another entry at the index; `None` if and only if it has this entry there. Fails if out of
-/// memory alone.
+/// that size and root has another entry at the index; `None` if and only if it has this entry there. Fails only if out of
+/// memory.
 ///
 /// The proof and the list lead to one root from different leaves. From the leaf upward, the first two nodes (RFC 6962
 /// section 2.1) that differ in what they hash and not in their hash are the two byte strings: they begin with the byte
@@ -138,7 +138,7 @@ fn meet_nodes(alloc: Global, proved: Children, listed: Children) -> Result<Meeti
     Ok(hash_both(node_text(alloc, proved)?, node_text(alloc, listed)?))
 }
 
-/// Returns what the hash of a node is taken of: 0x01, and the hashes of its children. Fails if out of memory alone.
+/// Returns what the hash of a node is taken of: 0x01, and the hashes of its children. Fails only if out of memory.
 fn node_text(alloc: Global, children: Children) -> Result<Bytes, OutOfMemory>
     ensures { IfOk result (λ text. text ≡ 1 ∷ children.left ++ children.right) }
 {

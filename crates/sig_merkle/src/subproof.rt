@@ -7,7 +7,7 @@ use sig_base::{Bytes, Entries, Hashes, OutOfMemory};
 use std::alloc::Global;
 
 /// Returns the consistency proof between the first `old` entries and all of them, PROOF of RFC 6962
-/// section 2.1.2: it has no hash where `old` is their number. Fails if out of memory alone.
+/// section 2.1.2: it has no hash where `old` is their number. Fails only if out of memory.
 pub fn proof_of(alloc: Global, entries: &Entries, old: usize) -> Result<Hashes, OutOfMemory>
     requires some { 0 < old }
     requires within { old ≤ length entries.now }

@@ -18,7 +18,7 @@ pub fn root_of(entries: &Entries, count: usize) -> [u8; 32]
 }
 
 /// Returns the audit path of the entry at the index in the tree of all entries: the hashes of the halves that the entry
-/// is not in, the smallest one first (RFC 6962 section 2.1.1). Fails if out of memory alone.
+/// is not in, the smallest one first (RFC 6962 section 2.1.1). Fails only if out of memory.
 pub fn path_of(alloc: Global, entries: &Entries, index: usize) -> Result<Hashes, OutOfMemory>
     requires { index < length entries.now }
     ensures { IfOk result (λ path. path ≡ audit_path index entries.now) }

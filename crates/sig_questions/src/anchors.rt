@@ -11,7 +11,7 @@ use sig_base::{Entries, Operation, OutOfMemory, Register};
 use sig_certificate::{Certificate, may_sign_code};
 use std::alloc::Global;
 
-/// Reads certificates. Fails only if memory runs out: where the link `anchor` holds, all of them can be read.
+/// Reads certificates. Fails only if out of memory: where the link `anchor` holds, all of them can be read.
 pub(crate) fn read_anchors(
     alloc: Global,
     ders: &Entries,

@@ -6,7 +6,7 @@ use crate::checkpoint::CheckpointSignature;
 use sig_base::OutOfMemory;
 use std::alloc::Global;
 
-/// Returns the raw bytes of the signatures, each once, in byte order. Fails if out of memory alone.
+/// Returns the raw bytes of the signatures, each once, in byte order. Fails only if out of memory.
 ///
 /// The sort takes no memory, and compares each signature about log n times, which costs at most its own bytes.
 pub fn different(
@@ -22,7 +22,7 @@ pub fn different(
     Ok(raws)
 }
 
-/// Returns the raw bytes of the signatures in their order, 16 bytes for each. Fails if out of memory alone.
+/// Returns the raw bytes of the signatures in their order, 16 bytes for each. Fails only if out of memory.
 #[tactic(auto, using(std::proofs::lemmas::List::map_more))]
 fn raws_of(alloc: Global, signatures: &[CheckpointSignature]) -> Result<Vec<&[u8]>, OutOfMemory>
     ensures { IfOk result (λ raws. map (λ raw. raw.now) raws.items ≡ map (λ s. s.raw) signatures.now) }

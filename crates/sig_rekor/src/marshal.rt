@@ -24,7 +24,7 @@ impl Checkpoint {
         read_note(alloc, s)
     }
 
-    /// Writes the note, as [`Note::marshal`]. Fails if out of memory alone.
+    /// Writes the note, as [`Note::marshal`]. Fails only if out of memory.
     pub fn marshal(&self, alloc: Global) -> Result<Text, OutOfMemory>
         ensures { IfOk result (λ text. text ≡ note_text self.now) }
     {

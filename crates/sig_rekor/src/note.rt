@@ -73,7 +73,7 @@ impl<'a> Note<'a> {
     }
 
     /// Writes the note: origin, size in decimal, base64 of the hash and the contents, each ended by a newline.
-    /// Fails if out of memory alone.
+    /// Fails only if out of memory.
     #[tactic(auto, using(crate::proofs::Steps::appended), unfolding(crate::specs::NoteText::note_text))]
     pub fn marshal(&self, alloc: Global) -> Result<Text, OutOfMemory>
         ensures { IfOk result (λ text. text ≡ note_text self.now) }
@@ -83,7 +83,7 @@ impl<'a> Note<'a> {
         Ok(Text::from(text))
     }
 
-    /// Returns the same note in memory of its own. Fails if out of memory alone.
+    /// Returns the same note in memory of its own. Fails only if out of memory.
     pub fn copy(&self, alloc: Global) -> Result<Checkpoint, OutOfMemory>
         ensures { IfOk result (λ note. note ≡ self.now) }
     {

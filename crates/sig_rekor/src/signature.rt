@@ -41,7 +41,7 @@ impl CheckpointSignature {
     }
 
     /// Writes the signature: em dash, space, name, space, base64 of fingerprint and signature, newline. It is read
-    /// back if the name has neither a space nor a newline. Fails if out of memory alone.
+    /// back if the name has neither a space nor a newline. Fails only if out of memory.
     pub fn encode(&self, alloc: Global) -> Result<Text, OutOfMemory>
         ensures text { IfOk result (λ text. text ≡ signature_text self.now) }
         ensures reads_back { IsSignerName self.now.name → IfOk result (λ text. signature_of text ≡ Ok self.now) }

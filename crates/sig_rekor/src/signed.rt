@@ -27,7 +27,7 @@ impl SignedCheckpoint {
     }
 
     /// Writes the checkpoint: the note, two newlines, and the signatures with a newline between each two. It is read
-    /// back if `ReadsBack` holds. Fails if out of memory alone.
+    /// back if `ReadsBack` holds. Fails only if out of memory.
     pub fn encode(&self, alloc: Global) -> Result<Text, OutOfMemory>
         ensures text { IfOk result (λ text. text ≡ checkpoint_text self.now) }
         ensures reads_back { ReadsBack self.now → IfOk result (λ text. checkpoint_of text ≡ Ok self.now) }

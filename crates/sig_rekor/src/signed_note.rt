@@ -53,7 +53,7 @@ impl<'a> SignedNote<'a> {
         read_signed_note(alloc, s)
     }
 
-    /// Writes the note, as [`Note::marshal`]: the text that is signed. Fails if out of memory alone.
+    /// Writes the note, as [`Note::marshal`]: the text that is signed. Fails only if out of memory.
     pub fn marshal(&self, alloc: Global) -> Result<Text, OutOfMemory>
         ensures { IfOk result (λ text. text ≡ note_text self.now.note) }
     {
@@ -67,7 +67,7 @@ impl<'a> SignedNote<'a> {
         self.signatures.as_slice()
     }
 
-    /// Returns the same checkpoint in memory of its own. Fails if out of memory alone.
+    /// Returns the same checkpoint in memory of its own. Fails only if out of memory.
     pub fn copy(self, alloc: Global) -> Result<SignedCheckpoint, OutOfMemory>
         ensures { IfOk result (λ checkpoint. checkpoint ≡ self.entry) }
     {

@@ -106,7 +106,7 @@ fn check<C: SignatureChecker>(
 }
 
 /// The bytes that the SCT's signature is over (RFC 6962 section 3.2). They are spelled only of a TBSCertificate of at
-/// most 2^24 - 1 bytes and extensions of at most 2^16 - 1. Fails if out of memory alone.
+/// most 2^24 - 1 bytes and extensions of at most 2^16 - 1. Fails only if out of memory.
 pub fn signed_bytes(alloc: Global, sct: &DigitallySigned) -> Result<Vec<u8>, OutOfMemory>
     requires tbs { IsLong sct.now.tbs_certificate }
     requires extensions { IsShort sct.now.extensions }
