@@ -1,6 +1,6 @@
 //! Calls of sig_base on bytes, texts, schemes and tables.
 
-use sig_base::{Bytes, Operation, RootHex, SigningScheme, Text, sha256};
+use sig_base::{Bytes, Operation, OutOfMemory, RootHex, SigningScheme, Text, sha256};
 use sig_cases::{Answer, Arguments};
 use std::alloc::Global;
 
@@ -14,14 +14,18 @@ pub(crate) fn digest(arguments: &mut Arguments<'_>, answer: &mut Answer) {
 pub(crate) fn of_base64(arguments: &mut Arguments<'_>, answer: &mut Answer) {
     let alloc = arguments.alloc();
     match Bytes::of_base64(alloc, &arguments.hex()) {
-        Ok(Some(bytes)) => match bytes.copy(alloc) {
-            Ok(copied) => {
-                answer.ok();
-                answer.hex(copied.as_slice());
-            }
-            Err(_) => answer.out_of_memory(),
-        },
+        Ok(Some(bytes)) => add_copied(answer, bytes.copy(alloc)),
         Ok(None) => answer.value(&"None"),
+        Err(_) => answer.out_of_memory(),
+    }
+}
+
+fn add_copied(answer: &mut Answer, copied: Result<Bytes, OutOfMemory>) {
+    match copied {
+        Ok(copied) => {
+            answer.ok();
+            answer.hex(copied.as_slice());
+        }
         Err(_) => answer.out_of_memory(),
     }
 }
@@ -30,13 +34,17 @@ pub(crate) fn of_base64(arguments: &mut Arguments<'_>, answer: &mut Answer) {
 pub(crate) fn in_base64(arguments: &mut Arguments<'_>, answer: &mut Answer) {
     let alloc = arguments.alloc();
     match Text::in_base64(alloc, &arguments.hex()) {
-        Ok(text) => match text.copy(alloc) {
-            Ok(copied) => {
-                answer.ok();
-                answer.debug(&copied.as_str());
-            }
-            Err(_) => answer.out_of_memory(),
-        },
+        Ok(text) => add_copied_text(answer, text.copy(alloc)),
+        Err(_) => answer.out_of_memory(),
+    }
+}
+
+fn add_copied_text(answer: &mut Answer, copied: Result<Text, OutOfMemory>) {
+    match copied {
+        Ok(copied) => {
+            answer.ok();
+            answer.debug(&copied.as_str());
+        }
         Err(_) => answer.out_of_memory(),
     }
 }
@@ -56,7 +64,7 @@ pub(crate) fn scheme(arguments: &mut Arguments<'_>, answer: &mut Answer) {
             answer.debug(&scheme);
             answer.value(&scheme);
         }
-        Err(error) => answer.error(&error),
+        Err(error) => answer.error(error),
     }
 }
 

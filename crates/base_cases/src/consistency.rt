@@ -1,4 +1,5 @@
 //! Calls of sig_merkle on consistency proofs.
+ghost use Rattle.std.specs.Prelude.{◌<◌, ◌≤◌, length};
 
 use crate::merkle::{path, show};
 use sig_base::{Entries, MerkleProofError, sha256};
@@ -16,7 +17,7 @@ pub(crate) fn check(arguments: &mut Arguments<'_>, answer: &mut Answer) {
     let new_root = arguments.digest();
     match verify_consistency(old_size, new_size, path.as_slice(), &old_root, &new_root) {
         Ok(()) => answer.ok(),
-        Err(error) => answer.error(&error),
+        Err(error) => answer.error(error),
     }
 }
 
@@ -67,16 +68,25 @@ pub(crate) fn sweep(arguments: &mut Arguments<'_>, answer: &mut Answer) {
     let old = arguments.natural() as usize;
     let entries = numbered(arguments, answer);
     if old == 0 || old > entries.len() {
-        return arguments.refuse();
+        arguments.refuse();
+    } else {
+        sweep_of(arguments.alloc(), answer, &entries, old);
     }
+}
+
+/// Adds the letters of the proof between so many of the entries and all.
+fn sweep_of(alloc: Global, answer: &mut Answer, entries: &Entries, old: usize)
+    requires some { 0 < old }
+    requires within { old ≤ length entries.now }
+{
     let trees = Trees {
         old_size: old as u64,
         new_size: entries.len() as u64,
-        old_root: root_of(&entries, old),
-        new_root: root_of(&entries, entries.len()),
+        old_root: root_of(entries, old),
+        new_root: root_of(entries, entries.len()),
     };
-    match proof_of(arguments.alloc(), &entries, old) {
-        Ok(proof) => swept(arguments.alloc(), answer, &trees, proof.as_slice()),
+    match proof_of(alloc, entries, old) {
+        Ok(proof) => swept(alloc, answer, &trees, proof.as_slice()),
         Err(_) => answer.out_of_memory(),
     }
 }

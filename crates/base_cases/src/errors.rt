@@ -176,11 +176,11 @@ fn errors_of_errors(answer: &mut Answer) {
 /// Those that hold texts.
 fn errors_of_texts(alloc: Global, answer: &mut Answer) {
     let id = text_of(alloc, answer, "id");
-    answer.shown(&SigstoreError::RekorPublicKeyNotFoundError(id));
+    answer.error(SigstoreError::RekorPublicKeyNotFoundError(id));
     let text = text_of(alloc, answer, "text");
-    answer.shown(&SigstoreError::VerificationConstraintError(text));
+    answer.error(SigstoreError::VerificationConstraintError(text));
     let text = text_of(alloc, answer, "text");
-    answer.shown(&SigstoreError::ApplyConstraintError(text));
+    answer.error(SigstoreError::ApplyConstraintError(text));
 }
 
 fn text_of(alloc: Global, answer: &mut Answer, text: &str) -> Text {

@@ -37,8 +37,11 @@ pub(crate) fn try_from_spki(arguments: &mut Arguments<'_>, answer: &mut Answer) 
 /// Adds a key, or why there is none.
 fn read(answer: &mut Answer, found: Result<CosignVerificationKey>) {
     match found {
-        Ok(key) => show(answer, &key),
-        Err(error) => answer.error(&error),
+        Ok(key) => {
+            show(answer, &key);
+            drop(key);
+        }
+        Err(error) => answer.error(error),
     }
 }
 
@@ -46,6 +49,7 @@ fn read(answer: &mut Answer, found: Result<CosignVerificationKey>) {
 pub(crate) fn from_der(arguments: &mut Arguments<'_>, answer: &mut Answer) {
     let key = key(arguments, answer);
     show(answer, &key);
+    drop(key);
 }
 
 /// Adds a key's scheme and its bytes.
@@ -108,7 +112,7 @@ pub(crate) fn decode(arguments: &mut Arguments<'_>, answer: &mut Answer) {
             answer.ok();
             answer.hex(decoded.as_slice());
         }
-        Err(error) => answer.error(&error),
+        Err(error) => answer.error(error),
     }
 }
 
@@ -120,6 +124,7 @@ pub(crate) fn accepts(arguments: &mut Arguments<'_>, answer: &mut Answer) {
     let checker = arguments.checker();
     answer.ok();
     answer.value(&key.accepts(&signature, &message, &checker));
+    drop(key);
 }
 
 /// `verify_signature SCHEME KEY FORM SIGNATURE MESSAGE ROW ..`: whether the signature is the key's.
@@ -134,6 +139,8 @@ pub(crate) fn verify_signature(arguments: &mut Arguments<'_>, answer: &mut Answe
         answer,
         key.verify_signature(arguments.alloc(), signature, &message, &checker),
     );
+    drop(key);
+    drop(checker);
 }
 
 /// `verify_prehash SCHEME KEY FORM SIGNATURE DIGEST ROW ..`: whether the signature is the key's.
@@ -148,19 +155,30 @@ pub(crate) fn verify_prehash(arguments: &mut Arguments<'_>, answer: &mut Answer)
         answer,
         key.verify_prehash(arguments.alloc(), signature, &digest, &checker),
     );
+    drop(key);
+    drop(checker);
 }
 
 /// Adds the result of a check.
 fn checked(answer: &mut Answer, found: Result<()>) {
     match found {
         Ok(()) => answer.ok(),
-        Err(error) => answer.error(&error),
+        Err(error) => answer.error(error),
     }
 }
 
 /// `keys SOUGHT NAME SCHEME DER ..`: the key of the name that is sought.
 pub(crate) fn found(arguments: &mut Arguments<'_>, answer: &mut Answer) {
     let sought = arguments.text();
+    let keys = read_keys(arguments, answer);
+    match keys.get(sought.as_str()) {
+        Some(key) => show(answer, key),
+        None => answer.value(&"None"),
+    }
+}
+
+/// The arguments to their end as keys by their names.
+fn read_keys(arguments: &mut Arguments<'_>, answer: &mut Answer) -> VerificationKeys {
     let mut keys = VerificationKeys::new(arguments.alloc());
     for _ in 0..u64::MAX {
         if arguments.is_empty() {
@@ -168,10 +186,7 @@ pub(crate) fn found(arguments: &mut Arguments<'_>, answer: &mut Answer) {
         }
         insert(&mut keys, arguments, answer);
     }
-    match keys.get(sought.as_str()) {
-        Some(key) => show(answer, key),
-        None => answer.value(&"None"),
-    }
+    keys
 }
 
 /// Reads a name, a scheme and the bytes of a key.

@@ -15,6 +15,15 @@ fn add_bytes(answer: &mut Answer, bytes: Option<&[u8]>) {
 /// entries.
 pub(crate) fn key_map(arguments: &mut Arguments<'_>, answer: &mut Answer) {
     let sought = arguments.text();
+    let map = read_key_map(arguments, answer);
+    match map.copy(arguments.alloc()) {
+        Ok(copied) => show_key_map(answer, &copied, sought.as_str()),
+        Err(_) => answer.out_of_memory(),
+    }
+}
+
+/// The arguments to their end as a map of bytes.
+fn read_key_map(arguments: &mut Arguments<'_>, answer: &mut Answer) -> KeyMap {
     let mut map = KeyMap::new(arguments.alloc());
     for _ in 0..u64::MAX {
         if arguments.is_empty() {
@@ -22,10 +31,7 @@ pub(crate) fn key_map(arguments: &mut Arguments<'_>, answer: &mut Answer) {
         }
         insert_bytes(&mut map, arguments, answer);
     }
-    match map.copy(arguments.alloc()) {
-        Ok(copied) => show_key_map(answer, &copied, sought.as_str()),
-        Err(_) => answer.out_of_memory(),
-    }
+    map
 }
 
 /// Reads a text and bytes as an entry.
@@ -59,6 +65,15 @@ fn add_key_and_bytes(answer: &mut Answer, key: &str, value: &[u8]) {
 /// entries.
 pub(crate) fn text_map(arguments: &mut Arguments<'_>, answer: &mut Answer) {
     let sought = arguments.text();
+    let map = read_text_map(arguments, answer);
+    match map.copy(arguments.alloc()) {
+        Ok(copied) => show_text_map(answer, &copied, sought.as_str()),
+        Err(_) => answer.out_of_memory(),
+    }
+}
+
+/// The arguments to their end as a map of texts.
+fn read_text_map(arguments: &mut Arguments<'_>, answer: &mut Answer) -> TextMap {
     let mut map = TextMap::new(arguments.alloc());
     for _ in 0..u64::MAX {
         if arguments.is_empty() {
@@ -66,10 +81,7 @@ pub(crate) fn text_map(arguments: &mut Arguments<'_>, answer: &mut Answer) {
         }
         insert_text(&mut map, arguments, answer);
     }
-    match map.copy(arguments.alloc()) {
-        Ok(copied) => show_text_map(answer, &copied, sought.as_str()),
-        Err(_) => answer.out_of_memory(),
-    }
+    map
 }
 
 /// Reads two texts as an entry.
@@ -124,6 +136,18 @@ pub(crate) fn entries(arguments: &mut Arguments<'_>, answer: &mut Answer) {
 /// `numbers INDEX NUMBER ..`: how many numbers there are, whether the copy is equal, the one at the index, and all.
 pub(crate) fn numbers(arguments: &mut Arguments<'_>, answer: &mut Answer) {
     let index = arguments.natural() as usize;
+    let numbers = read_numbers(arguments, answer);
+    match numbers.copy(arguments.alloc()) {
+        Ok(copied) => {
+            let same = copied == numbers;
+            show_numbers(answer, &copied, index, same);
+        }
+        Err(_) => answer.out_of_memory(),
+    }
+}
+
+/// The arguments to their end as numbers.
+fn read_numbers(arguments: &mut Arguments<'_>, answer: &mut Answer) -> Numbers {
     let mut numbers = Numbers::new(arguments.alloc());
     for _ in 0..u64::MAX {
         if arguments.is_empty() {
@@ -133,13 +157,7 @@ pub(crate) fn numbers(arguments: &mut Arguments<'_>, answer: &mut Answer) {
             answer.out_of_memory();
         }
     }
-    match numbers.copy(arguments.alloc()) {
-        Ok(copied) => {
-            let same = copied == numbers;
-            show_numbers(answer, &copied, index, same);
-        }
-        Err(_) => answer.out_of_memory(),
-    }
+    numbers
 }
 
 fn show_numbers(answer: &mut Answer, numbers: &Numbers, index: usize, same: bool) {
@@ -157,6 +175,15 @@ fn show_numbers(answer: &mut Answer, numbers: &Numbers, index: usize, same: bool
 
 /// `hashes DIGEST ..`: how many digests there are, and all.
 pub(crate) fn hashes(arguments: &mut Arguments<'_>, answer: &mut Answer) {
+    let hashes = read_hashes(arguments, answer);
+    match hashes.copy(arguments.alloc()) {
+        Ok(copied) => show_hashes(answer, copied.as_slice()),
+        Err(_) => answer.out_of_memory(),
+    }
+}
+
+/// The arguments to their end as digests.
+fn read_hashes(arguments: &mut Arguments<'_>, answer: &mut Answer) -> Hashes {
     let mut hashes = Hashes::new(arguments.alloc());
     for _ in 0..u64::MAX {
         if arguments.is_empty() {
@@ -166,10 +193,7 @@ pub(crate) fn hashes(arguments: &mut Arguments<'_>, answer: &mut Answer) {
             answer.out_of_memory();
         }
     }
-    match hashes.copy(arguments.alloc()) {
-        Ok(copied) => show_hashes(answer, copied.as_slice()),
-        Err(_) => answer.out_of_memory(),
-    }
+    hashes
 }
 
 fn show_hashes(answer: &mut Answer, hashes: &[[u8; 32]]) {

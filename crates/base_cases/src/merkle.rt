@@ -88,7 +88,7 @@ pub(crate) fn inclusion(arguments: &mut Arguments<'_>, answer: &mut Answer) {
     let root = arguments.digest();
     match verify_inclusion(index, &leaf, size, path.as_slice(), &root) {
         Ok(()) => answer.ok(),
-        Err(error) => answer.error(&error),
+        Err(error) => answer.error(error),
     }
 }
 
@@ -117,13 +117,13 @@ fn counted_on<L: Ledger>(
     let mut steps = Steps::<L>::new(blank);
     let root = match root_from_inclusion_proof(index, leaf, size, path, &mut steps) {
         Ok(root) => root,
-        Err(error) => return answer.error(&error),
+        Err(error) => return answer.error(error),
     };
     match sig_merkle::verify_inclusion(index, leaf, size, path, &root, &mut steps) {
         Ok(()) => {
             answer.ok();
             answer.hex(&root);
         }
-        Err(error) => answer.error(&error),
+        Err(error) => answer.error(error),
     }
 }
