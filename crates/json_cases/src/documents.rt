@@ -87,8 +87,9 @@ fn add_read(alloc: Global, answer: &mut Answer, read: Result<Document, DocumentE
         Ok(document) => {
             answer.ok();
             add_tree(alloc, answer, document.view());
+            drop(document);
         }
-        Err(error) => answer.error(&error),
+        Err(error) => answer.error(error),
     }
 }
 
@@ -117,26 +118,40 @@ pub(crate) fn read_members(arguments: &mut Arguments<'_>, answer: &mut Answer) {
 pub(crate) fn read_back(arguments: &mut Arguments<'_>, answer: &mut Answer) {
     let alloc = arguments.alloc();
     match Document::read(alloc, &bytes(arguments, answer)) {
-        Ok(document) => match compact(alloc, document.view()) {
-            Ok(text) => add_back(alloc, answer, &document, text.as_str()),
-            Err(_) => answer.out_of_memory(),
-        },
-        Err(error) => answer.error(&error),
+        Ok(document) => {
+            add_back(alloc, answer, &document);
+            drop(document);
+        }
+        Err(error) => answer.error(error),
+    }
+}
+
+/// Adds whether the compact text of this document is read as it, and has itself as its compact text.
+fn add_back(alloc: Global, answer: &mut Answer, document: &Document) {
+    match compact(alloc, document.view()) {
+        Ok(text) => add_again(alloc, answer, document, text.as_str()),
+        Err(_) => answer.out_of_memory(),
     }
 }
 
 /// Adds whether a text is read as this document, and has itself as its compact text.
-fn add_back(alloc: Global, answer: &mut Answer, document: &Document, text: &str) {
+fn add_again(alloc: Global, answer: &mut Answer, document: &Document, text: &str) {
     match Document::read(alloc, text.as_bytes()) {
         Ok(again) => {
             answer.ok();
             answer.value(&(*document == again));
-            match compact(alloc, again.view()) {
-                Ok(second) => answer.value(&(second.as_str() == text)),
-                Err(_) => answer.out_of_memory(),
-            }
+            add_is_text(alloc, answer, again.view(), text);
+            drop(again);
         }
-        Err(error) => answer.error(&error),
+        Err(error) => answer.error(error),
+    }
+}
+
+/// Adds whether this is the compact text of the tree.
+fn add_is_text(alloc: Global, answer: &mut Answer, json: Json<'_, '_>, text: &str) {
+    match compact(alloc, json) {
+        Ok(second) => answer.value(&(second.as_str() == text)),
+        Err(_) => answer.out_of_memory(),
     }
 }
 
@@ -144,14 +159,21 @@ fn add_back(alloc: Global, answer: &mut Answer, document: &Document, text: &str)
 pub(crate) fn canonical_text(arguments: &mut Arguments<'_>, answer: &mut Answer) {
     let alloc = arguments.alloc();
     match Document::read(alloc, &bytes(arguments, answer)) {
-        Ok(document) => match canonical(alloc, document.view()) {
-            Ok(text) => {
-                answer.ok();
-                answer.value(&text.as_str());
-            }
-            Err(error) => answer.error(&error),
-        },
-        Err(error) => answer.error(&error),
+        Ok(document) => {
+            add_canonical(alloc, answer, document.view());
+            drop(document);
+        }
+        Err(error) => answer.error(error),
+    }
+}
+
+fn add_canonical(alloc: Global, answer: &mut Answer, json: Json<'_, '_>) {
+    match canonical(alloc, json) {
+        Ok(text) => {
+            answer.ok();
+            answer.value(&text.as_str());
+        }
+        Err(error) => answer.error(error),
     }
 }
 

@@ -19,6 +19,8 @@ pub(crate) fn equal(arguments: &mut Arguments<'_>, answer: &mut Answer) {
     answer.value(&one.document.view().equals(other.document.view()));
     answer.value(&(one.document == other.document));
     answer.value(&(one == other));
+    drop(one);
+    drop(other);
 }
 
 fn read_numbered(arguments: &mut Arguments<'_>) -> Numbered {

@@ -55,8 +55,9 @@ fn add_parts<K: Kind>(alloc: Global, answer: &mut Answer, text: &[u8], names: &[
             answer.ok();
             add_tree(alloc, answer, document.view());
             add_list::<K>(alloc, answer, &elements);
+            drop(document);
         }
-        Err(error) => answer.error(&error),
+        Err(error) => answer.error(error),
     }
 }
 
@@ -64,6 +65,7 @@ fn member<K: Kind>(call: &str, arguments: &mut Arguments<'_>, answer: &mut Answe
     let name = arguments.text();
     let document = document(arguments, answer);
     add_member::<K>(call, arguments, answer, document.view(), name.as_str());
+    drop(document);
 }
 
 fn add_member<K: Kind>(
@@ -84,7 +86,7 @@ fn add_member<K: Kind>(
 }
 
 /// Adds what was read of a value.
-fn add_read<K: Kind, E: Debug + Display + Drop>(
+pub(crate) fn add_read<K: Kind, E: Debug + Display + Drop>(
     alloc: Global,
     answer: &mut Answer,
     read: Result<K::Item, E>,
@@ -94,7 +96,7 @@ fn add_read<K: Kind, E: Debug + Display + Drop>(
             answer.ok();
             K::add(alloc, answer, &item);
         }
-        Err(error) => answer.error(&error),
+        Err(error) => answer.error(error),
     }
 }
 
@@ -113,7 +115,7 @@ fn add_optional<K: Kind>(
             answer.ok();
             answer.value(&"none");
         }
-        Err(error) => answer.error(&error),
+        Err(error) => answer.error(error),
     }
 }
 
@@ -128,7 +130,7 @@ fn add_each<K: Kind>(
             answer.ok();
             add_list::<K>(alloc, answer, &list);
         }
-        Err(error) => answer.error(&error),
+        Err(error) => answer.error(error),
     }
 }
 

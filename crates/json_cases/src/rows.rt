@@ -1,9 +1,10 @@
 //! Readers of one row of a table.
-use crate::documents::{add_text, document};
+use crate::documents::document;
+use crate::readers::add_read;
 use sig_cases::{Answer, Arguments};
 use sig_json::{
-    MemberError, read_bytes, read_i64, read_text, read_u64, required_bytes, required_hash,
-    required_i64, required_text, required_u64,
+    BytesReader, HashReader, MemberError, TextReader, read_bytes, read_i64, read_text, read_u64,
+    required_bytes, required_hash, required_i64, required_text, required_u64,
 };
 use std::fmt::Display;
 
@@ -18,13 +19,8 @@ pub(crate) fn text(call: &str, arguments: &mut Arguments<'_>, answer: &mut Answe
         "read_text" => read_text(alloc, json, name),
         _ => required_text(alloc, json, name),
     };
-    match read {
-        Ok(text) => {
-            answer.ok();
-            add_text(arguments.alloc(), answer, text.as_str());
-        }
-        Err(error) => answer.error(&error),
-    }
+    add_read::<TextReader, _>(alloc, answer, read);
+    drop(document);
 }
 
 /// `read_bytes NAME DOCUMENT` and `required_bytes NAME DOCUMENT`: the bytes.
@@ -38,26 +34,17 @@ pub(crate) fn bytes(call: &str, arguments: &mut Arguments<'_>, answer: &mut Answ
         "read_bytes" => read_bytes(alloc, json, name),
         _ => required_bytes(alloc, json, name),
     };
-    match read {
-        Ok(bytes) => {
-            answer.ok();
-            answer.hex(bytes.as_slice());
-        }
-        Err(error) => answer.error(&error),
-    }
+    add_read::<BytesReader, _>(alloc, answer, read);
+    drop(document);
 }
 
 /// `required_hash NAME DOCUMENT`: the hash.
 pub(crate) fn hash(arguments: &mut Arguments<'_>, answer: &mut Answer) {
     let name = arguments.text();
     let document = document(arguments, answer);
-    match required_hash(document.view(), name.as_str()) {
-        Ok(hash) => {
-            answer.ok();
-            answer.hex(&hash);
-        }
-        Err(error) => answer.error(&error),
-    }
+    let read = required_hash(document.view(), name.as_str());
+    add_read::<HashReader, _>(arguments.alloc(), answer, read);
+    drop(document);
 }
 
 /// `integers NAME DOCUMENT`: what `read_i64`, `read_u64`, `required_i64` and `required_u64` return.
@@ -71,6 +58,7 @@ pub(crate) fn integers(arguments: &mut Arguments<'_>, answer: &mut Answer) {
     add_integer(answer, read_u64(json, name));
     add_integer(answer, required_i64(json, name));
     add_integer(answer, required_u64(json, name));
+    drop(document);
 }
 
 /// Adds an integer, or why there is none.

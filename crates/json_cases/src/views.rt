@@ -36,6 +36,7 @@ pub(crate) fn values(arguments: &mut Arguments<'_>, answer: &mut Answer) {
     }
     add_value(answer, json.list_len());
     answer.value(&json.members().is_some());
+    drop(document);
 }
 
 /// `get NAME DOCUMENT`: the member of this name.
@@ -48,6 +49,7 @@ pub(crate) fn member(arguments: &mut Arguments<'_>, answer: &mut Answer) {
         answer,
         document.view().get(name.as_str()),
     );
+    drop(document);
 }
 
 /// `item PLACE DOCUMENT`: the element at this place, counted from 0.
@@ -56,17 +58,23 @@ pub(crate) fn item(arguments: &mut Arguments<'_>, answer: &mut Answer) {
     let document = document(arguments, answer);
     answer.ok();
     add_found(arguments.alloc(), answer, document.view().item(place));
+    drop(document);
 }
 
 /// `members DOCUMENT`: names and values in turn.
 pub(crate) fn members(arguments: &mut Arguments<'_>, answer: &mut Answer) {
     let document = document(arguments, answer);
     answer.ok();
-    match document.view().members() {
+    add_members(arguments.alloc(), answer, document.view());
+    drop(document);
+}
+
+fn add_members(alloc: Global, answer: &mut Answer, json: Json<'_, '_>) {
+    match json.members() {
         Some(members) => {
             for (name, value) in members {
-                add_text(arguments.alloc(), answer, name);
-                add_tree(arguments.alloc(), answer, value);
+                add_text(alloc, answer, name);
+                add_tree(alloc, answer, value);
             }
         }
         None => answer.value(&"none"),
