@@ -1,7 +1,7 @@
 -- A signature takes more bytes in the list than by itself.
 use Rattle.std.proofs.Common.{◌≡◌, ◌<◌, ◌≤◌, ◌+◌, ℕ, Bool, true, false, cond, List, [], ◌∷◌, ◌++◌, length, codes}
 use Rattle.std.proofs.Common.{ap, arith, length-append, refl}
-use Rattle.std.specs.Prelude.{All, nat_lt, sum_by}
+use Rattle.std.specs.Prelude.{All, nat_lt}
 use Rattle.std.proofs.lemmas.List.Elements.{All-head, All-tail}
 use Rattle.std.proofs.lemmas.List.Sums.{sum_by-cons}
 use Rattle.base64.proofs.RoundTrip.{length-encode_symbols}
@@ -13,7 +13,7 @@ use Rattle.sig_base.specs.declared.checker.AcceptedRow.{AcceptedRow}
 use Rattle.sig_base.specs.declared.checker.Operation.{Operation}
 use Rattle.sig_base.specs.declared.checker.Operation.TheVariants.{Message, Prehash, Point, Certificate}
 use Rattle.sig_bundle.specs.Written.{bytes_tree, members_into}
-use Rattle.sig_json.specs.Data.{Data, Members, member, no_members}
+use Rattle.sig_json.specs.Data.{Members, member, no_members}
 use Rattle.sig_json.specs.Written.{comma_if, compact_text, members_text}
 use Rattle.sig_questions.specs.Rows.{HasScheme, IsSchemeUnder, bytes_of_rows, row_bytes}
 use Rattle.sig_base.proofs.AcceptedRows.{as_row}

@@ -1,5 +1,5 @@
 -- The reply of `questions verify`, from what was read and what is listed.
-use Rattle.std.proofs.Common.{◌≡◌, ◌≢◌, ◌↔◌, ◌<◌, ◌≤◌, ℕ, inl, inr, List, length, Option, Some, None, Result, Ok, Err}
+use Rattle.std.proofs.Common.{◌≡◌, ◌↔◌, ◌<◌, ◌≤◌, ℕ, inl, inr, List, length, Result, Ok, Err}
 use Rattle.std.proofs.Common.{IfOk, ap, arith, refl, sym, subst}
 use Rattle.std.proofs.lemmas.Result.{IfOk-weaker}
 use Rattle.std.proofs.lemmas.List.Elements.{All-contains_itself, All-weaker}
@@ -9,10 +9,9 @@ use Rattle.sig_base.specs.Rules.{FailsFirst}
 use Rattle.sig_base.specs.declared.checker.AcceptedRow.{AcceptedRow}
 use Rattle.sig_base.specs.declared.memory.OutOfMemory.{OutOfMemory}
 use Rattle.sig_questions.specs.Asked.{IsAskedBy}
-use Rattle.sig_questions.specs.Questions.{AreQuestions, AreTooLong, FailsForAll, HoldsUnasked, IsDecided}
+use Rattle.sig_questions.specs.Questions.{AreQuestions, HoldsUnasked, IsDecided}
 use Rattle.sig_questions.specs.Questions.{QuestionsAreOneList, QuestionsHaveSchemes, RefusalsAreForAll, question_links}
 use Rattle.sig_questions.specs.Rows.{HasScheme}
-use Rattle.sig_questions.specs.declared.listing.NoQuestions.{NoQuestions}
 use Rattle.sig_questions.specs.declared.listing.NoQuestions.TheVariants.{Link as Refused, TooLong}
 use Rattle.sig_verify.proofs.JudgedLaws.{alike_each, fails_as}
 use Rattle.sig_verify.specs.declared.link.Link.{Link}

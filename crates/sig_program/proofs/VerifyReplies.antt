@@ -89,7 +89,8 @@ module _ (text : List ℕ) (request : VerifyRequest) (r : Result Reply OutOfMemo
 
   pub refused-verify-replied : (error : OfflineError) (link : Option Link) → link ≡ link_of error
       → IfOk r (IsRefusal link) → IsChainOf request (Err error) → IfOk r (IsReply Verify text)
-  refused-verify-replied error None named made chain = IfOk-weaker r (λ reply. ⊥) (IsReply Verify text) (λ reply. absurd) made
+  refused-verify-replied error None named made chain =
+      IfOk-weaker r (λ reply. ⊥) (IsReply Verify text) (λ reply. absurd) made
   refused-verify-replied error (Some link) named made chain =
       replied Verify text (refusal_reply link) r made (refused-verify text request error link is (sym named)
       (chain_failed request error link (sym named) chain))

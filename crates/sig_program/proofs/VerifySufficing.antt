@@ -1,5 +1,5 @@
 -- Nothing but the listed signatures decides the reply of `verify`.
-use Rattle.std.proofs.Common.{◌≡◌, ◌↔◌, ℕ, Bool, true, false, List, [], refl, subst, sym, ◌∙◌}
+use Rattle.std.proofs.Common.{◌≡◌, ◌↔◌, ℕ, List, [], subst}
 use Rattle.std.specs.Cmp.{both_ways}
 use Rattle.std.specs.Prelude.{Contains}
 use Rattle.sig_base.proofs.AcceptedRows.{accepted-rows}

@@ -1,6 +1,6 @@
 -- Texts of digests, both ways.
 use Rattle.std.proofs.Common.{◌≡◌, ℕ, List, ◌++◌, drop, codes, Bor, MatchOption}
-use Rattle.std.proofs.Common.{Option, Some, None, option_map, Result, Ok, Err, refl, sym, ap, subst, ◌∙◌}
+use Rattle.std.proofs.Common.{Option, Some, None, option_map, Ok, refl, sym, ap, subst, ◌∙◌}
 use Rattle.std.specs.Option.{option_or}
 use Rattle.std.specs.Result.{result_ok}
 use Rattle.std.specs.Str.Pattern.{FindsTextPrefix, StripsPrefix}

@@ -11,5 +11,6 @@ returns-in_default c =
 
 pub returns : goal.returns
 returns c =
-    c.reply_to-reply.ensures c.args.request.now (its-request log_request c.args.request.now c.in_ok-request.field-0
-    c.in-Some.request c.in-Some.is c.in_ok-request.ensures)
+    c.reply_to-reply.ensures c.args.request.now
+    (its-request log_request c.args.request.now c.in_ok-request.field-0 c.in-Some.request c.in-Some.is
+    c.in_ok-request.ensures)

@@ -4,14 +4,14 @@ use Rattle.sig_program.proofs.verify.reply_to.Goals as goal
 
 pub returns-in-Ok : goal.returns-in-Ok
 returns-in-Ok c = λ text is.
-    verified-replied text c.args.request.now c.verified_reply-reply.result is c.in-Ok.offline c.verified_reply-reply.ensures
-    c.in-Ok.ensures.links c.in-Ok.ensures.kept
+    verified-replied text c.args.request.now c.verified_reply-reply.result is c.in-Ok.offline
+    c.verified_reply-reply.ensures c.in-Ok.ensures.links c.in-Ok.ensures.kept
 
 pub returns-in-Err : goal.returns-in-Err
 returns-in-Err c = λ text is.
     refused-verify-replied text c.args.request.now c.refused_reply.result is c.in-Err.error c.link-link.result
     c.link-link.ensures c.refused_reply.ensures c.in-Err.ensures.links
 
-pub verified_reply-requires : goal.verified_reply-requires
-verified_reply-requires c =
+pub verified_reply-reply-requires : goal.verified_reply-reply-requires
+verified_reply-reply-requires c =
     chain-included c.args.request.now c.in-Ok.offline c.in-Ok.ensures.links c.in-Ok.ensures.kept

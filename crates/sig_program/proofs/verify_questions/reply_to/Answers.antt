@@ -7,8 +7,8 @@ use Rattle.sig_request.specs.Limit.{most_bytes}
 use Rattle.sig_program.specs.VerifyLink.{inputs}
 use Rattle.sig_program.proofs.verify_questions.reply_to.Goals as goal
 
-pub listing_reply-requires : goal.listing_reply-requires
-listing_reply-requires c = all-schemes c.schemes.ensures c.args.request.now c.in-Ok.rows c.in-Ok.ensures.decided.1
+pub listing_reply-reply-requires : goal.listing_reply-reply-requires
+listing_reply-reply-requires c = all-schemes c.schemes.ensures c.args.request.now c.in-Ok.rows c.in-Ok.ensures.decided.1
 
 pub returns-in-Ok : goal.returns-in-Ok
 returns-in-Ok c = λ text is.
@@ -17,8 +17,8 @@ returns-in-Ok c = λ text is.
 
 pub returns-in-Err-Link : goal.returns-in-Err-Link
 returns-in-Err-Link c = λ text is.
-    refused-replied text c.args.request.now c.refused-in-Err-Link.result is c.in-Err-Link.link
-    c.refused-in-Err-Link.ensures
+    refused-replied text c.args.request.now c.refused.result is c.in-Err-Link.link
+    c.refused.ensures
     (subst (λ (e : NoQuestions). IsDecided (inputs c.args.request.now) most_bytes (Err e)) c.in-Err-Link.field-0-is
     c.in-Err-Link.ensures.decided)
 
