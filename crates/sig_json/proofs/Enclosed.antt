@@ -2,9 +2,9 @@
 -- passed.
 use Rattle.std.proofs.Common.{◌≡◌, ℕ, suc, ◌-◌, ◌+◌, ◌<◌, ◌≤◌, Bool, true, false, true≢false, List, [], ◌∷◌, length, get_or}
 use Rattle.std.proofs.Common.{Option, Some, None, option_and_then, refl, sym, ap, ◌∙◌, subst, arith}
-use Rattle.std.specs.Prelude.{⊤, set}
+use Rattle.std.specs.Prelude.{⊤, replicate, set}
 use Rattle.std.proofs.lemmas.Bool.{or_from}
-use Rattle.std.proofs.lemmas.List.{get_or-set_same, get_or-set_other}
+use Rattle.std.proofs.lemmas.List.{get_or-replicate, get_or-set_same, get_or-set_other}
 use Rattle.json.proofs.Grammar.{value-begin_array, value-begin_object, read_key-shorter, after_end_array-shorter}
 use Rattle.json.specs.Json.{value, items, members, parse_map, after_end_array, read_key}
 use Rattle.json.specs.Token.{Token}
@@ -116,7 +116,7 @@ module _ (depth : ℕ) (start : List Token) (kinds : List Bool) (level : ℕ) (l
   pub value_fault : value_meant (depth - level) left ≡ None → value_meant depth start ≡ None
   value_fault none = so_far.meant ∙ ap (outermost depth so_far.enclosing) none ∙ outermost-none depth so_far.enclosing
 
-  pub too_deep : (kind : Bool) (inner : List Token) → level ≡ depth → left ≡ opening kind ∷ inner
+  pub too_deep : (kind : Bool) (inner : List Token) → depth ≤ level → left ≡ opening kind ∷ inner
       → value_meant depth start ≡ None
   too_deep true inner all is = value_fault (object_too_deep (depth - level) left inner (omega (arith, all)) is)
   too_deep false inner all is = value_fault (array_too_deep (depth - level) left inner (omega (arith, all)) is)
@@ -154,10 +154,10 @@ unfolding opened
 opened_whole true turns = refl
 opened_whole false turns = λ ds whole. whole
 
-pub value_opened : (depth : ℕ) (start : List Token) (kinds : List Bool) (level : ℕ) (left : List Token) (kind : Bool)
+opened_inside : (depth : ℕ) (start : List Token) (kinds : List Bool) (level : ℕ) (left : List Token) (kind : Bool)
     (inner : List Token) → Before depth start kinds level left → left ≡ opening kind ∷ inner → level < depth
     → level < length kinds → Inside depth start (set kinds level kind) (level + 1) inner
-value_opened depth start kinds level left kind inner so_far is above room =
+opened_inside depth start kinds level left kind inner so_far is above room =
     let one_less : length left ≡ suc (length inner) = ap length is in
     record {
       innermost = opened kind (length inner);
@@ -172,6 +172,14 @@ value_opened depth start kinds level left kind inner so_far is above room =
           (fewer kinds (suc (length inner)) (length left) so_far.enclosing (omega (arith, one_less)) so_far.are);
       below = omega (arith, so_far.below, one_less);
     }
+
+pub value_opened : (depth : ℕ) (start : List Token) (kinds : List Bool) (level next : ℕ) (left : List Token)
+    (kind : Bool) (inner : List Token) → Before depth start kinds level left → left ≡ opening kind ∷ inner
+    → (next ≡ level + 1) × (level < depth) × (level < 126) → length kinds ≡ 126
+    → Inside depth start (set kinds level kind) next inner
+value_opened depth start kinds level next left kind inner so_far is room all =
+    subst (λ n. Inside depth start (set kinds level kind) n inner) (sym room.0)
+    (opened_inside depth start kinds level left kind inner so_far is room.1 (omega (arith, room.2, all)))
 
 with_value-object : (d : Data) (f : Open) → is_object (with_value d f) ≡ is_object f
 with_value-object d (list turns behind) = refl
@@ -408,26 +416,27 @@ key_fault depth start kinds level left so_far kind none = go so_far.innermost re
       ∙ outermost-none depth so_far.others
 
 -- the first list or object
-pub opens : (depth : ℕ) (kind : Bool) (inner : List Token) (kinds : List Bool) → 0 < depth
-    → get_or kinds 0 false ≡ kind → Inside depth (opening kind ∷ inner) kinds 1 inner
-opens depth kind inner kinds some first =
-    record {
+pub opens : (depth level : ℕ) (kind : Bool) (inner : List Token) → (level ≡ 1) × (0 < depth) × (0 < 126)
+    → Inside depth (opening kind ∷ inner) (replicate 126 kind) level inner
+opens depth level kind inner room =
+    subst (λ n. Inside depth (opening kind ∷ inner) (replicate 126 kind) n inner) (sym room.0)
+    (record {
       innermost = opened kind (length inner);
       others = [];
       at = refl;
       meant = ap (λ n. value_meant n (opening kind ∷ inner)) (omega arith)
-          ∙ opened_meant depth 0 kind (opening kind ∷ inner) inner some refl;
-      kind = first ∙ opened_kind kind (length inner);
+          ∙ opened_meant depth 0 kind (opening kind ∷ inner) inner room.1 refl;
+      kind = get_or-replicate 126 0 kind false (omega arith) ∙ opened_kind kind (length inner);
       enough = omega (arith, opened_turns kind (length inner));
       whole = opened_whole kind (length inner);
       are = tt;
       below = omega arith;
-    }
+    })
 
-pub none_opens : (depth : ℕ) (kind : Bool) (inner : List Token) → depth ≡ 0
+pub none_opens : (depth : ℕ) (kind : Bool) (inner : List Token) → depth ≤ 0
     → value_meant depth (opening kind ∷ inner) ≡ None
-none_opens depth true inner none = object_too_deep depth (opening true ∷ inner) inner none refl
-none_opens depth false inner none = array_too_deep depth (opening false ∷ inner) inner none refl
+none_opens depth true inner none = object_too_deep depth (opening true ∷ inner) inner (omega (arith, none)) refl
+none_opens depth false inner none = array_too_deep depth (opening false ∷ inner) inner (omega (arith, none)) refl
 
 -- ---- a turn
 

@@ -54,7 +54,8 @@ opening false = Token.begin_array
 -- the first token of a value is passed over, and this is left of the value
 abbrev pub BeginsValue : Rest → List Token → List Token → Type 0
 BeginsValue left_of.Nothing ts rest = (depth : ℕ) → PassesValue depth ts rest
-BeginsValue (left_of.Parts of_object) ts rest = ts ≡ opening of_object ∷ rest
+BeginsValue left_of.Items ts rest = ts ≡ opening false ∷ rest
+BeginsValue left_of.Members ts rest = ts ≡ opening true ∷ rest
 
 -- of an object, or else of a list: its end is taken if it is next, and else of an object the name of the next member
 abbrev pub TakesEnd : (of_object is_over : Bool) → List Token → List Token → Type 0

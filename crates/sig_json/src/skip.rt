@@ -1,5 +1,5 @@
 //! A value that is passed over: checked as it would be read, but no tree is made of it.
-ghost use Rattle.std.specs.Prelude.{◌≡◌, ◌∷◌, ◌<◌, ◌≤◌, ℕ, true, None, Err, length, IfOk, OnOk, IsTrue};
+ghost use Rattle.std.specs.Prelude.{◌≡◌, ◌∷◌, ◌+◌, ◌<◌, ◌≤◌, ℕ, true, None, Err, length, IfOk, OnOk, IsTrue};
 ghost use Rattle.std.specs.Char.{is_ascii_digit};
 ghost use Rattle.std.specs.List.{list_all};
 ghost use Rattle.json.specs.Json.{read_key};
@@ -20,7 +20,8 @@ const MOST_OPEN: usize = 126;
 #[derive(Clone, Copy, Drop)]
 enum Rest {
     Nothing,
-    Parts { of_object: bool },
+    Items,
+    Members,
 }
 
 /// Passes over the next value, whose lists and objects nest to at most `depth`. It takes no memory. Fails with
@@ -35,7 +36,8 @@ pub(crate) fn skip_value(reader: &mut Reader<'_>, depth: usize) -> Result<(), Sk
 {
     match begin_value(reader)? {
         Rest::Nothing => Ok(()),
-        Rest::Parts { of_object } => skip_rest(reader, depth, of_object),
+        Rest::Items => skip_rest(reader, depth, false),
+        Rest::Members => skip_rest(reader, depth, true),
     }
 }
 
@@ -56,8 +58,8 @@ fn begin_value(reader: &mut Reader<'_>) -> Result<Rest, SkipError>
             skip_number(text)?;
             Ok(Rest::Nothing)
         }
-        Token::BeginArray => Ok(Rest::Parts { of_object: false }),
-        Token::BeginObject => Ok(Rest::Parts { of_object: true }),
+        Token::BeginArray => Ok(Rest::Items),
+        Token::BeginObject => Ok(Rest::Members),
         Token::EndObject | Token::EndArray | Token::Key(_) | Token::Bad => {
             Err(SkipError::NotJson)
         }
@@ -80,6 +82,21 @@ fn take_end(reader: &mut Reader<'_>, of_object: bool) -> Result<bool, SkipError>
     }
 }
 
+/// How many are open if one more is.
+#[inline(always)]
+fn next_level(level: usize, depth: usize) -> Result<usize, SkipError>
+    ensures ok { IfOk result (λ next. (next ≡ level + 1) × (level < depth) × (level < MOST_OPEN)) }
+    ensures err { result ≡ Err SkipError.NotJson → depth ≤ level }
+{
+    if level >= depth {
+        return Err(SkipError::NotJson);
+    }
+    if level >= MOST_OPEN {
+        return Err(SkipError::Unsure);
+    }
+    Ok(level + 1)
+}
+
 /// Passes over the rest of a list or an object, behind its bracket or brace. A loop: a call for each list and object
 /// that is nested in another takes longer.
 #[inline(never)]
@@ -88,12 +105,9 @@ fn skip_rest(reader: &mut Reader<'_>, depth: usize, of_object: bool) -> Result<(
     ensures err { result ≡ Err SkipError.NotJson → value_meant depth (opening of_object ∷ reader.old) ≡ None }
     ensures shorter { OnOk result (length reader.new < length reader.old) }
 {
-    if depth == 0 {
-        return Err(SkipError::NotJson);
-    }
+    let mut level = next_level(0, depth)?;
     // Of each list and object that is open, the outermost first, whether it is an object.
     let mut objects = [of_object; MOST_OPEN];
-    let mut level = 1;
     'parts: loop {
         if take_end(reader, objects[level - 1])? {
             level -= 1;
@@ -102,17 +116,20 @@ fn skip_rest(reader: &mut Reader<'_>, depth: usize, of_object: bool) -> Result<(
             }
             continue;
         }
-        let Rest::Parts { of_object } = begin_value(reader)? else {
-            continue;
-        };
-        if level == depth {
-            return Err(SkipError::NotJson);
+        // An arm for each: with one for both, the program is slower.
+        match begin_value(reader)? {
+            Rest::Nothing => {}
+            Rest::Items => {
+                let above = next_level(level, depth)?;
+                objects[level] = false;
+                level = above;
+            }
+            Rest::Members => {
+                let above = next_level(level, depth)?;
+                objects[level] = true;
+                level = above;
+            }
         }
-        if level == MOST_OPEN {
-            return Err(SkipError::Unsure);
-        }
-        objects[level] = of_object;
-        level += 1;
     }
 }
 
