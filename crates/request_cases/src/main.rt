@@ -5,7 +5,7 @@
 //! the request's rows, or all but one.
 #![tactic(auto)]
 
-use sig_base::{Bytes, TableChecker};
+use sig_base::{Bytes, Result, TableChecker};
 use sig_cases::{Answer, Arguments, Cases, run};
 use sig_dsse::compute_pae;
 use sig_json::{Document, canonical};
@@ -30,7 +30,8 @@ impl Cases for RequestCases {
 fn key(arguments: &mut Arguments<'_>) -> CosignVerificationKey {
     match CosignVerificationKey::try_from_spki(arguments.alloc(), &arguments.hex()) {
         Ok(key) => key,
-        Err(_) => {
+        Err(error) => {
+            drop(error);
             arguments.refuse();
             CosignVerificationKey::ED25519(Bytes::from(Vec::new(arguments.alloc())))
         }
@@ -49,6 +50,8 @@ fn envelope(arguments: &mut Arguments<'_>, answer: &mut Answer) {
         Ok(pae) => signed(alloc, answer, &key, &signature, pae.as_slice(), &checker),
         Err(_) => answer.out_of_memory(),
     }
+    drop(checker);
+    drop(key);
 }
 
 /// `promise SPKI JSON SIGNATURE ROW ..`: whether the signature over the canonical form of the JSON text is the key's.
@@ -59,9 +62,14 @@ fn promise(arguments: &mut Arguments<'_>, answer: &mut Answer) {
     let signature = arguments.hex();
     let checker = arguments.checker();
     match Document::read(alloc, json.as_bytes()) {
-        Ok(document) => promised(alloc, answer, &key, &document, &signature, &checker),
-        Err(refusal) => answer.error(&refusal),
+        Ok(document) => {
+            promised(alloc, answer, &key, &document, &signature, &checker);
+            drop(document);
+        }
+        Err(refusal) => answer.error(refusal),
     }
+    drop(checker);
+    drop(key);
 }
 
 /// Whether the signature over the canonical form of the document is the key's.
@@ -82,7 +90,7 @@ fn promised(
             text.as_str().as_bytes(),
             checker,
         ),
-        Err(refusal) => answer.error(&refusal),
+        Err(refusal) => answer.error(refusal),
     }
 }
 
@@ -95,9 +103,17 @@ fn signed(
     message: &[u8],
     checker: &TableChecker,
 ) {
-    match key.verify_signature(alloc, Signature::Raw(signature), message, checker) {
+    checked(
+        answer,
+        key.verify_signature(alloc, Signature::Raw(signature), message, checker),
+    );
+}
+
+/// What a check returned.
+fn checked(answer: &mut Answer, found: Result<()>) {
+    match found {
         Ok(()) => answer.ok(),
-        Err(refusal) => answer.error(&refusal),
+        Err(refusal) => answer.error(refusal),
     }
 }
 
@@ -108,12 +124,14 @@ fn checkpoint(arguments: &mut Arguments<'_>, answer: &mut Answer) {
     let text = arguments.text();
     let checker = arguments.checker();
     match SignedCheckpoint::decode(alloc, text.as_str()) {
-        Ok(checkpoint) => match checkpoint.verify_signature(alloc, &key, &checker) {
-            Ok(()) => answer.ok(),
-            Err(refusal) => answer.error(&refusal),
-        },
-        Err(refusal) => answer.error(&refusal),
+        Ok(checkpoint) => {
+            checked(answer, checkpoint.verify_signature(alloc, &key, &checker));
+            drop(checkpoint);
+        }
+        Err(refusal) => answer.error(refusal),
     }
+    drop(checker);
+    drop(key);
 }
 
 fn main(rt: HostRuntime) -> anyhow::Result<()> {
