@@ -27,7 +27,7 @@ pub(crate) fn add_taken<E: Debug + Display + Drop>(
                 add_digest(alloc, answer, digest);
             }
         }
-        Err(error) => answer.error(&error),
+        Err(error) => answer.error(error),
     }
 }
 

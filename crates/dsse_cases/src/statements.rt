@@ -8,8 +8,11 @@ use std::alloc::Global;
 /// `statement PAYLOAD` and its kin: what the call returns of the statement that the payload is.
 pub(crate) fn of_payload(call: &str, arguments: &mut Arguments<'_>, answer: &mut Answer) {
     match InTotoStatementV1::from_json(arguments.alloc(), arguments.rest().as_bytes()) {
-        Ok(statement) => of_statement(call, arguments, answer, &statement),
-        Err(error) => answer.error(&error),
+        Ok(statement) => {
+            of_statement(call, arguments, answer, &statement);
+            drop(statement);
+        }
+        Err(error) => answer.error(error),
     }
 }
 
@@ -69,7 +72,7 @@ fn add_document(alloc: Global, answer: &mut Answer, document: &Option<Document>)
 fn cosign(answer: &mut Answer, statement: &InTotoStatementV1) {
     match statement.validate_cosign_v1() {
         Ok(()) => answer.ok(),
-        Err(error) => answer.error(&error),
+        Err(error) => answer.error(error),
     }
 }
 
@@ -83,6 +86,6 @@ fn first_sha256(alloc: Global, answer: &mut Answer, statement: &InTotoStatementV
                 answer.value(&digests.len());
             }
         }
-        Err(error) => answer.error(&error),
+        Err(error) => answer.error(error),
     }
 }
