@@ -27,7 +27,7 @@ pub(crate) fn read(arguments: &mut Arguments<'_>, answer: &mut Answer) {
             answer.hex(element.content);
             answer.hex(rest);
         }
-        Err(error) => answer.error(&error),
+        Err(error) => answer.error(error),
     }
 }
 
@@ -39,7 +39,7 @@ pub(crate) fn read_whole(arguments: &mut Arguments<'_>, answer: &mut Answer) {
             answer.ok();
             answer.hex(element.content);
         }
-        Err(error) => answer.error(&error),
+        Err(error) => answer.error(error),
     }
 }
 
@@ -68,7 +68,7 @@ pub(crate) fn write(arguments: &mut Arguments<'_>, answer: &mut Answer) {
             shortened(answer, text.as_slice());
             twin(answer, short, text.as_slice());
         }
-        Err(error) => answer.error(&error),
+        Err(error) => answer.error(error),
     }
 }
 
@@ -105,7 +105,7 @@ pub(crate) fn close(arguments: &mut Arguments<'_>, answer: &mut Answer) {
             answer.ok();
             answer.hex(text.as_slice());
         }
-        Err(error) => answer.error(&error),
+        Err(error) => answer.error(error),
     }
 }
 
@@ -124,7 +124,7 @@ pub(crate) fn time(arguments: &mut Arguments<'_>, answer: &mut Answer) {
             answer.ok();
             answer.value(&second);
         }
-        Err(error) => answer.error(&error),
+        Err(error) => answer.error(error),
     }
 }
 
