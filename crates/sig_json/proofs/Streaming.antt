@@ -1,6 +1,6 @@
 -- A list that is read as it comes: its elements, an object of whose members one is the list, and the text that it is.
 use Rattle.std.proofs.Common.{◌≡◌, ℕ, ◌-◌, ◌<◌, Bool, true, false, true≢false, List, [], ◌∷◌, ◌++◌, length, map}
-use Rattle.std.proofs.Common.{Option, Some, None, Ok, Vec, Global, refl, inl, inr, sym, ap, subst, ◌∙◌, arith}
+use Rattle.std.proofs.Common.{Option, Some, None, Result, Ok, Err, IfOk, OnOk, Vec, Global, refl, inl, inr, sym, ap, subst, ◌∙◌, arith}
 use Rattle.std.proofs.Common.{append-nil, append_assoc}
 use Rattle.std.proofs.lemmas.List.{map-append}
 use Rattle.std.proofs.lemmas.Slice.Eq.{bytes_eq-Decides}
@@ -33,6 +33,7 @@ use Rattle.sig_json.specs.Record.{record_in, members_and_list}
 use Rattle.sig_json.specs.Skipped.{PassesValue, TakesValue}
 use Rattle.sig_json.specs.Streamed.{StreamsValue, StreamsItems, StreamsMembers, StreamsOf, listed_in}
 use Rattle.sig_json.specs.View.{Words, view, members_view}
+use Rattle.sig_json.specs.declared.error.SkipError.{SkipError}
 use Rattle.sig_json.specs.declared.tree.Tree.{Tree, Object}
 
 -- ---- one element
@@ -41,6 +42,13 @@ pub element_streamed : {A : Type 0} (kind : Data → Option A) (depth : ℕ) (ts
     → Means depth ts rest d → has_float d ≡ false → kind d ≡ Some x → StreamsValue kind depth ts rest x
 element_streamed kind depth ts rest d x means whole is =
     record { passed = record { value = d; is = means; whole = whole }; read = is }
+
+pub element_passed : {A X : Type 0} (kind : Data → Option A) (seen : X → A) (depth : ℕ) (ts rest : List Token)
+    (d : Data) (element : Result X SkipError) → Means depth ts rest d → OnOk element (has_float d ≡ false)
+    → IfOk element (λ x. kind d ≡ Some (seen x)) → IfOk element (λ x. StreamsValue kind depth ts rest (seen x))
+element_passed kind seen depth ts rest d (Ok x) means whole is =
+    element_streamed kind depth ts rest d (seen x) means whole is
+element_passed kind seen depth ts rest d (Err e) means whole is = tt
 
 -- ---- a list so far
 

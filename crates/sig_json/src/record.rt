@@ -16,8 +16,9 @@ pub fn read_record<T: ElementReader>(alloc: Global, text: &[u8]) -> Result<T::It
     ensures { Answers JsonError.OutOfMemory T.seen_as.item result (record_in T.meaning text.now) }
 {
     let document = Document::read(alloc, text)?;
-    let record = T::read(alloc, document.view())?;
-    Ok(record)
+    let record = T::read(alloc, document.view());
+    drop(document);
+    Ok(record?)
 }
 
 /// The record of a text whose table has these names: of an object the reader is shown the members of these names
@@ -32,6 +33,7 @@ pub fn read_record_with<T: ElementReader>(
         (record_with (names_of names.now) T.meaning text.now) }
 {
     let kept = Document::read_members(alloc, text, names)?;
-    let found = T::read(alloc, kept.view())?;
-    Ok(found)
+    let found = T::read(alloc, kept.view());
+    drop(kept);
+    Ok(found?)
 }

@@ -1,10 +1,11 @@
 //! A list that is read as it comes: each element is read when its tokens have come, and no tree is made of the list.
-ghost use Rattle.std.specs.Prelude.{◌≡◌, ◌<◌, false, length, map, IfOk, OnOk};
+ghost use Rattle.std.specs.Prelude.{◌≡◌, ◌<◌, Some, false, length, map, IfOk, OnOk};
+ghost use Rattle.serde_json.specs.Written.{has_float};
 ghost use Rattle.sig_json.specs.Member.{list_each};
-ghost use Rattle.sig_json.specs.Named.{NamesAscend, HasNamedValues};
+ghost use Rattle.sig_json.specs.Named.{IsNamedTree, NamesAscend, HasNamedValues};
 ghost use Rattle.sig_json.specs.Only.{is_among, names_of};
 ghost use Rattle.sig_json.specs.Streamed.{StreamsValue, StreamsItems, StreamsMembers, StreamsOf};
-ghost use Rattle.sig_json.specs.View.{members_view};
+ghost use Rattle.sig_json.specs.View.{view, members_view};
 
 use crate::borrowed::borrow_value;
 use crate::element::ElementReader;
@@ -12,7 +13,7 @@ use crate::error::SkipError;
 use crate::floats::is_float_in;
 use crate::kept::{MEMBER_DEPTH, take_value};
 use crate::order::in_order;
-use crate::tree::Entry;
+use crate::tree::{Entry, Tree};
 use crate::view::Json;
 use json::{Reader, Scratch, Token};
 use sig_base::Register;
@@ -129,9 +130,19 @@ fn stream_element<E: ElementReader>(
     ensures shorter { OnOk result (length reader.new < length reader.old) }
 {
     let value = borrow_value(alloc, reader, depth)?;
-    if is_float_in(&value) {
+    let element = element_of::<E>(alloc, &value);
+    drop(value);
+    element
+}
+
+/// A tree without floats as an element of the list.
+fn element_of<E: ElementReader>(alloc: Global, value: &Tree<'_>) -> Result<E::Item, SkipError>
+    requires { IsNamedTree (view value.now) }
+    ensures whole { OnOk result (has_float (view value.now) ≡ false) }
+    ensures read { IfOk result (λ x. E.meaning (view value.now) ≡ Some (E.seen_as.item x)) }
+{
+    if is_float_in(value) {
         return Err(SkipError::Unsure);
     }
-    let element = E::read(alloc, Json { value: &value })?;
-    Ok(element)
+    Ok(E::read(alloc, Json { value })?)
 }
