@@ -68,7 +68,9 @@ fn is_without_members(alloc: Global, entry: &TransparencyLogEntry) -> bool
     ensures { IsTrue result → entry.now ≡ no_members }
 {
     let absent = without_members(alloc);
-    *entry == absent
+    let is_same = *entry == absent;
+    drop(absent);
+    is_same
 }
 
 impl SparseEntry {
@@ -114,7 +116,9 @@ impl PartialEq for SparseEntry {
 
     fn eq(&self, other: &SparseEntry) -> bool {
         let absent = without_members(self.alloc);
-        *self.get(&absent) == *other.get(&absent)
+        let is_same = *self.get(&absent) == *other.get(&absent);
+        drop(absent);
+        is_same
     }
 }
 

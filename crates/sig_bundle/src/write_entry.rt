@@ -150,6 +150,8 @@ impl ElementWriter for SparseEntryWriter {
 
     fn write(alloc: Global, item: &SparseEntry) -> Result<Document, OutOfMemory> {
         let absent = without_members(alloc);
-        EntryWriter::write(alloc, item.get(&absent))
+        let written = EntryWriter::write(alloc, item.get(&absent));
+        drop(absent);
+        written
     }
 }
