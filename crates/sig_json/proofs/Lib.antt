@@ -1,5 +1,6 @@
 pub mod Trees
 pub mod Enclosed
+pub mod NamesLeft
 pub mod OrMember
 pub mod Ordered
 pub mod Scanned
