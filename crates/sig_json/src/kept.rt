@@ -2,7 +2,6 @@
 ghost use Rattle.std.specs.Prelude.{◌≡◌, ◌<◌, None, Err, IfOk, OnOk, length};
 ghost use Rattle.std.specs.Cow.{cow_str_bytes};
 ghost use Rattle.std.specs.List.{filter};
-ghost use Rattle.std.specs.Str.{bytes_eq};
 ghost use Rattle.serde_json.specs.Read.{read as tree_of};
 ghost use Rattle.sig_base.specs.Answers.{Answers};
 ghost use Rattle.sig_json.specs.Document.{document_of};
@@ -20,7 +19,7 @@ use crate::read::{MAX_DEPTH, read_text, read_value};
 use crate::room::add;
 use crate::skip::skip_value;
 use crate::tree::{Entry, Tree};
-use crate::words::own;
+use crate::words::{is_same_name, own};
 use json::{Reader, Scratch, Token};
 use std::alloc::Global;
 
@@ -180,28 +179,4 @@ pub(crate) fn is_among(names: &[&str], name: &str) -> bool
         }
     }
     false
-}
-
-/// Most names differ in their length or their first byte, which is seen without a call.
-#[tactic(auto, using(crate::proofs::NamesLeft::two_names))]
-#[inline(always)]
-fn is_same_name(name: &str, other: &str) -> bool
-    ensures { result ≡ bytes_eq name.now other.now }
-{
-    let bytes = name.as_bytes();
-    let others = other.as_bytes();
-    if bytes.len() != others.len() {
-        return false;
-    }
-    if !bytes.is_empty() && bytes[0] != others[0] {
-        return false;
-    }
-    are_equal(name, other)
-}
-
-#[inline(never)]
-fn are_equal(name: &str, other: &str) -> bool
-    ensures { result ≡ bytes_eq name.now other.now }
-{
-    name == other
 }

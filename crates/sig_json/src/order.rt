@@ -10,7 +10,7 @@ ghost use Rattle.sig_json.specs.View.{view, members_view};
 
 use crate::room::make_room;
 use crate::tree::{Entry, Tree};
-use crate::words::Words;
+use crate::words::{Words, is_same_name};
 use sig_base::OutOfMemory;
 use std::alloc::Global;
 use std::cmp::Ordering;
@@ -43,7 +43,7 @@ fn first_of_name<'a, 't>(members: &'a [Entry<'t>], name: &str) -> Option<&'a Tre
     ensures { option_map (λ t. view t.now) result ≡ get_member name.now (members_view members.now) }
 {
     'members: for member in members {
-        if member.0.as_str() == name {
+        if is_same_name(member.0.as_str(), name) {
             return Some(&member.1);
         }
     }

@@ -1,7 +1,7 @@
 //! `Words`: a name or a text of a tree.
 ghost use Rattle.std.specs.Prelude.{◌≡◌, IfOk};
 ghost use Rattle.std.specs.Cow.{cow_str_bytes};
-ghost use Rattle.std.specs.Str.{IsUtf8};
+ghost use Rattle.std.specs.Str.{IsUtf8, bytes_eq};
 
 use sig_base::OutOfMemory;
 use std::alloc::Global;
@@ -25,4 +25,28 @@ pub(crate) fn borrow<'t>(text: &'t str) -> Words<'t>
     ensures utf8 { IsUtf8 (cow_str_bytes result) }
 {
     CowStr::Borrowed(text)
+}
+
+/// Whether two names are the same. Most differ in their length or their first byte, which is seen without a call.
+#[tactic(auto, using(crate::proofs::NamesLeft::two_names))]
+#[inline(always)]
+pub(crate) fn is_same_name(name: &str, other: &str) -> bool
+    ensures { result ≡ bytes_eq name.now other.now }
+{
+    let bytes = name.as_bytes();
+    let others = other.as_bytes();
+    if bytes.len() != others.len() {
+        return false;
+    }
+    if !bytes.is_empty() && bytes[0] != others[0] {
+        return false;
+    }
+    are_equal(name, other)
+}
+
+#[inline(never)]
+fn are_equal(name: &str, other: &str) -> bool
+    ensures { result ≡ bytes_eq name.now other.now }
+{
+    name == other
 }
