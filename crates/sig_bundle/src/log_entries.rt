@@ -82,6 +82,7 @@ impl SparseEntry {
         ensures { IfOk result (λ sparse. sparse ≡ entry) }
     {
         if is_without_members(alloc, &entry) {
+            drop(entry);
             return Ok(SparseEntry { alloc, held: None });
         }
         let held = BoxedEntry {

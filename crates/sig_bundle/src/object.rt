@@ -87,6 +87,21 @@ impl Object {
         self.with(alloc, name, value)
     }
 
+    /// The object with this value as a member. Fails only if out of memory.
+    pub(crate) fn with_written<T: ElementWriter>(
+        self,
+        alloc: Global,
+        name: &str,
+        item: &T::Item,
+    ) -> Result<Object, OutOfMemory>
+        ensures tree { IfOk result (λ made. members made
+            ≡ put name.now (T.written item.now) (members self)) }
+        ensures back { IfOk result (λ _. IsReadAs T.meaning (T.written item.now) item.now) }
+    {
+        let value = T::write(alloc, item)?;
+        self.with(alloc, name, value)
+    }
+
     /// The object with this value as a member, if it is there. Fails only if out of memory.
     pub(crate) fn with_option<T: ElementWriter>(
         self,
@@ -99,10 +114,7 @@ impl Object {
         ensures back { IfOk result (λ _. OptionIsRead T.meaning T.written item.now) }
     {
         match item {
-            Some(item) => {
-                let value = T::write(alloc, item)?;
-                self.with(alloc, name, value)
-            }
+            Some(item) => self.with_written::<T>(alloc, name, item),
             None => Ok(self),
         }
     }

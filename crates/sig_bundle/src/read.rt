@@ -31,11 +31,23 @@ impl ElementReader for BundleReader {
 
     #[tactic(auto, unfolding(crate::specs::BundleRecord::bundle_of))]
     fn read(alloc: Global, json: Json<'_, '_>) -> Result<Bundle, MemberError> {
-        Ok(Bundle {
-            media_type: read_text(alloc, json, "mediaType")?,
-            verification_material: optional::<MaterialReader>(alloc, json, "verificationMaterial")?,
-            content: read_content(alloc, json)?,
-        })
+        let media_type = read_text(alloc, json, "mediaType")?;
+        let verification_material = optional::<MaterialReader>(
+            alloc,
+            json,
+            "verificationMaterial",
+        )?;
+        match read_content(alloc, json) {
+            Ok(content) => Ok(Bundle {
+                media_type,
+                verification_material,
+                content,
+            }),
+            Err(error) => {
+                drop(verification_material);
+                Err(error)
+            }
+        }
     }
 }
 

@@ -103,12 +103,10 @@ pub(crate) fn with_content(
 {
     match content {
         Some(Content::MessageSignature(signature)) => {
-            let signature = MessageSignatureWriter::write(alloc, signature)?;
-            object.with(alloc, "messageSignature", signature)
+            object.with_written::<MessageSignatureWriter>(alloc, "messageSignature", signature)
         }
         Some(Content::DsseEnvelope(envelope)) => {
-            let envelope = EnvelopeWriter::write(alloc, envelope)?;
-            object.with(alloc, "dsseEnvelope", envelope)
+            object.with_written::<EnvelopeWriter>(alloc, "dsseEnvelope", envelope)
         }
         None => Ok(object),
     }

@@ -66,12 +66,10 @@ fn with_material_content(
 {
     match content {
         Some(MaterialContent::Certificate(der)) => {
-            let certificate = CertificateWriter::write(alloc, der)?;
-            object.with(alloc, "certificate", certificate)
+            object.with_written::<CertificateWriter>(alloc, "certificate", der)
         }
         Some(MaterialContent::X509CertificateChain(chain)) => {
-            let chain = ChainWriter::write(alloc, chain)?;
-            object.with(alloc, "x509CertificateChain", chain)
+            object.with_written::<ChainWriter>(alloc, "x509CertificateChain", chain)
         }
         Some(MaterialContent::PublicKey) => {
             object.with(alloc, "publicKey", Document::object(alloc))
