@@ -78,13 +78,18 @@ fn check_behind_certificate(
         (checked input.now material.now (Ok certificate)) }
 {
     let content = checked_content(alloc, &input.content)?;
-    let entry = checked_entry(alloc, input, material)?;
-    Ok(CheckedBundle {
-        certificate,
-        signature: content.signature,
-        content: content.content,
-        entry,
-    })
+    match checked_entry(alloc, input, material) {
+        Ok(entry) => Ok(CheckedBundle {
+            certificate,
+            signature: content.signature,
+            content: content.content,
+            entry,
+        }),
+        Err(error) => {
+            drop(content);
+            Err(error)
+        }
+    }
 }
 
 impl CheckedBundle {

@@ -219,13 +219,7 @@ pub(crate) fn is_about_envelope(
     match read_body(alloc, body)? {
         None => Ok(false),
         Some(found) => {
-            let is_about = found.is_about_signed(
-                alloc,
-                envelope,
-                payload,
-                signature,
-                certificate,
-            );
+            let is_about = found.is_about_signed(alloc, envelope, payload, signature, certificate);
             drop(found);
             is_about
         }
