@@ -62,6 +62,7 @@ pub(crate) fn entry(arguments: &mut Arguments<'_>, answer: &mut Answer) {
         None => arguments.refuse(),
     }
     drop(bundle);
+    drop(checker);
 }
 
 fn of_entry(

@@ -27,6 +27,8 @@ pub(crate) fn offline(arguments: &mut Arguments<'_>, answer: &mut Answer) {
         ),
         answer,
     );
+    drop(policy);
+    drop(checker);
 }
 
 /// `ok`, and index and tree size of the proof; or the name of the first link that fails, and the error.
@@ -36,8 +38,12 @@ pub(crate) fn known(verified: Result<Offline, OfflineError>, answer: &mut Answer
             answer.ok();
             answer.value(&known.proof.log_index);
             answer.value(&known.proof.tree_size);
+            drop(known);
         }
-        Err(error) => failed(&error, answer),
+        Err(error) => {
+            failed(&error, answer);
+            drop(error);
+        }
     }
 }
 
