@@ -50,6 +50,7 @@ pub(crate) fn single(arguments: &mut Arguments<'_>, answer: &mut Answer) {
     if let Some(leaf) = certificate(arguments, answer) {
         let requested = policy(name, text.as_str(), arguments, answer);
         single_of(alloc, answer, name, text.as_str(), &requested, &leaf);
+        drop(requested);
     }
 }
 

@@ -70,6 +70,7 @@ fn issuer_in(
             place(answer, other);
         }
     }
+    drop(checker);
 }
 
 /// Adds an index, or why there is none.

@@ -39,6 +39,8 @@ pub(crate) fn vouched(arguments: &mut Arguments<'_>, answer: &mut Answer) {
     let message = arguments.hex();
     let checker = arguments.checker();
     checked(answer, keyring.verify(&id, &signature, &message, &checker));
+    drop(checker);
+    drop(keyring);
 }
 
 /// `embedded_sct DER ISSUER_SPKI`: what the certificate's SCT signs.
@@ -117,7 +119,10 @@ pub(crate) fn verified(arguments: &mut Arguments<'_>, answer: &mut Answer) {
     if let Some(keyring) = keyring(arguments, answer) {
         let (alloc, checker) = (arguments.alloc(), arguments.checker());
         checked(answer, verify_sct(alloc, &signed, &keyring, &checker));
+        drop(checker);
+        drop(keyring);
     }
+    drop(signed);
 }
 
 /// `precert_tbs_der DER`: the TBSCertificate of the precertificate.
