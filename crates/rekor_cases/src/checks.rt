@@ -22,6 +22,7 @@ pub(crate) fn tree(arguments: &mut Arguments<'_>, answer: &mut Answer) {
     let root = arguments.digest();
     let size = arguments.natural();
     answer_to(answer, checkpoint.is_valid_for_proof(&root, size));
+    drop(checkpoint);
 }
 
 /// `borrowed_signed CHECKPOINT NOTES SIGNATURES`: whether one of the signatures is accepted over the note.

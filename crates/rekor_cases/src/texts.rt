@@ -29,7 +29,10 @@ fn note(arguments: &mut Arguments<'_>, answer: &mut Answer) {
 /// `note_text TEXT`: what a note that was read is written as.
 fn note_text(arguments: &mut Arguments<'_>, answer: &mut Answer) {
     match Checkpoint::unmarshal(arguments.alloc(), arguments.text().as_str()) {
-        Ok(note) => answer_to(answer, note.marshal(arguments.alloc())),
+        Ok(note) => {
+            answer_to(answer, note.marshal(arguments.alloc()));
+            drop(note);
+        }
         Err(error) => answer.error(error),
     }
 }
@@ -57,7 +60,10 @@ fn checkpoint(arguments: &mut Arguments<'_>, answer: &mut Answer) {
 /// `checkpoint_text TEXT`: what a checkpoint that was read is written as.
 fn checkpoint_text(arguments: &mut Arguments<'_>, answer: &mut Answer) {
     match SignedCheckpoint::decode(arguments.alloc(), arguments.text().as_str()) {
-        Ok(checkpoint) => answer_to(answer, checkpoint.encode(arguments.alloc())),
+        Ok(checkpoint) => {
+            answer_to(answer, checkpoint.encode(arguments.alloc()));
+            drop(checkpoint);
+        }
         Err(error) => answer.error(error),
     }
 }
@@ -73,6 +79,7 @@ fn counts(arguments: &mut Arguments<'_>, answer: &mut Answer) {
             answer.ok();
             answer.value(&checkpoint.note.other_content.len());
             answer.value(&checkpoint.signatures.len());
+            drop(checkpoint);
         }
         Err(error) => answer.error(error),
     }
@@ -85,6 +92,7 @@ fn borrowed(arguments: &mut Arguments<'_>, answer: &mut Answer) {
         Ok(note) => {
             answer_to(answer, note.marshal(arguments.alloc()));
             add_signatures(answer, note.signatures());
+            drop(note);
         }
         Err(error) => answer.error(error),
     }
