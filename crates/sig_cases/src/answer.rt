@@ -67,8 +67,8 @@ impl Answer {
         }
     }
 
-    /// Adds the error that a call returned, as [`Answer::shown`] does. `OutOfMemory` ends the program. It takes the error
-    /// by value, so that no case has to prove how it is dropped.
+    /// Adds the error that a call returned, as [`Answer::shown`] does. `OutOfMemory` ends the program. The error is
+    /// taken by value, so that no case has to prove how it is dropped.
     pub fn error<E: Debug + Display + Drop>(&mut self, error: E) {
         self.shown(&error);
         if self.text.as_str().ends_with("OutOfMemory") {
