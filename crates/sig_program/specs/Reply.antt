@@ -40,9 +40,9 @@ abbrev pub refusal_reply : Link → Reply
 refusal_reply link = record { status = status_of link; text = codes "refused " ++ (link_name link ++ codes "\n") }
 
 -- for private clauses: the reply where this link, if there is one, is the first that fails
-abbrev pub IsRefusal : Option Link → Reply → Type 0
-IsRefusal None reply = ⊥
-IsRefusal (Some link) reply = reply ≡ refusal_reply link
+abbrev pub IsRefusalReply : Option Link → Reply → Type 0
+IsRefusalReply None reply = ⊥
+IsRefusalReply (Some link) reply = reply ≡ refusal_reply link
 
 -- the reply where every link holds: the index and the size of the inclusion proof, and the second line
 abbrev pub success : List ℕ → InclusionProof → List ℕ → Reply

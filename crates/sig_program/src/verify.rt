@@ -4,7 +4,7 @@ ghost use Rattle.sig_base.specs.Answers.{UnlessMemory};
 ghost use Rattle.sig_verify.specs.Judged.{Judged};
 ghost use Rattle.sig_verify.specs.Links.{chain_links};
 ghost use Rattle.sig_program.specs.Link.{EveryLinkHolds};
-ghost use Rattle.sig_program.specs.Reply.{IsEntryIn, IsRefusal, IsReply, IsVerifiedReply};
+ghost use Rattle.sig_program.specs.Reply.{IsEntryIn, IsRefusalReply, IsReply, IsVerifiedReply};
 ghost use Rattle.sig_program.specs.ProofOf.{IsProofOf};
 ghost use Rattle.sig_program.specs.VerifyLink.{HoldsOfVerify, IsTrusted};
 ghost use Rattle.sig_program.specs.declared.command.Command.TheVariants.{Verify};
@@ -64,7 +64,7 @@ fn reply_to(alloc: Global, request: &VerifyRequest) -> Result<Reply, OutOfMemory
 
 /// The reply where this link of the chain of trust is the first that fails; without one memory ran out.
 fn refused_reply(alloc: Global, link: Option<Link>) -> Result<Reply, OutOfMemory>
-    ensures { IfOk result (IsRefusal link) }
+    ensures { IfOk result (IsRefusalReply link) }
 {
     match link {
         Some(link) => Reply::refused(alloc, link),
