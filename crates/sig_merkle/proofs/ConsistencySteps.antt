@@ -29,7 +29,7 @@ counted_right old_size size half count known split right older counted =
 -- folding them
 
 -- where a proof of the right length has no hash, the old tree is the whole
-fold_whole : (old_size size : ℕ) (known : Bool) (hashes : List (List ℕ)) → 0 < old_size → old_size ≤ size
+pub fold_whole : (old_size size : ℕ) (known : Bool) (hashes : List (List ℕ)) → 0 < old_size → old_size ≤ size
     → length hashes ≡ roots_len old_size size known → length hashes ≡ 0 → old_size ≡ size
 fold_whole old_size size known hashes some within fits none =
     elim (cases_lt old_size size) [

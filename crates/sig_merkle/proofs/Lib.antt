@@ -18,6 +18,9 @@ pub mod WalkFolds
 pub mod Walks
 pub mod WalkSteps
 pub mod Meetings
+pub mod EntryMeetings
+pub mod PathMeetings
+pub mod GrowthMeetings
 pub mod GrowthBits
 pub mod GrowthFolds
 pub mod GrowthStarts

@@ -24,7 +24,7 @@ Leads old_size entries known old =
     ≡ Some (root (take old_size entries), root entries)
 
 -- the first entries of the first are the first
-take-take : (j k : ℕ) (entries : List (List ℕ)) → j ≤ k → k ≤ length entries → take j (take k entries) ≡ take j entries
+pub take-take : (j k : ℕ) (entries : List (List ℕ)) → j ≤ k → k ≤ length entries → take j (take k entries) ≡ take j entries
 take-take j k entries fewer fits =
     let count : j ≤ length (take k entries) = omega (arith, length-take-le k entries fits) in
     sym (take-append-le j (take k entries) (drop k entries) count) ∙ ap (take j) (take-append-drop k entries)
@@ -55,7 +55,7 @@ older-split old_size n k s right older =
     let largest = s.largest in
     record { exponent = s.exponent; power = s.power; below = right; largest = omega arith }
 
-root-older : (old_size k : ℕ) (entries : List (List ℕ)) → IsSplit (length entries) k → k < old_size
+pub root-older : (old_size k : ℕ) (entries : List (List ℕ)) → IsSplit (length entries) k → k < old_size
     → old_size ≤ length entries
     → root (take old_size entries) ≡ node_of (root (take k entries)) (root (take (old_size - k) (drop k entries)))
 root-older old_size k entries s right older =

@@ -7,10 +7,17 @@ use Rattle.sig_base.specs.declared.merkle_error.MerkleProofError.TheVariants.{Un
 use Rattle.sig_base.specs.declared.merkle_error.MerkleProofError.TheVariants.{UnexpectedEmptyProof, NewTreeSmaller}
 use Rattle.sig_base.specs.declared.merkle_error.MerkleProofError.TheVariants.{WrongProofSize, WrongEmptyTreeHash}
 use Rattle.sig_merkle.specs.Path.{path_root, path_len}
+use Rattle.sig_merkle.specs.Root.{leaf_of}
 
 -- the hashes show that a leaf of this hash is at the index of the tree of this size and root
 abbrev pub IsIncluded : ℕ → List ℕ → ℕ → List (List ℕ) → List ℕ → Type 0
 IsIncluded index leaf size hashes root = (index < size) × (path_root index leaf size hashes ≡ Some root)
+
+-- both entries are shown to be at the index of one tree of this size
+abbrev pub AreIncluded : ℕ → ℕ → List ℕ → List (List ℕ) → List ℕ → List (List ℕ) → Type 0
+AreIncluded index size left left_hashes right right_hashes =
+    (root : List ℕ) × IsIncluded index (leaf_of left) size left_hashes root
+    × IsIncluded index (leaf_of right) size right_hashes root
 
 -- there are `got` hashes, and the path of the index has `want`
 abbrev pub IsWrongSize : ℕ → ℕ → List (List ℕ) → ℕ → ℕ → Type 0

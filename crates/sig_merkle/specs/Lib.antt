@@ -7,5 +7,6 @@ pub mod Consistency
 pub mod ConsistencyAnswer
 pub mod ConsistencyProof
 pub mod Walk
+pub mod HashedText
 pub mod Meeting
 pub mod GrowthWalk

@@ -1,19 +1,53 @@
--- What two different texts show, each hashed to a root: the roots differ too, or two texts were hashed on the way
--- that are a collision.
-use Rattle.std.specs.Prelude.{◌≡◌, ◌≢◌, ℕ, List, length, Some}
+-- What two texts show that are hashed beside each other, up to two roots: the roots are equal only if the texts are,
+-- or two texts that were hashed on the way are a collision.
+use Rattle.std.specs.Prelude.{◌≡◌, ℕ, Bool, List, length, take, slice_get, Some}
 use Rattle.sig_base.specs.Collision.{IsCollision}
-use Rattle.sig_merkle.specs.declared.collision.Meeting.{Meeting}
-use Rattle.sig_merkle.specs.declared.collision.Meeting.TheVariants.{Apart, Collided}
+use Rattle.sig_base.specs.Sha256.{sha256}
+use Rattle.sig_merkle.specs.declared.meeting.Meeting.{Meeting}
+use Rattle.sig_merkle.specs.declared.meeting.Meeting.TheVariants.{Hashed, Collided}
+use Rattle.sig_merkle.specs.Consistency.{roots_of}
+use Rattle.sig_merkle.specs.HashedText.{AreHashedTexts}
 use Rattle.sig_merkle.specs.Path.{path_root}
-use Rattle.sig_merkle.specs.Root.{root}
+use Rattle.sig_merkle.specs.Root.{leaf_of, node_of, root}
 
--- of two hashes, the proved one and the listed one
-abbrev pub Meets : List ℕ → List ℕ → Meeting → Type 0
-Meets proved listed (Apart one other) = (proved ≡ one) × (listed ≡ other) × (one ≢ other)
-Meets proved listed (Collided found) = IsCollision found.left found.right
+-- of two different texts that a tree hashes
+abbrev pub IsFound : List ℕ → List ℕ → Type 0
+IsFound one other = IsCollision one other × AreHashedTexts one other
 
--- of the root that a path leads to, and of the root of the entries
-abbrev pub RootsMeet : ℕ → List ℕ → List (List ℕ) → List (List ℕ) → Meeting → Type 0
-RootsMeet index leaf hashes entries (Apart proved listed) =
-    (path_root index leaf (length entries) hashes ≡ Some proved) × (root entries ≡ listed) × (proved ≢ listed)
-RootsMeet index leaf hashes entries (Collided found) = IsCollision found.left found.right
+-- of two texts
+abbrev pub TextsMeet : List ℕ → List ℕ → Meeting → Type 0
+TextsMeet one other (Hashed a b) = (sha256 one ≡ a) × (sha256 other ≡ b) × (a ≡ b → one ≡ other)
+TextsMeet one other (Collided found) = IsFound found.left found.right
+
+-- of two leaves
+abbrev pub LeavesMeet : List ℕ → List ℕ → Meeting → Type 0
+LeavesMeet one other (Hashed a b) = (leaf_of one ≡ a) × (leaf_of other ≡ b) × (a ≡ b → one ≡ other)
+LeavesMeet one other (Collided found) = IsFound found.left found.right
+
+-- of two nodes, by the hashes of their children
+abbrev pub NodesMeet : List ℕ → List ℕ → List ℕ → List ℕ → Meeting → Type 0
+NodesMeet left right other_left other_right (Hashed a b) =
+    (node_of left right ≡ a) × (node_of other_left other_right ≡ b)
+    × (a ≡ b → (left ≡ other_left) × (right ≡ other_right))
+NodesMeet left right other_left other_right (Collided found) = IsFound found.left found.right
+
+-- of an entry with its path, and a list of entries: the entry is that at the index
+abbrev pub EntryMeets : ℕ → List ℕ → List (List ℕ) → List (List ℕ) → Meeting → Type 0
+EntryMeets index entry hashes entries (Hashed a b) =
+    (path_root index (leaf_of entry) (length entries) hashes ≡ Some a) × (root entries ≡ b)
+    × (a ≡ b → slice_get entries index ≡ Some entry)
+EntryMeets index entry hashes entries (Collided found) = IsFound found.left found.right
+
+-- of two entries with their paths
+abbrev pub PathsMeet : ℕ → ℕ → List ℕ → List (List ℕ) → List ℕ → List (List ℕ) → Meeting → Type 0
+PathsMeet index size entry hashes other other_hashes (Hashed a b) =
+    (path_root index (leaf_of entry) size hashes ≡ Some a) × (path_root index (leaf_of other) size other_hashes ≡ Some b)
+    × (a ≡ b → entry ≡ other)
+PathsMeet index size entry hashes other other_hashes (Collided found) = IsFound found.left found.right
+
+-- of a consistency proof and a list of entries, by the new root: the old root is that of the first entries
+abbrev pub GrowthMeets : ℕ → Bool → List ℕ → List (List ℕ) → List (List ℕ) → Meeting → Type 0
+GrowthMeets old_size known old hashes entries (Hashed a b) =
+    (led_old : List ℕ) × (roots_of old_size (length entries) known old hashes ≡ Some (led_old, a))
+    × (root entries ≡ b) × (a ≡ b → led_old ≡ root (take old_size entries))
+GrowthMeets old_size known old hashes entries (Collided found) = IsFound found.left found.right

@@ -21,12 +21,15 @@
 //! - `laws`: what the definitions mean, in the standard's own words. It has no code.
 #![tactic(auto)]
 
-mod collision;
 mod consistency;
+mod entry_collision;
+mod growth_collision;
 mod growth_walk;
 mod hashing;
 mod inclusion;
 pub mod laws;
+mod meeting;
+mod paths_collision;
 pub mod recursion;
 mod split;
 mod subproof;
@@ -34,11 +37,13 @@ mod tree;
 pub mod uncounted;
 mod walk;
 
-pub use collision::inclusion_collision;
 pub use consistency::verify_consistency;
+pub use entry_collision::inclusion_collision;
+pub use growth_collision::consistency_collision;
 pub use growth_walk::{Roots, chain_inner_right};
 pub use hashing::{empty_root, hash_children, hash_leaf};
 pub use inclusion::{root_from_inclusion_proof, verify_inclusion};
+pub use paths_collision::proof_collision;
 pub use subproof::proof_of;
 pub use tree::{path_of, root_of};
 pub use walk::{chain_border_right, chain_inner, decomp_inclusion_proof};

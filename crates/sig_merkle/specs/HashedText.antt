@@ -1,0 +1,15 @@
+-- What a tree hashes, other than the empty list (RFC 6962 section 2.1).
+use Rattle.std.specs.Prelude.{◌≡◌, ◌⊎◌, ℕ, List, ◌∷◌, ◌++◌, length}
+
+-- what the hash of a leaf is taken of: 0x00 and the entry
+abbrev pub IsLeafText : List ℕ → Type 0
+IsLeafText text = (entry : List ℕ) × (text ≡ 0 ∷ entry)
+
+-- what the hash of a node is taken of: 0x01 and the hashes of its children, of 32 bytes each
+abbrev pub IsNodeText : List ℕ → Type 0
+IsNodeText text =
+    (left : List ℕ) × (right : List ℕ) × (length left ≡ 32) × (length right ≡ 32) × (text ≡ 1 ∷ left ++ right)
+
+-- both are hashed for a leaf, or both for a node
+abbrev pub AreHashedTexts : List ℕ → List ℕ → Type 0
+AreHashedTexts one other = (IsLeafText one × IsLeafText other) ⊎ (IsNodeText one × IsNodeText other)
