@@ -1,8 +1,10 @@
 pub mod ConsistencyReplies
 pub mod ConsistencyVerdicts
+pub mod GivingBack
 pub mod HeadSignatures
 pub mod HeadVerdicts
 pub mod Included
+pub mod Listings
 pub mod LogQuestionReplies
 pub mod LogReplies
 pub mod LogVerdicts

@@ -18,7 +18,6 @@ use Rattle.sig_json.specs.Written.{comma_if, compact_text, members_text}
 use Rattle.sig_questions.specs.Rows.{HasScheme, IsSchemeUnder, bytes_of_rows, row_bytes}
 use Rattle.sig_base.proofs.AcceptedRows.{as_row}
 use Rattle.sig_program.proofs.RowsTexts.{rows_text-length}
-use Rattle.sig_request.specs.Limit.{most_bytes}
 use Rattle.sig_program.specs.RowsText.{operation_word, row_members, row_tree, rows_size, rows_text}
 
 -- ---- a text in quotes, and bytes in base64
@@ -145,8 +144,8 @@ rows-longer (row ∷ rows) have =
       rows-longer rows (All-tail HasScheme row rows have),
     )
 
-pub too-long : (rows : List AcceptedRow) → All HasScheme rows → most_bytes < bytes_of_rows rows
-    → most_bytes < length (rows_text rows)
-too-long [] have long = absurd (omega (arith, long))
-too-long (row ∷ rows) have long =
+pub too-long : (most : ℕ) (rows : List AcceptedRow) → All HasScheme rows → most < bytes_of_rows rows
+    → most < length (rows_text rows)
+too-long most [] have long = absurd (omega (arith, long))
+too-long most (row ∷ rows) have long =
     omega (arith, long, rows-longer (row ∷ rows) have, rows_text-length row rows)

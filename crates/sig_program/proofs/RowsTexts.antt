@@ -19,10 +19,9 @@ use Rattle.sig_json.specs.Kinds.{bytes_of, text_of}
 use Rattle.sig_json.specs.Member.{list_each, member_of, required, optional, optional_or}
 use Rattle.sig_json.specs.Read.{max_depth}
 use Rattle.sig_json.specs.Written.{compact_text, items_text}
-use Rattle.sig_request.specs.Limit.{most_bytes}
 use Rattle.sig_request.specs.Row.{no_kind, operation_kind, row_of, scheme_for, scheme_kind}
-use Rattle.sig_program.specs.RowsText.{AddsRow, IsDocumentOf, IsRowReadBack, IsSchemeRead, row_tree, rows_size}
-use Rattle.sig_program.specs.RowsText.{rows_text}
+use Rattle.sig_program.specs.RowsText.{AddsRow, FitsBeside, IsDocumentOf, IsRowReadBack, IsSchemeRead, room_beside}
+use Rattle.sig_program.specs.RowsText.{row_tree, rows_size, rows_text}
 use Rattle.sig_program.specs.RowsText.{operation_word, rows_tree, scheme_tree, with_some}
 
 -- ---- the object of a signature
@@ -184,13 +183,31 @@ rows_text-length row rows =
     let both = length-append (compact_text (row_tree row)) (items_text true (items_of row_tree rows)) in
     omega (arith, both, items-length rows)
 
-short-text : (rows : List AcceptedRow) → rows_size rows < most_bytes → length (rows_text rows) ≤ most_bytes
-short-text [] short = omega arith
-short-text (row ∷ rows) short = omega (arith, short, rows_text-length row rows)
+-- a list has two brackets
+rows_text-least : (rows : List AcceptedRow) → 2 ≤ length (rows_text rows)
+rows_text-least [] = omega arith
+rows_text-least (row ∷ rows) = omega (arith, rows_text-length row rows)
 
-long-text : (rows : List AcceptedRow) → most_bytes < rows_size rows + 1 → most_bytes < length (rows_text rows)
-long-text [] long = absurd (omega arith)
-long-text (row ∷ rows) long = omega (arith, long, rows_text-length row rows)
+short-text : (most : ℕ) (rows : List AcceptedRow) → 2 ≤ most → rows_size rows < most → length (rows_text rows) ≤ most
+short-text most [] least short = omega (arith, least)
+short-text most (row ∷ rows) least short = omega (arith, short, rows_text-length row rows)
+
+long-text : (most : ℕ) (rows : List AcceptedRow) → most < rows_size rows + 1 → most < length (rows_text rows)
+long-text most [] long = omega (arith, long)
+long-text most (row ∷ rows) long = omega (arith, long, rows_text-length row rows)
+
+pub no-brackets : (most : ℕ) (rows : List AcceptedRow) → most < 2 → IsDocumentOf most rows None
+no-brackets most rows none = omega (arith, none, rows_text-least rows)
+
+-- ---- whether it fits beside the text of a request
+
+pub fits-beside : (text : List ℕ) (rows : List AcceptedRow) → length (rows_text rows) ≤ room_beside text
+    → FitsBeside text rows
+fits-beside text rows short = omega (arith, short, rows_text-least rows)
+
+pub not-beside : (text : List ℕ) (rows : List AcceptedRow) → room_beside text < length (rows_text rows)
+    → ¬ FitsBeside text rows
+not-beside text rows past fits = omega (arith, past, fits)
 
 -- ---- how deep it nests
 
@@ -214,18 +231,21 @@ rows_shallow rows = let below = items_shallow rows in omega arith
 -- ---- a loop over a list of signatures
 
 -- the first of them are in the document
-pub record IsListed (rows : List AcceptedRow) (count : ℕ) (list : Data) (size : ℕ) : Type 0 where
+pub record IsListed (most : ℕ) (rows : List AcceptedRow) (count : ℕ) (list : Data) (size : ℕ) : Type 0 where
   pub tree : list ≡ rows_tree (take count rows)
   pub back : IsReadAs (list_each row_of) (rows_tree (take count rows)) (take count rows)
   pub taken : size ≡ rows_size (take count rows)
-  pub room : size < most_bytes
+  pub room : size < most
+  pub least : 2 ≤ most
 
-pub listed-none : (rows : List AcceptedRow) (list : Data) → list ≡ rows_tree [] → IsListed rows 0 list 0
-listed-none rows list is = record {
+pub listed-none : (most : ℕ) (rows : List AcceptedRow) (list : Data) → list ≡ rows_tree [] → 2 ≤ most
+    → IsListed most rows 0 list 0
+listed-none most rows list is least = record {
   tree = is;
   back = list_back-none row_of row_tree;
   taken = refl;
-  room = omega arith;
+  room = omega (arith, least);
+  least = least;
 }
 
 size-more : (rows : List AcceptedRow) (count : ℕ) (row : AcceptedRow) → count < length rows
@@ -235,23 +255,24 @@ size-more rows count row below is =
     ap rows_size (take_more rows count row below ∙ ap (λ y. take count rows ++ y ∷ []) (sym is))
     ∙ rows_size-append (take count rows) (row ∷ [])
 
-pub listed-more : (rows : List AcceptedRow) (count : ℕ) (row : AcceptedRow) (before after : Data) (size sum : ℕ)
-    → count < length rows → row ≡ get_or rows count row → IsListed rows count before size → IsRowReadBack row
-    → AddsRow before after size row (Some sum) → IsListed rows (count + 1) after sum
-listed-more rows count row before after size sum below is listed back added =
+pub listed-more : (most : ℕ) (rows : List AcceptedRow) (count : ℕ) (row : AcceptedRow) (before after : Data)
+    (size sum : ℕ) → count < length rows → row ≡ get_or rows count row → IsListed most rows count before size
+    → IsRowReadBack row → AddsRow most before after size row (Some sum) → IsListed most rows (count + 1) after sum
+listed-more most rows count row before after size sum below is listed back added =
     let more = list_more row_of row_tree rows count row before after below is (listed.tree, listed.back) back added.2 in
     record {
       tree = more.0;
       back = more.1;
       taken = omega (arith, added.0, listed.taken, size-more rows count row below is);
       room = added.1;
+      least = listed.least;
     }
 
-pub listed-past : (rows : List AcceptedRow) (count : ℕ) (row : AcceptedRow) (before after : Data) (size : ℕ)
-    → count < length rows → row ≡ get_or rows count row → IsListed rows count before size
-    → AddsRow before after size row None → IsDocumentOf rows None
-listed-past rows count row before after size below is listed long =
-    long-text rows (omega (
+pub listed-past : (most : ℕ) (rows : List AcceptedRow) (count : ℕ) (row : AcceptedRow) (before after : Data) (size : ℕ)
+    → count < length rows → row ≡ get_or rows count row → IsListed most rows count before size
+    → AddsRow most before after size row None → IsDocumentOf most rows None
+listed-past most rows count row before after size below is listed long =
+    long-text most rows (omega (
       arith,
       long,
       listed.taken,
@@ -259,14 +280,14 @@ listed-past rows count row before after size below is listed long =
       rows_size-take (count + 1) rows,
     ))
 
-pub listed-whole : (rows : List AcceptedRow) (count : ℕ) (list shown : Data) (size : ℕ) (text : List ℕ)
-    → length rows ≤ count → IsListed rows count list size → shown ≡ list → text ≡ compact_text shown
-    → (depth shown ≤ max_depth → document_of text ≡ Ok shown) → IsDocumentOf rows (Some text)
-listed-whole rows count list shown size text all listed same written reads =
+pub listed-whole : (most : ℕ) (rows : List AcceptedRow) (count : ℕ) (list shown : Data) (size : ℕ) (text : List ℕ)
+    → length rows ≤ count → IsListed most rows count list size → shown ≡ list → text ≡ compact_text shown
+    → (depth shown ≤ max_depth → document_of text ≡ Ok shown) → IsDocumentOf most rows (Some text)
+listed-whole most rows count list shown size text all listed same written reads =
     let whole : take count rows ≡ rows = take_all count rows all in
     let tree : shown ≡ rows_tree rows = same ∙ listed.tree ∙ ap rows_tree whole in
     let is : text ≡ rows_text rows = written ∙ ap compact_text tree in
-    let short : rows_size rows < most_bytes = omega (arith, listed.taken, ap rows_size whole, listed.room) in
+    let short : rows_size rows < most = omega (arith, listed.taken, ap rows_size whole, listed.room) in
     let shallow : depth shown ≤ max_depth =
     (let P : Data → Type 0 = λ d. depth d ≤ max_depth in subst P (sym tree) (rows_shallow rows)) in
     let read : document_of (rows_text rows) ≡ Ok (rows_tree rows) =
@@ -274,6 +295,7 @@ listed-whole rows count list shown size text all listed same written reads =
     let back = (let P : List AcceptedRow → Type 0 = λ r. IsReadAs (list_each row_of) (rows_tree r) r in
     subst P whole listed.back) in (
       is,
-      (let P : List ℕ → Type 0 = λ t. length t ≤ most_bytes in subst P (sym is) (short-text rows short)),
+      (let P : List ℕ → Type 0 = λ t. length t ≤ most in
+          subst P (sym is) (short-text most rows listed.least short)),
       (read, back.0),
     )

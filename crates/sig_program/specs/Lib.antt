@@ -1,5 +1,6 @@
 pub mod Command
 pub mod ConsistencyLink
+pub mod GivenBack
 pub mod Head
 pub mod Link
 pub mod LogQuestions

@@ -1,14 +1,13 @@
 -- What `questions log` writes: every signature that a request of `log` can rest on.
-use Rattle.std.specs.Prelude.{◌≡◌, ℕ, ◌≤◌, List, [], ◌∷◌, length, map, Option, Some, None}
+use Rattle.std.specs.Prelude.{◌≡◌, ℕ, List, [], ◌∷◌, map, Option, Some, None}
 use Rattle.sig_base.specs.declared.checker.AcceptedRow.{AcceptedRow}
 use Rattle.sig_rekor.specs.CheckpointText.{IsCheckpoint}
 use Rattle.sig_rekor.specs.declared.checkpoint.SignedCheckpoint.{SignedCheckpoint}
 use Rattle.sig_verify.specs.declared.link.Link.{Link}
 use Rattle.sig_verify.specs.declared.link.Link.TheVariants.{Request, Checkpoint}
 use Rattle.sig_program.specs.Head.{OfHeadCheckpoint, head_row}
-use Rattle.sig_request.specs.Limit.{most_bytes}
 use Rattle.sig_request.specs.Request.{log_request}
-use Rattle.sig_program.specs.RowsText.{rows_text}
+use Rattle.sig_program.specs.RowsText.{FitsBeside}
 use Rattle.sig_request.specs.declared.head_members.ClaimedHead.{ClaimedHead}
 use Rattle.sig_request.specs.declared.request.LogRequest.{LogRequest}
 use Rattle.sig_request.specs.ReadFrom.{IsRequestOf}
@@ -21,26 +20,26 @@ head_rows head checkpoint = map (head_row head checkpoint) checkpoint.signatures
 abbrev pub AreLogQuestions : LogRequest → List AcceptedRow → Type 0
 AreLogQuestions request rows = OfHeadCheckpoint request.head (λ checkpoint. rows ≡ head_rows request.head checkpoint)
 
--- their list has at most as many bytes as a request may have, so that a request can give them back
-abbrev pub LogQuestionsFit : LogRequest → Type 0
-LogQuestionsFit request =
+-- their list and the request's text fit one request
+abbrev pub LogQuestionsFit : List ℕ → LogRequest → Type 0
+LogQuestionsFit text request =
     (checkpoint : SignedCheckpoint) → IsCheckpoint request.head.checkpoint checkpoint
-    → length (rows_text (head_rows request.head checkpoint)) ≤ most_bytes
+    → FitsBeside text (head_rows request.head checkpoint)
 
 -- the links of `questions log`: those of `log` before it asks for a signature
 abbrev pub log_question_links : List Link
 log_question_links = Request ∷ Checkpoint ∷ []
 
--- what a link asks of a request
-abbrev pub HoldsOfLogQuestions : LogRequest → Link → Type 0
-HoldsOfLogQuestions request Request = LogQuestionsFit request
-HoldsOfLogQuestions request Checkpoint = OfHeadCheckpoint request.head (λ _. Unit {0})
-HoldsOfLogQuestions request other = Unit {0}
+-- what a link asks of a text, and of the request that it is
+abbrev pub HoldsOfLogQuestions : List ℕ → LogRequest → Link → Type 0
+HoldsOfLogQuestions text request Request = LogQuestionsFit text request
+HoldsOfLogQuestions text request Checkpoint = OfHeadCheckpoint request.head (λ _. Unit {0})
+HoldsOfLogQuestions text request other = Unit {0}
 
 -- a link holds of a text: the text is a request of `log`, and the link holds of it
 abbrev pub HoldsLogQuestions : List ℕ → Link → Type 0
 HoldsLogQuestions text link =
-    (request : LogRequest) × IsRequestOf log_request text request × HoldsOfLogQuestions request link
+    (request : LogRequest) × IsRequestOf log_request text request × HoldsOfLogQuestions text request link
 
 -- the one checkpoint that the text of a head is, or none
 abbrev pub IsCheckpointOf : ClaimedHead → Option SignedCheckpoint → Type 0

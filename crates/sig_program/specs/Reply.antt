@@ -1,5 +1,5 @@
 -- The reply to a request.
-use Rattle.std.specs.Prelude.{◌≡◌, ℕ, ◌<◌, ◌≤◌, ◌⊎◌, ◌↔◌, List, ◌++◌, length, codes, decimal, Contains}
+use Rattle.std.specs.Prelude.{◌≡◌, ℕ, ◌⊎◌, ◌↔◌, List, ◌++◌, codes, decimal, Contains}
 use Rattle.std.specs.Prelude.{Option, Some, None}
 use Rattle.std.specs.Fmt.{signed_decimal}
 use Rattle.sig_rekor.specs.declared.inclusion_proof.InclusionProof.{InclusionProof}
@@ -25,9 +25,8 @@ use Rattle.sig_request.specs.VerifyRequest.{verify_request}
 use Rattle.sig_request.specs.declared.verify_request.VerifyRequest.{VerifyRequest}
 use Rattle.sig_program.specs.Link.{EveryLinkHolds, IsFirstFailing}
 use Rattle.sig_base.specs.declared.checker.AcceptedRow.{AcceptedRow}
-use Rattle.sig_request.specs.Limit.{most_bytes}
 use Rattle.sig_program.specs.LogQuestions.{AreLogQuestions}
-use Rattle.sig_program.specs.RowsText.{IsReadBack, rows_text}
+use Rattle.sig_program.specs.RowsText.{FitsBeside, IsReadBack, rows_text}
 use Rattle.sig_request.specs.ReadFrom.{IsRequestOf}
 
 -- status 2 for the link `request`, 1 for every other
@@ -88,12 +87,12 @@ consistent request = record {
 abbrev pub listed : List ℕ → Reply
 listed document = record { status = 0; text = document ++ codes "\n" }
 
--- the reply to a request that asks for these signatures: their document, which is read back as them, if it has at most
--- as many bytes as a request may have
-abbrev pub IsListingOf : List AcceptedRow → Reply → Type 0
-IsListingOf rows reply =
-    ((length (rows_text rows) ≤ most_bytes) × IsReadBack rows × (reply ≡ listed (rows_text rows)))
-    ⊎ ((most_bytes < length (rows_text rows)) × (reply ≡ refusal_reply Request))
+-- for private clauses: the reply to a request of this text, which asks for these signatures: their document, which is
+-- read back as them, if and only if it fits beside the text
+abbrev pub IsListingOf : List ℕ → List AcceptedRow → Reply → Type 0
+IsListingOf text rows reply =
+    (FitsBeside text rows × IsReadBack rows × (reply ≡ listed (rows_text rows)))
+    ⊎ ((¬ FitsBeside text rows) × (reply ≡ refusal_reply Request))
 
 -- the reply lists the signatures that a request of `log` asks for, and is read back as them
 abbrev pub IsLogQuestionsReply : LogRequest → Reply → Type 0

@@ -1,5 +1,5 @@
 -- The document that `questions` writes: a list of signatures, in the form of `accepted`.
-use Rattle.std.specs.Prelude.{◌≡◌, ℕ, ◌+◌, ◌<◌, ◌≤◌, List, [], ◌∷◌, codes, length, Option, Some, None, Ok}
+use Rattle.std.specs.Prelude.{◌≡◌, ℕ, ◌+◌, ◌-◌, ◌<◌, ◌≤◌, List, [], ◌∷◌, codes, length, Option, Some, None, Ok}
 use Rattle.sig_base.specs.Scheme.{name_of}
 use Rattle.sig_base.specs.declared.scheme.VerifyScheme.{VerifyScheme}
 use Rattle.sig_base.specs.declared.checker.AcceptedRow.{AcceptedRow}
@@ -51,6 +51,15 @@ rows_tree rows = list_tree row_tree rows
 abbrev pub rows_text : List AcceptedRow → List ℕ
 rows_text rows = compact_text (rows_tree rows)
 
+-- what a request has before its list of accepted signatures, where that is its last member
+abbrev pub accepted_name : List ℕ
+accepted_name = codes ",\"accepted\":"
+
+-- The text of a request, the list of these signatures, and what comes before the list have together at most as many
+-- bytes as a request may have. So the request can give the signatures back.
+abbrev pub FitsBeside : List ℕ → List AcceptedRow → Type 0
+FitsBeside text rows = length text + length (rows_text rows) + length accepted_name ≤ most_bytes
+
 -- the text is that of a document which, as the member `accepted` of a request, means these signatures
 abbrev pub IsReadBack : List AcceptedRow → Type 0
 IsReadBack rows = (document_of (rows_text rows) ≡ Ok (rows_tree rows)) × (list_each row_of (rows_tree rows) ≡ Some rows)
@@ -76,13 +85,18 @@ with_some name (Some value) d = with_member name value d
 abbrev pub IsRowReadBack : AcceptedRow → Type 0
 IsRowReadBack row = IsReadAs row_of (row_tree row) row
 
--- a list of signatures, so many bytes of them, that a further one went into; none if it has no room there
-abbrev pub AddsRow : Data → Data → ℕ → AcceptedRow → Option ℕ → Type 0
-AddsRow old new size row None = most_bytes < size + rows_size (row ∷ []) + 1
-AddsRow old new size row (Some sum) =
-    (sum ≡ size + rows_size (row ∷ [])) × (sum < most_bytes) × (new ≡ with_last (row_tree row) old)
+-- for private clauses: how many bytes a list may have that fits beside the text of a request; 0 if there is no room
+abbrev pub room_beside : List ℕ → ℕ
+room_beside text = (most_bytes - length accepted_name) - length text
 
--- the text of the document of these signatures, which is read back; none if it has more bytes than a request may have
-abbrev pub IsDocumentOf : List AcceptedRow → Option (List ℕ) → Type 0
-IsDocumentOf rows None = most_bytes < length (rows_text rows)
-IsDocumentOf rows (Some text) = (text ≡ rows_text rows) × (length text ≤ most_bytes) × IsReadBack rows
+-- a list of signatures of at most `most` bytes, so many bytes of them, that a further one went into; none if it has no
+-- room there
+abbrev pub AddsRow : ℕ → Data → Data → ℕ → AcceptedRow → Option ℕ → Type 0
+AddsRow most old new size row None = most < size + rows_size (row ∷ []) + 1
+AddsRow most old new size row (Some sum) =
+    (sum ≡ size + rows_size (row ∷ [])) × (sum < most) × (new ≡ with_last (row_tree row) old)
+
+-- the text of the document of these signatures, which is read back; none if it has more than `most` bytes
+abbrev pub IsDocumentOf : ℕ → List AcceptedRow → Option (List ℕ) → Type 0
+IsDocumentOf most rows None = most < length (rows_text rows)
+IsDocumentOf most rows (Some text) = (text ≡ rows_text rows) × (length text ≤ most) × IsReadBack rows

@@ -9,12 +9,11 @@ ghost use Rattle.sig_program.specs.RowsText.{AddsRow, IsDocumentOf, IsRowReadBac
 ghost use Rattle.sig_program.specs.Suffice.{LogQuestionsSuffice};
 ghost use Rattle.sig_program.specs.declared.command.Command.TheVariants.{LogQuestions};
 ghost use Rattle.sig_rekor.specs.NoteText.{note_text};
-ghost use Rattle.sig_request.specs.Limit.{most_bytes};
 ghost use Rattle.sig_request.specs.ReadFrom.{IsRequestOf};
 ghost use Rattle.sig_request.specs.Request.{log_request};
 
 use crate::reply::Reply;
-use crate::rows_text::add_row;
+use crate::rows_text::{add_row, room_beside};
 use sig_base::{AcceptedRow, Bytes, Operation, OutOfMemory, Text};
 use sig_json::{Document, compact};
 use sig_rekor::{CheckpointSignature, ParseCheckpointError, SignedNote};
@@ -24,8 +23,8 @@ use std::alloc::Global;
 
 /// Returns the reply to a request's text: the list of the signatures that `log` asks for, each signature of the
 /// checkpoint over its note under the log's scheme and key, in order, with status 0; else `refused checkpoint` if the
-/// request's checkpoint has no reading, and `refused request` if the text is no request of `log`, or the list would
-/// have more than 2^24 bytes. Which signatures the request itself accepts does not matter. Fails only if out of memory.
+/// request's checkpoint has no reading, and `refused request` if the text is no request of `log`, or text, list and
+/// `,"accepted":` would have more than 2^24 bytes together. Which signatures the request itself accepts does not matter. Fails only if out of memory.
 ///
 /// Of two requests that differ in their accepted signatures alone, and in none of those that are listed, `log` has the
 /// same reply.
@@ -40,22 +39,23 @@ pub fn log_questions(alloc: Global, request: &[u8]) -> Result<Reply, OutOfMemory
 fn reply_to_text(alloc: Global, request: &[u8]) -> Result<Reply, OutOfMemory>
     ensures { IfOk result (IsReply LogQuestions request.now) }
 {
-    let Some(request) = LogRequest::read(alloc, request)? else {
+    let Some(read) = LogRequest::read(alloc, request)? else {
         return Reply::refused(alloc, Link::Request);
     };
-    let reply = reply_to(alloc, &request);
-    drop(request);
+    let reply = reply_to(alloc, request, &read);
+    drop(read);
     reply
 }
 
-/// The reply to a request.
-fn reply_to(alloc: Global, request: &LogRequest) -> Result<Reply, OutOfMemory>
-    ensures { (text : List ℕ) → IsRequestOf log_request text request.now → IfOk result (IsReply LogQuestions text) }
+/// The reply to a request, whose text this is.
+fn reply_to(alloc: Global, text: &[u8], request: &LogRequest) -> Result<Reply, OutOfMemory>
+    requires { IsRequestOf log_request text.now request.now }
+    ensures { IfOk result (IsReply LogQuestions text.now) }
 {
     let Some(checkpoint) = head_checkpoint(alloc, &request.head)? else {
         return Reply::refused(alloc, Link::Checkpoint);
     };
-    let reply = listing_reply(alloc, &request.head, &checkpoint);
+    let reply = listing_reply(alloc, text, &request.head, &checkpoint);
     drop(checkpoint);
     reply
 }
@@ -71,30 +71,32 @@ fn head_checkpoint(alloc: Global, head: &ClaimedHead) -> Result<Option<SignedNot
     }
 }
 
-/// The reply to a request with this checkpoint.
+/// The reply to a request of this text with this checkpoint.
 fn listing_reply(
     alloc: Global,
+    text: &[u8],
     head: &ClaimedHead,
     checkpoint: &SignedNote<'_>,
 ) -> Result<Reply, OutOfMemory>
-    ensures { IfOk result (IsListingOf (head_rows head.now checkpoint.now)) }
+    ensures { IfOk result (IsListingOf text.now (head_rows head.now checkpoint.now)) }
 {
-    match note_document(alloc, head, checkpoint)? {
+    match note_document(alloc, head, checkpoint, room_beside(text))? {
         Some(document) => Reply::listed(alloc, &document),
         None => Reply::refused(alloc, Link::Request),
     }
 }
 
-/// The document of the signatures of the checkpoint, `None` if it would have more bytes than a request may have.
+/// The document of the signatures of the checkpoint, `None` if it would have more than `most` bytes.
 fn note_document(
     alloc: Global,
     head: &ClaimedHead,
     checkpoint: &SignedNote<'_>,
+    most: usize,
 ) -> Result<Option<Text>, OutOfMemory>
-    ensures { IfOk result (IsDocumentOf (head_rows head.now checkpoint.now)) }
+    ensures { IfOk result (IsDocumentOf most (head_rows head.now checkpoint.now)) }
 {
     let note = checkpoint.marshal(alloc)?;
-    let document = rows_of_note(alloc, head, checkpoint, &note);
+    let document = rows_of_note(alloc, head, checkpoint, &note, most);
     drop(note);
     document
 }
@@ -105,14 +107,21 @@ fn rows_of_note(
     head: &ClaimedHead,
     checkpoint: &SignedNote<'_>,
     note: &Text,
+    most: usize,
 ) -> Result<Option<Text>, OutOfMemory>
     requires { note.now ≡ note_text checkpoint.now.note }
-    ensures { IfOk result (IsDocumentOf (head_rows head.now checkpoint.now)) }
+    ensures { IfOk result (IsDocumentOf most (head_rows head.now checkpoint.now)) }
 {
+    // A list has two brackets.
+    if most < 2 {
+        return Ok(None);
+    }
     let mut list = Document::list(alloc);
     let mut size = 0;
     'signatures: for signature in checkpoint.signatures() {
-        let Some(sum) = add_signature(alloc, &mut list, size, head, checkpoint, note, signature)?
+        let Some(sum) = add_signature(
+            alloc, &mut list, size, most, head, checkpoint, note, signature,
+        )?
         else {
             drop(list);
             return Ok(None);
@@ -129,20 +138,21 @@ fn add_signature(
     alloc: Global,
     list: &mut Document,
     size: usize,
+    most: usize,
     head: &ClaimedHead,
     checkpoint: &SignedNote<'_>,
     note: &Text,
     signature: &CheckpointSignature,
 ) -> Result<Option<usize>, OutOfMemory>
     requires list { IsSome (as_array (document_tree list.old)) }
-    requires room { size < most_bytes }
+    requires room { size < most }
     requires note { note.now ≡ note_text checkpoint.now.note }
-    ensures added { IfOk result (AddsRow (document_tree list.old) (document_tree list.new) size
+    ensures added { IfOk result (AddsRow most (document_tree list.old) (document_tree list.new) size
         (head_row head.now checkpoint.now signature.now)) }
     ensures back { IfOk result (λ _. IsRowReadBack (head_row head.now checkpoint.now signature.now)) }
 {
     let row = head_row(alloc, head, checkpoint, note, signature)?;
-    let sum = add_row(alloc, list, size, &row);
+    let sum = add_row(alloc, list, size, most, &row);
     drop(row);
     sum
 }

@@ -3,7 +3,7 @@
 //! ```text
 //! [{"key":"a2V5","message":"bG9n..YPQo=","operation":"message","scheme":"ED25519","signature":"c2ln"}]
 //! ```
-ghost use Rattle.std.specs.Prelude.{◌≡◌, ◌<◌, All, IfOk, IsSome, OnOk, codes, length};
+ghost use Rattle.std.specs.Prelude.{◌≡◌, ◌<◌, ◌≤◌, All, IfOk, IsSome, OnOk, codes, length};
 ghost use Rattle.sig_bundle.specs.Written.{IsReadAs, bytes_tree};
 ghost use Rattle.sig_json.specs.Builders.{with_member};
 ghost use Rattle.sig_json.specs.Data.{no_members, object, string};
@@ -11,15 +11,26 @@ ghost use Rattle.sig_json.specs.Find.{as_array, as_object};
 ghost use Rattle.sig_json.specs.Kinds.{bytes_of};
 ghost use Rattle.sig_json.specs.Tree.{document_tree};
 ghost use Rattle.sig_json.specs.Written.{compact_text};
-ghost use Rattle.sig_request.specs.Limit.{most_bytes};
 ghost use Rattle.sig_questions.specs.Rows.{HasScheme, IsSchemeUnder};
 ghost use Rattle.sig_program.specs.RowsText.{AddsRow, IsDocumentOf, IsRowReadBack, IsSchemeRead};
-ghost use Rattle.sig_program.specs.RowsText.{operation_word, row_tree, scheme_tree, with_some};
+ghost use Rattle.sig_program.specs.RowsText.{accepted_name, operation_word, room_beside, row_tree, scheme_tree};
+ghost use Rattle.sig_program.specs.RowsText.{with_some};
 
 use sig_base::{AcceptedRow, Bytes, Operation, OutOfMemory, Text};
 use sig_json::{Document, compact};
 use sig_request::MOST_BYTES;
 use std::alloc::Global;
+
+/// What a request has before its list of accepted signatures, where that is its last member.
+const ACCEPTED_NAME: &str = ",\"accepted\":";
+
+/// How many bytes a list may have so that it fits beside the text of a request: the two and `,"accepted":` have together
+/// at most 2^24 bytes. It is 0 if there is no room, since a list has two brackets.
+pub fn room_beside(request: &[u8]) -> usize
+    ensures { result ≡ room_beside request.now }
+{
+    (MOST_BYTES - ACCEPTED_NAME.len()).saturating_sub(request.len())
+}
 
 /// The name of an operation in a row.
 fn operation_word(operation: Operation) -> &'static str
@@ -130,24 +141,25 @@ fn compact_len(alloc: Global, document: &Document) -> Result<usize, OutOfMemory>
     Ok(text.as_str().len())
 }
 
-/// Adds a signature at the end of a list that takes `size` bytes but for its closing bracket, and returns what it then
-/// takes; `None` if the document would have more bytes than a request may have. Fails only if out of memory.
+/// Adds a signature at the end of a list that takes `size` bytes except for its closing bracket, and returns what it
+/// then takes; `None` if the document would have more than `most` bytes. Fails only if out of memory.
 pub fn add_row(
     alloc: Global,
     list: &mut Document,
     size: usize,
+    most: usize,
     row: &AcceptedRow,
 ) -> Result<Option<usize>, OutOfMemory>
     requires list { IsSome (as_array (document_tree list.old)) }
-    requires room { size < most_bytes }
+    requires room { size < most }
     requires scheme { IsSchemeUnder row.now.operation row.now.scheme }
-    ensures added { IfOk result (AddsRow (document_tree list.old) (document_tree list.new) size row.now) }
+    ensures added { IfOk result (AddsRow most (document_tree list.old) (document_tree list.new) size row.now) }
     ensures back { IfOk result (λ _. IsRowReadBack row.now) }
 {
     let document = row_document(alloc, row)?;
     let count = compact_len(alloc, &document)?;
     // With the comma or the bracket before it.
-    if count >= MOST_BYTES - 1 - size {
+    if count >= most - 1 - size {
         drop(document);
         return Ok(None);
     }
@@ -155,16 +167,23 @@ pub fn add_row(
     Ok(Some(size + 1 + count))
 }
 
-/// The document of a list of signatures, `None` if it would have more bytes than a request may have. Fails only if out
-/// of memory.
-pub fn rows_document(alloc: Global, rows: &[AcceptedRow]) -> Result<Option<Text>, OutOfMemory>
+/// The document of a list of signatures, `None` if it would have more than `most` bytes. Fails only if out of memory.
+pub fn rows_document(
+    alloc: Global,
+    rows: &[AcceptedRow],
+    most: usize,
+) -> Result<Option<Text>, OutOfMemory>
     requires { All HasScheme rows.now }
-    ensures { IfOk result (IsDocumentOf rows.now) }
+    ensures { IfOk result (IsDocumentOf most rows.now) }
 {
+    // A list has two brackets.
+    if most < 2 {
+        return Ok(None);
+    }
     let mut list = Document::list(alloc);
     let mut size = 0;
     'rows: for row in rows {
-        let Some(sum) = add_row(alloc, &mut list, size, row)? else {
+        let Some(sum) = add_row(alloc, &mut list, size, most, row)? else {
             drop(list);
             return Ok(None);
         };

@@ -4,12 +4,14 @@ ghost use Rattle.std.specs.Io.KnownBytes.{Appends};
 ghost use Rattle.sig_base.specs.Stream.{Rose, TookAtMost};
 ghost use Rattle.sig_program.specs.Command.{IsCommand};
 ghost use Rattle.sig_request.specs.Limit.{most_bytes};
+ghost use Rattle.sig_program.specs.GivenBack.{ListsAreGivenBack};
 ghost use Rattle.sig_program.specs.Reply.{IsReply};
 ghost use Rattle.sig_program.specs.Run.{RepliesTo, Answered, ReadFaulted, WriteFaulted, HandsRests, WritesRests};
 ghost use Rattle.sig_program.specs.Run.{AppendsFront, usage_line};
 ghost use Rattle.sig_program.specs.Status.{usage_status, memory_status, fault_status};
 ghost use Rattle.sig_program.specs.Suffice.{LogQuestionsSuffice, VerifyQuestionsSuffice};
 ghost use Rattle.sig_program.specs.VerifyQuestions.{RefusesForAll};
+ghost use Rattle.sig_program.specs.declared.command.Command.TheVariants.{LogQuestions, VerifyQuestions};
 
 use crate::command::Command;
 use crate::consistency::consistency_reply;
@@ -63,7 +65,8 @@ impl From<OutOfMemory> for NoReply {
 ///
 /// `questions log` and `questions verify` read a request of `log` or `verify`, and list the signatures that its reply
 /// can rest on, as a JSON list in the form of `accepted`, with status 0; else `refused NAME` for the first link that
-/// fails whatever signatures are accepted, and `refused request` for a list that has more than 2^24 bytes.
+/// fails whatever signatures are accepted, and `refused request` if the bytes of the request, of the list and of
+/// `,"accepted":` would be more than 2^24 together.
 ///
 /// The reply is whole before its first byte is written, and each write is handed all that is left of it. Other
 /// statuses:
@@ -94,13 +97,18 @@ pub fn run<S: Source, K: Sink>(alloc: Global, words: &[Text], source: &mut S, si
         (K.handed sink.new) }
     ensures later { (S.faults source.old ≤ S.faults source.new) × (K.faults sink.old ≤ K.faults sink.new) }
 
-    // Nothing else matters: of the accepted signatures of a request of `log`, those decide its reply that
-    // `questions log` lists, and of a request of `verify` those that `questions verify` lists.
+    // Nothing else matters: of the accepted signatures of a request of `log`, its reply depends on those alone that
+    // are over the checkpoint's note under the log's scheme and key, and of a request of `verify` on those alone that a
+    // link asks for. `questions` lists them, unless the list is too long.
     ensures suffice { LogQuestionsSuffice × VerifyQuestionsSuffice }
 
     // A link other than `request` is the first that fails in `questions verify` if and only if it is the first that
     // fails in `verify`, whatever signatures are accepted and whatever the policy says.
     ensures refusals { RefusesForAll }
+
+    // A list that is written can be given back: the request with the list put in as `accepted`, before its last brace
+    // or wherever else, has at most 2^24 bytes.
+    ensures given_back { ListsAreGivenBack LogQuestions × ListsAreGivenBack VerifyQuestions }
 {
     lists();
     let Some(command) = Command::named(words) else {

@@ -4,7 +4,6 @@ ghost use Rattle.sig_base.specs.declared.checker.AcceptedRow.{AcceptedRow as row
 ghost use Rattle.sig_questions.specs.Asked.{IsAskedBy};
 ghost use Rattle.sig_questions.specs.Questions.{IsDecided};
 ghost use Rattle.sig_questions.specs.Rows.{HasScheme};
-ghost use Rattle.sig_request.specs.Limit.{most_bytes};
 ghost use Rattle.sig_program.specs.Reply.{IsListingOf, IsReply};
 ghost use Rattle.sig_program.specs.Suffice.{VerifyQuestionsSuffice};
 ghost use Rattle.sig_program.specs.VerifyLink.{inputs};
@@ -15,11 +14,11 @@ ghost use Rattle.sig_request.specs.VerifyRequest.{verify_request};
 
 use crate::laws::lists;
 use crate::reply::Reply;
-use crate::rows_text::rows_document;
+use crate::rows_text::{room_beside, rows_document};
 use sig_base::{AcceptedRow, OutOfMemory, Register};
 use sig_questions::laws::{one_list, schemes};
 use sig_questions::{NoQuestions, questions};
-use sig_request::{MOST_BYTES, VerifyRequest, bundle_of, now_of, trusted_root_of};
+use sig_request::{VerifyRequest, bundle_of, now_of, trusted_root_of};
 use sig_verify::Link;
 use std::alloc::Global;
 
@@ -27,8 +26,8 @@ use std::alloc::Global;
 /// order, with status 0: the certificate under each trust anchor that may have issued it, its SCT as issued by each of
 /// these, the signature over the content, the log's promise, and each signature of the checkpoint's note. Else
 /// `refused NAME`, for the first link of `verify` that fails whatever is accepted: one before `issuer`, or `issuer` if
-/// no trust anchor may have issued the certificate; and `refused request` if the text is no request of `verify`, or the
-/// list would have more than 2^24 bytes. Which signatures the request itself accepts does not matter. Fails only if
+/// no trust anchor may have issued the certificate; and `refused request` if the text is no request of `verify`, or
+/// text, list and `,"accepted":` would have more than 2^24 bytes together. Which signatures the request itself accepts does not matter. Fails only if
 /// out of memory.
 ///
 /// Of two requests that differ in their accepted signatures alone, and in none of those that a link asks for, `verify`
@@ -46,24 +45,24 @@ pub fn verify_questions(alloc: Global, request: &[u8]) -> Result<Reply, OutOfMem
 fn reply_to_text(alloc: Global, request: &[u8]) -> Result<Reply, OutOfMemory>
     ensures { IfOk result (IsReply VerifyQuestions request.now) }
 {
-    let Some(request) = VerifyRequest::read(alloc, request)? else {
+    let Some(read) = VerifyRequest::read(alloc, request)? else {
         return Reply::refused(alloc, Link::Request);
     };
-    let reply = reply_to(alloc, &request);
-    drop(request);
+    let reply = reply_to(alloc, request, &read);
+    drop(read);
     reply
 }
 
-/// The reply to a request.
-fn reply_to(alloc: Global, request: &VerifyRequest) -> Result<Reply, OutOfMemory>
-    ensures { (text : List ℕ) → IsRequestOf verify_request text request.entry.now
-        → IfOk result (IsReply VerifyQuestions text) }
+/// The reply to a request, whose text this is.
+fn reply_to(alloc: Global, text: &[u8], request: &VerifyRequest) -> Result<Reply, OutOfMemory>
+    requires { IsRequestOf verify_request text.now request.entry.now }
+    ensures { IfOk result (IsReply VerifyQuestions text.now) }
 {
     one_list();
     schemes();
-    match questions_of(alloc, request) {
+    match questions_of(alloc, request, room_beside(text)) {
         Ok(rows) => {
-            let reply = listing_reply(alloc, &rows);
+            let reply = listing_reply(alloc, text, &rows);
             drop(rows);
             reply
         }
@@ -74,12 +73,13 @@ fn reply_to(alloc: Global, request: &VerifyRequest) -> Result<Reply, OutOfMemory
     }
 }
 
-/// The signatures that the links of a request ask for, unless they have more bytes than a request may have.
+/// The signatures that the links of a request ask for, unless they have more than `most` bytes.
 fn questions_of(
     alloc: Global,
     request: &VerifyRequest,
+    most: usize,
 ) -> Result<Register<AcceptedRow>, NoQuestions>
-    ensures decided { IsDecided (inputs request.entry.now) most_bytes result }
+    ensures decided { IsDecided (inputs request.entry.now) most result }
     ensures asked { IfOk result (λ rows.
         (row : row_type) → Contains rows row ↔ IsAskedBy (inputs request.entry.now) row) }
 {
@@ -90,16 +90,20 @@ fn questions_of(
         now,
         &request.digest,
         bundle_of(request),
-        MOST_BYTES,
+        most,
     )
 }
 
-/// The reply that lists these signatures.
-fn listing_reply(alloc: Global, rows: &Register<AcceptedRow>) -> Result<Reply, OutOfMemory>
+/// The reply to a request of this text that lists these signatures.
+fn listing_reply(
+    alloc: Global,
+    text: &[u8],
+    rows: &Register<AcceptedRow>,
+) -> Result<Reply, OutOfMemory>
     requires { All HasScheme rows.now }
-    ensures { IfOk result (IsListingOf rows.now) }
+    ensures { IfOk result (IsListingOf text.now rows.now) }
 {
-    match rows_document(alloc, rows.as_slice())? {
+    match rows_document(alloc, rows.as_slice(), room_beside(text))? {
         Some(document) => Reply::listed(alloc, &document),
         None => Reply::refused(alloc, Link::Request),
     }

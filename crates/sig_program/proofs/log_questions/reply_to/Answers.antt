@@ -3,11 +3,11 @@ use Rattle.sig_program.proofs.LogQuestionReplies.{listed-replied, unchecked-repl
 use Rattle.sig_program.proofs.log_questions.reply_to.Goals as goal
 
 pub returns-in_default : goal.returns-in_default
-returns-in_default c = λ text is.
-    unchecked-replied text c.args.request.now c.in_ok-checkpoint.field-0 c.refused.result c.refused.ensures is
+returns-in_default c =
+    unchecked-replied c.args.text.now c.args.request.now c.in_ok-checkpoint.field-0 c.refused.result c.refused.ensures c.requires
     c.in_default.is c.in_ok-checkpoint.ensures
 
 pub returns : goal.returns
-returns c = λ text is.
-    listed-replied text c.args.request.now c.in_ok-checkpoint.field-0 c.in-Some.checkpoint c.listing_reply-reply.result
-    c.listing_reply-reply.ensures is c.in-Some.is c.in_ok-checkpoint.ensures
+returns c =
+    listed-replied c.args.text.now c.args.request.now c.in_ok-checkpoint.field-0 c.in-Some.checkpoint c.listing_reply-reply.result
+    c.listing_reply-reply.ensures c.requires c.in-Some.is c.in_ok-checkpoint.ensures

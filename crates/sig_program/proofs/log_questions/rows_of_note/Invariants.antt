@@ -6,4 +6,4 @@ use Rattle.sig_program.proofs.log_questions.rows_of_note.Given as goal
 
 abbrev pub invariant-signatures : goal.invariant-signatures
 invariant-signatures l =
-    IsListed (head_rows l.head l.checkpoint) l.signature-index (document_tree l.list) l.size
+    IsListed l.most (head_rows l.head l.checkpoint) l.signature-index (document_tree l.list) l.size

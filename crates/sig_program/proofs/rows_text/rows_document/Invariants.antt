@@ -4,4 +4,4 @@ use Rattle.sig_program.proofs.RowsTexts.{IsListed}
 use Rattle.sig_program.proofs.rows_text.rows_document.Given as goal
 
 abbrev pub invariant-rows : goal.invariant-rows
-invariant-rows l = IsListed l.rows l.row-index (document_tree l.list) l.size
+invariant-rows l = IsListed l.most l.rows l.row-index (document_tree l.list) l.size

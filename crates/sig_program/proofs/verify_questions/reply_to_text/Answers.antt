@@ -6,11 +6,9 @@ use Rattle.sig_program.proofs.verify_questions.reply_to_text.Goals as goal
 
 pub returns-in_default : goal.returns-in_default
 returns-in_default c =
-    unread-replied VerifyQuestions verify_request c.args.request.now c.in_ok-request.field-0 c.refused.result
-    (λ holds. (holds.0, holds.1)) c.refused.ensures c.in_default.is c.in_ok-request.ensures
+    unread-replied VerifyQuestions verify_request c.args.request.now c.in_ok-read.field-0 c.refused.result
+    (λ holds. (holds.0, holds.1)) c.refused.ensures c.in_default.is c.in_ok-read.ensures
 
-pub returns : goal.returns
-returns c =
-    c.reply_to-reply.ensures c.args.request.now
-    (its-request verify_request c.args.request.now c.in_ok-request.field-0 c.in-Some.request c.in-Some.is
-    c.in_ok-request.ensures)
+pub reply_to-reply-requires : goal.reply_to-reply-requires
+reply_to-reply-requires c =
+    its-request verify_request c.args.request.now c.in_ok-read.field-0 c.in-Some.read c.in-Some.is c.in_ok-read.ensures

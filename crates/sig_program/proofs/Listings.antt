@@ -1,0 +1,25 @@
+-- The reply that lists signatures, by whether their document fits beside the text of the request.
+use Rattle.std.proofs.Common.{◌≡◌, ◌≤◌, ◌∙◌, ℕ, inl, inr, List, length, Result, IfOk, Some, None, ap, arith}
+use Rattle.std.proofs.lemmas.Result.{IfOk-weaker}
+use Rattle.sig_base.specs.declared.checker.AcceptedRow.{AcceptedRow}
+use Rattle.sig_base.specs.declared.memory.OutOfMemory.{OutOfMemory}
+use Rattle.sig_verify.specs.declared.link.Link.TheVariants.{Request}
+use Rattle.sig_program.proofs.RowsTexts.{fits-beside, not-beside}
+use Rattle.sig_program.specs.Reply.{IsListingOf, listed, refusal_reply}
+use Rattle.sig_program.specs.RowsText.{IsDocumentOf, room_beside, rows_text}
+use Rattle.sig_program.specs.declared.reply.Reply.{Reply}
+
+module _ (text : List ℕ) (rows : List AcceptedRow) (most : ℕ) (r : Result Reply OutOfMemory)
+    (room : most ≡ room_beside text) where
+  pub listed-made : (document : List ℕ) → IsDocumentOf most rows (Some document)
+      → IfOk r (λ reply. reply ≡ listed document) → IfOk r (IsListingOf text rows)
+  listed-made document is made =
+      let short : length (rows_text rows) ≤ room_beside text = omega (arith, is.1, ap length is.0, room) in
+      IfOk-weaker r (λ reply. reply ≡ listed document) (IsListingOf text rows)
+      (λ reply same. inl (fits-beside text rows short, is.2, same ∙ ap listed is.0)) made
+
+  pub past-made : IsDocumentOf most rows None → IfOk r (λ reply. reply ≡ refusal_reply Request)
+      → IfOk r (IsListingOf text rows)
+  past-made long made =
+      IfOk-weaker r (λ reply. reply ≡ refusal_reply Request) (IsListingOf text rows)
+      (λ reply same. inr (not-beside text rows (omega (arith, long, room)), same)) made

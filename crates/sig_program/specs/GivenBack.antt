@@ -1,0 +1,14 @@
+-- A list that `questions` writes fits one request with the request that it is of, and so can be given back.
+use Rattle.std.specs.Prelude.{◌≡◌, ℕ, ◌≤◌, List, ◌++◌, length}
+use Rattle.sig_request.specs.Limit.{most_bytes}
+use Rattle.sig_program.specs.Reply.{IsReply, listed}
+use Rattle.sig_program.specs.RowsText.{accepted_name}
+use Rattle.sig_program.specs.declared.command.Command.{Command}
+use Rattle.sig_program.specs.declared.reply.Reply.{Reply}
+
+-- The request with the list put in as `accepted`, before its last brace or wherever else, has at most as many bytes as
+-- a request may have.
+abbrev pub ListsAreGivenBack : Command → Type 0
+ListsAreGivenBack command =
+    (front behind list : List ℕ) (reply : Reply) → IsReply command (front ++ behind) reply → reply ≡ listed list
+    → length (front ++ (accepted_name ++ (list ++ behind))) ≤ most_bytes
