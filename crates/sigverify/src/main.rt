@@ -4,6 +4,7 @@
 //! the standard streams, and answers `--help` and `--version` itself.
 #![tactic(auto)]
 
+mod calls;
 mod help;
 mod std_stream;
 mod words;
