@@ -22,6 +22,11 @@ pub root-halves : (entries left right : List (List ℕ)) → AreHalves entries l
     → root entries ≡ node_of (root left) (root right)
 root-halves entries left right h = rw (← h.front, ← h.back) at (root-more (length left) entries h.split)
 
+pub root-over : (entries left right : List (List ℕ)) (one other node : List ℕ) → AreHalves entries left right
+    → one ≡ root left → other ≡ root right → node ≡ node_of one other → node ≡ root entries
+root-over entries left right one other node h is other_is hashed =
+    hashed ∙ rw (is, other_is) (sym (root-halves entries left right h))
+
 -- how many entries the halves have
 pub record HalfLengths (entries left right : List (List ℕ)) : Type 0 where
   pub some : 0 < length left

@@ -21,6 +21,7 @@ pub mod Meetings
 pub mod EntryMeetings
 pub mod PathMeetings
 pub mod GrowthMeetings
+pub mod FrontSteps
 pub mod GrowthBits
 pub mod GrowthFolds
 pub mod GrowthStarts

@@ -9,8 +9,11 @@
 //!   `consistency_answer`; it is Ok if and only if `IsConsistent` holds.
 //! - `tree`: the root of a list of entries, and the audit path of one of them: the definitions `root`
 //!   and `audit_path`, which are the standard's MTH and PATH. `subproof`: the standard's PROOF.
-//! - `collision`: an accepted proof of an entry that the list does not have at the index gives two
-//!   byte strings of equal SHA-256, `IsCollision`.
+//! - `front`: the roots of a list and of its first entries together, each node hashed once.
+//! - `entry_collision`, `paths_collision`, `growth_collision`: an accepted proof of an entry that the
+//!   list does not have at the index, accepted proofs of two entries at one index, and an accepted
+//!   consistency proof from a root that is not that of the list's first entries, give two byte strings
+//!   of equal SHA-256, `IsCollision`. `meeting`: what two texts show that are hashed beside each other.
 //! - `walk`, `growth_walk`: how the checks follow a proof: from the leaf, or the last node that the
 //!   older tree fills, up by bits, without a recursion. The laws `inclusion_walks` and
 //!   `consistency_walks` say that the walks lead where the standard's recursions do.
@@ -23,6 +26,7 @@
 
 mod consistency;
 mod entry_collision;
+mod front;
 mod growth_collision;
 mod growth_walk;
 mod hashing;
@@ -39,6 +43,7 @@ mod walk;
 
 pub use consistency::verify_consistency;
 pub use entry_collision::inclusion_collision;
+pub use front::front_roots;
 pub use growth_collision::consistency_collision;
 pub use growth_walk::{Roots, chain_inner_right};
 pub use hashing::{empty_root, hash_children, hash_leaf};

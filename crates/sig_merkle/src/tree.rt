@@ -1,12 +1,14 @@
 //! The tree of a list of entries: its root, and the audit path of an entry (RFC 6962 sections 2.1 and 2.1.1).
-ghost use Rattle.std.specs.Prelude.{◌≡◌, ◌++◌, ◌<◌, ◌≤◌, length, take, IfOk, OnOk};
+ghost use Rattle.std.specs.Prelude.{◌≡◌, ◌+◌, ◌-◌, ◌++◌, ◌<◌, ◌≤◌, ◌↔◌, length, take, IsTrue, IfOk, OnOk};
 ghost use Rattle.sig_merkle.specs.AuditPath.{AreHalves, audit_path};
 ghost use Rattle.sig_merkle.specs.Root.{node_of, root};
 
-use crate::hashing::{empty_root, hash_children, hash_leaf};
+use crate::hashing::{empty_root, hash_leaf, hash_step};
 use crate::split::split_point;
-use sig_base::{Bytes, Entries, Hashes, OutOfMemory};
+use sig_base::{Bytes, Entries, Hashes, OutOfMemory, Steps};
 use std::alloc::Global;
+use std::marker::Brand;
+use std::sync::ledger::{Blank, Ledger};
 
 /// Returns the root of the tree of the first `count` entries (RFC 6962 section 2.1). It takes no memory.
 pub fn root_of(entries: &Entries, count: usize) -> [u8; 32]
@@ -28,18 +30,71 @@ pub fn path_of(alloc: Global, entries: &Entries, index: usize) -> Result<Hashes,
     Ok(path)
 }
 
-/// Returns the root of the tree of these entries. Each entry and each node is hashed once.
+/// Returns the root of the tree of these entries. Each entry and each node is hashed once, and a half of equal entries
+/// that its neighbour repeats not at all.
 pub(crate) fn root_in(entries: &[Bytes]) -> [u8; 32]
     ensures { result ≡ root entries.now }
 {
+    root_on::<Brand>(Blank::new(1), entries)
+}
+
+/// The root of a tree over a ledger of its own.
+fn root_on<L: Ledger>(blank: Blank, entries: &[Bytes]) -> [u8; 32]
+    requires name { blank.name ≡ L.name }
+    requires parts { blank.parts ≡ L.parts }
+    requires some { 0 < blank.parts }
+    ensures { result ≡ root entries.now }
+{
+    let mut steps = Steps::<L>::new(blank);
+    tree_in(entries, &mut steps).root
+}
+
+/// A tree that was hashed.
+#[derive(Clone, Copy)]
+pub(crate) struct Tree {
+    pub(crate) root: [u8; 32],
+    /// Whether its entries were found equal: then its neighbour is compared with it before it is hashed.
+    alike: bool,
+}
+
+/// Hashes the tree of these entries. A step is one hash of two children.
+pub(crate) fn tree_in<L: Ledger>(entries: &[Bytes], steps: &mut Steps<L>) -> Tree
+    ensures root { result.root ≡ root entries.now }
+    ensures steps { steps.new ≤ steps.old + (length entries.now - 1) }
+{
     match entries {
-        [] => empty_root(),
-        [entry] => hash_leaf(entry.as_slice()),
+        [] => Tree {
+            root: empty_root(),
+            alike: true,
+        },
+        [entry] => Tree {
+            root: hash_leaf(entry.as_slice()),
+            alike: true,
+        },
         _ => {
             let (left, right) = halves(entries);
-            hash_node(&root_in(left), &root_in(right))
+            let one = tree_in(left, steps);
+            if one.alike && is_repeated(left, right) {
+                Tree {
+                    root: hash_step(&one.root, &one.root, steps),
+                    alike: true,
+                }
+            } else {
+                let other = tree_in(right, steps);
+                Tree {
+                    root: hash_step(&one.root, &other.root, steps),
+                    alike: false,
+                }
+            }
         }
     }
+}
+
+/// Whether both halves have the same entries. Entries of different lengths are told apart by these alone.
+fn is_repeated(left: &[Bytes], right: &[Bytes]) -> bool
+    ensures { IsTrue result ↔ (left.now ≡ right.now) }
+{
+    left == right
 }
 
 /// Adds the audit path of the entry at the index.
@@ -67,11 +122,4 @@ pub(crate) fn halves(entries: &[Bytes]) -> (&[Bytes], &[Bytes])
     ensures { AreHalves entries.now result.0.now result.1.now }
 {
     entries.split_at(split_point(entries.len() as u64) as usize)
-}
-
-/// The hash of the node of these two children.
-fn hash_node(left: &[u8; 32], right: &[u8; 32]) -> [u8; 32]
-    ensures { result ≡ node_of left.now right.now }
-{
-    hash_children(left.as_slice(), right.as_slice())
 }

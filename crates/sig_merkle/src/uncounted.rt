@@ -1,9 +1,11 @@
-//! The checks of proofs for a caller that counts no steps.
-ghost use Rattle.std.specs.Prelude.{◌≡◌, ◌<◌, ◌↔◌, IsOk};
+//! The checks of proofs, and the roots of a list and of its front, for a caller that counts no steps.
+ghost use Rattle.std.specs.Prelude.{◌≡◌, ◌<◌, ◌≤◌, ◌↔◌, length, take, IsOk};
 ghost use Rattle.sig_merkle.specs.Inclusion.{IsIncluded, inclusion_answer, IsInclusionAnswer};
 ghost use Rattle.sig_merkle.specs.ConsistencyAnswer.{IsConsistent, consistency_answer, IsConsistencyAnswer};
+ghost use Rattle.sig_merkle.specs.Root.{root};
 
-use sig_base::{MerkleProofError, Steps};
+use crate::growth_walk::Roots;
+use sig_base::{Entries, MerkleProofError, Steps};
 use std::marker::Brand;
 use std::sync::ledger::{Blank, Ledger};
 
@@ -105,4 +107,28 @@ fn verify_consistency_on<L: Ledger>(
         new_root,
         &mut steps,
     )
+}
+
+/// Returns the root of the tree of the first `count` entries and that of the tree of all entries, as `front_roots` of
+/// this crate does.
+pub fn front_roots(entries: &Entries, count: usize) -> Roots
+    requires { count ≤ length entries.now }
+    ensures old { result.old ≡ root (take count entries.now) }
+    ensures new { result.new ≡ root entries.now }
+{
+    let blank = Blank::new(1);
+    front_roots_on::<Brand>(blank, entries, count)
+}
+
+/// The roots over a ledger of its own.
+fn front_roots_on<L: Ledger>(blank: Blank, entries: &Entries, count: usize) -> Roots
+    requires name { blank.name ≡ L.name }
+    requires parts { blank.parts ≡ L.parts }
+    requires some { 0 < blank.parts }
+    requires within { count ≤ length entries.now }
+    ensures old { result.old ≡ root (take count entries.now) }
+    ensures new { result.new ≡ root entries.now }
+{
+    let mut steps = Steps::<L>::new(blank);
+    crate::front::front_roots(entries, count, &mut steps)
 }
