@@ -1,2 +1,3 @@
 pub mod LastKeys
 pub mod KeyBytes
+pub mod ClientConfigs

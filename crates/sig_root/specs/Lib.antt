@@ -1,4 +1,5 @@
 pub mod Picked
 pub mod PickedLaws
 pub mod RootRecord
+pub mod ClientConfig
 pub mod OfBytes

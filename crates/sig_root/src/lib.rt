@@ -13,6 +13,7 @@
 //! then, and the keys of the logs whose range holds then; of equal log ids the last of these.
 #![tactic(auto)]
 
+mod client_config;
 pub mod laws;
 mod manual;
 mod picked;

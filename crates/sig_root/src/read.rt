@@ -106,7 +106,7 @@ impl ElementReader for InstanceReader {
 }
 
 /// Reads trusted roots.
-enum RootReader {}
+pub(crate) enum RootReader {}
 
 impl ElementReader for RootReader {
     type Item = TrustedRoot;

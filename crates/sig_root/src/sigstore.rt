@@ -1,10 +1,15 @@
 //! `SigstoreTrustRoot`: a trusted root that is read from its text.
-ghost use Rattle.std.specs.Prelude.{◌≡◌, Ok};
-ghost use Rattle.sig_base.specs.Answers.{Answers};
+ghost use Rattle.std.specs.Prelude.{◌≡◌, Ok, Err, IfOk};
+ghost use Rattle.sig_base.specs.Answers.{Answers, ComesWhere, UnlessMemory};
+ghost use Rattle.sig_base.specs.declared.fault.PkiFault.TheVariants.{NotReadable, TrustedRootMissing};
+ghost use Rattle.sig_root.specs.ClientConfig.{HasConfiguredRoot, IsClientConfig, LacksConfiguredRoot};
+ghost use Rattle.sig_root.specs.ClientConfig.{configured_root_of_text};
+ghost use Rattle.sig_root.specs.declared.record.TrustedRoot.{TrustedRoot as root_type};
 ghost use Rattle.sig_root.specs.Picked.{authority_certificates, keys_of, unless_empty};
 ghost use Rattle.sig_root.specs.RootRecord.{trusted_root_of_text};
 ghost use Rattle.sig_base.specs.declared.fault.TrustPart.TheVariants.{Fulcio, Ctfe};
 
+use crate::client_config::read_configured_root;
 use crate::picked::{pick_certificates, pick_keys};
 use crate::read::read_trusted_root;
 use crate::record::TrustedRoot;
@@ -44,12 +49,43 @@ impl SigstoreTrustRoot {
         }
     }
 
+    /// Returns the trusted root of a client's configuration (Sigstore trust root format, ClientTrustConfig), a JSON
+    /// object with the member `trustedRoot`, which is read as `read_trusted_root` reads it. The other members of the
+    /// configuration are ignored, and no tree is made of them. Nothing is checked of who made the text. Errors, each a
+    /// `SigstorePKIFileMalformedError`, unless memory runs out:
+    ///
+    /// - of `NotReadable` if and only if the text is no such configuration: it is no JSON without floats, no object,
+    ///   or its `trustedRoot` is there, not null and no trusted root;
+    /// - of `TrustedRootMissing` if and only if it is one whose `trustedRoot` is absent or null;
+    /// - `OutOfMemory`.
+    pub fn from_client_trust_config(alloc: Global, json: &[u8]) -> Result<SigstoreTrustRoot>
+        ensures found { IfOk result (λ root. HasConfiguredRoot json.now root) }
+        ensures only { (root : root_type) → HasConfiguredRoot json.now root → UnlessMemory SigstoreError.OutOfMemory
+            result (result ≡ Ok root) }
+        ensures missing { ComesWhere SigstoreError.OutOfMemory result
+            (Err (SigstoreError.SigstorePKIFileMalformedError TrustedRootMissing)) (LacksConfiguredRoot json.now) }
+        ensures unreadable { ComesWhere SigstoreError.OutOfMemory result
+            (Err (SigstoreError.SigstorePKIFileMalformedError NotReadable)) (¬ IsClientConfig json.now) }
+        // The same in one equation.
+        ensures answer { Answers SigstoreError.OutOfMemory (λ root. root) result (configured_root_of_text json.now) }
+    {
+        read_config(alloc, json)
+    }
+
     /// The trust root of a trusted root that was read.
     pub fn of(root: TrustedRoot) -> SigstoreTrustRoot
         ensures { result ≡ root }
     {
         SigstoreTrustRoot { root }
     }
+}
+
+/// The trust root of a client's configuration.
+fn read_config(alloc: Global, json: &[u8]) -> Result<SigstoreTrustRoot>
+    ensures { Answers SigstoreError.OutOfMemory (λ root. root) result (configured_root_of_text json.now) }
+{
+    let root = read_configured_root(alloc, json)?;
+    Ok(SigstoreTrustRoot { root })
 }
 
 impl TrustRoot for SigstoreTrustRoot {
