@@ -1,0 +1,3 @@
+pub mod ClaimsRead
+pub mod Parts
+pub mod Tokens
