@@ -1,6 +1,6 @@
 //! `LogEntries`: the log entries of a bundle. A bundle of 2^24 bytes can have millions of entries without a member,
 //! each of which takes the room of a pointer here.
-ghost use Rattle.std.specs.Prelude.{◌≡◌, IfOk, IsTrue, length, option_map, slice_get};
+ghost use Rattle.std.specs.Prelude.{◌≡◌, ◌++◌, [], ◌∷◌, IfOk, OnOk, OnErr, IsTrue, length, option_map, slice_get};
 ghost use Rattle.std.specs.Option.{option_copied};
 ghost use Rattle.sig_bundle.specs.LogEntries.{no_members, only_entry};
 
@@ -132,6 +132,7 @@ impl Eq for SparseEntry {
 /// Entries of logs in order. Contracts see the list of them.
 #[derive(Drop)]
 pub struct LogEntries {
+    alloc: Global,
     absent: TransparencyLogEntry,
     items: Register<SparseEntry>,
 }
@@ -154,9 +155,26 @@ impl LogEntries {
         ensures { result ≡ items }
     {
         LogEntries {
+            alloc,
             absent: without_members(alloc),
             items,
         }
+    }
+
+    /// A list without entries. It takes no memory.
+    pub fn new(alloc: Global) -> LogEntries
+        ensures { result ≡ [] }
+    {
+        LogEntries::of(alloc, Register::new(alloc))
+    }
+
+    /// Adds an entry at the end. Fails only if out of memory; the list is then unchanged.
+    pub fn push(&mut self, entry: TransparencyLogEntry) -> Result<(), OutOfMemory>
+        ensures ok { OnOk result (self.new ≡ self.old ++ entry ∷ []) }
+        ensures err { OnErr result (self.new ≡ self.old) }
+    {
+        let held = SparseEntry::new(self.alloc, entry)?;
+        self.items.push(held)
     }
 
     /// How many entries there are.
