@@ -15,7 +15,7 @@ import re
 
 import fixture
 from case_table import Table
-from fixture import base64_of, compact
+from fixture import base64_of, compact, der, extension
 from rekor_cases import Fault, debug, read_checkpoint
 
 HERE = os.path.dirname(os.path.abspath(__file__))
@@ -219,11 +219,20 @@ def entries(names, entry):
     return found
 
 
+def leaf_with(**changes):
+    """The fixture's leaf with other extensions."""
+    return fixture.certificate(fixture.leaf(fixture.leaf_extensions(**changes)))
+
+
 CERTIFICATES = {
     "leaf": fixture.certificate(fixture.leaf()), "malformed": b"\x30\x00", "anchor": fixture.certificate(fixture.anchor()),
     "issuer": fixture.certificate(fixture.anchor(subject=fixture.name("fixture issuer"))),
     "self-issued": fixture.certificate(fixture.leaf(subject=fixture.name("fixture root"))),
-    "cut-anchor": fixture.certificate(fixture.anchor())[:-1]}
+    "cut-anchor": fixture.certificate(fixture.anchor())[:-1],
+    "version-2": fixture.certificate(fixture.leaf(version=der(fixture.A0, b"\x02\x01\x01"))),
+    "malformed-usage": leaf_with(usage=extension(fixture.KEY_USAGE, b"")), "no-usage": leaf_with(usage=b""),
+    "other-usage": leaf_with(usage=extension(fixture.KEY_USAGE, der(fixture.BIT_STRING, b"\x05\x20"))), "no-purposes": leaf_with(purposes=b""),
+    "other-purpose": leaf_with(purposes=extension(fixture.EXTENDED_KEY_USAGE, der(fixture.SEQUENCE, der(fixture.OBJECT_IDENTIFIER, b"\x55\x1d"))))}
 
 
 def certificates(names):

@@ -265,7 +265,7 @@ def main():
                    ("3080", 0x30), ("1f00", 0x1f)]:
         row("read_all", f"{hx(h(t))} {tag:02x}", read_all(h(t), tag))
     note("children BYTES: each element whole, and the error at which they end")
-    for t in ["02010505001f0200", "", "0500", "05000500", "0201", "020105" * 5, "1f02000500", LOG_KEY, LOG_KEY[4:]]:
+    for t in ["02010505001f0200", "", "0500", "05000500", "0201", "020105" * 5, "1f02000500", "05003080", "0500308100", LOG_KEY, LOG_KEY[4:]]:
         row("children", hx(h(t)), children(h(t)))
     note("write_element TAG CONTENT: the first six bytes, and how many there are, at each size from which on a length has an octet more")
     for tag in [0x04, 0x30, 0xa3, 0xde]:

@@ -365,6 +365,10 @@ for entry, index, size, path, rows, text in itertools.product((b"L123456", b""),
     proof(entry, index, ROOT, size, path, rows, text)
 for index in (-1, -(2**63), 2**63 - 1):
     proof(b"L123456", index, ROOT, 1, [], ROW, ONE)
+say("A note of a longer log, and one of the same size under another root; the note is looked at before the path.")
+for size, root, path in itertools.product((2, 1), (ROOT, bytes(32)), ([], [bytes(32)])):
+    noted = f"log.example\n{size}\n{base64.b64encode(root).decode()}\n"
+    proof(b"L123456", 0, ROOT, 1, path, [(noted.encode(), b"sig")], noted + "\n" + LINE)
 say("A tree of three leaves: each of them, and each with the path of another.")
 LEAVES = [hashlib.sha256(b"\0" + entry).digest() for entry in (b"a", b"b", b"c")]
 PAIR = hashlib.sha256(b"\1" + LEAVES[0] + LEAVES[1]).digest()

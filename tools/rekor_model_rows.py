@@ -300,6 +300,10 @@ def without(found, name):
     return {n: v for n, v in found.items() if n != name}
 
 
+# A checkpoint for each rule of its format, which it breaks first.
+AT_FAULT = ("", "log\n1\nAA==\n\nx", "log\n1\nAA==\n\n\u2014 a\n", "log\n1\nAA==\n\n\u2014 a %%\n", "log\n1\nAA==\n\n\u2014 a AAA=\n", "log\n1\n\n",
+            " \n1\nAA==\n\n", "log\nx\nAA==\n\n", "log\n1\nA\n\n", "log\n1\nAA==\n\n")
+
 PLAIN = {"hashes": [], "logIndex": 0, "rootHash": ROOT, "treeSize": 1, "checkpoint": ONE}
 
 say("from_rekor HASHES INDEX ROOT SIZE CHECKPOINT: what InclusionProof::try_from_rekor reads. The staging log's proof, and none of these letters.")
@@ -315,6 +319,10 @@ for text in BAD[1:]:
     from_rekor(dict(PLAIN, rootHash=text))
 for one, two, root, text in itertools.product((ROOT, "zz", "00"), (ROOT, "zz", "00"), (ROOT, "zz", "00"), (ONE, "", "x", "bad note\n\n")):
     from_rekor(dict(PLAIN, hashes=[one, two], rootHash=root, checkpoint=text))
+
+say("Each rule of a checkpoint as the first that is broken.")
+for text in AT_FAULT:
+    from_rekor(dict(PLAIN, checkpoint=text))
 
 say("entry TEXT: what LogEntry::from_json_text reads. An entry of the staging log.")
 entry(json.dumps(ENTRY))

@@ -7,9 +7,10 @@ import hashlib
 import fixture
 import questions_cases
 import request_cases
+import results
 import verify_links as links
 from fixture import base64_of, compact, key, spelled
-from verify_cases import ABSENT, CHECKPOINT, ENTRY, MATERIAL, UNKNOWN_CURVE, built, bundle, policy_words, request, root, text_word
+from verify_cases import ABSENT, CHECKPOINT, ENTRY, MATERIAL, UNKNOWN_CURVE, built, bundle, held, policy_words, request, root, text_word
 
 MOST = 2 ** 24
 UNKNOWN_CURVE_OF_LOG = UNKNOWN_CURVE[:-64] + b"\x04" * 64
@@ -147,6 +148,10 @@ def questions():
         question("an index of 2^53", "CPMM", bundle(ENTRY + ".logIndex", str(2 ** 53))),
         question("a checkpoint without a size", "CPMM", bundle(CHECKPOINT, lambda text: text.replace("\n5\n", "\nx\n"))),
         question("a checkpoint with two signatures", "CPMMMM", bundle(CHECKPOINT, lambda text: text + "\n\u2014 other %s\n" % base64_of(b"\x00\x00\x00\x04sig"))),
+        question("a leaf without an SCT", "CMMM", held(list=b"")),
+        question("a leaf with two SCTs", "CMMM", held(list=fixture.extension(fixture.SCT_LIST, fixture.sct_list(fixture.sct(), fixture.sct())))),
+        question("a malformed SCT", "CMMM", held(list=fixture.extension(fixture.SCT_LIST, fixture.sct_list(fixture.sct()[:-1])))),
+        question("of a hundred trust anchors of one name", "C" * 100 + "P" * 100 + "MMM", anchors(*[fixture.certificate(fixture.anchor(key=key(place % 250 + 1))) for place in range(100, 199)], own)),
         question("an entry of another log", "CPM", bundle(ENTRY + ".logId.keyId", base64_of(b"\x45" * 32)))]
 
 
@@ -197,6 +202,45 @@ def roots():
         at("no key of a Certificate Transparency log", "ctfe_keys", 1800000000, "TufMetadataError(Ctfe)"),
         at("its key of a Certificate Transparency log", "ctfe_keys", 1800000000, "ok 1 4444 6e6577", BOTH),
         ("a trusted root: a list", "rekor_keys 0 []", "SerdeJsonError")]
+
+
+# The rows of `verify_offline` whose error comes from one of its parts, as calls of that part: the links from `material` to `time` are those of
+# `verify_digest_with` under the keys that the trusted root has, and the links after them those of `verify_log_entry`.
+
+ARTIFACT_LINKS = links.NAMES[links.NAMES.index("material"):links.NAMES.index("log-key")]
+LOG_LINKS = links.NAMES[links.NAMES.index("log-key"):]
+
+
+def of_part(name, members, link, error):
+    """The call of the part that a row's link belongs to; None where the call's words cannot say the row's trusted root."""
+    tree = links.record("Root", members["trustedRoot"], links.TRUSTED_ROOT)
+    now = int(members["now"])
+    anchors = links.picked_certificates(tree, now)
+    log_keys, ct_keys = [[(bytes.fromhex(identifier), der) for identifier, der in sorted(links.picked_keys(tree[part], now).items())]
+                         for part in ("tlogs", "ctlogs")]
+    bundle_text = text_word(members["bundle"])
+    rows = list(map(request_cases.words_of, members.get("accepted") or []))
+    if link in LOG_LINKS:
+        return "the log entry of: " + name, " ".join(["verify_log_entry", keys_words(log_keys), bundle_text, *rows]), "%s %s" % (link, error)
+    if len(anchors) != 1:
+        return None
+    handed = " ".join([spelled(anchors[0]), keys_words(log_keys), keys_words(ct_keys)])
+    words = ["verify_digest_with", str(now), members["digest"], *policy_words(members["policy"]), handed, bundle_text, *rows]
+    return "the bundle of: " + name, " ".join(words), error
+
+
+def of_parts(rows):
+    """For each kind of error of these parts the call of the first row that shows it."""
+    shown, calls = set(), []
+    for row in rows:
+        link, error = row.expected[0].removeprefix("refused "), row.expected[1]
+        kind = results.normalized(error)
+        if link in ARTIFACT_LINKS + LOG_LINKS and kind not in shown:
+            found = of_part(row.name, links.documents.tree(row.text.encode()), link, error)
+            if found:
+                shown.add(kind)
+                calls.append(found)
+    return calls
 
 
 # The texts of errors: of each type its variants, by their Debug text; Display is the name of the variant.

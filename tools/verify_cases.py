@@ -27,6 +27,7 @@ sys.dont_write_bytecode = True
 
 import fixture
 import request_cases
+import results
 import verify_links
 from case_table import Table
 from fixture import BIT_STRING, OBJECT_IDENTIFIER, SEQUENCE, compact, der, leaf, leaf_extensions, oid
@@ -280,18 +281,39 @@ NO_CALLS = ("index: the entry's own", "range of a log's key: null", "range of a 
             "body: another part: the version", "body: another part: the envelope's alg", "body: another part: the payload's alg",
             "body: another part: no", "issuer: a trust anchor without", "issuer: a trust anchor of version", "issuer: itself twice",
             "certificate log keys: others", "certificate log keys: no key beside", "certificate log keys: an RSA", "certificate log keys: under",
-            "bundle: null for a content", "bundle: a doubled", "trusted root: the 29th", "entries: ", "request: entries")
-CALLED = ("policy: any of one", "policy: all seven", "policy: the errors", "body: another part: no certificate", "subject: asked")
+            "bundle: null for a content", "bundle: a doubled", "trusted root: the 29th", "entries: ", "request: entries", "hundreds: entries")
+CALLED = ("policy: any of", "policy: an issuer with quotation marks", "policy: all seven", "policy: the errors", "body: another part: no certificate", "subject: asked")
 
 
 def is_call(row):
     return row.expected[0] != "refused request" and (row.name.startswith(CALLED) or not row.name.startswith(NO_CALLS))
 
 
-def write_calls():
+def new_kinds(rows, shown):
+    """The rows whose error is of a kind that no row before shows, and that is not among those shown."""
+    shown = set(shown)
+    for each in rows:
+        kind = results.normalized(each.expected[1])
+        if kind not in shown:
+            shown.add(kind)
+            yield each
+
+
+def called_rows(rows, further):
+    """The rows that are calls: those of the table, and of the others what shows a kind of error that the table does not."""
+    calls = [each for each in rows if is_call(each)]
+    return calls + list(new_kinds([each for each in further if each.expected[0] != "refused request"], kinds_in(calls)))
+
+
+def kinds_in(rows):
+    return [results.normalized(each.expected[1]) for each in rows]
+
+
+def write_calls(rows, further):
     import verify_calls
     table = Table("verify_cases")
-    calls = [(row.name, call(row.text), returned(*row.expected)) for row in ROWS if is_call(row)] + verify_calls.calls()
+    called = called_rows(rows, further)
+    calls = [(row.name, call(row.text), returned(*row.expected)) for row in called] + verify_calls.calls() + verify_calls.of_parts(called)
     for name, asked, wanted in calls:
         table.note(name)
         table.case(asked, wanted)
@@ -334,15 +356,17 @@ def main(words):
         write_examples(words[1])
         return
     import verify_rows
-    longer = len(words) == 2 and words[0] != "check"
-    for group in verify_rows.GROUPS + (verify_rows.MORE if longer else []):
+    for group in verify_rows.GROUPS:
         group()
-    if longer:
-        write_table(*words)
-    elif words:
+    rows = list(ROWS)
+    for group in verify_rows.MORE:
+        group()
+    if words[:1] == ["check"]:
         check(words[1])
+    elif words:
+        write_table(*words)
     else:
-        write_calls()
+        write_calls(rows, ROWS[len(rows):])
     count()
 
 

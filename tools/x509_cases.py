@@ -327,10 +327,12 @@ def real_certificates():
             ("verify_key_usages", INTERMEDIATE, "CertificateWithoutDigitalSignatureKeyUsage")]:
         case(call, "%s %s" % (call, spelled(content)), expected)
     too_late = "CertificateIssuedAfterSignaturesSubmittedToRekor { integrated_time: 1702447256, not_after: 1702447255 }"
+    too_early = "CertificateExpiredBeforeSignaturesSubmittedToRekor { integrated_time: 1702446654, not_before: 1702446655 }"
     for call, expected in [
             ("is_trusted 1702446655 1702446655", "ok"), ("is_trusted 1702447255 1702500000", "ok"),
             ("is_trusted 1702447256 1702500000", too_late), ("verify_expiration 1702447255", "ok"),
-            ("verify_expiration 1702447256", too_late), ("verify_validity 1702446655", "ok"),
+            ("verify_expiration 1702447256", too_late), ("verify_expiration 1702446655", "ok"), ("verify_expiration 1702446654", too_early),
+            ("verify_validity 1702446655", "ok"),
             ("verify_validity 1702446654", "CertificateValidityError(1702446655)")]:
         case(call, "%s %s" % (call, spelled(LEAF)), expected)
 
