@@ -108,17 +108,24 @@ def flipped(signature):
 
 
 class Signed:
-    """A trusted root, a bundle and an artifact. `leaf` and `log` are kinds of keys, and `authority` is one with a hash.
+    """A trusted root, a bundle and an artifact. `leaf` and `log` are kinds of keys, or a leaf is
+    a signer of its own; `authority` is a kind with a hash.
     The content is an envelope or a message. With a chain an authority below the root issued the certificate; with a
     rival the trusted root has another authority of its name before it. Of the `spoiled` signature, a title of `LINKS`,
-    the last bit is flipped, or a stranger's key of the same kind made it."""
+    the last bit is flipped, or a stranger's key of the same kind made it. Parts of other forms: the `stamps` are so
+    many SCTs, `issued` the extension with the issuer, `workflow` the texts of further ones, and `anchor` has other parts of
+    trust anchors; `payload` makes the statement of a digest, and `body` the log entry's body from payload, signature
+    and certificate."""
 
     def __init__(self, leaf="P-256", authority=("P-256", "SHA256"), log="P-256", content="envelope", profile="0.3",
-                 chain=False, rival=False, spoiled=None, by="flip", artifact=b"an artifact\n"):
+                 chain=False, rival=False, spoiled=None, by="flip", artifact=b"an artifact\n", stamps=1, issued=None,
+                 anchor={}, payload=fixture.statement, body=fixture.body_of, workflow=WORKFLOW):
         self.content, self.profile, self.chain, self.rival = content, profile, chain, rival
-        self.spoiled, self.by, self.artifact = spoiled, by, artifact
+        self.spoiled, self.by, self.artifact, self.stamps, self.issued = spoiled, by, artifact, stamps, issued
+        self.other_anchor, self.payload_of, self.body_of, self.workflow = anchor, payload, body, workflow
         self.rows, self.digest = {}, sha256(artifact)
-        self.leaf, self.log, self.ct = signer(leaf, "leaf"), signer(log, "log"), signer("P-256", "ct")
+        self.leaf = leaf if isinstance(leaf, Signer) else signer(leaf, "leaf")
+        self.log, self.ct = signer(log, "log"), signer("P-256", "ct")
         self.issue(*authority)
         self.sign_content()
         self.enter(index=2, size=5)
@@ -140,8 +147,8 @@ class Signed:
         parts = fixture.anchor(serial=b"\x02\x01" + bytes([number]), subject=fixture.name(title), key=key.spki,
                                issuer=fixture.name(issuer_title), inner=algorithm(issuer.kind, named),
                                algorithm=algorithm(issuer.kind, named))
-        parts["signature"] = der(BIT_STRING, b"\x00", issuer.sign(fixture.tbs(parts), HASHES[named]))
-        return fixture.certificate(parts)
+        sealed = der(BIT_STRING, b"\x00", issuer.sign(fixture.tbs({**parts, **self.other_anchor}), HASHES[named]))
+        return fixture.certificate({**parts, "signature": sealed, **self.other_anchor})
 
     def issue(self, kind, named):
         title = "authority" if self.chain else "root"
@@ -153,13 +160,14 @@ class Signed:
         made_with = algorithm(kind, named)
 
         def leaf(scts):
-            others = [fixture.extension(fixture.FULCIO[each], text.encode()) for each, text in WORKFLOW.items()]
+            others = [fixture.extension(fixture.FULCIO[each], text.encode()) for each, text in self.workflow.items()]
+            changed = {} if self.issued is None else {"issued": self.issued}
             listed = fixture.extension(fixture.SCT_LIST, scts) if scts else b""
-            return fixture.leaf(fixture.leaf_extensions(b"", list=listed, others=b"".join(others)),
+            return fixture.leaf(fixture.leaf_extensions(b"", list=listed, others=b"".join(others), **changed),
                                 issuer=fixture.name(title), key=self.leaf.spki, inner=made_with, algorithm=made_with)
         logged = fixture.signed_by_log(self.authority.spki, fixture.tbs(leaf(b"")))
         stamp = self.signature("sct", self.ct, logged, ("point", None, self.ct.spki[-65:]))
-        parts = leaf(fixture.sct_list(fixture.sct(log=sha256(self.ct.spki), signature=stamp)))
+        parts = leaf(fixture.sct_list(*[fixture.sct(log=sha256(self.ct.spki), signature=stamp)] * self.stamps))
         row = "certificate", base64_of(made_with), self.authority.spki
         sealed = self.signature("certificate", self.authority, fixture.tbs(parts), row, HASHES[named])
         self.certificate = fixture.certificate({**parts, "signature": der(BIT_STRING, b"\x00", sealed)})
@@ -168,10 +176,10 @@ class Signed:
 
     def sign_content(self):
         if self.content == "envelope":
-            self.payload = fixture.statement(self.digest.hex())
+            self.payload = self.payload_of(self.digest.hex())
             row = "message", self.leaf.scheme, self.leaf.spki
             self.made = self.signature("content", self.leaf, fixture.pae(self.payload), row)
-            self.body = fixture.body_of(self.payload, self.made, self.certificate)
+            self.body = self.body_of(self.payload, self.made, self.certificate)
         else:
             row = "prehash", self.leaf.scheme, self.leaf.spki
             self.made = self.signature("content", self.leaf, self.digest, row, digest=True)

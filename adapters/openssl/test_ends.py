@@ -1,0 +1,220 @@
+"""Every end of sigverify-bundle without a reply has status 3, whatever the streams, the environment and the files are;
+and no environment or file makes a reply."""
+import os
+import shutil
+import subprocess
+import sys
+import tempfile
+
+import signed
+from signed import Signed
+from test_common import ADAPTER, HERE, VERIFIED, compare_end, file_of, program_that, run, words_of
+
+PYTHON = "/usr/bin/python3"
+# By which OpenSSL has no algorithm.
+OPENSSL_SETTINGS = b"openssl_conf = all\n[all]\nproviders = named\n[named]\nbase = on\n[on]\nactivate = 1\n"
+FORGED = "import os\nos.write(1, b'verified 2 5\\n')\nos._exit(0)\n"
+
+
+# What is no reply.
+
+NO_REPLIES = [
+    "kill -9 $$", "true", "cat", "echo 1", "echo null", "echo '{}'", "echo '['", "echo '[1]'", "echo '[{}]'",
+    "yes '[' | head -n 100000 | tr -d '\\n'; echo", "echo 'verified 2 5'", "echo 'verified 2 5'; exit 1",
+    "echo 'refused policy'", "echo 'refused policy'; exit 2", "printf 'refused policy'; exit 1", "echo usage; exit 1",
+    "echo '[]'; exit 1"]
+NO_SECOND_REPLIES = [
+    "exit 71", "exit 0", "exit 1", "exit 2", "echo '[]'", "echo 'refused policy'", "echo 'verified 2 5'; exit 1",
+    "printf 'verified 2 5'", "echo 'verified 2'", "echo 'verified 2 5 '", "echo 'logged 2 5'",
+    "echo; echo 'verified 2 5'", "echo 'verified 2 5'; echo 'entry 2'"]
+
+
+def check_programs(results, program):
+    with tempfile.TemporaryDirectory() as folder:
+        signed.write(folder, Signed())
+
+        def ends(title, does):
+            compare_end(results, title, words_of(folder, program_that(folder, does)), "no reply")
+        for status in 1, 2, 3, 64, 70, 71, 74, 126, 127, 255:
+            ends(f"status {status}", f"exit {status}")
+        for does in NO_REPLIES:
+            ends(f"a program that does: {does}", does)
+        for does in NO_SECOND_REPLIES:
+            ends(f"a second run that does: {does}", f'[ "$1" = verify ] || {{ echo "[]"; exit; }}; {does}')
+        for name, content in ("text", b"no program"), ("loop", b"#!" + os.fsencode(folder) + b"/absent\n"):
+            path = file_of(folder, name, content)
+            compare_end(results, f"no program, {name}", words_of(folder, path), "no reply")
+            os.chmod(path, 0o755)
+            compare_end(results, f"no program, but executable: {name}", words_of(folder, path), "no reply")
+        compare_end(results, "a folder in place of a program", words_of(folder, folder), "no reply")
+
+
+def check_files(results, program):
+    with tempfile.TemporaryDirectory() as folder:
+        signed.write(folder, Signed())
+        for name in "artifact", "bundle", "trusted_root", "sigverify":
+            absent = os.path.join(folder, "absent")
+            compare_end(results, f"no {name}", words_of(folder, program, **{name: absent}), "absent: No such file")
+            lines = os.path.join(folder, "two\nlines\x1b[31m")
+            words = words_of(folder, program, **{name: lines})
+            compare_end(results, f"no {name} of two lines", words, "two\\nlines\\x1b[31m")
+            if name != "sigverify":
+                compare_end(results, f"{name}, a folder", words_of(folder, program, **{name: folder}), "Is a directory")
+        for name in "bundle", "trusted_root":
+            latin = file_of(folder, "latin.json", b"\xff")
+            compare_end(results, f"no text, {name}", words_of(folder, program, **{name: latin}), "is not UTF-8")
+            half = file_of(folder, "half.json", b'"\xc3')
+            compare_end(results, f"half a letter, {name}", words_of(folder, program, **{name: half}), "is not UTF-8")
+        pipe, link = os.path.join(folder, "pipe"), os.path.join(folder, "link")
+        os.mkfifo(pipe)
+        for path in pipe, "/dev/null", "/dev/zero", "/dev/stdin":
+            words = words_of(folder, program, artifact=path)
+            compare_end(results, f"the artifact {path}", words, "not a regular file", stdin=subprocess.PIPE)
+        os.symlink("artifact", link)
+        gave = run(words_of(folder, program, artifact=link))
+        results.compare("a link to an artifact", gave, (0, VERIFIED + "\n", ""))
+        for name in "bundle", "trusted_root":
+            with open(os.path.join(folder, f"{name}.json"), "rb") as file:
+                gave = run(words_of(folder, program, **{name: "/dev/stdin"}), input=file.read())
+            results.compare(f"{name} from a pipe", gave, (0, VERIFIED + "\n", ""))
+
+
+# Streams that are closed, or cannot be written.
+
+def check_streams(results, program):
+    def ended(title, words, redirected, wanted):
+        shell = ["/bin/sh", "-c", f'exec "$@" {redirected}', "sh"]
+        status, reply, said = run(words, shell)
+        results.compare(f"{title}, {redirected}", (status, reply, said), wanted)
+
+    with tempfile.TemporaryDirectory() as folder:
+        signed.write(folder, Signed())
+        given, output = words_of(folder, program), "sigverify-bundle: standard output cannot be written: "
+        closed, full = output + "Bad file descriptor\n", output + "No space left on device\n"
+        absent, printed = words_of(folder, program, bundle="/absent"), given + ["--print-request"]
+        for redirected in "2>/dev/full", "2>&-", "<&- >&- 2>&-":
+            ended("a fault", absent, redirected, (3, "", ""))
+            ended("no words", [], redirected, (3, "", ""))
+        for words in given, printed, ["--help"]:
+            ended("the output is closed", words, ">&-", (3, "", closed))
+            ended("input and output are closed", words, "<&- >&-", (3, "", closed))
+            ended("the output is full", words, ">/dev/full", (3, "", full))
+            ended("everything is closed", words, "<&- >&- 2>&-", (3, "", ""))
+        for redirected in "2>&-", "2>/dev/full", "<&-", "<&- 2>&-":
+            ended("the reply is written", given, redirected, (0, VERIFIED + "\n", ""))
+        for redirected in "2>&-", "2>/dev/full":
+            status, request, _ = run(printed, ["/bin/sh", "-c", f'exec "$@" {redirected}', "sh"])
+            results.compare("no reply beside the request", (status, request.startswith("{")), (3, True))
+        reading, writing = os.pipe()
+        os.close(reading)
+        done = subprocess.run([ADAPTER, *given], stdout=writing, stderr=subprocess.PIPE)
+        os.close(writing)
+        results.compare("nobody reads", (done.returncode, done.stderr), (3, f"{output}Broken pipe\n".encode()))
+
+
+# What is raised while modules are read.
+
+RAISED = {
+    "raise MemoryError": "out of memory", "raise RuntimeError('x')": "RuntimeError: x", "x": "NameError: ",
+    "raise ImportError('x')": "ImportError: x", "import absent": "ModuleNotFoundError: No module named 'absent'",
+    "raise KeyboardInterrupt": "interrupted", "raise BaseException('x\\ny')": "BaseException: x\\ny",
+    "(": "SyntaxError: ",
+    "import sys; sys.exit(0)": "0", "import sys; sys.exit()": "None", "raise SystemExit(1)": "1",
+    "raise OSError(28, 'x')": "OSError: [Errno 28] x", "raise OSError('\\ud800')": "OSError: \\ud800",
+    "def f(): f()\nf()": "RecursionError: "}
+SPEECHLESS = "class E(Exception):\n    def __str__(self): raise self\nraise E"
+
+
+def check_imports(results, program):
+    with tempfile.TemporaryDirectory() as folder:
+        signed.write(folder, Signed())
+        there = os.path.join(folder, "sigverify-bundle")
+        for name in "genuine", "bundle":
+            for each in "sigverify-bundle", "bundle.py", "genuine.py":
+                shutil.copy(os.path.join(HERE, each), folder)
+            for does, said in {**RAISED, SPEECHLESS: ""}.items():
+                file_of(folder, f"{name}.py", does.encode())
+                done = subprocess.run([there, *words_of(folder, program)], capture_output=True)
+                wanted = f"sigverify-bundle: {said}".encode() if said else b""
+                lines = done.stderr.count(b"\n"), done.stderr.startswith(wanted)
+                gave = done.returncode, done.stdout, *lines
+                results.compare(f"{name}.py does: {does} ({done.stderr})", gave, (3, b"", 1 if said else 0, True))
+        with open(os.path.join(HERE, "genuine.py"), encoding="utf-8") as file:
+            older = file.read().replace("import InvalidSignature,", "import Absent, InvalidSignature,")
+        shutil.copy(os.path.join(HERE, "bundle.py"), folder)
+        file_of(folder, "genuine.py", older.encode())
+        done = subprocess.run([there, *words_of(folder, program)], capture_output=True)
+        said = b"from version 38 on, which cannot be loaded: cannot import name 'Absent'" in done.stderr
+        results.compare("another version of the package", (done.returncode, done.stdout, said), (3, b"", True))
+        words = words_of(folder, program)
+        for flags in ["-S"], ["-S", "-E"], ["-I", "-S"]:
+            compare_end(results, "no package", words, "apt-get install python3-cryptography", start=[PYTHON, *flags])
+
+
+def check_memory(results, program):
+    """Under each limit there is a reply, or status 3, or Python itself could not start, and nothing is written."""
+    with tempfile.TemporaryDirectory() as folder:
+        signed.write(folder, Signed())
+        given, ends = words_of(folder, program), set()
+        for kilobytes in range(10000, 40000, 2000):
+            shell = ["/bin/sh", "-c", f'ulimit -v {kilobytes}; exec "$@"', "sh"]
+            status, reply, said = run(given, shell)
+            started = "sigverify-bundle: " in said
+            fits = (status == 3 if started else status not in (0, 2)) if reply == "" else reply == VERIFIED + "\n"
+            results.compare(f"{kilobytes} kilobytes ({said})", (status, reply, fits), (status, reply, True))
+            ends.add(said)
+        results.compare("out of memory", "sigverify-bundle: out of memory\n" in ends, True)
+
+
+# What an environment or a folder would make of it. The request is refused, and stays so.
+
+def planted(folder):
+    """A folder with modules that write a reply, under the names of those that are imported."""
+    for package in "cryptography", "encodings", "importlib":
+        os.mkdir(os.path.join(folder, package))
+        file_of(folder, os.path.join(package, "__init__.py"), FORGED.encode())
+    for name in "sitecustomize", "usercustomize", "genuine", "bundle", "json", "re", "os", "subprocess", "hashlib":
+        file_of(folder, f"{name}.py", FORGED.encode())
+    file_of(folder, "bash_env", b"echo verified 2 5; exit 0\n")
+    file_of(folder, "openssl.cnf", OPENSSL_SETTINGS)
+
+
+def variables_of(place):
+    """Variables that Python, OpenSSL or a shell would take for code, for a place of code, or for other settings."""
+    shell = os.path.join(place, "bash_env")
+    return {
+        "PYTHONPATH": place, "PYTHONHOME": place, "PYTHONSTARTUP": os.path.join(place, "json.py"), "PYTHONINSPECT": "1",
+        "PYTHONUSERBASE": place, "PYTHONSAFEPATH": "", "PYTHONPLATLIBDIR": place, "PYTHONBREAKPOINT": "json.x",
+        "PYTHONWARNINGS": "error", "PYTHONDEVMODE": "1", "PYTHONOPTIMIZE": "2", "PYTHONPYCACHEPREFIX": place,
+        "OPENSSL_CONF": os.path.join(place, "openssl.cnf"), "OPENSSL_MODULES": place, "OPENSSL_ENGINES": place,
+        "BASH_ENV": shell, "ENV": shell, "SHELLOPTS": "xtrace:noexec", "PS4": "$(echo verified 2 5 >&2)",
+        "BASH_FUNC_find%%": "() { echo verified 2 5; }", "BASH_FUNC_exec%%": "() { echo verified 2 5; exit 0; }",
+        "GLOBIGNORE": "*", "IFS": "/", "CDPATH": place, "POSIXLY_CORRECT": "1", "LC_ALL": "C", "LANG": "x",
+        "HOME": place, "TMPDIR": place}
+
+
+def check_environment(results, program):
+    with tempfile.TemporaryDirectory() as folder, tempfile.TemporaryDirectory() as place:
+        signed.write(folder, Signed())
+        planted(place)
+        other, variables = file_of(place, "other", b"another artifact\n"), variables_of(place)
+        link = os.path.join(place, "sigverify-bundle")
+        os.symlink(ADAPTER, link)
+        for artifact, wanted in (other, (1, "refused subject\n", "")), (folder + "/artifact", (0, VERIFIED + "\n", "")):
+            words = words_of(folder, program, artifact=artifact)
+
+            def compare(title, adapter, start=(), **changed):
+                environment = {**os.environ, **changed}
+                done = subprocess.run([*start, adapter, *words], capture_output=True, cwd=place, env=environment)
+                gave = done.returncode, done.stdout.decode(), done.stderr.decode()
+                results.compare(f"in a planted folder, {title}", gave, wanted)
+            for name, value in variables.items():
+                compare(name, ADAPTER, **{name: value})
+            compare("with all variables", ADAPTER, **variables)
+            compare("by a link", link, **variables)
+            compare("by -I", ADAPTER, [PYTHON, "-I"], **variables)
+            compare("by Python's name", ADAPTER, [PYTHON])
+            compare("by Python's name and a link", link, [PYTHON])
+
+
+PARTS = check_programs, check_files, check_streams, check_imports, check_memory, check_environment
