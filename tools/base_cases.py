@@ -403,6 +403,19 @@ def trees():
         case(f"root_of {size} {listed(entries)}", "ok " + tree_hash(entries).hex())
         for index in range(size):
             paths(index, entries, audit_path(index, entries))
+    note("trees of equal entries, and of which one is another")
+    for entry, other in ((b"", b"\0"), (b"a", b"b"), (b"ab", b"a")):
+        for size in range(2, 10):
+            for place in range(-1, size):
+                entries = [other if number == place else entry for number in range(size)]
+                case(f"root_of {size} {listed(entries)}", "ok " + tree_hash(entries).hex())
+    entries = [b"a"] * 170 + [b"b"] * 130
+    case(f"root_of 300 {listed(entries)}", "ok " + tree_hash(entries).hex())
+    note("twins INDEX COUNT: whether the path of one of so many entries shows another entry there: that path for this entry, and for no bytes, and "
+         "beside the entries, and beside them with this one changed: n if it does not, x if it is not accepted")
+    for size, indices in [(size, range(size)) for size in (*range(1, 18), 33)] + [(300, (0, 171, 299))]:
+        for index in indices:
+            case(f"twins {index} {size}", "ok n x n x")
 
 
 # ---- sig_key

@@ -153,6 +153,23 @@ def sweep(old, new):
     return f"sweep {old} {new}", f"ok {hashlib.sha256(b''.join(path)).hexdigest()} {letters}"
 
 
+def numbered(count, changed=None):
+    return [b"other" if number == changed else f"entry {number}".encode() for number in range(count)]
+
+
+def fronts(old, new):
+    """No collision of SHA-256 is known, so a proof that is accepted for a list has the root of its first entries."""
+    entries = numbered(new)
+    roots = tree_hash(entries[:old]), tree_hash(entries)
+    path = subproof(old, entries, True) if old else []
+    letters = ""
+    for other in (entries, numbered(new, 0), numbered(new, max(new - 1, 0)), numbered(new + 1), numbered(max(new - 1, 0))):
+        accepted = verdict(old, len(other), path, roots[0], tree_hash(other)) == "ok"
+        assert not accepted or tree_hash(other[:old]) == roots[0]
+        letters += "n" if accepted else "x"
+    return f"fronts {old} {new}", f"ok {hashlib.sha256(b''.join(roots)).hexdigest()} {letters}"
+
+
 def notes_and_rows():
     yield "verify_consistency OLD NEW PATH OLDROOT NEWROOT, proof_of OLD ENTRIES: the example of RFC 6962 section 2.1.3", example()
     one, other = leaf_hash(b""), bytes([7] * 32)
@@ -165,6 +182,10 @@ def notes_and_rows():
     yield "the longest proofs", (check(*row) for row in longest())
     yield "sweep OLD NEW: the hash of the proof's hashes, and what is returned of it and of each such change, a letter each", (
         sweep(old, new) for new in range(1, 34) for old in range(1, new + 1))
+    yield ("fronts OLD NEW: the digest of the roots of the first entries and of all, and whether the proof between them shows another front of the "
+           "entries, of those with the first and with the last changed, of one more and of one fewer: n if it does not, x if it is not accepted"), (
+        fronts(old, new) for new in range(34) for old in range(new + 1))
+    yield "fronts of 300 entries", (fronts(old, 300) for old in (0, 1, 171, 256, 299, 300))
 
 
 def small():

@@ -100,7 +100,13 @@ fn numbered(arguments: &mut Arguments<'_>, answer: &mut Answer) -> Entries {
     entries
 }
 
-fn push_numbered(alloc: Global, answer: &mut Answer, entries: &mut Entries, number: u64) {
+/// Adds `entry NUMBER`.
+pub(crate) fn push_numbered(
+    alloc: Global,
+    answer: &mut Answer,
+    entries: &mut Entries,
+    number: u64,
+) {
     match format!(in alloc; "entry {number}") {
         Ok(entry) => {
             if entries.push(entry.as_str().as_bytes()).is_err() {

@@ -8,6 +8,7 @@
 #![tactic(auto)]
 
 mod base;
+mod collisions;
 mod consistency;
 mod errors;
 mod keys;
@@ -63,6 +64,8 @@ fn of_trees(call: &str, arguments: &mut Arguments<'_>, answer: &mut Answer) {
         "both_growths" => walks::both_growths(arguments, answer),
         "verify_consistency" => consistency::check(arguments, answer),
         "sweep" => consistency::sweep(arguments, answer),
+        "fronts" => collisions::fronts(arguments, answer),
+        "twins" => collisions::twins(arguments, answer),
         _ => of_keys(call, arguments, answer),
     }
 }
