@@ -22,6 +22,8 @@ pub mod EntryMeetings
 pub mod PathMeetings
 pub mod GrowthMeetings
 pub mod FrontSteps
+pub mod Exhibits
+pub mod OlderTrees
 pub mod GrowthBits
 pub mod GrowthFolds
 pub mod GrowthStarts

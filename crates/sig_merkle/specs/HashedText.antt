@@ -1,5 +1,6 @@
 -- What a tree hashes, other than the empty list (RFC 6962 section 2.1).
-use Rattle.std.specs.Prelude.{◌≡◌, ◌⊎◌, ℕ, List, ◌∷◌, ◌++◌, length}
+use Rattle.std.specs.Prelude.{◌≡◌, ◌⊎◌, ℕ, List, [], ◌∷◌, ◌++◌, length}
+use Rattle.sig_base.specs.Collision.{IsCollision}
 
 -- what the hash of a leaf is taken of: 0x00 and the entry
 abbrev pub IsLeafText : List ℕ → Type 0
@@ -13,3 +14,15 @@ IsNodeText text =
 -- both are hashed for a leaf, or both for a node
 abbrev pub AreHashedTexts : List ℕ → List ℕ → Type 0
 AreHashedTexts one other = (IsLeafText one × IsLeafText other) ⊎ (IsNodeText one × IsNodeText other)
+
+-- SHA-256 is broken: two different texts that a tree hashes have the same hash
+pub record IsBroken : Type 0 where
+  pub one : List ℕ
+  pub other : List ℕ
+  pub collide : IsCollision one other
+  pub texts : AreHashedTexts one other
+
+-- each is of 32 bytes, as the hashes of SHA-256 are
+unfoldable pub AreHashes : List (List ℕ) → Type 0
+AreHashes [] = Unit {0}
+AreHashes (hash ∷ rest) = (length hash ≡ 32) × AreHashes rest

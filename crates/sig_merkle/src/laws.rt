@@ -1,6 +1,6 @@
 //! What the definitions of this crate mean, in the words of RFC 6962. No function here does
 //! anything: each states laws, and its proof is that they hold.
-ghost use Rattle.std.specs.Prelude.{◌≡◌, ◌≢◌, ℕ, ◌+◌, ◌-◌, ◌*◌, ◌^◌, ◌<◌, ◌≤◌, ◌↔◌, List, [], ◌∷◌, ◌++◌, length, take};
+ghost use Rattle.std.specs.Prelude.{◌≡◌, ◌≢◌, ◌⊎◌, ℕ, ◌+◌, ◌-◌, ◌*◌, ◌^◌, ◌<◌, ◌≤◌, ◌↔◌, List, [], ◌∷◌, ◌++◌, length, take};
 ghost use Rattle.std.specs.Prelude.{Bool, true, false, drop, Some, IsSome, IsNone, option_map, slice_get, Result, Ok};
 ghost use Rattle.std.specs.Int.{bit_at};
 ghost use Rattle.sig_base.specs.Sha256.{sha256};
@@ -16,6 +16,8 @@ ghost use Rattle.sig_merkle.specs.GrowthWalk.{shift_of, kept_by_bit, right_fold,
 ghost use Rattle.sig_merkle.specs.GrowthWalk.{walk_roots};
 ghost use Rattle.sig_merkle.specs.ConsistencyProof.{subproof, consistency_proof};
 ghost use Rattle.sig_merkle.specs.ConsistencyAnswer.{consistency_answer, IsConsistencyAnswer};
+ghost use Rattle.sig_merkle.specs.ConsistencyAnswer.{IsConsistent};
+ghost use Rattle.sig_merkle.specs.HashedText.{AreHashes, IsBroken};
 
 /// A tree of more than one leaf is cut at one index (RFC 6962 section 2.1).
 pub fn splits()
@@ -187,4 +189,27 @@ pub fn consistency_proofs()
     ensures same { (size : ℕ) (given : List ℕ) → consistency_answer size size [] given given ≡ Ok tt }
     ensures from_empty { (size : ℕ) (new : List ℕ) → 0 < size
         → consistency_answer 0 size [] (root []) new ≡ Ok tt }
+{}
+
+/// What an accepted consistency proof says of the list whose size and root it is accepted for: the old root is that of
+/// the list's first entries, unless two different texts that a tree hashes have one SHA-256. So two such proofs, from
+/// two old sizes, are of trees of which one has the other as its first leaves. Of trees of one size, and from the empty
+/// tree, a proof has no hash and only roots are compared: two empty trees are consistent under any equal roots.
+pub fn older_trees()
+    ensures front { (old_size : ℕ) (old : List ℕ) (hashes entries : List (List ℕ)) → AreHashes (old ∷ hashes)
+        → IsConsistent old_size (length entries) hashes old (root entries)
+        → (old ≡ root (take old_size entries)) ⊎ IsBroken }
+    ensures fronts { (older newer : ℕ) (older_root newer_root : List ℕ)
+        (older_hashes newer_hashes entries : List (List ℕ)) → older ≤ newer
+        → AreHashes (older_root ∷ older_hashes) → AreHashes (newer_root ∷ newer_hashes)
+        → IsConsistent older (length entries) older_hashes older_root (root entries)
+        → IsConsistent newer (length entries) newer_hashes newer_root (root entries)
+        → ((front : List (List ℕ)) × (length front ≡ newer) × (newer_root ≡ root front)
+        × (older_root ≡ root (take older front))) ⊎ IsBroken }
+    ensures sizes { (old_size new_size : ℕ) (hashes : List (List ℕ)) (old new : List ℕ)
+        → IsConsistent old_size new_size hashes old new → old_size ≤ new_size }
+    ensures same { (size : ℕ) (hashes : List (List ℕ)) (old new : List ℕ)
+        → IsConsistent size size hashes old new ↔ ((hashes ≡ []) × (old ≡ new)) }
+    ensures from_empty { (size : ℕ) (hashes : List (List ℕ)) (old new : List ℕ) → 0 < size
+        → IsConsistent 0 size hashes old new ↔ ((hashes ≡ []) × (old ≡ root [])) }
 {}
