@@ -1,0 +1,6 @@
+pub mod Back
+pub mod Checkpoints
+pub mod Depths
+pub mod Logs
+pub mod Sizes
+pub mod Values
