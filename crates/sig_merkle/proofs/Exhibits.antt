@@ -37,7 +37,7 @@ same_or_apart (x ∷ xs) (y ∷ ys) =
     ]
 
 -- what two texts come to
-texts-meet : (one other : List ℕ) → AreHashedTexts one other → (m : Meeting) × TextsMeet one other m
+pub texts-meet : (one other : List ℕ) → AreHashedTexts one other → (m : Meeting) × TextsMeet one other m
 texts-meet one other texts =
     elim (same_or_apart one other) [
       | inl same ↦ (Hashed (sha256 one) (sha256 other), (refl, refl, λ equal. same))
@@ -76,7 +76,7 @@ root-length (entry ∷ next ∷ rest) =
     (length-sha256 (1 ∷ root (take k (entry ∷ next ∷ rest)) ++ root (drop k (entry ∷ next ∷ rest))))
 
 -- the last hash, and those before it
-last_of : (hashes : List (List ℕ)) → 0 < length hashes
+pub last_of : (hashes : List (List ℕ)) → 0 < length hashes
     → (rest : List (List ℕ)) × (last : List ℕ) × (hashes ≡ rest ++ last ∷ [])
 last_of [] some = absurd (omega arith)
 last_of (hash ∷ []) some = ([], hash, refl)
@@ -84,7 +84,7 @@ last_of (hash ∷ next ∷ more) some =
     let (rest, last, is) = last_of (next ∷ more) (omega arith) in
     (hash ∷ rest, last, ap (λ tail. hash ∷ tail) is)
 
-hashes-split : (rest : List (List ℕ)) (last : List ℕ) → AreHashes (rest ++ last ∷ [])
+pub hashes-split : (rest : List (List ℕ)) (last : List ℕ) → AreHashes (rest ++ last ∷ [])
     → AreHashes rest × (length last ≡ 32)
 unfolding AreHashes
 hashes-split [] last (fits, _) = (tt, fits)
@@ -163,7 +163,7 @@ Shows size =
     → 0 < old_size → old_size ≤ size → length hashes ≡ roots_len old_size size known → length old ≡ 32
     → AreHashes hashes → Shown old_size known old hashes entries
 
-halves-at : (size k : ℕ) (entries : List (List ℕ)) → length entries ≡ size → IsSplit size k
+pub halves-at : (size k : ℕ) (entries : List (List ℕ)) → length entries ≡ size → IsSplit size k
     → AreHalves entries (take k entries) (drop k entries)
 halves-at size k entries count s =
     let below = s.below in

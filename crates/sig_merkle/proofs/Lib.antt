@@ -23,6 +23,7 @@ pub mod PathMeetings
 pub mod GrowthMeetings
 pub mod FrontSteps
 pub mod Exhibits
+pub mod SameEntries
 pub mod OlderTrees
 pub mod GrowthBits
 pub mod GrowthFolds

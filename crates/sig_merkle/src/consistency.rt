@@ -15,8 +15,9 @@ use std::sync::ledger::Ledger;
 /// leaves (RFC 6962 section 2.1.2). A step is one hash of two children, and there are at most two
 /// for each hash of the proof.
 ///
-/// Trees of one size need equal roots and no hash. From the empty tree, whose root is the hash of
-/// nothing, every tree grows, whatever its root, and the proof has no hash.
+/// Trees of one size need equal roots and no hash; two empty trees too are consistent under any equal
+/// roots. From the empty tree, whose root is the hash of nothing, every larger tree grows, whatever its
+/// root, and the proof has no hash.
 ///
 /// Errors, in this order:
 /// - `NewTreeSmaller`: the new size is below the old, both kept;

@@ -36,14 +36,15 @@ pub fn consistency_collision(
     if root_of(entries, old_size) == *old_root {
         return Ok(None);
     }
-    match meet_growth(
+    let met = meet_growth(
         alloc,
         old_size,
         true,
         old_root,
         proof_hashes,
         entries.as_slice(),
-    )? {
+    )?;
+    match met {
         Meeting::Collided(found) => Ok(Some(found)),
         Meeting::Hashed { .. } => unreachable!(),
     }

@@ -10,6 +10,7 @@ ghost use Rattle.sig_merkle.specs.Split.{IsSplit};
 ghost use Rattle.sig_merkle.specs.Root.{leaf_of, node_of, root};
 ghost use Rattle.sig_merkle.specs.Path.{path_root, path_len};
 ghost use Rattle.sig_merkle.specs.Walk.{bit_len, inner_len, border_len, node_by_bit, inner_fold, walk_root};
+ghost use Rattle.sig_merkle.specs.Inclusion.{IsIncluded, AreIncluded};
 ghost use Rattle.sig_merkle.specs.Inclusion.{inclusion_root, inclusion_answer, IsRootAnswer, IsInclusionAnswer};
 ghost use Rattle.sig_merkle.specs.Consistency.{roots_of, roots_len};
 ghost use Rattle.sig_merkle.specs.GrowthWalk.{shift_of, kept_by_bit, right_fold, seed_len, growth_inner_len};
@@ -189,6 +190,18 @@ pub fn consistency_proofs()
     ensures same { (size : ℕ) (given : List ℕ) → consistency_answer size size [] given given ≡ Ok tt }
     ensures from_empty { (size : ℕ) (new : List ℕ) → 0 < size
         → consistency_answer 0 size [] (root []) new ≡ Ok tt }
+{}
+
+/// What accepted inclusion proofs say, unless two different texts that a tree hashes have one SHA-256: two entries that
+/// are accepted at one index of a tree are equal, and an entry that is accepted for the size and root of a list is the
+/// list's at the index.
+pub fn same_entries()
+    ensures twins { (index size : ℕ) (left right : List ℕ) (left_hashes right_hashes : List (List ℕ))
+        → AreHashes left_hashes → AreHashes right_hashes
+        → AreIncluded index size left left_hashes right right_hashes → (left ≡ right) ⊎ IsBroken }
+    ensures listed { (index : ℕ) (entry : List ℕ) (hashes entries : List (List ℕ)) → AreHashes hashes
+        → IsIncluded index (leaf_of entry) (length entries) hashes (root entries)
+        → (slice_get entries index ≡ Some entry) ⊎ IsBroken }
 {}
 
 /// What an accepted consistency proof says of the list whose size and root it is accepted for: the old root is that of

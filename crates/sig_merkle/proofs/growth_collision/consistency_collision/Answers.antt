@@ -16,4 +16,4 @@ meet_growth-requires-clause-count c =
 pub unreachable-requires : goal.unreachable-requires
 unreachable-requires c =
     let apart : root (take c.args.old_size c.args.entries.now) ≢ c.args.old_root.now = search rules in
-    same_front _ _ _ _ _ _ c.requires apart (rw (c.as_slice.ensures, c.in-Hashed.is) at c.in_ok-found.ensures)
+    same_front _ _ _ _ _ _ c.requires apart (rw (c.as_slice.ensures, c.in-Hashed.is) at c.in_ok-met.ensures)
