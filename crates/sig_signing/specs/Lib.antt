@@ -1,0 +1,4 @@
+pub mod Artifact
+pub mod Conversion
+pub mod Decoded
+pub mod Signed
