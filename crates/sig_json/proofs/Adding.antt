@@ -1,5 +1,5 @@
 -- A member that is added to those that were read before it.
-use Rattle.std.proofs.Common.{◌≡◌, ℕ, zero, suc, ◌-◌, ◌<◌, true, List, [], ◌∷◌, ◌++◌, length, get_or, Err}
+use Rattle.std.proofs.Common.{◌≡◌, ℕ, zero, suc, ◌-◌, ◌<◌, true, List, [], ◌∷◌, ◌++◌, length, get_or, Ok, Err}
 use Rattle.std.proofs.Common.{refl, inl, inr, sym, ap, subst, ◌∙◌, arith}
 use Rattle.std.proofs.lemmas.Bool.{cases_lt}
 use Rattle.std.proofs.lemmas.Cmp.{nat_list_cmp_total}
@@ -8,7 +8,7 @@ use Rattle.std.specs.Cow.{cow_str_bytes}
 use Rattle.std.specs.Cmp.Lexicographic.{slice_cmp}
 use Rattle.std.specs.List.{insert}
 use Rattle.std.specs.Ordering.{nat_cmp, is_lt}
-use Rattle.std.specs.declared.cmp.Ordering.TheVariants.{Less}
+use Rattle.std.specs.declared.cmp.Ordering.TheVariants.{Less, Equal}
 use Rattle.serde_json.specs.Data.{no_members, put}
 use Rattle.sig_json.proofs.Ordered.{ascend_by_place, ascending_stay, gathered_more, in_order-put, put_between}
 use Rattle.sig_json.proofs.Ordered.{less_from_is_lt}
@@ -43,6 +43,28 @@ behind_last name es count last up all some is below = (
       ]
 
 pub ruleset behind = (behind_none, behind_last)
+
+-- the place of the last, or the one behind it, by a comparison with the last
+pub first_of_none : (name : List ℕ) (es : List Entry) → length es ≡ 0 → IsPlaceOf name es (Err 0)
+first_of_none name es none =
+    (omega arith, ((λ i d from within. absurd (omega arith)), (λ i d from within. absurd (omega arith))))
+
+pub above_last : (name : List ℕ) (es : List Entry) (count : ℕ) (last : Entry) → InOrder es → count ≡ length es
+    → (count ≡ 0 → ⊥) → last ≡ get_or es (count - 1) last
+    → slice_cmp nat_cmp (cow_str_bytes last.0) name ≡ Less → IsPlaceOf name es (Err count)
+above_last name es count last up all some is below =
+    rw all (behind_last name es (length es) last up refl (λ none. some (all ∙ none)) (subst (λ n. last ≡ get_or es (n - 1) last) all is) (sym (ap is_lt below)))
+
+pub same_as_last : (name : List ℕ) (es : List Entry) (count : ℕ) (last : Entry) → count ≡ length es
+    → (count ≡ 0 → ⊥) → last ≡ get_or es (count - 1) last
+    → slice_cmp nat_cmp (cow_str_bytes last.0) name ≡ Equal → IsPlaceOf name es (Ok (count - 1))
+same_as_last name es count last all some is tie = (
+  omega arith,
+  λ d. subst (λ e. slice_cmp nat_cmp (cow_str_bytes e.0) name ≡ Equal)
+      (is ∙ get_or_default es (count - 1) last d (omega arith)) tie,
+)
+
+pub ruleset from_last = (first_of_none, above_last, same_as_last)
 
 -- ---- one member more
 

@@ -31,6 +31,7 @@ pub mod MemberOrder
 pub mod Named
 pub mod Only
 pub mod Skipping
+pub mod Sorting
 pub mod ShortIntegers
 pub mod Keeping
 pub mod KeptReading

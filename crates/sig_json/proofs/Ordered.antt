@@ -29,13 +29,13 @@ use Rattle.sig_json.proofs.Trees.{view-Array, view-Object}
 use Rattle.sig_json.specs.declared.tree.Tree.{Tree, Array, Object}
 
 -- the order of names
-abbrev compare : List ℕ → List ℕ → Ordering
+abbrev pub compare : List ℕ → List ℕ → Ordering
 compare = slice_cmp nat_cmp
 
 pub same_from_tie : (name other : List ℕ) → compare name other ≡ Equal → name ≡ other
 same_from_tie name other tie = (bytes_eq-Decides name other).0 (sym (is_eq-slice_cmp name other) ∙ ap is_eq tie)
 
-turned : (name other : List ℕ) (o : Ordering) → compare other name ≡ o → compare name other ≡ ordering_reverse o
+pub turned : (name other : List ℕ) (o : Ordering) → compare other name ≡ o → compare name other ≡ ordering_reverse o
 turned name other o is = nat_list_cmp_total.antisymm name other ∙ ap ordering_reverse is
 
 -- ---- by place
@@ -263,7 +263,7 @@ pub in_order-put : (es others : List Entry) (name : List ℕ) (d : Data) → InO
 in_order-put es others name d up is =
     subst (λ ms. KeysAscend (members_list ms)) (sym is) (keys-put name d (members_view es) up)
 
-pub ruleset ordered = (ascending_stay, view-insert_entry)
+pub ruleset ordered = (ascending_stay)
 
 pub in_order-none : InOrder []
 unfolding IsStrictlySortedBy

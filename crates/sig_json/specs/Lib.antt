@@ -23,6 +23,7 @@ pub mod SameTree
 pub mod SameTreeProofs
 pub mod SeenAs
 pub mod Skipped
+pub mod Sorting
 pub mod Streamed
 pub mod Spells
 pub mod Tree

@@ -61,6 +61,7 @@ mod read;
 mod record;
 mod room;
 mod skip;
+mod sort;
 mod stream;
 mod tree;
 mod view;

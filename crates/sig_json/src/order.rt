@@ -9,17 +9,17 @@ ghost use Rattle.sig_json.specs.Gathered.{gathered, IsPlaceOf, InOrder, AreInOrd
 ghost use Rattle.sig_json.specs.View.{view, members_view};
 
 use crate::room::make_room;
+use crate::sort::sorted;
 use crate::tree::{Entry, Tree};
 use crate::words::{Words, is_same_name};
 use sig_base::OutOfMemory;
 use std::alloc::Global;
 use std::cmp::Ordering;
-use std::collections::BTreeMap;
 
 /// So few members are put in order as they are read, and a name is found among them by a look at each.
 const FEW: usize = 8;
 
-/// Up to so many members are put in order by insertion, and more by a map, whose nodes are large.
+/// Up to so many members are put in order by insertion, and more by a sort.
 const BY_INSERTION: usize = 32;
 
 /// The value of a name.
@@ -75,7 +75,57 @@ pub(crate) fn put<'t>(
         ≡ with_member (cow_str_bytes name.entry) (view value.entry) (members_view members.old.items)) }
     ensures err { OnErr result (members.new.items ≡ members.old.items) }
 {
-    match search(members, name.as_str()) {
+    let place = search(members, name.as_str());
+    put_at(members, place, name, value)
+}
+
+/// The same where the name is mostly the last one, or goes behind it.
+#[tactic(auto, using(crate::proofs::Ordered::placed))]
+pub(crate) fn put_behind<'t>(
+    members: &mut Vec<Entry<'t>>,
+    name: Words<'t>,
+    value: Tree<'t>,
+) -> Result<(), OutOfMemory>
+    requires { InOrder members.old.items }
+    ensures ok { OnOk result (members_view members.new.items
+        ≡ with_member (cow_str_bytes name.entry) (view value.entry) (members_view members.old.items)) }
+{
+    let place = place_from_last(members, name.as_str());
+    put_at(members, place, name, value)
+}
+
+/// Where the member of a name is, or else where it would go: the last one is looked at first.
+#[tactic(auto, using(crate::proofs::Adding::from_last))]
+fn place_from_last(members: &Vec<Entry<'_>>, name: &str) -> Result<usize, usize>
+    requires { InOrder members.now.items }
+    ensures { IsPlaceOf name.now members.now.items result }
+{
+    let count = members.len();
+    if count == 0 {
+        return Err(0);
+    }
+    match members[count - 1].0.as_str().cmp(name) {
+        Ordering::Less => Err(count),
+        Ordering::Equal => Ok(count - 1),
+        Ordering::Greater => search(members, name),
+    }
+}
+
+/// Sets the member of a name at its place.
+#[tactic(auto, using(crate::proofs::Ordered::placed))]
+fn put_at<'t>(
+    members: &mut Vec<Entry<'t>>,
+    place: Result<usize, usize>,
+    name: Words<'t>,
+    value: Tree<'t>,
+) -> Result<(), OutOfMemory>
+    requires in_order { InOrder members.old.items }
+    requires place { IsPlaceOf (cow_str_bytes name) members.old.items place }
+    ensures ok { OnOk result (members_view members.new.items
+        ≡ with_member (cow_str_bytes name.entry) (view value.entry) (members_view members.old.items)) }
+    ensures err { OnErr result (members.new.items ≡ members.old.items) }
+{
+    match place {
         Ok(place) => {
             members[place].1 = value;
             Ok(())
@@ -179,15 +229,4 @@ fn ascends(members: &[Entry<'_>]) -> bool
             ensures { result ≡ is_lt (slice_cmp nat_cmp (cow_str_bytes member.now.0) (cow_str_bytes next.now.0)) }
         { is_below(member.0.as_str(), next.0.as_str()) },
     )
-}
-
-#[tactic(auto, using(crate::proofs::Ordered::ordered))]
-fn sorted<'t>(alloc: Global, members: Vec<Entry<'t>>) -> Result<Vec<Entry<'t>>, OutOfMemory>
-    ensures { IfOk result (λ ordered. members_view ordered.items ≡ gathered members.entry.items) }
-{
-    let mut sorted = BTreeMap::new(alloc);
-    'members: for (name, value) in members {
-        drop(sorted.insert(name, value)?);
-    }
-    Ok(sorted.into_iter().collect(alloc)?)
 }
