@@ -588,6 +588,35 @@ def orders():
     up = ['"%04d":%d' % (place, place) for place in range(400)]
     for members in [up, up[::-1], up[::2] + up[1::2], up + up[::-1], up[200:] + up[:200], up + up[:1], up[:1] + up, up[-1:] + up]:
         read_case("{" + ",".join(members) + "}")
+    many_names()
+
+
+def many_names():
+    """Objects of so many members that these are sorted, by the first seven bytes of their names and then by the names."""
+    down = ["z%02d" % place for place in range(33, 0, -1)]
+
+    def among(names):
+        """The names before, among and behind others that descend."""
+        for place in (0, 16, 33):
+            order = down[:place] + names + down[place:]
+            read_case("{" + ",".join("%s:%d" % (json.dumps(name), value) for value, name in enumerate(order)) + "}")
+
+    say("Equal names among many, in every arrangement: of one name the last counts.")
+    for order in itertools.product(["a", "z17", "zz"], repeat=3):
+        among(list(order))
+    say("Names that agree in their first bytes, that end where others go on, and that go on with U+0000, in every order.")
+    for names in [["", "\0", "\0\0"], ["a", "a\0", "a\0\0", "aa"], ["abcdef", "abcdefg", "abcdefgh", "abcdef\0"], ["abcdefg", "abcdefg\0", "abcdefg\0\0", "abcdefga"],
+                  ["abcdefgh", "abcdefghi", "abcdefgh\0", "abcdefgi"], ["abcdef\u00e9", "abcdef\u00ea", "abcdef\u00e9a", "abcdef"], ["\u007f", "\u0080", "\u00ff", "\U0010ffff"]]:
+        for order in itertools.permutations(names):
+            among(list(order))
+    chance = random.Random(8785)
+    for count in (33, 40, 64, 65, 200, 600):
+        for beginning in ("", "same beginning "):
+            for spread in (2, count // 4, 100 * count):
+                names = [beginning + "%x" % chance.randrange(spread) for _ in range(count)]
+                text = "{" + ",".join('"%s":%d' % (name, place) for place, name in enumerate(names)) + "}"
+                read_case(text)
+                canonical_case(text)
 
 
 # ---- the tables: canonical texts

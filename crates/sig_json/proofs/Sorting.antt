@@ -248,9 +248,9 @@ stays d es keys others are were stable name =
     elim (any_of d es name others were) [
       | inl found ↦ by_key found
       | inr none ↦ elim (any_of d es name keys are) [
-          | inl found ↦ by_key found
-          | inr nor ↦ none ∙ sym nor
-        ]
+        | inl found ↦ by_key found
+        | inr nor ↦ none ∙ sym nor
+      ]
     ] where
       by_key : ((key : Key) × IsKey es key × (name_at d es key ≡ name))
           → filter (has name) (entries_at d es others) ≡ filter (has name) (entries_at d es keys)
@@ -275,7 +275,7 @@ are_ranked es done (e ∷ rest) n is at = (
         ap (λ (e : Entry). rank (cow_str_bytes e.0)) (sym found),
   ),
   are_ranked es (done ++ e ∷ []) rest (suc n) (is ∙ sym (append_assoc done (e ∷ []) rest))
-  (omega (arith, length-append done (e ∷ []), at)),
+      (omega (arith, length-append done (e ∷ []), at)),
 )
 
 entries_ranked : (d : Entry) (es done rest : List Entry) (n : ℕ) → es ≡ done ++ rest → n ≡ length done
@@ -308,9 +308,9 @@ source a b i =
     elim (cases_eq i a) [
       | inl first ↦ (b, inl (first, refl))
       | inr unlike ↦ elim (cases_eq i b) [
-          | inl second ↦ (a, inr (inl (second, refl)))
-          | inr nor ↦ (i, inr (inr (unlike, nor, refl)))
-        ]
+        | inl second ↦ (a, inr (inl (second, refl)))
+        | inr nor ↦ (i, inr (inr (unlike, nor, refl)))
+      ]
     ]
 
 same_source : (a b i j was other : ℕ) → Moves a b i was → Moves a b j other → was ≡ other → i ≡ j
@@ -357,7 +357,6 @@ differ_ranked names i j key within also same =
 
 module _ (es : List Entry) (keys : List Key) (moved : IsPermutation (ranked 0 (entry_names es)) keys)
     (stable : IsStableBy (comes_first (entry_names es)) (ranked 0 (entry_names es)) keys) where
-
   first_keys : AreKeys es (ranked 0 (entry_names es))
   first_keys = are_ranked es [] es 0 refl refl
 
@@ -377,7 +376,6 @@ module _ (es : List Entry) (keys : List Key) (moved : IsPermutation (ranked 0 (e
 -- ---- one key more
 
 module _ (es members : List Entry) (keys : List Key) (i : ℕ) (key : Key) (inside : i < length keys) where
-
   pub next_left : (d taken : Entry) (ordered after : List Entry) → taken ≡ get_or es (get_or keys i key).index d
       → members_view after ≡ put (cow_str_bytes taken.0) (view taken.1) (members_view ordered)
       → put_each (entries_at d es (drop i keys)) (members_view ordered) ≡ gathered es

@@ -10,7 +10,7 @@ ghost use Rattle.sig_json.specs.View.{view, items_view, members_view};
 use crate::error::ReadError;
 use crate::number::number_in;
 use crate::order::{add_member, all_in_order};
-use crate::room::add;
+use crate::room::{add, fitted};
 use crate::tree::{Entry, Tree};
 use crate::words::own;
 use json::{Reader, Scratch, Token};
@@ -96,8 +96,7 @@ fn read_items(
         let item = read_value(alloc, reader, depth)?;
         add(&mut found, item)?;
     }
-    found.shrink_to_fit();
-    Ok(found)
+    Ok(fitted(alloc, found)?)
 }
 
 /// The members of an object, behind its opening brace.
@@ -121,7 +120,6 @@ fn read_all_members(
         let value = read_value(alloc, reader, depth)?;
         add_member(&mut found, key, value)?;
     }
-    let mut ordered = all_in_order(alloc, found)?;
-    ordered.shrink_to_fit();
-    Ok(ordered)
+    let ordered = all_in_order(alloc, found)?;
+    Ok(fitted(alloc, ordered)?)
 }

@@ -1,10 +1,14 @@
 //! Room for the elements of a list and the members of an object while they are read.
-ghost use Rattle.std.specs.Prelude.{◌≡◌, ◌++◌, [], ◌∷◌, OnOk};
+ghost use Rattle.std.specs.Prelude.{◌≡◌, ◌++◌, [], ◌∷◌, OnOk, IfOk};
 
 use sig_base::OutOfMemory;
+use std::alloc::Global;
 
 /// How many have room once there is a second.
 const SECOND_ROOM: usize = 8;
+
+/// Up to so many move to a vector of their own size when they are complete.
+const MOVED: usize = 4096;
 
 /// Makes room for one more. The first takes room for itself alone, since most lists and objects of a large document
 /// have no other, and the second takes it for a few.
@@ -25,4 +29,19 @@ pub(crate) fn add<T: Drop>(found: &mut Vec<T>, one: T) -> Result<(), OutOfMemory
     make_room(found)?;
     found.push(one)?;
     Ok(())
+}
+
+/// The same ones in a vector of their own size. Few move to a new one, so that the room in which they grew is whole for
+/// the next ones to grow in: if it were cut, what is left behind would be too small for that.
+pub(crate) fn fitted<T: Drop>(alloc: Global, mut found: Vec<T>) -> Result<Vec<T>, OutOfMemory>
+    ensures { IfOk result (λ own. own.items ≡ found.items) }
+{
+    let count = found.len();
+    if count == found.capacity() || count > MOVED {
+        found.shrink_to_fit();
+        return Ok(found);
+    }
+    let mut own = Vec::with_capacity(alloc, count)?;
+    own.append(&mut found)?;
+    Ok(own)
 }

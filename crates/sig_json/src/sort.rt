@@ -46,7 +46,8 @@ fn rank(name: &str) -> u64
     ensures { result ≡ rank name.now }
 {
     let bytes = name.as_bytes();
-    let three = (rank_digit(bytes, 0) * RADIX + rank_digit(bytes, 1)) * RADIX + rank_digit(bytes, 2);
+    let three = (rank_digit(bytes, 0) * RADIX + rank_digit(bytes, 1)) * RADIX
+        + rank_digit(bytes, 2);
     let five = (three * RADIX + rank_digit(bytes, 3)) * RADIX + rank_digit(bytes, 4);
     (five * RADIX + rank_digit(bytes, 5)) * RADIX + rank_digit(bytes, 6)
 }

@@ -23,11 +23,10 @@ keys-preserved c =
     let items = c.as_slice-key-items.result.now in
     let there = order.within c.keys.key-index key c.keys-test.true in
     let value : (d : Entry) → c.replace-name.result
-        ≡ get_or c.args.members.items (get_or items c.keys.key-index key).index d =
+    ≡ get_or c.args.members.items (get_or items c.keys.key-index key).index d =
     λ d. c.replace-name.ensures.value ∙ c.index_mut.ensures.value
-        ∙ get_or_default c.keys.members.items _ _ d (omega (arith, there, before.2))
-        ∙ before.3 c.keys.key-index key d (omega arith) c.keys-test.true in
-    (
+    ∙ get_or_default c.keys.members.items _ _ d (omega (arith, there, before.2))
+    ∙ before.3 c.keys.key-index key d (omega arith) c.keys-test.true in (
       λ d. next_left c.args.members.items c.keys.members.items items c.keys.key-index key c.keys-test.true d
           c.replace-name.result c.keys.ordered.items c.put_behind.new.members.items (value d)
           c.in_ok-put_behind.ensures.ok (before.0 d),
