@@ -3,3 +3,4 @@ pub mod PickedLaws
 pub mod RootRecord
 pub mod ClientConfig
 pub mod OfBytes
+pub mod Sparse

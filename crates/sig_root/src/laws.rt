@@ -7,7 +7,7 @@ ghost use Rattle.sig_root.specs.Picked.{keys_of};
 ghost use Rattle.sig_root.specs.PickedLaws.{IsLastKey};
 ghost use Rattle.sig_root.specs.declared.record.TransparencyLogInstance.{TransparencyLogInstance as Instance};
 
-use crate::record::TransparencyLogInstance;
+use crate::sparse::SparseInstance;
 use sig_base::laws::are_owned_bytes;
 
 /// The key of a log id is that of the last instance of this id that has a key whose range holds. The map has its
@@ -19,7 +19,7 @@ pub fn picked_keys()
 {}
 
 /// The keys of instances of logs are bytes.
-pub fn are_log_key_bytes(instances: &[TransparencyLogInstance])
+pub fn are_log_key_bytes(instances: &[SparseInstance])
     ensures { AllByRecursion HasRawBytes instances.now }
 {
     'instances: for instance in instances {
@@ -28,9 +28,12 @@ pub fn are_log_key_bytes(instances: &[TransparencyLogInstance])
 }
 
 /// The key of an instance is bytes.
-fn is_raw_bytes(instance: &TransparencyLogInstance)
+fn is_raw_bytes(instance: &SparseInstance)
     ensures { HasRawBytes instance.now }
 {
+    let Some(instance) = instance.get() else {
+        return;
+    };
     match &instance.public_key {
         Some(key) => match &key.raw_bytes {
             Some(raw) => are_owned_bytes(raw),

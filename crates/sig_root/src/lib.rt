@@ -20,6 +20,7 @@ mod picked;
 mod read;
 mod record;
 mod sigstore;
+mod sparse;
 mod trust_root;
 
 pub use manual::ManualTrustRoot;
@@ -28,4 +29,5 @@ pub use record::{
     CertificateAuthority, PublicKey, TimeRange, TransparencyLogInstance, TrustedRoot,
 };
 pub use sigstore::SigstoreTrustRoot;
+pub use sparse::{SparseAuthority, SparseInstance};
 pub use trust_root::TrustRoot;

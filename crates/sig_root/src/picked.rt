@@ -3,7 +3,8 @@ ghost use Rattle.std.specs.Prelude.{◌≡◌, ◌++◌, OnOk, IfOk};
 ghost use Rattle.sig_root.specs.Picked.{authority_certificates, certificates_at, has_begun, holds, keys_of};
 ghost use Rattle.sig_root.specs.Picked.{put_instance};
 
-use crate::record::{CertificateAuthority, TimeRange, TransparencyLogInstance};
+use crate::record::TimeRange;
+use crate::sparse::{SparseAuthority, SparseInstance};
 use sig_base::{Entries, KeyMap, OutOfMemory};
 use std::alloc::Global;
 
@@ -48,7 +49,7 @@ fn add_all(list: &mut Entries, certificates: &Entries) -> Result<(), OutOfMemory
 /// memory.
 pub(crate) fn pick_certificates(
     alloc: Global,
-    authorities: &[CertificateAuthority],
+    authorities: &[SparseAuthority],
     now: i64,
 ) -> Result<Entries, OutOfMemory>
     ensures { IfOk result (λ list. list ≡ authority_certificates now authorities.now) }
@@ -63,11 +64,14 @@ pub(crate) fn pick_certificates(
 /// Adds the certificates of an authority, if its range has begun by this second.
 fn add_certificates(
     list: &mut Entries,
-    authority: &CertificateAuthority,
+    authority: &SparseAuthority,
     now: i64,
 ) -> Result<(), OutOfMemory>
     ensures { OnOk result (list.new ≡ list.old ++ certificates_at now authority.now) }
 {
+    let Some(authority) = authority.get() else {
+        return Ok(());
+    };
     match &authority.cert_chain {
         Some(certificates) if has_begun(&authority.valid_for, now) => add_all(list, certificates),
         _ => Ok(()),
@@ -78,7 +82,7 @@ fn add_certificates(
 /// Fails only if out of memory.
 pub(crate) fn pick_keys(
     alloc: Global,
-    instances: &[TransparencyLogInstance],
+    instances: &[SparseInstance],
     now: i64,
 ) -> Result<KeyMap, OutOfMemory>
     ensures { IfOk result (λ keys. keys ≡ keys_of now instances.now) }
@@ -95,11 +99,14 @@ pub(crate) fn pick_keys(
 fn put_instance(
     alloc: Global,
     keys: &mut KeyMap,
-    instance: &TransparencyLogInstance,
+    instance: &SparseInstance,
     now: i64,
 ) -> Result<(), OutOfMemory>
     ensures { OnOk result (keys.new ≡ put_instance now instance.now keys.old) }
 {
+    let Some(instance) = instance.get() else {
+        return Ok(());
+    };
     let (Some(key), Some(id)) = (&instance.public_key, &instance.log_id) else {
         return Ok(());
     };

@@ -7,9 +7,8 @@ ghost use Rattle.sig_root.specs.RootRecord.{authority_of, instance_of};
 ghost use Rattle.sig_root.specs.RootRecord.{public_key_of};
 ghost use Rattle.sig_root.specs.RootRecord.{range_of, time_of, trusted_root_in, trusted_root_of};
 
-use crate::record::{
-    CertificateAuthority, PublicKey, TimeRange, TransparencyLogInstance, TrustedRoot,
-};
+use crate::record::{PublicKey, TimeRange, TrustedRoot};
+use crate::sparse::{SparseAuthority, SparseInstance};
 use sig_common::{ChainReader, LogIdReader};
 use sig_der::rfc3339_second;
 use sig_json::{
@@ -58,16 +57,15 @@ impl ElementReader for RangeReader {
 enum AuthorityReader {}
 
 impl ElementReader for AuthorityReader {
-    type Item = CertificateAuthority;
+    type Item = SparseAuthority;
 
     ghost meaning = { authority_of };
 
     #[tactic(auto, unfolding(crate::specs::RootRecord::authority_of))]
-    fn read(alloc: Global, json: Json<'_, '_>) -> Result<CertificateAuthority, MemberError> {
-        Ok(CertificateAuthority {
-            cert_chain: optional::<ChainReader>(alloc, json, "certChain")?,
-            valid_for: optional::<RangeReader>(alloc, json, "validFor")?,
-        })
+    fn read(alloc: Global, json: Json<'_, '_>) -> Result<SparseAuthority, MemberError> {
+        let cert_chain = optional::<ChainReader>(alloc, json, "certChain")?;
+        let valid_for = optional::<RangeReader>(alloc, json, "validFor")?;
+        Ok(SparseAuthority::of(alloc, cert_chain, valid_for)?)
     }
 }
 
@@ -92,16 +90,15 @@ impl ElementReader for PublicKeyReader {
 enum InstanceReader {}
 
 impl ElementReader for InstanceReader {
-    type Item = TransparencyLogInstance;
+    type Item = SparseInstance;
 
     ghost meaning = { instance_of };
 
     #[tactic(auto, unfolding(crate::specs::RootRecord::instance_of))]
-    fn read(alloc: Global, json: Json<'_, '_>) -> Result<TransparencyLogInstance, MemberError> {
-        Ok(TransparencyLogInstance {
-            public_key: optional::<PublicKeyReader>(alloc, json, "publicKey")?,
-            log_id: optional::<LogIdReader>(alloc, json, "logId")?,
-        })
+    fn read(alloc: Global, json: Json<'_, '_>) -> Result<SparseInstance, MemberError> {
+        let public_key = optional::<PublicKeyReader>(alloc, json, "publicKey")?;
+        let log_id = optional::<LogIdReader>(alloc, json, "logId")?;
+        Ok(SparseInstance::of(alloc, public_key, log_id)?)
     }
 }
 

@@ -1,16 +1,17 @@
 //! `TrustedRoot`: what the text of a trusted root says (Sigstore trusted root format).
 
+use crate::sparse::{SparseAuthority, SparseInstance};
 use sig_base::{Bytes, Entries, Register};
 
 /// The authorities and logs that are trusted. Nothing is checked beyond the kinds of the members.
 #[derive(Drop)]
 pub struct TrustedRoot {
     /// Those that issue certificates.
-    pub certificate_authorities: Register<CertificateAuthority>,
+    pub certificate_authorities: Register<SparseAuthority>,
     /// The logs of signatures.
-    pub tlogs: Register<TransparencyLogInstance>,
+    pub tlogs: Register<SparseInstance>,
     /// The Certificate Transparency logs.
-    pub ctlogs: Register<TransparencyLogInstance>,
+    pub ctlogs: Register<SparseInstance>,
 }
 
 /// An authority that issues certificates.
