@@ -338,8 +338,8 @@ def envelope_signatures(count):
 # Ignored members inside
 
 
-def ignored(place, item):
-    """Requests with a member that is ignored, the list of so many items, in an object inside: a tree is made of it."""
+def ignored(place, make_items):
+    """Requests with a member that is ignored, of so many items, in an object inside: a tree is made of it."""
     def make(count):
         made = fixture.Request()
         root, bundle, rows = made.trusted_root(), made.bundle(), made.accepted()
@@ -349,10 +349,26 @@ def ignored(place, item):
             "row": rows[0],
         }
         inside[place]["ignored"] = "@items"
-        text, items = written(made, root, bundle, rows), repeated(item)(count)
+        text, items = written(made, root, bundle, rows), make_items(count)
         if place == "row":
             return text.replace(b'"@items"', items)
         return text.replace(rb"\"@items\"", items.replace(b'"', rb"\""))
+    return make
+
+
+# Where a member is ignored that a tree is made of, and how deep it lies.
+PLACES = (("trusted root", 3), ("log entry", 4), ("row", 3))
+
+
+# Records without members
+
+
+def empty_records(member):
+    """Requests whose trusted root has so many empty records in a list before its own."""
+    def make(count):
+        made = fixture.Request()
+        root = made.trusted_root()
+        return written(made, {**root, member: [{}] * count + root[member]})
     return make
 
 
@@ -379,10 +395,16 @@ REQUESTS = {
         ("rows by signature", rows_by_signature),
         ("rows by message", rows_by_message),
         *(
-            (f"ignored in a {place}: {name}", ignored(place, item))
-            for place, above in (("trusted root", 3), ("log entry", 4), ("row", 3))
+            (f"ignored in a {place}: {name}", ignored(place, shapes.repeated(item)))
+            for place, above in PLACES
             for name, item in shapes.worst(above)
         ),
+        *(
+            (f"ignored in a {place}: {name}", ignored(place, make))
+            for place, _ in PLACES
+            for name, make in shapes.UNORDERED
+        ),
+        *((f"empty {member}", empty_records(member)) for member in ("tlogs", "ctlogs", "certificateAuthorities")),
     ),
     "refused policy": (
         ("policy, any name, none", no_name),
@@ -410,6 +432,8 @@ QUESTIONS = {
         ("extensions of the leaf", leaf_extensions),
         ("signatures of the note, rows", note_signatures),
         ("rows by signature", rows_by_signature),
+        *((f"ignored in a log entry: {name}", ignored("log entry", make)) for name, make in shapes.UNORDERED),
+        ("empty tlogs", empty_records("tlogs")),
     ),
     2: (
         ("trust anchors, extensions of the leaf", anchors_beside_extensions),

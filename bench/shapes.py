@@ -153,6 +153,62 @@ def two_orders(count):
     return ("{" + ",".join(f'"{name_of(place)}":1' for place in range(count)) + "}").encode()
 
 
+LETTERS = [chr(code) for code in range(0x20, 0x7F) if chr(code) not in '"\\']
+
+
+def letters(place, count=4):
+    """The name of so many letters at a place in the order of all such names."""
+    name = ""
+    for _ in range(count):
+        place, last = divmod(place, len(LETTERS))
+        name = LETTERS[last] + name
+    return name
+
+
+def object_of(names):
+    return ("{" + ",".join(f'"{name}":0' for name in names) + "}").encode()
+
+
+def chosen(count, prefix=""):
+    """So many different names of four letters behind a prefix, in an order that is none."""
+    return [prefix + letters(place) for place in random.Random(count).sample(range(len(LETTERS) ** 4), count)]
+
+
+def shuffled_names(count):
+    return object_of(chosen(count))
+
+
+def alike_names(count):
+    """Names in an order that is none, which agree in their first eight bytes."""
+    return object_of(chosen(count, "prefixed"))
+
+
+def falling_names(count):
+    return object_of(sorted(chosen(count), reverse=True))
+
+
+def rising_twice(count):
+    """Names that ascend, and from the middle on ascend once more, between the first ones."""
+    names = sorted(chosen(count))
+    return object_of(names[::2] + names[1::2])
+
+
+def equal_names(count):
+    """Some two hundred names of one letter or two, each many times, in an order that is none."""
+    chance = random.Random(count)
+    return object_of(letters(chance.randrange(100), 1 + chance.randrange(2)) for _ in range(count))
+
+
+# Objects whose names cost most to put in order.
+UNORDERED = (
+    ("shuffled names", shuffled_names),
+    ("shuffled names that agree in eight bytes", alike_names),
+    ("names that descend", falling_names),
+    ("names that ascend twice", rising_twice),
+    ("equal names", equal_names),
+)
+
+
 def one_text(depth=0, unit=b"a"):
     """One text of so many units, as the only member of objects so deep."""
     return lambda count: b'{"a":' * depth + b'"' + unit * count + b'"' + b"}" * depth
@@ -171,6 +227,7 @@ def worst(above):
         ('{"":1}', '{"":1}'),
         ('{"a":1}', '{"a":1}'),
         (f"lists nested to {deepest}", nested("[", "[]", "]", deepest)),
+        ("lists of five", "[0,0,0,0,0]"),
     )
 
 
@@ -180,6 +237,11 @@ def worst(above):
 def bundle_of_entries(item):
     """Bundles of so many equal log entries."""
     return lambda count: b'{"verificationMaterial":{"tlogEntries":' + repeated(item)(count) + b"}}"
+
+
+def bundle_of_entry(make):
+    """Bundles of one log entry, with a member that is ignored."""
+    return lambda count: b'{"verificationMaterial":{"tlogEntries":[{"a":' + make(count) + b"}]}}"
 
 
 def bundle_of_hashes(count):
