@@ -6,7 +6,8 @@
                                               compares its reply with this reader's. Where it lists signatures, the command has to have
                                               the same reply with those of the accepted signatures alone that are listed, and that of
                                               the second implementation with all that are listed; where it names a link of the chain
-                                              of trust, `verify` has to name it too, with and without accepted signatures
+                                              of trust, `verify` has to name it too, with and without accepted signatures. Then come
+                                              requests about the limit, which gets each list back before the request's last brace
 
 The reader of a request of `log` is that of tools/log_requests.py. That of a request of `verify` asks the links of tools/verify_links.py: those
 before `issuer` for the first that fails, and the others for the signatures that they look up, under one trust anchor at a time.
@@ -28,6 +29,7 @@ import verify_rows  # noqa: E402
 from log_requests import NoRequest, rekor  # noqa: E402
 
 MOST_BYTES = 2**24
+BETWEEN = ',"accepted":'  # a request and its list
 LOG = ["log", "log-entries", "log-rekor-staging", "log-wrong-path"]
 VERIFY = ["verify", "verify-refused"]
 
@@ -35,6 +37,12 @@ VERIFY = ["verify", "verify-refused"]
 def document(rows):
     """The rows without white space, their members in the order of their names."""
     return json.dumps(rows, separators=(",", ":"), sort_keys=True)
+
+
+def listing(text, found):
+    """The reply that has this list, if it fits one request with the request's text, and its status."""
+    fits = len(text.encode()) + len(found) + len(BETWEEN) <= MOST_BYTES
+    return (found, 0) if fits else ("refused request", 2)
 
 
 def in_base64(found):
@@ -58,7 +66,7 @@ def log_reply(text):
         return "refused request", 2
     except rekor.Fault:
         return "refused checkpoint", 1
-    return (found, 0) if len(found) <= MOST_BYTES else ("refused request", 2)
+    return listing(text, found)
 
 
 class Asked(list):
@@ -123,7 +131,7 @@ def verify_reply(text):
     if not certificates:
         return "refused issuer", 1
     found = document(list(map(written, certificates + others)))
-    return (found, 0) if len(found) <= MOST_BYTES else ("refused request", 2)
+    return listing(text, found)
 
 
 def write():
@@ -165,6 +173,34 @@ def is_same(program, command, text, wanted, second):
     return run(program, with_accepted(text, kept), command) == reply and run(program, every, command) == second(every)
 
 
+def with_signatures(text, count):
+    """The request of `log` whose checkpoint has its signature so many times."""
+    request = json.loads(text)
+    note, signature = request["checkpoint"].split("\n\n")
+    return json.dumps({**request, "checkpoint": note + "\n\n" + signature * count})
+
+
+def about_the_limit(program, command, text):
+    """Whether the list of a request is written as long as the two fit one request, which is then read."""
+    front, brace = text.rstrip()[:-1], "}"
+    found, status = run(program, text, "questions", command)
+    reply = run(program, with_accepted(text, json.loads(found)), command)
+    room = MOST_BYTES - len(found) - len(BETWEEN) - len(brace)
+    for length, wanted in ((room - 1, (found, 0)), (room, (found, 0)), (room + 1, ("refused request", 2))):
+        padded = front + " " * (length - len(front.encode()))
+        if run(program, padded + brace, "questions", command) != wanted:
+            return False
+        if wanted[1] == 0 and run(program, padded + BETWEEN + found + brace, command) != reply:
+            return False
+    return status == 0
+
+
+def limit_texts():
+    log, verify = ((TOP / f"examples/{name}.json").read_text() for name in ("log", "verify"))
+    # The list of many signatures is longer than the request, whose note each of them repeats.
+    return [("log", log), ("log", with_signatures(log, 40_000)), ("verify", verify)]
+
+
 def log_texts():
     lines = (TOP / "examples/log.requests").read_text().split("\n")
     return [line for line in lines if line.startswith((" ", "{", "[", "\ufeff"))]
@@ -185,6 +221,10 @@ def check(program):
                 failed += 1
                 print(f"{command} of {text[:200]}\n  is not {wanted[0][:200]} {wanted[1]}", file=sys.stderr)
         print(f"questions {command}: {len(texts)} requests", file=sys.stderr)
+    for command, text in limit_texts():
+        if not about_the_limit(program, command, text):
+            failed += 1
+            print(f"{command} about the limit of {text[:200]}", file=sys.stderr)
     return failed
 
 

@@ -72,7 +72,8 @@ commands:
          list of signatures, and does not matter. The reply is a JSON list in
          the form of accepted, of every signature that has to be checked; or
            refused LINK        the first that fails whatever is accepted; request
-                               also for a list of more than 2^24 bytes
+                               also for a list that has, with the request and
+                               12 bytes more, more than 2^24 bytes
          Those that are genuine are what accepted needs: no other signature
          matters.
 
