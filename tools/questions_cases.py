@@ -177,7 +177,7 @@ def with_signatures(text, count):
     """The request of `log` whose checkpoint has its signature so many times."""
     request = json.loads(text)
     note, signature = request["checkpoint"].split("\n\n")
-    return json.dumps({**request, "checkpoint": note + "\n\n" + signature * count})
+    return json.dumps({**request, "checkpoint": "\n\n".join([note] + [signature.rstrip("\n")] * count)})
 
 
 def about_the_limit(program, command, text):

@@ -1,5 +1,5 @@
 -- The reply that lists signatures, by whether their document fits beside the text of the request.
-use Rattle.std.proofs.Common.{◌≡◌, ◌≤◌, ◌∙◌, ℕ, inl, inr, List, length, Result, IfOk, Some, None, ap, arith}
+use Rattle.std.proofs.Common.{◌≡◌, ◌≤◌, ◌∙◌, ℕ, inl, inr, List, length, Option, Result, IfOk, Some, None, ap, arith, subst}
 use Rattle.std.proofs.lemmas.Result.{IfOk-weaker}
 use Rattle.sig_base.specs.declared.checker.AcceptedRow.{AcceptedRow}
 use Rattle.sig_base.specs.declared.memory.OutOfMemory.{OutOfMemory}
@@ -11,15 +11,17 @@ use Rattle.sig_program.specs.declared.reply.Reply.{Reply}
 
 module _ (text : List ℕ) (rows : List AcceptedRow) (most : ℕ) (r : Result Reply OutOfMemory)
     (room : most ≡ room_beside text) where
-  pub listed-made : (document : List ℕ) → IsDocumentOf most rows (Some document)
-      → IfOk r (λ reply. reply ≡ listed document) → IfOk r (IsListingOf text rows)
-  listed-made document is made =
+  pub listed-made : (document : List ℕ) (found : Option (List ℕ)) → found ≡ Some document
+      → IsDocumentOf most rows found → IfOk r (λ reply. reply ≡ listed document) → IfOk r (IsListingOf text rows)
+  listed-made document found which found_is made =
+      let is : IsDocumentOf most rows (Some document) = subst (IsDocumentOf most rows) which found_is in
       let short : length (rows_text rows) ≤ room_beside text = omega (arith, is.1, ap length is.0, room) in
       IfOk-weaker r (λ reply. reply ≡ listed document) (IsListingOf text rows)
       (λ reply same. inl (fits-beside text rows short, is.2, same ∙ ap listed is.0)) made
 
-  pub past-made : IsDocumentOf most rows None → IfOk r (λ reply. reply ≡ refusal_reply Request)
-      → IfOk r (IsListingOf text rows)
-  past-made long made =
+  pub past-made : (found : Option (List ℕ)) → found ≡ None → IsDocumentOf most rows found
+      → IfOk r (λ reply. reply ≡ refusal_reply Request) → IfOk r (IsListingOf text rows)
+  past-made found which found_is made =
+      let long : IsDocumentOf most rows None = subst (IsDocumentOf most rows) which found_is in
       IfOk-weaker r (λ reply. reply ≡ refusal_reply Request) (IsListingOf text rows)
       (λ reply same. inr (not-beside text rows (omega (arith, long, room)), same)) made

@@ -55,7 +55,7 @@ fn reply_to_text(alloc: Global, request: &[u8]) -> Result<Reply, OutOfMemory>
 
 /// The reply to a request, whose text this is.
 fn reply_to(alloc: Global, text: &[u8], request: &VerifyRequest) -> Result<Reply, OutOfMemory>
-    requires { IsRequestOf verify_request text.now request.entry.now }
+    requires { IsRequestOf verify_request text.now request.now }
     ensures { IfOk result (IsReply VerifyQuestions text.now) }
 {
     one_list();

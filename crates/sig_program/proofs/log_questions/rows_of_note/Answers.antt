@@ -8,8 +8,8 @@ use Rattle.sig_program.specs.LogQuestions.{head_rows}
 use Rattle.sig_program.specs.RowsText.{AddsRow}
 use Rattle.sig_program.proofs.log_questions.rows_of_note.Goals as goal
 
-pub returns-in-most-lt-2 : goal.returns-in-most-lt-2
-returns-in-most-lt-2 c = no-brackets c.args.most (head_rows c.args.head.now c.args.checkpoint.now) (omega arith)
+pub returns-then-most-lt2 : goal.returns-then-most-lt2
+returns-then-most-lt2 c = no-brackets c.args.most (head_rows c.args.head.now c.args.checkpoint.now) (omega arith)
 
 pub signatures-init : goal.signatures-init
 signatures-init c =

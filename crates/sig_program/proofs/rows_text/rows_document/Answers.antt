@@ -5,8 +5,8 @@ use Rattle.sig_program.proofs.RowsTexts.{listed-more, listed-none, listed-past, 
 use Rattle.sig_program.specs.RowsText.{AddsRow}
 use Rattle.sig_program.proofs.rows_text.rows_document.Goals as goal
 
-pub returns-in-most-lt-2 : goal.returns-in-most-lt-2
-returns-in-most-lt-2 c = no-brackets c.args.most c.args.rows.now (omega arith)
+pub returns-then-most-lt2 : goal.returns-then-most-lt2
+returns-then-most-lt2 c = no-brackets c.args.most c.args.rows.now (omega arith)
 
 pub rows-init : goal.rows-init
 rows-init c =

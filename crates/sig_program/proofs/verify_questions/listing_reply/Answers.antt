@@ -1,13 +1,20 @@
 -- The document fits beside the text, or not.
+use Rattle.std.proofs.Common.{List, subst}
+use Rattle.sig_base.specs.declared.checker.AcceptedRow.{AcceptedRow}
 use Rattle.sig_program.proofs.Listings.{listed-made, past-made}
+use Rattle.sig_program.specs.RowsText.{IsDocumentOf}
 use Rattle.sig_program.proofs.verify_questions.listing_reply.Goals as goal
 
 pub returns-in-Some : goal.returns-in-Some
 returns-in-Some c =
-    listed-made c.args.text.now c.args.rows.now c.room_beside.result c.listed.result
-    c.room_beside.ensures c.in-Some.document c.in_ok-rows_document.ensures c.listed.ensures
+    listed-made c.args.text.now c.args.rows.now c.room_beside.result c.listed.result c.room_beside.ensures
+    c.in-Some.document c.in_ok-document.field-0 c.in-Some.is
+    (subst (λ (rows : List AcceptedRow). IsDocumentOf c.room_beside.result rows c.in_ok-document.field-0)
+    c.as_slice.ensures c.in_ok-document.ensures) c.listed.ensures
 
 pub returns-in-None : goal.returns-in-None
 returns-in-None c =
-    past-made c.args.text.now c.args.rows.now c.room_beside.result c.refused.result
-    c.room_beside.ensures c.in_ok-rows_document.ensures c.refused.ensures
+    past-made c.args.text.now c.args.rows.now c.room_beside.result c.refused.result c.room_beside.ensures
+    c.in_ok-document.field-0 c.in-None.is
+    (subst (λ (rows : List AcceptedRow). IsDocumentOf c.room_beside.result rows c.in_ok-document.field-0)
+    c.as_slice.ensures c.in_ok-document.ensures) c.refused.ensures
