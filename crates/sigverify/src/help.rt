@@ -80,9 +80,9 @@ commands:
 docs/LINKS.md says of each link what was tested, and what to look at first.
 
 status:
-  0   every link holds
+  0   every link holds; of questions, the list is written
   1   a link other than request fails
-  2   the link request fails
+  2   the link request fails; of questions also, the list would be too long
   64  the words are no command
   71  out of memory
   74  reading or writing failed
