@@ -1,12 +1,18 @@
 #!/usr/bin/env python3
-"""Writes examples/consistency.requests: requests of `consistency`, one a line, and below each the reply and the status; and the examples
-consistency*.json with their replies. Run by hand: tools/consistency_requests.py
+"""Requests of `consistency` and the replies to them, by a reader of its own.
 
-The replies are this program's own: members and checkpoints are read as tools/log_requests.py does, and a proof is checked by the walk of
-RFC 9162 in tools/consistency_cases.py."""
+    tools/consistency_requests.py                  writes examples/consistency.requests, requests, one a line, and below each the reply and
+                                                   the status; and the examples consistency*.json with their replies
+    tools/consistency_requests.py check PROGRAM    runs the program on requests with the log's own entries, of all sizes up to 33 and all
+                                                   older sizes, and compares its replies: with the log's list, and with others
+
+The replies are this program's own: members and checkpoints are read as tools/log_requests.py does, a proof is checked by the walk of
+RFC 9162 in tools/consistency_cases.py, and a list of entries is hashed from its leaves up. That no list has another front than the old
+tree under the same two roots it takes for granted."""
 import base64
 import json
 import pathlib
+import subprocess
 import sys
 
 TOP = pathlib.Path(__file__).resolve().parent.parent
@@ -21,7 +27,7 @@ def read_request(text):
         members = log.tested(json.loads(text, parse_int=log.whole, parse_float=log.fraction, parse_constant=log.refuse))
     except (ValueError, RecursionError):
         log.refuse()
-    if not isinstance(members, dict) or members.get("entries") is not None:
+    if not isinstance(members, dict):
         log.refuse()
     return {
         "old_size": log.required(members, "oldSize", log.integer(0, 2**64)),
@@ -33,7 +39,19 @@ def read_request(text):
         "scheme": log.required(members, "scheme", log.one_of(log.SCHEMES)),
         "key": log.required(members, "key", log.bytes_of),
         "accepted": log.optional(members, "accepted", log.list_of(log.row_of)) or [],
+        "entries": log.optional(members, "entries", log.list_of(log.bytes_of)),
     }
+
+
+def second_line(request):
+    """What the log's own entries say of the old root, where a request gives them."""
+    entries, old = request["entries"], request["old_size"]
+    if entries is None:
+        return ""
+    if len(entries) != request["size"] or log.root_of(entries) != request["root"]:
+        return "other list"
+    assert log.root_of(entries[:old]) == request["old_root"], "a collision of SHA-256"
+    return f"prefix {old}"
 
 
 def reply(text):
@@ -53,7 +71,14 @@ def reply(text):
         return "refused note-match", 1
     if trees.verdict(request["old_size"], request["size"], request["hashes"], request["old_root"], request["root"]) != "ok":
         return "refused consistency", 1
-    return f"consistent {request['old_size']} {request['size']}", 0
+    second = second_line(request)
+    return f"consistent {request['old_size']} {request['size']}{second and ' ' + second}", 0
+
+
+def lines(text):
+    """The reply, its second line below the first, and the status."""
+    line, status = reply(text)
+    return line.replace(" prefix", "\nprefix").replace(" other", "\nother"), status
 
 
 def head(size, root):
@@ -64,10 +89,12 @@ def head(size, root):
             "key": "a2V5", "accepted": [row]}
 
 
-def request(old, entries, **changes):
+def request(old, entries, handed=None, /, **changes):
+    """A request of a log that had so many of its entries, with the list that is handed over."""
     path = [digest.hex() for digest in trees.subproof(old, entries, True)] if old else []
     made = {"oldSize": old, "oldRoot": trees.tree_hash(entries[:old]).hex(), "hashes": path, **head(len(entries), trees.tree_hash(entries))}
-    return {**made, **changes}
+    given = {} if handed is None else {"entries": [base64.b64encode(entry).decode() for entry in handed]}
+    return {**made, **given, **changes}
 
 
 # the log of one entry that the examples of `log` have
@@ -104,8 +131,7 @@ def members():
         yield {**whole, name: None}
         yield {**whole, name: True}
     for changes in ({"oldSize": "3"}, {"oldSize": -1}, {"oldSize": 2 ** 64}, {"oldSize": "03"}, {"oldSize": ""}, {"oldRoot": "00"},
-                    {"oldRoot": whole["oldRoot"].upper()}, {"hashes": ["00"]}, {"hashes": {}}, {"entries": []}, {"entries": None}, {"entries": ["AA=="]},
-                    {"entry": 1, "logIndex": "x"}, {"other": [1, {}]}):
+                    {"oldRoot": whole["oldRoot"].upper()}, {"hashes": ["00"]}, {"hashes": {}}, {"entry": 1, "logIndex": "x"}, {"other": [1, {}]}):
         yield {**whole, **changes}
     text = json.dumps(whole, separators=(",", ":"))
     yield text.replace('"oldSize":3', '"oldSize":9,"oldSize":3')
@@ -114,20 +140,114 @@ def members():
     yield text + "{}"
 
 
+def lists():
+    """The log's own entries: what is a list of base64 and what is none, and links that fail before the list is looked at."""
+    for old, oldRoot in ((1, ROOT), (0, trees.EMPTY.hex())):
+        for handed in (LOG, [], [b"L123457"], LOG + LOG, [b""]):
+            yield request(old, LOG, handed, oldRoot=oldRoot)
+    for handed in (None, "TDEyMzQ1Ng==", True, False, 1, -1, {}, {"0": "TDEyMzQ1Ng=="}, ["TDEyMzQ1Ng"], ["TDEyMzQ1Nh=="], [None], [7], [[]],
+                   ["TDEyMzQ1Ng==", {}], ["TDEyMzQ1Ng==\n"], ["TDEyMzQ1Ng==", "-"]):
+        yield request(1, LOG, entries=handed)
+    text = json.dumps(request(1, LOG, LOG), separators=(",", ":"))
+    yield text.replace('"entries":', '"entries":1,"entries":')
+    yield text.replace('"entries":', '"entries":null,"\\u0065ntries":')
+    yield text.replace('"entries":', '"Entries":')
+    yield text.replace('"entries":["TDE', '"entries":[1.5,"TDE')
+    yield text[:-1] + ',"entries":null}'
+    whole = request(3, ENTRIES, ENTRIES)
+    for changes in ({"oldRoot": ROOT}, {"hashes": []}, {"accepted": []}, {"treeSize": 8}, {"checkpoint": ""}, {"oldSize": 8}, {"oldSize": 2 ** 64 - 1}):
+        yield {**whole, **changes}
+    # Trees of no entries.
+    for handed in ([], [b""]):
+        yield request(0, [], handed)
+    # Lists of equal entries, and of empty ones, of which another front may be the same list.
+    for same in (b"same", b""):
+        for old in range(7):
+            yield request(old, [same] * 6, [same] * 6)
+        yield request(4, [same] * 6, [same] * 5)
+
+
+def changed(entries, place):
+    return [*entries[:place], b"other", *entries[place + 1 :]]
+
+
+def of_sizes(old, new):
+    """Requests of a log of this size that had so many entries: with the log's list, with an entry of the front and one behind it changed, and
+    with one entry more and one fewer; with the last entry first; and with the old tree's entries alone."""
+    entries = [f"entry {number}".encode() for number in range(new)]
+    yield request(old, entries, entries)
+    if old:
+        yield request(old, entries, changed(entries, old // 2))
+    if old < new:
+        yield request(old, entries, changed(entries, old + (new - old) // 2))
+    yield request(old, entries, [*entries, b""])
+    if new:
+        yield request(old, entries, entries[:-1])
+        yield request(old, entries, [entries[-1], *entries[:-1]])
+    if old < new:
+        yield request(old, entries, entries[:old])
+
+
+MOST_OF_SWEEP = 33
+
+
+def sweep():
+    for new in range(MOST_OF_SWEEP + 1):
+        for old in range(new + 1):
+            yield from of_sizes(old, new)
+
+
+def sizes():
+    """A part of `sweep` that has each kind of tree, and a log of 300 entries."""
+    for old, new in ((1, 2), (2, 3), (3, 5), (4, 7), (6, 8), (8, 9), (7, 13), (16, 16), (16, 33), (31, 33)):
+        yield from of_sizes(old, new)
+    for old in (1, 128, 256, 299):
+        yield from of_sizes(old, 300)
+
+
+def check(program):
+    """How many replies of the program differ."""
+    failed = count = 0
+    for found in sweep():
+        text = json.dumps(found, separators=(",", ":"))
+        done = subprocess.run([program, "consistency"], input=text, text=True, capture_output=True)
+        said, wanted = (done.stdout.removesuffix("\n").replace("\n", " "), done.returncode), reply(text)
+        count += 1
+        if said != wanted:
+            failed += 1
+            print(f"consistency of {text[:200]}\n  gave {said} and not {wanted}", file=sys.stderr)
+    print(f"consistency with entries: {count} requests", file=sys.stderr)
+    return failed
+
+
+GROUPS = {"each link that fails, and what holds": links, "members of another kind, out of range, absent, doubled, null": members,
+          "the log's own entries: the list, other lists, what is no list of base64": lists, "logs of several sizes and their entries": sizes}
+
+
+def examples():
+    rewritten = trees.tree_hash(ENTRIES[1:4]).hex()
+    yield "consistency", request(3, ENTRIES)
+    yield "consistency-entries", request(3, ENTRIES, ENTRIES)
+    yield "consistency-other-list", request(3, ENTRIES, ENTRIES[:3] + [b"L999999"] + ENTRIES[4:])
+    yield "consistency-rewritten", request(3, ENTRIES, oldRoot=rewritten)
+
+
 def main():
     with open(TOP / "examples/consistency.requests", "w", encoding="utf-8") as made:
-        for words, requests in (("each link that fails, and what holds", links()), ("members of another kind, out of range, absent, doubled, null", members())):
+        for words, requests in GROUPS.items():
             made.write(f"# {words}\n")
-            for found in requests:
+            for found in requests():
                 text = found if isinstance(found, str) else json.dumps(found, separators=(",", ":"))
                 line, status = reply(text)
                 made.write(f"{text}\n{line} status {status}\n")
-    for name, found in (("consistency", request(3, ENTRIES)), ("consistency-rewritten", request(3, ENTRIES, oldRoot=trees.tree_hash(ENTRIES[1:4]).hex()))):
+    for name, found in examples():
         text = json.dumps(found, indent=2)
         (TOP / f"examples/{name}.json").write_text(text + "\n")
-        line, status = reply(text)
+        line, status = lines(text)
         (TOP / f"examples/{name}.expected").write_text(f"{line}\nstatus {status}\n")
 
 
 if __name__ == "__main__":
+    if sys.argv[1:2] == ["check"]:
+        sys.exit(min(check(sys.argv[2]), 1))
     main()

@@ -2,14 +2,15 @@
 """The replies of `questions`, beside the program: what a reader of its own says, and that nothing else matters.
 
     tools/questions_cases.py                  writes the examples/questions-*.expected
-    tools/questions_cases.py check PROGRAM    runs the program on each request of examples/log.requests and of the rows of `verify`, and
-                                              compares its reply with this reader's. Where it lists signatures, the command has to have
+    tools/questions_cases.py check PROGRAM    runs the program on each request of examples/log.requests, of examples/consistency.requests and of
+                                              the rows of `verify`, and compares its reply with this reader's. Where it lists signatures, the command has to have
                                               the same reply with those of the accepted signatures alone that are listed, and that of
                                               the second implementation with all that are listed; where it names a link of the chain
                                               of trust, `verify` has to name it too, with and without accepted signatures. Then come
                                               requests about the limit, which gets each list back before the request's last brace
 
-The reader of a request of `log` is that of tools/log_requests.py. That of a request of `verify` asks the links of tools/verify_links.py: those
+The reader of a request of `log` is that of tools/log_requests.py, and that of one of `consistency` that of tools/consistency_requests.py. That
+of a request of `verify` asks the links of tools/verify_links.py: those
 before `issuer` for the first that fails, and the others for the signatures that they look up, under one trust anchor at a time.
 """
 import base64
@@ -21,6 +22,7 @@ import sys
 TOP = pathlib.Path(__file__).resolve().parent.parent
 sys.dont_write_bytecode = True
 sys.path.insert(0, str(TOP / "tools"))
+import consistency_requests  # noqa: E402
 import fixture  # noqa: E402
 import log_requests  # noqa: E402
 import verify_cases  # noqa: E402
@@ -31,6 +33,7 @@ from log_requests import NoRequest, rekor  # noqa: E402
 MOST_BYTES = 2**24
 BETWEEN = ',"accepted":'  # a request and its list
 LOG = ["log", "log-entries", "log-rekor-staging", "log-wrong-path"]
+CONSISTENCY = ["consistency", "consistency-entries", "consistency-rewritten"]
 VERIFY = ["verify", "verify-refused"]
 
 
@@ -58,15 +61,23 @@ def note_rows(request):
             for _, _, raw in signatures]
 
 
-def log_reply(text):
-    """The reply of `questions log` and its status."""
+def head_reply(text, read_request):
+    """The reply of `questions` on the tree head of a request, by the reader of the command's requests, and its status."""
     try:
-        found = document(note_rows(log_requests.read_request(text)))
+        found = document(note_rows(read_request(text)))
     except NoRequest:
         return "refused request", 2
     except rekor.Fault:
         return "refused checkpoint", 1
     return listing(text, found)
+
+
+def log_reply(text):
+    return head_reply(text, log_requests.read_request)
+
+
+def consistency_reply(text):
+    return head_reply(text, consistency_requests.read_request)
 
 
 class Asked(list):
@@ -135,7 +146,7 @@ def verify_reply(text):
 
 
 def write():
-    for names, reply in ((LOG, log_reply), (VERIFY, verify_reply)):
+    for names, reply in ((LOG, log_reply), (CONSISTENCY, consistency_reply), (VERIFY, verify_reply)):
         for name in names:
             text, status = reply((TOP / f"examples/{name}.json").read_text())
             (TOP / f"examples/questions-{name}.expected").write_text(f"{text}\nstatus {status}\n")
@@ -174,7 +185,7 @@ def is_same(program, command, text, wanted, second):
 
 
 def with_signatures(text, count):
-    """The request of `log` whose checkpoint has its signature so many times."""
+    """The request whose checkpoint has its signature so many times."""
     request = json.loads(text)
     note, signature = request["checkpoint"].split("\n\n")
     return json.dumps({**request, "checkpoint": "\n\n".join([note] + [signature.rstrip("\n")] * count)})
@@ -196,13 +207,14 @@ def about_the_limit(program, command, text):
 
 
 def limit_texts():
-    log, verify = ((TOP / f"examples/{name}.json").read_text() for name in ("log", "verify"))
+    log, consistency, verify = ((TOP / f"examples/{name}.json").read_text() for name in ("log", "consistency", "verify"))
     # The list of many signatures is longer than the request, whose note each of them repeats.
-    return [("log", log), ("log", with_signatures(log, 40_000)), ("verify", verify)]
+    return [("log", log), ("log", with_signatures(log, 40_000)), ("consistency", consistency),
+            ("consistency", with_signatures(consistency, 40_000)), ("verify", verify)]
 
 
-def log_texts():
-    lines = (TOP / "examples/log.requests").read_text().split("\n")
+def texts_of(command):
+    lines = (TOP / f"examples/{command}.requests").read_text().split("\n")
     return [line for line in lines if line.startswith((" ", "{", "[", "\ufeff"))]
 
 
@@ -214,7 +226,9 @@ def verify_texts():
 
 def check(program):
     failed = 0
-    for command, texts, reader, second in (("log", log_texts(), log_reply, log_requests.reply), ("verify", verify_texts(), verify_reply, verify_second)):
+    for command, texts, reader, second in (("log", texts_of("log"), log_reply, log_requests.reply),
+                                           ("consistency", texts_of("consistency"), consistency_reply, consistency_requests.reply),
+                                           ("verify", verify_texts(), verify_reply, verify_second)):
         for text in texts:
             wanted = reader(text)
             if not is_same(program, command, text, wanted, second):

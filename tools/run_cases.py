@@ -3,11 +3,15 @@
 
 What comes of a run is counted here by the contract of `run`: a request is read until the source gives nothing more, its calls counted from 0;
 the reply is written when it is whole, each call handed all that is left of it; a read that fails writes nothing, and a write that fails leaves
-what was written before it, with status 74 both times; words that are no command read nothing. The replies are those of tools/log_requests.py."""
+what was written before it, with status 74 both times; words that are no command read nothing. The replies are those of tools/log_requests.py,
+tools/consistency_requests.py and tools/questions_cases.py."""
+import json
 import sys
 import urllib.parse
 
 sys.dont_write_bytecode = True
+import consistency_requests as growth
+import questions_cases
 from case_table import Table
 from log_requests import FIRST
 
@@ -15,6 +19,7 @@ from log_requests import FIRST
 ASKED = 16_384
 FAULT = 74
 NEVER = 999_999
+COMMANDS = ("log", "verify", "consistency", "questions,log", "questions,verify", "questions,consistency")
 
 
 def read(text, piece, failing):
@@ -70,7 +75,7 @@ def main():
     table.group("The source fails at each of its calls, the one that tells the end included: nothing is written")
     for failing in range(-(-size // 64) + 3):
         run("log", FIRST, (64, failing), wide, logged, 0)
-    for command in ("log", "verify", "consistency", "questions,log", "questions,verify"):
+    for command in COMMANDS:
         for failing in range(8):
             run(command, "12345", (1, failing), wide, refused, 2)
 
@@ -78,7 +83,7 @@ def main():
     for piece in (1, 4, 10, 11):
         for failing in range(-(-len(logged) // piece) + 1):
             run("log", FIRST, steady, (piece, failing, 256), logged, 0)
-    for command in ("log", "verify", "consistency", "questions,log", "questions,verify"):
+    for command in COMMANDS:
         for failing in range(6):
             run(command, "12345", steady, (4, failing, 256), refused, 2)
 
@@ -86,18 +91,32 @@ def main():
     for room in range(len(logged) + 2):
         run("log", FIRST, steady, (64, NEVER, room), logged, 0)
 
+    table.group("A tree that grew, with the log's own entries and with another list; and the signatures that `consistency` rests on")
+    for handed in (growth.ENTRIES, growth.ENTRIES[:-1], growth.ENTRIES[1:] + growth.ENTRIES[:1], None):
+        found = json.dumps(growth.request(3, growth.ENTRIES, handed), separators=(",", ":"))
+        for words, (reply, status) in (("consistency", growth.lines(found)), ("questions,consistency", questions_cases.consistency_reply(found))):
+            run(words, found, steady, (64, NEVER, 4096), reply.encode() + b"\n", status)
+    most = [b"entry %d" % number for number in range(300)]
+    for words, reply in (("consistency", growth.lines), ("questions,consistency", questions_cases.consistency_reply)):
+        found = json.dumps(growth.request(299, most, most), separators=(",", ":"))
+        run(words, found, wide[:2], (64, NEVER, 4096), reply(found)[0].encode() + b"\n", 0)
+    for changes in ({"checkpoint": ""}, {"oldRoot": growth.ROOT}, {"accepted": []}, {"entries": 1}):
+        found = json.dumps(growth.request(3, growth.ENTRIES, **changes), separators=(",", ":"))
+        for words, (reply, status) in (("consistency", growth.lines(found)), ("questions,consistency", questions_cases.consistency_reply(found))):
+            run(words, found, steady, (64, NEVER, 4096), reply.encode() + b"\n", status)
+
     table.group("Both fail: the read comes first")
     run("log", FIRST, (64, 2), (1, 3, 256), logged, 0)
     run("log", "", (1, 0), (1, 0, 0), refused, 2)
 
     table.group("Words that are no command, and those that `main` answers itself: nothing is read")
-    for words in ("x", "--help", "--version", "log,log", "questions", "questions,consistency", "Log", "log,"):
+    for words in ("x", "--help", "--version", "log,log", "questions", "questions,questions", "questions,consistency,log", "Log", "log,"):
         run(words, "12345", (1, 0), wide, usage, 64)
         for failing in range(4):
             run(words, "12345", steady, (2, failing, 256), usage, 64)
 
     table.group("A source with nothing left")
-    for command in ("log", "verify", "consistency", "questions,log", "questions,verify"):
+    for command in COMMANDS:
         run(command, "", steady, wide, refused, 2)
     table.write()
 

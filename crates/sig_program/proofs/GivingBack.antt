@@ -8,12 +8,11 @@ use Rattle.sig_verify.proofs.JudgedLaws.{all_as, alike_each}
 use Rattle.sig_program.proofs.VerifyQuestionReplies.{of-request}
 use Rattle.sig_program.specs.GivenBack.{ListsAreGivenBack}
 use Rattle.sig_program.specs.Link.{EveryLinkHolds}
-use Rattle.sig_program.specs.LogQuestions.{head_rows}
 use Rattle.sig_program.specs.Reply.{IsReply, listed}
 use Rattle.sig_program.specs.RowsText.{FitsBeside, accepted_name, rows_text}
 use Rattle.sig_program.specs.VerifyQuestions.{HoldsOfVerifyQuestions, HoldsVerifyQuestions}
 use Rattle.sig_program.specs.declared.command.Command.{Command}
-use Rattle.sig_program.specs.declared.command.Command.TheVariants.{LogQuestions, VerifyQuestions}
+use Rattle.sig_program.specs.declared.command.Command.TheVariants.{LogQuestions, VerifyQuestions, ConsistencyQuestions}
 use Rattle.sig_program.specs.declared.reply.Reply.{Reply}
 
 -- the replies of two lists are the same only if the lists are as long
@@ -44,6 +43,14 @@ every command text list reply is lists = is.succeeds.0 (ap (λ (r : Reply). r.st
 pub log_lists : ListsAreGivenBack LogQuestions
 log_lists front behind list reply is lists =
     let hold = every LogQuestions (front ++ behind) list reply is lists in
+    let its = is.vouched hold hold.0.0 hold.0.1 in
+    let fits : FitsBeside (front ++ behind) its.0 =
+    subst (FitsBeside (front ++ behind)) (sym its.1.2) (hold.0.2 its.1.0 its.1.1) in
+    inserted front behind list its.0 (as-long list (rows_text its.0) (sym lists ∙ its.3)) fits
+
+pub consistency_lists : ListsAreGivenBack ConsistencyQuestions
+consistency_lists front behind list reply is lists =
+    let hold = every ConsistencyQuestions (front ++ behind) list reply is lists in
     let its = is.vouched hold hold.0.0 hold.0.1 in
     let fits : FitsBeside (front ++ behind) its.0 =
     subst (FitsBeside (front ++ behind)) (sym its.1.2) (hold.0.2 its.1.0 its.1.1) in

@@ -1,11 +1,14 @@
 pub mod ConsistencyReplies
+pub mod ConsistencySufficing
 pub mod ConsistencyVerdicts
+pub mod FrontLines
+pub mod Fronts
 pub mod GivingBack
+pub mod HeadQuestionReplies
 pub mod HeadSignatures
 pub mod HeadVerdicts
 pub mod Included
 pub mod Listings
-pub mod LogQuestionReplies
 pub mod LogReplies
 pub mod LogVerdicts
 pub mod Logged

@@ -5,7 +5,7 @@ use Rattle.sig_base.specs.declared.checker.AcceptedRow.{AcceptedRow}
 use Rattle.sig_rekor.specs.declared.checkpoint.CheckpointSignature.{CheckpointSignature}
 use Rattle.sig_rekor.specs.declared.checkpoint.SignedCheckpoint.{SignedCheckpoint}
 use Rattle.sig_program.specs.Head.{head_row}
-use Rattle.sig_program.specs.LogQuestions.{head_rows}
+use Rattle.sig_program.specs.HeadQuestions.{head_rows}
 use Rattle.sig_request.specs.declared.head_members.ClaimedHead.{ClaimedHead}
 
 -- there is a row for each signature

@@ -10,7 +10,7 @@ use Rattle.sig_program.specs.declared.reply.Reply.{Reply}
 use Rattle.sig_program.specs.Reply.{IsReply, refusal_reply, status_of}
 use Rattle.sig_program.specs.declared.command.Command.{Command}
 use Rattle.sig_program.specs.declared.command.Command.TheVariants.{Log, Verify, Consistency, LogQuestions}
-use Rattle.sig_program.specs.declared.command.Command.TheVariants.{VerifyQuestions}
+use Rattle.sig_program.specs.declared.command.Command.TheVariants.{VerifyQuestions, ConsistencyQuestions}
 use Rattle.sig_program.specs.Command.{words_of, Names, IsCommand}
 use Rattle.sig_request.specs.Limit.{TakesUpTo}
 use Rattle.sig_program.specs.Run.{RepliesTo, WriteFaulted, AppendsFront, HandsRests, WritesRests, usage_line}
@@ -126,6 +126,7 @@ named-short Verify = (lit≤ tt, lit≤ tt)
 named-short Consistency = (lit≤ tt, lit≤ tt)
 named-short LogQuestions = (lit≤ tt, lit≤ tt)
 named-short VerifyQuestions = (lit≤ tt, lit≤ tt)
+named-short ConsistencyQuestions = (lit≤ tt, lit≤ tt)
 
 pub IsCommand-many : (words : List (List ℕ)) → 3 ≤ length words → ¬ IsCommand words
 IsCommand-many words many (command, named) = omega (arith, many, ap length named, (named-short command).1)

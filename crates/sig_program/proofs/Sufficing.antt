@@ -1,10 +1,11 @@
--- Nothing but the listed signatures decides the reply of `log`.
-use Rattle.std.proofs.Common.{◌≡◌, ◌<◌, ◌↔◌, ℕ, inl, inr, List, length, get_or, refl, subst, ap, ◌∙◌}
+-- Nothing but the listed signatures decides the reply of `log`, and what the same of `consistency` rests on.
+use Rattle.std.proofs.Common.{◌≡◌, ◌<◌, ◌↔◌, ℕ, inl, inr, List, length, get_or, refl, subst, ap, ◌∙◌, Option}
 use Rattle.std.proofs.Common.{arith}
 use Rattle.std.proofs.Math.ListN.{get_or-map}
 use Rattle.std.proofs.lemmas.List.{length-map}
 use Rattle.std.specs.Prelude.{Contains}
 use Rattle.sig_base.specs.declared.checker.AcceptedRow.{AcceptedRow}
+use Rattle.sig_json.specs.Data.{Data}
 use Rattle.sig_rekor.specs.CheckpointText.{IsCheckpoint}
 use Rattle.sig_rekor.specs.declared.checkpoint.CheckpointSignature.{CheckpointSignature}
 use Rattle.sig_rekor.specs.declared.checkpoint.SignedCheckpoint.{SignedCheckpoint}
@@ -12,12 +13,12 @@ use Rattle.sig_verify.proofs.JudgedLaws.{alike_each, all_as, fails_as}
 use Rattle.sig_verify.specs.declared.link.Link.{Link}
 use Rattle.sig_verify.specs.declared.link.Link.TheVariants.{Checkpoint, NoteKey, NoteMatch, Inclusion}
 use Rattle.sig_request.proofs.RequestTexts.{one_request}
-use Rattle.sig_program.specs.Head.{HasAcceptedSignature, head_row}
+use Rattle.sig_program.specs.Head.{HasAcceptedSignature, OfHeadCheckpoint, head_row}
+use Rattle.sig_program.specs.HeadQuestions.{head_rows}
 use Rattle.sig_program.specs.Link.{Holds, HoldsOfLog, links}
-use Rattle.sig_program.specs.LogQuestions.{AreLogQuestions, head_rows}
 use Rattle.sig_program.specs.Reply.{IsLoggedReply, IsReply, Succeeds}
 use Rattle.sig_request.specs.Request.{log_request}
-use Rattle.sig_program.specs.Suffice.{AgreeOn, LogQuestionsSuffice, with_accepted}
+use Rattle.sig_program.specs.Suffice.{AgreeOnHead, LogQuestionsSuffice, head_with_accepted, log_with_accepted}
 use Rattle.sig_program.specs.declared.command.Command.{Command}
 use Rattle.sig_program.specs.declared.command.Command.TheVariants.{Log}
 use Rattle.sig_request.specs.declared.head_members.ClaimedHead.{ClaimedHead}
@@ -61,7 +62,7 @@ alike-reply command text other alike reply is =
           (fails_as (Holds command other) (Holds command text) (links command) link back first);
     }
 
--- ---- requests of `log` that differ in accepted signatures that are not listed
+-- ---- tree heads that differ in accepted signatures that are not listed
 
 -- each signature is among those that are listed
 listed-row : (head : ClaimedHead) (checkpoint : SignedCheckpoint) (k : ℕ) (signature : CheckpointSignature)
@@ -73,74 +74,79 @@ listed-row head checkpoint k signature below is = (
   get_or-map (head_row head checkpoint) checkpoint.signatures k signature ∙ ap (head_row head checkpoint) is,
 )
 
--- the lists of two requests agree on what is listed
-abbrev AgreeOnListed : LogRequest → List AcceptedRow → Type 0
-AgreeOnListed request rows =
-    (asked : List AcceptedRow) → AreLogQuestions request asked → AgreeOn asked request.head.accepted rows
-
-signed-same : (request : LogRequest) (rows : List AcceptedRow) (checkpoint : SignedCheckpoint)
-    → IsCheckpoint request.head.checkpoint checkpoint → AgreeOnListed request rows
-    → HasAcceptedSignature request.head checkpoint ↔ HasAcceptedSignature (with_accepted request rows).head checkpoint
-signed-same request rows checkpoint read agree =
-    let same = agree (head_rows request.head checkpoint) (checkpoint, read, refl) in (
+signed-same : (head : ClaimedHead) (rows : List AcceptedRow) (checkpoint : SignedCheckpoint)
+    → IsCheckpoint head.checkpoint checkpoint → AgreeOnHead head rows
+    → HasAcceptedSignature head checkpoint ↔ HasAcceptedSignature (head_with_accepted head rows) checkpoint
+signed-same head rows checkpoint read agree =
+    let same = agree (head_rows head checkpoint) (checkpoint, read, refl) in (
       λ some. (
         some.0,
         some.1,
         some.2,
         some.3,
-        (same (head_row request.head checkpoint some.1)
-            (listed-row request.head checkpoint some.0 some.1 some.2 some.3)).0 some.4,
+        (same (head_row head checkpoint some.1) (listed-row head checkpoint some.0 some.1 some.2 some.3)).0 some.4,
       ),
       λ some. (
         some.0,
         some.1,
         some.2,
         some.3,
-        (same (head_row request.head checkpoint some.1)
-            (listed-row request.head checkpoint some.0 some.1 some.2 some.3)).1 some.4,
+        (same (head_row head checkpoint some.1) (listed-row head checkpoint some.0 some.1 some.2 some.3)).1 some.4,
       ),
     )
 
-holds-same : (request : LogRequest) (rows : List AcceptedRow) → AgreeOnListed request rows → (link : Link)
-    → HoldsOfLog request link ↔ HoldsOfLog (with_accepted request rows) link
-holds-same request rows agree Checkpoint = (λ h. h, λ h. h)
-holds-same request rows agree NoteKey = (
-  λ h. (h.0, h.1, (signed-same request rows h.0 h.1 agree).0 h.2),
-  λ h. (h.0, h.1, (signed-same request rows h.0 h.1 agree).1 h.2),
+-- the link on the signature of the note
+pub note_key-same : (head : ClaimedHead) (rows : List AcceptedRow) → AgreeOnHead head rows
+    → OfHeadCheckpoint head (HasAcceptedSignature head)
+    ↔ OfHeadCheckpoint (head_with_accepted head rows) (HasAcceptedSignature (head_with_accepted head rows))
+note_key-same head rows agree = (
+  λ h. (h.0, h.1, (signed-same head rows h.0 h.1 agree).0 h.2),
+  λ h. (h.0, h.1, (signed-same head rows h.0 h.1 agree).1 h.2),
 )
+
+-- ---- texts that are requests of which the same holds
+
+-- what holds of the one request that a text is, holds of that of another text
+pub some-same : {R : Type 0} (meaning : Data → Option R) (P : R → Type 0) (text other : List ℕ) (request changed : R)
+    → IsRequestOf meaning text request → IsRequestOf meaning other changed → (P request → P changed)
+    → ((r : R) × IsRequestOf meaning text r × P r) → ((r : R) × IsRequestOf meaning other r × P r)
+some-same meaning P text other request changed is other_is same h =
+    (changed, other_is, same (subst P (one_request meaning text h.0 request h.1 is) h.2))
+
+pub all-same : {R : Type 0} (meaning : Data → Option R) (P : R → Type 0) (text other : List ℕ) (request changed : R)
+    → IsRequestOf meaning text request → IsRequestOf meaning other changed → (P request → P changed)
+    → ((r : R) → IsRequestOf meaning text r → P r) → ((r : R) → IsRequestOf meaning other r → P r)
+all-same meaning P text other request changed is other_is same every r r_is =
+    subst P (one_request meaning other changed r other_is r_is) (same (every request is))
+
+-- ---- requests of `log`
+
+holds-same : (request : LogRequest) (rows : List AcceptedRow) → AgreeOnHead request.head rows → (link : Link)
+    → HoldsOfLog request link ↔ HoldsOfLog (log_with_accepted request rows) link
+holds-same request rows agree Checkpoint = (λ h. h, λ h. h)
+holds-same request rows agree NoteKey = note_key-same request.head rows agree
 holds-same request rows agree NoteMatch = (λ h. h, λ h. h)
 holds-same request rows agree Inclusion = (λ h. h, λ h. h)
 holds-same request rows agree other = (λ h. tt, λ h. tt)
 
 log-alike : (text other : List ℕ) (request : LogRequest) (rows : List AcceptedRow)
     → IsRequestOf log_request text request
-    → IsRequestOf log_request other (with_accepted request rows) → AgreeOnListed request rows → AreAlike Log text other
+    → IsRequestOf log_request other (log_with_accepted request rows) → AgreeOnHead request.head rows
+    → AreAlike Log text other
 log-alike text other request rows is other_is agree =
-    let changed : LogRequest = with_accepted request rows in
+    let changed : LogRequest = log_with_accepted request rows in
     record {
-      holds = λ link. (
-        λ h. (
-          changed,
-          other_is,
-          (holds-same request rows agree link).0
-              (subst (λ (r : LogRequest). HoldsOfLog r link) (one_request log_request text h.0 request h.1 is) h.2),
-        ),
-        λ h. (
-          request,
-          is,
-          (holds-same request rows agree link).1
-              (subst (λ (r : LogRequest). HoldsOfLog r link)
-              (one_request log_request other h.0 changed h.1 other_is) h.2),
-        ),
-      );
-      succeeds = λ reply. (
-        λ s. λ r r_is. subst (λ (q : LogRequest). IsLoggedReply q reply)
-            (one_request log_request other changed r other_is r_is)
-            (s request is),
-        λ s. λ r r_is. subst (λ (q : LogRequest). IsLoggedReply q reply)
-            (one_request log_request text request r is r_is)
-            (s changed other_is),
-      );
+      holds = λ link.
+          let P : LogRequest → Type 0 = λ r. HoldsOfLog r link in
+          let same = holds-same request rows agree link in (
+            some-same log_request P text other request changed is other_is same.0,
+            some-same log_request P other text changed request other_is is same.1,
+          );
+      succeeds = λ reply.
+          let P : LogRequest → Type 0 = λ r. IsLoggedReply r reply in (
+            all-same log_request P text other request changed is other_is (λ made. made),
+            all-same log_request P other text changed request other_is is (λ made. made),
+          );
     }
 
 pub log_questions_suffice : LogQuestionsSuffice

@@ -1,9 +1,10 @@
 pub mod Command
 pub mod ConsistencyLink
+pub mod Fronts
 pub mod GivenBack
 pub mod Head
 pub mod Link
-pub mod LogQuestions
+pub mod HeadQuestions
 pub mod Reply
 pub mod RowsText
 pub mod Run

@@ -4,7 +4,7 @@ use Rattle.std.specs.List.{AllByRecursion}
 use Rattle.sig_base.specs.Rules.{FailsFirst}
 use Rattle.sig_program.specs.declared.command.Command.{Command}
 use Rattle.sig_program.specs.declared.command.Command.TheVariants.{Log, Verify, Consistency, LogQuestions}
-use Rattle.sig_program.specs.declared.command.Command.TheVariants.{VerifyQuestions}
+use Rattle.sig_program.specs.declared.command.Command.TheVariants.{VerifyQuestions, ConsistencyQuestions}
 use Rattle.sig_verify.specs.declared.link.Link.{Link}
 use Rattle.sig_verify.specs.declared.link.Link.TheVariants.{Request, Checkpoint, NoteKey, NoteMatch, Inclusion}
 use Rattle.sig_request.specs.declared.request.LogRequest.{LogRequest}
@@ -13,7 +13,9 @@ use Rattle.sig_program.specs.ProofOf.{IsProofOf}
 use Rattle.sig_request.specs.Request.{log_request}
 use Rattle.sig_program.specs.VerifyLink.{HoldsVerify, verify_links}
 use Rattle.sig_program.specs.ConsistencyLink.{HoldsConsistency, consistency_links}
-use Rattle.sig_program.specs.LogQuestions.{HoldsLogQuestions, log_question_links}
+use Rattle.sig_program.specs.HeadQuestions.{HoldsHeadQuestions, head_question_links}
+use Rattle.sig_request.specs.ConsistencyRequest.{consistency_request}
+use Rattle.sig_request.specs.declared.consistency_request.ConsistencyRequest.{ConsistencyRequest}
 use Rattle.sig_program.specs.VerifyQuestions.{HoldsVerifyQuestions, verify_question_links}
 use Rattle.sig_request.specs.ReadFrom.{IsRequestOf}
 use Rattle.sig_program.specs.Verdict.{IsLinkVerdict}
@@ -26,8 +28,9 @@ abbrev pub links : Command → List Link
 links Log = log_links
 links Verify = verify_links
 links Consistency = consistency_links
-links LogQuestions = log_question_links
+links LogQuestions = head_question_links
 links VerifyQuestions = verify_question_links
+links ConsistencyQuestions = head_question_links
 
 -- the proof is one of the entry
 abbrev pub IsLogged : LogRequest → Type 0
@@ -50,8 +53,10 @@ abbrev pub Holds : Command → List ℕ → Link → Type 0
 Holds Log text link = (request : LogRequest) × IsRequestOf log_request text request × HoldsOfLog request link
 Holds Verify text link = HoldsVerify text link
 Holds Consistency text link = HoldsConsistency text link
-Holds LogQuestions text link = HoldsLogQuestions text link
+Holds LogQuestions text link = HoldsHeadQuestions log_request (λ (r : LogRequest). r.head) text link
 Holds VerifyQuestions text link = HoldsVerifyQuestions text link
+Holds ConsistencyQuestions text link =
+    HoldsHeadQuestions consistency_request (λ (r : ConsistencyRequest). r.head) text link
 
 -- every link of the command holds of a text
 abbrev pub EveryLinkHolds : Command → List ℕ → Type 0

@@ -5,19 +5,21 @@ use Rattle.std.specs.Fmt.{signed_decimal}
 use Rattle.sig_rekor.specs.declared.inclusion_proof.InclusionProof.{InclusionProof}
 use Rattle.sig_program.specs.declared.command.Command.{Command}
 use Rattle.sig_program.specs.declared.command.Command.TheVariants.{Log, Verify, Consistency, LogQuestions}
-use Rattle.sig_program.specs.declared.command.Command.TheVariants.{VerifyQuestions}
+use Rattle.sig_program.specs.declared.command.Command.TheVariants.{VerifyQuestions, ConsistencyQuestions}
 use Rattle.sig_questions.specs.Asked.{IsAskedBy}
 use Rattle.sig_questions.specs.Questions.{AreQuestions}
 use Rattle.sig_verify.specs.Link.{link_name}
 use Rattle.sig_verify.specs.LinkLaws.{IsKept}
 use Rattle.sig_verify.specs.Links.{OfPassed}
 use Rattle.sig_verify.specs.declared.link.Link.{Link}
-use Rattle.sig_verify.specs.declared.link.Link.TheVariants.{Request}
+use Rattle.sig_verify.specs.declared.link.Link.TheVariants.{Request, Checkpoint}
 use Rattle.sig_verify.specs.declared.offline.Offline.{Offline}
+use Rattle.sig_rekor.specs.declared.checkpoint.SignedCheckpoint.{SignedCheckpoint}
+use Rattle.sig_request.specs.declared.head_members.ClaimedHead.{ClaimedHead}
 use Rattle.sig_request.specs.declared.request.LogRequest.{LogRequest}
 use Rattle.sig_program.specs.declared.reply.Reply.{Reply}
 use Rattle.sig_request.specs.Request.{log_request}
-use Rattle.sig_program.specs.SecondLine.{IsSecondLine}
+use Rattle.sig_program.specs.SecondLine.{IsFrontLine, IsSecondLine}
 use Rattle.sig_request.specs.ConsistencyRequest.{consistency_request}
 use Rattle.sig_request.specs.declared.consistency_request.ConsistencyRequest.{ConsistencyRequest}
 use Rattle.sig_program.specs.VerifyLink.{inputs}
@@ -25,7 +27,7 @@ use Rattle.sig_request.specs.VerifyRequest.{verify_request}
 use Rattle.sig_request.specs.declared.verify_request.VerifyRequest.{VerifyRequest}
 use Rattle.sig_program.specs.Link.{EveryLinkHolds, IsFirstFailing}
 use Rattle.sig_base.specs.declared.checker.AcceptedRow.{AcceptedRow}
-use Rattle.sig_program.specs.LogQuestions.{AreLogQuestions}
+use Rattle.sig_program.specs.HeadQuestions.{AreHeadQuestions, IsCheckpointOf, head_rows}
 use Rattle.sig_program.specs.RowsText.{FitsBeside, IsReadBack, rows_text}
 use Rattle.sig_request.specs.ReadFrom.{IsRequestOf}
 
@@ -74,14 +76,19 @@ IsVerifiedReply request offline reply =
     (second : List ℕ) × IsSecondLine request.entries offline.body offline.proof second
     × (reply ≡ verified offline.proof second)
 
--- the reply of `consistency` where every link holds: the old and the new size
-abbrev pub consistent : ConsistencyRequest → Reply
-consistent request = record {
+-- the reply of `consistency` where every link holds: the old and the new size, and the second line
+abbrev pub consistent : ConsistencyRequest → List ℕ → Reply
+consistent request second = record {
   status = 0;
   text =
       codes "consistent " ++ (decimal request.old_size ++
-      (codes " " ++ (decimal request.tree_size ++ codes "\n")));
+      (codes " " ++ (decimal request.tree_size ++ (codes "\n" ++ second))));
 }
+
+-- the two sizes of a request of `consistency`, and what the log's entries say of its old root
+abbrev pub IsConsistentReply : ConsistencyRequest → Reply → Type 0
+IsConsistentReply request reply =
+    (second : List ℕ) × IsFrontLine request.entries request second × (reply ≡ consistent request second)
 
 -- the reply of `questions`: the document of the signatures that are asked for, and a newline
 abbrev pub listed : List ℕ → Reply
@@ -94,10 +101,18 @@ IsListingOf text rows reply =
     (FitsBeside text rows × IsReadBack rows × (reply ≡ listed (rows_text rows)))
     ⊎ ((¬ FitsBeside text rows) × (reply ≡ refusal_reply Request))
 
--- the reply lists the signatures that a request of `log` asks for, and is read back as them
-abbrev pub IsLogQuestionsReply : LogRequest → Reply → Type 0
-IsLogQuestionsReply request reply =
-    (rows : List AcceptedRow) × AreLogQuestions request rows × IsReadBack rows × (reply ≡ listed (rows_text rows))
+-- the reply lists the signatures that the links on a tree head ask for, and is read back as them
+abbrev pub IsHeadQuestionsReply : ClaimedHead → Reply → Type 0
+IsHeadQuestionsReply head reply =
+    (rows : List AcceptedRow) × AreHeadQuestions head rows × IsReadBack rows × (reply ≡ listed (rows_text rows))
+
+-- for private clauses: the reply to a request of this text with this tree head: its checkpoint has no reading, or its
+-- signatures are listed
+abbrev pub IsHeadListing : List ℕ → ClaimedHead → Reply → Type 0
+IsHeadListing text head reply =
+    (IsCheckpointOf head None × (reply ≡ refusal_reply Checkpoint))
+    ⊎ ((checkpoint : SignedCheckpoint) × IsCheckpointOf head (Some checkpoint)
+    × IsListingOf text (head_rows head checkpoint) reply)
 
 -- the reply lists the signatures that the links of a request of `verify` ask for, each of them and no other, in the
 -- order of the links, and is read back as them
@@ -108,7 +123,7 @@ IsVerifyQuestionsReply request reply =
     × IsReadBack rows × (reply ≡ listed (rows_text rows))
 
 -- the reply of a command to a text of which every link holds: `log` shows the proof of the one request that the text
--- is, `verify` that of the log entry of its bundle, and `consistency` the two sizes of its request; behind a proof,
+-- is, `verify` that of the log entry of its bundle, and `consistency` the two sizes of its request; behind these,
 -- where the request gives the log's entries, comes the second line; `questions` lists the signatures that the
 -- command asks for
 abbrev pub Succeeds : Command → List ℕ → Reply → Type 0
@@ -118,11 +133,14 @@ Succeeds Verify text reply =
     (request : VerifyRequest) → IsRequestOf verify_request text request
     → (offline : Offline) × IsEntryIn request offline × IsVerifiedReply request offline reply
 Succeeds Consistency text reply =
-    (request : ConsistencyRequest) → IsRequestOf consistency_request text request → reply ≡ consistent request
+    (request : ConsistencyRequest) → IsRequestOf consistency_request text request → IsConsistentReply request reply
 Succeeds LogQuestions text reply =
-    (request : LogRequest) → IsRequestOf log_request text request → IsLogQuestionsReply request reply
+    (request : LogRequest) → IsRequestOf log_request text request → IsHeadQuestionsReply request.head reply
 Succeeds VerifyQuestions text reply =
     (request : VerifyRequest) → IsRequestOf verify_request text request → IsVerifyQuestionsReply request reply
+Succeeds ConsistencyQuestions text reply =
+    (request : ConsistencyRequest) → IsRequestOf consistency_request text request
+    → IsHeadQuestionsReply request.head reply
 
 -- the reply to a request's text: the success line if and only if every link of the command holds, else the first link
 -- that fails

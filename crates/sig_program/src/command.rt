@@ -17,6 +17,8 @@ pub enum Command {
     LogQuestions,
     /// `questions verify`: which signatures can the reply of `verify` rest on?
     VerifyQuestions,
+    /// `questions consistency`: which signatures can the reply of `consistency` rest on?
+    ConsistencyQuestions,
 }
 
 impl Command {
@@ -35,6 +37,7 @@ impl Command {
             [first, second] => match (first.as_str(), second.as_str()) {
                 ("questions", "log") => Some(Command::LogQuestions),
                 ("questions", "verify") => Some(Command::VerifyQuestions),
+                ("questions", "consistency") => Some(Command::ConsistencyQuestions),
                 _ => None,
             },
             _ => None,

@@ -1,13 +1,15 @@
 //! The command `consistency`: does the log still have the entries that it had, and does it vouch for that?
 ghost use Rattle.std.specs.Prelude.{◌↔◌, ℕ, IfOk, IsTrue, List};
 ghost use Rattle.sig_program.specs.ConsistencyLink.{IsConsistencyVerdict, IsGrown};
-ghost use Rattle.sig_program.specs.Reply.{IsReply};
+ghost use Rattle.sig_program.specs.Fronts.{FrontsAgree, TrivialFronts};
+ghost use Rattle.sig_program.specs.Reply.{IsConsistentReply, IsReply};
 ghost use Rattle.sig_program.specs.declared.command.Command.TheVariants.{Consistency};
 ghost use Rattle.sig_request.specs.ConsistencyRequest.{consistency_request};
 ghost use Rattle.sig_request.specs.ReadFrom.{IsRequestOf};
 
 use crate::head::failing_link_of;
 use crate::reply::Reply;
+use crate::second_line::front_line;
 use sig_base::OutOfMemory;
 use sig_merkle::uncounted::verify_consistency;
 use sig_request::ConsistencyRequest;
@@ -15,9 +17,21 @@ use sig_verify::Link;
 use std::alloc::Global;
 
 /// Returns the reply to a request's text: `consistent M N`, the old and the new size, with status 0 if every link
-/// holds, else `refused NAME` for the first that fails, with status 2 for the link `request` and 1 for every other.
-/// Fails only if out of memory.
+/// holds, and the second line where the request gives the log's entries, else `refused NAME` for the first that fails,
+/// with status 2 for the link `request` and 1 for every other. Fails only if out of memory.
+///
+/// The second line is `prefix M` of every list of the log between equal sizes and from the empty tree; and of two older
+/// trees of one tree of now one is a front of the other, or a second line shows a collision.
 pub fn consistency_reply(alloc: Global, request: &[u8]) -> Result<Reply, OutOfMemory>
+    ensures reply { IfOk result (IsReply Consistency request.now) }
+    ensures trivial { TrivialFronts }
+    ensures agree { FrontsAgree }
+{
+    reply_to_text(alloc, request)
+}
+
+/// The reply to a request's text.
+fn reply_to_text(alloc: Global, request: &[u8]) -> Result<Reply, OutOfMemory>
     ensures { IfOk result (IsReply Consistency request.now) }
 {
     let Some(request) = ConsistencyRequest::read(alloc, request)? else {
@@ -35,8 +49,17 @@ fn reply_to(alloc: Global, request: &ConsistencyRequest) -> Result<Reply, OutOfM
 {
     match failing_link(alloc, request)? {
         Some(link) => Reply::refused(alloc, link),
-        None => Reply::consistent(alloc, request),
+        None => grown_reply(alloc, request),
     }
+}
+
+/// The reply to a request of which every link holds.
+fn grown_reply(alloc: Global, request: &ConsistencyRequest) -> Result<Reply, OutOfMemory>
+    requires { IsGrown request.now }
+    ensures { IfOk result (IsConsistentReply request.now) }
+{
+    let second = front_line(alloc, request)?;
+    Reply::consistent(alloc, request, &second)
 }
 
 /// The first link that fails of a request, or none.

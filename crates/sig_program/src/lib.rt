@@ -15,7 +15,9 @@
 mod brief_policy;
 mod command;
 pub mod consistency;
+pub mod consistency_questions;
 mod head;
+mod head_questions;
 mod laws;
 pub mod log;
 pub mod log_questions;

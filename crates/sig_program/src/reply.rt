@@ -74,16 +74,19 @@ impl Reply {
         Ok(Reply { status: 0, text })
     }
 
-    /// Returns `consistent M N`, the old and the new size, with status 0. Fails only if out of memory.
+    /// Returns `consistent M N`, the old and the new size, and the second line behind it, with status 0. Fails only if
+    /// out of memory.
     pub(crate) fn consistent(
         alloc: Global,
         request: &ConsistencyRequest,
+        second: &Text,
     ) -> Result<Reply, OutOfMemory>
-        ensures { IfOk result (λ reply. reply ≡ consistent request.now) }
+        ensures { IfOk result (λ reply. reply ≡ consistent request.now second.now) }
     {
         let old = request.old_size;
         let new = request.tree_size;
-        let text = Text::from(format!(in alloc; "consistent {old} {new}\n")?);
+        let second = second.as_str();
+        let text = Text::from(format!(in alloc; "consistent {old} {new}\n{second}")?);
         Ok(Reply { status: 0, text })
     }
 

@@ -9,12 +9,13 @@ ghost use Rattle.sig_program.specs.Reply.{IsReply};
 ghost use Rattle.sig_program.specs.Run.{RepliesTo, Answered, ReadFaulted, WriteFaulted, HandsRests, WritesRests};
 ghost use Rattle.sig_program.specs.Run.{AppendsFront, usage_line};
 ghost use Rattle.sig_program.specs.Status.{usage_status, memory_status, fault_status};
-ghost use Rattle.sig_program.specs.Suffice.{LogQuestionsSuffice, VerifyQuestionsSuffice};
+ghost use Rattle.sig_program.specs.Suffice.{ConsistencyQuestionsSuffice, LogQuestionsSuffice, VerifyQuestionsSuffice};
 ghost use Rattle.sig_program.specs.VerifyQuestions.{RefusesForAll};
-ghost use Rattle.sig_program.specs.declared.command.Command.TheVariants.{LogQuestions, VerifyQuestions};
+ghost use Rattle.sig_program.specs.declared.command.Command.TheVariants.{ConsistencyQuestions, LogQuestions, VerifyQuestions};
 
 use crate::command::Command;
 use crate::consistency::consistency_reply;
+use crate::consistency_questions::consistency_questions;
 use crate::laws::lists;
 use crate::log::log_reply;
 use crate::log_questions::log_questions;
@@ -59,12 +60,13 @@ impl From<OutOfMemory> for NoReply {
 /// A command reads a request, at most 2^24 + 1 bytes of what the source has left, and writes one line: `logged I N` for
 /// `log`, `verified I N` for `verify` and `consistent M N` for `consistency`, with status 0, if every link of the
 /// command holds, else `refused NAME` for the first that fails, with status 1, or 2 for the link `request`. With
-/// status 0 of `log` or `verify` a second line follows if the request gives the log's entries: if they have the size
-/// and the RFC 6962 root of the proof, `entry I`, and the logged body is the entry at the index I, or
+/// status 0 a second line follows if the request gives the log's entries: if they have the size and the RFC 6962 root
+/// that the links are about, `entry I` for `log` and `verify`, and the logged body is the entry at the index I, or
+/// `prefix M` for `consistency`, and the old root is that of the first M entries, M being the old size; or
 /// `collision HEX HEX`, two different byte strings of equal SHA-256; else `other list`.
 ///
-/// `questions log` and `questions verify` read a request of `log` or `verify`, and list the signatures that its reply
-/// can rest on, as a JSON list in the form of `accepted`, with status 0; else `refused NAME` for the first link that
+/// `questions log`, `questions verify` and `questions consistency` read a request of `log`, `verify` or `consistency`, and
+/// list the signatures that its reply can rest on, as a JSON list in the form of `accepted`, with status 0; else `refused NAME` for the first link that
 /// fails whatever signatures are accepted, and `refused request` if the bytes of the request, of the list and of
 /// `,"accepted":` would be more than 2^24 together.
 ///
@@ -81,7 +83,8 @@ pub fn run<S: Source, K: Sink>(alloc: Global, words: &[Text], source: &mut S, si
     ensures status { (result < 3) ⊎ (result ≡ usage_status) ⊎ (result ≡ memory_status) ⊎ (result ≡ fault_status) }
 
     // The headline: what `Answered` says of the reply is that every link holds if the status is 0, and that else it
-    // shows the first that fails; and of the log's entries, where they are given, what `IsSecondLine` says.
+    // shows the first that fails; and of the log's entries, where they are given, what `IsSecondLine` says, and for
+    // `consistency` what `IsFrontLine` does.
     ensures answered { result < 3 →
         Answered words.now (S.left source.old) (S.left source.new) (K.taken sink.old) (K.taken sink.new) result }
     ensures usage { result ≡ usage_status → ¬ IsCommand words.now
@@ -97,10 +100,10 @@ pub fn run<S: Source, K: Sink>(alloc: Global, words: &[Text], source: &mut S, si
         (K.handed sink.new) }
     ensures later { (S.faults source.old ≤ S.faults source.new) × (K.faults sink.old ≤ K.faults sink.new) }
 
-    // Nothing else matters: of the accepted signatures of a request of `log`, its reply depends on those alone that
-    // are over the checkpoint's note under the log's scheme and key, and of a request of `verify` on those alone that a
-    // link asks for. `questions` lists them, unless the list is too long.
-    ensures suffice { LogQuestionsSuffice × VerifyQuestionsSuffice }
+    // Nothing else matters: of the accepted signatures of a request of `log` or `consistency`, its reply depends on
+    // those alone that are over the checkpoint's note under the log's scheme and key, and of a request of `verify` on
+    // those alone that a link asks for. `questions` lists them, unless the list is too long.
+    ensures suffice { LogQuestionsSuffice × VerifyQuestionsSuffice × ConsistencyQuestionsSuffice }
 
     // A link other than `request` is the first that fails in `questions verify` if and only if it is the first that
     // fails in `verify`, whatever signatures are accepted and whatever the policy says.
@@ -108,7 +111,8 @@ pub fn run<S: Source, K: Sink>(alloc: Global, words: &[Text], source: &mut S, si
 
     // A list that is written can be given back: the request with the list put in as `accepted`, before its last brace
     // or wherever else, has at most 2^24 bytes.
-    ensures given_back { ListsAreGivenBack LogQuestions × ListsAreGivenBack VerifyQuestions }
+    ensures given_back { ListsAreGivenBack LogQuestions × ListsAreGivenBack VerifyQuestions
+        × ListsAreGivenBack ConsistencyQuestions }
 {
     lists();
     let Some(command) = Command::named(words) else {
@@ -147,6 +151,7 @@ fn reply_of(alloc: Global, command: Command, request: &[u8]) -> Result<Reply, Ou
         Command::Consistency => consistency_reply(alloc, request),
         Command::LogQuestions => log_questions(alloc, request),
         Command::VerifyQuestions => verify_questions(alloc, request),
+        Command::ConsistencyQuestions => consistency_questions(alloc, request),
     }
 }
 

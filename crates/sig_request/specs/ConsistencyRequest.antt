@@ -8,9 +8,9 @@ use Rattle.sig_json.specs.Member.{optional, optional_list, required_hash, requir
 use Rattle.sig_request.specs.declared.consistency_request.ConsistencyRequest.{ConsistencyRequest}
 use Rattle.sig_request.specs.Accepted.{with_rows}
 use Rattle.sig_request.specs.HeadMembers.{head_of}
-use Rattle.sig_request.specs.Row.{no_kind}
+use Rattle.sig_request.specs.Row.{entries_of}
 
--- the members of a request beside its rows of `accepted`; one with `entries` is none
+-- the members of a request beside its rows of `accepted`
 unfoldable pub consistency_members : List AcceptedRow → Data → Option ConsistencyRequest
 consistency_members accepted d = do
   old_size ← required_u64 (codes "oldSize") d
@@ -19,7 +19,7 @@ consistency_members accepted d = do
   root_hash ← required_hash (codes "rootHash") d
   hashes ← optional_list hash_of (codes "hashes") d
   head ← head_of accepted d
-  entries ← optional no_kind (codes "entries") d
+  entries ← optional entries_of (codes "entries") d
   Some (record {
     old_size = old_size;
     old_root = old_root;
@@ -27,6 +27,7 @@ consistency_members accepted d = do
     root_hash = root_hash;
     hashes = hashes;
     head = head;
+    entries = entries;
   })
 
 -- what a request means

@@ -10,15 +10,16 @@
 //!   "checkpoint": "log.example\n1\nOVqgZKpM..TVY=\n\n\u2014 log.example AAAAAXNpZw==\n",
 //!   "scheme": "ECDSA_P256_SHA256_ASN1",
 //!   "key": "a2V5",
-//!   "accepted": []
+//!   "accepted": [],
+//!   "entries": ["TDEyMzQ1Ng=="]
 //! }
 //! ```
 ghost use Rattle.std.specs.Prelude.{IfOk};
 
 use crate::head_members::{ClaimedHead, read_head};
 use crate::request_text::{RequestReader, request_from_text};
-use crate::row::AbsentReader;
-use sig_base::{Hashes, OutOfMemory, TableChecker};
+use crate::row::EntriesReader;
+use sig_base::{Entries, Hashes, OutOfMemory, TableChecker};
 use sig_json::{
     HashReader, Json, MemberError, optional, optional_list, required_hash, required_u64,
 };
@@ -39,6 +40,8 @@ pub struct ConsistencyRequest {
     pub hashes: Hashes,
     /// The checkpoint that is to vouch for the tree of now.
     pub head: ClaimedHead,
+    /// All entries of the log of now, if they are given.
+    pub entries: Option<Entries>,
 }
 
 /// The names of the members that a request may have; `accepted` is read beside them, row by row. A member of another
@@ -71,16 +74,15 @@ impl RequestReader for ConsistencyRequestReader {
         json: Json<'_, '_>,
         accepted: TableChecker,
     ) -> Result<ConsistencyRequest, MemberError> {
-        let request = ConsistencyRequest {
+        Ok(ConsistencyRequest {
             old_size: required_u64(json, "oldSize")?,
             old_root: required_hash(json, "oldRoot")?,
             tree_size: required_u64(json, "treeSize")?,
             root_hash: required_hash(json, "rootHash")?,
             hashes: optional_list::<HashReader>(alloc, json, "hashes")?,
             head: read_head(alloc, json, accepted)?,
-        };
-        let _ = optional::<AbsentReader>(alloc, json, "entries")?;
-        Ok(request)
+            entries: optional::<EntriesReader>(alloc, json, "entries")?,
+        })
     }
 }
 

@@ -12,6 +12,7 @@ usage: sigverify log < REQUEST
        sigverify consistency < REQUEST
        sigverify questions log < REQUEST
        sigverify questions verify < REQUEST
+       sigverify questions consistency < REQUEST
        sigverify --help | --version
 
 commands:
@@ -61,13 +62,20 @@ commands:
            oldRoot     64 hex digits, the root hash that it had then
            treeSize, rootHash, checkpoint, scheme, key, accepted   as of log
            hashes      list of 64 hex digits, the consistency proof
+           entries     as of log, of the log of now
          The reply is one line on standard output:
            consistent OLD NEW  the log of now begins with all entries of then
            refused LINK        the first that fails: request, checkpoint,
                                note-key, note-match or consistency
+         With entries, a second line follows where every link holds:
+           prefix OLD          the old root is that of the first entries, as many
+                               as the log had
+           other list          the list has another size or root than the log
+           collision HEX HEX   neither: two different byte strings of equal
+                               SHA-256
 
-  questions log, questions verify
-         Which signatures can the reply of log, or of verify, rest on? The
+  questions log, questions verify, questions consistency
+         Which signatures can the reply of the command rest on? The
          request is the command's own, and its accepted, if given, has to be a
          list of signatures, and does not matter. The reply is a JSON list in
          the form of accepted, of every signature that has to be checked; or

@@ -1,12 +1,11 @@
 -- The reply to a request, by the verdict on it.
-use Rattle.std.proofs.Common.{◌≡◌}
+use Rattle.std.proofs.Common.{subst}
 use Rattle.sig_program.proofs.ConsistencyReplies.{consistent-reply, refused-consistency}
 use Rattle.sig_program.proofs.Replies.{refused-replied, vouched-replied}
 use Rattle.sig_program.specs.ConsistencyLink.{IsConsistencyVerdict}
 use Rattle.sig_request.specs.ConsistencyRequest.{consistency_request}
-use Rattle.sig_program.specs.Reply.{consistent}
+use Rattle.sig_program.specs.Reply.{IsConsistentReply}
 use Rattle.sig_program.specs.declared.command.Command.TheVariants.{Consistency}
-use Rattle.sig_program.specs.declared.reply.Reply.{Reply}
 use Rattle.sig_program.proofs.consistency.reply_to.Goals as goal
 
 pub returns-in-Some : goal.returns-in-Some
@@ -18,6 +17,9 @@ returns-in-Some c = λ text is.
 pub returns-in-None : goal.returns-in-None
 returns-in-None c = λ text is.
     vouched-replied Consistency consistency_request IsConsistencyVerdict text c.args.request.now
-    c.in_ok-link.field-0 c.consistent.result is c.in_ok-link.ensures
-    (λ (reply : Reply). reply ≡ consistent c.args.request.now) (consistent-reply text c.args.request.now)
-    c.consistent.ensures c.in-None.is
+    c.in_ok-link.field-0 c.grown_reply.result is c.in_ok-link.ensures (IsConsistentReply c.args.request.now)
+    (consistent-reply text c.args.request.now) c.grown_reply.ensures c.in-None.is
+
+-- the last of the links holds
+pub grown_reply-requires : goal.grown_reply-requires
+grown_reply-requires c = (subst (IsConsistencyVerdict c.args.request.now) c.in-None.is c.in_ok-link.ensures).1.1.1.1.0

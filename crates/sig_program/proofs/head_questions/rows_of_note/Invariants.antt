@@ -1,8 +1,8 @@
 -- The document lists the signatures so far.
 use Rattle.sig_json.specs.Tree.{document_tree}
 use Rattle.sig_program.proofs.RowsTexts.{IsListed}
-use Rattle.sig_program.specs.LogQuestions.{head_rows}
-use Rattle.sig_program.proofs.log_questions.rows_of_note.Given as goal
+use Rattle.sig_program.specs.HeadQuestions.{head_rows}
+use Rattle.sig_program.proofs.head_questions.rows_of_note.Given as goal
 
 abbrev pub invariant-signatures : goal.invariant-signatures
 invariant-signatures l =

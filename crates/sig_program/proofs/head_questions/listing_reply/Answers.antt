@@ -1,7 +1,7 @@
 -- The document fits beside the text, or not.
 use Rattle.sig_program.proofs.Listings.{listed-made, past-made}
-use Rattle.sig_program.specs.LogQuestions.{head_rows}
-use Rattle.sig_program.proofs.log_questions.listing_reply.Goals as goal
+use Rattle.sig_program.specs.HeadQuestions.{head_rows}
+use Rattle.sig_program.proofs.head_questions.listing_reply.Goals as goal
 
 pub returns-in-Some : goal.returns-in-Some
 returns-in-Some c =

@@ -1,6 +1,6 @@
 -- The checkpoint has the one reading that was found, or none.
-use Rattle.sig_program.proofs.LogQuestionReplies.{no-checkpoint, one-checkpoint}
-use Rattle.sig_program.proofs.log_questions.head_checkpoint.Goals as goal
+use Rattle.sig_program.proofs.HeadQuestionReplies.{no-checkpoint, one-checkpoint}
+use Rattle.sig_program.proofs.head_questions.head_checkpoint.Goals as goal
 
 pub returns-in-Ok : goal.returns-in-Ok
 returns-in-Ok c =

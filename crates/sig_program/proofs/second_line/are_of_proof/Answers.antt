@@ -1,14 +1,14 @@
 use Rattle.std.proofs.Common.{◌≡◌, ◌≢◌, ◌∙◌, sym, refl, rules, arith, length}
 use Rattle.std.proofs.lemmas.Bool.{false≢true}
 use Rattle.sig_program.proofs.SecondLines.{whole_list}
-use Rattle.sig_program.specs.SecondLine.{AreOfTree}
-use Rattle.sig_program.proofs.second_line.are_of_tree.Goals as goal
+use Rattle.sig_program.specs.SecondLine.{AreOfProof}
+use Rattle.sig_program.proofs.second_line.are_of_proof.Goals as goal
 
 pub returns-then-ne : goal.returns-then-ne
 returns-then-ne c =
     let apart : c.root_of.result ≢ c.args.proof.now.root_hash = search rules in (
       λ held. absurd (false≢true held),
-      λ (are : AreOfTree c.args.entries.now c.args.proof.now). absurd (apart (c.root_of.ensures
+      λ (are : AreOfProof c.args.entries.now c.args.proof.now). absurd (apart (c.root_of.ensures
           ∙ whole_list c.args.entries.now c.len-2.result c.len-2.ensures ∙ are.1)),
     )
 

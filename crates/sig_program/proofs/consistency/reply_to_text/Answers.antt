@@ -1,0 +1,16 @@
+-- The reply to what was read.
+use Rattle.sig_program.proofs.Replies.{its-request, unread-replied}
+use Rattle.sig_request.specs.ConsistencyRequest.{consistency_request}
+use Rattle.sig_program.specs.declared.command.Command.TheVariants.{Consistency}
+use Rattle.sig_program.proofs.consistency.reply_to_text.Goals as goal
+
+pub returns-in_default : goal.returns-in_default
+returns-in_default c =
+    unread-replied Consistency consistency_request c.args.request.now c.in_ok-request.field-0 c.refused.result
+    (λ holds. (holds.0, holds.1)) c.refused.ensures c.in_default.is c.in_ok-request.ensures
+
+pub returns : goal.returns
+returns c =
+    c.reply_to-reply.ensures c.args.request.now
+    (its-request consistency_request c.args.request.now c.in_ok-request.field-0 c.in-Some.request c.in-Some.is
+    c.in_ok-request.ensures)
