@@ -1,4 +1,4 @@
-"""Requests of `log` with the log's own entries, and what hashing those takes alone."""
+"""Requests of `log` and of `consistency` with the log's own entries, and what hashing those takes alone."""
 import hashlib
 import time
 
@@ -24,15 +24,31 @@ def levels(entries):
     yield level
 
 
+def with_list(entries, more, root, hashes, **members):
+    """A request with these hashes of a log of this root, with the log's entries and more."""
+    note = f"log.example\n{len(entries)}\n{coded(root)}\n"
+    return request(
+        treeSize=len(entries), rootHash=root.hex(), hashes=[each.hex() for each in hashes],
+        checkpoint=f"{note}\n{KEY_HINT_AND_SIGNATURE}", accepted=[row(note.encode())],
+        entries=[coded(entry) for entry in (*entries, *more)], **members,
+    )
+
+
 def of_log(entries, more=()):
     """A request for the first of 2^k entries of a log, with the log's entries and more."""
     *below, [root] = levels(entries)
-    note = f"log.example\n{len(entries)}\n{coded(root)}\n"
-    return request(
-        entry=coded(entries[0]), treeSize=len(entries), rootHash=root.hex(), hashes=[level[1].hex() for level in below],
-        checkpoint=f"{note}\n{KEY_HINT_AND_SIGNATURE}", accepted=[row(note.encode())],
-        entries=[coded(entry) for entry in (*entries, *more)],
-    )
+    return with_list(entries, more, root, [level[1] for level in below], entry=coded(entries[0]))
+
+
+def of_growth(entries, more=()):
+    """A request of `consistency` of a log that grew by the last of 2^k entries, with the log's entries and more."""
+    *below, [root] = levels(entries)
+    lefts = [level[-2] for level in below]
+    old = lefts[0]
+    for left in lefts[1:]:
+        old = node(left, old)
+    hashes = [lefts[0], below[0][-1], *lefts[1:]]
+    return with_list(entries, more, root, hashes, oldSize=len(entries) - 1, oldRoot=old.hex())
 
 
 def big(size):

@@ -157,29 +157,38 @@ def questions(bench):
             bench.goal(f"questions, {name}, time to that at half", took / first, MOST_DOUBLED)
 
 
-def entries(bench):
-    """Requests of `log` with the log's own entries, beside the same request with one entry more, which is read and not
-    hashed, and the hashing of big entries by itself. The last column is the time to that over half as many."""
-    command = [bench.program, "log"]
-    table = bench.table(entries, "entries", "bytes", "ms", "MB", "read ms", "hash ms", "to both", "to half")
+# The commands that take the log's own entries: how their requests are made, and the reply but for its second line.
+OF_ENTRIES = {
+    "log": (own_entries.of_log, lambda size: (f"logged 0 {size}", "entry 0")),
+    "consistency": (own_entries.of_growth, lambda size: (f"consistent {size - 1} {size}", f"prefix {size - 1}")),
+}
 
-    def measured(made):
-        size = len(made)
-        text, longer = own_entries.of_log(made), own_entries.of_log(made, [b"more"])
-        [took], [peak] = timed(bench, [command], text, f"logged 0 {size}\nentry 0")
-        [read], _ = timed(bench, [command], longer, f"logged 0 {size}\nother list")
+
+def entries(bench):
+    """Requests of `log` and of `consistency` with the log's own entries, beside the same request with one entry more,
+    which is read and not hashed, and the hashing of big entries by itself. A log of `consistency` grew by its last
+    entry. The last column is the time to that over half as many."""
+    table = bench.table(entries, "command", "entries", "bytes", "ms", "MB", "read ms", "hash ms", "to both", "to half")
+    big, half, small = own_entries.big(bench.most), own_entries.small(2**16), own_entries.small(2**17)
+    hashed = min(own_entries.hashing(big) for _ in range(bench.runs))
+
+    def measured(command, made):
+        make, replies = OF_ENTRIES[command]
+        first, second = replies(len(made))
+        words, text = [[bench.program, command]], make(made)
+        [took], [peak] = timed(bench, words, text, f"{first}\n{second}")
+        [read], _ = timed(bench, words, make(made, [b"more"]), f"{first}\nother list")
         return len(text), took, peak, read
 
-    big = own_entries.big(bench.most)
-    size, took, peak, read = measured(big)
-    hashed = min(own_entries.hashing(big) for _ in range(bench.runs))
-    to_both = took / (read + hashed)
-    table.row("four of one size", size, took * 1000, round(peak), read * 1000, hashed * 1000, to_both, None)
-    bench.goal("log, big entries, time to reading and hashing", to_both, MOST_TO_READING_AND_HASHING)
-    first = measured(own_entries.small(2**16))[1]
-    size, took, peak, read = measured(own_entries.small(2**17))
-    table.row("131,072 small ones", size, took * 1000, round(peak), read * 1000, None, None, took / first)
-    bench.goal("log, small entries, time to that at half", took / first, MOST_DOUBLED)
+    for command in OF_ENTRIES:
+        size, took, peak, read = measured(command, big)
+        to_both = took / (read + hashed)
+        table.row(command, "four of one size", size, took * 1000, round(peak), read * 1000, hashed * 1000, to_both, None)
+        bench.goal(f"{command}, big entries, time to reading and hashing", to_both, MOST_TO_READING_AND_HASHING)
+        first = measured(command, half)[1]
+        size, took, peak, read = measured(command, small)
+        table.row(command, "131,072 small ones", size, took * 1000, round(peak), read * 1000, None, None, took / first)
+        bench.goal(f"{command}, small entries, time to that at half", took / first, MOST_DOUBLED)
 
 
 # Certificates by their numbers of extensions; webpki reads no more than 2^16 bytes.
