@@ -49,6 +49,20 @@ def check_programs(results, program):
         compare_end(results, "a folder in place of a program", words_of(folder, folder), "no reply")
 
 
+def check_signals(results, program):
+    """Where the caller ignores a signal, among them the one by which a child's status is had."""
+    with tempfile.TemporaryDirectory() as folder:
+        signed.write(folder, Signed())
+        for ignored in "CHLD", "PIPE", "CHLD HUP INT QUIT PIPE TERM USR1 XFSZ":
+            shell = ["/bin/bash", "-c", f"trap '' {ignored}; exec \"$@\"", "bash"]
+            for wanted, changes in [((0, VERIFIED + "\n", ""), {}), ((1, "refused policy\n", ""), {"identity": "x"}),
+                                    ((1, "refused fulcio\n", ""), {"now": 0}),
+                                    ((2, "refused request\n", ""), {"now": 2 ** 63})]:
+                results.compare(f"{ignored} ignored", run(words_of(folder, program, **changes), shell), wanted)
+            fails = words_of(folder, program_that(folder, "exit 71"))
+            compare_end(results, f"{ignored} ignored, no reply", fails, "status 71", start=shell)
+
+
 def check_files(results, program):
     with tempfile.TemporaryDirectory() as folder:
         signed.write(folder, Signed())
@@ -217,4 +231,4 @@ def check_environment(results, program):
             compare("by Python's name and a link", link, [PYTHON])
 
 
-PARTS = check_programs, check_files, check_streams, check_imports, check_memory, check_environment
+PARTS = check_programs, check_signals, check_files, check_streams, check_imports, check_memory, check_environment
