@@ -25,7 +25,7 @@ class Results:
 
 def run(words, start=(), **options):
     """Status, standard output and standard error of sigverify-bundle, which its first line starts, or other words."""
-    done = subprocess.run([*start, ADAPTER, *words], capture_output=True, timeout=60, **options)
+    done = subprocess.run([*start, ADAPTER, *words], capture_output=True, timeout=300, **options)
     return done.returncode, done.stdout.decode(), done.stderr.decode()
 
 

@@ -162,6 +162,20 @@ def check_request(results, program):
         results.compare("its list, as it was written", fits, False)
 
 
+def check_limit(results, program):
+    """A request and its list that fit together, of 2^24 bytes, are verified; with one byte more they are refused."""
+    made = Signed()
+    with tempfile.TemporaryDirectory() as folder:
+        signed.write(folder, made)
+
+        def padded(count):
+            text = signed.compact({**made.trusted_root(), "ignored": "x" * count})
+            return words_of(folder, program, trusted_root=file_of(folder, "padded.json", text.encode()))
+        room = LIMIT - len(run(padded(0) + ["--print-request"])[1].rstrip("\n").encode())
+        for more, wanted in (0, (0, VERIFIED + "\n", "")), (1, (2, "refused request\n", "")):
+            results.compare(f"{LIMIT + more} bytes", run(padded(room + more)), wanted)
+
+
 def check_example(results, program):
     results.compare("the example", run(words_of(EXAMPLE, program, now=None)), (0, VERIFIED + "\n", ""))
     with tempfile.TemporaryDirectory() as folder:
@@ -171,4 +185,4 @@ def check_example(results, program):
         results.compare("by a link", (done.returncode, done.stdout), (0, VERIFIED.encode() + b"\n"))
 
 
-PARTS = check_replies, check_misuse, check_names, check_help, check_times, check_request, check_example
+PARTS = check_replies, check_misuse, check_names, check_help, check_times, check_request, check_limit, check_example
