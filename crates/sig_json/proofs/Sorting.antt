@@ -4,7 +4,7 @@ use Rattle.std.proofs.Common.{length, get_or, set, drop, Option, Some, None, opt
 use Rattle.std.proofs.Common.{append_assoc, arith, slice_get}
 use Rattle.std.proofs.lemmas.Cmp.{nat_list_cmp_total, nat_cmp_total, on_total, then_total, tied_itself}
 use Rattle.std.proofs.lemmas.Option.{slice_get-get_or, slice_get-map}
-use Rattle.std.proofs.lemmas.Bool.{cases_eq}
+use Rattle.std.proofs.lemmas.Bool.{cases_eq, and_parts, and_from}
 use Rattle.std.proofs.lemmas.List.{length-append, at_drop_more, at_drop_all, get_or_default, get_or-set_other}
 use Rattle.std.proofs.lemmas.List.Edits.{swapped_from_swap, length-swap}
 use Rattle.std.proofs.lemmas.List.Elements.{All-from_recursion, recursion_from_All}
@@ -14,7 +14,7 @@ use Rattle.std.specs.Cmp.{IsTotalOrder}
 use Rattle.std.specs.Cmp.Lexicographic.{options_total}
 use Rattle.std.specs.Option.{option_cmp}
 use Rattle.std.specs.List.{All, AllByRecursion, filter, swap}
-use Rattle.std.specs.List.Sorted.{IsStrictlySortedBy, IsPermutation, IsStableBy, ties}
+use Rattle.std.specs.List.Sorted.{IsStrictlySortedBy, IsPermutation, IsStableBy, IsStableByKey, ties}
 use Rattle.std.specs.Map.{keys_of}
 use Rattle.std.specs.Ordering.{nat_cmp, is_eq, is_lt, ordering_reverse, ordering_then}
 use Rattle.std.specs.declared.borrow.CowStr.TheVariants.{Borrowed}
@@ -258,6 +258,45 @@ stays d es keys others are were stable name =
           subst (λ name. filter (has name) (entries_at d es others) ≡ filter (has name) (entries_at d es keys)) found.2
           (of_name d es found.0 others found.1 were ∙ ap (entries_at d es) (stable found.0)
           ∙ sym (of_name d es found.0 keys found.1 are))
+
+-- ---- a sort by rank before the sort by name
+
+filter_within : (p q : Key → Bool) → ((key : Key) → p key ≡ true → q key ≡ true) → (keys : List Key)
+    → filter p (filter q keys) ≡ filter p keys
+filter_within p q passes [] = refl
+filter_within p q passes (key ∷ keys) =
+    let rest = filter_within p q passes keys in
+    elim (p key) as (λ b. p key ≡ b → filter p (filter q (key ∷ keys)) ≡ filter p (key ∷ keys)) [
+      | true ↦ λ yes. rw (passes key yes, yes) (ap (λ (more : List Key). key ∷ more) rest)
+      | false ↦ λ no. elim (q key) as (λ c. q key ≡ c → filter p (filter q (key ∷ keys)) ≡ filter p (key ∷ keys)) [
+        | true ↦ λ kept. rw (kept, no) rest
+        | false ↦ λ dropped. rw (dropped, no) rest
+      ] refl
+    ] refl
+
+first_of_then : (r p : Ordering) → not (is_lt (ordering_then r p)) ≡ true → not (is_lt r) ≡ true
+first_of_then Less p is = is
+first_of_then Equal p is = refl
+first_of_then Greater p is = refl
+
+abbrev lower_rank : Key → Key → Bool
+lower_rank one other = is_lt (nat_cmp one.rank other.rank)
+
+-- keys of the same name have the same rank
+ranks_tie : (names : List (List ℕ)) (one other : Key) → ties (comes_first names) one other ≡ true
+    → ties lower_rank one other ≡ true
+unfolding key_order
+ranks_tie names one other is =
+    let parts = and_parts _ _ is in
+    and_from _ _ (first_of_then _ _ parts.0) (first_of_then _ _ parts.1)
+
+pub stable_by_both : (names : List (List ℕ)) (before between after : List Key)
+    → IsStableByKey (λ key. key.rank) nat_cmp before between → IsStableBy (comes_first names) between after
+    → IsStableBy (comes_first names) before after
+stable_by_both names before between after by_rank by_name one =
+    by_name one ∙ sym (filter_within (ties (comes_first names) one) (ties lower_rank one) (ranks_tie names one) between)
+    ∙ ap (filter (ties (comes_first names) one)) (by_rank one)
+    ∙ filter_within (ties (comes_first names) one) (ties lower_rank one) (ranks_tie names one) before
 
 -- ---- the keys before the sort
 

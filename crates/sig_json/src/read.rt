@@ -120,6 +120,7 @@ fn read_all_members(
         let value = read_value(alloc, reader, depth)?;
         add_member(&mut found, key, value)?;
     }
-    let ordered = all_in_order(alloc, found)?;
-    Ok(fitted(alloc, ordered)?)
+    let mut ordered = all_in_order(alloc, found)?;
+    ordered.shrink_to_fit();
+    Ok(ordered)
 }

@@ -1,7 +1,7 @@
 //! Many members in the byte order of their names, by a sort of their indices.
-ghost use Rattle.std.specs.Prelude.{◌≡◌, ◌≤◌, IfOk, slice_get};
+ghost use Rattle.std.specs.Prelude.{◌≡◌, ◌≤◌, IfOk, OnOk, slice_get};
 ghost use Rattle.std.specs.Cmp.Lexicographic.{slice_cmp};
-ghost use Rattle.std.specs.List.Sorted.{IsPermutation, IsStableBy};
+ghost use Rattle.std.specs.List.Sorted.{IsPermutation, IsStableBy, IsStableByKey};
 ghost use Rattle.std.specs.Option.{option_cmp};
 ghost use Rattle.std.specs.Ordering.{nat_cmp};
 ghost use Rattle.sig_json.specs.Gathered.{gathered};
@@ -103,11 +103,22 @@ fn keys_of(alloc: Global, names: &[&str]) -> Result<Vec<Key>, OutOfMemory>
     Ok(keys)
 }
 
-/// Puts keys in the order of their names; keys of the same name stay in their order.
-fn put_in_order(names: &[&str], keys: &mut Vec<Key>) -> Result<(), OutOfMemory>
+/// Puts keys in the order of their ranks; keys of the same rank stay in their order.
+fn put_in_rank_order(keys: &mut Vec<Key>) -> Result<(), OutOfMemory>
     ensures moved { IsPermutation keys.old.items keys.new.items }
-    ensures stable { IsStableBy (comes_first (names_of names.now)) keys.old.items keys.new.items }
+    ensures stable { IsStableByKey (λ key. key.rank) nat_cmp keys.old.items keys.new.items }
 {
+    keys.sort_by_key(|key| key.rank)?;
+    Ok(())
+}
+
+/// Puts keys in the order of their names; keys of the same name stay in their order. The ranks alone leave little to
+/// the names, even if many are the same.
+fn put_in_order(names: &[&str], keys: &mut Vec<Key>) -> Result<(), OutOfMemory>
+    ensures moved { OnOk result (IsPermutation keys.old.items keys.new.items) }
+    ensures stable { OnOk result (IsStableBy (comes_first (names_of names.now)) keys.old.items keys.new.items) }
+{
+    put_in_rank_order(keys)?;
     keys.sort_by(move |one, other| order_between(names, one, other))?;
     Ok(())
 }
