@@ -113,6 +113,7 @@ fn place_from_last(members: &Vec<Entry<'_>>, name: &str) -> Result<usize, usize>
 
 /// Sets the member of a name at its place.
 #[tactic(auto, using(crate::proofs::Ordered::placed))]
+#[inline(always)]
 fn put_at<'t>(
     members: &mut Vec<Entry<'t>>,
     place: Result<usize, usize>,

@@ -4,11 +4,8 @@ ghost use Rattle.std.specs.Prelude.{◌≡◌, ◌++◌, [], ◌∷◌, OnOk, If
 use sig_base::OutOfMemory;
 use std::alloc::Global;
 
-/// How many have room once there is a second.
+/// How many have room once there is a second; no more than these move to a vector of their own size.
 const SECOND_ROOM: usize = 8;
-
-/// Up to so many move to a vector of their own size when they are complete.
-const MOVED: usize = 4096;
 
 /// Makes room for one more. The first takes room for itself alone, since most lists and objects of a large document
 /// have no other, and the second takes it for a few.
@@ -37,7 +34,7 @@ pub(crate) fn fitted<T: Drop>(alloc: Global, mut found: Vec<T>) -> Result<Vec<T>
     ensures { IfOk result (λ own. own.items ≡ found.items) }
 {
     let count = found.len();
-    if count == found.capacity() || count > MOVED {
+    if count == found.capacity() || count > SECOND_ROOM {
         found.shrink_to_fit();
         return Ok(found);
     }
