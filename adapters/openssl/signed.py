@@ -113,9 +113,9 @@ class Signed:
     The content is an envelope or a message. With a chain an authority below the root issued the certificate; with a
     rival the trusted root has another authority of its name before it. Of the `spoiled` signature, a title of `LINKS`,
     the last bit is flipped, or a stranger's key of the same kind made it. Parts of other forms: the `stamps` are so
-    many SCTs, `issued` the extension with the issuer, `workflow` the texts of further ones, and `anchor` has other parts of
-    trust anchors; `payload` makes the statement of a digest, and `body` the log entry's body from payload, signature
-    and certificate."""
+    many SCTs, `issued` the extension with the issuer, `workflow` the texts of further ones, and `anchor` has other
+    parts of trust anchors; `payload` makes the statement of a digest, and `body` the log entry's body from payload,
+    signature and certificate."""
 
     def __init__(self, leaf="P-256", authority=("P-256", "SHA256"), log="P-256", content="envelope", profile="0.3",
                  chain=False, rival=False, spoiled=None, by="flip", artifact=b"an artifact\n", stamps=1, issued=None,
