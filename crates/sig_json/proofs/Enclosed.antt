@@ -33,9 +33,13 @@ abbrev pub turns_of : Open → ℕ
 turns_of (list turns behind) = turns
 turns_of (members_of turns key passed) = turns
 
-abbrev pub IsWholeSoFar : Open → Type 0
-IsWholeSoFar (list turns behind) = (ds : Items) → items_have_float ds ≡ false → items_have_float (behind ds) ≡ false
-IsWholeSoFar (members_of turns key passed) = members_have_float passed ≡ false
+abbrev pub HasNoFloat : Open → Type 0
+HasNoFloat (list turns behind) = (ds : Items) → items_have_float ds ≡ false → items_have_float (behind ds) ≡ false
+HasNoFloat (members_of turns key passed) = members_have_float passed ≡ false
+
+-- what was passed of it has no float, unless one was met
+abbrev pub IsWholeSoFar : (floats : Bool) → Open → Type 0
+IsWholeSoFar floats f = floats ≡ false → HasNoFloat f
 
 -- one more value was passed
 abbrev pub with_value : Data → Open → Open
@@ -58,50 +62,50 @@ outermost-none depth [] = refl
 outermost-none depth (f ∷ fs) = outermost-none depth fs
 
 -- each of these goes on for so many tokens, and its kind is at its level
-abbrev pub AreOpen : List Bool → ℕ → List Open → Type 0
-AreOpen kinds few [] = ⊤
-AreOpen kinds few (f ∷ fs) =
-    (get_or kinds (length fs) false ≡ is_object f) × (few ≤ turns_of f) × IsWholeSoFar f × AreOpen kinds few fs
+abbrev pub AreOpen : (floats : Bool) → List Bool → ℕ → List Open → Type 0
+AreOpen floats kinds few [] = ⊤
+AreOpen floats kinds few (f ∷ fs) =
+    (get_or kinds (length fs) false ≡ is_object f) × (few ≤ turns_of f) × IsWholeSoFar floats f × AreOpen floats kinds few fs
 
-fewer : (kinds : List Bool) (few more : ℕ) (fs : List Open) → few ≤ more → AreOpen kinds more fs → AreOpen kinds few fs
-fewer kinds few more [] less are = tt
-fewer kinds few more (f ∷ fs) less are =
-    (are.0, omega (arith, are.1), are.2, fewer kinds few more fs less are.3)
+fewer : (floats : Bool) (kinds : List Bool) (few more : ℕ) (fs : List Open) → few ≤ more → AreOpen floats kinds more fs → AreOpen floats kinds few fs
+fewer floats kinds few more [] less are = tt
+fewer floats kinds few more (f ∷ fs) less are =
+    (are.0, omega (arith, are.1), are.2, fewer floats kinds few more fs less are.3)
 
-opened_above : (kinds : List Bool) (few level : ℕ) (kind : Bool) (fs : List Open) → length fs ≤ level
-    → AreOpen kinds few fs → AreOpen (set kinds level kind) few fs
-opened_above kinds few level kind [] above are = tt
-opened_above kinds few level kind (f ∷ fs) above are = (
+opened_above : (floats : Bool) (kinds : List Bool) (few level : ℕ) (kind : Bool) (fs : List Open) → length fs ≤ level
+    → AreOpen floats kinds few fs → AreOpen floats (set kinds level kind) few fs
+opened_above floats kinds few level kind [] above are = tt
+opened_above floats kinds few level kind (f ∷ fs) above are = (
   get_or-set_other kinds level (length fs) kind false (omega arith) ∙ are.0,
   are.1,
   are.2,
-  opened_above kinds few level kind fs (omega arith) are.3,
+  opened_above floats kinds few level kind fs (omega arith) are.3,
 )
 
 -- ---- before a value, and behind one
 
 -- at the next value in the innermost
-pub record Before (depth : ℕ) (start : List Token) (kinds : List Bool) (level : ℕ) (left : List Token) : Type 0 where
+pub record Before (floats : Bool) (depth : ℕ) (start : List Token) (kinds : List Bool) (level : ℕ) (left : List Token) : Type 0 where
   pub enclosing : List Open
   pub at : level ≡ length enclosing
   pub meant : value_meant depth start ≡ outermost depth enclosing (value_meant (depth - level) left)
-  pub are : AreOpen kinds (length left) enclosing
+  pub are : AreOpen floats kinds (length left) enclosing
   pub below : length left ≤ length start
 
 -- behind a value in the innermost, or behind its bracket or brace
-pub record Inside (depth : ℕ) (start : List Token) (kinds : List Bool) (level : ℕ) (left : List Token) : Type 0 where
+pub record Inside (floats : Bool) (depth : ℕ) (start : List Token) (kinds : List Bool) (level : ℕ) (left : List Token) : Type 0 where
   pub innermost : Open
   pub others : List Open
   pub at : level ≡ suc (length others)
   pub meant : value_meant depth start ≡ outermost depth others (closed (depth - level) innermost left)
   pub kind : get_or kinds (length others) false ≡ is_object innermost
   pub enough : length left ≤ turns_of innermost
-  pub whole : IsWholeSoFar innermost
-  pub are : AreOpen kinds (suc (length left)) others
+  pub whole : IsWholeSoFar floats innermost
+  pub are : AreOpen floats kinds (suc (length left)) others
   pub below : length left < length start
 
-pub at_start : (depth : ℕ) (start : List Token) (kinds : List Bool) → Before depth start kinds 0 start
-at_start depth start kinds = record {
+pub at_start : (floats : Bool) (depth : ℕ) (start : List Token) (kinds : List Bool) → Before floats depth start kinds 0 start
+at_start floats depth start kinds = record {
   enclosing = [];
   at = refl;
   meant = ap (λ n. value_meant n start) (omega arith);
@@ -111,8 +115,8 @@ at_start depth start kinds = record {
 
 -- ---- the value that is next
 
-module _ (depth : ℕ) (start : List Token) (kinds : List Bool) (level : ℕ) (left : List Token)
-    (so_far : Before depth start kinds level left) where
+module _ (floats : Bool) (depth : ℕ) (start : List Token) (kinds : List Bool) (level : ℕ) (left : List Token)
+    (so_far : Before floats depth start kinds level left) where
   pub value_fault : value_meant (depth - level) left ≡ None → value_meant depth start ≡ None
   value_fault none = so_far.meant ∙ ap (outermost depth so_far.enclosing) none ∙ outermost-none depth so_far.enclosing
 
@@ -149,15 +153,15 @@ unfolding opened
 opened_turns true turns = refl
 opened_turns false turns = refl
 
-opened_whole : (kind : Bool) (turns : ℕ) → IsWholeSoFar (opened kind turns)
+opened_whole : (floats : Bool) (kind : Bool) (turns : ℕ) → IsWholeSoFar floats (opened kind turns)
 unfolding opened
-opened_whole true turns = refl
-opened_whole false turns = λ ds whole. whole
+opened_whole floats true turns = λ free. refl
+opened_whole floats false turns = λ free ds whole. whole
 
-opened_inside : (depth : ℕ) (start : List Token) (kinds : List Bool) (level : ℕ) (left : List Token) (kind : Bool)
-    (inner : List Token) → Before depth start kinds level left → left ≡ opening kind ∷ inner → level < depth
-    → level < length kinds → Inside depth start (set kinds level kind) (level + 1) inner
-opened_inside depth start kinds level left kind inner so_far is above room =
+opened_inside : (floats : Bool) (depth : ℕ) (start : List Token) (kinds : List Bool) (level : ℕ) (left : List Token) (kind : Bool)
+    (inner : List Token) → Before floats depth start kinds level left → left ≡ opening kind ∷ inner → level < depth
+    → level < length kinds → Inside floats depth start (set kinds level kind) (level + 1) inner
+opened_inside floats depth start kinds level left kind inner so_far is above room =
     let one_less : length left ≡ suc (length inner) = ap length is in
     record {
       innermost = opened kind (length inner);
@@ -167,19 +171,19 @@ opened_inside depth start kinds level left kind inner so_far is above room =
       kind = ap (λ n. get_or (set kinds level kind) n false) (sym so_far.at)
           ∙ get_or-set_same kinds level kind false room ∙ opened_kind kind (length inner);
       enough = omega (arith, opened_turns kind (length inner));
-      whole = opened_whole kind (length inner);
-      are = opened_above kinds (suc (length inner)) level kind so_far.enclosing (omega (arith, so_far.at))
-          (fewer kinds (suc (length inner)) (length left) so_far.enclosing (omega (arith, one_less)) so_far.are);
+      whole = opened_whole floats kind (length inner);
+      are = opened_above floats kinds (suc (length inner)) level kind so_far.enclosing (omega (arith, so_far.at))
+          (fewer floats kinds (suc (length inner)) (length left) so_far.enclosing (omega (arith, one_less)) so_far.are);
       below = omega (arith, so_far.below, one_less);
     }
 
-pub value_opened : (depth : ℕ) (start : List Token) (kinds : List Bool) (level next : ℕ) (left : List Token)
-    (kind : Bool) (inner : List Token) → Before depth start kinds level left → left ≡ opening kind ∷ inner
+pub value_opened : (floats : Bool) (depth : ℕ) (start : List Token) (kinds : List Bool) (level next : ℕ) (left : List Token)
+    (kind : Bool) (inner : List Token) → Before floats depth start kinds level left → left ≡ opening kind ∷ inner
     → (next ≡ level + 1) × (level < depth) × (level < 126) → length kinds ≡ 126
-    → Inside depth start (set kinds level kind) next inner
-value_opened depth start kinds level next left kind inner so_far is room all =
-    subst (λ n. Inside depth start (set kinds level kind) n inner) (sym room.0)
-    (opened_inside depth start kinds level left kind inner so_far is room.1 (omega (arith, room.2, all)))
+    → Inside floats depth start (set kinds level kind) next inner
+value_opened floats depth start kinds level next left kind inner so_far is room all =
+    subst (λ n. Inside floats depth start (set kinds level kind) n inner) (sym room.0)
+    (opened_inside floats depth start kinds level left kind inner so_far is room.1 (omega (arith, room.2, all)))
 
 with_value-object : (d : Data) (f : Open) → is_object (with_value d f) ≡ is_object f
 with_value-object d (list turns behind) = refl
@@ -189,17 +193,18 @@ with_value-turns : (d : Data) (f : Open) → turns_of (with_value d f) ≡ turns
 with_value-turns d (list turns behind) = refl
 with_value-turns d (members_of turns key passed) = refl
 
-with_value-whole : (d : Data) (f : Open) → has_float d ≡ false → IsWholeSoFar f → IsWholeSoFar (with_value d f)
-with_value-whole d (list turns behind) one whole =
-    λ ds none. whole (item d ds) (or_from (has_float d) (items_have_float ds) one none)
-with_value-whole d (members_of turns key passed) one whole = put_floatless key d passed one whole
+with_value-whole : (floats : Bool) (d : Data) (f : Open) → (floats ≡ false → has_float d ≡ false) → IsWholeSoFar floats f → IsWholeSoFar floats (with_value d f)
+with_value-whole floats d (list turns behind) one whole =
+    λ free ds none. whole free (item d ds) (or_from (has_float d) (items_have_float ds) (one free) none)
+with_value-whole floats d (members_of turns key passed) one whole =
+    λ free. put_floatless key d passed (one free) (whole free)
 
 -- a value of the next one out was passed
-taken : (depth : ℕ) (start : List Token) (kinds : List Bool) (d : Data) (rest : List Token) (f : Open)
-    (fs : List Open) → value_meant depth start ≡ outermost depth (f ∷ fs) (Some (d, rest)) → has_float d ≡ false
-    → AreOpen kinds (suc (length rest)) (f ∷ fs) → length rest < length start
-    → Inside depth start kinds (suc (length fs)) rest
-taken depth start kinds d rest f fs meant one are less =
+taken : (floats : Bool) (depth : ℕ) (start : List Token) (kinds : List Bool) (d : Data) (rest : List Token) (f : Open)
+    (fs : List Open) → value_meant depth start ≡ outermost depth (f ∷ fs) (Some (d, rest)) → (floats ≡ false → has_float d ≡ false)
+    → AreOpen floats kinds (suc (length rest)) (f ∷ fs) → length rest < length start
+    → Inside floats depth start kinds (suc (length fs)) rest
+taken floats depth start kinds d rest f fs meant one are less =
     record {
       innermost = with_value d f;
       others = fs;
@@ -207,25 +212,61 @@ taken depth start kinds d rest f fs meant one are less =
       meant = meant;
       kind = are.0 ∙ sym (with_value-object d f);
       enough = omega (arith, are.1, with_value-turns d f);
-      whole = with_value-whole d f one are.2;
+      whole = with_value-whole floats d f one are.2;
       are = are.3;
       below = less;
     }
 
-pub value_taken : (depth : ℕ) (start : List Token) (kinds : List Bool) (level : ℕ) (left next : List Token)
-    → Before depth start kinds level left → 0 < level → PassesValue (depth - level) left next
-    → length next < length left → Inside depth start kinds level next
-value_taken depth start kinds level left next so_far some passed less =
+pub value_taken : (floats : Bool) (depth : ℕ) (start : List Token) (kinds : List Bool) (level : ℕ) (left next : List Token)
+    → Before floats depth start kinds level left → 0 < level → PassesValue floats (depth - level) left next
+    → length next < length left → Inside floats depth start kinds level next
+value_taken floats depth start kinds level left next so_far some passed less =
     go so_far.enclosing so_far.at so_far.meant so_far.are where
       go : (enclosing : List Open) → level ≡ length enclosing
           → value_meant depth start ≡ outermost depth enclosing (value_meant (depth - level) left)
-          → AreOpen kinds (length left) enclosing → Inside depth start kinds level next
+          → AreOpen floats kinds (length left) enclosing → Inside floats depth start kinds level next
       go [] at meant are = absurd (omega (arith, at, some))
       go (f ∷ fs) at meant are =
-          subst (λ n. Inside depth start kinds n next) (sym at)
-          (taken depth start kinds passed.value next f fs (meant ∙ ap (outermost depth (f ∷ fs)) passed.is) passed.whole
-          (fewer kinds (suc (length next)) (length left) (f ∷ fs) (omega (arith, less)) are)
+          subst (λ n. Inside floats depth start kinds n next) (sym at)
+          (taken floats depth start kinds passed.value next f fs (meant ∙ ap (outermost depth (f ∷ fs)) passed.is) passed.whole
+          (fewer floats kinds (suc (length next)) (length left) (f ∷ fs) (omega (arith, less)) are)
           (omega (arith, less, so_far.below)))
+
+-- ---- once a float was met
+
+module _ (floats after : Bool) (earlier : after ≡ false → floats ≡ false) where
+  later_open : (kinds : List Bool) (few : ℕ) (fs : List Open) → AreOpen floats kinds few fs → AreOpen after kinds few fs
+  later_open kinds few [] are = tt
+  later_open kinds few (f ∷ fs) are =
+      (are.0, are.1, (λ free. are.2 (earlier free)), later_open kinds few fs are.3)
+
+  later : (depth : ℕ) (start : List Token) (kinds : List Bool) (level : ℕ) (left : List Token)
+      → Before floats depth start kinds level left → Before after depth start kinds level left
+  later depth start kinds level left so_far =
+      record {
+        enclosing = so_far.enclosing;
+        at = so_far.at;
+        meant = so_far.meant;
+        are = later_open kinds (length left) so_far.enclosing so_far.are;
+        below = so_far.below;
+      }
+
+pub whole_taken : (floats : Bool) (depth : ℕ) (start : List Token) (kinds : List Bool) (level : ℕ)
+    (left next : List Token) → Before floats depth start kinds level left → 0 < level
+    → PassesValue false (depth - level) left next → length next < length left
+    → Inside floats depth start kinds level next
+whole_taken floats depth start kinds level left next so_far some passed less =
+    value_taken floats depth start kinds level left next so_far some
+    (record { value = passed.value; is = passed.is; whole = λ free. passed.whole refl }) less
+
+pub float_taken : (floats : Bool) (depth : ℕ) (start : List Token) (kinds : List Bool) (level : ℕ)
+    (left next : List Token) → Before floats depth start kinds level left → 0 < level
+    → PassesValue true (depth - level) left next → length next < length left
+    → Inside true depth start kinds level next
+float_taken floats depth start kinds level left next so_far some passed less =
+    let never : true ≡ false → floats ≡ false = λ is. absurd (true≢false is) in
+    value_taken true depth start kinds level left next (later floats true never depth start kinds level left so_far)
+    some passed less
 
 -- ---- what is behind the values that were passed
 
@@ -261,42 +302,42 @@ object_turn depth turns old k passed left inner key enough = turn (value_meant d
       (member_read (value depth) passed turns k left inner p.1 p.0 (omega (arith, enough, less)) key is)
 
 -- the innermost ends here, and its value was passed
-pub record Over (depth : ℕ) (start : List Token) (kinds : List Bool) (level : ℕ) (rest : List Token) : Type 0 where
+pub record Over (floats : Bool) (depth : ℕ) (start : List Token) (kinds : List Bool) (level : ℕ) (rest : List Token) : Type 0 where
   pub others : List Open
   pub at : level ≡ suc (length others)
   pub value : Data
   pub meant : value_meant depth start ≡ outermost depth others (Some (value, rest))
-  pub whole : has_float value ≡ false
-  pub are : AreOpen kinds (suc (length rest)) others
+  pub whole : floats ≡ false → has_float value ≡ false
+  pub are : AreOpen floats kinds (suc (length rest)) others
   pub below : length rest < length start
 
-pub over_last : (depth : ℕ) (start : List Token) (kinds : List Bool) (level : ℕ) (rest : List Token)
-    → Over depth start kinds level rest → level - 1 ≡ 0 → PassesValue depth start rest
-over_last depth start kinds level rest over last = go over.others over.at over.meant where
+pub over_last : (floats : Bool) (depth : ℕ) (start : List Token) (kinds : List Bool) (level : ℕ) (rest : List Token)
+    → Over floats depth start kinds level rest → level - 1 ≡ 0 → PassesValue floats depth start rest
+over_last floats depth start kinds level rest over last = go over.others over.at over.meant where
   go : (others : List Open) → level ≡ suc (length others)
-      → value_meant depth start ≡ outermost depth others (Some (over.value, rest)) → PassesValue depth start rest
+      → value_meant depth start ≡ outermost depth others (Some (over.value, rest)) → PassesValue floats depth start rest
   go [] at meant = record { value = over.value; is = meant; whole = over.whole }
   go (f ∷ fs) at meant = absurd (omega (arith, at, last))
 
-pub over_inner : (depth : ℕ) (start : List Token) (kinds : List Bool) (level : ℕ) (rest : List Token)
-    → Over depth start kinds level rest → 0 < level - 1 → Inside depth start kinds (level - 1) rest
-over_inner depth start kinds level rest over more = go over.others over.at over.meant over.are where
+pub over_inner : (floats : Bool) (depth : ℕ) (start : List Token) (kinds : List Bool) (level : ℕ) (rest : List Token)
+    → Over floats depth start kinds level rest → 0 < level - 1 → Inside floats depth start kinds (level - 1) rest
+over_inner floats depth start kinds level rest over more = go over.others over.at over.meant over.are where
   go : (others : List Open) → level ≡ suc (length others)
       → value_meant depth start ≡ outermost depth others (Some (over.value, rest))
-      → AreOpen kinds (suc (length rest)) others → Inside depth start kinds (level - 1) rest
+      → AreOpen floats kinds (suc (length rest)) others → Inside floats depth start kinds (level - 1) rest
   go [] at meant are = absurd (omega (arith, at, more))
   go (f ∷ fs) at meant are =
-      subst (λ n. Inside depth start kinds n rest) (omega (arith, at))
-      (taken depth start kinds over.value rest f fs meant over.whole are over.below)
+      subst (λ n. Inside floats depth start kinds n rest) (omega (arith, at))
+      (taken floats depth start kinds over.value rest f fs meant over.whole are over.below)
 
-module _ (depth : ℕ) (start : List Token) (kinds : List Bool) (level : ℕ) (left : List Token)
-    (so_far : Inside depth start kinds level left) where
+module _ (floats : Bool) (depth : ℕ) (start : List Token) (kinds : List Bool) (level : ℕ) (left : List Token)
+    (so_far : Inside floats depth start kinds level left) where
   at_level : value_meant depth start
       ≡ outermost depth so_far.others (closed (depth - suc (length so_far.others)) so_far.innermost left)
   at_level = so_far.meant ∙ ap (λ n. outermost depth so_far.others (closed (depth - n) so_far.innermost left)) so_far.at
 
   inner_over : (d : Data) (rest : List Token) → closed (depth - level) so_far.innermost left ≡ Some (d, rest)
-      → has_float d ≡ false → length rest < length left → Over depth start kinds level rest
+      → (floats ≡ false → has_float d ≡ false) → length rest < length left → Over floats depth start kinds level rest
   inner_over d rest is one less =
       record {
         others = so_far.others;
@@ -304,7 +345,7 @@ module _ (depth : ℕ) (start : List Token) (kinds : List Bool) (level : ℕ) (l
         value = d;
         meant = so_far.meant ∙ ap (outermost depth so_far.others) is;
         whole = one;
-        are = fewer kinds (suc (length rest)) (suc (length left)) so_far.others (omega (arith, less)) so_far.are;
+        are = fewer floats kinds (suc (length rest)) (suc (length left)) so_far.others (omega (arith, less)) so_far.are;
         below = omega (arith, less, so_far.below);
       }
 
@@ -312,10 +353,10 @@ module _ (depth : ℕ) (start : List Token) (kinds : List Bool) (level : ℕ) (l
       → closed (depth - suc (length so_far.others)) so_far.innermost left
       ≡ option_and_then (λ p. closed (depth - suc (length so_far.others)) (with_value p.0 f) p.1)
       (value_meant (depth - suc (length so_far.others)) inner)
-      → is_object so_far.innermost ≡ is_object f → turns_of so_far.innermost ≡ turns_of f → IsWholeSoFar f
-      → length inner ≤ length left → Before depth start kinds level inner
+      → is_object so_far.innermost ≡ is_object f → turns_of so_far.innermost ≡ turns_of f → IsWholeSoFar floats f
+      → length inner ≤ length left → Before floats depth start kinds level inner
   next_in f inner turn kind turns whole less =
-      subst (λ n. Before depth start kinds n inner) (sym so_far.at)
+      subst (λ n. Before floats depth start kinds n inner) (sym so_far.at)
       (record {
         enclosing = f ∷ so_far.others;
         at = refl;
@@ -324,86 +365,86 @@ module _ (depth : ℕ) (start : List Token) (kinds : List Bool) (level : ℕ) (l
           so_far.kind ∙ kind,
           omega (arith, so_far.enough, turns, less),
           whole,
-          fewer kinds (length inner) (suc (length left)) so_far.others (omega (arith, less)) so_far.are,
+          fewer floats kinds (length inner) (suc (length left)) so_far.others (omega (arith, less)) so_far.are,
         );
         below = omega (arith, less, so_far.below);
       })
 
-pub list_over : (depth : ℕ) (start : List Token) (kinds : List Bool) (level : ℕ) (left rest : List Token)
-    → Inside depth start kinds level left → get_or kinds (level - 1) false ≡ false → after_end_array left ≡ Some rest
-    → Over depth start kinds level rest
-list_over depth start kinds level left rest so_far kind end =
+pub list_over : (floats : Bool) (depth : ℕ) (start : List Token) (kinds : List Bool) (level : ℕ) (left rest : List Token)
+    → Inside floats depth start kinds level left → get_or kinds (level - 1) false ≡ false → after_end_array left ≡ Some rest
+    → Over floats depth start kinds level rest
+list_over floats depth start kinds level left rest so_far kind end =
     go so_far.innermost refl so_far.enough so_far.whole where
       here : get_or kinds (level - 1) false ≡ is_object so_far.innermost
       here = ap (λ n. get_or kinds n false) (omega (arith, so_far.at)) ∙ so_far.kind
 
-      go : (f : Open) → so_far.innermost ≡ f → length left ≤ turns_of f → IsWholeSoFar f
-          → Over depth start kinds level rest
+      go : (f : Open) → so_far.innermost ≡ f → length left ≤ turns_of f → IsWholeSoFar floats f
+          → Over floats depth start kinds level rest
       go (list turns behind) is enough whole =
-          inner_over depth start kinds level left so_far (array (behind no_items)) rest
+          inner_over floats depth start kinds level left so_far (array (behind no_items)) rest
           (ap (λ f. closed (depth - level) f left) is
           ∙ ap (parse_map (λ ds. array (behind ds))) (items_over (value (depth - level)) turns left rest enough end))
-          (whole no_items refl) (after_end_array-shorter left rest end)
+          (λ free. whole free no_items refl) (after_end_array-shorter left rest end)
       go (members_of turns key passed) is enough whole =
           absurd (true≢false (sym (here ∙ ap is_object is) ∙ kind))
 
-pub object_over : (depth : ℕ) (start : List Token) (kinds : List Bool) (level : ℕ) (left rest : List Token)
-    → Inside depth start kinds level left → get_or kinds (level - 1) false ≡ true → read_key left ≡ Some (None, rest)
-    → Over depth start kinds level rest
-object_over depth start kinds level left rest so_far kind end =
+pub object_over : (floats : Bool) (depth : ℕ) (start : List Token) (kinds : List Bool) (level : ℕ) (left rest : List Token)
+    → Inside floats depth start kinds level left → get_or kinds (level - 1) false ≡ true → read_key left ≡ Some (None, rest)
+    → Over floats depth start kinds level rest
+object_over floats depth start kinds level left rest so_far kind end =
     go so_far.innermost refl so_far.enough so_far.whole where
       here : get_or kinds (level - 1) false ≡ is_object so_far.innermost
       here = ap (λ n. get_or kinds n false) (omega (arith, so_far.at)) ∙ so_far.kind
 
-      go : (f : Open) → so_far.innermost ≡ f → length left ≤ turns_of f → IsWholeSoFar f
-          → Over depth start kinds level rest
+      go : (f : Open) → so_far.innermost ≡ f → length left ≤ turns_of f → IsWholeSoFar floats f
+          → Over floats depth start kinds level rest
       go (list turns behind) is enough whole = absurd (true≢false (sym kind ∙ here ∙ ap is_object is))
       go (members_of turns key passed) is enough whole =
-          inner_over depth start kinds level left so_far (object passed) rest
+          inner_over floats depth start kinds level left so_far (object passed) rest
           (ap (λ f. closed (depth - level) f left) is
           ∙ ap (parse_map object) (members_over (value (depth - level)) passed turns left rest enough end))
           whole (read_key-shorter left None rest end)
 
-pub list_next : (depth : ℕ) (start : List Token) (kinds : List Bool) (level : ℕ) (left : List Token)
-    → Inside depth start kinds level left → get_or kinds (level - 1) false ≡ false → after_end_array left ≡ None
-    → Before depth start kinds level left
-list_next depth start kinds level left so_far kind going =
+pub list_next : (floats : Bool) (depth : ℕ) (start : List Token) (kinds : List Bool) (level : ℕ) (left : List Token)
+    → Inside floats depth start kinds level left → get_or kinds (level - 1) false ≡ false → after_end_array left ≡ None
+    → Before floats depth start kinds level left
+list_next floats depth start kinds level left so_far kind going =
     go so_far.innermost refl so_far.enough so_far.whole where
       here : get_or kinds (level - 1) false ≡ is_object so_far.innermost
       here = ap (λ n. get_or kinds n false) (omega (arith, so_far.at)) ∙ so_far.kind
 
-      go : (f : Open) → so_far.innermost ≡ f → length left ≤ turns_of f → IsWholeSoFar f
-          → Before depth start kinds level left
+      go : (f : Open) → so_far.innermost ≡ f → length left ≤ turns_of f → IsWholeSoFar floats f
+          → Before floats depth start kinds level left
       go (list turns behind) is enough whole =
-          next_in depth start kinds level left so_far (list turns behind) left
+          next_in floats depth start kinds level left so_far (list turns behind) left
           (ap (λ f. closed (depth - suc (length so_far.others)) f left) is
           ∙ list_turn (depth - suc (length so_far.others)) turns behind left going enough)
           (ap is_object is) (ap turns_of is) whole (omega arith)
       go (members_of turns key passed) is enough whole =
           absurd (true≢false (sym (here ∙ ap is_object is) ∙ kind))
 
-pub object_next : (depth : ℕ) (start : List Token) (kinds : List Bool) (level : ℕ) (left inner : List Token)
-    (k : List ℕ) → Inside depth start kinds level left → get_or kinds (level - 1) false ≡ true
-    → read_key left ≡ Some (Some k, inner) → Before depth start kinds level inner
-object_next depth start kinds level left inner k so_far kind key =
+pub object_next : (floats : Bool) (depth : ℕ) (start : List Token) (kinds : List Bool) (level : ℕ) (left inner : List Token)
+    (k : List ℕ) → Inside floats depth start kinds level left → get_or kinds (level - 1) false ≡ true
+    → read_key left ≡ Some (Some k, inner) → Before floats depth start kinds level inner
+object_next floats depth start kinds level left inner k so_far kind key =
     go so_far.innermost refl so_far.enough so_far.whole where
       here : get_or kinds (level - 1) false ≡ is_object so_far.innermost
       here = ap (λ n. get_or kinds n false) (omega (arith, so_far.at)) ∙ so_far.kind
 
-      go : (f : Open) → so_far.innermost ≡ f → length left ≤ turns_of f → IsWholeSoFar f
-          → Before depth start kinds level inner
+      go : (f : Open) → so_far.innermost ≡ f → length left ≤ turns_of f → IsWholeSoFar floats f
+          → Before floats depth start kinds level inner
       go (list turns behind) is enough whole = absurd (true≢false (sym kind ∙ here ∙ ap is_object is))
       go (members_of turns old passed) is enough whole =
-          next_in depth start kinds level left so_far (members_of turns k passed) inner
+          next_in floats depth start kinds level left so_far (members_of turns k passed) inner
           (ap (λ f. closed (depth - suc (length so_far.others)) f left) is
           ∙ object_turn (depth - suc (length so_far.others)) turns old k passed left inner key enough)
           (ap is_object is) (ap turns_of is) whole
           (omega (arith, read_key-shorter left (Some k) inner key))
 
-pub key_fault : (depth : ℕ) (start : List Token) (kinds : List Bool) (level : ℕ) (left : List Token)
-    → Inside depth start kinds level left → get_or kinds (level - 1) false ≡ true → read_key left ≡ None
+pub key_fault : (floats : Bool) (depth : ℕ) (start : List Token) (kinds : List Bool) (level : ℕ) (left : List Token)
+    → Inside floats depth start kinds level left → get_or kinds (level - 1) false ≡ true → read_key left ≡ None
     → value_meant depth start ≡ None
-key_fault depth start kinds level left so_far kind none = go so_far.innermost refl where
+key_fault floats depth start kinds level left so_far kind none = go so_far.innermost refl where
   here : get_or kinds (level - 1) false ≡ is_object so_far.innermost
   here = ap (λ n. get_or kinds n false) (omega (arith, so_far.at)) ∙ so_far.kind
 
@@ -417,9 +458,9 @@ key_fault depth start kinds level left so_far kind none = go so_far.innermost re
 
 -- the first list or object
 pub opens : (depth level : ℕ) (kind : Bool) (inner : List Token) → (level ≡ 1) × (0 < depth) × (0 < 126)
-    → Inside depth (opening kind ∷ inner) (replicate 126 kind) level inner
+    → Inside false depth (opening kind ∷ inner) (replicate 126 kind) level inner
 opens depth level kind inner room =
-    subst (λ n. Inside depth (opening kind ∷ inner) (replicate 126 kind) n inner) (sym room.0)
+    subst (λ n. Inside false depth (opening kind ∷ inner) (replicate 126 kind) n inner) (sym room.0)
     (record {
       innermost = opened kind (length inner);
       others = [];
@@ -428,7 +469,7 @@ opens depth level kind inner room =
           ∙ opened_meant depth 0 kind (opening kind ∷ inner) inner room.1 refl;
       kind = get_or-replicate 126 0 kind false (omega arith) ∙ opened_kind kind (length inner);
       enough = omega (arith, opened_turns kind (length inner));
-      whole = opened_whole kind (length inner);
+      whole = opened_whole false kind (length inner);
       are = tt;
       below = omega arith;
     })
@@ -440,26 +481,26 @@ none_opens depth false inner none = array_too_deep depth (opening false ∷ inne
 
 -- ---- a turn
 
-module _ (depth : ℕ) (start : List Token) (kinds : List Bool) (level : ℕ) (left rest : List Token)
-    (so_far : Inside depth start kinds level left) where
+module _ (floats : Bool) (depth : ℕ) (start : List Token) (kinds : List Bool) (level : ℕ) (left rest : List Token)
+    (so_far : Inside floats depth start kinds level left) where
   end_taken : (kind : Bool) → get_or kinds (level - 1) false ≡ kind → TakesEnd kind true left rest
-      → Over depth start kinds level rest
-  end_taken true is end = object_over depth start kinds level left rest so_far is end
-  end_taken false is end = list_over depth start kinds level left rest so_far is end
+      → Over floats depth start kinds level rest
+  end_taken true is end = object_over floats depth start kinds level left rest so_far is end
+  end_taken false is end = list_over floats depth start kinds level left rest so_far is end
 
   going_on : (kind : Bool) → get_or kinds (level - 1) false ≡ kind → TakesEnd kind false left rest
-      → Before depth start kinds level rest
-  going_on true is more = object_next depth start kinds level left rest more.0 so_far is more.1
+      → Before floats depth start kinds level rest
+  going_on true is more = object_next floats depth start kinds level left rest more.0 so_far is more.1
   going_on false is more =
-      subst (Before depth start kinds level) (sym more.1) (list_next depth start kinds level left so_far is more.0)
+      subst (Before floats depth start kinds level) (sym more.1) (list_next floats depth start kinds level left so_far is more.0)
 
   pub ended : (kind is_over : Bool) → get_or kinds (level - 1) false ≡ kind → is_over ≡ true
-      → TakesEnd kind is_over left rest → Over depth start kinds level rest
+      → TakesEnd kind is_over left rest → Over floats depth start kinds level rest
   ended kind true is over end = end_taken kind is end
   ended kind false is over end = absurd (true≢false (sym over))
 
   pub goes_on : (kind is_over : Bool) → get_or kinds (level - 1) false ≡ kind → is_over ≡ false
-      → TakesEnd kind is_over left rest → Before depth start kinds level rest
+      → TakesEnd kind is_over left rest → Before floats depth start kinds level rest
   goes_on kind true is more end = absurd (true≢false more)
   goes_on kind false is more end = going_on kind is end
 

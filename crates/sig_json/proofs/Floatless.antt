@@ -12,10 +12,10 @@ use Rattle.sig_json.proofs.ByKind.{as_object_is}
 use Rattle.sig_json.proofs.ByOrdering.{holds_of_choice}
 
 -- where the value is there, it has no float
-abbrev FoundFloatless : Option Data → Type 0
+abbrev pub FoundFloatless : Option Data → Type 0
 FoundFloatless found = (d : Data) → found ≡ Some d → has_float d ≡ false
 
-get_member_floatless : (name : List ℕ) (ms : Members) → members_have_float ms ≡ false
+pub get_member_floatless : (name : List ℕ) (ms : Members) → members_have_float ms ≡ false
     → FoundFloatless (get_member name ms)
 get_member_floatless name no_members none = λ d e. cc
 get_member_floatless name (member k v ms) none =

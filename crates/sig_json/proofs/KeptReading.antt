@@ -1,12 +1,13 @@
 -- *Document* with the members of some names alone: by the outcome of each step of its reading, and by a cut through
 -- the whole tree.
-use Rattle.std.proofs.Common.{◌≡◌, ℕ, Bool, true, false, cond, List, [], ◌∷◌, Some, None, Ok, Err, IsUtf8}
-use Rattle.std.proofs.Common.{Vec, Global, refl, sym, ap, subst, ◌∙◌}
+use Rattle.std.proofs.Common.{◌≡◌, ℕ, Bool, true, false, not, cond, List, [], ◌∷◌, Some, None, Ok, Err, IsUtf8}
+use Rattle.std.proofs.Common.{Vec, Global, refl, inl, inr, sym, ap, subst, ◌∙◌}
 use Rattle.std.proofs.lemmas.Bool.{both_ways}
 use Rattle.std.specs.Cow.{cow_str_bytes}
 use Rattle.std.specs.List.{filter}
 use Rattle.std.specs.Prelude.{if◌then◌else◌}
-use Rattle.serde_json.specs.Data.{Data, object, member}
+use Rattle.sig_base.specs.Answers.{OrMemory}
+use Rattle.serde_json.specs.Data.{Data, object, Members, member}
 use Rattle.serde_json.specs.Find.{as_object}
 use Rattle.serde_json.specs.Read.{read}
 use Rattle.serde_json.specs.Written.{has_float, members_have_float}
@@ -19,10 +20,20 @@ use Rattle.sig_json.specs.Document.{document_of}
 use Rattle.sig_json.specs.Gathered.{Entry}
 use Rattle.sig_json.specs.Named.{IsNamedTree}
 use Rattle.sig_json.specs.Only.{is_among, members_where, only, only_of}
-use Rattle.sig_json.specs.Skipped.{KeepsOf}
+use Rattle.sig_json.specs.Skipped.{KeepsAllOf}
 use Rattle.sig_json.specs.View.{Words, view, members_view}
-use Rattle.sig_json.specs.declared.error.DocumentError.TheVariants.{NotJson, Float}
+use Rattle.sig_json.specs.declared.error.DocumentError.{DocumentError}
+use Rattle.sig_json.specs.declared.error.DocumentError.TheVariants.{NotJson, Float, OutOfMemory}
 use Rattle.sig_json.specs.declared.tree.Tree.{Tree, Null, Bool as Truth, Number as Numeral, Text, Array, Object}
+
+-- a float of a part is one of the whole
+pub float-where : (test : List ℕ → Bool) (ms : Members) → members_have_float (members_where test ms) ≡ true
+    → members_have_float ms ≡ true
+float-where test ms float =
+    elim (members_have_float ms) as (λ b. members_have_float ms ≡ b → b ≡ true) [
+      | true ↦ λ is. refl
+      | false ↦ λ is. absurd (both_ways (members_have_float (members_where test ms)) (floatless-where test ms is) float)
+    ] refl
 
 module _ (names : List (List ℕ)) (text : List ℕ) where
   -- ---- the whole text
@@ -41,29 +52,40 @@ module _ (names : List (List ℕ)) (text : List ℕ) where
       → only_of names (document_of text) ≡ Ok e
   only_read d e utf8 is none cut = ap (only_of names) (document_of-read text d utf8 is none) ∙ ap Ok (sym cut)
 
+  pub cut_read : (d e : Data) → document_of text ≡ Ok d → e ≡ only names d → only_of names (document_of text) ≡ Ok e
+  cut_read d e is cut = ap (only_of names) is ∙ ap Ok (sym cut)
+
+  pub cut_refused : (e : DocumentError) → OrMemory OutOfMemory e (document_of text ≡ Err e)
+      → OrMemory OutOfMemory e (only_of names (document_of text) ≡ Err e)
+  cut_refused e (inl memory) = inl memory
+  cut_refused e (inr is) = inr (ap (only_of names) is)
+
   -- ---- what was kept of it
 
-  pub kept_read : (v : Vec Entry Global) → IsUtf8 text → KeepsOf names text (members_view v.items)
-      → has_float (view (Object v)) ≡ false → only_of names (document_of text) ≡ Ok (view (Object v))
+  pub kept_read : (floats : Bool) (v : Vec Entry Global) → IsUtf8 text
+      → KeepsAllOf floats names text (members_view v.items) → floats ≡ false → has_float (view (Object v)) ≡ false
+      → only_of names (document_of text) ≡ Ok (view (Object v))
   unfolding only
-  kept_read v utf8 keeps none =
+  kept_read floats v utf8 keeps beside none =
       let kept : members_have_float (members_where (is_among names) keeps.all)
-      ≡ false = ap members_have_float keeps.part.are ∙ sym (ap has_float (view-Object v)) ∙ none in
+      ≡ false = ap members_have_float keeps.are ∙ sym (ap has_float (view-Object v)) ∙ none in
       only_read (object keeps.all) (view (Object v)) utf8 keeps.is
-      (floatless-both (is_among names) keeps.all kept keeps.part.whole)
-      (view-Object v ∙ ap object (sym keeps.part.are))
+      (floatless-both (is_among names) keeps.all kept (keeps.same ∙ beside))
+      (view-Object v ∙ ap object (sym keeps.are))
 
-  pub kept_float : (v : Vec Entry Global) → IsUtf8 text → KeepsOf names text (members_view v.items)
-      → has_float (view (Object v)) ≡ true → only_of names (document_of text) ≡ Err Float
-  kept_float v utf8 keeps float =
+  pub kept_float : (floats : Bool) (v : Vec Entry Global) → IsUtf8 text
+      → KeepsAllOf floats names text (members_view v.items) → has_float (view (Object v)) ≡ true
+      → only_of names (document_of text) ≡ Err Float
+  kept_float floats v utf8 keeps float =
       only_float (object keeps.all) utf8 keeps.is
-      (elim (members_have_float keeps.all) as (λ b. members_have_float keeps.all ≡ b → b ≡ true) [
-        | true ↦ λ is. refl
-        | false ↦ λ is.
-            let none : has_float (view (Object v)) ≡ false = ap has_float (view-Object v)
-            ∙ ap members_have_float (sym keeps.part.are) ∙ floatless-where (is_among names) keeps.all is in
-            absurd (both_ways (has_float (view (Object v))) none float)
-      ] refl)
+      (float-where (is_among names) keeps.all
+      (ap members_have_float keeps.are ∙ sym (ap has_float (view-Object v)) ∙ float))
+
+  pub kept_beside : (floats : Bool) (kept : Members) → IsUtf8 text → KeepsAllOf floats names text kept
+      → floats ≡ true → only_of names (document_of text) ≡ Err Float
+  kept_beside floats kept utf8 keeps float =
+      only_float (object keeps.all) utf8 keeps.is
+      (float-where (λ name. not (is_among names name)) keeps.all (keeps.same ∙ float))
 
 pub cut_floatless : (names : List (List ℕ)) (d e : Data) → has_float d ≡ false → e ≡ only names d
     → has_float e ≡ false
@@ -72,9 +94,20 @@ cut_floatless names d e none cut = ap has_float cut ∙ floatless-only names d n
 pub cut_named : (names : List (List ℕ)) (d e : Data) → IsNamedTree d → e ≡ only names d → IsNamedTree e
 cut_named names d e named cut = subst IsNamedTree (sym cut) (named-only names d named)
 
-pub ruleset kept_reading = (only_not_utf8, only_unread, kept_read, kept_float, object_is_named)
+pub ruleset kept_reading = (
+  only_not_utf8,
+  only_unread,
+  kept_read,
+  kept_float,
+  kept_beside,
+  cut_read,
+  cut_refused,
+  cut_floatless,
+  cut_named,
+  object_is_named,
+)
 
-pub ruleset whole_reading = (only_unread, only_float, only_read, cut_floatless, cut_named)
+pub ruleset whole_reading = (cut_floatless, cut_named)
 
 -- ---- the cut
 

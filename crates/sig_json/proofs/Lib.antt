@@ -34,6 +34,7 @@ pub mod Skipping
 pub mod Sorting
 pub mod ShortIntegers
 pub mod Keeping
+pub mod OtherFloats
 pub mod KeptReading
 pub mod Streaming
 pub mod MemberTexts

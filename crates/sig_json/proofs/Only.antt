@@ -105,7 +105,7 @@ module _ (test : List ℕ → Bool) where
       (λ passing. subst Holds (sym (where_yes l e ms passing)) (all.0, rest))
       (λ failing. subst Holds (sym (where_no l e ms failing)) rest)
 
-  ascend_where : (ms : Members) → KeysAscend (members_list ms) → KeysAscend (members_list (members_where test ms))
+  pub ascend_where : (ms : Members) → KeysAscend (members_list ms) → KeysAscend (members_list (members_where test ms))
   unfolding IsStrictlySortedBy
   ascend_where no_members up = tt
   ascend_where (member l e ms) up =
@@ -127,7 +127,7 @@ module _ (test : List ℕ → Bool) where
       (λ passing. subst HasNamedValues (sym (where_yes l e ms passing)) (named.0, rest))
       (λ failing. subst HasNamedValues (sym (where_no l e ms failing)) rest)
 
-  put_first : (k : List ℕ) (d : Data) (ms : Members)
+  pub put_first : (k : List ℕ) (d : Data) (ms : Members)
       → AllByRecursion (λ other. compare k other ≡ Less) (keys_of (members_list ms)) → put k d ms ≡ member k d ms
   put_first k d no_members below = refl
   put_first k d (member l e ms) below = rw below.0 refl

@@ -1,5 +1,5 @@
 -- Values that are passed over, a step at a time: what the tokens mean is some value without floats, or a list so far.
-use Rattle.std.proofs.Common.{◌≡◌, ℕ, ◌-◌, ◌<◌, ◌≤◌, Bool, false, List, ◌∷◌, length, Option, Some, None, refl, sym}
+use Rattle.std.proofs.Common.{◌≡◌, ℕ, ◌-◌, ◌<◌, ◌≤◌, Bool, true, false, true≢false, List, ◌∷◌, length, Option, Some, None, refl, sym}
 use Rattle.std.proofs.Common.{ap, ◌∙◌, arith}
 use Rattle.std.proofs.lemmas.Bool.{or_from}
 use Rattle.json.proofs.Grammar.{value_is, value-begin_array, value-begin_object}
@@ -12,40 +12,48 @@ use Rattle.sig_json.proofs.Converted.{as_it_is, converted-array, converted-objec
 use Rattle.sig_json.proofs.Converted.{items_over}
 use Rattle.sig_json.proofs.Tokens.{list_meant, number_refused}
 use Rattle.sig_json.proofs.Tokens.{nothing_means_nothing}
-use Rattle.sig_json.specs.Skipped.{IsWhole, PassesValue, value_meant, items_meant}
+use Rattle.sig_json.specs.Skipped.{IsNumber, IsWhole, PassesValue, value_meant, items_meant}
 use Rattle.sig_json.specs.Skipped.{members_meant}
 
 -- ---- one value
 
-pub null_passed : (depth : ℕ) (ts rest : List Token) → ts ≡ Token.null ∷ rest → PassesValue depth ts rest
+pub null_passed : (depth : ℕ) (ts rest : List Token) → ts ≡ Token.null ∷ rest → PassesValue false depth ts rest
 null_passed depth ts rest is = record {
   value = null;
   is = rw (is, value_is depth (Token.null ∷ rest)) refl;
-  whole = refl;
+  whole = λ free. refl;
 }
 
 pub bool_passed : (depth : ℕ) (ts rest : List Token) (b : Bool) → ts ≡ Token.boolean b ∷ rest
-    → PassesValue depth ts rest
+    → PassesValue false depth ts rest
 bool_passed depth ts rest b is = record {
   value = boolean b;
   is = rw (is, value_is depth (Token.boolean b ∷ rest)) refl;
-  whole = refl;
+  whole = λ free. refl;
 }
 
 pub text_passed : (depth : ℕ) (ts rest : List Token) (s : List ℕ) → ts ≡ Token.string s ∷ rest
-    → PassesValue depth ts rest
+    → PassesValue false depth ts rest
 text_passed depth ts rest s is = record {
   value = string s;
   is = rw (is, value_is depth (Token.string s ∷ rest)) refl;
-  whole = refl;
+  whole = λ free. refl;
 }
 
 pub number_passed : (depth : ℕ) (ts rest : List Token) (s : List ℕ) → ts ≡ Token.number s ∷ rest → IsWhole s
-    → PassesValue depth ts rest
+    → PassesValue false depth ts rest
 number_passed depth ts rest s is whole = record {
   value = number whole.value;
   is = rw (is, value_is depth (Token.number s ∷ rest), whole.is) refl;
-  whole = whole.whole;
+  whole = λ free. whole.whole;
+}
+
+pub float_passed : (depth : ℕ) (ts rest : List Token) (s : List ℕ) → ts ≡ Token.number s ∷ rest → IsNumber true s
+    → PassesValue true depth ts rest
+float_passed depth ts rest s is read = record {
+  value = number read.0;
+  is = rw (is, value_is depth (Token.number s ∷ rest), read.1) refl;
+  whole = λ never. absurd (true≢false never);
 }
 
 pub number_none : (depth : ℕ) (ts rest : List Token) (s : List ℕ) → ts ≡ Token.number s ∷ rest → number_of s ≡ None
@@ -64,7 +72,7 @@ object_is depth ts inner rest ms some is meant =
     ap (λ us. converted of_json (value depth us)) is ∙ ap (converted of_json) (value-begin_object depth inner some)
     ∙ converted-object (members (value (depth - 1)) (length inner) inner) ∙ ap (parse_map object) meant
 
-pub ruleset values = (null_passed, bool_passed, text_passed, number_passed, nothing_means_nothing)
+pub ruleset values = (null_passed, bool_passed, text_passed, number_passed, float_passed, nothing_means_nothing)
 
 -- ---- a list so far
 
@@ -92,7 +100,7 @@ list_at_start depth start =
     }
 
 pub list_at_step : (depth : ℕ) (start left next : List Token) (behind : Items → Items)
-    → ListAt depth start left behind → after_end_array left ≡ None → (passed : PassesValue depth left next)
+    → ListAt depth start left behind → after_end_array left ≡ None → (passed : PassesValue false depth left next)
     → length next < length left → ListAt depth start next (λ ds. behind (item passed.value ds))
 list_at_step depth start left next behind so_far going passed less =
     let d = passed.value in
@@ -104,7 +112,7 @@ list_at_step depth start left next behind so_far going passed less =
           (item_read (value depth) so_far.turns left next d (omega (arith, so_far.enough)) going passed.is)
           ∙ twice behind (item d) (list_meant depth (so_far.turns - 1) next);
       below = omega (arith, so_far.below);
-      whole = λ ds none. so_far.whole (item d ds) (or_from (has_float d) (items_have_float ds) passed.whole none);
+      whole = λ ds none. so_far.whole (item d ds) (or_from (has_float d) (items_have_float ds) (passed.whole refl) none);
     }
 
 pub list_at_end : (depth : ℕ) (start left rest : List Token) (behind : Items → Items)

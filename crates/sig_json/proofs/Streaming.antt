@@ -19,8 +19,9 @@ use Rattle.serde_json.specs.Read.{max_depth}
 use Rattle.serde_json.specs.Written.{has_float, members_have_float}
 use Rattle.sig_base.specs.OptionSteps.{◌>>=◌}
 use Rattle.sig_json.proofs.Keeping.{KeptAt, at_start, at_more, at_same, at_end, at_part, at_named}
+use Rattle.sig_json.proofs.KeptReading.{float-where}
 use Rattle.sig_json.proofs.Only.{floatless-both}
-use Rattle.sig_json.proofs.Reading.{document_of-read}
+use Rattle.sig_json.proofs.Reading.{document_of-float, document_of-read}
 use Rattle.sig_json.proofs.Skipping.{ListAt, list_at_start, list_at_step, list_at_end, array_is, object_is}
 use Rattle.sig_json.proofs.Tokens.{Means, text_read}
 use Rattle.sig_json.proofs.Trees.{view-Object}
@@ -34,6 +35,7 @@ use Rattle.sig_json.specs.Record.{record_in, members_and_list}
 use Rattle.sig_json.specs.Skipped.{PassesValue, TakesValue}
 use Rattle.sig_json.specs.Streamed.{StreamsValue, StreamsItems, StreamsMembers, StreamsOf, listed_in}
 use Rattle.sig_json.specs.View.{Words, view, members_view}
+use Rattle.sig_json.specs.declared.error.JsonError.TheVariants.{Float}
 use Rattle.sig_json.specs.declared.error.SkipError.{SkipError}
 use Rattle.sig_json.specs.declared.tree.Tree.{Tree, Object}
 
@@ -42,7 +44,7 @@ use Rattle.sig_json.specs.declared.tree.Tree.{Tree, Object}
 pub element_streamed : {A : Type 0} (kind : Data → Option A) (depth : ℕ) (ts rest : List Token) (d : Data) (x : A)
     → Means depth ts rest d → has_float d ≡ false → kind d ≡ Some x → StreamsValue kind depth ts rest x
 element_streamed kind depth ts rest d x means whole is =
-    record { passed = record { value = d; is = means; whole = whole }; read = is }
+    record { passed = record { value = d; is = means; whole = λ free. whole }; read = is }
 
 pub element_passed : {A X : Type 0} (kind : Data → Option A) (seen : X → A) (depth : ℕ) (ts rest : List Token)
     (d : Data) (element : Result X SkipError) → Means depth ts rest d → OnOk element (has_float d ≡ false)
@@ -108,7 +110,7 @@ list_streamed kind depth ts inner rest xs some is streamed =
       passed = record {
         value = array streamed.passed.items;
         is = array_is depth ts inner rest streamed.passed.items some is streamed.passed.are;
-        whole = streamed.passed.whole;
+        whole = λ free. streamed.passed.whole;
       };
       read = streamed.read;
     }
@@ -117,21 +119,19 @@ list_streamed kind depth ts inner rest xs some is streamed =
 
 -- the members so far, of which one may be the list
 pub record PartsSoFar {A : Type 0} (kind : Data → Option A) (names : List (List ℕ)) (list : List ℕ) (depth : ℕ)
-    (start left : List Token) (found : List Entry) (is_listed : Bool) (xs : List A) : Type 0 where
+    (start left : List Token) (found : List Entry) (xs : List A) : Type 0 where
   pub all : Members
-  pub at : KeptAt names depth start left all found
+  pub at : KeptAt false names depth start left all found
   pub listed : listed_in kind (get_member list all) ≡ Some xs
-  pub first : is_listed ≡ false → get_member list all ≡ None
 
 pub parts_start : {A X : Type 0} (kind : Data → Option A) (seen : X → A) (names : List (List ℕ)) (list : List ℕ)
-    (depth : ℕ) (start : List Token) (found : List Entry) (is_listed : Bool) (elements : List X) → found ≡ []
-    → elements ≡ [] → PartsSoFar kind names list depth start start found is_listed (map seen elements)
-parts_start kind seen names list depth start found is_listed elements none no_elements =
+    (depth : ℕ) (start : List Token) (found : List Entry) (elements : List X) → found ≡ []
+    → elements ≡ [] → PartsSoFar kind names list depth start start found (map seen elements)
+parts_start kind seen names list depth start found elements none no_elements =
     record {
       all = no_members;
       at = at_start names depth start found none;
       listed = ap (λ xs. Some (map seen xs)) (sym no_elements);
-      first = λ so. refl;
     }
 
 -- another name than the list's
@@ -143,86 +143,85 @@ apart_of k list other same =
 module _ {A : Type 0} (kind : Data → Option A) (names : List (List ℕ)) (list : List ℕ) (depth : ℕ)
     (start left inner next : List Token) (k : List ℕ) (key : read_key left ≡ Some (Some k, inner)) where
   -- a member of these names
-  pub parts_more : (found more : List Entry) (name : Words) (tree : Tree) (is_listed : Bool) (xs : List A)
-      → PartsSoFar kind names list depth start left found is_listed xs → bytes_eq k list ≡ false
+  pub parts_more : (found more : List Entry) (name : Words) (tree : Tree) (xs : List A)
+      → PartsSoFar kind names list depth start left found xs → bytes_eq k list ≡ false
       → is_among names k ≡ true → cow_str_bytes name ≡ k → Means depth inner next (view tree)
       → length next < length inner → IsNamedTree (view tree) → IsUtf8 (cow_str_bytes name)
       → more ≡ found ++ (name, tree) ∷ []
-      → PartsSoFar kind names list depth start next more is_listed xs
-  parts_more found more name tree is_listed xs so_far other listed same means less one utf8 pushed =
+      → PartsSoFar kind names list depth start next more xs
+  parts_more found more name tree xs so_far other listed same means less one utf8 pushed =
       let stays : get_member list (put k (view tree) so_far.all)
       ≡ get_member list so_far.all = get_member-put_other list k (view tree) so_far.all (apart_of k list other) in
       record {
         all = put k (view tree) so_far.all;
-        at = at_more names depth start left inner next so_far.all found more k name tree so_far.at key listed same
+        at = at_more false names depth start left inner next so_far.all found more k name tree so_far.at key listed same
             means less one utf8 pushed;
         listed = ap (listed_in kind) stays ∙ so_far.listed;
-        first = λ so. stays ∙ so_far.first so;
       }
 
   -- a member of another name
-  pub parts_same : (found : List Entry) (is_listed : Bool) (xs : List A)
-      → PartsSoFar kind names list depth start left found is_listed xs → bytes_eq k list ≡ false
-      → is_among names k ≡ false → PassesValue depth inner next → length next < length inner
-      → PartsSoFar kind names list depth start next found is_listed xs
-  parts_same found is_listed xs so_far other unlisted passed less =
+  pub parts_same : (found : List Entry) (xs : List A)
+      → PartsSoFar kind names list depth start left found xs → bytes_eq k list ≡ false
+      → is_among names k ≡ false → PassesValue false depth inner next → length next < length inner
+      → PartsSoFar kind names list depth start next found xs
+  parts_same found xs so_far other unlisted passed less =
       let stays : get_member list (put k passed.value so_far.all)
       ≡ get_member list so_far.all = get_member-put_other list k passed.value so_far.all (apart_of k list other) in
       record {
         all = put k passed.value so_far.all;
-        at = at_same names depth start left inner next so_far.all found k so_far.at key unlisted passed less;
+        at = at_same false false (λ free. free) names depth start left inner next so_far.all found k so_far.at key unlisted passed less;
         listed = ap (listed_in kind) stays ∙ so_far.listed;
-        first = λ so. stays ∙ so_far.first so;
       }
 
   -- a member that is kept or passed over
-  pub parts_taken : (found more : List Entry) (is_listed : Bool) (xs : List A)
-      → PartsSoFar kind names list depth start left found is_listed xs → bytes_eq k list ≡ false
-      → TakesValue names depth k inner next found more → length next < length inner
-      → PartsSoFar kind names list depth start next more is_listed xs
-  parts_taken found more is_listed xs so_far other (inl keeps) less =
-      parts_more found more keeps.key keeps.value is_listed xs so_far other keeps.listed keeps.same keeps.is less
+  pub parts_taken : (met : Bool) → false ≡ met → (found more : List Entry) (xs : List A)
+      → PartsSoFar kind names list depth start left found xs → bytes_eq k list ≡ false
+      → TakesValue met names depth k inner next found more → length next < length inner
+      → PartsSoFar kind names list depth start next more xs
+  parts_taken met none found more xs so_far other (inl keeps) less =
+      parts_more found more keeps.key keeps.value xs so_far other keeps.listed keeps.same keeps.is less
       keeps.named keeps.utf8 keeps.added
-  parts_taken found more is_listed xs so_far other (inr leaves) less =
-      subst (λ es. PartsSoFar kind names list depth start next es is_listed xs) (sym leaves.stays)
-      (parts_same found is_listed xs so_far other leaves.other leaves.passed less)
+  parts_taken met none found more xs so_far other (inr leaves) less =
+      subst (λ es. PartsSoFar kind names list depth start next es xs) (sym leaves.stays)
+      (parts_same found xs so_far other leaves.other
+      (record { value = leaves.passed.value; is = leaves.passed.is; whole = λ free. leaves.passed.whole (sym none) })
+      less)
 
   -- the list
-  pub parts_list : (found : List Entry) (is_listed : Bool) (xs ys : List A)
-      → PartsSoFar kind names list depth start left found is_listed xs → bytes_eq k list ≡ true
+  pub parts_list : (found : List Entry) (xs ys : List A)
+      → PartsSoFar kind names list depth start left found xs → bytes_eq k list ≡ true
       → is_among names list ≡ false → StreamsValue (list_each kind) depth inner next ys → length next < length inner
-      → PartsSoFar kind names list depth start next found true ys
-  parts_list found is_listed xs ys so_far its unlisted streamed less =
+      → PartsSoFar kind names list depth start next found ys
+  parts_list found xs ys so_far its unlisted streamed less =
       let same : k ≡ list = (bytes_eq-Decides k list).0 its in
       let d = streamed.passed.value in
       let is : get_member list (put k d so_far.all) ≡ Some d = rw (sym same) (get_member-put k d so_far.all) in
       record {
         all = put k d so_far.all;
-        at = at_same names depth start left inner next so_far.all found k so_far.at key
+        at = at_same false false (λ free. free) names depth start left inner next so_far.all found k so_far.at key
             (ap (is_among names) same ∙ unlisted) streamed.passed less;
         listed = ap (listed_in kind) is ∙ streamed.read;
-        first = λ so. absurd (true≢false so);
       }
 
 pub parts_end : {A : Type 0} (kind : Data → Option A) (names : List (List ℕ)) (list : List ℕ) (depth : ℕ)
-    (start left rest : List Token) (found ordered : List Entry) (is_listed : Bool) (xs : List A)
-    → PartsSoFar kind names list depth start left found is_listed xs → read_key left ≡ Some (None, rest)
+    (start left rest : List Token) (found ordered : List Entry) (xs : List A)
+    → PartsSoFar kind names list depth start left found xs → read_key left ≡ Some (None, rest)
     → members_view ordered ≡ gathered found
     → StreamsMembers kind names list depth start rest (members_view ordered) xs
-parts_end kind names list depth start left rest found ordered is_listed xs so_far end same =
+parts_end kind names list depth start left rest found ordered xs so_far end same =
     record {
       all = so_far.all;
-      are = at_end names depth start left rest so_far.all found so_far.at end;
-      part = at_part names depth start left so_far.all found ordered so_far.at same;
+      are = at_end false names depth start left rest so_far.all found so_far.at end;
+      part = at_part false names depth start left so_far.all found ordered so_far.at same;
       listed = so_far.listed;
     }
 
 pub parts_named : {A : Type 0} (kind : Data → Option A) (names : List (List ℕ)) (list : List ℕ) (depth : ℕ)
-    (start left : List Token) (found ordered : List Entry) (is_listed : Bool) (xs : List A)
-    → PartsSoFar kind names list depth start left found is_listed xs → members_view ordered ≡ gathered found
+    (start left : List Token) (found ordered : List Entry) (xs : List A)
+    → PartsSoFar kind names list depth start left found xs → members_view ordered ≡ gathered found
     → NamesAscend (members_view ordered) × HasNamedValues (members_view ordered)
-parts_named kind names list depth start left found ordered is_listed xs so_far same =
-    at_named names depth start left so_far.all found ordered so_far.at same
+parts_named kind names list depth start left found ordered xs so_far same =
+    at_named false names depth start left so_far.all found ordered so_far.at same
 
 pub ruleset parts = (parts_start, parts_list, parts_end, parts_named, read_key-shorter)
 
@@ -267,10 +266,21 @@ unfolding only record_in
 streamed_read kind names list text v xs utf8 streamed none =
     let kept : members_have_float (members_where (is_among names) streamed.all)
     ≡ false = ap members_have_float streamed.part.are ∙ sym (ap has_float (view-Object v)) ∙ none in
-    let whole = floatless-both (is_among names) streamed.all kept streamed.part.whole in
+    let whole = floatless-both (is_among names) streamed.all kept (streamed.part.whole refl) in
     let document : document_of text ≡ Ok (object streamed.all) =
     document_of-read text (object streamed.all) utf8 streamed.is whole in
     let listed = list_of_object kind list streamed.all xs streamed.listed in
     let shown : only names (object streamed.all)
     ≡ view (Object v) = ap object streamed.part.are ∙ sym (view-Object v) in
     rw (document, listed) (ap (λ d. Ok (d, xs)) shown)
+
+-- a float in what was kept is one of the whole
+pub streamed_float : {A : Type 0} (kind : Data → Option A) (names : List (List ℕ)) (list text : List ℕ)
+    (v : Vec Entry Global) (xs : List A) → IsUtf8 text → StreamsOf kind names list text (members_view v.items) xs
+    → has_float (view (Object v)) ≡ true → record_in (members_and_list names list kind) text ≡ Err Float
+unfolding record_in
+streamed_float kind names list text v xs utf8 streamed float =
+    let kept : members_have_float (members_where (is_among names) streamed.all)
+    ≡ true = ap members_have_float streamed.part.are ∙ sym (ap has_float (view-Object v)) ∙ float in
+    let whole = float-where (is_among names) streamed.all kept in
+    rw (document_of-float text (object streamed.all) utf8 streamed.is whole) refl

@@ -35,11 +35,16 @@ pub record IsWhole (text : List ℕ) : Type 0 where
   pub is : number_of text ≡ Some value
   pub whole : is_float value ≡ false
 
--- a value without floats, whose tokens end before `rest`
-pub record PassesValue (depth : ℕ) (ts rest : List Token) : Type 0 where
+-- an integer, or a number that is held as a float
+abbrev pub IsNumber : (float : Bool) → List ℕ → Type 0
+IsNumber false text = IsWhole text
+IsNumber true text = (value : Num) × (number_of text ≡ Some value)
+
+-- a value, whose tokens end before `rest`: it has no float, unless one was met
+pub record PassesValue (floats : Bool) (depth : ℕ) (ts rest : List Token) : Type 0 where
   pub value : Data
   pub is : value_meant depth ts ≡ Some (value, rest)
-  pub whole : has_float value ≡ false
+  pub whole : floats ≡ false → has_float value ≡ false
 
 pub record PassesItems (depth : ℕ) (ts rest : List Token) : Type 0 where
   pub items : Items
@@ -53,7 +58,8 @@ opening false = Token.begin_array
 
 -- the first token of a value is passed over, and this is left of the value
 abbrev pub BeginsValue : Rest → List Token → List Token → Type 0
-BeginsValue left_of.Nothing ts rest = (depth : ℕ) → PassesValue depth ts rest
+BeginsValue left_of.Nothing ts rest = (depth : ℕ) → PassesValue false depth ts rest
+BeginsValue left_of.Float ts rest = (depth : ℕ) → PassesValue true depth ts rest
 BeginsValue left_of.Items ts rest = ts ≡ opening false ∷ rest
 BeginsValue left_of.Members ts rest = ts ≡ opening true ∷ rest
 
@@ -77,30 +83,55 @@ pub record KeepsValue (names : List (List ℕ)) (depth : ℕ) (name : List ℕ) 
   pub added : after ≡ before ++ (key, value) ∷ []
 
 -- the value of a member of another name is passed over, and what was kept stays
-pub record LeavesValue (names : List (List ℕ)) (depth : ℕ) (name : List ℕ) (ts rest : List Token)
+pub record LeavesValue (floats : Bool) (names : List (List ℕ)) (depth : ℕ) (name : List ℕ) (ts rest : List Token)
     (before after : List Entry) : Type 0 where
   pub other : is_among names name ≡ false
-  pub passed : PassesValue depth ts rest
+  pub passed : PassesValue floats depth ts rest
   pub stays : after ≡ before
 
-abbrev pub TakesValue : List (List ℕ) → ℕ → List ℕ → List Token → List Token → List Entry → List Entry → Type 0
-TakesValue names depth name ts rest before after =
-    KeepsValue names depth name ts rest before after ⊎ LeavesValue names depth name ts rest before after
+abbrev pub TakesValue : (floats : Bool) → List (List ℕ) → ℕ → List ℕ → List Token → List Token → List Entry
+    → List Entry → Type 0
+TakesValue floats names depth name ts rest before after =
+    KeepsValue names depth name ts rest before after ⊎ LeavesValue floats names depth name ts rest before after
 
--- of all members these are kept, and those that are not have no floats
-pub record AreKeptMembers (names : List (List ℕ)) (all kept : Members) : Type 0 where
+-- the members of other names
+abbrev pub others_of : List (List ℕ) → Members → Members
+others_of names = members_where (λ name. not (is_among names name))
+
+-- of all members these are kept, and those that are not have no floats, unless one was met
+pub record AreKeptMembers (floats : Bool) (names : List (List ℕ)) (all kept : Members) : Type 0 where
   pub ascend : KeysAscend (members_list all)
   pub are : members_where (is_among names) all ≡ kept
-  pub whole : members_have_float (members_where (λ name. not (is_among names name)) all) ≡ false
+  pub whole : floats ≡ false → members_have_float (others_of names all) ≡ false
 
 -- the tokens are those of members of which these are kept
-pub record KeepsMembers (names : List (List ℕ)) (depth : ℕ) (ts rest : List Token) (kept : Members) : Type 0 where
+pub record KeepsMembers (floats : Bool) (names : List (List ℕ)) (depth : ℕ) (ts rest : List Token) (kept : Members)
+    : Type 0 where
   pub all : Members
   pub are : members_meant depth ts ≡ Some (all, rest)
-  pub part : AreKeptMembers names all kept
+  pub part : AreKeptMembers floats names all kept
 
 -- the text is an object, of whose members these are kept
-pub record KeepsOf (names : List (List ℕ)) (text : List ℕ) (kept : Members) : Type 0 where
+pub record KeepsOf (floats : Bool) (names : List (List ℕ)) (text : List ℕ) (kept : Members) : Type 0 where
   pub all : Members
   pub is : read text ≡ Some (object all)
-  pub part : AreKeptMembers names all kept
+  pub part : AreKeptMembers floats names all kept
+
+-- the tokens are those of members of which those of other names have a float where the noted ones have one
+pub record NotesMembers (names : List (List ℕ)) (depth : ℕ) (ts rest : List Token) (noted : Members) : Type 0 where
+  pub all : Members
+  pub are : members_meant depth ts ≡ Some (all, rest)
+  pub same : members_have_float noted ≡ members_have_float (others_of names all)
+
+-- the text is an object, and this is whether its members of other names have a float
+pub record HasFloatBeside (floats : Bool) (names : List (List ℕ)) (text : List ℕ) : Type 0 where
+  pub all : Members
+  pub is : read text ≡ Some (object all)
+  pub same : members_have_float (others_of names all) ≡ floats
+
+-- the text is an object, of whose members these are kept, and this is whether the others have a float
+pub record KeepsAllOf (floats : Bool) (names : List (List ℕ)) (text : List ℕ) (kept : Members) : Type 0 where
+  pub all : Members
+  pub is : read text ≡ Some (object all)
+  pub are : members_where (is_among names) all ≡ kept
+  pub same : members_have_float (others_of names all) ≡ floats

@@ -1,5 +1,5 @@
 -- For private clauses: a list that is read as it comes, and the members beside it.
-use Rattle.std.specs.Prelude.{◌≡◌, ℕ, List, [], Option, Some, None}
+use Rattle.std.specs.Prelude.{◌≡◌, ℕ, false, List, [], Option, Some, None}
 use Rattle.json.specs.Token.{Token}
 use Rattle.serde_json.specs.Data.{Data, object, Members}
 use Rattle.serde_json.specs.Find.{get_member}
@@ -11,7 +11,7 @@ use Rattle.sig_json.specs.Skipped.{PassesValue, PassesItems, AreKeptMembers, mem
 -- a value without floats, of a kind
 pub record StreamsValue {A : Type 0} (kind : Data → Option A) (depth : ℕ) (ts rest : List Token) (x : A)
     : Type 0 where
-  pub passed : PassesValue depth ts rest
+  pub passed : PassesValue false depth ts rest
   pub read : kind passed.value ≡ Some x
 
 -- the elements of a list without floats, each of a kind
@@ -30,7 +30,7 @@ pub record StreamsMembers {A : Type 0} (kind : Data → Option A) (names : List 
     (ts rest : List Token) (kept : Members) (xs : List A) : Type 0 where
   pub all : Members
   pub are : members_meant depth ts ≡ Some (all, rest)
-  pub part : AreKeptMembers names all kept
+  pub part : AreKeptMembers false names all kept
   pub listed : listed_in kind (get_member list all) ≡ Some xs
 
 -- the text is an object, of whose members these are kept, and of which one is the list
@@ -38,5 +38,5 @@ pub record StreamsOf {A : Type 0} (kind : Data → Option A) (names : List (List
     (kept : Members) (xs : List A) : Type 0 where
   pub all : Members
   pub is : read text ≡ Some (object all)
-  pub part : AreKeptMembers names all kept
+  pub part : AreKeptMembers false names all kept
   pub listed : listed_in kind (get_member list all) ≡ Some xs

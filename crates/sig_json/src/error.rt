@@ -181,6 +181,17 @@ impl From<ReadError> for DocumentError {
     }
 }
 
+impl From<OutOfMemory> for DocumentError {
+    ghost use Rattle.std.specs.Prelude.{◌≡◌};
+    ghost use Rattle.sig_json.specs.declared.error.DocumentError.TheVariants.{OutOfMemory};
+
+    ghost from_gives = { λ _ e. e ≡ OutOfMemory };
+
+    fn from(_error: OutOfMemory) -> DocumentError {
+        DocumentError::OutOfMemory
+    }
+}
+
 impl From<OutOfMemory> for MemberError {
     ghost use Rattle.std.specs.Prelude.{◌≡◌};
     ghost use Rattle.sig_json.specs.declared.error.MemberError.TheVariants.{OutOfMemory};
@@ -200,6 +211,17 @@ impl From<OutOfMemory> for CanonicalError {
 
     fn from(_error: OutOfMemory) -> CanonicalError {
         CanonicalError::OutOfMemory
+    }
+}
+
+impl From<OutOfMemory> for JsonError {
+    ghost use Rattle.std.specs.Prelude.{◌≡◌};
+    ghost use Rattle.sig_json.specs.declared.error.JsonError.TheVariants.{OutOfMemory};
+
+    ghost from_gives = { λ _ e. e ≡ OutOfMemory };
+
+    fn from(_error: OutOfMemory) -> JsonError {
+        JsonError::OutOfMemory
     }
 }
 

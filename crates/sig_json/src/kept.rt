@@ -1,25 +1,29 @@
 //! A text that is read for the members of some names: every other member is passed over, and no tree is made of it.
-ghost use Rattle.std.specs.Prelude.{◌≡◌, ◌<◌, None, Err, IfOk, OnOk, length};
+ghost use Rattle.std.specs.Prelude.{◌≡◌, ◌<◌, None, false, Err, IfOk, OnOk, length};
 ghost use Rattle.std.specs.Cow.{cow_str_bytes};
 ghost use Rattle.std.specs.List.{filter};
 ghost use Rattle.serde_json.specs.Read.{read as tree_of};
+ghost use Rattle.serde_json.specs.Written.{has_float};
 ghost use Rattle.sig_base.specs.Answers.{Answers};
 ghost use Rattle.sig_json.specs.Document.{document_of};
-ghost use Rattle.sig_json.specs.Named.{NamesAscend, HasNamedValues};
+ghost use Rattle.sig_json.specs.Named.{IsNamedTree, NamesAscend, HasNamedValues};
 ghost use Rattle.sig_json.specs.Only.{is_among, members_where, names_of, only, only_of};
-ghost use Rattle.sig_json.specs.Skipped.{KeepsMembers, KeepsOf, TakesValue, value_meant, members_meant};
+ghost use Rattle.sig_json.specs.Skipped.{KeepsAllOf, KeepsMembers, KeepsOf, TakesValue, value_meant};
+ghost use Rattle.sig_json.specs.Skipped.{members_meant};
 ghost use Rattle.sig_json.specs.Tree.{document_tree};
 ghost use Rattle.sig_json.specs.View.{view, members_view};
 
-use crate::document::Document;
+use crate::beside::is_float_beside;
+use crate::document::{Document, whole_tree};
 use crate::error::{DocumentError, SkipError};
 use crate::floats::is_float_in;
 use crate::order::in_order;
-use crate::read::{MAX_DEPTH, read_text, read_value};
+use crate::read::{MAX_DEPTH, read_value};
 use crate::room::add;
 use crate::skip::skip_value;
 use crate::tree::{Entry, Tree};
-use crate::words::{is_same_name, own};
+use crate::view::Json;
+use crate::words::{borrow, is_same_name};
 use json::{Reader, Scratch, Token};
 use std::alloc::Global;
 
@@ -30,9 +34,9 @@ impl Document {
     /// Reads a text as `read` does, but of an object (RFC 8259 section 4) keeps the members of these names alone; any
     /// other value is kept whole. The errors are those of `read`, for the whole text.
     ///
-    /// No tree is made of a member of another name, unless a number in it is held as a float. Then the whole tree is
-    /// made first, since a float does not count if a later member of the same name takes its place.
-    #[tactic(auto, using(crate::proofs::KeptReading::kept_reading))]
+    /// No tree is made of a member of another name, unless a number in it is held as a float. A float does not count
+    /// if a later member of the same name takes its place: then the text is gone through once more, for the members of
+    /// the other names, of which the tree of one at a time is made.
     pub fn read_members(
         alloc: Global,
         text: &[u8],
@@ -41,36 +45,76 @@ impl Document {
         ensures { Answers DocumentError.OutOfMemory document_tree result
             (only_of (names_of names.now) (document_of text.now)) }
     {
-        let Ok(text) = simdutf8::compat::from_utf8(text) else {
-            return Err(DocumentError::NotJson);
-        };
-        match read_kept(alloc, text, names) {
-            Ok(kept) => {
-                let value = Tree::Object(kept);
-                if is_float_in(&value) {
-                    return Err(DocumentError::Float);
-                }
-                Ok(Document { value })
+        let mut scratch = Scratch::new(alloc);
+        let mut spare = Scratch::new(alloc);
+        let tree = kept_tree(alloc, text, names, &mut scratch, &mut spare)?;
+        let copied = Json { value: &tree }.copy(alloc);
+        drop(tree);
+        Ok(copied?)
+    }
+}
+
+/// The tree of a text, as `Document::read_members` reads it. The second scratch is for a text that is no object.
+#[tactic(auto, using(crate::proofs::KeptReading::kept_reading))]
+pub(crate) fn kept_tree<'r>(
+    alloc: Global,
+    text: &'r [u8],
+    names: &[&str],
+    scratch: &'r mut Scratch,
+    spare: &'r mut Scratch,
+) -> Result<Tree<'r>, DocumentError>
+    ensures value { Answers DocumentError.OutOfMemory view result
+        (only_of (names_of names.now) (document_of text.now)) }
+    ensures whole { IfOk result (λ t. has_float (view t) ≡ false) }
+    ensures named { IfOk result (λ t. IsNamedTree (view t)) }
+{
+    let Ok(valid) = simdutf8::compat::from_utf8(text) else {
+        return Err(DocumentError::NotJson);
+    };
+    match read_object(alloc, valid, names, scratch) {
+        Ok((kept, floats)) => {
+            if floats {
+                return Err(DocumentError::Float);
             }
-            Err(SkipError::NotJson) => Err(DocumentError::NotJson),
-            Err(SkipError::OutOfMemory) => Err(DocumentError::OutOfMemory),
-            Err(SkipError::Unsure) => read_whole(alloc, text, names),
+            let value = Tree::Object(kept);
+            if is_float_in(&value) {
+                return Err(DocumentError::Float);
+            }
+            Ok(value)
+        }
+        Err(SkipError::NotJson) => Err(DocumentError::NotJson),
+        Err(SkipError::OutOfMemory) => Err(DocumentError::OutOfMemory),
+        Err(SkipError::Unsure) => {
+            let whole = whole_tree(alloc, text, spare)?;
+            Ok(keep_only(whole, names))
         }
     }
 }
 
-/// The same by way of the whole tree.
-#[tactic(auto, using(crate::proofs::KeptReading::whole_reading))]
-fn read_whole(alloc: Global, text: &str, names: &[&str]) -> Result<Document, DocumentError>
-    ensures { Answers DocumentError.OutOfMemory document_tree result
-        (only_of (names_of names.now) (document_of text.now)) }
+/// The members of these names of a text that is an object, and whether its other members have a float. Fails with
+/// `NotJson` only if the text has no tree.
+#[tactic(auto, using(crate::proofs::OtherFloats::beside))]
+fn read_object<'r>(
+    alloc: Global,
+    text: &'r str,
+    names: &[&str],
+    scratch: &'r mut Scratch,
+) -> Result<(Vec<Entry<'r>>, bool), SkipError>
+    ensures ok { IfOk result (λ kept. KeepsAllOf kept.1 (names_of names.now) text.now
+        (members_view kept.0.items)) }
+    ensures err { result ≡ Err SkipError.NotJson → tree_of text.now ≡ None }
+    ensures named { IfOk result (λ kept. NamesAscend (members_view kept.0.items)
+        × HasNamedValues (members_view kept.0.items)) }
 {
-    let whole = read_text(alloc, text)?;
-    if is_float_in(&whole) {
-        return Err(DocumentError::Float);
+    let (kept, floats) = read_kept(alloc, text, names, scratch)?;
+    if !floats {
+        return Ok((kept, false));
     }
-    let value = keep_only(whole, names);
-    Ok(Document { value })
+    match is_float_beside(alloc, text, names) {
+        Ok(beside) => Ok((kept, beside)),
+        Err(SkipError::OutOfMemory) => Err(SkipError::OutOfMemory),
+        Err(SkipError::NotJson | SkipError::Unsure) => Err(SkipError::Unsure),
+    }
 }
 
 /// Drops the members of other names of an object.
@@ -98,21 +142,21 @@ fn keep_members(members: &mut Vec<Entry<'_>>, names: &[&str])
     members.retain(move |member| is_among(names, member.0.as_str()));
 }
 
-/// The members of these names of a text that is an object. Fails with `NotJson` only if the text has no tree, and with
-/// `Unsure` if the text is no object, or a number in a member of another name is held as a float.
+/// The members of these names of a text that is an object, and whether a number that is held as a float was passed
+/// over in a member of another name. Fails with `NotJson` only if the text has no tree.
 #[tactic(auto, using(crate::proofs::Keeping::texts))]
-pub(crate) fn read_kept(
+pub(crate) fn read_kept<'r>(
     alloc: Global,
-    text: &str,
+    text: &'r str,
     names: &[&str],
-) -> Result<Vec<Entry<'static>>, SkipError>
-    ensures ok { IfOk result (λ kept. KeepsOf (names_of names.now) text.now (members_view kept.items)) }
+    scratch: &'r mut Scratch,
+) -> Result<(Vec<Entry<'r>>, bool), SkipError>
+    ensures ok { IfOk result (λ kept. KeepsOf kept.1 (names_of names.now) text.now (members_view kept.0.items)) }
     ensures err { result ≡ Err SkipError.NotJson → tree_of text.now ≡ None }
-    ensures named { IfOk result (λ kept. NamesAscend (members_view kept.items)
-        × HasNamedValues (members_view kept.items)) }
+    ensures named { IfOk result (λ kept. NamesAscend (members_view kept.0.items)
+        × HasNamedValues (members_view kept.0.items)) }
 {
-    let mut scratch = Scratch::new(alloc);
-    let mut reader = Reader::new(text, &mut scratch)?;
+    let mut reader = Reader::new(text, scratch)?;
     let Some(Token::BeginObject) = reader.next() else {
         return Err(SkipError::Unsure);
     };
@@ -125,37 +169,41 @@ pub(crate) fn read_kept(
 
 /// The members of these names, behind the opening brace.
 #[tactic(auto, using(crate::proofs::Keeping::kept))]
-fn read_kept_members(
+fn read_kept_members<'r>(
     alloc: Global,
-    reader: &mut Reader<'_>,
+    reader: &mut Reader<'r>,
     depth: usize,
     names: &[&str],
-) -> Result<Vec<Entry<'static>>, SkipError>
-    ensures ok { IfOk result (λ kept. KeepsMembers (names_of names.now) depth reader.old reader.new
-        (members_view kept.items)) }
+) -> Result<(Vec<Entry<'r>>, bool), SkipError>
+    ensures ok { IfOk result (λ kept. KeepsMembers kept.1 (names_of names.now) depth reader.old reader.new
+        (members_view kept.0.items)) }
     ensures err { result ≡ Err SkipError.NotJson → members_meant depth reader.old ≡ None }
-    ensures named { IfOk result (λ kept. NamesAscend (members_view kept.items)
-        × HasNamedValues (members_view kept.items)) }
+    ensures named { IfOk result (λ kept. NamesAscend (members_view kept.0.items)
+        × HasNamedValues (members_view kept.0.items)) }
 {
     let mut found = Vec::new(alloc);
+    let mut floats = false;
     'members: while let Some(name) = reader.next_key()? {
-        take_value(alloc, reader, depth, names, name, &mut found)?;
+        if take_value(alloc, reader, depth, names, name, &mut found)? {
+            floats = true;
+        }
     }
     let mut ordered = in_order(alloc, found)?;
     ordered.shrink_to_fit();
-    Ok(ordered)
+    Ok((ordered, floats))
 }
 
-/// Reads the value of a member: kept behind the others if the name is one of these, and else passed over.
-pub(crate) fn take_value(
+/// Reads the value of a member: kept behind the others if the name is one of these, and else passed over. Returns
+/// whether a number that is held as a float was passed over.
+pub(crate) fn take_value<'r>(
     alloc: Global,
-    reader: &mut Reader<'_>,
+    reader: &mut Reader<'r>,
     depth: usize,
     names: &[&str],
-    name: &str,
-    kept: &mut Vec<Entry<'static>>,
-) -> Result<(), SkipError>
-    ensures ok { OnOk result (TakesValue (names_of names.now) depth name.now reader.old reader.new
+    name: &'r str,
+    kept: &mut Vec<Entry<'r>>,
+) -> Result<bool, SkipError>
+    ensures ok { IfOk result (λ floats. TakesValue floats (names_of names.now) depth name.now reader.old reader.new
         kept.old.items kept.new.items) }
     ensures err { result ≡ Err SkipError.NotJson → value_meant depth reader.old ≡ None }
     ensures shorter { OnOk result (length reader.new < length reader.old) }
@@ -163,9 +211,10 @@ pub(crate) fn take_value(
     if !is_among(names, name) {
         return skip_value(reader, depth);
     }
-    let key = own(alloc, name)?;
+    let key = borrow(name);
     let value = read_value(alloc, reader, depth)?;
-    Ok(add(kept, (key, value))?)
+    add(kept, (key, value))?;
+    Ok(false)
 }
 
 /// Whether the name is one of these. A loop of its own: `contains` prepares for many names.

@@ -19,6 +19,8 @@
 //! - `Document::read` returns the tree of a text if and only if the text has one without floats. A document that is
 //!   built is the tree that was asked for. In both, an object has each name once. Documents, and views of them, are
 //!   equal if and only if their trees are.
+//! - A `BorrowedDocument` is the same tree for a caller that drops it before the text: its names and texts are borrowed.
+//!   Records are read from such trees.
 //! - A document that is read for the members of some names is the whole one without the others, and fails as the whole
 //!   one does. No tree is made of the others, unless they hold a float. A list beside them is read element by element,
 //!   and no tree is made of the list.
@@ -34,7 +36,8 @@
 #![tactic(auto)]
 
 mod any;
-mod borrowed;
+mod beside;
+mod borrowed_document;
 mod build;
 mod canonical_form;
 mod change;
@@ -68,11 +71,13 @@ mod view;
 mod words;
 
 pub use any::AnyReader;
+pub use borrowed_document::BorrowedDocument;
 pub use canonical_form::{canonical, quoted};
 pub use compact_form::compact;
 pub use document::Document;
 pub use element::{ElementReader, optional, optional_list, read_list, required, required_list};
 pub use error::{CanonicalError, DocumentError, JsonError, MemberError};
+pub use json::Scratch;
 pub use kind::{BytesReader, HashReader, TextMapReader, TextReader};
 pub use member::{
     read_bytes, read_i64, read_text, read_u64, required_bytes, required_hash, required_i64,

@@ -1,4 +1,4 @@
-//! From a text to a tree, in one pass over the tokens of `json`'s reader.
+//! From a text to a tree, in one pass over the tokens of `json`'s reader. Names and texts are borrowed from the text.
 ghost use Rattle.std.specs.Prelude.{◌≡◌, ◌<◌, ◌≤◌, length, Some, None, Err, IfOk, IfErr, OnOk};
 ghost use Rattle.json.specs.Json.{value, items, members};
 ghost use Rattle.serde_json.specs.Data.{no_members, depth as nesting};
@@ -12,7 +12,7 @@ use crate::number::number_in;
 use crate::order::{add_member, all_in_order};
 use crate::room::{add, fitted};
 use crate::tree::{Entry, Tree};
-use crate::words::own;
+use crate::words::borrow;
 use json::{Reader, Scratch, Token};
 use std::alloc::Global;
 
@@ -21,14 +21,17 @@ pub(crate) const MAX_DEPTH: usize = 127;
 
 /// The tree of a text. Fails with `NotJson` if and only if it has none, unless memory runs out.
 #[tactic(auto, using(crate::proofs::Tokens::whole_texts))]
-pub(crate) fn read_text(alloc: Global, text: &str) -> Result<Tree<'static>, ReadError>
+pub(crate) fn read_text<'r>(
+    alloc: Global,
+    text: &'r str,
+    scratch: &'r mut Scratch,
+) -> Result<Tree<'r>, ReadError>
     ensures ok { IfOk result (λ t. tree_of text.now ≡ Some (view t)) }
     ensures err { result ≡ Err ReadError.NotJson → tree_of text.now ≡ None }
     ensures nests { IfOk result (λ t. nesting (view t) ≤ max_depth) }
     ensures named { IfOk result (λ t. IsNamedTree (view t)) }
 {
-    let mut scratch = Scratch::new(alloc);
-    let mut reader = Reader::new(text, &mut scratch)?;
+    let mut reader = Reader::new(text, scratch)?;
     let tree = read_value(alloc, &mut reader, MAX_DEPTH)?;
     match reader.next() {
         Some(_) => Err(ReadError::NotJson),
@@ -39,11 +42,11 @@ pub(crate) fn read_text(alloc: Global, text: &str) -> Result<Tree<'static>, Read
 /// The next value, whose lists and objects nest to at most `depth`.
 #[cycle(read)]
 #[tactic(auto, using(crate::proofs::Tokens::values))]
-pub(crate) fn read_value(
+pub(crate) fn read_value<'r>(
     alloc: Global,
-    reader: &mut Reader<'_>,
+    reader: &mut Reader<'r>,
     depth: usize,
-) -> Result<Tree<'static>, ReadError>
+) -> Result<Tree<'r>, ReadError>
     ensures ok { IfOk result (λ t. converted of_json (value depth reader.old) ≡ Some (view t, reader.new)) }
     ensures err { result ≡ Err ReadError.NotJson → converted of_json (value depth reader.old) ≡ None }
     ensures shorter { OnOk result (length reader.new < length reader.old) }
@@ -59,7 +62,7 @@ pub(crate) fn read_value(
             Some(number) => Ok(Tree::Number(number)),
             None => Err(ReadError::NotJson),
         },
-        Token::String(text) => Ok(Tree::Text(own(alloc, text)?)),
+        Token::String(text) => Ok(Tree::Text(borrow(text))),
         Token::BeginArray => {
             if depth == 0 {
                 return Err(ReadError::NotJson);
@@ -79,11 +82,11 @@ pub(crate) fn read_value(
 /// The elements of a list, behind its opening bracket.
 #[cycle(read)]
 #[tactic(auto, using(crate::proofs::Tokens::lists))]
-fn read_items(
+fn read_items<'r>(
     alloc: Global,
-    reader: &mut Reader<'_>,
+    reader: &mut Reader<'r>,
     depth: usize,
-) -> Result<Vec<Tree<'static>>, ReadError>
+) -> Result<Vec<Tree<'r>>, ReadError>
     ensures ok { IfOk result (λ v. converted of_items (items (value depth) (length reader.old) reader.old)
         ≡ Some (items_view v.items, reader.new)) }
     ensures err { result ≡ Err ReadError.NotJson
@@ -102,11 +105,11 @@ fn read_items(
 /// The members of an object, behind its opening brace.
 #[cycle(read)]
 #[tactic(auto, using(crate::proofs::Tokens::objects))]
-fn read_all_members(
+fn read_all_members<'r>(
     alloc: Global,
-    reader: &mut Reader<'_>,
+    reader: &mut Reader<'r>,
     depth: usize,
-) -> Result<Vec<Entry<'static>>, ReadError>
+) -> Result<Vec<Entry<'r>>, ReadError>
     ensures ok { IfOk result (λ v. converted (λ ms. of_members ms no_members)
         (members (value depth) (length reader.old) reader.old) ≡ Some (members_view v.items, reader.new)) }
     ensures err { result ≡ Err ReadError.NotJson → converted (λ ms. of_members ms no_members)
@@ -116,7 +119,7 @@ fn read_all_members(
 {
     let mut found = Vec::new(alloc);
     'members: while let Some(name) = reader.next_key()? {
-        let key = own(alloc, name)?;
+        let key = borrow(name);
         let value = read_value(alloc, reader, depth)?;
         add_member(&mut found, key, value)?;
     }

@@ -1,11 +1,15 @@
-//! A text read as a record of a member table.
+//! A text read as a record of a member table. The names and texts of its tree are borrowed from the text, since the
+//! tree is dropped once the record is made.
 ghost use Rattle.sig_base.specs.Answers.{Answers};
 ghost use Rattle.sig_json.specs.Only.{names_of};
 ghost use Rattle.sig_json.specs.Record.{record_in, record_with};
 
-use crate::document::Document;
+use crate::document::whole_tree;
 use crate::element::ElementReader;
 use crate::error::JsonError;
+use crate::kept::kept_tree;
+use crate::view::Json;
+use json::Scratch;
 use std::alloc::Global;
 
 /// The record of a text. Fails with `NotJson` if the text has no reading, then with `Float` where its tree holds a
@@ -15,9 +19,10 @@ use std::alloc::Global;
 pub fn read_record<T: ElementReader>(alloc: Global, text: &[u8]) -> Result<T::Item, JsonError>
     ensures { Answers JsonError.OutOfMemory T.seen_as.item result (record_in T.meaning text.now) }
 {
-    let document = Document::read(alloc, text)?;
-    let record = T::read(alloc, document.view());
-    drop(document);
+    let mut scratch = Scratch::new(alloc);
+    let tree = whole_tree(alloc, text, &mut scratch)?;
+    let record = T::read(alloc, Json { value: &tree });
+    drop(tree);
     Ok(record?)
 }
 
@@ -32,8 +37,10 @@ pub fn read_record_with<T: ElementReader>(
     ensures { Answers JsonError.OutOfMemory T.seen_as.item result
         (record_with (names_of names.now) T.meaning text.now) }
 {
-    let kept = Document::read_members(alloc, text, names)?;
-    let found = T::read(alloc, kept.view());
-    drop(kept);
-    Ok(found?)
+    let mut scratch = Scratch::new(alloc);
+    let mut spare = Scratch::new(alloc);
+    let tree = kept_tree(alloc, text, names, &mut scratch, &mut spare)?;
+    let record = T::read(alloc, Json { value: &tree });
+    drop(tree);
+    Ok(record?)
 }

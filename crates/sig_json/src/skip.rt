@@ -4,7 +4,7 @@ ghost use Rattle.std.specs.Char.{is_ascii_digit};
 ghost use Rattle.std.specs.List.{list_all};
 ghost use Rattle.json.specs.Json.{read_key};
 ghost use Rattle.serde_json.specs.Read.{number_of};
-ghost use Rattle.sig_json.specs.Skipped.{BeginsValue, IsWhole, PassesValue, TakesEnd, opening, value_meant};
+ghost use Rattle.sig_json.specs.Skipped.{BeginsValue, IsNumber, IsWhole, PassesValue, TakesEnd, opening, value_meant};
 
 use crate::error::SkipError;
 use crate::number::number_in;
@@ -20,22 +20,25 @@ const MOST_OPEN: usize = 126;
 #[derive(Clone, Copy, Drop)]
 enum Rest {
     Nothing,
+    // Nothing, and the value is a number that is held as a float.
+    Float,
     Items,
     Members,
 }
 
-/// Passes over the next value, whose lists and objects nest to at most `depth`. It takes no memory. Fails with
-/// `NotJson` only if there is no such value, and with `Unsure` where more than `MOST_OPEN` lists and objects are open,
-/// and at the first number that is held as a float: a later member of the same name may take the place of the one that
-/// it is in, and then the tree has no float.
+/// Passes over the next value, whose lists and objects nest to at most `depth`, and returns whether a number in it is
+/// held as a float. The value's tree may have none even so: a later member of the same name may take the place of the
+/// one that the number is in. It takes no memory. Fails with `NotJson` only if there is no such value, and with
+/// `Unsure` where more than `MOST_OPEN` lists and objects are open.
 #[inline(always)]
-pub(crate) fn skip_value(reader: &mut Reader<'_>, depth: usize) -> Result<(), SkipError>
-    ensures ok { OnOk result (PassesValue depth reader.old reader.new) }
+pub(crate) fn skip_value(reader: &mut Reader<'_>, depth: usize) -> Result<bool, SkipError>
+    ensures ok { IfOk result (λ floats. PassesValue floats depth reader.old reader.new) }
     ensures err { result ≡ Err SkipError.NotJson → value_meant depth reader.old ≡ None }
     ensures shorter { OnOk result (length reader.new < length reader.old) }
 {
     match begin_value(reader)? {
-        Rest::Nothing => Ok(()),
+        Rest::Nothing => Ok(false),
+        Rest::Float => Ok(true),
         Rest::Items => skip_rest(reader, depth, false),
         Rest::Members => skip_rest(reader, depth, true),
     }
@@ -55,7 +58,9 @@ fn begin_value(reader: &mut Reader<'_>) -> Result<Rest, SkipError>
     match token {
         Token::Null | Token::Bool(_) | Token::String(_) => Ok(Rest::Nothing),
         Token::Number(text) => {
-            skip_number(text)?;
+            if is_float(text)? {
+                return Ok(Rest::Float);
+            }
             Ok(Rest::Nothing)
         }
         Token::BeginArray => Ok(Rest::Items),
@@ -100,25 +105,27 @@ fn next_level(level: usize, depth: usize) -> Result<usize, SkipError>
 /// Passes over the rest of a list or an object, behind its bracket or brace. A loop: a call for each list and object
 /// that is nested in another takes longer.
 #[inline(never)]
-fn skip_rest(reader: &mut Reader<'_>, depth: usize, of_object: bool) -> Result<(), SkipError>
-    ensures ok { OnOk result (PassesValue depth (opening of_object ∷ reader.old) reader.new) }
+fn skip_rest(reader: &mut Reader<'_>, depth: usize, of_object: bool) -> Result<bool, SkipError>
+    ensures ok { IfOk result (λ floats. PassesValue floats depth (opening of_object ∷ reader.old) reader.new) }
     ensures err { result ≡ Err SkipError.NotJson → value_meant depth (opening of_object ∷ reader.old) ≡ None }
     ensures shorter { OnOk result (length reader.new < length reader.old) }
 {
     let mut level = next_level(0, depth)?;
     // Of each list and object that is open, the outermost first, whether it is an object.
     let mut objects = [of_object; MOST_OPEN];
+    let mut floats = false;
     'parts: loop {
         if take_end(reader, objects[level - 1])? {
             level -= 1;
             if level == 0 {
-                return Ok(());
+                return Ok(floats);
             }
             continue;
         }
         // An arm for each: with one for both, the program is slower.
         match begin_value(reader)? {
             Rest::Nothing => {}
+            Rest::Float => floats = true,
             Rest::Items => {
                 let above = next_level(level, depth)?;
                 objects[level] = false;
@@ -133,28 +140,29 @@ fn skip_rest(reader: &mut Reader<'_>, depth: usize, of_object: bool) -> Result<(
     }
 }
 
-/// A number of few digits is an integer by its looks, and most have one. Any other is read.
-fn skip_number(text: &str) -> Result<(), SkipError>
-    ensures ok { OnOk result (IsWhole text.now) }
+/// Whether a number is held as a float. One of few digits is an integer by its looks, and most have one. Any other is
+/// read.
+fn is_float(text: &str) -> Result<bool, SkipError>
+    ensures ok { IfOk result (λ float. IsNumber float text.now) }
     ensures err { result ≡ Err SkipError.NotJson → number_of text.now ≡ None }
 {
     let bytes = text.as_bytes();
     if is_digit(bytes) || is_short_integer(bytes) {
-        return Ok(());
+        return Ok(false);
     }
-    skip_other_number(text)
+    is_other_float(text)
 }
 
 #[inline(never)]
-fn skip_other_number(text: &str) -> Result<(), SkipError>
-    ensures ok { OnOk result (IsWhole text.now) }
+fn is_other_float(text: &str) -> Result<bool, SkipError>
+    ensures ok { IfOk result (λ float. IsNumber float text.now) }
     ensures err { result ≡ Err SkipError.NotJson → number_of text.now ≡ None }
 {
     let number = number_in(text).ok_or(SkipError::NotJson)?;
     if number.is_f64() {
-        return Err(SkipError::Unsure);
+        return Ok(true);
     }
-    Ok(())
+    Ok(false)
 }
 
 #[tactic(auto, using(crate::proofs::ShortIntegers::one_digit))]

@@ -7,12 +7,12 @@ ghost use Rattle.sig_json.specs.Only.{is_among, names_of};
 ghost use Rattle.sig_json.specs.Streamed.{StreamsValue, StreamsItems, StreamsMembers, StreamsOf};
 ghost use Rattle.sig_json.specs.View.{view, members_view};
 
-use crate::borrowed::borrow_value;
 use crate::element::ElementReader;
 use crate::error::SkipError;
 use crate::floats::is_float_in;
 use crate::kept::{MEMBER_DEPTH, take_value};
 use crate::order::in_order;
+use crate::read::read_value;
 use crate::tree::{Entry, Tree};
 use crate::view::Json;
 use json::{Reader, Scratch, Token};
@@ -22,20 +22,20 @@ use std::alloc::Global;
 /// The members of these names of a text that is an object, and the elements of the list of the name `list`. It says
 /// nothing of a text that it fails for, unless memory ran out: the whole tree tells.
 #[tactic(auto, using(crate::proofs::Streaming::text_streamed))]
-pub(crate) fn stream_text<E: ElementReader>(
+pub(crate) fn stream_text<'r, E: ElementReader>(
     alloc: Global,
-    text: &str,
+    text: &'r str,
     names: &[&str],
     list: &str,
-) -> Result<(Vec<Entry<'static>>, Register<E::Item>), SkipError>
+    scratch: &'r mut Scratch,
+) -> Result<(Vec<Entry<'r>>, Register<E::Item>), SkipError>
     requires { is_among (names_of names.now) list.now ≡ false }
     ensures ok { IfOk result (λ parts. StreamsOf E.meaning (names_of names.now) list.now text.now
         (members_view parts.0.items) (map E.seen_as.item parts.1)) }
     ensures named { IfOk result (λ parts. NamesAscend (members_view parts.0.items)
         × HasNamedValues (members_view parts.0.items)) }
 {
-    let mut scratch = Scratch::new(alloc);
-    let mut reader = Reader::new(text, &mut scratch)?;
+    let mut reader = Reader::new(text, scratch)?;
     let Some(Token::BeginObject) = reader.next() else {
         return Err(SkipError::Unsure);
     };
@@ -46,15 +46,16 @@ pub(crate) fn stream_text<E: ElementReader>(
     }
 }
 
-/// The same behind the opening brace. A second list of that name is not read: of the two the last would count.
+/// The same behind the opening brace. Of two lists of that name the last counts. Fails with `Unsure` at a number that is
+/// held as a float in a member of another name: a later member of that name may replace it.
 #[tactic(auto, using(crate::proofs::Streaming::parts))]
-fn stream_members<E: ElementReader>(
+fn stream_members<'r, E: ElementReader>(
     alloc: Global,
-    reader: &mut Reader<'_>,
+    reader: &mut Reader<'r>,
     depth: usize,
     names: &[&str],
     list: &str,
-) -> Result<(Vec<Entry<'static>>, Register<E::Item>), SkipError>
+) -> Result<(Vec<Entry<'r>>, Register<E::Item>), SkipError>
     requires { is_among (names_of names.now) list.now ≡ false }
     ensures ok { IfOk result (λ parts. StreamsMembers E.meaning (names_of names.now) list.now depth reader.old
         reader.new (members_view parts.0.items) (map E.seen_as.item parts.1)) }
@@ -63,17 +64,14 @@ fn stream_members<E: ElementReader>(
 {
     let mut found = Vec::new(alloc);
     let mut elements = Register::new(alloc);
-    let mut is_listed = false;
     'members: while let Some(name) = reader.next_key()? {
         if name == list {
-            if is_listed {
-                return Err(SkipError::Unsure);
-            }
             elements = stream_list::<E>(alloc, reader, depth)?;
-            is_listed = true;
             continue;
         }
-        take_value(alloc, reader, depth, names, name, &mut found)?;
+        if take_value(alloc, reader, depth, names, name, &mut found)? {
+            return Err(SkipError::Unsure);
+        }
     }
     let mut ordered = in_order(alloc, found)?;
     ordered.shrink_to_fit();
@@ -129,7 +127,7 @@ fn stream_element<E: ElementReader>(
     ensures ok { IfOk result (λ x. StreamsValue E.meaning depth reader.old reader.new (E.seen_as.item x)) }
     ensures shorter { OnOk result (length reader.new < length reader.old) }
 {
-    let value = borrow_value(alloc, reader, depth)?;
+    let value = read_value(alloc, reader, depth)?;
     let element = element_of::<E>(alloc, &value);
     drop(value);
     element

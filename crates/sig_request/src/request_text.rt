@@ -14,7 +14,7 @@ ghost use Rattle.sig_request.specs.ReadFrom.{IsReadFrom};
 use crate::read::MOST_BYTES;
 use crate::row::RowReader;
 use sig_base::{AcceptedRow, OutOfMemory, Register, TableChecker};
-use sig_json::{Document, Json, JsonError, MemberError};
+use sig_json::{BorrowedDocument, Json, JsonError, MemberError, Scratch};
 use std::alloc::Global;
 
 /// A reader of the requests of a command.
@@ -68,8 +68,15 @@ fn read_parts<T: RequestReader>(
     requires { AsksOnly (names_of names.now) T.meaning }
     ensures { Answers JsonError.OutOfMemory (λ request. request) result (record_in (with_rows T.meaning) text.now) }
 {
-    let (members, rows) = Document::read_members_and_list::<RowReader>(
-        alloc, text, names, "accepted",
+    let mut scratch = Scratch::new(alloc);
+    let mut spare = Scratch::new(alloc);
+    let (members, rows) = BorrowedDocument::read_members_and_list::<RowReader>(
+        alloc,
+        text,
+        names,
+        "accepted",
+        &mut scratch,
+        &mut spare,
     )?;
     let request = request_of_parts::<T>(alloc, members.view(), rows);
     drop(members);

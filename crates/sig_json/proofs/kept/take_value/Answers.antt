@@ -11,10 +11,10 @@ pub returns-clause-ok : goal.returns-clause-ok
 returns-clause-ok c =
     inl (record {
       listed = sym c.is_among.ensures ∙ c.if-not-is_among.false;
-      key = c.in_ok-key.key;
+      key = c.borrow-key.result;
       value = c.in_ok-value.value;
-      same = c.in_ok-key.ensures.same;
-      utf8 = c.in_ok-key.ensures.utf8;
+      same = c.borrow-key.ensures.same;
+      utf8 = c.borrow-key.ensures.utf8;
       is = c.in_ok-value.ensures.ok;
       named = c.in_ok-value.ensures.named;
       added = c.in_ok-add.ensures;

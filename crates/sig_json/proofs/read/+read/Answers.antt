@@ -29,7 +29,7 @@ read_all_members-members-preserved t c =
     let l = c.members in
     let key : read_key l.reader ≡ Some (Some c.in-Some.name.now, c.next_key.new.self) = grind arith in
     let done = c.in_ok-value.ensures in (
-      object_step _ _ _ _ _ l.found.items c.add_member.new.members.items c.in-Some.name.now c.in_ok-key.key
+      object_step _ _ _ _ _ l.found.items c.add_member.new.members.items c.in-Some.name.now c.borrow-key.result
           c.in_ok-value.value l.invariant.0 key (search rules) done.ok done.shorter done.named
           (search rules) (search rules),
       search rules,
@@ -66,8 +66,8 @@ read_value-returns-in-None-clause-err t c refused =
     let first : c.args.reader.now ≡ token_of c.in-Some.token ∷ c.next.new.self = c.in-Some.ensures.value in
     number_refused _ _ _ _ (first ∙ ap (λ k. token_of k ∷ c.next.new.self) c.in-Number.is) c.in-None.ensures
 
-pub read_value-returns-in_ok-own-in-String-clause-ok : goal.read_value-returns-in_ok-own-in-String-clause-ok
-read_value-returns-in_ok-own-in-String-clause-ok t c =
+pub read_value-returns-in-String-clause-ok : goal.read_value-returns-in-String-clause-ok
+read_value-returns-in-String-clause-ok t c =
     let first : c.args.reader.now ≡ token_of c.in-Some.token ∷ c.next.new.self = c.in-Some.ensures.value in
     text_means _ _ _ _ _ (first ∙ ap (λ k. token_of k ∷ c.next.new.self) c.in-String.is) (search rules)
 

@@ -6,7 +6,7 @@ use Rattle.sig_json.proofs.stream.stream_members.Given as goal
 abbrev pub invariant-members : goal.invariant-members
 invariant-members g l =
     PartsSoFar g.E.ElementReader.meaning (names_of l.names) l.list l.depth l.initial.reader l.reader l.found.items
-    l.is_listed (map g.E.ElementReader.seen_as.item l.elements)
+    (map g.E.ElementReader.seen_as.item l.elements)
 
 abbrev pub decreases-members : goal.decreases-members
 decreases-members g l = length l.reader
