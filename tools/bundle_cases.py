@@ -564,6 +564,23 @@ def promises():
                  "ok " + compact(promise) if fits else "IntegerTooLarge")
 
 
+def replaced_floats():
+    """Floats that a later member of the same name replaces: in a bundle, its material, its log entry and in members that are ignored."""
+    group("floats that are replaced: in a bundle, in its parts, and in what is ignored of them")
+    forms = ['{%s}', '{"mediaType":"a",%s}', '{"verificationMaterial":{%s}}', '{"verificationMaterial":{"tlogEntries":[{%s}]}}',
+             '{"other":{%s},"mediaType":"a"}', '{"other":[{%s}]}', '{"dsseEnvelope":{%s},"other":0}']
+    values = ["1.5", "[1.5]", '{"b":1.5,"b":1}', "1"]
+    orders = [values[first:first + 1] + values[second:second + 1] for first in range(4) for second in range(4)] + [["1.5", "1", "2.5"], ["1.5", "1", "-0", "0"]]
+    many = [str(place * 7919 % 300) for place in range(300)]
+    for form in forms:
+        for order in orders:
+            content = form % ",".join('"a":' + value for value in order)
+            case("read_bundle " + content, read_bundle(content))
+        for last in ("1", "1.5"):
+            content = form % ",".join(['"%s":1.5' % name for name in many] + ['"%s":1' % name for name in many[:-1]] + ['"%s":%s' % (many[-1], last)])
+            case("read_bundle " + content, read_bundle(content))
+
+
 ROWS = {"equal": changed_case, "checked": faulty_case, "to_proof": proof_case, "tlog_entry": body_case, "tlog_message": message_case}
 
 
@@ -587,6 +604,7 @@ def main():
     case("copied_entry " + WHOLE, "ok true")
     case('copied_entry {"verificationMaterial":{"tlogEntries":[{}]}}', "ok true")
     promises()
+    replaced_floats()
     members(found["member"], found["value"])
     message_signatures()
     fixture_bundle()

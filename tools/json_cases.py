@@ -13,6 +13,7 @@ import json
 import random
 import re
 
+import json_float_rows
 from case_table import Table
 
 TABLE = Table("json_cases")
@@ -866,6 +867,7 @@ def main():
     nesting()
     members_of_names()
     members_beside_a_list()
+    json_float_rows.rows(say, members_of_names_case, members_and_list_case)
     orders()
     canonicals()
     views()

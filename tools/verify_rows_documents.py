@@ -33,7 +33,10 @@ def requests():
             ("a byte order mark", UNREAD, "\ufeff" + text), ("a float in an unknown member", UNREAD, '{"other":0.5,' + text[1:]),
             ("a doubled member, the last fits", READ, '{"now":"x",' + text[1:]),
             ("a doubled member, the last does not fit", UNREAD, text[:-1] + ',"now":"x"}'),
-            ("a float in a member that is replaced", READ, '{"now":0.5,' + text[1:])]:
+            ("a float in a member that is replaced", READ, '{"now":0.5,' + text[1:]),
+            ("a float in an unknown member that is replaced", READ, '{"other":[0.5],"other":0,' + text[1:]),
+            ("a float in an unknown member that is replaced by another", UNREAD, '{"other":0.5,"other":-0,' + text[1:]),
+            ("a float that is replaced in an unknown member", READ, '{"other":{"a":0.5,"a":0},' + text[1:])]:
         text_row("request: " + name, expected, other)
     for member in SMALL:
         small("no %s" % member, UNREAD, **{member: ABSENT})
@@ -129,7 +132,9 @@ def trusted_roots():
                                   "\ufeff" + text),
                                   ("half a surrogate pair", "NotJson", '{"other":"\\ud800"}'), ("too deep", "NotJson", "[" * 128 + "]" * 128),
                                   ("a number beyond all floats", "NotJson", '{"other":1e999}'), ("a float", "Float", '{"other":1.5}'),
-                                  ("a float among lists of another kind", "Float", '{"tlogs":0.5}'), ("-0", "Float", '{"other":-0}'),
+                                  ("a float among lists of another kind", "Float", '{"tlogs":0.5}'),
+                                  ("a float that is replaced", None, '{"other":1.5,"other":1}'), ("a float that is replaced inside", None, '{"other":[{"a":1.5,"a":1}]}'),
+                                  ("a float that is replaced by another", "Float", '{"other":1.5,"other":-0}'), ("-0", "Float", '{"other":-0}'),
                                   ("an integer of 65 bits", "Float", '{"other":18446744073709551616}'), ("null", "Member", "null"), ("a list",
                                   "Member", "[]"),
                                   ("a text", "Member", '"{}"'), ("deep in a list", "Member", "[" * 127 + "]" * 127), ("no members", None, "{}"),
@@ -179,6 +184,11 @@ def bundles():
     read("no members", "material Bundle(VerificationMaterialMissing)", "{}")
     read("null for a content beside the other", "verified 2 5", text[:-1] + ',"messageSignature":null}')
     read("a doubled member", "verified 2 5", '{"mediaType":1,' + text[1:])
+    for place, head in [("the bundle", "{"), ("its material", '"verificationMaterial":{'), ("its log entry", '"tlogEntries":[{')]:
+        for name, expected, other in [("a float that is replaced", "verified 2 5", '"other":1.5,"other":1,'),
+                                      ("a float that is replaced in an unknown member", "verified 2 5", '"other":{"a":[1.5],"a":[]},'),
+                                      ("a float that is replaced by another", "bundle-json Json(Bundle, Float)", '"other":1.5,"other":[1.5],')]:
+            read("%s, in %s" % (name, place), expected, text.replace(head, head + other, 1))
     for name, path, value in [("an index of 64 bits without a sign", ENTRY + ".logIndex", 2 ** 63), ("a tree size with a plus", PROOF + ".treeSize",
                               "+5"),
                               ("null among the hashes", PROOF + ".hashes", [None]), ("an envelope of bytes", "dsseEnvelope", "AA=="),
