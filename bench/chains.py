@@ -372,6 +372,55 @@ def empty_records(member):
     return make
 
 
+# Floats that a later member replaces
+
+
+def replaced(place, items):
+    """Requests with ignored members at a place: these, of which the last is a float that is replaced."""
+    def make(count):
+        made = fixture.Request()
+        root, bundle, rows = made.trusted_root(), made.bundle(), made.accepted()
+        inside = {
+            "trusted root": root,
+            "trusted root's log": root["tlogs"][0],
+            "bundle": bundle,
+            "log entry": bundle["verificationMaterial"]["tlogEntries"][0],
+            "row": rows[0],
+        }
+        if place == "request":
+            text = written(made, root, bundle, rows, ignored="@items")
+        else:
+            inside[place]["ignored"] = "@items"
+            text = written(made, root, bundle, rows)
+        if place in ("request", "row"):
+            return text.replace(b'"@items"', items(count))
+        return text.replace(rb"\"@items\"", items(count).replace(b'"', rb"\""))
+    return make
+
+
+def object_before(count):
+    """An object of so many members in an order that is none, and behind it the float."""
+    return shapes.members("")(count) + b',"y":1.5,"y":1'
+
+
+def object_around(count):
+    """An object of so many members in an order that is none, and in it the float."""
+    return shapes.members("")(count)[:-1] + b',"y":1.5,"y":1}'
+
+
+def floats(count):
+    """So many members that hold a float each, and as many that replace them."""
+    names = [place.hex() for place in numbered(b"", count // 2)]
+    return b"0," + b",".join(b'"%s":%s' % (name.encode(), value) for value in (b"1.5", b"1") for name in names)
+
+
+REPLACED = tuple(
+    (f"a float that is replaced, {name}, in the {place}", replaced(place, items))
+    for place in ("request", "row", "trusted root", "trusted root's log", "bundle", "log entry")
+    for name, items in (("behind an object", object_before), ("within an object", object_around), ("many", floats))
+)
+
+
 # The requests by their reply; each is made at half of the largest size, and at the whole.
 REQUESTS = {
     "verified 2 5": (
@@ -405,6 +454,7 @@ REQUESTS = {
             for name, make in shapes.UNORDERED
         ),
         *((f"empty {member}", empty_records(member)) for member in ("tlogs", "ctlogs", "certificateAuthorities")),
+        *REPLACED,
     ),
     "refused policy": (
         ("policy, any name, none", no_name),
@@ -417,8 +467,9 @@ REQUESTS = {
     "refused inclusion": (("hashes of the proof", hashes),),
 }
 
-# Lists by their number of items, which a rule limits: this many, and half.
+# Lists by their number of items, which a rule or a usual size limits: this many, and half.
 COUNTED = (
+    ("log keys", log_keys, 20000),
     (f"subjects of {MOST_DIGESTS} digests", subjects, MOST_SUBJECTS),
     (f"digests of {MOST_SUBJECTS} subjects", digests_of_a_subject, MOST_DIGESTS),
 )
@@ -434,6 +485,7 @@ QUESTIONS = {
         ("rows by signature", rows_by_signature),
         *((f"ignored in a log entry: {name}", ignored("log entry", make)) for name, make in shapes.UNORDERED),
         ("empty tlogs", empty_records("tlogs")),
+        *REPLACED,
     ),
     2: (
         ("trust anchors, extensions of the leaf", anchors_beside_extensions),
