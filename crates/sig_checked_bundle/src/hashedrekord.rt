@@ -15,7 +15,7 @@ ghost use Rattle.sig_checked_bundle.specs.Hashedrekord.{signature_tree, spec_tre
 use sig_base::OutOfMemory;
 use sig_bundle::Object;
 use sig_certificate::der_to_pem;
-use sig_json::{Document, DocumentError};
+use sig_json::{BorrowedDocument, Document, DocumentError, Scratch};
 use std::alloc::Global;
 
 /// The digest of the artifact. Fails only if out of memory.
@@ -120,10 +120,13 @@ pub(crate) fn is_about_artifact(
     ensures { IfOk result (λ about. IsTrue about ↔ (document_of body.now
         ≡ Ok (hashedrekord_tree digest.now signature.now (pem_of certificate.now)))) }
 {
-    match Document::read(alloc, body) {
+    let mut scratch = Scratch::new(alloc);
+    match BorrowedDocument::read(alloc, body, &mut scratch) {
         Ok(document) => {
             let entry = entry_with(alloc, digest, signature, certificate)?;
-            Ok(document == entry)
+            let read = document.view();
+            let wanted = entry.view();
+            Ok(read.equals(wanted))
         }
         Err(DocumentError::NotJson | DocumentError::Float) => Ok(false),
         Err(DocumentError::OutOfMemory) => Err(OutOfMemory),
