@@ -66,3 +66,12 @@ def hashing(entries):
     for entry in entries:
         leaf(entry)
     return time.process_time() - begun
+
+
+def hashing_tree(count):
+    """The seconds of the processor that the hashes of a tree of 2^k entries take, by the library that Python has."""
+    made = small(count)
+    begun = time.process_time()
+    for _ in levels(made):
+        pass
+    return time.process_time() - begun

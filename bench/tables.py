@@ -14,6 +14,7 @@ MOST_TO_PLAIN_SMALL = 1  # the same where the request has at most 2^16 bytes
 MOST_DOUBLED = 2.3  # the time over an input, to that over one of half the size
 MOST_TO_READING_AND_HASHING = 1.3  # the time over a log's own entries, to that of reading and of hashing them
 MOST_BEYOND_START = 1.0  # the milliseconds that a small request takes beyond those of a process that reads none
+MOST_OF_DEMO = 50  # the milliseconds of `demo` of the most entries
 MOST_MEGABYTES = 500  # the peak memory over an input of 2^24 bytes
 MOST_MEGABYTES_OF_STATEMENT = 700  # the same over a payload of which a statement's parts are copied
 MOST_SECONDS = 3  # the time over an input of 2^24 bytes
@@ -49,6 +50,10 @@ LOG_REQUESTS = {
         ("contents, a pair each", shapes.contents("k: v\n")),
     ),
 }
+
+
+# What `demo` of 2,048 and of 4,096 entries writes last.
+DEMO_SHOWN = ("logged 1024 2048", "logged 2048 4096")
 
 
 def status_of(reply):
@@ -189,6 +194,22 @@ def entries(bench):
         size, took, peak, read = measured(command, small)
         table.row(command, "131,072 small ones", size, took * 1000, round(peak), read * 1000, None, None, took / first)
         bench.goal(f"{command}, small entries, time to that at half", took / first, MOST_DOUBLED)
+
+
+def demo(bench):
+    """`demo` of the most entries, and of half as many: the milliseconds beyond a process that is asked for nothing, and
+    what hashing each leaf and node of the tree once takes by Python's `hashlib`."""
+    table = bench.table(demo, "entries", "ms", "MB", "hash ms", "to half")
+    nothing = bench.kept(b"")
+    commands = [[bench.program, "--version"], *([bench.program, "demo", str(count)] for count in (2048, 4096))]
+    for words, shown in zip(commands[1:], DEMO_SHOWN):
+        measure.expect(words, nothing, written(words, nothing).splitlines()[-1], shown)
+    start, half, whole = bench.seconds(nothing, *commands)
+    hashed = min(own_entries.hashing_tree(2**12) for _ in range(bench.runs))
+    table.row("4,096", (whole - start) * 1000, round(megabytes(commands[-1], nothing)), hashed * 1000,
+              (whole - start) / (half - start))
+    bench.goal("demo, milliseconds", (whole - start) * 1000, MOST_OF_DEMO)
+    bench.goal("demo, time to that at half", (whole - start) / (half - start), MOST_DOUBLED)
 
 
 # Certificates by their numbers of extensions; webpki reads no more than 2^16 bytes.
@@ -358,6 +379,6 @@ def walks(bench):
     bench.goal("check of inclusion, time to its hashes", took[0] / took[2], MOST_TO_HASHES)
 
 
-OF_PROGRAM = (log, entries, verify, questions)  # those that measure sigverify, and not the readers of sig_bench
+OF_PROGRAM = (log, entries, demo, verify, questions)  # those that measure sigverify, and not the readers of sig_bench
 OF_READERS = (certificates, documents, bundles, statements, artifacts, walks)
 TABLES = {table.__name__: table for table in (*OF_PROGRAM, *OF_READERS)}

@@ -3,14 +3,16 @@
 
 What comes of a run is counted here by the contract of `run`: a request is read until the source gives nothing more, its calls counted from 0;
 the reply is written when it is whole, each call handed all that is left of it; a read that fails writes nothing, and a write that fails leaves
-what was written before it, with status 74 both times; words that are no command read nothing. The replies are those of tools/log_requests.py,
-tools/consistency_requests.py and tools/questions_cases.py."""
+what was written before it, with status 74 both times; words that are no command, and `demo N`, read nothing. The replies are those of
+tools/log_requests.py, tools/consistency_requests.py, tools/questions_cases.py and, of `demo`, tools/demo_requests.py."""
+import hashlib
 import json
 import sys
 import urllib.parse
 
 sys.dont_write_bytecode = True
 import consistency_requests as growth
+import demo_requests
 import questions_cases
 from case_table import Table
 from log_requests import FIRST
@@ -20,6 +22,14 @@ ASKED = 16_384
 FAULT = 74
 NEVER = 999_999
 COMMANDS = ("log", "verify", "consistency", "questions,log", "questions,verify", "questions,consistency")
+
+# Words that look like `demo N`.
+NOT_DEMO = (
+    "demo", "demo,", "demo,0", "demo,4097", "demo,00", "demo,01", "demo,0001", "demo,+1", "demo,-1", "demo,1x", "demo,x1", "demo, 1", "demo,1 ",
+    "demo,1.0", "demo,1e3", "demo,0x10", "demo,4_096", "demo,10000", "demo,18446744073709551615", "demo,18446744073709551616",
+    "demo,18446744073709551617", "demo,\u0661", "demo,\uff11", "demo,1,2", "demo,1,", "demo,1,1", "1,demo", "demo,demo", "Demo,1", "DEMO,1", " demo,1",
+    "demo ,1", "demo 1", "questions,demo", "log,1", "demo,log", "demo\0,1", "demo,1\0", "demo,1\n",
+)
 
 
 def read(text, piece, failing):
@@ -45,8 +55,8 @@ def write(reply, piece, failing, room):
 
 
 def outcome(words, text, source, sink, reply, status):
-    """The line of a run. Of words that are no command nothing is read."""
-    is_read, left = read(text, *source) if status != 64 else (True, len(text))
+    """The line of a run. Of words that are no command, and of `demo`, nothing is read."""
+    is_read, left = read(text, *source) if status != 64 and not words.startswith("demo,") else (True, len(text))
     if not is_read:
         return f"{FAULT} - {left}"
     is_written, taken = write(reply, *sink)
@@ -118,6 +128,26 @@ def main():
     table.group("A source with nothing left")
     for command in COMMANDS:
         run(command, "", steady, wide, refused, 2)
+
+    table.group("`demo N`: nothing is read, and the sink fails at each of its calls, or has room for a part of the text")
+    for count in (1, 2, 3, 5, 70, 4095, 4096):
+        for _ in range(2):
+            run(f"demo,{count}", "12345", (1, 0), wide, demo_requests.shown(count).encode(), 0)
+    for failing in range(9):
+        run("demo,5", "12345", steady, (12, failing, 256), demo_requests.shown(5).encode(), 0)
+    for room in (0, 1, 9, 10, 80, 81, 92, 93, 94):
+        run("demo,5", "12345", steady, (64, NEVER, room), demo_requests.shown(5).encode(), 0)
+
+    table.group("Words that are not `demo` and a number from 1 to 4096 in decimal digits")
+    for words in NOT_DEMO:
+        run(urllib.parse.quote(words, safe=","), "12345", (1, 0), wide, usage, 64)
+        for failing in range(4):
+            run(urllib.parse.quote(words, safe=","), "12345", steady, (2, failing, 256), usage, 64)
+
+    table.group("The request of `demo`: the SHA-256 of its text, its length, and what `log` replies to it")
+    for count in (*range(1, 71), 127, 128, 129, 1000, demo_requests.MOST - 1, demo_requests.MOST):
+        text = demo_requests.request(count).encode()
+        table.case(f"request {count}", f"{hashlib.sha256(text).hexdigest()} {len(text)} 0 {demo_requests.reply(count).encode().hex()}")
     table.write()
 
 

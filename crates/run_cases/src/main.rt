@@ -1,14 +1,17 @@
-//! Cases of `run` over memory, whose streams give and take pieces, and fail. `stdin` lists runs, and `stdout` what
-//! comes of each.
+//! Cases of `run` over memory, whose streams give and take pieces, and fail, and of the request of `demo`. `stdin`
+//! lists runs and requests, and `stdout` what comes of each.
 //!
 //! Who made them: `tools/run_cases.py`, a program in another language that counts reads and writes by the contract of
-//! `run` alone. What is written for a request that is read whole is stated there; whole requests are in `examples/`.
+//! `run` alone, and `tools/demo_requests.py`, which makes the request of `demo` by RFC 6962. What is written for a
+//! request that is read whole is stated there; whole requests are in `examples/`.
 #![tactic(auto)]
 
 ghost use Rattle.std.specs.Prelude.{◌≤◌};
 
-use sig_base::{Bytes, MemorySink, MemorySource, Numbers, OutOfMemory, Source, Text};
+use sig_base::{Bytes, MemorySink, MemorySource, Numbers, OutOfMemory, Source, Text, sha256};
 use sig_cases::{Answer, Arguments, Cases, run};
+use sig_program::demo::demo_request;
+use sig_program::log::log_reply;
 use sig_program::run::run as program;
 use std::alloc::Global;
 
@@ -18,6 +21,7 @@ impl Cases for RunCases {
     fn answer(call: &str, arguments: &mut Arguments<'_>, answer: &mut Answer) {
         match call {
             "run" => ran(arguments, answer),
+            "request" => requested(arguments, answer),
             _ => arguments.refuse(),
         }
     }
@@ -25,10 +29,11 @@ impl Cases for RunCases {
 
 /// `run WORDS BYTES PIECE FAILING PIECE FAILING ROOM`, over a source of the bytes that gives at most a piece at a call,
 /// and a sink of this room that takes at most a piece, whose calls of these numbers fail: the status, what was written,
-/// and how many bytes are left. Words are divided by commas.
+/// and how many bytes are left. Words are divided by commas, and have percent escapes.
 fn ran(arguments: &mut Arguments<'_>, answer: &mut Answer) {
     let alloc = arguments.alloc();
-    let words = words(alloc, arguments.word());
+    let listed = arguments.text();
+    let words = words(alloc, listed.as_str());
     let mut source = source(arguments);
     let sink = sink(arguments);
     match (words, sink) {
@@ -38,6 +43,36 @@ fn ran(arguments: &mut Arguments<'_>, answer: &mut Answer) {
             answer.value(&left(&mut source));
         }
         _ => answer.out_of_memory(),
+    }
+}
+
+/// `request COUNT`: the SHA-256 and the length of the request of `demo` for so many entries, and the status and the text
+/// of the reply of `log` to it.
+fn requested(arguments: &mut Arguments<'_>, answer: &mut Answer) {
+    let alloc = arguments.alloc();
+    let count = arguments.natural();
+    if count < 1 || 4096 < count {
+        arguments.refuse();
+        return;
+    }
+    match demo_request(alloc, count) {
+        Ok(request) => {
+            answer.hex(sha256(request.as_slice()).as_slice());
+            answer.value(&request.as_slice().len());
+            replied(alloc, request.as_slice(), answer);
+        }
+        Err(_) => answer.out_of_memory(),
+    }
+}
+
+/// Adds the status and the text of the reply of `log` to a request.
+fn replied(alloc: Global, request: &[u8], answer: &mut Answer) {
+    match log_reply(alloc, request) {
+        Ok(reply) => {
+            answer.value(&reply.status);
+            answer.hex(reply.text.as_str().as_bytes());
+        }
+        Err(_) => answer.out_of_memory(),
     }
 }
 

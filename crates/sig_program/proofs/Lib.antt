@@ -7,7 +7,10 @@ pub mod GivingBack
 pub mod HeadQuestionReplies
 pub mod HeadSignatures
 pub mod HeadVerdicts
+pub mod DemoLines
+pub mod DemoLinks
 pub mod Included
+pub mod Invocations
 pub mod Listings
 pub mod LogReplies
 pub mod LogVerdicts

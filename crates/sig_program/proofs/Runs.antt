@@ -13,7 +13,13 @@ use Rattle.sig_program.specs.declared.command.Command.TheVariants.{Log, Verify, 
 use Rattle.sig_program.specs.declared.command.Command.TheVariants.{VerifyQuestions, ConsistencyQuestions}
 use Rattle.sig_program.specs.Command.{words_of, Names, IsCommand}
 use Rattle.sig_request.specs.Limit.{TakesUpTo}
-use Rattle.sig_program.specs.Run.{RepliesTo, WriteFaulted, AppendsFront, HandsRests, WritesRests, usage_line}
+use Rattle.std.specs.Io.KnownBytes.{Appends}
+use Rattle.sig_program.proofs.Invocations.{demo-asked}
+use Rattle.sig_program.specs.Demo.{demo_reply, demo_text}
+use Rattle.sig_program.specs.Invocation.{Invokes, IsDemo, IsInvocation}
+use Rattle.sig_program.specs.declared.invocation.Invocation.{Invocation}
+use Rattle.sig_program.specs.declared.invocation.Invocation.TheVariants as invocation
+use Rattle.sig_program.specs.Run.{IsReplyOf, RepliesTo, WriteFaulted, AppendsFront, HandsRests, WritesRests, usage_line}
 use Rattle.sig_program.proofs.Replies.{long-reply}
 
 -- all that was left, fewer than n bytes
@@ -68,56 +74,75 @@ IsReply-small command text reply meant =
           subst P (sym (meant.refused first.0 first.1)) (status_of-small first.0)
     ]
 
-pub RepliesTo-small : (command : Command) (old new : Option (List ℕ)) (reply : Reply) → RepliesTo command old new reply
+pub IsReplyOf-small : (asked : Invocation) (old new : Option (List ℕ)) (reply : Reply) → IsReplyOf asked old new reply
     → reply.status < 3
-RepliesTo-small command old new reply replies = IsReply-small command replies.text reply replies.meant
+IsReplyOf-small (invocation.Reply command) old new reply replies =
+    IsReply-small command replies.text reply replies.meant
+IsReplyOf-small (invocation.Demo count) old new reply (same, is) =
+    let P : Reply → Type 0 = λ r. r.status < 3 in subst P (sym is) (lit< tt)
 
 -- a write of the line for other words that failed
 pub WriteFaulted-usage : (words : List (List ℕ)) (left_old left_new : Option (List ℕ)) (before now : ℕ)
     (taken_old taken_new : Option (List ℕ))
-    → ¬ IsCommand words → Rose before now → AppendsFront taken_old taken_new usage_line
+    → ¬ IsInvocation words → Rose before now → AppendsFront taken_old taken_new usage_line
     → WriteFaulted words left_old left_new before now taken_old taken_new
 WriteFaulted-usage words left_old left_new before now taken_old taken_new other rose written =
     record { bytes = usage_line; output = inr (other, refl); rose = rose; written = written }
 
 -- a write of a reply that failed
-pub WriteFaulted-reply : (words : List (List ℕ)) (command : Command) (left_old left_new : Option (List ℕ))
+pub WriteFaulted-reply : (words : List (List ℕ)) (asked : Invocation) (left_old left_new : Option (List ℕ))
     (before now : ℕ) (taken_old taken_new : Option (List ℕ)) (reply : Reply)
-    → Names words command → RepliesTo command left_old left_new reply → Rose before now
+    → Invokes words asked → IsReplyOf asked left_old left_new reply → Rose before now
     → AppendsFront taken_old taken_new reply.text
     → WriteFaulted words left_old left_new before now taken_old taken_new
-WriteFaulted-reply words command left_old left_new before now taken_old taken_new reply named replies rose written =
+WriteFaulted-reply words asked left_old left_new before now taken_old taken_new reply named replies rose written =
     record {
       bytes = reply.text;
-      output = inl (command, named, (reply, replies, refl));
+      output = inl (asked, named, (reply, replies, refl));
       rose = rose;
       written = written;
     }
 
-pub faulted-reply : (words : List (List ℕ)) (command : Command) (left_old left_new : Option (List ℕ)) (before now : ℕ)
+pub faulted-reply : (words : List (List ℕ)) (asked : Invocation) (left_old left_new : Option (List ℕ)) (before now : ℕ)
     (taken_old taken_new : Option (List ℕ)) (reply : Reply) (text : List ℕ)
-    → text ≡ reply.text → Names words command → RepliesTo command left_old left_new reply → Rose before now
+    → text ≡ reply.text → Invokes words asked → IsReplyOf asked left_old left_new reply → Rose before now
     → AppendsFront taken_old taken_new text
     → WriteFaulted words left_old left_new before now taken_old taken_new
-faulted-reply words command left_old left_new before now taken_old taken_new reply text same named replies rose written
+faulted-reply words asked left_old left_new before now taken_old taken_new reply text same named replies rose written
     =
-    WriteFaulted-reply words command left_old left_new before now taken_old taken_new reply named replies rose
+    WriteFaulted-reply words asked left_old left_new before now taken_old taken_new reply named replies rose
     (subst (AppendsFront taken_old taken_new) same written)
 
 -- the pieces of the line for other words, and of a reply
 pub WritesRests-usage : (words : List (List ℕ)) (left_old left_new : Option (List ℕ))
     (handed_old handed_new : Option (List (List ℕ)))
-    → ¬ IsCommand words → HandsRests handed_old handed_new usage_line
+    → ¬ IsInvocation words → HandsRests handed_old handed_new usage_line
     → WritesRests words left_old left_new handed_old handed_new
 WritesRests-usage words left_old left_new handed_old handed_new other rests =
     inr (usage_line, inr (other, refl), rests)
 
-pub WritesRests-reply : (words : List (List ℕ)) (command : Command) (left_old left_new : Option (List ℕ))
+pub WritesRests-reply : (words : List (List ℕ)) (asked : Invocation) (left_old left_new : Option (List ℕ))
     (handed_old handed_new : Option (List (List ℕ))) (reply : Reply)
-    → Names words command → RepliesTo command left_old left_new reply → HandsRests handed_old handed_new reply.text
+    → Invokes words asked → IsReplyOf asked left_old left_new reply → HandsRests handed_old handed_new reply.text
     → WritesRests words left_old left_new handed_old handed_new
-WritesRests-reply words command left_old left_new handed_old handed_new reply named replies rests =
-    inr (reply.text, inl (command, named, (reply, replies, refl)), rests)
+WritesRests-reply words asked left_old left_new handed_old handed_new reply named replies rests =
+    inr (reply.text, inl (asked, named, (reply, replies, refl)), rests)
+
+-- what was written of a reply to the words of `demo`
+pub demo-written : (words : List (List ℕ)) (asked : Invocation) (left_old left_new : Option (List ℕ)) (reply : Reply)
+    (count result : ℕ) (taken_old taken_new : Option (List ℕ)) (text : List ℕ)
+    → Invokes words asked → IsReplyOf asked left_old left_new reply → text ≡ reply.text
+    → (result < 71 → (result ≡ reply.status) × Appends taken_old taken_new text) → IsDemo words count → result < 3
+    → (result ≡ 0) × Appends taken_old taken_new (demo_text count)
+demo-written words asked left_old left_new reply count result taken_old taken_new text named replies same written is few
+    =
+    let which : asked ≡ invocation.Demo count = demo-asked words asked count named is in
+    let P : Invocation → Type 0 = λ a. IsReplyOf a left_old left_new reply in
+    let made : reply ≡ demo_reply count = (subst P which replies).1 in
+    let both = written (omega (arith, few)) in (
+      both.0 ∙ ap (λ (r : Reply). r.status) made,
+      subst (Appends taken_old taken_new) (same ∙ ap (λ (r : Reply). r.text) made) both.1,
+    )
 
 -- a command has one word or two
 named-short : (command : Command) → (1 ≤ length (words_of command)) × (length (words_of command) ≤ 2)
@@ -152,7 +177,7 @@ are_two_words (one ∷ two ∷ three ∷ rest) first second is then some few = a
 pub ruleset runs = (
   RepliesTo-whole,
   RepliesTo-long,
-  RepliesTo-small,
+  IsReplyOf-small,
   WriteFaulted-usage,
   WriteFaulted-reply,
   WritesRests-usage,

@@ -1,4 +1,6 @@
 pub mod Command
+pub mod Demo
+pub mod Invocation
 pub mod ConsistencyLink
 pub mod Fronts
 pub mod GivenBack

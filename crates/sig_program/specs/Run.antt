@@ -3,13 +3,16 @@ use Rattle.std.specs.Prelude.{◌≡◌, ℕ, ◌⊎◌, List, ◌++◌, Option,
 use Rattle.std.specs.Io.KnownBytes.{Appends}
 use Rattle.std.specs.List.{AllByRecursion}
 use Rattle.sig_base.specs.Stream.{Rose}
-use Rattle.sig_program.specs.Command.{IsCommand, Names}
+use Rattle.sig_program.specs.Demo.{demo_reply}
+use Rattle.sig_program.specs.Invocation.{Invokes, IsInvocation}
 use Rattle.sig_request.specs.Limit.{TakesRequest}
 use Rattle.sig_program.specs.Reply.{IsReply}
 use Rattle.sig_program.specs.declared.command.Command.{Command}
+use Rattle.sig_program.specs.declared.invocation.Invocation.{Invocation}
+use Rattle.sig_program.specs.declared.invocation.Invocation.TheVariants as invocation
 use Rattle.sig_program.specs.declared.reply.Reply.{Reply}
 
--- the line that is written for words that name no command
+-- the line that is written for words that ask for nothing
 abbrev pub usage_line : List ℕ
 usage_line = codes "usage\n"
 
@@ -19,22 +22,27 @@ pub record RepliesTo (command : Command) (old new : Option (List ℕ)) (reply : 
   pub request : TakesRequest old new text
   pub meant : IsReply command text reply
 
--- the run replied to a request of the command that the words name, and wrote the whole reply and nothing else
+-- the reply to what the words ask for: to a request that was taken, or the lines of `demo`, for which nothing is taken
+abbrev pub IsReplyOf : Invocation → Option (List ℕ) → Option (List ℕ) → Reply → Type 0
+IsReplyOf (invocation.Reply command) old new reply = RepliesTo command old new reply
+IsReplyOf (invocation.Demo count) old new reply = (new ≡ old) × (reply ≡ demo_reply count)
+
+-- the run replied to what the words ask for, and wrote the whole reply and nothing else
 pub record Answered (words : List (List ℕ)) (left_old left_new taken_old taken_new : Option (List ℕ))
     (status : ℕ) : Type 0 where
-  pub command : Command
-  pub named : Names words command
+  pub invocation : Invocation
+  pub named : Invokes words invocation
   pub reply : Reply
-  pub replies : RepliesTo command left_old left_new reply
+  pub replies : IsReplyOf invocation left_old left_new reply
   pub answer : status ≡ reply.status
   pub written : Appends taken_old taken_new reply.text
 
--- what a run writes: the text of the reply of the command that the words name, or the line for other words
+-- what a run writes: the text of the reply to what the words ask for, or the line for other words
 abbrev pub IsOutput : List (List ℕ) → Option (List ℕ) → Option (List ℕ) → List ℕ → Type 0
 IsOutput words left_old left_new bytes =
-    ((command : Command) × Names words command × ((reply : Reply) × RepliesTo command left_old left_new reply
+    ((asked : Invocation) × Invokes words asked × ((reply : Reply) × IsReplyOf asked left_old left_new reply
     × (bytes ≡ reply.text)))
-    ⊎ (¬ IsCommand words × (bytes ≡ usage_line))
+    ⊎ (¬ IsInvocation words × (bytes ≡ usage_line))
 
 -- a prefix of the bytes was written, and nothing else
 abbrev pub AppendsFront : Option (List ℕ) → Option (List ℕ) → List ℕ → Type 0
@@ -50,7 +58,7 @@ pub record WriteFaulted (words : List (List ℕ)) (left_old left_new : Option (L
 
 -- a read failed: the source's count of faults rose, and nothing was written
 abbrev pub ReadFaulted : {K : Type 0} → List (List ℕ) → ℕ → ℕ → K → K → Type 0
-ReadFaulted words before now sink_old sink_new = IsCommand words × Rose before now × (sink_new ≡ sink_old)
+ReadFaulted words before now sink_old sink_new = IsInvocation words × Rose before now × (sink_new ≡ sink_old)
 
 -- the piece is all that is left of the bytes behind some front
 abbrev pub IsRestOf : List ℕ → List ℕ → Type 0

@@ -9,15 +9,17 @@
 //! ```
 //!
 //! What the layer above uses: [`run::run`] over any source and sink; or, over a request in memory, the call that makes
-//! the reply of each command.
+//! the reply of each command. [`demo::demo`] shows `log` at work, without a request.
 #![tactic(auto)]
 
 mod brief_policy;
 mod command;
 pub mod consistency;
 pub mod consistency_questions;
+pub mod demo;
 mod head;
 mod head_questions;
+mod invocation;
 mod laws;
 pub mod log;
 pub mod log_questions;

@@ -1,21 +1,25 @@
 //! The program but for its words and streams: it reads a request, and makes and writes the reply.
-ghost use Rattle.std.specs.Prelude.{◌≡◌, ◌⊎◌, ◌+◌, ◌<◌, ◌≤◌, IfOk, IsErrOf};
+ghost use Rattle.std.specs.Prelude.{◌≡◌, ℕ, ◌⊎◌, ◌+◌, ◌<◌, ◌≤◌, IfOk, IsErrOf};
 ghost use Rattle.std.specs.Io.KnownBytes.{Appends};
 ghost use Rattle.sig_base.specs.Stream.{Rose, TookAtMost};
-ghost use Rattle.sig_program.specs.Command.{IsCommand};
+ghost use Rattle.sig_program.specs.Demo.{demo_text};
+ghost use Rattle.sig_program.specs.Invocation.{HasCount, IsDemo, IsInvocation};
 ghost use Rattle.sig_request.specs.Limit.{most_bytes};
 ghost use Rattle.sig_program.specs.GivenBack.{ListsAreGivenBack};
 ghost use Rattle.sig_program.specs.Reply.{IsReply};
-ghost use Rattle.sig_program.specs.Run.{RepliesTo, Answered, ReadFaulted, WriteFaulted, HandsRests, WritesRests};
+ghost use Rattle.sig_program.specs.Run.{IsReplyOf, RepliesTo, Answered, ReadFaulted, WriteFaulted, HandsRests, WritesRests};
 ghost use Rattle.sig_program.specs.Run.{AppendsFront, usage_line};
 ghost use Rattle.sig_program.specs.Status.{usage_status, memory_status, fault_status};
 ghost use Rattle.sig_program.specs.Suffice.{ConsistencyQuestionsSuffice, LogQuestionsSuffice, VerifyQuestionsSuffice};
 ghost use Rattle.sig_program.specs.VerifyQuestions.{RefusesForAll};
 ghost use Rattle.sig_program.specs.declared.command.Command.TheVariants.{ConsistencyQuestions, LogQuestions, VerifyQuestions};
+ghost use Rattle.sig_program.specs.declared.invocation.Invocation.TheVariants.{Demo};
 
 use crate::command::Command;
 use crate::consistency::consistency_reply;
 use crate::consistency_questions::consistency_questions;
+use crate::demo::demo;
+use crate::invocation::Invocation;
 use crate::laws::lists;
 use crate::log::log_reply;
 use crate::log_questions::log_questions;
@@ -28,7 +32,7 @@ use sig_request::{ReadFault, read_request};
 use sig_verify::Link;
 use std::alloc::Global;
 
-/// The status for words that are no command (EX_USAGE of sysexits.h).
+/// The status for words that ask for nothing (EX_USAGE of sysexits.h).
 pub const USAGE: u8 = 64;
 
 /// The status for out of memory (EX_OSERR).
@@ -55,7 +59,7 @@ impl From<OutOfMemory> for NoReply {
     }
 }
 
-/// Runs the command that the words name, and returns the program's status.
+/// Does what the words ask for, and returns the program's status.
 ///
 /// A command reads a request, at most 2^24 + 1 bytes of what the source has left, and writes one line: `logged I N` for
 /// `log`, `verified I N` for `verify` and `consistent M N` for `consistency`, with status 0, if every link of the
@@ -70,10 +74,13 @@ impl From<OutOfMemory> for NoReply {
 /// fails whatever signatures are accepted, and `refused request` if the bytes of the request, of the list and of
 /// `,"accepted":` would be more than 2^24 together.
 ///
+/// `demo N`, N from 1 to 4096 in decimal without leading zeros, reads nothing, and writes three lines with status 0:
+/// `entries N`, `root HEX` and `logged I N`, of [`demo`].
+///
 /// The reply is whole before its first byte is written, and each write is handed all that is left of it. Other
 /// statuses:
 ///
-/// - 64: the words name no command. Nothing is read, no memory is taken (no call on the way has the allocator), and
+/// - 64: the words are none of these. Nothing is read, no memory is taken (no call on the way has the allocator), and
 ///   `usage` is written.
 /// - 71: out of memory; nothing is written.
 /// - 74, only if the count of faults of the source or of the sink rose: nothing is written after a fault of the
@@ -87,11 +94,15 @@ pub fn run<S: Source, K: Sink>(alloc: Global, words: &[Text], source: &mut S, si
     // `consistency` what `IsFrontLine` does.
     ensures answered { result < 3 →
         Answered words.now (S.left source.old) (S.left source.new) (K.taken sink.old) (K.taken sink.new) result }
-    ensures usage { result ≡ usage_status → ¬ IsCommand words.now
+    ensures usage { result ≡ usage_status → ¬ IsInvocation words.now
         × Appends (K.taken sink.old) (K.taken sink.new) usage_line }
-    ensures unread { ¬ IsCommand words.now → source.new ≡ source.old }
+    ensures unread { ¬ IsInvocation words.now → source.new ≡ source.old }
+
+    // `demo N` reads nothing, and what it writes is a function of N.
+    ensures demo { (count : ℕ) → IsDemo words.now count → (source.new ≡ source.old)
+        × (result < 3 → (result ≡ 0) × Appends (K.taken sink.old) (K.taken sink.new) (demo_text count)) }
     ensures most { TookAtMost (most_bytes + 1) (S.left source.old) (S.left source.new) }
-    ensures memory { result ≡ memory_status → IsCommand words.now × (sink.new ≡ sink.old) }
+    ensures memory { result ≡ memory_status → IsInvocation words.now × (sink.new ≡ sink.old) }
     ensures fault { result ≡ fault_status →
         ReadFaulted words.now (S.faults source.old) (S.faults source.new) sink.old sink.new
         ⊎ WriteFaulted words.now (S.left source.old) (S.left source.new)
@@ -115,13 +126,33 @@ pub fn run<S: Source, K: Sink>(alloc: Global, words: &[Text], source: &mut S, si
         × ListsAreGivenBack ConsistencyQuestions }
 {
     lists();
-    let Some(command) = Command::named(words) else {
+    let Some(invocation) = Invocation::asked(words) else {
         return finish(sink, USAGE, USAGE_LINE.as_bytes());
     };
-    match reply_to(alloc, command, source) {
+    match reply_for(alloc, invocation, source) {
         Ok(reply) => finish(sink, reply.status, reply.text.as_str().as_bytes()),
         Err(NoReply::Failed) => FAULT,
         Err(NoReply::OutOfMemory) => NO_MEMORY,
+    }
+}
+
+/// Returns the reply to what is asked for. For `demo` nothing is read.
+#[tactic(auto, using(crate::proofs::Runs::runs))]
+fn reply_for<S: Source>(
+    alloc: Global,
+    invocation: Invocation,
+    source: &mut S,
+) -> Result<Reply, NoReply>
+    requires { HasCount invocation }
+    ensures ok { IfOk result (IsReplyOf invocation (S.left source.old) (S.left source.new)) }
+    ensures failed { IsErrOf result NoReply.Failed → Rose (S.faults source.old) (S.faults source.new) }
+    ensures unread { (count : ℕ) → invocation ≡ Demo count → source.new ≡ source.old }
+    ensures most { TookAtMost (most_bytes + 1) (S.left source.old) (S.left source.new) }
+    ensures later { S.faults source.old ≤ S.faults source.new }
+{
+    match invocation {
+        Invocation::Reply(command) => reply_to(alloc, command, source),
+        Invocation::Demo(count) => Ok(demo(alloc, count)?),
     }
 }
 

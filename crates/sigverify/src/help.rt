@@ -13,6 +13,7 @@ usage: sigverify log < REQUEST
        sigverify questions log < REQUEST
        sigverify questions verify < REQUEST
        sigverify questions consistency < REQUEST
+       sigverify demo N
        sigverify --help | --version
 
 commands:
@@ -85,13 +86,21 @@ commands:
          Those that are genuine are what accepted needs: no other signature
          matters.
 
+  demo N Does it work? N is how many entries a log has that the program makes up,
+         from 1 to 4096 in decimal digits. Nothing is read. The reply is three
+         lines on standard output:
+           entries N
+           root HEX            the root hash of their tree
+           logged INDEX N      the reply of log to a request for the entry in
+                               the middle
+
 docs/LINKS.md says of each link what was tested, and what to look at first.
 
 status:
   0   every link holds; of questions, the list is written
   1   a link other than request fails
   2   the link request fails; of questions also, the list would be too long
-  64  the words are no command
+  64  the words are no command, or no number that demo takes
   71  out of memory
   74  reading or writing failed
 ";
