@@ -1,6 +1,5 @@
 -- A list that is written fits one request with the request that it is of.
 use Rattle.std.proofs.Common.{◌≡◌, ◌≤◌, ◌∙◌, ℕ, List, ◌++◌, length, codes, ap, arith, length-append, subst, sym}
-use Rattle.std.specs.List.{AllByRecursion}
 use Rattle.sig_base.specs.declared.checker.AcceptedRow.{AcceptedRow}
 use Rattle.sig_questions.specs.Questions.{question_links}
 use Rattle.sig_request.specs.Limit.{most_bytes}
