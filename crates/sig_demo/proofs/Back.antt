@@ -72,12 +72,12 @@ operation-back = (refl, refl)
 abbrev row_by : Data → Data → Data → Data → Data → Data
 row_by operation scheme key message signature =
     object_of (
-      (codes "operation", Some operation)
-      ∷ (codes "scheme", Some scheme)
-      ∷ (codes "key", Some key)
-      ∷ (codes "message", Some message)
-      ∷ (codes "signature", Some signature)
-      ∷ []
+    (codes "operation", Some operation)
+    ∷ (codes "scheme", Some scheme)
+    ∷ (codes "key", Some key)
+    ∷ (codes "message", Some message)
+    ∷ (codes "signature", Some signature)
+    ∷ []
     )
 
 row-operation : (o s k m g : Data) → member_of (codes "operation") (row_by o s k m g) ≡ Some (not_null o)
@@ -129,12 +129,11 @@ pub row_back : (message : List ℕ) → IsReadAs bytes_of (bytes_tree demo_key) 
     → IsReadAs bytes_of (bytes_tree message) message → IsReadAs bytes_of (bytes_tree (codes "sig")) (codes "sig")
     → IsReadAs row_of (row_tree (row_over message)) (row_over message)
 unfolding row_tree
-row_back message key messages signature =
-    (
-      row-read (string (codes "message")) (string demo_scheme) (bytes_tree demo_key) (bytes_tree message)
-          (bytes_tree (codes "sig")) demo_key message (codes "sig") operation-back scheme-back key messages signature,
-      refl,
-    )
+row_back message key messages signature = (
+  row-read (string (codes "message")) (string demo_scheme) (bytes_tree demo_key) (bytes_tree message)
+      (bytes_tree (codes "sig")) demo_key message (codes "sig") operation-back scheme-back key messages signature,
+  refl,
+)
 
 pub row_written : (message : List ℕ) (document : Data) (a b c d e f : Members)
     → a ≡ no_members → b ≡ put (codes "operation") (string (codes "message")) a
@@ -150,17 +149,17 @@ row_written message document a b c d e f first second third fourth fifth sixth w
 abbrev pub request_by : Data → Data → Data → Data → Data → Data → Data → Data → Data → Data → Data
 request_by entry index size root hashes checkpoint scheme key accepted entries =
     object_of (
-      (codes "entry", Some entry)
-      ∷ (codes "logIndex", Some index)
-      ∷ (codes "treeSize", Some size)
-      ∷ (codes "rootHash", Some root)
-      ∷ (codes "hashes", Some hashes)
-      ∷ (codes "checkpoint", Some checkpoint)
-      ∷ (codes "scheme", Some scheme)
-      ∷ (codes "key", Some key)
-      ∷ (codes "accepted", Some accepted)
-      ∷ (codes "entries", Some entries)
-      ∷ []
+    (codes "entry", Some entry)
+    ∷ (codes "logIndex", Some index)
+    ∷ (codes "treeSize", Some size)
+    ∷ (codes "rootHash", Some root)
+    ∷ (codes "hashes", Some hashes)
+    ∷ (codes "checkpoint", Some checkpoint)
+    ∷ (codes "scheme", Some scheme)
+    ∷ (codes "key", Some key)
+    ∷ (codes "accepted", Some accepted)
+    ∷ (codes "entries", Some entries)
+    ∷ []
     )
 
 has_entry : (a b c d e f g h i j : Data)

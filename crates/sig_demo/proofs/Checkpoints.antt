@@ -34,14 +34,13 @@ demo-reads_back log = record {
   line = λ before after. lacks-byte 10 (codes "demo") before after refl;
   unquoted = λ rest e. absurd cc;
   contents = tt;
-  names =
-      (
-        record {
-          word = λ before after. lacks-byte 32 (codes "demo") before after refl;
-          line = λ before after. lacks-byte 10 (codes "demo") before after refl;
-        },
-        tt,
-      );
+  names = (
+    record {
+      word = λ before after. lacks-byte 32 (codes "demo") before after refl;
+      line = λ before after. lacks-byte 10 (codes "demo") before after refl;
+    },
+    tt,
+  );
 }
 
 -- what is read back is a checkpoint of its text

@@ -208,8 +208,8 @@ root-size_at zero (entry ∷ entries) = length-sha256 (0 ∷ entry)
 root-size_at (suc level) entries = of (nat_lt (2 ^ level) (length entries)) (root-size_at level entries) where
   of : (more : Bool) → length (root_at level entries) ≡ 32
       → length (if more
-        then node_of (root_at level (take (2 ^ level) entries)) (root_at level (drop (2 ^ level) entries))
-        else root_at level entries) ≡ 32
+      then node_of (root_at level (take (2 ^ level) entries)) (root_at level (drop (2 ^ level) entries))
+      else root_at level entries) ≡ 32
   of true below = length-sha256 _
   of false below = below
 
@@ -234,19 +234,19 @@ unfolding audit_path_at
 path-size_at zero index entries = (omega arith, tt)
 path-size_at (suc level) index entries =
     of (nat_lt (2 ^ level) (length entries)) (nat_lt index (2 ^ level)) (λ i half. path-size_at level i half) where
-  of : (more left : Bool) → ((i : ℕ) (half : List (List ℕ)) → IsShortPath level (audit_path_at level i half))
-      → IsShortPath (suc level) (if more
-        then (if left
-        then audit_path_at level index (take (2 ^ level) entries) ++ root (drop (2 ^ level) entries) ∷ []
-        else audit_path_at level (index - 2 ^ level) (drop (2 ^ level) entries) ++ root (take (2 ^ level) entries) ∷ [])
-        else audit_path_at level index entries)
-  of false left below = let short = below index entries in (omega (arith, short.0), short.1)
-  of true true below =
-      longer-path level _ _ (below index (take (2 ^ level) entries))
-      (root-size (drop (2 ^ level) entries))
-  of true false below =
-      longer-path level _ _ (below (index - 2 ^ level) (drop (2 ^ level) entries))
-      (root-size (take (2 ^ level) entries))
+      of : (more left : Bool) → ((i : ℕ) (half : List (List ℕ)) → IsShortPath level (audit_path_at level i half))
+          → IsShortPath (suc level) (if more
+          then (if left
+          then audit_path_at level index (take (2 ^ level) entries) ++ root (drop (2 ^ level) entries) ∷ []
+          else audit_path_at level (index - 2 ^ level) (drop (2 ^ level) entries) ++ root (take (2 ^ level) entries) ∷ [])
+          else audit_path_at level index entries)
+      of false left below = let short = below index entries in (omega (arith, short.0), short.1)
+      of true true below =
+          longer-path level _ _ (below index (take (2 ^ level) entries))
+          (root-size (drop (2 ^ level) entries))
+      of true false below =
+          longer-path level _ _ (below (index - 2 ^ level) (drop (2 ^ level) entries))
+          (root-size (take (2 ^ level) entries))
 
 path-size : (index : ℕ) (entries : List (List ℕ)) → IsShortPath (length entries) (audit_path index entries)
 unfolding audit_path

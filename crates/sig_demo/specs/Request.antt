@@ -43,12 +43,12 @@ hash_tree hash = string (encode_lower hash)
 unfoldable pub row_tree : AcceptedRow → Data
 row_tree row =
     object_of (
-      (codes "operation", Some (string (codes "message")))
-      ∷ (codes "scheme", Some (string row.scheme))
-      ∷ (codes "key", Some (bytes_tree row.key))
-      ∷ (codes "message", Some (bytes_tree row.message))
-      ∷ (codes "signature", Some (bytes_tree row.signature))
-      ∷ []
+    (codes "operation", Some (string (codes "message")))
+    ∷ (codes "scheme", Some (string row.scheme))
+    ∷ (codes "key", Some (bytes_tree row.key))
+    ∷ (codes "message", Some (bytes_tree row.message))
+    ∷ (codes "signature", Some (bytes_tree row.signature))
+    ∷ []
     )
 
 -- the request as a document: the entry and its proof, the log's signed checkpoint with the scheme and the key under
@@ -56,17 +56,17 @@ row_tree row =
 unfoldable pub request_tree : DemoLog → Data
 request_tree log =
     object_of (
-      (codes "entry", Some (bytes_tree (demo_entry (demo_index log.count))))
-      ∷ (codes "logIndex", Some (number (of_integer (pos (demo_index log.count)))))
-      ∷ (codes "treeSize", Some (number (of_integer (pos log.count))))
-      ∷ (codes "rootHash", Some (hash_tree log.root))
-      ∷ (codes "hashes", Some (list_tree hash_tree log.path))
-      ∷ (codes "checkpoint", Some (string (checkpoint_text (demo_checkpoint log))))
-      ∷ (codes "scheme", Some (string demo_scheme))
-      ∷ (codes "key", Some (bytes_tree demo_key))
-      ∷ (codes "accepted", Some (list_tree row_tree (demo_row log ∷ [])))
-      ∷ (codes "entries", Some (list_tree bytes_tree log.entries))
-      ∷ []
+    (codes "entry", Some (bytes_tree (demo_entry (demo_index log.count))))
+    ∷ (codes "logIndex", Some (number (of_integer (pos (demo_index log.count)))))
+    ∷ (codes "treeSize", Some (number (of_integer (pos log.count))))
+    ∷ (codes "rootHash", Some (hash_tree log.root))
+    ∷ (codes "hashes", Some (list_tree hash_tree log.path))
+    ∷ (codes "checkpoint", Some (string (checkpoint_text (demo_checkpoint log))))
+    ∷ (codes "scheme", Some (string demo_scheme))
+    ∷ (codes "key", Some (bytes_tree demo_key))
+    ∷ (codes "accepted", Some (list_tree row_tree (demo_row log ∷ [])))
+    ∷ (codes "entries", Some (list_tree bytes_tree log.entries))
+    ∷ []
     )
 
 -- what the request means

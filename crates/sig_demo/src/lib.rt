@@ -4,7 +4,7 @@
 //!
 //! ```text
 //! {"accepted":[{"key":"a2V5","message":"ZGVtbwox..","operation":"message","scheme":"ECDSA_P256_SHA256_ASN1",
-//!  "signature":"c2ln"}],"checkpoint":"demo\n1\nOVqgZKpM..TVY=\n\n\u2014 demo AAAAAXNpZw==\n","entries":["TDEyMzQ1Ng=="],
+//!  "signature":"c2ln"}],"checkpoint":"demo\n1\nOVqgZKpM..TVY=\n\n\n— demo AAAAAXNpZw==\n","entries":["TDEyMzQ1Ng=="],
 //!  "entry":"TDEyMzQ1Ng==","hashes":[],"key":"a2V5","logIndex":0,"rootHash":"395aa064..",
 //!  "scheme":"ECDSA_P256_SHA256_ASN1","treeSize":1}
 //! ```

@@ -53,10 +53,7 @@ pub(crate) fn entries_document(alloc: Global, entries: &[Bytes]) -> Result<Docum
 }
 
 /// A list of hashes. Fails only if out of memory.
-pub(crate) fn hashes_document(
-    alloc: Global,
-    hashes: &[[u8; 32]],
-) -> Result<Document, OutOfMemory>
+pub(crate) fn hashes_document(alloc: Global, hashes: &[[u8; 32]]) -> Result<Document, OutOfMemory>
     ensures tree { IfOk result (λ document. document_tree document ≡ list_tree hash_tree hashes.now) }
     ensures back { IfOk result (λ _. IsReadAs (list_each hash_of) (list_tree hash_tree hashes.now) hashes.now) }
 {
