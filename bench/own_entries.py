@@ -51,9 +51,9 @@ def of_growth(entries, more=()):
     return with_list(entries, more, root, hashes, oldSize=len(entries) - 1, oldRoot=old.hex())
 
 
-def big(size):
-    """Four entries that make a request of nearly so many bytes."""
-    return [bytes([number]) * (3 * size // 20 - 300) for number in range(4)]
+def big(size, more=1):
+    """Four entries that make a request of nearly so many bytes, where it has them and so many more of their size."""
+    return [bytes([number]) * (3 * size // (16 + 4 * more) - 400) for number in range(4)]
 
 
 def small(count):
