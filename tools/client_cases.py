@@ -197,7 +197,8 @@ def parts():
     for length in range(1, 7):
         content = compact(CLAIMS) + " " * length
         text = base64_of(content.encode())
-        for each in {text, text.rstrip("="), text.rstrip("=") + "=", text.rstrip("=")[:-1], text.rstrip("=") + "A", text.rstrip("=") + "AA", text.rstrip("=") + "\n"}:
+        bare = text.rstrip("=")
+        for each in dict.fromkeys([text, bare, bare + "=", bare[:-1], bare + "A", bare + "AA", bare + "\n"]):
             token("h.%s.s" % each)
     for letter in ("-", "_", "=", "%", " ", "\t", "\0", "\u00fc", "+", "/"):
         token("h.%s%s.s" % (letter, coded))
