@@ -18,6 +18,7 @@ MOST_OF_DEMO = 50  # the milliseconds of `demo` of the most entries
 MOST_MEGABYTES = 500  # the peak memory over an input of 2^24 bytes
 MOST_MEGABYTES_OF_STATEMENT = 700  # the same over a payload of which a statement's parts are copied
 MOST_SECONDS = 3  # the time over an input of 2^24 bytes
+MOST_SECONDS_OF_A_MILLION = 0.1  # the time over a request of a million bytes, beyond that of a process that reads none
 MOST_TO_HASHING = 1.1  # the time over an artifact, to that of hashing it alone
 MOST_MEGABYTES_OF_ARTIFACT = 20  # the peak memory over an artifact, however long
 MOST_TO_HASHES = 1.05  # the time of a check of inclusion, to that of its hashes alone
@@ -131,6 +132,12 @@ def verify(bench):
             bench.goal(f"verify, {name}, time to that at half", took / first, MOST_DOUBLED)
         return took * 1000
 
+    def of_a_million(text, reply):
+        """Time beyond the start over a request of so few bytes."""
+        path, status = bench.kept(text), status_of(reply)
+        measure.expect(command, path, written(command, path, status), reply)
+        return bench.seconds(path, command, status=status, slow=True)[0] - start
+
     for name, text in (("examples/verify.json", chains.example()), ("a payload of 10 KB", chains.small(10000))):
         bench.goal(f"verify, {name}, ms beyond the start", row(name, text, "verified 2 5"), MOST_BEYOND_START)
     for name, make, most in chains.COUNTED:
@@ -138,6 +145,11 @@ def verify(bench):
     for reply, kinds in chains.REQUESTS.items():
         for name, make in kinds:
             row(name, filled(make, bench.most), reply, filled(make, bench.most // 2))
+    million = [(name, filled(make, 10**6), reply) for reply, kinds in chains.REQUESTS.items() for name, make in kinds]
+    took, place = max((of_a_million(*each[1:]), place) for place, each in enumerate(million))
+    name, text, reply = million[place]
+    table.row(f"the slowest of a million bytes: {name}", reply, len(text), took * 1000, None, None)
+    bench.goal(f"verify, {name}, a million bytes, seconds", took, MOST_SECONDS_OF_A_MILLION)
     row("too long, refused", chains.example() + b" " * 2**25, "refused request")
 
 
