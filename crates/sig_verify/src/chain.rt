@@ -4,19 +4,18 @@ ghost use Rattle.sig_base.specs.Answers.{UnlessMemory};
 ghost use Rattle.sig_verify.specs.Judged.{Judged};
 ghost use Rattle.sig_verify.specs.LinkLaws.{IsKept};
 ghost use Rattle.sig_verify.specs.Links.{HoldsOf, OfPassed, chain_links};
-ghost use Rattle.sig_verify.specs.OfflineLaws.{AreReadInputs, HasEntryOfBytes, IsOfBundleOfBytes};
+ghost use Rattle.sig_verify.specs.OfflineLaws.{AreReadInputs, IsOfBundleOfBytes};
 ghost use Rattle.sig_verify.specs.OfflineVerdict.{only_entry_of, IsOffline, IsOfflineIn, IsOfflineOf, IsOfflineUnder};
 ghost use Rattle.sig_verify.specs.OfflineVerdict.{IsVouchedIn};
 ghost use Rattle.sig_verify.specs.OfflineVerdict.{borrowed_entry};
 ghost use Rattle.sig_verify.specs.Verdict.{checker_of, policy_of};
 
-use crate::laws::outcomes;
+use crate::laws::{is_entry_bytes, outcomes};
 use crate::log_entry::verify_log_entry;
 use crate::offline::Offline;
 use crate::offline_error::{OfflineError, Part, json_error, root_error};
 use crate::verifier::Verifier;
 use sig_base::SignatureChecker;
-use sig_base::laws::{are_optional_bytes, are_owned_bytes};
 use sig_bundle::{ArtifactDigest, Bundle, TransparencyLogEntry, read_bundle};
 use sig_checked_bundle::laws::is_certificate_bytes;
 use sig_root::laws::are_log_key_bytes;
@@ -106,14 +105,15 @@ fn verify_text<P: VerificationPolicy, C: SignatureChecker>(
         Ok(bundle) => {
             is_certificate_bytes(&bundle);
             is_entry_bytes(&bundle);
-            verify_read(alloc, root, now, digest, &bundle, policy, checker)
+            verify_parts(alloc, root, now, digest, &bundle, policy, checker)
         }
         Err(error) => Err(json_error(Part::Bundle, error)),
     }
 }
 
-/// The links behind `bundle-json`.
-fn verify_read<P: VerificationPolicy, C: SignatureChecker>(
+/// Checks the links of [`verify_offline`] after `bundle-json`, of a trusted root and a bundle that were read; so a
+/// caller that needs both reads each text once. The error is that of the first link that fails; or `OutOfMemory`.
+pub fn verify_parts<P: VerificationPolicy, C: SignatureChecker>(
     alloc: Global,
     root: &SigstoreTrustRoot,
     now: i64,
@@ -122,6 +122,7 @@ fn verify_read<P: VerificationPolicy, C: SignatureChecker>(
     policy: &P,
     checker: &C,
 ) -> Result<Offline, OfflineError>
+    // By the steps. `laws::outcomes` says what they mean of the texts that root and bundle were read from.
     ensures { UnlessMemory OfflineError.OutOfMemory result (IsOfflineOf
         (checker_of C.SignatureChecker checker.now)
         (policy_of P.VerificationPolicy policy.now)
@@ -177,21 +178,8 @@ fn verify_entry<C: SignatureChecker>(
     }
 }
 
-/// Body and log id of a bundle's only log entry are bytes. Its call does nothing.
-fn is_entry_bytes(bundle: &Bundle)
-    ensures { HasEntryOfBytes bundle.now }
-{
-    match only_entry_of(bundle) {
-        Some(entry) => {
-            are_owned_bytes(&entry.canonicalized_body);
-            are_optional_bytes(&entry.log_id);
-        }
-        None => (),
-    }
-}
-
 /// The only log entry of a bundle.
-fn only_entry_of(bundle: &Bundle) -> Option<&TransparencyLogEntry>
+pub(crate) fn only_entry_of(bundle: &Bundle) -> Option<&TransparencyLogEntry>
     ensures { borrowed_entry result ≡ only_entry_of bundle.now }
 {
     match &bundle.verification_material {

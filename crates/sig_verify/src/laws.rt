@@ -3,9 +3,12 @@
 ghost use Rattle.sig_verify.specs.LinkLaws.{BundlesAreJudged, CheckedAreJudged, ContentsAreJudged};
 ghost use Rattle.sig_verify.specs.LinkLaws.{EntriesAreJudged, EntriesAreKept, IssuersAreJudged, TimesAreJudged};
 ghost use Rattle.sig_verify.specs.LinkLaws.{RootsAreJudged, VerdictsAreJudged};
-ghost use Rattle.sig_verify.specs.OfflineLaws.{OutcomesAreJudged};
+ghost use Rattle.sig_verify.specs.OfflineLaws.{HasEntryOfBytes, OutcomesAreJudged};
 ghost use Rattle.sig_verify.specs.TrustChain.{AllLinksAreTheTrustChain};
 
+use crate::chain::only_entry_of;
+use sig_base::laws::{are_optional_bytes, are_owned_bytes};
+use sig_bundle::Bundle;
 use sig_bundle::laws::{proof_faults, proofs};
 use sig_certificate::laws::certificates;
 use sig_checked_bundle::laws::{causes_of_refusals, passed_bundles};
@@ -81,4 +84,17 @@ pub fn outcomes()
     roots();
     proofs();
     proof_faults();
+}
+
+/// Body and log id of a bundle's only log entry are bytes. Its call does nothing.
+pub fn is_entry_bytes(bundle: &Bundle)
+    ensures { HasEntryOfBytes bundle.now }
+{
+    match only_entry_of(bundle) {
+        Some(entry) => {
+            are_owned_bytes(&entry.canonicalized_body);
+            are_optional_bytes(&entry.log_id);
+        }
+        None => (),
+    }
 }

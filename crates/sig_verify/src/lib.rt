@@ -22,7 +22,7 @@ mod verify;
 mod verify_artifact;
 
 pub use artifact::InputFault;
-pub use chain::verify_offline;
+pub use chain::{verify_offline, verify_parts};
 pub use error::{CertificateErrorKind, SignatureErrorKind, VerificationError, VerificationResult};
 pub use link::Link;
 pub use log_entry::verify_log_entry;

@@ -15,5 +15,5 @@ returns-in-Ok-clause-steps g c =
     bundle_read
     (checker_of g.C.SignatureChecker c.args.checker.now)
     (policy_of g.P.VerificationPolicy c.args.policy.now)
-    c.args.root.now c.args.now _ c.args.digest.now c.args.bundle.now c.in-Ok.bundle c.verify_read.result
-    (to_z-of_z c.ranges.now) c.in-Ok.ensures c.verify_read.ensures
+    c.args.root.now c.args.now _ c.args.digest.now c.args.bundle.now c.in-Ok.bundle c.verify_parts.result
+    (to_z-of_z c.ranges.now) c.in-Ok.ensures c.verify_parts.ensures

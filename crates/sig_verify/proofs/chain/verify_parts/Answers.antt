@@ -1,7 +1,7 @@
 use Rattle.std.proofs.Math.Facts.{to_z-of_z}
 use Rattle.sig_verify.proofs.Chains.{root_refused}
 use Rattle.sig_verify.specs.Verdict.{checker_of, policy_of}
-use Rattle.sig_verify.proofs.chain.verify_read.Goals as goal
+use Rattle.sig_verify.proofs.chain.verify_parts.Goals as goal
 
 pub returns-in-Err : goal.returns-in-Err
 returns-in-Err g c =
