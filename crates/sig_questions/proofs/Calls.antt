@@ -15,7 +15,11 @@ use Rattle.sig_bundle.specs.declared.bundle.Bundle.{Bundle}
 use Rattle.sig_checked_bundle.specs.declared.bundle_error.BundleErrorKind.{BundleErrorKind}
 use Rattle.sig_checked_bundle.specs.declared.bundle_error.BundleErrorKind.TheVariants as bundle
 use Rattle.sig_dsse.specs.declared.artifact_digest.ArtifactDigest.{ArtifactDigest}
+use Rattle.sig_bundle.specs.BundleRecord.{bundle_in}
+use Rattle.sig_json.specs.declared.error.JsonError.{JsonError}
+use Rattle.sig_json.specs.declared.error.JsonError.TheVariants as json
 use Rattle.sig_root.specs.Picked.{keys_of}
+use Rattle.sig_root.specs.RootRecord.{trusted_root_in}
 use Rattle.sig_root.specs.declared.record.TrustedRoot.{TrustedRoot}
 use Rattle.sig_verify.proofs.OfflineBytes.{inputs}
 use Rattle.sig_verify.proofs.RootVerdicts.{some_given}
@@ -25,9 +29,10 @@ use Rattle.sig_verify.specs.Links.{Inputs}
 use Rattle.sig_verify.specs.OfflineVerdict.{authorities_of, ct_keys_of}
 use Rattle.sig_verify.specs.RootLinks.{authorities, ct_keys}
 use Rattle.sig_verify.specs.Verifier.{HasKeys}
+use Rattle.sig_verify.specs.declared.link.Link.TheVariants.{RootJson, BundleJson}
 use Rattle.sig_questions.proofs.Suffices.{rows_suffice}
 use Rattle.sig_questions.specs.Asked.{IsAskedBy}
-use Rattle.sig_questions.specs.Front.{IsFrontTold}
+use Rattle.sig_questions.specs.Front.{IsFrontTold, unread}
 use Rattle.sig_questions.specs.Listed.{AreListed, AreListedOf, AreListedText, GivesTrust, IsAnswered}
 use Rattle.sig_questions.specs.Listed.{ListedTextsAreAnswered, Listing, ReadIfOk, trust_in}
 use Rattle.sig_questions.specs.Questions.{AreQuestions, HoldsUnasked, IsDecided, QuestionsSuffice, Suffices}
@@ -110,6 +115,50 @@ module _ (i : Inputs) (most : ℕ) (result : Listing) (told : IsAnswered i most 
 
   pub told_order : IfOk result (AreQuestions i)
   told_order = order_of i most result told.decided
+
+-- what is listed of a root and of a bundle is listed of the texts that they are
+pub texts_listed : (root_text : List ℕ) (root : TrustedRoot) (now : ℤ) (d : ArtifactDigest) (text : List ℕ) (b : Bundle)
+    (most : ℕ) (result : Listing) → trusted_root_in root_text ≡ Ok root → bundle_in text ≡ Ok b
+    → UnlessMemory OutOfMemory result (AreListedOf root now d b most result)
+    → UnlessMemory OutOfMemory result (AreListedText root_text now d text most result)
+texts_listed root_text root now d text b most result root_is bundle_is (inl memory) = inl memory
+texts_listed root_text root now d text b most result root_is bundle_is (inr listed) =
+    inr (root, root_is, (b, bundle_is, listed))
+
+-- at the time that was handed in
+pub at_time : (root : List ℕ) (now time : ℤ) (d : ArtifactDigest) (bundle : List ℕ) (most : ℕ) (result : Listing)
+    → time ≡ now → IsAnswered (inputs root time d bundle) most result → IsAnswered (inputs root now d bundle) most result
+at_time root now time d bundle most result same told =
+    subst (λ (t : ℤ). IsAnswered (inputs root t d bundle) most result) same told
+
+-- no questions
+pub none_told : (i : Inputs) (most : ℕ) (e : NoQuestions) → IsDecided i most (Err e) → IsAnswered i most (Err e)
+none_told i most e decided = record {
+  asked = λ rows same. absurd (let wrong : ◌≡◌ {A = Listing} (Err e) (Ok rows) = same in cc);
+  decided = decided;
+}
+
+-- a text that was not read
+pub root_unread : (i : Inputs) (most : ℕ) (error : JsonError)
+    → (error ≡ json.OutOfMemory) ⊎ (trusted_root_in i.root ≡ Err error)
+    → IsDecided i most (Err (unread RootJson error))
+root_unread i most json.OutOfMemory why = tt
+root_unread i most error (inl memory) = absurd cc
+root_unread i most error (inr is) =
+    inl ((λ of. let wrong : ◌≡◌ {A = Result TrustedRoot JsonError} (Err error) (Ok of.0) = sym is ∙ of.1 in cc), refl)
+
+pub bundle_unread : (i : Inputs) (most : ℕ) (root : TrustedRoot) (error : JsonError) → trusted_root_in i.root ≡ Ok root
+    → (error ≡ json.OutOfMemory) ⊎ (bundle_in i.bundle ≡ Err error)
+    → IsDecided i most (Err (unread BundleJson error))
+bundle_unread i most root json.OutOfMemory root_is why = tt
+bundle_unread i most root error root_is (inl memory) = absurd cc
+bundle_unread i most root error root_is (inr is) = inr (
+  (root, root_is, tt),
+  inl (
+    (λ of. let wrong : ◌≡◌ {A = Result Bundle JsonError} (Err error) (Ok of.0) = sym is ∙ of.1 in cc),
+    refl,
+  ),
+)
 
 -- a link of those before `issuer`
 pub front_decided : (root : List ℕ) (now time : ℤ) (d : ArtifactDigest) (bundle : List ℕ) (most : ℕ) (e : NoQuestions)

@@ -1,18 +1,29 @@
 -- The links before `issuer`, which ask for no signature, and the links that fail whatever the checker says.
 use Rattle.std.proofs.Common.{◌≡◌, ◌⊎◌, ◌↔◌, ℕ, ℤ, Bool, true, false, List, [], ◌∷◌, ◌++◌, Option, Some, Result, Err}
+use Rattle.std.proofs.Common.{Ok}
 use Rattle.std.proofs.Common.{inl, inr, refl, sym, ap, subst, ◌∙◌}
 use Rattle.std.specs.List.{AllByRecursion}
 use Rattle.sig_base.proofs.ResultSteps.{err_is}
+use Rattle.sig_base.specs.Answers.{UnlessMemory}
 use Rattle.sig_base.specs.Rules.{FailsFirst}
+use Rattle.sig_bundle.specs.BundleRecord.{bundle_in}
+use Rattle.sig_bundle.specs.declared.bundle.Bundle.{Bundle}
 use Rattle.sig_certificate.specs.Certificate.{Cert}
+use Rattle.sig_checked_bundle.specs.OfBytes.{HasCertificateOfBytes}
 use Rattle.sig_dsse.specs.declared.artifact_digest.ArtifactDigest.{ArtifactDigest}
 use Rattle.sig_policy.specs.Refusals.{not_found}
+use Rattle.sig_root.specs.OfBytes.{HasRawBytes}
+use Rattle.sig_root.specs.RootRecord.{trusted_root_in}
+use Rattle.sig_root.specs.declared.record.TrustedRoot.{TrustedRoot}
+use Rattle.sig_verify.proofs.Chains.{bundle_read, root_read}
 use Rattle.sig_verify.proofs.JudgedLaws.{Alike, all_as}
-use Rattle.sig_verify.proofs.OfflineBytes.{inputs}
+use Rattle.sig_verify.proofs.OfflineBytes.{are_read, bundle_bytes, inputs, links_told}
 use Rattle.sig_verify.specs.CertificateLinks.{HasIssuer}
-use Rattle.sig_verify.specs.Judged.{IsOfFirst}
+use Rattle.sig_verify.specs.Judged.{IsOfFirst, Judged}
 use Rattle.sig_verify.specs.Links.{HoldsOf, Inputs, Outside, chain_links}
 use Rattle.sig_verify.specs.OfflineErrors.{link_of}
+use Rattle.sig_verify.specs.OfflineLaws.{HasEntryOfBytes, OutcomesAreJudged}
+use Rattle.sig_verify.specs.OfflineVerdict.{IsOfflineOf}
 use Rattle.sig_verify.specs.declared.link.Link.{Link}
 use Rattle.sig_verify.specs.declared.link.Link.TheVariants.{Issuer, Sct, Policy, Key, Signature, Subject, Body, Time}
 use Rattle.sig_verify.specs.declared.link.Link.TheVariants.{LogKey, Promise, Proof, Checkpoint, NoteKey, NoteMatch}
@@ -150,3 +161,15 @@ front_told o root now time d bundle error at denied (inr (link, is, fails)) =
     subst (λ (l : Option Link). IsFrontTold (inputs root now d bundle) (front_result l)) (sym is)
     (subst (λ (t : ℤ). IsFrontTold (inputs root t d bundle) (front_result (Some link))) at
     (told_link o (inputs root time d bundle) (silent o (inputs root time d bundle) denied) link fails))
+
+-- what the steps say of a root and a bundle that were read, they say of the links of their texts
+pub parts_told : OutcomesAreJudged → (o : Outside) (root_text : List ℕ) (root : TrustedRoot) (now : ℤ)
+    (d : ArtifactDigest) (text : List ℕ) (b : Bundle) (result : Outcome) → trusted_root_in root_text ≡ Ok root
+    → bundle_in text ≡ Ok b → AllByRecursion HasRawBytes root.tlogs → HasCertificateOfBytes b → HasEntryOfBytes b
+    → UnlessMemory OutOfMemory result (IsOfflineOf o.checker o.policy root now d b result)
+    → UnlessMemory OutOfMemory result (Judged (HoldsOf o (inputs root_text now d text)) chain_links result)
+parts_told law o root_text root now d text b result root_is bundle_is keys certificate entry is =
+    links_told law o root_text now now d text result refl
+    (inr (are_read (inputs root_text now d text) root root_is keys (bundle_bytes text b bundle_is certificate entry)))
+    (root_read o.checker o.policy root_text root root now now d text result refl refl root_is
+    (bundle_read o.checker o.policy root now now d text b result refl bundle_is is))

@@ -2,6 +2,8 @@
 use Rattle.std.specs.Prelude.{Option, Some, None, Result, Ok, Err}
 use Rattle.std.specs.List.{AllByRecursion}
 use Rattle.sig_base.specs.Rules.{FailsFirst}
+use Rattle.sig_json.specs.declared.error.JsonError.{JsonError}
+use Rattle.sig_json.specs.declared.error.JsonError.TheVariants as json
 use Rattle.sig_verify.specs.Links.{Inputs}
 use Rattle.sig_verify.specs.declared.link.Link.{Link as LinkType}
 use Rattle.sig_verify.specs.declared.link.Link.TheVariants.{Issuer}
@@ -13,6 +15,11 @@ abbrev pub front_result : Option LinkType → Result (Unit {0}) NoQuestions
 front_result (Some Issuer) = Ok tt
 front_result (Some link) = Err (Link link)
 front_result None = Err OutOfMemory
+
+-- why there are no questions, where the text of this link was not read
+abbrev pub unread : LinkType → JsonError → NoQuestions
+unread link json.OutOfMemory = OutOfMemory
+unread link other = Link link
 
 abbrev pub IsFrontTold : Inputs → Result (Unit {0}) NoQuestions → Type 0
 IsFrontTold i (Ok done) = AllByRecursion (HoldsUnasked i) front_links

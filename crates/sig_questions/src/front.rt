@@ -1,13 +1,20 @@
 //! The links before the first that asks a checker.
-ghost use Rattle.std.specs.Prelude.{◌≡◌};
-ghost use Rattle.sig_questions.specs.Front.{IsFrontTold, front_result};
+ghost use Rattle.std.specs.Prelude.{◌≡◌, ℕ, List, Ok};
+ghost use Rattle.std.specs.List.{AllByRecursion};
+ghost use Rattle.sig_bundle.specs.BundleRecord.{bundle_in};
+ghost use Rattle.sig_root.specs.OfBytes.{HasRawBytes};
+ghost use Rattle.sig_root.specs.RootRecord.{trusted_root_in};
+ghost use Rattle.sig_questions.specs.Front.{IsFrontTold, front_result, unread};
 
 use crate::listing::NoQuestions;
 use sig_base::TableChecker;
-use sig_bundle::ArtifactDigest;
+use sig_bundle::{ArtifactDigest, Bundle};
 use sig_certificate::Certificate;
+use sig_checked_bundle::laws::is_certificate_bytes;
+use sig_json::JsonError;
 use sig_policy::{PolicyResult, VerificationPolicy};
-use sig_verify::{Link, verify_offline};
+use sig_verify::laws::{is_entry_bytes, outcomes};
+use sig_verify::{Link, SigstoreTrustRoot, verify_parts};
 use std::alloc::Global;
 
 /// A policy that holds of every certificate.
@@ -27,31 +34,39 @@ impl VerificationPolicy for AnyCertificate {
     }
 }
 
-/// Checks the links `root-json` to `issuance`, which no checker is asked about: those before the first that fails
-/// under a checker that accepts nothing. Fails with the first of them that fails, or with `OutOfMemory`.
+/// Checks the links up to `issuance`, which no checker is asked about, of a trusted root and of a bundle that were read
+/// from their texts: those before the first that fails under a checker that accepts nothing. Fails with the first of
+/// them that fails, or with `OutOfMemory`.
 pub(crate) fn check_front(
     alloc: Global,
-    trusted_root: &[u8],
+    root: &SigstoreTrustRoot,
     now: i64,
     digest: &ArtifactDigest,
-    bundle: &[u8],
+    bundle: &Bundle,
 ) -> Result<(), NoQuestions>
-    ensures { IsFrontTold
-        (record { root = trusted_root.now; now = now; digest = digest.now; bundle = bundle.now }) result }
+    requires { AllByRecursion HasRawBytes root.now.tlogs }
+    ensures { (root_text bundle_text : List ℕ)
+        → trusted_root_in root_text ≡ Ok root.now → bundle_in bundle_text ≡ Ok bundle.now
+        → IsFrontTold (record { root = root_text; now = now; digest = digest.now; bundle = bundle_text }) result }
 {
+    outcomes();
+    is_certificate_bytes(bundle);
+    is_entry_bytes(bundle);
     let nothing = TableChecker::new(alloc);
-    match verify_offline(
-        alloc,
-        trusted_root,
-        now,
-        digest,
-        bundle,
-        &AnyCertificate,
-        &nothing,
-    ) {
+    match verify_parts(alloc, root, now, digest, bundle, &AnyCertificate, &nothing) {
         Err(error) => front_result(error.link()),
         // The link `issuer` does not hold under a checker that accepts nothing.
         Ok(_) => Err(NoQuestions::OutOfMemory),
+    }
+}
+
+/// Why there are no questions, if the text of this link was not read.
+pub(crate) fn unread(link: Link, error: JsonError) -> NoQuestions
+    ensures { result ≡ unread link error }
+{
+    match error {
+        JsonError::OutOfMemory => NoQuestions::OutOfMemory,
+        _ => NoQuestions::Link(link),
     }
 }
 

@@ -1,14 +1,18 @@
 //! The questions of a chain of trust, listed.
-ghost use Rattle.std.specs.Prelude.{◌≡◌, ◌↔◌, ◌++◌, Contains, IfOk, OnOk};
+ghost use Rattle.std.specs.Prelude.{◌≡◌, ◌↔◌, ◌++◌, ℕ, Contains, IfOk, List, Ok, OnOk};
+ghost use Rattle.std.specs.List.{AllByRecursion};
 ghost use Rattle.sig_base.specs.Answers.{UnlessMemory};
 ghost use Rattle.sig_base.specs.declared.checker.AcceptedRow.{AcceptedRow as row_type};
+ghost use Rattle.sig_bundle.specs.BundleRecord.{bundle_in};
 ghost use Rattle.sig_certificate.specs.Certificates.{AreCertificates};
+ghost use Rattle.sig_root.specs.OfBytes.{HasRawBytes};
 ghost use Rattle.sig_root.specs.Picked.{keys_of};
+ghost use Rattle.sig_root.specs.RootRecord.{trusted_root_in};
 ghost use Rattle.sig_timestamp.specs.RingKey.{point_at};
 ghost use Rattle.sig_verify.specs.EntryLinks.{IsOfBytes};
 ghost use Rattle.sig_verify.specs.LinkLaws.{IsReadCertificate};
 ghost use Rattle.sig_questions.specs.Asked.{IsAskedBy};
-ghost use Rattle.sig_questions.specs.Listed.{GivesTrust, AreListed, AreListedIn, AreListedOf, AreListedText, trust_in};
+ghost use Rattle.sig_questions.specs.Listed.{GivesTrust, AreListed, AreListedOf, IsAnswered, trust_in};
 ghost use Rattle.sig_questions.specs.Lists.{content_questions, entry_questions, questions_behind};
 ghost use Rattle.sig_questions.specs.Questions.{AreQuestions, IsDecided, Suffices};
 ghost use Rattle.sig_questions.specs.Written.{AddsRows};
@@ -17,7 +21,7 @@ use crate::anchors::{push_certificates, read_anchors};
 use crate::bytes::is_read_certificate;
 use crate::content::push_content;
 use crate::entry::push_entry;
-use crate::front::check_front;
+use crate::front::{check_front, unread};
 use crate::laws::{listed_texts, questions_suffice};
 use crate::points::push_points;
 use crate::rows::Rows;
@@ -26,6 +30,7 @@ use sig_bundle::{ArtifactDigest, Bundle, read_bundle};
 use sig_certificate::Certificate;
 use sig_checked_bundle::CheckedBundle;
 use sig_checked_bundle::laws::passed_bundles;
+use sig_root::laws::are_log_key_bytes;
 use sig_root::{SigstoreTrustRoot, TrustRoot, read_trusted_root};
 use sig_timestamp::Keyring;
 use sig_verify::{Link, keyring_of};
@@ -119,12 +124,10 @@ pub fn questions(
         (record { root = trusted_root.now; now = now; digest = digest.now; bundle = bundle.now }) most result }
 {
     questions_suffice();
-    listed_texts();
-    check_front(alloc, trusted_root, now, digest, bundle)?;
     list_text(alloc, trusted_root, now, digest, bundle, most)
 }
 
-/// The rows of texts of which the links up to `issuance` hold; so no text is refused but if memory runs out.
+/// The rows of two texts, each of which is read once.
 fn list_text(
     alloc: Global,
     trusted_root: &[u8],
@@ -133,19 +136,20 @@ fn list_text(
     bundle: &[u8],
     most: usize,
 ) -> Result<Register<AcceptedRow>, NoQuestions>
-    ensures { UnlessMemory NoQuestions.OutOfMemory result (AreListedText trusted_root.now now digest.now bundle.now
-        most result) }
+    ensures { IsAnswered (record { root = trusted_root.now; now = now; digest = digest.now; bundle = bundle.now })
+        most result }
 {
     match read_trusted_root(alloc, trusted_root) {
         Ok(root) => {
+            are_log_key_bytes(root.tlogs.as_slice());
             let root = SigstoreTrustRoot::of(root);
             list_bundle(alloc, &root, now, digest, bundle, most)
         }
-        Err(_) => Err(NoQuestions::OutOfMemory),
+        Err(error) => Err(unread(Link::RootJson, error)),
     }
 }
 
-/// The rows under a trusted root.
+/// The rows under a trusted root that was read from its text.
 fn list_bundle(
     alloc: Global,
     root: &SigstoreTrustRoot,
@@ -154,16 +158,39 @@ fn list_bundle(
     bundle: &[u8],
     most: usize,
 ) -> Result<Register<AcceptedRow>, NoQuestions>
-    ensures { UnlessMemory NoQuestions.OutOfMemory result (AreListedIn root.now now digest.now bundle.now most
-        result) }
+    requires { AllByRecursion HasRawBytes root.now.tlogs }
+    ensures { (root_text : List ℕ) → trusted_root_in root_text ≡ Ok root.now
+        → IsAnswered (record { root = root_text; now = now; digest = digest.now; bundle = bundle.now }) most result }
 {
     match read_bundle(alloc, bundle) {
-        Ok(bundle) => list_checked(alloc, root, now, digest, &bundle, most),
-        Err(_) => Err(NoQuestions::OutOfMemory),
+        Ok(bundle) => list_read(alloc, root, now, digest, &bundle, most),
+        Err(error) => Err(unread(Link::BundleJson, error)),
     }
 }
 
-/// The rows of a bundle.
+/// The rows of a trusted root and of a bundle that were read from their texts.
+fn list_read(
+    alloc: Global,
+    root: &SigstoreTrustRoot,
+    now: i64,
+    digest: &ArtifactDigest,
+    bundle: &Bundle,
+    most: usize,
+) -> Result<Register<AcceptedRow>, NoQuestions>
+    requires { AllByRecursion HasRawBytes root.now.tlogs }
+    ensures { (root_text bundle_text : List ℕ)
+        → trusted_root_in root_text ≡ Ok root.now → bundle_in bundle_text ≡ Ok bundle.now
+        → IsAnswered (record { root = root_text; now = now; digest = digest.now; bundle = bundle_text }) most result }
+{
+    listed_texts();
+    match check_front(alloc, root, now, digest, bundle) {
+        Ok(()) => list_checked(alloc, root, now, digest, bundle, most),
+        Err(error) => Err(error),
+    }
+}
+
+/// The rows of a root and a bundle of which the links up to `issuance` hold; so no check of them fails unless memory
+/// runs out.
 fn list_checked(
     alloc: Global,
     root: &SigstoreTrustRoot,

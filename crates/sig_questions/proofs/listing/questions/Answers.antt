@@ -1,8 +1,7 @@
-use Rattle.std.proofs.Common.{◌≡◌, Err, rules}
 use Rattle.std.proofs.Math.Facts.{to_z-of_z}
 use Rattle.sig_verify.proofs.OfflineBytes.{inputs}
 use Rattle.sig_verify.specs.Links.{Inputs}
-use Rattle.sig_questions.proofs.Calls.{all_told, front_decided, told_asked, told_order, told_suffice}
+use Rattle.sig_questions.proofs.Calls.{at_time, told_asked, told_order, told_suffice}
 use Rattle.sig_questions.specs.Listed.{IsAnswered}
 use Rattle.sig_questions.proofs.listing.questions.Goals as goal
 
@@ -11,14 +10,8 @@ its c = inputs c.args.trusted_root.now c.args.now c.args.digest.now c.args.bundl
 
 answered : (c : goal.After-list_text) → IsAnswered (its c) c.args.most c.list_text.result
 answered c =
-    all_told c.listed_texts.ensures c.args.trusted_root.now c.args.now _ c.args.digest.now c.args.bundle.now
-    c.args.most c.list_text.result (to_z-of_z c.ranges.now) c.in_ok-check_front.ensures c.list_text.ensures
-
-pub returns-in_err-check_front-clause-decided : goal.returns-in_err-check_front-clause-decided
-returns-in_err-check_front-clause-decided c =
-    let is : c.from_residual.result ≡ Err c.in_err-check_front.field-0.0 = search rules in
-    rw is (front_decided c.args.trusted_root.now c.args.now _ c.args.digest.now c.args.bundle.now c.args.most
-    c.in_err-check_front.field-0.0 (to_z-of_z c.ranges.now) c.in_err-check_front.ensures)
+    at_time c.args.trusted_root.now c.args.now _ c.args.digest.now c.args.bundle.now c.args.most c.list_text.result
+    (to_z-of_z c.ranges.now) c.list_text.ensures
 
 pub returns-clause-asked : goal.returns-clause-asked
 returns-clause-asked c = told_asked (its c) c.args.most c.list_text.result (answered c)
