@@ -6,9 +6,8 @@ use std::alloc::Global;
 /// Returns 0 if the text is a document.
 pub fn read(alloc: Global, text: &[u8]) -> Option<u64> {
     let mut scratch = Scratch::new(alloc);
-    BorrowedDocument::read(alloc, text, &mut scratch)
-        .ok()
-        .map(|_| 0)
+    let _document = BorrowedDocument::read(alloc, text, &mut scratch).ok()?;
+    Some(0)
 }
 
 /// Returns how many bytes the document's compact text has.
