@@ -139,12 +139,17 @@ def log_of(key, identifier, **valid_for):
     return {"publicKey": {"rawBytes": coded(key), "validFor": opened}, "logId": {"keyId": coded(identifier)}}
 
 
-def log_keys(count):
-    """Keys of logs whose ids share a thousand bytes with the entry's."""
-    made = fixture.Request(log_id=b"\x44" * 1000)
+def log_keys(count, size=1000):
+    """Keys of logs whose ids share so many bytes with the entry's."""
+    made = fixture.Request(log_id=b"\x44" * size)
     root = made.trusted_root()
-    others = [log_of(fixture.key(9), identifier) for identifier in numbered(b"\x44" * 996, count)]
+    others = [log_of(fixture.key(9), identifier) for identifier in numbered(b"\x44" * (size - 4), count)]
     return written(made, {**root, "tlogs": others + root["tlogs"]})
+
+
+def usual_log_keys(count):
+    """Keys of logs whose ids have 32 bytes, as those of Sigstore."""
+    return log_keys(count, size=32)
 
 
 def log_keys_of_one_id(count):
@@ -469,26 +474,22 @@ REQUESTS = {
 
 # Lists by their number of items, which a rule or a usual size limits: this many, and half.
 COUNTED = (
-    ("log keys", log_keys, 20000),
+    ("20,000 log keys", usual_log_keys, 20000),
     (f"subjects of {MOST_DIGESTS} digests", subjects, MOST_SUBJECTS),
     (f"digests of {MOST_SUBJECTS} subjects", digests_of_a_subject, MOST_DIGESTS),
 )
 
-# Requests of `questions verify` by its status; with 2 the list of signatures would have more than 2^24 bytes.
-QUESTIONS = {
-    0: (
-        ("one payload", predicate),
-        ("trust anchors of long names", anchors_by_name),
-        ("log keys of one id", log_keys_of_one_id),
-        ("extensions of the leaf", leaf_extensions),
-        ("signatures of the note, rows", note_signatures),
-        ("rows by signature", rows_by_signature),
-        *((f"ignored in a log entry: {name}", ignored("log entry", make)) for name, make in shapes.UNORDERED),
-        ("empty tlogs", empty_records("tlogs")),
-        *REPLACED,
-    ),
-    2: (
-        ("trust anchors, extensions of the leaf", anchors_beside_extensions),
-        ("signatures of the note, its lines", note_of_many_lines),
-    ),
-}
+# Requests of `questions verify`. Its status is 2 where request and list would have more than 2^24 bytes, and else 0.
+QUESTIONS = (
+    ("one payload", predicate),
+    ("trust anchors of long names", anchors_by_name),
+    ("log keys of one id", log_keys_of_one_id),
+    ("extensions of the leaf", leaf_extensions),
+    ("signatures of the note, rows", note_signatures),
+    ("rows by signature", rows_by_signature),
+    *((f"ignored in a log entry: {name}", ignored("log entry", make)) for name, make in shapes.UNORDERED),
+    ("empty tlogs", empty_records("tlogs")),
+    *REPLACED,
+    ("trust anchors, extensions of the leaf", anchors_beside_extensions),
+    ("signatures of the note, its lines", note_of_many_lines),
+)

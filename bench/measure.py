@@ -109,6 +109,12 @@ def written(words, path, status=0):
     return ran.stdout.decode().strip()
 
 
+def status_over(words, path):
+    """The status of a command over a file."""
+    with open(path, "rb") as given:
+        return subprocess.run(words, stdin=given, stdout=subprocess.DEVNULL).returncode
+
+
 def processor_seconds(words, path, status):
     """The processor's time, in user and system, of a command over a file, from the start of its process to its end."""
     with open(path, "rb") as given:
