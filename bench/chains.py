@@ -333,6 +333,13 @@ def entries(count):
     return written(made, bundle=bundle)
 
 
+def empty_signatures(count):
+    """An envelope of signatures without a member."""
+    made = fixture.Request()
+    tree = made.bundle()
+    return written(made, bundle={**tree, "dsseEnvelope": {**tree["dsseEnvelope"], "signatures": [{}] * count}})
+
+
 def envelope_signatures(count):
     made = fixture.Request()
     bundle = made.bundle()
@@ -467,7 +474,7 @@ REQUESTS = {
         ("policy, all rules of a long text, none holds", all_rules_of_a_long_text),
         ("policy, all identities, none holds", all_other_names),
     ),
-    "refused envelope": (("signatures of the envelope", envelope_signatures),),
+    "refused envelope": (("signatures of the envelope", envelope_signatures), ("empty signatures", empty_signatures)),
     "refused entry": (("log entries", entries),),
     "refused inclusion": (("hashes of the proof", hashes),),
 }

@@ -60,14 +60,6 @@ def small(count):
     return [b"entry %d" % number for number in range(count)]
 
 
-def hashing(entries):
-    """The seconds of the processor that the hashes of few and big entries take, by the library that Python has."""
-    begun = time.process_time()
-    for entry in entries:
-        leaf(entry)
-    return time.process_time() - begun
-
-
 def hashing_tree(count):
     """The seconds of the processor that the hashes of a tree of 2^k entries take, by the library that Python has."""
     made = small(count)
