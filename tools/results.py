@@ -291,10 +291,17 @@ def unclaimed(found):
                 yield key, variant
 
 
+def stale(found):
+    """The variants that are said to be in no table, and that a call's kinds name."""
+    claimed = {each for _, _, named, kind, _ in found for each in variants_in(key_of(named), kind)}
+    return [(key_of(named), variant) for named, variants in UNSHOWN.items() for variant in variants if (key_of(named), variant) in claimed]
+
+
 def main(words):
     found = list(rows())
     missing = ["%s: %s is in no line of %s" % (call, kind, word) for call, word, _, kind, count in found if count == 0]
     missing += ["%s::%s: no call of the list has it" % (key[1], variant) for key, variant in unclaimed(found)]
+    missing += ["%s::%s: it is said to be in no table" % (key[1], variant) for key, variant in stale(found)]
     if words == ["--list"]:
         for call, word, _, kind, count in found:
             print("%s: %s: %s, %d lines" % (call, kind, word, count))
