@@ -283,6 +283,11 @@ def merkle():
     case(f"counted 7 {leaf_hash(b'').hex()} 7 -", "IndexGtTreeSize")
     case(f"counted 0 {leaf_hash(b'').hex()} 7 -", "WrongProofSize { got: 0, want: 3 }")
     case(f"counted 0 {leaf_hash(b'').hex()} 1 -", "ok " + ROOTS[1])
+    zero, root = bytes(32), leaf
+    for level in range(64):
+        root = node_hash(root, zero)
+    for count, wanted in ((63, "WrongProofSize { got: 63, want: 64 }"), (64, "ok " + root.hex()), (65, "WrongProofSize { got: 65, want: 64 }")):
+        case(f"counted 0 {leaf.hex()} {2 ** 63 + 1} {','.join([zero.hex()] * count)}", wanted)
 
 
 # one leaf; inner hashes alone and border hashes alone; the most of either

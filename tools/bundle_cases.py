@@ -564,6 +564,15 @@ def promises():
                  "ok " + compact(promise) if fits else "IntegerTooLarge")
 
 
+def cut_leaves():
+    """A certificate is one to its last byte, and no byte is behind it: the fixture's leaf is none where it is cut, at each byte, or has a byte more."""
+    group("the fixture's leaf cut at each byte, and with a byte behind it")
+    leaf = fixture.Request().leaf_der
+    for content in [leaf[:size] for size in range(len(leaf))] + [leaf + b"\0", leaf + leaf[-1:], leaf + leaf]:
+        bundle = compact({"verificationMaterial": {"certificate": {"rawBytes": base64_of(content)}}})
+        case("try_from_bundle " + bundle, "CertificateMalformed(0)")
+
+
 def replaced_floats():
     """Floats that a later member of the same name replaces: in a bundle, its material, its log entry and in members that are ignored."""
     group("floats that are replaced: in a bundle, in its parts, and in what is ignored of them")
@@ -608,6 +617,7 @@ def main():
     members(found["member"], found["value"])
     message_signatures()
     fixture_bundle()
+    cut_leaves()
     versions()
     errors()
     TABLE.write()

@@ -82,6 +82,10 @@ def main():
     for piece in range(1, len(logged) + 2):
         run("log", FIRST, steady, (piece, NEVER, 256), logged, 0)
 
+    table.group("Each strict prefix of the request")
+    for end in range(size):
+        run("log", FIRST[:end], wide[:2], wide, refused, 2)
+
     table.group("The source fails at each of its calls, the one that tells the end included: nothing is written")
     for failing in range(-(-size // 64) + 3):
         run("log", FIRST, (64, failing), wide, logged, 0)

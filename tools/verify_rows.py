@@ -8,6 +8,7 @@ import fixture
 import verify_rows_content
 import verify_rows_documents
 import verify_rows_hundreds
+import verify_rows_limits
 import verify_rows_message
 from fixture import (FULCIO, OBJECT_IDENTIFIER, SEQUENCE, anchor, base64_of, compact, der, extension, key, leaf, leaf_extensions, note, sct,
                      sct_list)
@@ -321,4 +322,5 @@ def times():
 
 GROUPS = [links, indices, entries, ranges, log_keys, certificate_log_keys, issuers, promises, times]
 GROUPS += verify_rows_documents.GROUPS + verify_rows_content.GROUPS + verify_rows_message.GROUPS + verify_rows_hundreds.GROUPS
+GROUPS += verify_rows_limits.GROUPS
 MORE = [other_keys] + verify_rows_content.MORE

@@ -1,0 +1,100 @@
+"""Runs a program whose allocations, reads or writes fail. failing_calls.c says which; cc compiles it, and the loader preloads it.
+
+A request is a `Case`: the words and the request that the program gets, and the reply and the status that it has to end with where nothing fails. The
+cases are requests of the other tools, whose replies are those of their own readers."""
+import collections
+import json
+import os
+import pathlib
+import subprocess
+import tempfile
+
+import consistency_requests
+import demo_requests
+import fixture
+import log_requests
+import questions_cases
+import verify_cases
+import verify_links
+from fixture import anchor, certificate, compact, name
+
+HERE = pathlib.Path(__file__).resolve().parent
+NO_MEMORY, FAULT = 71, 74
+
+Case = collections.namedtuple("Case", "title words text reply status")
+Ended = collections.namedtuple("Ended", "written status")
+Counts = collections.namedtuple("Counts", "allocations reads writes")
+
+
+class Failing:
+    """A program whose calls can be made to fail. `close` removes what was compiled."""
+
+    def __init__(self, program):
+        self.program = os.path.abspath(program)
+        self.folder = tempfile.TemporaryDirectory()
+        self.library = os.path.join(self.folder.name, "failing_calls.so")
+        self.counts = os.path.join(self.folder.name, "counts")
+        subprocess.run(["cc", "-shared", "-fPIC", "-O1", "-o", self.library, HERE / "failing_calls.c"], check=True)
+
+    def __enter__(self):
+        return self
+
+    def __exit__(self, *_):
+        self.folder.cleanup()
+
+    def run(self, case, **settings):
+        """What was written, and the status, where the calls fail as the settings say."""
+        given = {"LD_PRELOAD": self.library, "COUNTS": self.counts, **{key: str(value) for key, value in settings.items()}}
+        done = subprocess.run([self.program, *case.words], input=case.text, stdout=subprocess.PIPE, stderr=subprocess.DEVNULL, env=given)
+        return Ended(done.stdout, done.returncode)
+
+    def counted(self, case, **settings):
+        """How many calls of each kind the program makes where none fails. The run has to end with the reply of the case."""
+        ended = self.run(case, **settings)
+        if ended != (case.reply, case.status):
+            raise AssertionError(f"{case.title}: ended with {ended}, and not with {(case.reply, case.status)}")
+        with open(self.counts) as file:
+            return Counts(*map(int, file.read().split()))
+
+
+# The cases: the smallest request of each command whose links hold, and one that is refused late in its chain.
+
+def made(title, words, text, found):
+    reply, status = found
+    return Case(title, words.split(), text.encode(), (reply.replace(" entry", "\nentry") + "\n").encode(), status)
+
+
+def log_cases():
+    late = log_requests.FIRST.replace('"logIndex":0', '"logIndex":1')
+    yield made("log", "log", log_requests.FIRST, log_requests.reply(log_requests.FIRST))
+    yield made("log, refused inclusion", "log", late, log_requests.reply(late))
+    yield made("questions log", "questions log", log_requests.FIRST, questions_cases.log_reply(log_requests.FIRST))
+
+
+def verify_cases_made():
+    intermediate = certificate(anchor(issuer=name("another root")))
+    whole = verify_cases.built([verify_cases.message(later=(intermediate,))])
+    late = {**whole, "accepted": whole["accepted"][:-1]}
+    for title, members in (("verify", whole), ("verify, refused note-key", late)):
+        text = compact(members)
+        yield made(title, "verify", text, questions_cases.verify_second(text))
+    yield made("questions verify", "questions verify", compact(whole), questions_cases.verify_reply(compact(whole)))
+    unasked = compact(verify_cases.edited({**whole}, "bundle", lambda text: text.replace("0.2", "9.9")))
+    yield made("questions verify, refused profile", "questions verify", unasked, questions_cases.verify_reply(unasked))
+
+
+def consistency_cases():
+    entries = consistency_requests.ENTRIES
+    whole, late = (json.dumps(each, separators=(",", ":")) for each in
+                   (consistency_requests.request(3, entries, entries), consistency_requests.request(3, entries, entries, hashes=[])))
+    for title, text in (("consistency", whole), ("consistency, refused consistency", late)):
+        yield made(title, "consistency", text, consistency_requests.lines(text))
+    yield made("questions consistency", "questions consistency", whole, questions_cases.consistency_reply(whole))
+
+
+def demo_cases():
+    yield Case("demo 3", ["demo", "3"], b"", demo_requests.shown(3).encode(), 0)
+
+
+def cases():
+    return [*log_cases(), *verify_cases_made(), *consistency_cases(), *demo_cases()]
