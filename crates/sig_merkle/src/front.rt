@@ -5,6 +5,7 @@ ghost use Rattle.sig_merkle.specs.Root.{root};
 
 use crate::growth_walk::Roots;
 use crate::hashing::{empty_root, hash_step};
+use crate::repeats::Repeats;
 use crate::tree::{halves, tree_in};
 use sig_base::{Bytes, Entries, Steps};
 use std::sync::ledger::Ledger;
@@ -22,16 +23,22 @@ pub fn front_roots<L: Ledger>(entries: &Entries, count: usize, steps: &mut Steps
     ensures steps { steps.new
         ≤ steps.old + (length entries.now - 1) + roots_len count (length entries.now) true }
 {
+    let mut repeats = Repeats::new();
     if count == 0 {
         let old = empty_root();
-        let new = tree_in(entries.as_slice(), steps).root;
+        let new = tree_in(entries.as_slice(), &mut repeats, steps).root;
         return Roots { old, new };
     }
-    roots_in(entries.as_slice(), count, steps)
+    roots_in(entries.as_slice(), count, &mut repeats, steps)
 }
 
 /// The roots of the tree of the first entries, at least one, and of the tree of all.
-fn roots_in<L: Ledger>(entries: &[Bytes], count: usize, steps: &mut Steps<L>) -> Roots
+fn roots_in<L: Ledger>(
+    entries: &[Bytes],
+    count: usize,
+    repeats: &mut Repeats,
+    steps: &mut Steps<L>,
+) -> Roots
     requires some { 0 < count }
     requires within { count ≤ length entries.now }
     ensures old { result.old ≡ root (take count entries.now) }
@@ -40,7 +47,7 @@ fn roots_in<L: Ledger>(entries: &[Bytes], count: usize, steps: &mut Steps<L>) ->
         ≤ steps.old + (length entries.now - 1) + roots_len count (length entries.now) known }
 {
     if count == entries.len() {
-        let root = tree_in(entries, steps).root;
+        let root = tree_in(entries, repeats, steps).root;
         return Roots {
             old: root,
             new: root,
@@ -48,15 +55,15 @@ fn roots_in<L: Ledger>(entries: &[Bytes], count: usize, steps: &mut Steps<L>) ->
     }
     let (left, right) = halves(entries);
     if count <= left.len() {
-        let first = roots_in(left, count, steps);
-        let rest = tree_in(right, steps).root;
+        let first = roots_in(left, count, repeats, steps);
+        let rest = tree_in(right, repeats, steps).root;
         Roots {
             old: first.old,
             new: hash_step(&first.new, &rest, steps),
         }
     } else {
-        let first = tree_in(left, steps).root;
-        let rest = roots_in(right, count - left.len(), steps);
+        let first = tree_in(left, repeats, steps).root;
+        let rest = roots_in(right, count - left.len(), repeats, steps);
         Roots {
             old: hash_step(&first, &rest.old, steps),
             new: hash_step(&first, &rest.new, steps),

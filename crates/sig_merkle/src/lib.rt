@@ -9,6 +9,7 @@
 //!   `consistency_answer`; it is Ok if and only if `IsConsistent` holds.
 //! - `tree`: the root of a list of entries, and the audit path of one of them: the definitions `root`
 //!   and `audit_path`, which are the standard's MTH and PATH. `subproof`: the standard's PROOF.
+//! - `repeats`: what a tree of many equal entries has at hand, so that none of its hashes is made twice.
 //! - `front`: the roots of a list and of its first entries together, each node hashed once.
 //! - `entry_collision`, `paths_collision`, `growth_collision`: an accepted proof of an entry that the
 //!   list does not have at the index, accepted proofs of two entries at one index, and an accepted
@@ -35,6 +36,7 @@ pub mod laws;
 mod meeting;
 mod paths_collision;
 pub mod recursion;
+mod repeats;
 mod split;
 mod subproof;
 mod tree;

@@ -3,7 +3,8 @@ ghost use Rattle.std.specs.Prelude.{◌≡◌, ◌+◌, ◌-◌, ◌++◌, ◌<�
 ghost use Rattle.sig_merkle.specs.AuditPath.{AreHalves, audit_path};
 ghost use Rattle.sig_merkle.specs.Root.{node_of, root};
 
-use crate::hashing::{empty_root, hash_leaf, hash_step};
+use crate::hashing::{empty_root, hash_step};
+use crate::repeats::Repeats;
 use crate::split::split_point;
 use sig_base::{Bytes, Entries, Hashes, OutOfMemory, Steps};
 use std::alloc::Global;
@@ -30,8 +31,8 @@ pub fn path_of(alloc: Global, entries: &Entries, index: usize) -> Result<Hashes,
     Ok(path)
 }
 
-/// Returns the root of the tree of these entries. Each entry and each node is hashed once, and a half of equal entries
-/// that its neighbour repeats not at all.
+/// Returns the root of the tree of these entries. Each entry and each node is hashed once; a half of equal entries that
+/// its neighbour repeats, an empty entry, and a node of two equal children like the last one of its height, not at all.
 pub(crate) fn root_in(entries: &[Bytes]) -> [u8; 32]
     ensures { result ≡ root entries.now }
 {
@@ -46,7 +47,7 @@ fn root_on<L: Ledger>(blank: Blank, entries: &[Bytes]) -> [u8; 32]
     ensures { result ≡ root entries.now }
 {
     let mut steps = Steps::<L>::new(blank);
-    tree_in(entries, &mut steps).root
+    tree_in(entries, &mut Repeats::new(), &mut steps).root
 }
 
 /// A tree that was hashed.
@@ -58,7 +59,11 @@ pub(crate) struct Tree {
 }
 
 /// Hashes the tree of these entries. A step is one hash of two children.
-pub(crate) fn tree_in<L: Ledger>(entries: &[Bytes], steps: &mut Steps<L>) -> Tree
+pub(crate) fn tree_in<L: Ledger>(
+    entries: &[Bytes],
+    repeats: &mut Repeats,
+    steps: &mut Steps<L>,
+) -> Tree
     ensures root { result.root ≡ root entries.now }
     ensures steps { steps.new ≤ steps.old + (length entries.now - 1) }
 {
@@ -68,19 +73,19 @@ pub(crate) fn tree_in<L: Ledger>(entries: &[Bytes], steps: &mut Steps<L>) -> Tre
             alike: true,
         },
         [entry] => Tree {
-            root: hash_leaf(entry.as_slice()),
+            root: repeats.leaf(entry.as_slice()),
             alike: true,
         },
         _ => {
             let (left, right) = halves(entries);
-            let one = tree_in(left, steps);
+            let one = tree_in(left, repeats, steps);
             if one.alike && is_repeated(left, right) {
                 Tree {
-                    root: hash_step(&one.root, &one.root, steps),
+                    root: repeats.node(&one.root, left.len().ilog2(), steps),
                     alike: true,
                 }
             } else {
-                let other = tree_in(right, steps);
+                let other = tree_in(right, repeats, steps);
                 Tree {
                     root: hash_step(&one.root, &other.root, steps),
                     alike: false,

@@ -13,9 +13,9 @@ pub returns-then-is_repeated-clause-root : goal.returns-then-is_repeated-clause-
 returns-then-is_repeated-clause-root g t c =
     let same : c.halves.result.0.now ≡ c.halves.result.1.now = c.is_repeated.ensures.0 c.if-is_repeated.true in
     let right : c.tree_in-one.result.root ≡ root c.halves.result.1.now = c.tree_in-one.ensures.root ∙ ap root same in
-    root-over _ _ _ _ _ _ c.halves.ensures c.tree_in-one.ensures.root right c.hash_step.ensures.value
+    root-over _ _ _ _ _ _ c.halves.ensures c.tree_in-one.ensures.root right c.node.ensures.value
 
 pub returns-else-one-clause-root : goal.returns-else-one-clause-root
 returns-else-one-clause-root g t c =
     root-over _ _ _ _ _ _ c.halves.ensures c.tree_in-one.ensures.root c.tree_in-other.ensures.root
-    c.hash_step-else-one.ensures.value
+    c.hash_step.ensures.value
