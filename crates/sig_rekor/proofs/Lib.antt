@@ -16,3 +16,6 @@ pub mod NoteFaults
 pub mod SignatureFaults
 pub mod CheckpointFaults
 pub mod WhiteSpace
+pub mod HashFaults
+pub mod ProofFaults
+pub mod Refusals

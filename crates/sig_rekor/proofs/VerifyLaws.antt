@@ -28,7 +28,7 @@ both_accepted (Ok _) next e = (refl, e)
 both_accepted (Err refusal) next e = cc
 
 -- a note of the same tree
-of_tree : (checkpoint : SignedCheckpoint) (root : List ℕ) (size : ℕ) → tree_answer checkpoint root size ≡ Ok tt
+pub of_tree : (checkpoint : SignedCheckpoint) (root : List ℕ) (size : ℕ) → tree_answer checkpoint root size ≡ Ok tt
     → IsOfTree checkpoint root size
 of_tree checkpoint root size e =
     let note = checkpoint.note in
@@ -53,7 +53,7 @@ of_tree checkpoint root size e =
           ]
     ]
 
-tree_accepted : (checkpoint : SignedCheckpoint) (root : List ℕ) (size : ℕ) → IsOfTree checkpoint root size
+pub tree_accepted : (checkpoint : SignedCheckpoint) (root : List ℕ) (size : ℕ) → IsOfTree checkpoint root size
     → tree_answer checkpoint root size ≡ Ok tt
 tree_accepted checkpoint root size is =
     rw (

@@ -19,6 +19,8 @@ use std::alloc::Global;
 /// Errors:
 /// - `HexDecodeError`: the text is not an even number of hexadecimal digits;
 /// - `UnexpectedError` of `other_length`: it is of another number of bytes than 32.
+///
+/// `laws::hash_texts` says when each comes.
 #[tactic(auto, unfolding(crate::specs::HashText::hash_in))]
 pub fn decode_hash(text: &[u8], other_length: UnexpectedKind) -> Result<[u8; 32]>
     ensures { result ≡ hash_in other_length text.now }
@@ -35,7 +37,7 @@ pub fn decode_hash(text: &[u8], other_length: UnexpectedKind) -> Result<[u8; 32]
 /// Returns the hashes that the texts are, in their order.
 ///
 /// Errors, of the first text that is no hash, as of [`decode_hash`]: `HexDecodeError`, or `UnexpectedError` of
-/// `HashLength` with the index of the text.
+/// `HashLength` with the index of the text; `laws::hash_texts` says when each comes.
 #[tactic(auto, using(sig_base::proofs::EachFrom::each_left))]
 pub fn decode_hashes(alloc: Global, texts: &Entries) -> Result<Hashes>
     ensures { Answers Memory (λ hashes. hashes) result (hashes_from 0 texts.now) }

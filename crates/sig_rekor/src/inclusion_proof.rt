@@ -63,6 +63,8 @@ impl InclusionProof {
     /// - `InclusionProofError` of `IndexGtTreeSize`: the index is negative or not below the size;
     /// - `InclusionProofError` of `WrongProofSize`: another number of hashes;
     /// - `InclusionProofError` of `MismatchedRoot`: another root.
+    ///
+    /// `laws::proof_refusals` says when each comes.
     pub fn verify<C: SignatureChecker>(
         &self,
         alloc: Global,

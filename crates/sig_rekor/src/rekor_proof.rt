@@ -40,6 +40,8 @@ impl InclusionProof {
     ///   hexadecimal digits, as of [`decode_hash`];
     /// - `HexDecodeError`, or `UnexpectedError` of `RootLength`: the same of the root hash;
     /// - `ParseCheckpointError`: the fault of [`SignedCheckpoint::decode`].
+    ///
+    /// `laws::api_proofs` says when each comes.
     #[tactic(auto, unfolding(crate::specs::RekorProof::inclusion_proof_from_rekor))]
     pub fn try_from_rekor(alloc: Global, api: &RekorInclusionProof) -> Result<InclusionProof>
         ensures { Answers Memory (λ proof. proof) result (inclusion_proof_from_rekor api.now) }

@@ -55,6 +55,7 @@ impl SignedNote<'_> {
     /// - `MismatchedRoot`: the sizes are equal and the roots differ.
     ///
     /// Between two trees of one size the only consistency proof is the empty one (RFC 6962 section 2.1.2).
+    /// `laws::tree_refusals` says when each error comes.
     pub fn is_valid_for_proof(&self, proof_root_hash: &[u8; 32], proof_tree_size: u64) -> Result<()>
         ensures answer { result ≡ tree_answer self.now proof_root_hash.now proof_tree_size }
         ensures ok { IsOk result ↔ IsOfTree self.now proof_root_hash.now proof_tree_size }
