@@ -12,7 +12,7 @@ use Rattle.sig_der.specs.Reading.{is_small_first}
 use Rattle.sig_der.specs.Reading.{is_zero_first, has_bad_length, fault_of}
 
 -- a length is read only where it is not bad, and a bad one is told from a cut one
-abbrev Agrees : {A : Type 0} → Result A DerError → Bool → Type 0
+abbrev pub Agrees : {A : Type 0} → Result A DerError → Bool → Type 0
 Agrees (Ok x) bad = bad ≡ false
 Agrees (Err e) bad = e ≡ cond bad Length Truncated
 
@@ -82,7 +82,7 @@ reads_agrees first rest low =
       ]
     ]
 
-length_at_agrees : (bytes : List ℕ) → Agrees (length_at bytes) (has_bad_length bytes)
+pub length_at_agrees : (bytes : List ℕ) → Agrees (length_at bytes) (has_bad_length bytes)
 unfolding length_at
 length_at_agrees [] = refl
 length_at_agrees (first ∷ rest) =
@@ -101,7 +101,7 @@ after_length {B = B} (Ok n) bad missing made e good is =
     ])
 after_length {B = B} (Err d) bad missing made e agrees is = sym (err_is {A = B} d e is) ∙ agrees
 
-abbrev front_of_parts : ℕ → List ℕ → ℕ × List ℕ → Piece × List ℕ
+abbrev pub front_of_parts : ℕ → List ℕ → ℕ × List ℕ → Piece × List ℕ
 front_of_parts tag rest n = (
   record {
     tag = tag;

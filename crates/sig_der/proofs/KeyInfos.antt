@@ -1,6 +1,7 @@
 -- Algorithms and SPKIs: what the readers take is what the relations build, and what the relations build is taken.
 use Rattle.std.proofs.Common.{◌≡◌, ◌≢◌, ℕ, ◌<◌, false, true, eqb, List, [], ◌∷◌, ◌++◌, length, Option, Some, None}
-use Rattle.std.proofs.Common.{refl, sym, ap, subst, ◌∙◌, arith}
+use Rattle.std.proofs.Common.{refl, sym, ap, subst, ◌∙◌, arith, ◌↔◌}
+use Rattle.std.specs.Prelude.{option_map, IfSome}
 use Rattle.std.proofs.lemmas.Bool.{eqb-true, eqb-false, ne_eqb, cond-false}
 use Rattle.std.proofs.lemmas.List.{nil_from_length, append-nil}
 use Rattle.sig_base.proofs.OptionSteps.{bind_is, bind_of_some, when_is, unless_is, some_is}
@@ -8,7 +9,13 @@ use Rattle.sig_der.specs.Element.{IsElement, StandsFirst, spelled_length}
 use Rattle.sig_der.specs.Reading.{Piece}
 use Rattle.sig_der.specs.Taking.{take_any, take_tag, take_whole}
 use Rattle.sig_der.specs.KeyInfo.{Algorithm, IsAtMostOne, IsAlgorithm, KeyInfo, IsKeyInfo, at_most_one, algorithm_at}
-use Rattle.sig_der.specs.KeyInfo.{after_zero, bits_of, key_info_at, is_empty, whole_key_info}
+use Rattle.sig_der.specs.KeyInfo.{after_zero, bits_of, key_info_at, is_empty, whole_key_info, IsFirstAlgorithm}
+use Rattle.sig_der.specs.KeyInfo.{IsFirstKeyInfo, IsWholeKeyInfo}
+use Rattle.sig_der.specs.KeyInfoPlaces.{algorithm_of, algorithm_read, key_info_of, key_info_read}
+use Rattle.sig_der.specs.Readers.{left}
+use Rattle.sig_der.specs.declared.key_info.AlgorithmPlaces.{AlgorithmPlaces}
+use Rattle.sig_der.specs.declared.key_info.KeyInfoPlaces.{KeyInfoPlaces}
+use Rattle.sig_der.specs.declared.reader.Reader.{Reader}
 use Rattle.sig_der.proofs.Bytes.{IsBytes, IsBytes-left, IsBytes-right}
 use Rattle.sig_der.proofs.Takings.{take_any_takes, take_any_again, take_tag_takes, take_tag_again, take_whole_takes}
 use Rattle.sig_der.proofs.Takings.{take_whole_again}
@@ -189,3 +196,38 @@ pub whole_key_info_again : (bytes : List ℕ) (k : KeyInfo) → IsKeyInfo k → 
 unfolding whole_key_info
 whole_key_info_again bytes k is text =
     bind_of_some (key_info_at bytes) _ (k, []) (key_info_at_again k [] bytes is (sym text ∙ sym (append-nil k.whole)))
+
+-- ---- what the calls return, in the words of the relations
+
+pub found_algorithm : (bytes text : List ℕ) → IsBytes text → (r : Option (AlgorithmPlaces × Reader))
+    → algorithm_at text ≡ option_map (algorithm_read bytes) r
+    → IfSome r (λ x. IsFirstAlgorithm (algorithm_of bytes x.0) (left x.1) text)
+found_algorithm bytes text fits None e = tt
+found_algorithm bytes text fits (Some x) e =
+    let t = algorithm_at_takes text fits (algorithm_read bytes x) e in record { is = t.0; parts = t.1 }
+
+pub found_key_info : (bytes text : List ℕ) → IsBytes text → (r : Option (KeyInfoPlaces × Reader))
+    → key_info_at text ≡ option_map (key_info_read bytes) r
+    → IfSome r (λ x. IsFirstKeyInfo (key_info_of bytes x.0) (left x.1) text)
+found_key_info bytes text fits None e = tt
+found_key_info bytes text fits (Some x) e =
+    let t = key_info_at_takes text fits (key_info_read bytes x) e in record { is = t.0; parts = t.1 }
+
+pub found_whole : (text : List ℕ) → IsBytes text → (r : Option KeyInfoPlaces)
+    → whole_key_info text ≡ option_map (key_info_of text) r → IfSome r (λ k. IsWholeKeyInfo (key_info_of text k) text)
+found_whole text fits None e = tt
+found_whole text fits (Some k) e =
+    let t = whole_key_info_takes text fits (key_info_of text k) e in record { is = t.0; whole = t.1 }
+
+-- nothing is returned if and only if there is nothing
+pub none_first : {X A : Type 0} (view : X → A × List ℕ) (Is : A → List ℕ → Type 0) (r : Option X)
+    → IfSome r (λ x. Is (view x).0 (view x).1)
+    → ((a : A) (rest : List ℕ) → Is a rest → option_map view r ≡ Some (a, rest))
+    → (r ≡ None) ↔ ((a : A) (rest : List ℕ) → ¬ Is a rest)
+none_first view Is None found only = (λ e a rest is. let no = only a rest is in cc, λ no. refl)
+none_first view Is (Some x) found only = (λ e. absurd cc, λ no. absurd (no (view x).0 (view x).1 found))
+
+pub none_whole : {X A : Type 0} (view : X → A) (Is : A → Type 0) (r : Option X) → IfSome r (λ x. Is (view x))
+    → ((a : A) → Is a → option_map view r ≡ Some a) → (r ≡ None) ↔ ((a : A) → ¬ Is a)
+none_whole view Is None found only = (λ e a is. let no = only a is in cc, λ no. refl)
+none_whole view Is (Some x) found only = (λ e. absurd cc, λ no. absurd (no (view x) found))

@@ -4,6 +4,7 @@ pub mod Lengths
 mod LengthForms
 pub mod Elements
 pub mod Faults
+pub mod Causes
 pub mod Ranges
 pub mod Takings
 pub mod Many

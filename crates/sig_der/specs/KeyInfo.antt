@@ -42,6 +42,23 @@ pub record IsKeyInfo (k : KeyInfo) : Type 0 where
   pub algorithm : IsAlgorithm k.algorithm
   pub bits : IsElement bits_text BIT_STRING (0 ∷ k.bits)
 
+-- ---- at the front of a text
+
+-- The text is the algorithm and what follows it.
+pub record IsFirstAlgorithm (a : Algorithm) (rest text : List ℕ) : Type 0 where
+  pub is : IsAlgorithm a
+  pub parts : text ≡ a.whole ++ rest
+
+-- The text is the SubjectPublicKeyInfo and what follows it.
+pub record IsFirstKeyInfo (k : KeyInfo) (rest text : List ℕ) : Type 0 where
+  pub is : IsKeyInfo k
+  pub parts : text ≡ k.whole ++ rest
+
+-- The text is the SubjectPublicKeyInfo.
+pub record IsWholeKeyInfo (k : KeyInfo) (text : List ℕ) : Type 0 where
+  pub is : IsKeyInfo k
+  pub whole : k.whole ≡ text
+
 -- ---- how they are read
 
 abbrev pub is_empty : List ℕ → Bool

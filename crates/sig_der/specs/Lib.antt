@@ -4,6 +4,7 @@ pub mod Tag
 pub mod Element
 pub mod Length
 pub mod Reading
+pub mod Faults
 pub mod Borrowed
 pub mod Children
 pub mod Walks

@@ -2,6 +2,7 @@
 
 ghost use Rattle.std.specs.Prelude.{◌≡◌, ◌↔◌, ℕ, List, Ok, IfOk, IfErr, IsErrOf};
 ghost use Rattle.sig_der.specs.Element.{IsElement, StandsFirst, IsFollowed, IsOfAnother};
+ghost use Rattle.sig_der.specs.Faults.{HasLongTag, HasBadLength, IsCutElement};
 ghost use Rattle.sig_der.specs.Reading.{Gives, Piece, element_at, all_at, fault_of};
 ghost use Rattle.sig_der.specs.Borrowed.{piece_of, front_of};
 
@@ -60,6 +61,9 @@ pub fn read_element(bytes: &[u8]) -> Result<(Element<'_>, &[u8]), DerError>
         → Gives front_of result (Ok (record { tag = tag; whole = whole; content = content }, rest)) }
     // Which fault it is.
     ensures fault { IfErr result (λ e. e ≡ fault_of bytes.now) }
+    ensures long_tag { IsErrOf result DerError.LongTag ↔ HasLongTag bytes.now }
+    ensures bad_length { IsErrOf result DerError.Length ↔ HasBadLength bytes.now }
+    ensures truncated { IsErrOf result DerError.Truncated ↔ IsCutElement bytes.now }
     // The result is that of the plain reader.
     ensures exact { Gives front_of result (element_at bytes.now) }
 {
@@ -91,6 +95,9 @@ pub fn read_all(bytes: &[u8], tag: u8) -> Result<Element<'_>, DerError>
     // An element of the tag is returned.
     ensures only { (content : List ℕ) → IsElement bytes.now tag content
         → Gives piece_of result (Ok (record { tag = tag; whole = bytes.now; content = content })) }
+    ensures long_tag { IsErrOf result DerError.LongTag ↔ HasLongTag bytes.now }
+    ensures bad_length { IsErrOf result DerError.Length ↔ HasBadLength bytes.now }
+    ensures truncated { IsErrOf result DerError.Truncated ↔ IsCutElement bytes.now }
     ensures trailing { IsErrOf result DerError.Trailing ↔ IsFollowed bytes.now }
     ensures wrong_tag { IsErrOf result DerError.WrongTag ↔ IsOfAnother tag bytes.now }
     // The result is that of the plain reader.

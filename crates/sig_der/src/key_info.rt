@@ -9,9 +9,12 @@
 //!      subjectPublicKey     BIT STRING }                  -- of whole octets here
 //! ```
 
-ghost use Rattle.std.specs.Prelude.{◌≡◌, ◌≤◌, length, option_map, IfSome};
+ghost use Rattle.std.specs.Prelude.{◌≡◌, ◌<◌, ◌≤◌, ◌↔◌, ℕ, List, length, get_or, option_map, Some};
+ghost use Rattle.std.specs.Prelude.{None, IfSome};
 ghost use Rattle.sig_der.specs.KeyInfo.{at_most_one, algorithm_at, bits_of, key_info_at, whole_key_info};
-ghost use Rattle.sig_der.specs.KeyInfoPlaces.{placed_option, algorithm_read, key_info_read, key_info_of, part_from};
+ghost use Rattle.sig_der.specs.KeyInfo.{Algorithm, KeyInfo, IsFirstAlgorithm, IsFirstKeyInfo, IsWholeKeyInfo};
+ghost use Rattle.sig_der.specs.KeyInfoPlaces.{placed_option, algorithm_of, algorithm_read, key_info_read};
+ghost use Rattle.sig_der.specs.KeyInfoPlaces.{key_info_of, part_from};
 ghost use Rattle.sig_der.specs.KeyInfoPlaces.{IsOneWithin, IsAlgorithmRead, IsKeyInfoRead, IsKeyInfoWithin};
 ghost use Rattle.sig_der.specs.Readers.{left};
 
@@ -41,9 +44,34 @@ pub struct KeyInfoPlaces {
     pub bits: usize,
 }
 
+/// What is left to read is bytes: a law, on which the clauses of both calls below rest. It does nothing.
+fn are_bytes(left: &[u8])
+    ensures { (i : ℕ) → get_or left.now i 0 < 256 }
+{
+    let _left = left;
+}
+
 /// Reads the AlgorithmIdentifier that is next. `None` if what is left begins with none.
-#[tactic(auto, unfolding(crate::specs::KeyInfo::algorithm_at))]
 pub fn read_algorithm(reader: Reader<'_>) -> Option<(AlgorithmPlaces, Reader<'_>)>
+    // What is returned is an algorithm at the front.
+    ensures found { IfSome result (λ x. IsFirstAlgorithm
+        (algorithm_of reader.entry.bytes.now x.0) (left x.1) (left reader.entry)) }
+    // An algorithm at the front is returned.
+    ensures only { (a : Algorithm) (rest : List ℕ) → IsFirstAlgorithm a rest (left reader.entry)
+        → option_map (algorithm_read reader.entry.bytes.now) result ≡ Some (a, rest) }
+    // There is none at the front.
+    ensures none { (result ≡ None) ↔ ((a : Algorithm) (rest : List ℕ)
+        → ¬ IsFirstAlgorithm a rest (left reader.entry)) }
+    // The result is that of the plain reader.
+    ensures cut { algorithm_at (left reader.entry) ≡ option_map (algorithm_read reader.entry.bytes.now) result }
+    ensures within { IfSome result (IsAlgorithmRead reader.entry) }
+{
+    are_bytes(reader.rest());
+    cut_algorithm(reader)
+}
+
+#[tactic(auto, unfolding(crate::specs::KeyInfo::algorithm_at))]
+fn cut_algorithm(reader: Reader<'_>) -> Option<(AlgorithmPlaces, Reader<'_>)>
     ensures cut { algorithm_at (left reader.entry) ≡ option_map (algorithm_read reader.entry.bytes.now) result }
     ensures within { IfSome result (IsAlgorithmRead reader.entry) }
 {
@@ -94,13 +122,31 @@ pub fn read_bits(reader: Reader<'_>) -> Option<usize>
 }
 
 /// Reads the SubjectPublicKeyInfo that is next. `None` if what is left begins with none.
-#[tactic(auto, unfolding(crate::specs::KeyInfo::key_info_at))]
 pub fn read_key_info(reader: Reader<'_>) -> Option<(KeyInfoPlaces, Reader<'_>)>
+    // What is returned is a SubjectPublicKeyInfo at the front.
+    ensures found { IfSome result (λ x. IsFirstKeyInfo
+        (key_info_of reader.entry.bytes.now x.0) (left x.1) (left reader.entry)) }
+    // A SubjectPublicKeyInfo at the front is returned.
+    ensures only { (k : KeyInfo) (rest : List ℕ) → IsFirstKeyInfo k rest (left reader.entry)
+        → option_map (key_info_read reader.entry.bytes.now) result ≡ Some (k, rest) }
+    // There is none at the front.
+    ensures none { (result ≡ None) ↔ ((k : KeyInfo) (rest : List ℕ)
+        → ¬ IsFirstKeyInfo k rest (left reader.entry)) }
+    // The result is that of the plain reader.
+    ensures cut { key_info_at (left reader.entry) ≡ option_map (key_info_read reader.entry.bytes.now) result }
+    ensures within { IfSome result (IsKeyInfoRead reader.entry) }
+{
+    are_bytes(reader.rest());
+    cut_key_info(reader)
+}
+
+#[tactic(auto, unfolding(crate::specs::KeyInfo::key_info_at))]
+fn cut_key_info(reader: Reader<'_>) -> Option<(KeyInfoPlaces, Reader<'_>)>
     ensures cut { key_info_at (left reader.entry) ≡ option_map (key_info_read reader.entry.bytes.now) result }
     ensures within { IfSome result (IsKeyInfoRead reader.entry) }
 {
     let (whole, rest) = reader.tagged(tag::SEQUENCE)?;
-    let (algorithm, inner) = read_algorithm(reader.inside(whole))?;
+    let (algorithm, inner) = cut_algorithm(reader.inside(whole))?;
     let bits = read_bits(inner)?;
     let places = KeyInfoPlaces {
         whole,
@@ -111,11 +157,26 @@ pub fn read_key_info(reader: Reader<'_>) -> Option<(KeyInfoPlaces, Reader<'_>)>
 }
 
 /// Reads the SubjectPublicKeyInfo that the bytes are. `None` if they are none.
-#[tactic(auto, unfolding(crate::specs::KeyInfo::whole_key_info))]
 pub fn whole_key_info(bytes: &[u8]) -> Option<KeyInfoPlaces>
+    // What is returned is the SubjectPublicKeyInfo that the bytes are.
+    ensures found { IfSome result (λ k. IsWholeKeyInfo (key_info_of bytes.now k) bytes.now) }
+    // A SubjectPublicKeyInfo is returned.
+    ensures only { (k : KeyInfo) → IsWholeKeyInfo k bytes.now
+        → option_map (key_info_of bytes.now) result ≡ Some k }
+    // The bytes are none.
+    ensures none { (result ≡ None) ↔ ((k : KeyInfo) → ¬ IsWholeKeyInfo k bytes.now) }
+    // The result is that of the plain reader.
     ensures cut { whole_key_info bytes.now ≡ option_map (key_info_of bytes.now) result }
     ensures within { IfSome result (IsKeyInfoWithin 0 (length bytes.now)) }
 {
-    let (info, rest) = read_key_info(Reader::new(bytes))?;
+    cut_whole_key_info(bytes)
+}
+
+#[tactic(auto, unfolding(crate::specs::KeyInfo::whole_key_info))]
+fn cut_whole_key_info(bytes: &[u8]) -> Option<KeyInfoPlaces>
+    ensures cut { whole_key_info bytes.now ≡ option_map (key_info_of bytes.now) result }
+    ensures within { IfSome result (IsKeyInfoWithin 0 (length bytes.now)) }
+{
+    let (info, rest) = cut_key_info(Reader::new(bytes))?;
     if rest.is_done() { Some(info) } else { None }
 }
