@@ -163,7 +163,7 @@ def log_keys_of_one_id(count):
 def certificate_log_keys(count):
     made = fixture.Request()
     root = made.trusted_root()
-    others = [log_of(key, b"\x33" * 32) for key in keys(count)]
+    others = [log_of(key, fixture.CERTIFICATE_LOG_ID) for key in keys(count)]
     return written(made, {**root, "ctlogs": others + root["ctlogs"]})
 
 

@@ -554,7 +554,7 @@ def promises():
     """RFC 8785 sorts these names as they stand here; their letters are ASCII."""
     group("the text of the promise to include a log entry, up to the largest integers that canonical JSON has")
     largest = 2 ** 53 - 1
-    for log_id, body in [(b"\x44" * 32, b'{"kind":"dsse"}'), (b"\xdd=0j", b""), (b"", b"\x00\xff")]:
+    for log_id, body in [(fixture.LOG_ID, b'{"kind":"dsse"}'), (b"\xdd=0j", b""), (b"", b"\x00\xff")]:
         for time, index in [(1702446700, 900), (0, 0), (-1, -2), (largest, -largest), (-largest, largest), (largest + 1, 0), (0, largest + 1),
                             (-largest - 1, 0), (0, -largest - 1), (2 ** 63 - 1, -2 ** 63)]:
             entry = {"canonicalizedBody": base64_of(body), "integratedTime": str(time), "logId": {"keyId": base64_of(log_id)}, "logIndex": str(index)}

@@ -97,10 +97,10 @@ def configs():
     for name, value in itertools.product(("certificateAuthorities", "tlogs", "ctlogs"), (None, True, 0, "", "x", [], {}, [None], [0], [{}], [[]])):
         config(compact({"trustedRoot": {name: value}}))
     for value in ({"rawBytes": "AA=="}, {"rawBytes": "AA"}, {"rawBytes": 0}, {"validFor": {"start": "2023-01-01"}}):
-        config(compact({"trustedRoot": {"tlogs": [{"publicKey": value, "logId": {"keyId": "REQ="}}]}}))
+        config(compact({"trustedRoot": {"tlogs": [{"publicKey": value, "logId": {"keyId": "Teo="}}]}}))
     say("Three hundred authorities and logs, and members that are ignored: three hundred, and one of 127 lists and of 126.")
     authorities = [{"certChain": {"certificates": [{"rawBytes": base64_of(b"%d" % number)}]}} for number in range(300)]
-    logs = [{"publicKey": {"rawBytes": base64_of(b"%d" % number)}, "logId": {"keyId": base64_of(b"%03d" % (number % 200))}} for number in range(300)]
+    logs = [{"publicKey": {"rawBytes": base64_of(b"%d" % number)}, "logId": {"keyId": base64_of(b"\xfe%03d" % (number % 200))}} for number in range(300)]
     config(compact({"trustedRoot": {"certificateAuthorities": authorities, "tlogs": logs, "ctlogs": logs}}))
     config(compact({**{"m%d" % number: {"trustedRoot": number} for number in range(300)}, "trustedRoot": {}}))
     for depth in (126, 127):

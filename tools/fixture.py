@@ -297,7 +297,8 @@ def hashedrekord(digest, signature, signer):
 
 SCHEME = "ECDSA_P256_SHA256_ASN1"
 LOG_KEY, CERTIFICATE_LOG_KEY = 4, 3
-LOG_ID, CERTIFICATE_LOG_ID = b"\x44" * 32, b"\x33" * 32
+# Hexadecimal digits of these have letters, as either half of a byte.
+LOG_ID, CERTIFICATE_LOG_ID, OTHER_LOG_ID = bytes.fromhex("4dea" * 16), bytes.fromhex("3cfb" * 16), bytes.fromhex("5eac" * 16)
 
 
 def row(operation, scheme, under, message, signature):

@@ -152,18 +152,18 @@ def questions():
         question("a leaf with two SCTs", "CMMM", held(list=fixture.extension(fixture.SCT_LIST, fixture.sct_list(fixture.sct(), fixture.sct())))),
         question("a malformed SCT", "CMMM", held(list=fixture.extension(fixture.SCT_LIST, fixture.sct_list(fixture.sct()[:-1])))),
         question("of a hundred trust anchors of one name", "C" * 100 + "P" * 100 + "MMM", anchors(*[fixture.certificate(fixture.anchor(key=key(place % 250 + 1))) for place in range(100, 199)], own)),
-        question("an entry of another log", "CPM", bundle(ENTRY + ".logId.keyId", base64_of(b"\x45" * 32)))]
+        question("an entry of another log", "CPM", bundle(ENTRY + ".logId.keyId", base64_of(fixture.OTHER_LOG_ID)))]
 
 
 # What a trusted root has at a time.
 
-# The certificates `one` and `two` from 2023 to 2024; the keys `old` to the end of 2023 and `new` from 2024 on, both of the log id 44 44; no
+# The certificates `one` and `two` from 2023 to 2024; the keys `old` to the end of 2023 and `new` from 2024 on, both of the log id 4d ea; no
 # Certificate Transparency log.
 HELD = {"certificateAuthorities": [{"certChain": {"certificates": [{"rawBytes": "b25l"}, {"rawBytes": "dHdv"}]},
                                     "validFor": {"start": "2023-01-01T00:00:00Z", "end": "2024-01-01T00:00:00Z"}}],
         "tlogs": [{"publicKey": {"rawBytes": "b2xk", "validFor": {"start": "2023-01-01T00:00:00Z", "end": "2023-12-31T23:59:59.999Z"}},
-                   "logId": {"keyId": "REQ="}},
-                  {"publicKey": {"rawBytes": "bmV3", "validFor": {"start": "2024-01-01T00:00:00+00:00"}}, "logId": {"keyId": "REQ="}}],
+                   "logId": {"keyId": "Teo="}},
+                  {"publicKey": {"rawBytes": "bmV3", "validFor": {"start": "2024-01-01T00:00:00+00:00"}}, "logId": {"keyId": "Teo="}}],
         "ctlogs": []}
 BOTH = {**HELD, "tlogs": [{**log, "publicKey": {"rawBytes": log["publicKey"]["rawBytes"]}} for log in HELD["tlogs"]], "ctlogs": HELD["tlogs"]}
 
@@ -195,12 +195,12 @@ def roots():
         at("years after its authority ended", "fulcio_certs", 1800000000, both),
         at("no authority", "fulcio_certs", 0, none, {}),
         at("a second before the first key", "rekor_keys", 1672531199, "ok 0"),
-        at("the first second of the first key", "rekor_keys", 1672531200, "ok 1 4444 6f6c64"),
-        at("the last second of the first key", "rekor_keys", 1704067199, "ok 1 4444 6f6c64"),
-        at("the first second of the last key", "rekor_keys", 1704067200, "ok 1 4444 6e6577"),
-        at("of two keys of one id the last", "rekor_keys", 0, "ok 1 4444 6e6577", BOTH),
+        at("the first second of the first key", "rekor_keys", 1672531200, "ok 1 4dea 6f6c64"),
+        at("the last second of the first key", "rekor_keys", 1704067199, "ok 1 4dea 6f6c64"),
+        at("the first second of the last key", "rekor_keys", 1704067200, "ok 1 4dea 6e6577"),
+        at("of two keys of one id the last", "rekor_keys", 0, "ok 1 4dea 6e6577", BOTH),
         at("no key of a Certificate Transparency log", "ctfe_keys", 1800000000, "TufMetadataError(Ctfe)"),
-        at("its key of a Certificate Transparency log", "ctfe_keys", 1800000000, "ok 1 4444 6e6577", BOTH),
+        at("its key of a Certificate Transparency log", "ctfe_keys", 1800000000, "ok 1 4dea 6e6577", BOTH),
         ("a trusted root: a list", "rekor_keys 0 []", "SerdeJsonError")]
 
 

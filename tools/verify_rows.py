@@ -21,7 +21,7 @@ NOT_FOUND = "Policy(AllOf { total: 1, errors: PolicyErrors { items: [ExtensionNo
 
 
 DUPLICATE = extension(FULCIO["ref"], b"a") + extension(FULCIO["ref"], b"a")
-OTHER_ID = base64_of(b"\x45" * 32)
+OTHER_ID = base64_of(fixture.OTHER_LOG_ID)
 
 
 def drop(content):
@@ -58,7 +58,7 @@ FIRST = {
     "subject": ("another digest", "Signature(SubjectDigestMismatch)", [parts(digest="sha256:" + "b" * 64)]),
     "body": ("a log body about nothing", "Signature(Transparency)", [parts(body=b"{}")]),
     "time": ("a second after the leaf's end", "Certificate(Expired)", [parts(integrated_time=1702447256)]),
-    "log-key": ("a log of another id", 'RekorPublicKeyNotFoundError("%s")' % ("44" * 32), [root("tlogs.0.logId.keyId", OTHER_ID)]),
+    "log-key": ("a log of another id", 'RekorPublicKeyNotFoundError("%s")' % fixture.LOG_ID.hex(), [root("tlogs.0.logId.keyId", OTHER_ID)]),
     "promise": ("the promise is not accepted", "Promise", [unaccepted(3)]),
     "proof": ("a root hash of 31 bytes", "RootLength", [bundle(PROOF + ".rootHash", of_bytes(drop))]),
     "checkpoint": ("a checkpoint without an empty line", "ParseCheckpointError(Format)",
@@ -176,7 +176,7 @@ NOT_BEGUN = {"start": "2024-01-01T00:00:00Z"}
 
 
 def log_keys():
-    other, foreign = instance(key(9), fixture.LOG_ID), instance(key(9), b"\x45" * 32)
+    other, foreign = instance(key(9), fixture.LOG_ID), instance(key(9), fixture.OTHER_LOG_ID)
     own, no_key = instance(key(4), fixture.LOG_ID), {"logId": {"keyId": base64_of(fixture.LOG_ID)}}
     unknown = "log-key " + FIRST["log-key"][1]
     for name, listed, expected in [
@@ -202,7 +202,7 @@ def log_keys():
 
 
 def certificate_log_keys():
-    own, foreign = instance(key(3), fixture.CERTIFICATE_LOG_ID), instance(key(9), b"\x45" * 32)
+    own, foreign = instance(key(3), fixture.CERTIFICATE_LOG_ID), instance(key(9), fixture.OTHER_LOG_ID)
     other = instance(key(9), fixture.CERTIFICATE_LOG_ID)
     unknown = "sct Certificate(Sct(Verification(KeyNotFound)))"
     for name, listed, expected in [
@@ -210,11 +210,11 @@ def certificate_log_keys():
             ("the last has ended", [own, instance(key(9), fixture.CERTIFICATE_LOG_ID, **ENDED)], "verified 2 5"),
             ("the right one has ended", [instance(key(3), fixture.CERTIFICATE_LOG_ID, **ENDED), foreign], unknown),
             ("another alone", [foreign], unknown), ("others around it", [foreign, own, foreign], "verified 2 5"),
-            ("under another id", [instance(key(3), b"\x45" * 32)], "verified 2 5"), ("under two ids", [own, instance(key(3), b"\x45" * 32)],
+            ("under another id", [instance(key(3), fixture.OTHER_LOG_ID)], "verified 2 5"), ("under two ids", [own, instance(key(3), fixture.OTHER_LOG_ID)],
             "verified 2 5"),
-            ("no key beside it", [instance(b"\x30\x00", b"\x45" * 32), own], "verified 2 5"),
-            ("no key alone", [instance(b"", b"\x45" * 32)], unknown),
-            ("an RSA key beside it", [own, instance(fixture.wide_key(), b"\x45" * 32)], "verified 2 5"),
+            ("no key beside it", [instance(b"\x30\x00", fixture.OTHER_LOG_ID), own], "verified 2 5"),
+            ("no key alone", [instance(b"", fixture.OTHER_LOG_ID)], unknown),
+            ("an RSA key beside it", [own, instance(fixture.wide_key(), fixture.OTHER_LOG_ID)], "verified 2 5"),
             ("ended", [instance(key(3), fixture.CERTIFICATE_LOG_ID, **ENDED)], "ctfe TrustRoot(Ctfe)"),
             ("no id", [{"publicKey": own["publicKey"]}], "ctfe TrustRoot(Ctfe)"), ("no key", [{"logId": own["logId"]}], "ctfe TrustRoot(Ctfe)"),
             ("null for bytes", [{**own, "publicKey": {"rawBytes": None}}], "ctfe TrustRoot(Ctfe)"),

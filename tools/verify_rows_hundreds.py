@@ -25,7 +25,7 @@ def logs():
     earlier = [instance(key(9), fixture.LOG_ID)] * LAST
     row("hundreds: keys of logs, the last of its id", "verified 2 5", root("tlogs", others + [instance(key(4), fixture.LOG_ID)]))
     row("hundreds: keys of one log, the last of which counts", "verified 2 5", root("tlogs", earlier + [instance(key(4), fixture.LOG_ID)]))
-    row("hundreds: keys of logs, none of its id", 'log-key RekorPublicKeyNotFoundError("%s")' % ("44" * 32), root("tlogs", others))
+    row("hundreds: keys of logs, none of its id", 'log-key RekorPublicKeyNotFoundError("%s")' % fixture.LOG_ID.hex(), root("tlogs", others))
     row("hundreds: keys of Certificate Transparency logs, the last of its id", "verified 2 5",
         root("ctlogs", others + [instance(key(3), fixture.CERTIFICATE_LOG_ID)]))
     row("hundreds: keys of Certificate Transparency logs, none its own", "sct Certificate(Sct(Verification(KeyNotFound)))", root("ctlogs", others))
