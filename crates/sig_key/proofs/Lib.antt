@@ -1,1 +1,3 @@
+pub mod KeyErrors
 pub mod KeyKinds
+pub mod SignatureTexts

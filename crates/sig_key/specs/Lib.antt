@@ -1,3 +1,4 @@
 pub mod Signature
 pub mod Key
 pub mod Kind
+pub mod Spki

@@ -1,11 +1,12 @@
 //! `Signature`: a signature as bytes or as base64 text.
-ghost use Rattle.std.specs.Prelude.{◌≡◌, IfOk, Ok, Err};
+ghost use Rattle.std.specs.Prelude.{◌≡◌, ℕ, IfOk, List, Ok, Err};
 ghost use Rattle.std.specs.Option.{ok_or};
-ghost use Rattle.sig_base.specs.Answers.{Answers};
+ghost use Rattle.sig_base.specs.Answers.{Answers, ComesWhere};
 ghost use Rattle.sig_base.specs.declared.error.SigstoreError.{SigstoreError as Refusal};
 ghost use Rattle.sig_base.specs.declared.error.SigstoreError.TheVariants.{Base64DecodeError, OutOfMemory as Memory};
 ghost use Rattle.sig_key.specs.Signature.{text_bytes, without_line_ends};
 
+use sig_base::laws::are_bytes;
 use sig_base::{Bytes, OutOfMemory, Result, SigstoreError};
 use std::alloc::Global;
 
@@ -19,13 +20,36 @@ pub enum Signature<'a> {
 }
 
 impl<'a> Signature<'a> {
-    ghost use Rattle.sig_key.specs.Signature.{signature_bytes};
+    ghost use Rattle.sig_key.specs.Signature.{HasBytes, IsOfBytes, signature_bytes};
 
     /// Returns the signature's bytes: raw ones unchanged; those of a text in strict base64 (padded and canonical);
     /// else those of the text without line feeds and carriage returns. Errors:
     /// - `Base64DecodeError`: neither is strict base64;
     /// - `OutOfMemory`.
     pub fn decode_bytes(&self, alloc: Global) -> Result<Bytes>
+        // It is handed as these bytes, or as their base64 with any line feeds and carriage returns in it.
+        ensures found { (bytes : List ℕ) → ComesWhere Memory result (Ok bytes) (HasBytes self.now bytes) }
+        ensures undecodable { ComesWhere Memory result (Err Base64DecodeError)
+            ((bytes : List ℕ) → ¬ HasBytes self.now bytes) }
+        // The same by the definition.
+        ensures answer { Answers Memory (λ b. b) result (ok_or (signature_bytes self.now) Base64DecodeError) }
+    {
+        self.is_of_bytes();
+        self.decoded(alloc)
+    }
+
+    /// What contracts see of a text are bytes.
+    fn is_of_bytes(&self)
+        ensures { IsOfBytes self.now }
+    {
+        match self {
+            Signature::Raw(_) => (),
+            Signature::Base64Encoded(text) => are_bytes(text),
+        }
+    }
+
+    /// Returns the signature's bytes, by the definition.
+    fn decoded(&self, alloc: Global) -> Result<Bytes>
         ensures { Answers Memory (λ b. b) result (ok_or (signature_bytes self.now) Base64DecodeError) }
     {
         match self {

@@ -1,12 +1,15 @@
 //! `CosignVerificationKey`: a key that checks signatures.
 ghost use Rattle.std.specs.Prelude.{◌≡◌, IfOk, IsOkUnless, Ok, Err};
-ghost use Rattle.sig_base.specs.Answers.{Answers};
+ghost use Rattle.sig_base.specs.Answers.{Answers, ComesWhere};
 ghost use Rattle.sig_base.specs.Scheme.{scheme_of};
-ghost use Rattle.sig_base.specs.declared.error.SigstoreError.TheVariants.{OutOfMemory as Memory};
+ghost use Rattle.sig_base.specs.declared.error.SigstoreError.TheVariants.{KeyParsingError, OutOfMemory as Memory};
+ghost use Rattle.sig_base.specs.declared.error.SigstoreError.TheVariants.{PublicKeyUnsupportedAlgorithmError};
+ghost use Rattle.sig_base.specs.declared.scheme.VerifyScheme.{VerifyScheme as Scheme};
 ghost use Rattle.sig_key.specs.Key.{key_scheme, key_info, key_accepts, check_answer};
 ghost use Rattle.sig_key.specs.Signature.{signature_bytes, text_bytes, IsRaw};
 ghost use Rattle.sig_key.specs.declared.kind.KeyKind.{KeyKind as Kind};
 ghost use Rattle.sig_key.specs.Kind.{key_kind, key_parts, kind_answer, IsKind};
+ghost use Rattle.sig_key.specs.Spki.{IsKeyOf, IsNoKeyInfo, IsUnsupported};
 
 use crate::kind::{KeyKind, key_kind};
 use crate::signature::{Signature, decode_text};
@@ -48,10 +51,28 @@ impl CosignVerificationKey {
     }
 
     /// Returns the key of an SPKI, by its kind ([`key_kind`]). Errors:
-    /// - `KeyParsingError`: the bytes are no SPKI;
-    /// - `PublicKeyUnsupportedAlgorithmError`: they are one of another algorithm or curve;
+    /// - `KeyParsingError` if and only if the bytes are no SPKI;
+    /// - `PublicKeyUnsupportedAlgorithmError` if and only if they are one, and its algorithm is neither RSA nor
+    ///   Ed25519, nor id-ecPublicKey with the object identifier of P-256, P-384 or P-521 as its parameters;
     /// - `OutOfMemory`.
     pub fn try_from_der(alloc: Global, der: &[u8]) -> Result<CosignVerificationKey>
+        // A key of the scheme that the algorithm, and for an elliptic curve key its curve, is of; and no other.
+        ensures found { IfOk result (λ key. IsKeyOf der.now (key_scheme key) × (key_info key ≡ der.now)) }
+        ensures supported { (scheme : Scheme) → IsKeyOf der.now scheme → Answers Memory key_parts result
+            (Ok (scheme, der.now)) }
+        ensures malformed { ComesWhere Memory result (Err KeyParsingError) (IsNoKeyInfo der.now) }
+        ensures unsupported { ComesWhere Memory result (Err PublicKeyUnsupportedAlgorithmError)
+            (IsUnsupported der.now) }
+        // The same by the kind.
+        ensures answer { Answers Memory key_parts result (kind_answer der.now (key_kind der.now)) }
+        ensures kind { IsKind der.now (key_kind der.now) }
+        ensures only { (kind : Kind) → IsKind der.now kind → kind ≡ key_kind der.now }
+    {
+        CosignVerificationKey::of_kind(alloc, der)
+    }
+
+    /// Returns the key of an SPKI by its kind.
+    fn of_kind(alloc: Global, der: &[u8]) -> Result<CosignVerificationKey>
         ensures answer { Answers Memory key_parts result (kind_answer der.now (key_kind der.now)) }
         ensures kind { IsKind der.now (key_kind der.now) }
         ensures only { (kind : Kind) → IsKind der.now kind → kind ≡ key_kind der.now }
@@ -68,6 +89,14 @@ impl CosignVerificationKey {
 
     /// The same as [`CosignVerificationKey::try_from_der`], as the crate names it for the SPKI of a certificate.
     pub fn try_from_spki(alloc: Global, spki: &[u8]) -> Result<CosignVerificationKey>
+        // A key of the scheme that the algorithm, and for an elliptic curve key its curve, is of; and no other.
+        ensures found { IfOk result (λ key. IsKeyOf spki.now (key_scheme key) × (key_info key ≡ spki.now)) }
+        ensures supported { (scheme : Scheme) → IsKeyOf spki.now scheme → Answers Memory key_parts result
+            (Ok (scheme, spki.now)) }
+        ensures malformed { ComesWhere Memory result (Err KeyParsingError) (IsNoKeyInfo spki.now) }
+        ensures unsupported { ComesWhere Memory result (Err PublicKeyUnsupportedAlgorithmError)
+            (IsUnsupported spki.now) }
+        // The same by the kind.
         ensures answer { Answers Memory key_parts result (kind_answer spki.now (key_kind spki.now)) }
         ensures kind { IsKind spki.now (key_kind spki.now) }
         ensures only { (kind : Kind) → IsKind spki.now kind → kind ≡ key_kind spki.now }
