@@ -7,3 +7,5 @@ pub mod RefusalLaws
 pub mod ComesLaws
 pub mod SingleLaws
 pub mod IdentityRefusals
+pub mod NamedLaws
+pub mod RuleLaws

@@ -21,7 +21,7 @@ use Rattle.sig_policy.proofs.Utf8Laws.{utf8_some}
 
 -- ---- the text
 
-utf8_is : (bytes text : List ℕ) → utf8_text bytes ≡ Some text → (bytes ≡ text) × IsUtf8 text
+pub utf8_is : (bytes text : List ℕ) → utf8_text bytes ≡ Some text → (bytes ≡ text) × IsUtf8 text
 unfolding utf8_text
 utf8_is bytes text e =
     elim (cases_Bool (is_utf8 bytes)) [

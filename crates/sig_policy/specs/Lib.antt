@@ -9,3 +9,4 @@ pub mod IdentitySet
 pub mod Said
 pub mod Held
 pub mod Requests
+pub mod Met

@@ -37,7 +37,7 @@ pub use fulcio::{
     GitHubWorkflowTrigger, OIDCIssuer,
 };
 pub use identity::Identity;
-pub use laws::{identity_laws, refusal_laws};
+pub use laws::{identity_laws, refusal_laws, rule_laws};
 pub use policy::{PolicyResult, VerificationPolicy};
 pub use request::{LeafPolicies, LeafPolicy, RequestPolicy};
 pub use single::{SingleX509ExtPolicy, verify_single};
