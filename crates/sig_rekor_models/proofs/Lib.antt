@@ -3,3 +3,4 @@ mod Equality
 mod KindEquality
 mod EntryEquality
 mod ProposedEquality
+pub mod Refusals

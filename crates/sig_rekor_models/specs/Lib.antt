@@ -8,3 +8,4 @@ pub mod PublicKey
 pub mod HashedrekordTree
 pub mod ProposedTree
 pub mod Consistency
+pub mod Refusals

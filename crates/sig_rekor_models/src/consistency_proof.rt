@@ -48,6 +48,8 @@ impl ConsistencyProof {
     ///   [`decode_hash`];
     /// - `HexDecodeError`, or `UnexpectedError` of `HashLength` with its index: the same of the first hash that is
     ///   not.
+    ///
+    /// `laws::api_consistency_proofs` says when each comes.
     #[tactic(auto, unfolding(crate::specs::Consistency::consistency_proof_from_rekor))]
     pub fn try_from_rekor(alloc: Global, raw: &RekorConsistencyProof) -> Result<ConsistencyProof>
         ensures { Answers Memory (λ proof. proof) result (consistency_proof_from_rekor raw.now) }

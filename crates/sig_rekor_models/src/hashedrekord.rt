@@ -60,10 +60,9 @@ pub struct Hash {
 
 /// An algorithm of a hash.
 #[allow(non_camel_case_types)]
-#[derive(Clone, Default, Drop, PartialEq, Eq)]
+#[derive(Clone, Drop, PartialEq, Eq)]
 pub enum AlgorithmKind {
     /// SHA-256 (FIPS 180-4).
-    #[default]
     sha256,
     /// SHA-1 (FIPS 180-4).
     sha1,
@@ -193,6 +192,18 @@ impl Hash {
             "value",
             self.value.as_str(),
         )
+    }
+}
+
+/// SHA-256, the one whose name is `sha256` (`laws::default_algorithm`).
+impl Default for AlgorithmKind {
+    ghost use Rattle.std.specs.Prelude.{◌≡◌};
+    ghost use Rattle.sig_rekor_models.specs.declared.hashedrekord.AlgorithmKind.TheVariants.{sha256};
+
+    ghost is_default = { λ algorithm. algorithm ≡ sha256 };
+
+    fn default() -> AlgorithmKind {
+        AlgorithmKind::sha256
     }
 }
 

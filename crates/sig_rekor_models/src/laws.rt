@@ -1,8 +1,23 @@
-//! What equality is. Of types that hold documents it is equality of what is seen of them, the trees of the documents.
-ghost use Rattle.std.specs.Prelude.{◌≡◌, ◌↔◌, IsTrue};
+//! What is taken from Rekor's API, when each error comes, and what equality is. Of types that hold documents it is
+//! equality of what is seen of them, the trees of the documents.
+ghost use Rattle.std.specs.Prelude.{◌≡◌, ◌↔◌, Bool, IsTrue, List, ℕ, Ok, Err, codes};
+ghost use Rattle.sig_base.specs.declared.error.SigstoreError.{SigstoreError};
+ghost use Rattle.sig_base.specs.declared.unexpected.UnexpectedKind.TheVariants.{RootLength};
+ghost use Rattle.sig_rekor.specs.HashFaults.{IsHashFault};
 ghost use Rattle.sig_rekor_models.specs.Body.{seen_body, seen_body_content};
-ghost use Rattle.sig_rekor_models.specs.LogEntry.{seen_entry};
+ghost use Rattle.sig_rekor_models.specs.Consistency.{consistency_proof_from_rekor, head_answer};
+ghost use Rattle.sig_rekor_models.specs.HashedrekordTree.{algorithm_name};
+ghost use Rattle.sig_rekor_models.specs.Inclusion.{entry_answer};
+ghost use Rattle.sig_rekor_models.specs.LogEntry.{LogEntry as Entry, seen_entry};
+ghost use Rattle.sig_rekor_models.specs.LogInfo.{log_info_from_rekor};
 ghost use Rattle.sig_rekor_models.specs.ProposedTree.{seen_proposed};
+ghost use Rattle.sig_rekor_models.specs.PublicKey.{decoded_text};
+ghost use Rattle.sig_rekor_models.specs.Refusals.{IsConsistencyFault, IsConsistencyOf, IsEntryRefusal, IsGrowthRefusal};
+ghost use Rattle.sig_rekor_models.specs.Refusals.{IsHeadOf, IsKeyFault, IsKeyText};
+ghost use Rattle.sig_rekor_models.specs.declared.consistency_proof.ConsistencyProof.{ConsistencyProof as Proof};
+ghost use Rattle.sig_rekor_models.specs.declared.consistency_proof.RekorConsistencyProof.{RekorConsistencyProof as ApiProof};
+ghost use Rattle.sig_rekor_models.specs.declared.log_info.LogInfo.{LogInfo as Head};
+ghost use Rattle.sig_rekor_models.specs.declared.log_info.RekorLogInfo.{RekorLogInfo as ApiHead};
 
 use crate::body::{Body, BodyContent};
 use crate::consistency_proof::{ConsistencyProof, RekorConsistencyProof};
@@ -163,3 +178,53 @@ pub fn equal_proposed_entries(one: &ProposedEntry, other: &ProposedEntry) -> boo
 {
     one == other
 }
+
+/// The algorithm by default is SHA-256, which is named `sha256`.
+pub fn default_algorithm() -> AlgorithmKind
+    ensures { algorithm_name result ≡ codes "sha256" }
+{
+    AlgorithmKind::default()
+}
+
+/// Each error of a log entry's check comes if and only if the rules before its own hold and its own does not: it has an
+/// inclusion proof; that is one of hashes and a checkpoint; the body has a canonical text; and those of the proof's own
+/// check (`laws::proof_refusals` of sig_rekor). It has no code.
+pub fn entry_refusals()
+    ensures { (accepts : List ℕ → List ℕ → Bool) (entry : Entry) (error : SigstoreError) →
+        (entry_answer accepts entry ≡ Err error) ↔ IsEntryRefusal accepts entry error }
+{}
+
+/// A tree head of Rekor's API is taken for a head if and only if it is that head, and has a fault if and only if it is
+/// its root's. It has no code.
+pub fn api_heads()
+    ensures head { (raw : ApiHead) (head : Head) → (log_info_from_rekor raw ≡ Ok head) ↔ IsHeadOf raw head }
+    ensures fault { (raw : ApiHead) (error : SigstoreError) →
+        (log_info_from_rekor raw ≡ Err error) ↔ IsHashFault RootLength raw.root_hash error }
+{}
+
+/// A consistency proof of Rekor's API is taken for a proof if and only if it is that proof. Each fault comes if and
+/// only if it is the root's, or the root is a hash and it is that of the first text that is none. It has no code.
+pub fn api_consistency_proofs()
+    ensures proof { (raw : ApiProof) (proof : Proof) →
+        (consistency_proof_from_rekor raw ≡ Ok proof) ↔ IsConsistencyOf raw proof }
+    ensures fault { (raw : ApiProof) (error : SigstoreError) →
+        (consistency_proof_from_rekor raw ≡ Err error) ↔ IsConsistencyFault raw error }
+{}
+
+/// Each error of the check that a log grew comes if and only if the rules before its own hold and its own does not: one
+/// of the head's signatures is accepted over its note; the note is of the head's own tree; and those of RFC 6962 section
+/// 2.1.2, between the older tree and that one. It has no code.
+pub fn growth_refusals()
+    ensures { (accepts : List ℕ → List ℕ → Bool) (head : Head) (old_size : ℕ) (old_root : List ℕ) (proof : Proof)
+        (error : SigstoreError) →
+        (head_answer accepts head old_size old_root proof ≡ Err error)
+        ↔ IsGrowthRefusal accepts head old_size old_root proof error }
+{}
+
+/// The text of a public key is the UTF-8 that its base64 is of. `Base64DecodeError` comes if and only if it is no
+/// base64, `Utf8Error` if and only if it is that of other bytes. It has no code.
+pub fn key_texts()
+    ensures text { (coded text : List ℕ) → (decoded_text coded ≡ Ok text) ↔ IsKeyText coded text }
+    ensures fault { (coded : List ℕ) (error : SigstoreError) →
+        (decoded_text coded ≡ Err error) ↔ IsKeyFault coded error }
+{}

@@ -76,6 +76,8 @@ impl LogInfo {
     /// Errors, as of [`decode_hash`]:
     /// - `HexDecodeError`: the root hash is not an even number of hexadecimal digits;
     /// - `UnexpectedError` of `RootLength`: it is of another number of bytes than 32.
+    ///
+    /// `laws::api_heads` says when each comes.
     #[tactic(auto, unfolding(crate::specs::LogInfo::log_info_from_rekor))]
     pub fn try_from_rekor(raw: RekorLogInfo) -> Result<LogInfo>
         ensures { result ≡ log_info_from_rekor raw }

@@ -33,6 +33,8 @@ impl PublicKey {
     /// Errors, the first that applies:
     /// - `Base64DecodeError`: the text is not padded standard base64 (RFC 4648 section 4);
     /// - `Utf8Error`: its bytes are not UTF-8.
+    ///
+    /// `laws::key_texts` says when each comes.
     #[tactic(auto, using(sig_base::proofs::Utf8Texts::texts), unfolding(crate::specs::PublicKey::decoded_text))]
     pub fn decode(&self, alloc: Global) -> Result<Text>
         ensures { Answers Memory (λ text. text) result (decoded_text (key_text self.now)) }

@@ -24,6 +24,8 @@ impl LogEntry {
     /// - `UnexpectedError` of `ProofConversion`: [`InclusionProof::try_from_rekor`] fails;
     /// - `UnexpectedError` of `CanonicalBody`: the body holds an integer beyond plus or minus 2^53 - 1;
     /// - those of [`InclusionProof::verify`].
+    ///
+    /// `laws::entry_refusals` says when each comes.
     pub fn verify_inclusion<C: SignatureChecker>(
         &self,
         alloc: Global,

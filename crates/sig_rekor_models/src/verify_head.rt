@@ -19,6 +19,8 @@ impl LogInfo {
     /// - `CheckpointSignatureVerificationError`, as of [`sig_rekor::SignedCheckpoint::verify_signature`];
     /// - `ConsistencyProofError`, as of [`sig_rekor::SignedCheckpoint::is_valid_for_proof`] of the tree head;
     /// - `ConsistencyProofError`, as of [`ConsistencyProof::verify`].
+    ///
+    /// `laws::growth_refusals` says when each comes.
     #[tactic(auto, unfolding(crate::specs::Consistency::head_answer))]
     pub fn verify_consistency<C: SignatureChecker>(
         &self,
