@@ -7,4 +7,5 @@ pub mod Policy
 pub mod ReadFrom
 pub mod Request
 pub mod Row
+pub mod Rules
 pub mod VerifyRequest

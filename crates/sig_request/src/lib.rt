@@ -16,6 +16,7 @@
 mod consistency_request;
 mod digest_text;
 mod head_members;
+pub mod laws;
 mod policy_rule;
 mod read;
 mod request;

@@ -1,0 +1,16 @@
+//! What the members of a request's policy mean. Its calls do nothing: each states laws, and its proof is that they
+//! hold.
+ghost use Rattle.std.specs.Prelude.{◌≡◌, ◌↔◌, Some};
+ghost use Rattle.sig_json.specs.Data.{Data};
+ghost use Rattle.sig_policy.specs.declared.request.LeafPolicy.{LeafPolicy};
+ghost use Rattle.sig_policy.specs.declared.request.RequestPolicy.{RequestPolicy};
+ghost use Rattle.sig_request.specs.Policy.{request_policy_of, rule_of};
+ghost use Rattle.sig_request.specs.Rules.{IsPolicy, IsRule};
+
+/// A value is read as a rule if and only if it is an object that has exactly one of these sets of members: `identity`
+/// with `issuer`, or one of `issuer`, `trigger`, `sha`, `name`, `repository` and `ref`. It is read as a policy if and
+/// only if it has such rules, at least one, under `all` and nothing under `any`, or the other way round.
+pub fn policies()
+    ensures rule { (d : Data) (rule : LeafPolicy) → (rule_of d ≡ Some rule) ↔ IsRule d rule }
+    ensures policy { (d : Data) (policy : RequestPolicy) → (request_policy_of d ≡ Some policy) ↔ IsPolicy d policy }
+{}
