@@ -281,7 +281,8 @@ NO_CALLS = ("index: the entry's own", "range of a log's key: null", "range of a 
             "body: another part: the version", "body: another part: the envelope's alg", "body: another part: the payload's alg",
             "body: another part: no", "issuer: a trust anchor without", "issuer: a trust anchor of version", "issuer: itself twice",
             "certificate log keys: others", "certificate log keys: no key beside", "certificate log keys: an RSA", "certificate log keys: under",
-            "bundle: null for a content", "bundle: a doubled", "trusted root: the 29th", "entries: ", "request: entries", "hundreds: entries")
+            "bundle: null for a content", "bundle: a doubled", "trusted root: the 29th", "entries: ", "request: entries", "hundreds: entries",
+            "request: members of a rule")
 CALLED = ("policy: any of", "policy: an issuer with quotation marks", "policy: all seven", "policy: the errors", "body: another part: no certificate", "subject: asked")
 
 

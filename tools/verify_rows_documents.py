@@ -1,4 +1,6 @@
 """The rows of the table of `verify` about its three documents: the request, the trusted root, and the bundle as JSON."""
+import itertools
+
 import fixture
 from fixture import compact
 from verify_cases import ABSENT, ANCHOR, AUTHORITY, CHECKPOINT, ENTRY, MATERIAL, PROOF, bundle, request, root, row, text_row
@@ -66,6 +68,7 @@ def requests():
                             ("sha256: " + "a" * 64, UNREAD), ("sha256:" + "a" * 64 + "\n", UNREAD), ("", UNREAD)):
         small("digest is %s" % compact(value), expected, digest=value)
     policies()
+    members_of_rules()
     rows()
 
 
@@ -94,6 +97,20 @@ def policies():
                   {"SHA": "x"},
                   {"ref": "x", "sha": 1}):
         rule("is %s" % compact(value), UNREAD, value)
+
+
+def members_of_rules():
+    """Each two members that a rule may have, and each three of which two are a rule."""
+    names = ("identity", "issuer", "trigger", "sha", "name", "repository", "ref")
+
+    def case(name, expected, value):
+        small("members of a rule: " + name, expected, policy={"any": [value]})
+    for one, other in itertools.combinations(names, 2):
+        case("%s and %s" % (one, other), READ if (one, other) == ("identity", "issuer") else UNREAD, {one: "x", other: "y"})
+        case("%s, and null for %s" % (one, other), UNREAD if one == "identity" else READ, {one: "x", other: None})
+        case("%s, and null for %s" % (other, one), READ, {other: "y", one: None})
+    for other in names[2:]:
+        case("identity, issuer and %s" % other, UNREAD, {"identity": "x", "issuer": "y", other: "z"})
 
 
 def rows():
