@@ -76,7 +76,7 @@ def grown(rows, head, old, old_root, root, hashes):
 # ---- trees
 
 OWN, EMPTY, OTHER = notes.ROOT, trees.EMPTY, bytes([7] * 32)
-ENTRIES = [f"entry {number}".encode() for number in range(9)]
+ENTRIES = [f"entry {number}".encode() for number in range(2000)]
 
 
 def root_of(size):
@@ -175,3 +175,13 @@ for rows, head, old_root, path in itertools.product(
     (PATH, []),
 ):
     grown(rows, head, 3, old_root, ROOT, texts(path))
+say("Heads of a log of two thousand entries, and lists of three hundred hashes and shards.")
+LARGE, LARGE_SIGNED = head_of(2000, root_of(2000))
+for old, old_root, path in ((1500, root_of(1500), path_of(1500, 2000)), (1500, OTHER, path_of(1500, 2000)), (1024, root_of(1024), path_of(1024, 2000)),
+                            (2000, root_of(2000), []), (1500, root_of(1500), [OTHER] * 300)):
+    grown(LARGE_SIGNED, LARGE, old, old_root, ROOT, texts(path))
+    consistency(root_of(2000).hex(), texts(path), old, old_root, 2000)
+grown([], LARGE, 1500, root_of(1500), ROOT, texts(path_of(1500, 2000)))
+from_rekor(ROOT, [ROOT] * 300)
+from_rekor(ROOT, [ROOT] * 299 + ["zz"])
+log_info(ROOT, 1, ONE, "1", (("a", "b", "c", 0),) * 300)

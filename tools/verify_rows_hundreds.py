@@ -28,6 +28,8 @@ def logs():
     row("hundreds: keys of logs, none of its id", 'log-key RekorPublicKeyNotFoundError("%s")' % fixture.LOG_ID.hex(), root("tlogs", others))
     row("hundreds: keys of Certificate Transparency logs, the last of its id", "verified 2 5",
         root("ctlogs", others + [instance(key(3), fixture.CERTIFICATE_LOG_ID)]))
+    row("a few keys of Certificate Transparency logs, the last of its id", "verified 2 5",
+        root("ctlogs", others[:3] + [instance(key(3), fixture.CERTIFICATE_LOG_ID)]))
     row("hundreds: keys of Certificate Transparency logs, none its own", "sct Certificate(Sct(Verification(KeyNotFound)))", root("ctlogs", others))
 
 
