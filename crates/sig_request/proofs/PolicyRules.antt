@@ -1,9 +1,9 @@
 -- *Policy*: what is read as a policy has rules under one name, at least one, and nothing under the other.
-use Rattle.std.proofs.Common.{◌≡◌, ◌≢◌, ℕ, List, [], ◌∷◌, codes, Option, Some, None, option_map, Result, Ok, Err}
-use Rattle.std.proofs.Common.{IfOk, refl, sym, ap, subst, ◌∙◌}
+use Rattle.std.proofs.Common.{◌≡◌, ◌≢◌, ℕ, List, [], ◌∷◌, codes, Option, Some, None, option_map, Ok}
+use Rattle.std.proofs.Common.{refl, sym, ap, subst, ◌∙◌}
 use Rattle.std.specs.List.{AllZip}
 use Rattle.std.specs.Option.{option_or}
-use Rattle.std.specs.Prelude.{IfSome, ⊤}
+use Rattle.std.specs.Prelude.{⊤}
 use Rattle.sig_base.proofs.OptionSteps.{some_is, bind_is}
 use Rattle.sig_base.specs.OptionSteps.{◌>>=◌}
 use Rattle.sig_base.specs.declared.checker.AcceptedRow.{AcceptedRow}
@@ -18,7 +18,7 @@ use Rattle.sig_request.proofs.Rules.{rule_takes, rule_again}
 use Rattle.sig_request.specs.Accepted.{with_rows}
 use Rattle.sig_request.specs.DigestText.{digest_kind}
 use Rattle.sig_request.specs.Policy.{at_least_one, request_policy_of, rule_of, rules_under}
-use Rattle.sig_request.specs.ReadFrom.{IsReadFrom, IsRequestOf}
+use Rattle.sig_request.specs.ReadFrom.{IsRequestOf}
 use Rattle.sig_request.specs.Row.{entries_of, no_kind, row_of}
 use Rattle.sig_request.specs.Rules.{HasPolicy, HasRules, IsPolicy, IsRule}
 use Rattle.sig_request.specs.VerifyRequest.{verify_members, verify_request}
@@ -177,17 +177,10 @@ policy_in accepted d request e =
     ap (λ (w : VerifyRequest). w.policy) (some_is _ request entries.2) in
     (value.0, value.1, subst (λ (p : RequestPolicy). IsPolicy value.0 p) same (policy_takes value.0 rules.0 value.2))
 
-has_policy : (text : List ℕ) (request : VerifyRequest) → IsRequestOf verify_request text request
+pub has_policy : (text : List ℕ) (request : VerifyRequest) → IsRequestOf verify_request text request
     → HasPolicy text request.policy
 unfolding with_rows
 has_policy text request is =
     let rows = bind_is (optional_list row_of (codes "accepted") is.tree) _ request is.members in
     let there = policy_in rows.0 is.tree request rows.2 in
     record { tree = is.tree; value = there.0; document = is.document; there = there.1; is = there.2 }
-
-pub request_has_policy : {E : Type 0} (text : List ℕ) (r : Result (Option VerifyRequest) E)
-    → IfOk r (IsReadFrom verify_request text)
-    → IfOk r (λ found. IfSome found (λ request. HasPolicy text request.policy))
-request_has_policy text (Ok (Some request)) is = has_policy text request is
-request_has_policy text (Ok None) is = tt
-request_has_policy text (Err e) is = tt

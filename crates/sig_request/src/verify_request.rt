@@ -11,7 +11,7 @@
 //!   "entries": null
 //! }
 //! ```
-ghost use Rattle.std.specs.Prelude.{◌≡◌, IfOk, IfSome};
+ghost use Rattle.std.specs.Prelude.{◌≡◌, IfOk};
 
 use crate::digest_text::ArtifactDigestReader;
 use crate::policy_rule::PolicyReader;
@@ -83,21 +83,12 @@ impl RequestReader for VerifyRequestReader {
 
 impl VerifyRequest {
     ghost use Rattle.sig_request.specs.ReadFrom.{IsReadFrom};
-    ghost use Rattle.sig_request.specs.Rules.{HasPolicy};
     ghost use Rattle.sig_request.specs.VerifyRequest.{verify_request};
 
     /// Reads a request; `None` if and only if the text has more than 2^24 bytes, is no JSON document without floats,
-    /// or does not have the members of a request. Its policy has exactly one of the sets of members of a rule in each
-    /// rule, as [`policies`](crate::laws::policies) says. Fails only if out of memory.
+    /// or does not have the members of a request. Its policy has in each rule exactly one of the sets of members that a
+    /// rule may have, as [`policies`](crate::laws::policies) says. Fails only if out of memory.
     pub fn read(alloc: Global, text: &[u8]) -> Result<Option<VerifyRequest>, OutOfMemory>
-        ensures read { IfOk result (IsReadFrom verify_request text.now) }
-        ensures policy { IfOk result (λ found. IfSome found (λ request. HasPolicy text.now request.policy)) }
-    {
-        VerifyRequest::of_text(alloc, text)
-    }
-
-    /// Reads a request, by the table of its members.
-    fn of_text(alloc: Global, text: &[u8]) -> Result<Option<VerifyRequest>, OutOfMemory>
         ensures { IfOk result (IsReadFrom verify_request text.now) }
     {
         request_from_text::<VerifyRequestReader>(alloc, text, &MEMBERS)
