@@ -8,6 +8,7 @@ pub mod HeldLaws
 mod SaidLaws
 mod ProfileFaults
 mod TrustFaults
+mod Clauses
 mod BitLaws
 mod ValueLaws
 mod OneCertificate

@@ -21,7 +21,8 @@ use Rattle.sig_certificate.specs.Profile.{Held, usage, constraints, code_signing
 use Rattle.sig_certificate.specs.Profile.{ca_refusal, signs_code, signer, unless_authority, leaf_refusal}
 use Rattle.sig_base.specs.OptionSteps.{or_else}
 use Rattle.sig_certificate.specs.Profile.{root_refusal}
-use Rattle.sig_certificate.specs.Faults.{SaysUsage, SaysConstraints, IsAuthority, IsAuthorityFault, other_version}
+use Rattle.sig_certificate.specs.Faults.{SaysUsage, SaysConstraints, IsAuthority, IsRoot, IsLeaf, IsAuthorityFault}
+use Rattle.sig_certificate.specs.Faults.{other_version}
 use Rattle.sig_certificate.specs.Faults.{constraints_malformed, constraints_missing, constraints_not_critical}
 use Rattle.sig_certificate.specs.Faults.{usage_malformed, usage_missing, neither, one_alone, IsRootFault, no_authority}
 use Rattle.sig_certificate.specs.Faults.{other_issuer, IsLeafFault, leaf_version, is_authority, leaf_usage_malformed}
@@ -297,3 +298,74 @@ root_fault_again c e (other_issuer is differ) =
     (cond (bytes_eq c.issuer c.subject) None (Some (NotCA NotRootCA)))) (authority_again c is)
     ∙ cond-false (bytes_eq c.issuer c.subject) None (Some (NotCA NotRootCA))
     (false_from_ne_true (bytes_eq c.issuer c.subject) (λ same. differ ((bytes_eq-Decides c.issuer c.subject).0 same)))
+
+root_none : (c : Cert) (o : Option CertificateValidationError) → ca_refusal c ≡ o
+    → or_else o (cond (bytes_eq c.issuer c.subject) None (Some (NotCA NotRootCA))) ≡ None → IsRoot c
+root_none c (Some x) ca is = absurd cc
+root_none c None ca is =
+    elim (cases_Bool (bytes_eq c.issuer c.subject)) [
+      | inl same ↦ record { authority = authority_is c ca; same = (bytes_eq-Decides c.issuer c.subject).0 same }
+      | inr differ ↦
+          absurd (let no = sym (cond-false (bytes_eq c.issuer c.subject) None (Some (NotCA NotRootCA)) differ)
+          ∙ is in cc)
+    ]
+
+pub root_is : (c : Cert) → root_refusal c ≡ None → IsRoot c
+root_is c is = root_none c (ca_refusal c) refl is
+
+pub root_again : (c : Cert) → IsRoot c → root_refusal c ≡ None
+root_again c is =
+    ap (λ (w : Option CertificateValidationError). or_else w
+    (cond (bytes_eq c.issuer c.subject) None (Some (NotCA NotRootCA)))) (authority_again c is.authority)
+    ∙ cond-true (bytes_eq c.issuer c.subject) None (Some (NotCA NotRootCA))
+    ((bytes_eq-Decides c.issuer c.subject).1 is.same)
+
+-- ---- leaves that may sign code
+
+code_none : (c : Cert) (k : Bool) (p : Held Bool) → c.version ≡ 3 → ¬ IsAuthority c → SaysUsage c true k
+    → code_signing c ≡ p → signs_code p ≡ None → IsLeaf c
+code_none c k (Err x) v not_so usages cp is = absurd cc
+code_none c k (Ok None) v not_so usages cp is = absurd cc
+code_none c k (Ok (Some false)) v not_so usages cp is = absurd cc
+code_none c k (Ok (Some true)) v not_so usages cp is =
+    record {
+      version = v;
+      end_entity = not_so;
+      key_cert_sign = k;
+      usage = usages;
+      code_signing = purposes_say c true cp;
+    }
+
+bit_none : (c : Cert) (d k : Bool) → c.version ≡ 3 → ¬ IsAuthority c → SaysUsage c d k
+    → cond d (signs_code (code_signing c)) (Some (OfPart (BitUnset KeyUsageDigitalSignature))) ≡ None → IsLeaf c
+bit_none c true k v not_so usages is = code_none c k (code_signing c) v not_so usages refl is
+bit_none c false k v not_so usages is = absurd cc
+
+signer_none : (c : Cert) (u : Held Usage) → c.version ≡ 3 → ¬ IsAuthority c → usage c ≡ u
+    → signer u (code_signing c) ≡ None → IsLeaf c
+signer_none c (Err x) v not_so cu is = absurd cc
+signer_none c (Ok None) v not_so cu is = absurd cc
+signer_none c (Ok (Some u)) v not_so cu is =
+    bit_none c u.digital_signature u.key_cert_sign v not_so (usage_says c u cu) is
+
+unless_none : (c : Cert) (o : Option CertificateValidationError) → c.version ≡ 3 → ca_refusal c ≡ o
+    → unless_authority o (signer (usage c) (code_signing c)) ≡ None → IsLeaf c
+unless_none c None v ca is = absurd cc
+unless_none c (Some x) v ca is =
+    signer_none c (usage c) v (λ so. let none = sym ca ∙ authority_again c so in cc) refl is
+
+pub leaf_is : (c : Cert) → leaf_refusal c ≡ None → IsLeaf c
+leaf_is c is =
+    elim (cases_Bool (eqb c.version 3)) [
+      | inl so ↦
+          let v = eqb-true c.version 3 so in
+          unless_none c (ca_refusal c) v refl (sym (version_3 c _ v) ∙ is)
+      | inr not_so ↦
+          absurd (let e = sym (other c (unless_authority (ca_refusal c) (signer (usage c) (code_signing c)))
+          (eqb-false c.version 3 not_so)) ∙ is in cc)
+    ]
+
+pub leaf_again : (c : Cert) → IsLeaf c → leaf_refusal c ≡ None
+leaf_again c is =
+    leaf_signs c is.key_cert_sign is.version is.end_entity is.usage
+    ∙ ap (λ (w : Held Bool). signs_code w) (said_purposes c true is.code_signing)

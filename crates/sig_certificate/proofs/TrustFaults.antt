@@ -24,7 +24,7 @@ use Rattle.sig_certificate.specs.Trust.{validity_refusal, expiration_refusal, tr
 use Rattle.sig_certificate.specs.Faults.{Says, SaysUsage, MaySign, MaySignCode, IsNamed, IsUsagesFault, may_not_sign}
 use Rattle.sig_certificate.specs.Faults.{may_not_sign_code, IsNamesFault, unnamed, IsValidityFault, not_begun}
 use Rattle.sig_certificate.specs.Faults.{IsExpirationFault, too_early, too_late, IsTrustFault, of_usages, of_names}
-use Rattle.sig_certificate.specs.Faults.{of_validity, of_expiration}
+use Rattle.sig_certificate.specs.Faults.{of_validity, of_expiration, IsWithinValidity, IsTrusted}
 use Rattle.sig_certificate.proofs.HeldLaws.{named_one}
 use Rattle.sig_certificate.proofs.SaidLaws.{usage_says, said_usage, purposes_say, said_purposes}
 
@@ -197,6 +197,21 @@ pub expiration_fault_again : (c : Cert) (at : ℤ) (e : SigstoreError) → IsExp
 expiration_fault_again c at e (too_early lt) = rw (lt_is at c.not_before lt) refl
 expiration_fault_again c at e (too_late le lt) = rw (le_is at c.not_before le, lt_is c.not_after at lt) refl
 
+pub expiration_none_is : (c : Cert) (at : ℤ) → expiration_refusal c at ≡ None → IsWithinValidity c at
+expiration_none_is c at is = by (int_lt at c.not_before) (int_lt c.not_after at) refl refl is
+  where
+    by : (b d : Bool) → int_lt at c.not_before ≡ b → int_lt c.not_after at ≡ d
+        → cond b (Some (CertificateExpiredBeforeSignaturesSubmittedToRekor at c.not_before))
+        (cond d (Some (CertificateIssuedAfterSignaturesSubmittedToRekor at c.not_after)) None) ≡ None
+        → IsWithinValidity c at
+    by true d a a2 r = absurd cc
+    by false true a a2 r = absurd cc
+    by false false a a2 r =
+        record { begun = not_below at c.not_before a; not_ended = not_below c.not_after at a2 }
+
+pub expiration_none_again : (c : Cert) (at : ℤ) → IsWithinValidity c at → expiration_refusal c at ≡ None
+expiration_none_again c at is = rw (le_is at c.not_before is.begun, le_is c.not_after at is.not_ended) refl
+
 -- ---- all four
 
 or_some : {E : Type 0} (o other : Option E) (e : E) → o ≡ Some e → or_else o other ≡ Some e
@@ -243,3 +258,34 @@ trust_fault_again c at now e (of_expiration x signs code named begun fault) =
     or_none (usages_refusal c) _ (usages_none_again c signs code)
     ∙ or_none (names_refusal c) _ (names_none_again c named)
     ∙ or_none (validity_refusal c now) _ (validity_none_again c now begun) ∙ expiration_fault_again c at e fault
+
+pub trust_is : (c : Cert) (at now : ℤ) → trust_refusal c at now ≡ None → IsTrusted c at now
+trust_is c at now is = first (usages_refusal c) refl is
+  where
+    third : MaySign c → MaySignCode c → IsNamed c → (o : Option SigstoreError) → validity_refusal c now ≡ o
+        → or_else o (expiration_refusal c at) ≡ None → IsTrusted c at now
+    third signs code named (Some x) v r = absurd cc
+    third signs code named None v r = record {
+      signs = signs;
+      signs_code = code;
+      named = named;
+      begun = validity_none_is c now v;
+      logged = expiration_none_is c at r;
+    }
+
+    second : MaySign c → MaySignCode c → (o : Option SigstoreError) → names_refusal c ≡ o
+        → or_else o (or_else (validity_refusal c now) (expiration_refusal c at)) ≡ None → IsTrusted c at now
+    second signs code (Some x) n r = absurd cc
+    second signs code None n r = third signs code (names_none_is c n) (validity_refusal c now) refl r
+
+    first : (o : Option SigstoreError) → usages_refusal c ≡ o
+        → or_else o (or_else (names_refusal c) (or_else (validity_refusal c now) (expiration_refusal c at))) ≡ None
+        → IsTrusted c at now
+    first (Some x) u r = absurd cc
+    first None u r = let both = usages_none_is c u in second both.0 both.1 (names_refusal c) refl r
+
+pub trust_again : (c : Cert) (at now : ℤ) → IsTrusted c at now → trust_refusal c at now ≡ None
+trust_again c at now is =
+    or_none (usages_refusal c) _ (usages_none_again c is.signs is.signs_code)
+    ∙ or_none (names_refusal c) _ (names_none_again c is.named)
+    ∙ or_none (validity_refusal c now) _ (validity_none_again c now is.begun) ∙ expiration_none_again c at is.logged

@@ -94,11 +94,25 @@ pub data IsAuthorityFault : Cert → CertificateValidationError → Type 0 where
 
 -- ---- roots
 
+-- a root: an authority that names itself as its issuer
+pub record IsRoot (c : Cert) : Type 0 where
+  pub authority : IsAuthority c
+  pub same : c.issuer ≡ c.subject
+
 pub data IsRootFault : Cert → CertificateValidationError → Type 0 where
   no_authority : {c : Cert} (e : CertificateValidationError) → IsAuthorityFault c e → IsRootFault c e
   other_issuer : {c : Cert} → IsAuthority c → c.issuer ≢ c.subject → IsRootFault c (NotCA NotRootCA)
 
 -- ---- leaves
+
+-- a leaf that may sign code: version 3, no authority, key usage with digitalSignature, and extended key usage with code
+-- signing
+pub record IsLeaf (c : Cert) : Type 0 where
+  pub version : c.version ≡ 3
+  pub end_entity : ¬ IsAuthority c
+  pub key_cert_sign : Bool
+  pub usage : SaysUsage c true key_cert_sign
+  pub code_signing : SaysCodeSigning c true
 
 pub data IsLeafFault : Cert → CertificateValidationError → Type 0 where
   leaf_version : {c : Cert} → c.version ≢ 3 → IsLeafFault c VersionUnsupported
@@ -150,6 +164,19 @@ pub data IsExpirationFault : Cert → ℤ → SigstoreError → Type 0 where
       → IsExpirationFault c at (CertificateExpiredBeforeSignaturesSubmittedToRekor at c.not_before)
   too_late : {c : Cert} {at : ℤ} → c.not_before ≤ℤ at → c.not_after <ℤ at
       → IsExpirationFault c at (CertificateIssuedAfterSignaturesSubmittedToRekor at c.not_after)
+
+-- the time of the entry is within the validity
+pub record IsWithinValidity (c : Cert) (at : ℤ) : Type 0 where
+  pub begun : c.not_before ≤ℤ at
+  pub not_ended : at ≤ℤ c.not_after
+
+-- all four checks pass
+pub record IsTrusted (c : Cert) (at now : ℤ) : Type 0 where
+  pub signs : MaySign c
+  pub signs_code : MaySignCode c
+  pub named : IsNamed c
+  pub begun : c.not_before ≤ℤ now
+  pub logged : IsWithinValidity c at
 
 -- the four checks in their order
 pub data IsTrustFault : Cert → ℤ → ℤ → SigstoreError → Type 0 where

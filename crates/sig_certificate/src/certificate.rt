@@ -1,15 +1,16 @@
 //! `Certificate`: RFC 5280 section 4.1, in the profile of Sigstore.
 
-ghost use Rattle.std.specs.Prelude.{◌≡◌, ◌≤◌, ◌+◌, ℕ, pos, ◌≤ℤ◌, length, Ok, Err, IfOk};
+ghost use Rattle.std.specs.Prelude.{◌≡◌, ◌≤◌, ◌+◌, ◌↔◌, ℕ, pos, ◌≤ℤ◌, length, None, Ok, Err, IfOk, option_map};
+ghost use Rattle.std.specs.Prelude.{slice_get};
 ghost use Rattle.sig_base.specs.Answers.{Answers, ComesWhere};
 ghost use Rattle.sig_certificate.specs.Certificate.{Cert, IsCertificate};
 ghost use Rattle.sig_certificate.specs.ExtensionsLeft.{extensions_left};
-ghost use Rattle.sig_certificate.specs.Lookups.{with_oid, are_single, Finds};
+ghost use Rattle.sig_certificate.specs.Lookups.{borrowed_extension, with_oid, are_single, Finds};
 
 use crate::error::X509ReadError;
 use crate::extension_walk::Extensions;
 use crate::listed::{Listed, read_extension_list};
-use crate::lookup::{Lookup, look_up};
+use crate::lookup::{ExtensionRef, Lookup, lend_at, look_up};
 use crate::parts::Places;
 use crate::reading::dated_parts;
 use crate::span::part;
@@ -205,6 +206,15 @@ impl Certificate {
             bytes: &self.der,
             left: &self.extensions.places,
         }
+    }
+
+    /// Returns the extension at this index, counted from 0 in the order of the certificate. `None` if and only if the
+    /// certificate has no more than so many.
+    pub fn extension_at(&self, index: usize) -> Option<ExtensionRef<'_>>
+        ensures found { option_map borrowed_extension result ≡ slice_get self.now.extensions index }
+        ensures none { (result ≡ None) ↔ (length self.now.extensions ≤ index) }
+    {
+        lend_at(&self.der, &self.extensions.places, index)
     }
 
     /// Looks up the extensions with this object identifier, which is given by its contents octets and compared byte

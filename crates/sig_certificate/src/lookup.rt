@@ -1,6 +1,6 @@
 //! A certificate's extensions, borrowed, and the look-up of an object identifier.
 
-ghost use Rattle.std.specs.Prelude.{◌≡◌, length, map};
+ghost use Rattle.std.specs.Prelude.{◌≡◌, ◌↔◌, ◌≤◌, length, map, None, option_map, slice_get};
 ghost use Rattle.std.specs.List.{All};
 ghost use Rattle.sig_certificate.specs.Lookups.{borrowed_extension, with_oid, Finds};
 ghost use Rattle.sig_certificate.specs.Places.{extension_of, AreSpans};
@@ -43,6 +43,21 @@ pub(crate) fn lend<'a>(bytes: &'a [u8], places: &ExtensionPlaces) -> ExtensionRe
         value: part(bytes, places.value),
         whole: part(bytes, places.whole),
     }
+}
+
+/// Returns the extension at this index, if there are more than so many.
+pub(crate) fn lend_at<'a>(
+    bytes: &'a [u8],
+    extensions: &[ExtensionPlaces],
+    index: usize,
+) -> Option<ExtensionRef<'a>>
+    requires { All (AreSpans (length bytes.now)) extensions.now }
+    ensures found { option_map borrowed_extension result
+        ≡ slice_get (map (extension_of bytes.now) extensions.now) index }
+    ensures none { (result ≡ None) ↔ (length (map (extension_of bytes.now) extensions.now) ≤ index) }
+{
+    let places = extensions.get(index)?;
+    Some(lend(bytes, places))
 }
 
 /// Looks up the extensions of this object identifier.

@@ -1,6 +1,8 @@
 //! What a certificate may be: a leaf, an authority, a root.
 
-ghost use Rattle.std.specs.Prelude.{◌≡◌};
+ghost use Rattle.std.specs.Prelude.{◌≡◌, ◌↔◌, Ok, IsErrOf};
+ghost use Rattle.sig_certificate.specs.Faults.{IsAuthority, IsAuthorityFault, IsRoot, IsRootFault, IsLeaf};
+ghost use Rattle.sig_certificate.specs.Faults.{IsLeafFault};
 ghost use Rattle.sig_certificate.specs.Profile.{error_of, usage, constraints, code_signing, authority, signer};
 ghost use Rattle.sig_certificate.specs.Profile.{ca_refusal, root_refusal, leaf_refusal};
 
@@ -102,9 +104,18 @@ fn judge_authority(
 /// - `Malformed`, `Missing`, `NotCritical`: basic constraints are malformed or duplicate, absent, or not critical;
 /// - `Malformed`, `Missing`: key usage is malformed or duplicate, or absent;
 /// - `NotCA`: neither cA nor keyCertSign is set; `Invalid`: one alone is.
-///
-/// `laws::profile_faults` says when each comes.
 pub fn is_ca(certificate: &Certificate) -> Result<(), CertificateValidationError>
+    // It is an authority.
+    ensures authority { (result ≡ Ok tt) ↔ IsAuthority certificate.now }
+    // Each error: the rules before its own hold, and its own does not.
+    ensures faults { (e : CertificateValidationError) → IsErrOf result e ↔ IsAuthorityFault certificate.now e }
+    // The same in one equation.
+    ensures exact { error_of result ≡ ca_refusal certificate.now }
+{
+    judge_ca(certificate)
+}
+
+fn judge_ca(certificate: &Certificate) -> Result<(), CertificateValidationError>
     ensures { error_of result ≡ ca_refusal certificate.now }
 {
     if certificate.version() != 3 {
@@ -115,9 +126,20 @@ pub fn is_ca(certificate: &Certificate) -> Result<(), CertificateValidationError
 
 /// Whether the certificate is a root. Fails as `is_ca` does, then with `NotRootCA` if issuer and subject differ.
 pub fn is_root_ca(certificate: &Certificate) -> Result<(), CertificateValidationError>
+    // It is a root.
+    ensures root { (result ≡ Ok tt) ↔ IsRoot certificate.now }
+    // Each error: the rules before its own hold, and its own does not.
+    ensures faults { (e : CertificateValidationError) → IsErrOf result e ↔ IsRootFault certificate.now e }
+    // The same in one equation.
+    ensures exact { error_of result ≡ root_refusal certificate.now }
+{
+    judge_root(certificate)
+}
+
+fn judge_root(certificate: &Certificate) -> Result<(), CertificateValidationError>
     ensures { error_of result ≡ root_refusal certificate.now }
 {
-    is_ca(certificate)?;
+    judge_ca(certificate)?;
     if certificate.issuer() == certificate.subject() {
         Ok(())
     } else {
@@ -157,15 +179,24 @@ fn judge_signer(
 /// - `Malformed`, `Missing`, `BitUnset`: key usage is malformed or duplicate, absent, or without digitalSignature;
 /// - `Malformed`, `Missing`, `BitUnset`: extended key usage is malformed or duplicate, absent, or without code
 ///   signing.
-///
-/// `laws::profile_faults` says when each comes.
 pub fn is_leaf(certificate: &Certificate) -> Result<(), CertificateValidationError>
+    // It is a leaf that may sign code.
+    ensures leaf { (result ≡ Ok tt) ↔ IsLeaf certificate.now }
+    // Each error: the rules before its own hold, and its own does not.
+    ensures faults { (e : CertificateValidationError) → IsErrOf result e ↔ IsLeafFault certificate.now e }
+    // The same in one equation.
+    ensures exact { error_of result ≡ leaf_refusal certificate.now }
+{
+    judge_leaf(certificate)
+}
+
+fn judge_leaf(certificate: &Certificate) -> Result<(), CertificateValidationError>
     ensures { error_of result ≡ leaf_refusal certificate.now }
 {
     if certificate.version() != 3 {
         return Err(CertificateValidationError::VersionUnsupported);
     }
-    match is_ca(certificate) {
+    match judge_ca(certificate) {
         Ok(()) => Err(NotLeafErrorKind::IsCA.into()),
         Err(_) => judge_signer(key_usage(certificate), code_signing(certificate)),
     }
