@@ -7,3 +7,6 @@ pub mod DigestsAlone
 pub mod Payloads
 pub mod FaultCauses
 pub mod PayloadCauses
+pub mod SaidMembers
+pub mod StatementTexts
+pub mod Clauses

@@ -10,6 +10,7 @@ use Rattle.sig_base.specs.ByText.{text_lookup}
 use Rattle.sig_base.specs.declared.unexpected.UnexpectedKind.{UnexpectedKind}
 use Rattle.sig_base.specs.declared.unexpected.UnexpectedKind.TheVariants.{StatementType, PredicateType, NoSubjects}
 use Rattle.sig_base.specs.declared.unexpected.UnexpectedKind.TheVariants.{FirstSubjectWithoutSha256}
+use Rattle.sig_dsse.specs.declared.artifact_digest.ArtifactDigest.{ArtifactDigest}
 use Rattle.sig_dsse.specs.declared.payload.PayloadFault.TheVariants.{NoStatement, Subjects}
 use Rattle.sig_dsse.specs.declared.recognized.DigestName.{DigestName}
 use Rattle.sig_dsse.specs.declared.recognized.DigestName.TheVariants.{Sha256, Sha512}
@@ -17,10 +18,11 @@ use Rattle.sig_dsse.specs.declared.recognized.SubjectFault.{SubjectFault}
 use Rattle.sig_dsse.specs.declared.recognized.SubjectFault.TheVariants.{TooManySubjects, TooManyDigests, Malformed}
 use Rattle.sig_dsse.specs.declared.recognized.SubjectFault.TheVariants.{NoneRecognized, OutOfMemory}
 use Rattle.sig_dsse.specs.CosignStatement.{cosign_fault}
-use Rattle.sig_dsse.specs.Named.{named}
+use Rattle.sig_dsse.specs.Named.{AreTaken, named}
 use Rattle.sig_dsse.specs.Payload.{digests_of_payload}
 use Rattle.sig_dsse.specs.Recognized.{digests_or_fault}
 use Rattle.sig_dsse.specs.Statement.{DigestTexts, Subject, Statement, digest_maps, statement_of}
+use Rattle.sig_dsse.specs.StatementText.{IsStatement}
 
 -- ---- the digests of a statement
 
@@ -101,6 +103,14 @@ pub record PayloadFaultsHaveTheirCause : Type 0 where
       → (digests_of_payload payload ≡ Err (Subjects fault)) ↔
       ((statement : Statement) × (statement_of payload ≡ Some statement) × IsCauseOf fault statement)
 
+-- the payload is a statement, of which these are the digests of the named entries
+abbrev pub ArePayloadDigests : List ℕ → List ArtifactDigest → Type 0
+ArePayloadDigests payload digests = (statement : Statement) × IsStatement payload statement × AreTaken statement digests
+
+-- the payload is a statement with the cause of this fault
+abbrev pub IsPayloadCauseOf : SubjectFault → List ℕ → Type 0
+IsPayloadCauseOf fault payload = (statement : Statement) × IsStatement payload statement × IsCauseOf fault statement
+
 -- ---- what `cosign` asks
 
 -- `_type` is that of the in-toto attestation framework, statement layer v1
@@ -110,6 +120,12 @@ IsStatementV1 statement = statement.statement_type ≡ codes "https://in-toto.io
 -- the predicate is a signature by `cosign`
 abbrev pub IsCosignSign : Statement → Type 0
 IsCosignSign statement = statement.predicate_type ≡ codes "https://sigstore.dev/cosign/sign/v1"
+
+-- there is a first subject, and its digest named `sha256` has this text
+abbrev pub FirstHasSha256 : List ℕ → List Subject → Type 0
+FirstHasSha256 text subjects =
+    (first : Subject) × (others : List Subject) × (subjects ≡ first ∷ others) ×
+    (text_lookup (codes "sha256") first.digest ≡ Some text)
 
 -- there is a first subject, and it has no digest named `sha256`
 abbrev pub FirstLacksSha256 : List Subject → Type 0
@@ -124,6 +140,11 @@ IsCosignCauseOf NoSubjects statement = IsStatementV1 statement × IsCosignSign s
 IsCosignCauseOf FirstSubjectWithoutSha256 statement =
     IsStatementV1 statement × IsCosignSign statement × FirstLacksSha256 statement.subject
 IsCosignCauseOf _ statement = ⊥
+
+-- the statement is one as `cosign` signs it
+abbrev pub IsCosignStatement : Statement → Type 0
+IsCosignStatement statement =
+    IsStatementV1 statement × IsCosignSign statement × ((text : List ℕ) × FirstHasSha256 text statement.subject)
 
 -- each fault comes if and only if it has its cause
 abbrev pub CosignFaultsHaveTheirCause : Type 0

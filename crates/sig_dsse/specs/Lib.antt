@@ -2,6 +2,8 @@ pub mod Pae
 pub mod EnvelopeText
 pub mod Digest
 pub mod Statement
+pub mod SaidMembers
+pub mod StatementText
 pub mod Seen
 pub mod Recognized
 pub mod Named

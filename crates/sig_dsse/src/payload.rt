@@ -1,8 +1,13 @@
 //! The digests of the statement that a payload is, read without the rest of it.
-ghost use Rattle.sig_base.specs.Answers.{Answers};
+ghost use Rattle.std.specs.Prelude.{List};
+ghost use Rattle.sig_base.specs.Answers.{Answers, ComesWhere};
 ghost use Rattle.sig_json.specs.Record.{record_in};
 ghost use Rattle.sig_dsse.specs.DigestsAlone.{digest_maps_in, digest_maps_of};
+ghost use Rattle.sig_dsse.specs.Faults.{ArePayloadDigests, IsPayloadCauseOf};
 ghost use Rattle.sig_dsse.specs.Payload.{digests_of_payload};
+ghost use Rattle.sig_dsse.specs.StatementText.{IsNoStatement};
+ghost use Rattle.sig_dsse.specs.declared.artifact_digest.ArtifactDigest.{ArtifactDigest as digest_type};
+ghost use Rattle.sig_dsse.specs.declared.recognized.SubjectFault.{SubjectFault as fault_type};
 
 use crate::artifact_digest::Digests;
 use crate::digest_reader::DigestMapsReader;
@@ -49,8 +54,22 @@ impl From<SubjectFault> for PayloadFault {
 ///
 /// Fails with `NoStatement` if and only if [`InTotoStatementV1::from_json`](crate::InTotoStatementV1::from_json) fails
 /// on the payload, then with `Subjects` and the fault that `recognized_digests` has.
-#[tactic(auto, using(crate::proofs::DigestsAlone::of_payload))]
 pub fn payload_digests(alloc: Global, payload: &[u8]) -> Result<Digests, PayloadFault>
+    ensures taken { (digests : List digest_type) → ComesWhere PayloadFault.OutOfMemory result (Ok digests)
+        (ArePayloadDigests payload.now digests) }
+    ensures no_statement { ComesWhere PayloadFault.OutOfMemory result (Err PayloadFault.NoStatement)
+        (IsNoStatement payload.now) }
+    ensures refused { (fault : fault_type) → ComesWhere PayloadFault.OutOfMemory result
+        (Err (PayloadFault.Subjects fault)) (IsPayloadCauseOf fault payload.now) }
+    // The same in one equation.
+    ensures answer { Answers PayloadFault.OutOfMemory (λ digests. digests) result (digests_of_payload payload.now) }
+{
+    take(alloc, payload)
+}
+
+/// The same in one equation.
+#[tactic(auto, using(crate::proofs::DigestsAlone::of_payload))]
+fn take(alloc: Global, payload: &[u8]) -> Result<Digests, PayloadFault>
     ensures { Answers PayloadFault.OutOfMemory (λ digests. digests) result (digests_of_payload payload.now) }
 {
     let maps = read_maps(alloc, payload)?;

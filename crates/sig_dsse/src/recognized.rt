@@ -1,7 +1,11 @@
 //! The digests of a statement that an artifact can be compared with.
-ghost use Rattle.std.specs.Prelude.{◌≡◌, ◌++◌, [], ◌∷◌, Ok};
-ghost use Rattle.sig_base.specs.Answers.{Answers};
+ghost use Rattle.std.specs.Prelude.{◌≡◌, ◌≢◌, ◌++◌, [], ◌∷◌, List};
+ghost use Rattle.sig_base.specs.Answers.{Answers, ComesWhere};
 ghost use Rattle.sig_dsse.specs.Collecting.{AddsDigests, listing};
+ghost use Rattle.sig_dsse.specs.Faults.{IsCauseOf};
+ghost use Rattle.sig_dsse.specs.Named.{AreTaken};
+ghost use Rattle.sig_dsse.specs.declared.artifact_digest.ArtifactDigest.{ArtifactDigest as digest_type};
+ghost use Rattle.sig_dsse.specs.declared.recognized.SubjectFault.{SubjectFault as fault_type};
 ghost use Rattle.sig_dsse.specs.Recognized.{digests_or_fault, digests_of_maps, digests_of_each, map_digests};
 ghost use Rattle.sig_dsse.specs.Recognized.{entry_digest};
 ghost use Rattle.sig_dsse.specs.Seen.{seen};
@@ -67,11 +71,24 @@ impl From<OutOfMemory> for SubjectFault {
 /// `TooManyDigests` where it has more than 32 digests, and, name by name, with `Malformed` where a `sha256` is not
 /// hexadecimal digits, in either case, of 32 bytes or a `sha512` of 64. Then with `NoneRecognized` where there is no
 /// such digest.
-#[tactic(auto, using(crate::proofs::Collected::statement_seen))]
 pub fn recognized_digests(
     alloc: Global,
     statement: &InTotoStatementV1,
 ) -> Result<Digests, SubjectFault>
+    ensures taken { (digests : List digest_type) → ComesWhere SubjectFault.OutOfMemory result (Ok digests)
+        (AreTaken (seen statement.now) digests) }
+    ensures refused { (fault : fault_type) → fault ≢ SubjectFault.OutOfMemory → ComesWhere SubjectFault.OutOfMemory
+        result (Err fault) (IsCauseOf fault (seen statement.now)) }
+    // The same in one equation.
+    ensures answer { Answers SubjectFault.OutOfMemory (λ digests. digests) result
+        (digests_or_fault (seen statement.now)) }
+{
+    recognize(alloc, statement)
+}
+
+/// The same in one equation.
+#[tactic(auto, using(crate::proofs::Collected::statement_seen))]
+fn recognize(alloc: Global, statement: &InTotoStatementV1) -> Result<Digests, SubjectFault>
     ensures { Answers SubjectFault.OutOfMemory (λ digests. digests) result (digests_or_fault (seen statement.now)) }
 {
     digests_of_maps(alloc, statement.subject_digests())

@@ -56,17 +56,31 @@ fn unexpected(kind: UnexpectedKind) -> SigstoreError
 }
 
 impl InTotoStatementV1 {
-    ghost use Rattle.std.specs.Prelude.{◌≡◌, map};
-    ghost use Rattle.sig_base.specs.Answers.{Answers};
+    ghost use Rattle.std.specs.Prelude.{◌≡◌, ◌⊎◌, ◌↔◌, ℕ, List, [], map};
+    ghost use Rattle.sig_base.specs.Answers.{Answers, ComesWhere};
+    ghost use Rattle.sig_base.specs.declared.unexpected.UnexpectedKind.{UnexpectedKind as kind_type};
+    ghost use Rattle.sig_base.specs.declared.unexpected.UnexpectedKind.TheVariants.{FirstSubjectWithoutSha256};
     ghost use Rattle.sig_dsse.specs.CosignStatement.{cosign_fault, sha256_or_fault, unless_fault};
+    ghost use Rattle.sig_dsse.specs.Faults.{FirstHasSha256, FirstLacksSha256, IsCosignCauseOf, IsCosignStatement};
     ghost use Rattle.sig_dsse.specs.Seen.{seen};
 
     /// Whether it is a statement as `cosign` signs it. Fails with `UnexpectedError`, the first of these:
     /// `StatementType` where `_type` is not `https://in-toto.io/Statement/v1`, `PredicateType` where the predicate's
     /// type is not `https://sigstore.dev/cosign/sign/v1`, `NoSubjects` where there is no subject,
     /// `FirstSubjectWithoutSha256` where the first subject has no digest named `sha256`. It takes no memory.
-    #[tactic(auto, unfolding(crate::specs::CosignStatement::cosign_fault))]
     pub fn validate_cosign_v1(&self) -> Result<()>
+        ensures accepted { (result ≡ Ok tt) ↔ IsCosignStatement (seen self.now) }
+        ensures refused { (kind : kind_type)
+            → (result ≡ Err (UnexpectedError kind)) ↔ IsCosignCauseOf kind (seen self.now) }
+        // The same in one equation.
+        ensures answer { result ≡ unless_fault (cosign_fault (seen self.now)) }
+    {
+        self.check_cosign()
+    }
+
+    /// The same in one equation.
+    #[tactic(auto, unfolding(crate::specs::CosignStatement::cosign_fault))]
+    fn check_cosign(&self) -> Result<()>
         ensures { result ≡ unless_fault (cosign_fault (seen self.now)) }
     {
         if self.statement_type.as_str() != STATEMENT_V1 {
@@ -95,8 +109,21 @@ impl InTotoStatementV1 {
 
     /// The text of the first subject's digest named `sha256`. Fails with `UnexpectedError` of
     /// `FirstSubjectWithoutSha256` where the first subject has no such digest, or there is no subject.
-    #[tactic(auto, unfolding(crate::specs::CosignStatement::sha256_or_fault))]
     pub fn subject_sha256_digest(&self, alloc: Global) -> Result<Text>
+        ensures found { (text : List ℕ) → ComesWhere SigstoreError.OutOfMemory result (Ok text)
+            (FirstHasSha256 text (seen self.now).subject) }
+        ensures missing { ComesWhere SigstoreError.OutOfMemory result
+            (Err (UnexpectedError FirstSubjectWithoutSha256))
+            (((seen self.now).subject ≡ []) ⊎ FirstLacksSha256 (seen self.now).subject) }
+        // The same in one equation.
+        ensures answer { Answers SigstoreError.OutOfMemory (λ text. text) result (sha256_or_fault (seen self.now)) }
+    {
+        self.first_sha256(alloc)
+    }
+
+    /// The same in one equation.
+    #[tactic(auto, unfolding(crate::specs::CosignStatement::sha256_or_fault))]
+    fn first_sha256(&self, alloc: Global) -> Result<Text>
         ensures { Answers SigstoreError.OutOfMemory (λ text. text) result (sha256_or_fault (seen self.now)) }
     {
         let first = self.subject.as_slice().first();

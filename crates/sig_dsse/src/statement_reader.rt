@@ -1,9 +1,13 @@
 //! Statements read from their text.
-ghost use Rattle.sig_base.specs.Answers.{Answers};
+ghost use Rattle.std.specs.Prelude.{◌≡◌, IfOk, IsOkAnd};
+ghost use Rattle.sig_base.specs.Answers.{Answers, ComesWhere, UnlessMemory};
+ghost use Rattle.sig_base.specs.declared.error.SigstoreError.TheVariants.{UnexpectedError};
+ghost use Rattle.sig_base.specs.declared.unexpected.UnexpectedKind.TheVariants.{Statement as NoStatement};
 ghost use Rattle.sig_json.specs.SeenAs.{value_by};
 ghost use Rattle.sig_dsse.specs.CosignStatement.{statement_or_fault};
 ghost use Rattle.sig_dsse.specs.Seen.{seen, seen_subject};
-ghost use Rattle.sig_dsse.specs.Statement.{statement_in, subject_of};
+ghost use Rattle.sig_dsse.specs.Statement.{Statement as statement_type, statement_in, subject_of};
+ghost use Rattle.sig_dsse.specs.StatementText.{IsNoStatement, IsStatement};
 
 use crate::statement::{InTotoStatementV1, Subject};
 use sig_base::{SigstoreError, UnexpectedKind};
@@ -60,16 +64,29 @@ impl InTotoStatementV1 {
     /// a list, `predicate` anything or absent; in a subject `digest` an object of texts, `name` a text or absent,
     /// `annotations` anything or absent. Null means absent, but not inside a list or a digest; other members are
     /// ignored.
-    #[tactic(auto, unfolding(crate::specs::Statement::statement_of))]
     pub fn from_json(alloc: Global, bytes: &[u8]) -> sig_base::Result<InTotoStatementV1>
-        ensures { Answers SigstoreError.OutOfMemory seen result (statement_or_fault bytes.now) }
+        ensures found { IfOk result (λ statement. IsStatement bytes.now (seen statement)) }
+        ensures only { (statement : statement_type) → IsStatement bytes.now statement
+            → UnlessMemory SigstoreError.OutOfMemory result (IsOkAnd result (λ read. seen read ≡ statement)) }
+        ensures refused { ComesWhere SigstoreError.OutOfMemory result (Err (UnexpectedError NoStatement))
+            (IsNoStatement bytes.now) }
+        // The same in one equation.
+        ensures answer { Answers SigstoreError.OutOfMemory seen result (statement_or_fault bytes.now) }
     {
-        match read_record::<StatementReader>(alloc, bytes) {
-            Ok(statement) => Ok(statement),
-            Err(JsonError::NotJson | JsonError::Float | JsonError::Member) => Err(
-                SigstoreError::UnexpectedError(UnexpectedKind::Statement),
-            ),
-            Err(JsonError::OutOfMemory) => Err(SigstoreError::OutOfMemory),
-        }
+        read_statement(alloc, bytes)
+    }
+}
+
+/// The same in one equation.
+#[tactic(auto, unfolding(crate::specs::Statement::statement_of))]
+fn read_statement(alloc: Global, bytes: &[u8]) -> sig_base::Result<InTotoStatementV1>
+    ensures { Answers SigstoreError.OutOfMemory seen result (statement_or_fault bytes.now) }
+{
+    match read_record::<StatementReader>(alloc, bytes) {
+        Ok(statement) => Ok(statement),
+        Err(JsonError::NotJson | JsonError::Float | JsonError::Member) => Err(
+            SigstoreError::UnexpectedError(UnexpectedKind::Statement),
+        ),
+        Err(JsonError::OutOfMemory) => Err(SigstoreError::OutOfMemory),
     }
 }
