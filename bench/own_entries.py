@@ -1,5 +1,6 @@
 """Requests of `log` and of `consistency` with the log's own entries, and what hashing those takes alone."""
 import hashlib
+import random
 import time
 
 from shapes import EXAMPLE, coded, request, row
@@ -16,11 +17,13 @@ def node(left, right):
 
 
 def levels(entries):
-    """The hashes of a tree of 2^k entries, level by level, from the leaves to the root (RFC 6962 section 2.1)."""
+    """The hashes of a tree, level by level, from the leaves to the root (RFC 6962 section 2.1). A node without a
+    neighbour stands in the next level as it is."""
     level = [leaf(entry) for entry in entries]
     while len(level) > 1:
         yield level
-        level = [node(*level[at : at + 2]) for at in range(0, len(level), 2)]
+        pairs = zip(level[::2], level[1::2])
+        level = [node(*pair) for pair in pairs] + level[len(level) & ~1 :]
     yield level
 
 
@@ -35,15 +38,16 @@ def with_list(entries, more, root, hashes, **members):
 
 
 def of_log(entries, more=()):
-    """A request for the first of 2^k entries of a log, with the log's entries and more."""
+    """A request for the first of the entries of a log, with the log's entries and more."""
     *below, [root] = levels(entries)
     return with_list(entries, more, root, [level[1] for level in below], entry=coded(entries[0]))
 
 
 def of_growth(entries, more=()):
-    """A request of `consistency` of a log that grew by the last of 2^k entries, with the log's entries and more."""
+    """A request of `consistency` of a log that grew by the last of an even number of entries, with the log's entries
+    and more."""
     *below, [root] = levels(entries)
-    lefts = [level[-2] for level in below]
+    lefts = [level[-2] for level in below if len(level) % 2 == 0]
     old = lefts[0]
     for left in lefts[1:]:
         old = node(left, old)
@@ -58,6 +62,32 @@ def big(size, more=1):
 
 def small(count):
     return [b"entry %d" % number for number in range(count)]
+
+
+def filling(most, period, entry):
+    """An even number of entries that make a request of nearly so many bytes: of each `period` one is `entry` of its
+    number, which is four characters in base64, and the others have no byte."""
+    count = (most - 4096) * period // (3 * period + 4) // (2 * period) * (2 * period)
+    return [b"" if place % period else entry(place) for place in range(count)]
+
+
+def of_a_byte(most):
+    """One entry of eight has a byte, the others none, in an order that is none."""
+    made = filling(most, 8, lambda place: b"\0")
+    random.Random(most).shuffle(made)
+    return made
+
+
+def of_three_bytes(most):
+    """Every second entry has three bytes, all different, and the others none."""
+    return filling(most, 2, lambda place: place.to_bytes(3, "big"))
+
+
+# Small entries that cost most to hash: few of them follow an equal one.
+FILLING = (
+    ("one of eight has a byte, in no order", of_a_byte),
+    ("every second has three bytes", of_three_bytes),
+)
 
 
 def hashing_tree(count):

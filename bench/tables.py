@@ -188,28 +188,35 @@ def entries(bench):
     which is read and not hashed, and the hashing of as many bytes as the big entries have, by the same `sha2`. A log of
     `consistency` grew by its last entry. The last column is the time to that over half as many."""
     table = bench.table(entries, "command", "entries", "bytes", "ms", "MB", "read ms", "hash ms", "to both", "to half")
-    half, small = own_entries.small(2**16), own_entries.small(2**17)
 
-    def measured(command, made):
+    def measured(command, name, made):
+        """Size, time and peak over the request with these entries, and the time of reading it alone."""
         make, replies = OF_ENTRIES[command]
         first, second = replies(len(made))
         words, text = [[bench.program, command]], make(made)
         [took], [peak] = timed(bench, words, text, f"{first}\n{second}")
         [read], _ = timed(bench, words, make(made, [b"more"]), f"{first}\nother list")
+        bench.goal(f"{command}, {name}, {len(text)} bytes, MB", peak, MOST_MEGABYTES)
+        bench.goal(f"{command}, {name}, {len(text)} bytes, seconds", took, MOST_SECONDS)
         return len(text), took, peak, read
+
+    def row(command, name, half, whole):
+        first = measured(command, name, half)[1]
+        size, took, peak, read = measured(command, name, whole)
+        table.row(command, name, size, took * 1000, round(peak), read * 1000, None, None, took / first)
+        bench.goal(f"{command}, {name}, time to that at half", took / first, MOST_DOUBLED)
 
     for command in OF_ENTRIES:
         # A request of `log` has its entry besides.
         big = own_entries.big(bench.most, more=int(command == "log"))
         [hashed] = bench.seconds(bench.kept(b""), [bench.reader, "hash", str(sum(map(len, big)))], slow=True)
-        size, took, peak, read = measured(command, big)
+        size, took, peak, read = measured(command, "big entries", big)
         to_both = took / (read + hashed)
         table.row(command, "four of one size", size, took * 1000, round(peak), read * 1000, hashed * 1000, to_both, None)
         bench.goal(f"{command}, big entries, time to reading and hashing", to_both, MOST_TO_READING_AND_HASHING)
-        first = measured(command, half)[1]
-        size, took, peak, read = measured(command, small)
-        table.row(command, "131,072 small ones", size, took * 1000, round(peak), read * 1000, None, None, took / first)
-        bench.goal(f"{command}, small entries, time to that at half", took / first, MOST_DOUBLED)
+        row(command, "131,072 small ones", own_entries.small(2**16), own_entries.small(2**17))
+        for name, make in own_entries.FILLING:
+            row(command, name, make(bench.most // 2), make(bench.most))
 
 
 def demo(bench):
