@@ -5,6 +5,7 @@ pub mod ChainLaws
 pub mod Chains
 pub mod CheckedVerdicts
 pub mod ContentVerdicts
+pub mod EntryCauses
 pub mod EntryKeys
 pub mod EntryLaws
 pub mod EntryPaths
@@ -15,6 +16,7 @@ pub mod Issuers
 pub mod JudgedLaws
 pub mod LinkGroups
 pub mod OfflineBytes
+pub mod OfflineCauses
 pub mod OfflineLaws
 pub mod Parts
 pub mod RootVerdicts

@@ -55,7 +55,7 @@ abbrev behind_json : List Link
 behind_json = root_links ++ ((bundle_links ++ certificate_links) ++ entry_links)
 
 -- the only entry is that of the checked bundle
-one_entry : (b : BundleType) (c : Checked) (e : TransparencyLogEntry) → IsPassed b c → only_entry_of b ≡ Some e
+pub one_entry : (b : BundleType) (c : Checked) (e : TransparencyLogEntry) → IsPassed b c → only_entry_of b ≡ Some e
     → c.entry ≡ e
 one_entry b c e is only =
     some_is c.entry e

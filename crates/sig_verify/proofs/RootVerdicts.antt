@@ -28,7 +28,7 @@ pub some_given : {A : Type 0} (p : TrustPart) (xs ys : List A) → unless_empty 
 some_given p [] ys e = absurd cc
 some_given p (x ∷ xs) ys e = ((λ none. absurd cc), (let same : x ∷ xs ≡ ys = cc in same))
 
-none_given : {A : Type 0} (p : TrustPart) (xs : List A) (error : SigstoreError) → unless_empty p xs ≡ Err error
+pub none_given : {A : Type 0} (p : TrustPart) (xs : List A) (error : SigstoreError) → unless_empty p xs ≡ Err error
     → (xs ≡ []) × (error ≡ TufMetadataError p)
 none_given p [] error e = (refl, (let same : TufMetadataError p ≡ error = cc in sym same))
 none_given p (x ∷ xs) error e = absurd cc

@@ -17,3 +17,5 @@ pub mod RootLinks
 pub mod TrustChain
 pub mod LinkLaws
 pub mod OfflineLaws
+pub mod EntryCauses
+pub mod OfflineCauses

@@ -27,6 +27,7 @@ use std::alloc::Global;
 /// since 1970, and returns the log entry with its proof. The error is that of the first link that fails, in the order
 /// of [`Link`](crate::Link): those of the two texts, of [`Verifier::new`], of [`Verifier::verify_digest_with`] with
 /// `offline`, and of [`verify_log_entry`] under the keys of the root's logs at that time; or `OutOfMemory`.
+/// [`causes_of_errors`](crate::laws::causes_of_errors) says each in the words of the inputs.
 pub fn verify_offline<P: VerificationPolicy, C: SignatureChecker>(
     alloc: Global,
     trusted_root: &[u8],

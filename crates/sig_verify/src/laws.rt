@@ -1,8 +1,10 @@
 //! What the definitions mean: the chain of trust, and what the result of each check says of its links. Each law holds
 //! unless memory runs out, and its calls, where it has any, are laws.
+ghost use Rattle.sig_verify.specs.EntryCauses.{EntryErrorsHaveTheirCause};
 ghost use Rattle.sig_verify.specs.LinkLaws.{BundlesAreJudged, CheckedAreJudged, ContentsAreJudged};
 ghost use Rattle.sig_verify.specs.LinkLaws.{EntriesAreJudged, EntriesAreKept, IssuersAreJudged, TimesAreJudged};
 ghost use Rattle.sig_verify.specs.LinkLaws.{RootsAreJudged, VerdictsAreJudged};
+ghost use Rattle.sig_verify.specs.OfflineCauses.{OfflineErrorsHaveTheirCause};
 ghost use Rattle.sig_verify.specs.OfflineLaws.{HasEntryOfBytes, OutcomesAreJudged};
 ghost use Rattle.sig_verify.specs.TrustChain.{AllLinksAreTheTrustChain};
 
@@ -23,6 +25,15 @@ pub fn trust_chain()
 pub fn entries()
     ensures links { EntriesAreJudged }
     ensures kept { EntriesAreKept }
+{
+    proofs();
+    proof_faults();
+}
+
+/// Each error of `verify_log_entry` comes if and only if it has its cause in the words of the entry: the links and rules
+/// before it hold, and its own rule does not.
+pub fn causes_of_entry_errors()
+    ensures { EntryErrorsHaveTheirCause }
 {
     proofs();
     proof_faults();
@@ -80,6 +91,20 @@ pub fn outcomes()
 {
     certificates();
     passed_bundles();
+    bundles();
+    roots();
+    proofs();
+    proof_faults();
+}
+
+/// Each error of `verify_offline` comes only with its cause: what it says beside its link, the first that does not hold,
+/// is so of the inputs.
+pub fn causes_of_errors()
+    ensures { OfflineErrorsHaveTheirCause }
+{
+    certificates();
+    passed_bundles();
+    causes_of_refusals();
     bundles();
     roots();
     proofs();

@@ -38,6 +38,8 @@ use std::alloc::Global;
 /// - `ConsistencyProofError`: the checkpoint is of another tree;
 /// - `InclusionProofError`: the audit path does not lead from the entry to the root (RFC 6962 section 2.1.1);
 /// - `OutOfMemory`.
+///
+/// [`causes_of_entry_errors`](crate::laws::causes_of_entry_errors) says each in the words of the entry.
 pub fn verify_log_entry<C: SignatureChecker>(
     alloc: Global,
     entry: &TransparencyLogEntry,
