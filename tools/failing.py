@@ -6,6 +6,7 @@ import collections
 import json
 import os
 import pathlib
+import re
 import subprocess
 import tempfile
 
@@ -57,11 +58,16 @@ class Failing:
             return Counts(*map(int, file.read().split()))
 
 
+def in_lines(reply):
+    """A reply as it is written, of which the readers have both lines in one."""
+    return (re.sub("^((?:logged|verified|consistent) [0-9]+ [0-9]+) ", r"\1\n", reply) + "\n").encode()
+
+
 # The cases: the smallest request of each command whose links hold, and one that is refused late in its chain.
 
 def made(title, words, text, found):
     reply, status = found
-    return Case(title, words.split(), text.encode(), (reply.replace(" entry", "\nentry") + "\n").encode(), status)
+    return Case(title, words.split(), text.encode(), in_lines(reply), status)
 
 
 def log_cases():

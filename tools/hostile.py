@@ -27,6 +27,7 @@ sys.dont_write_bytecode = True
 import fixture
 import questions_cases
 import verify_cases
+from failing import in_lines
 from fixture import anchor, certificate, compact, der, name
 
 PROGRAM = pathlib.Path(__file__).resolve().parent.parent / "crates/sigverify/out/sigverify"
@@ -311,7 +312,7 @@ def fault(program, request):
         text = compact(members)
     wanted = questions_cases.verify_second(text)
     reply, status, seconds = ended(program, text.encode())
-    if (reply, status) != (wanted[0].replace(" entry", "\nentry").encode() + b"\n", wanted[1]):
+    if (reply, status) != (in_lines(wanted[0]), wanted[1]):
         return f"{request.title}: gave {reply} and {status}, and not {wanted}"
     return f"{request.title}: took {seconds:.3f} seconds" if seconds > MOST_SECONDS else None
 
