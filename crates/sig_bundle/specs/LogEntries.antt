@@ -1,12 +1,14 @@
--- Lists of log entries: what an entry without members is.
-use Rattle.std.specs.Prelude.{List, [], ◌∷◌, Option, Some, None, pos, unwrap_or}
+-- Lists of log entries: what the entries are of which nothing is held.
+use Rattle.std.specs.Prelude.{ℕ, List, [], ◌∷◌, Option, Some, None, pos}
+use Rattle.sig_bundle.specs.declared.log_entries.Held.{Held}
+use Rattle.sig_bundle.specs.declared.log_entries.Held.TheVariants.{WithoutMembers, EmptyId, Whole}
 use Rattle.sig_bundle.specs.declared.material.TransparencyLogEntry.{TransparencyLogEntry}
 
--- the entry of which every member is absent
-abbrev pub no_members : TransparencyLogEntry
-no_members = record {
+-- the entry of this log id of which every other member is absent
+abbrev pub of_id : Option (List ℕ) → TransparencyLogEntry
+of_id log_id = record {
   log_index = pos 0;
-  log_id = None;
+  log_id = log_id;
   kind_version = None;
   integrated_time = pos 0;
   inclusion_promise = None;
@@ -14,9 +16,19 @@ no_members = record {
   canonicalized_body = [];
 }
 
--- an entry that is not held where it has no members
-abbrev pub whole : Option TransparencyLogEntry → TransparencyLogEntry
-whole held = unwrap_or held no_members
+-- the entry of which every member is absent
+abbrev pub no_members : TransparencyLogEntry
+no_members = of_id None
+
+-- the entry with an empty log id, of which every other member is absent
+abbrev pub empty_id : TransparencyLogEntry
+empty_id = of_id (Some [])
+
+-- the entry of which this is held
+abbrev pub whole : Held → TransparencyLogEntry
+whole WithoutMembers = no_members
+whole EmptyId = empty_id
+whole (Whole entry) = entry
 
 -- the entry of a list of one
 abbrev pub only_entry : List TransparencyLogEntry → Option TransparencyLogEntry

@@ -1,8 +1,9 @@
-//! `LogEntries`: the log entries of a bundle. A bundle of 2^24 bytes can have millions of entries without a member,
-//! each of which takes the room of a pointer here.
-ghost use Rattle.std.specs.Prelude.{◌≡◌, ◌++◌, [], ◌∷◌, IfOk, OnOk, OnErr, IsTrue, length, option_map, slice_get};
+//! `LogEntries`: the log entries of a bundle. A bundle of 2^24 bytes can have millions of entries without a member, or
+//! with an empty log id alone, each of which takes the room of two pointers here.
+ghost use Rattle.std.specs.Prelude.{◌≡◌, ◌++◌, [], ◌∷◌, IfOk, IfSome, OnOk, OnErr, IsTrue, length, option_map};
+ghost use Rattle.std.specs.Prelude.{slice_get};
 ghost use Rattle.std.specs.Option.{option_copied};
-ghost use Rattle.sig_bundle.specs.LogEntries.{no_members, only_entry};
+ghost use Rattle.sig_bundle.specs.LogEntries.{of_id, only_entry, whole};
 
 use crate::material::TransparencyLogEntry;
 use sig_base::{Bytes, OutOfMemory, Register};
@@ -31,11 +32,23 @@ impl BoxedEntry {
     }
 }
 
-/// An entry that takes memory of its own only where it has a member. Contracts see the entry.
+/// What is held of an entry.
+#[derive(Drop)]
+enum Held {
+    /// Nothing: every member is absent.
+    WithoutMembers,
+    /// Nothing: it has a log id without a byte, and every other member is absent.
+    EmptyId,
+    /// All of it.
+    Whole(BoxedEntry),
+}
+
+/// An entry that takes memory of its own only where it has a member that is more than an empty log id. Contracts see the
+/// entry.
 #[derive(Drop)]
 pub(crate) struct SparseEntry {
     alloc: Global,
-    held: Option<BoxedEntry>,
+    held: Held,
 }
 
 impl Model for SparseEntry {
@@ -47,13 +60,54 @@ impl Model for SparseEntry {
     ghost view = { λ s. whole s.held };
 }
 
-/// The entry of which every member is absent. It takes no memory.
-pub(crate) fn without_members(alloc: Global) -> TransparencyLogEntry
-    ensures { result ≡ no_members }
+/// The entries of which nothing is held.
+#[derive(Drop)]
+pub(crate) struct SmallEntries {
+    absent: TransparencyLogEntry,
+    unnamed: TransparencyLogEntry,
+}
+
+impl Model for SmallEntries {
+    ghost use Rattle.std.specs.Prelude.{◌≡◌, ⊤};
+    ghost use Rattle.sig_bundle.specs.LogEntries.{empty_id, no_members};
+
+    ghost Value = { ⊤ };
+
+    ghost view = { λ _. tt };
+
+    ghost invariant = { λ small. (small.absent ≡ no_members) × (small.unnamed ≡ empty_id) };
+}
+
+impl SmallEntries {
+    /// They take no memory.
+    pub(crate) fn new(alloc: Global) -> SmallEntries {
+        SmallEntries {
+            absent: with_id(alloc, None),
+            unnamed: with_id(alloc, Some(Bytes::from(Vec::new(alloc)))),
+        }
+    }
+
+    /// What is held of an entry that is one of them.
+    fn held_of(&self, entry: &TransparencyLogEntry) -> Option<Held>
+        ensures { IfSome result (λ held. whole held ≡ entry.now) }
+    {
+        if is_same(entry, &self.absent) {
+            Some(Held::WithoutMembers)
+        } else if is_same(entry, &self.unnamed) {
+            Some(Held::EmptyId)
+        } else {
+            None
+        }
+    }
+}
+
+/// The entry of this log id of which every other member is absent. It takes no memory.
+fn with_id(alloc: Global, log_id: Option<Bytes>) -> TransparencyLogEntry
+    ensures { result ≡ of_id log_id }
 {
     TransparencyLogEntry {
         log_index: 0,
-        log_id: None,
+        log_id,
         kind_version: None,
         integrated_time: 0,
         inclusion_promise: None,
@@ -62,15 +116,22 @@ pub(crate) fn without_members(alloc: Global) -> TransparencyLogEntry
     }
 }
 
-/// Whether every member of an entry is absent.
+/// Whether an entry is the other.
 #[tactic(auto, using(crate::proofs::Equality::entry_same))]
-fn is_without_members(alloc: Global, entry: &TransparencyLogEntry) -> bool
-    ensures { IsTrue result → entry.now ≡ no_members }
+fn is_same(entry: &TransparencyLogEntry, other: &TransparencyLogEntry) -> bool
+    ensures { IsTrue result → entry.now ≡ other.now }
 {
-    let absent = without_members(alloc);
-    let is_same = *entry == absent;
-    drop(absent);
-    is_same
+    *entry == *other
+}
+
+/// What is held of an entry of which that is nothing; `None` for every other entry.
+fn held_small(alloc: Global, entry: &TransparencyLogEntry) -> Option<Held>
+    ensures { IfSome result (λ held. whole held ≡ entry.now) }
+{
+    let small = SmallEntries::new(alloc);
+    let held = small.held_of(entry);
+    drop(small);
+    held
 }
 
 impl SparseEntry {
@@ -81,27 +142,27 @@ impl SparseEntry {
     ) -> Result<SparseEntry, OutOfMemory>
         ensures { IfOk result (λ sparse. sparse ≡ entry) }
     {
-        if is_without_members(alloc, &entry) {
+        if let Some(held) = held_small(alloc, &entry) {
             drop(entry);
-            return Ok(SparseEntry { alloc, held: None });
+            return Ok(SparseEntry { alloc, held });
         }
         let held = BoxedEntry {
             held: Box::new(alloc, entry)?,
         };
         Ok(SparseEntry {
             alloc,
-            held: Some(held),
+            held: Held::Whole(held),
         })
     }
 
-    /// The entry, if one without members is at hand.
-    pub(crate) fn get<'a>(&'a self, absent: &'a TransparencyLogEntry) -> &'a TransparencyLogEntry
-        requires { absent.now ≡ no_members }
+    /// The entry, if those of which nothing is held are at hand.
+    pub(crate) fn get<'a>(&'a self, small: &'a SmallEntries) -> &'a TransparencyLogEntry
         ensures { result.now ≡ self.now }
     {
         match &self.held {
-            Some(entry) => entry.get(),
-            None => absent,
+            Held::WithoutMembers => &small.absent,
+            Held::EmptyId => &small.unnamed,
+            Held::Whole(entry) => entry.get(),
         }
     }
 }
@@ -116,9 +177,9 @@ impl PartialEq for SparseEntry {
     ghost laws = { partial_equiv_from_equiv entries_equiv };
 
     fn eq(&self, other: &SparseEntry) -> bool {
-        let absent = without_members(self.alloc);
-        let is_same = *self.get(&absent) == *other.get(&absent);
-        drop(absent);
+        let small = SmallEntries::new(self.alloc);
+        let is_same = *self.get(&small) == *other.get(&small);
+        drop(small);
         is_same
     }
 }
@@ -133,20 +194,17 @@ impl Eq for SparseEntry {
 #[derive(Drop)]
 pub struct LogEntries {
     alloc: Global,
-    absent: TransparencyLogEntry,
+    small: SmallEntries,
     items: Register<SparseEntry>,
 }
 
 impl Model for LogEntries {
-    ghost use Rattle.std.specs.Prelude.{◌≡◌, List};
-    ghost use Rattle.sig_bundle.specs.LogEntries.{no_members};
+    ghost use Rattle.std.specs.Prelude.{List};
     ghost use Rattle.sig_bundle.specs.declared.material.TransparencyLogEntry.{TransparencyLogEntry};
 
     ghost Value = { List TransparencyLogEntry };
 
     ghost view = { λ entries. entries.items };
-
-    ghost invariant = { λ entries. entries.absent ≡ no_members };
 }
 
 impl LogEntries {
@@ -156,7 +214,7 @@ impl LogEntries {
     {
         LogEntries {
             alloc,
-            absent: without_members(alloc),
+            small: SmallEntries::new(alloc),
             items,
         }
     }
@@ -189,7 +247,7 @@ impl LogEntries {
         ensures { option_copied result ≡ slice_get self.now index }
     {
         match self.items.get(index) {
-            Some(entry) => Some(entry.get(&self.absent)),
+            Some(entry) => Some(entry.get(&self.small)),
             None => None,
         }
     }
@@ -199,7 +257,7 @@ impl LogEntries {
         ensures { option_map (λ entry. entry.now) result ≡ only_entry self.now }
     {
         match self.items.as_slice() {
-            [entry] => Some(entry.get(&self.absent)),
+            [entry] => Some(entry.get(&self.small)),
             _ => None,
         }
     }

@@ -9,7 +9,7 @@ ghost use Rattle.sig_json.specs.Tree.{tree};
 
 use crate::bundle::{Content, MessageSignature};
 use sig_base::Bytes;
-use sig_dsse::{DsseEnvelope, DsseSignature};
+use sig_dsse::{DsseEnvelope, DsseSignature, DsseSignatures, SparseSignature};
 use sig_json::{ElementReader, Json, MemberError, optional, optional_list, read_bytes, read_text};
 use std::alloc::Global;
 
@@ -60,6 +60,20 @@ impl ElementReader for SignatureReader {
     }
 }
 
+/// Reads signatures of envelopes, and holds little of those without parts.
+enum SparseSignatureReader {}
+
+impl ElementReader for SparseSignatureReader {
+    type Item = SparseSignature;
+
+    ghost meaning = { dsse_signature_of };
+
+    fn read(alloc: Global, json: Json<'_, '_>) -> Result<SparseSignature, MemberError> {
+        let signature = SignatureReader::read(alloc, json)?;
+        Ok(SparseSignature::new(alloc, signature)?)
+    }
+}
+
 /// Reads envelopes.
 enum EnvelopeReader {}
 
@@ -73,7 +87,10 @@ impl ElementReader for EnvelopeReader {
         Ok(DsseEnvelope {
             payload: read_bytes(alloc, json, "payload")?,
             payload_type: read_text(alloc, json, "payloadType")?,
-            signatures: optional_list::<SignatureReader>(alloc, json, "signatures")?,
+            signatures: DsseSignatures::of(
+                alloc,
+                optional_list::<SparseSignatureReader>(alloc, json, "signatures")?,
+            ),
         })
     }
 }

@@ -12,7 +12,7 @@ use crate::bundle::{Content, MessageSignature};
 use crate::object::Object;
 use crate::write_value::ElementWriter;
 use sig_base::{Bytes, OutOfMemory};
-use sig_dsse::{DsseEnvelope, DsseSignature};
+use sig_dsse::{DsseEnvelope, DsseSignature, SparseSignature};
 use sig_json::Document;
 use std::alloc::Global;
 
@@ -71,6 +71,24 @@ impl ElementWriter for SignatureWriter {
     }
 }
 
+/// Writes signatures of envelopes that are held as `SparseSignature`.
+enum SparseSignatureWriter {}
+
+impl ElementWriter for SparseSignatureWriter {
+    type Item = SparseSignature;
+
+    ghost written = { dsse_signature_tree };
+
+    ghost meaning = { dsse_signature_of };
+
+    fn write(alloc: Global, item: &SparseSignature) -> Result<Document, OutOfMemory> {
+        let empty = DsseSignature::without_parts(alloc);
+        let written = SignatureWriter::write(alloc, item.get(&empty));
+        drop(empty);
+        written
+    }
+}
+
 /// Writes envelopes.
 enum EnvelopeWriter {}
 
@@ -86,7 +104,7 @@ impl ElementWriter for EnvelopeWriter {
         let object = Object::new(alloc)
             .with_bytes(alloc, "payload", item.payload.as_slice())?
             .with_text(alloc, "payloadType", item.payload_type.as_str())?
-            .with_list::<SignatureWriter>(alloc, "signatures", item.signatures.as_slice())?;
+            .with_list::<SparseSignatureWriter>(alloc, "signatures", item.signatures.as_slice())?;
         Ok(object.into_document())
     }
 }

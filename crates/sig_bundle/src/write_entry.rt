@@ -10,7 +10,7 @@ ghost use Rattle.sig_bundle.specs.BundleTree.{promise_record_tree, proof_tree};
 ghost use Rattle.sig_bundle.specs.Written.{IsReadAs};
 ghost use Rattle.sig_json.specs.Tree.{document_tree};
 
-use crate::log_entries::{SparseEntry, without_members};
+use crate::log_entries::{SmallEntries, SparseEntry};
 use crate::material::{KindVersion, ProofFields, TransparencyLogEntry};
 use crate::object::Object;
 use crate::write_value::{BytesWriter, ElementWriter};
@@ -149,9 +149,9 @@ impl ElementWriter for SparseEntryWriter {
     ghost meaning = { entry_of };
 
     fn write(alloc: Global, item: &SparseEntry) -> Result<Document, OutOfMemory> {
-        let absent = without_members(alloc);
-        let written = EntryWriter::write(alloc, item.get(&absent));
-        drop(absent);
+        let small = SmallEntries::new(alloc);
+        let written = EntryWriter::write(alloc, item.get(&small));
+        drop(small);
         written
     }
 }

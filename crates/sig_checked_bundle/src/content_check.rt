@@ -46,9 +46,9 @@ pub(crate) struct ContentWithSignature {
 fn only_signature(signatures: &DsseSignatures) -> Result<&DsseSignature, BundleErrorKind>
     ensures { borrowed_now result ≡ signature_among signatures.now }
 {
-    match signatures.as_slice() {
-        [signature] => Ok(signature),
-        other => Err(BundleErrorKind::DsseInvalidSignatureCount(other.len())),
+    match signatures.only() {
+        Some(signature) => Ok(signature),
+        None => Err(BundleErrorKind::DsseInvalidSignatureCount(signatures.len())),
     }
 }
 

@@ -1,5 +1,7 @@
 pub mod Pae
 pub mod EnvelopeText
+pub mod SignatureEqualityProofs
+pub mod Signatures
 pub mod Digest
 pub mod Statement
 pub mod SaidMembers

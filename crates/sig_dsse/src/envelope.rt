@@ -1,6 +1,7 @@
 //! `DsseEnvelope`: a payload with a type, and signatures over both (DSSE protocol).
 
-use sig_base::{Bytes, Register, Text};
+use crate::signatures::DsseSignatures;
+use sig_base::{Bytes, Text};
 
 /// A payload, its type, and the signatures over both.
 #[derive(Drop, PartialEq, Eq)]
@@ -21,6 +22,3 @@ pub struct DsseSignature {
     /// A hint at the key that signed; nobody has to believe it.
     pub keyid: Text,
 }
-
-/// Signatures in order.
-pub type DsseSignatures = Register<DsseSignature>;

@@ -6,8 +6,10 @@ ghost use Rattle.sig_json.specs.Spells.{texts_of};
 ghost use Rattle.sig_dsse.specs.EnvelopeText.{envelope_member, text_member, bytes_member, list_member};
 ghost use Rattle.sig_dsse.specs.EnvelopeText.{envelope_signature_text};
 ghost use Rattle.sig_dsse.specs.EnvelopeText.{envelope_text};
+ghost use Rattle.sig_dsse.specs.Signatures.{no_parts};
 
-use crate::envelope::{DsseEnvelope, DsseSignature, DsseSignatures};
+use crate::envelope::{DsseEnvelope, DsseSignature};
+use crate::signatures::{DsseSignatures, SparseSignature};
 use sig_base::{OutOfMemory, Text};
 use sig_json::quoted;
 use std::alloc::Global;
@@ -28,6 +30,18 @@ pub fn envelope_json(alloc: Global, envelope: &DsseEnvelope) -> Result<Text, Out
     )?;
     push_signatures(alloc, &mut members, &envelope.signatures)?;
     Ok(Text::from(braced(alloc, &members)?))
+}
+
+/// The JSON of a signature, if one without parts is at hand.
+fn sparse_json(
+    alloc: Global,
+    signature: &SparseSignature,
+    empty: &DsseSignature,
+) -> Result<String, OutOfMemory>
+    requires { empty.now ≡ no_parts }
+    ensures { IfOk result (λ text. string_bytes text ≡ envelope_signature_text signature.now) }
+{
+    signature_json(alloc, signature.get(empty))
 }
 
 fn signature_json(alloc: Global, signature: &DsseSignature) -> Result<String, OutOfMemory>
@@ -104,7 +118,7 @@ fn signature_texts(alloc: Global, signatures: &DsseSignatures) -> Result<Vec<Str
 {
     let mut texts = Vec::new(alloc);
     'signatures: for signature in signatures.as_slice() {
-        texts.push(signature_json(alloc, signature)?)?;
+        texts.push(sparse_json(alloc, signature, signatures.empty())?)?;
     }
     Ok(texts)
 }

@@ -21,15 +21,17 @@ pub mod laws;
 mod pae;
 mod payload;
 mod recognized;
+mod signatures;
 mod statement;
 mod statement_reader;
 mod subject_digests;
 
 pub use artifact_digest::{ArtifactDigest, Digests};
-pub use envelope::{DsseEnvelope, DsseSignature, DsseSignatures};
+pub use envelope::{DsseEnvelope, DsseSignature};
 pub use envelope_text::envelope_json;
 pub use pae::compute_pae;
 pub use payload::{PayloadFault, payload_digests};
 pub use recognized::{DigestName, SubjectFault, recognized_digests};
+pub use signatures::{DsseSignatures, SparseSignature};
 pub use statement::{InTotoStatementV1, Subject, Subjects};
 pub use subject_digests::SubjectDigests;

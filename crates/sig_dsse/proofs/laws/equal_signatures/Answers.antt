@@ -1,5 +1,5 @@
 use Rattle.sig_base.proofs.Decisions.{decides_result}
-use Rattle.sig_dsse.proofs.Equality.{signature_eq-tells}
+use Rattle.sig_dsse.specs.SignatureEqualityProofs.{signature_eq-tells}
 use Rattle.sig_dsse.proofs.laws.equal_signatures.Goals as goal
 
 pub returns : goal.returns
