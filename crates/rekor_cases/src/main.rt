@@ -6,6 +6,7 @@
 //! for the checkpoints and roots that it begins with.
 #![tactic(auto)]
 
+mod asked;
 mod checks;
 mod growth;
 mod models;
@@ -25,8 +26,12 @@ impl Cases for RekorCases {
             "tree" => checks::tree(arguments, answer),
             "borrowed_signed" => checks::borrowed_signed(arguments, answer),
             "borrowed_tree" => checks::borrowed_tree(arguments, answer),
+            "asked" => asked::asked(arguments, answer),
+            "borrowed_asked" => asked::borrowed_asked(arguments, answer),
             "proof" => checks::proof(arguments, answer),
             "entry_inclusion" => checks::entry_inclusion(arguments, answer),
+            "hash" => models::hash(arguments, answer),
+            "hashes" => models::hashes(arguments, answer),
             "from_rekor" => models::inclusion_proof(arguments, answer),
             "entry" => models::entry(arguments, answer),
             "log_info" => growth::log_info(arguments, answer),

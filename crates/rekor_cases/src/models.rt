@@ -2,12 +2,42 @@
 
 use crate::parts::text;
 use crate::shown::{Shown, answer_to};
-use sig_base::Result as Made;
+use sig_base::{Hashes, Result as Made, UnexpectedKind};
 use sig_cases::{Answer, Arguments};
 use sig_json::{Document, Json, compact};
-use sig_rekor::{InclusionProof, RekorInclusionProof};
+use sig_rekor::{InclusionProof, RekorInclusionProof, decode_hash, decode_hashes};
 use sig_rekor_models::{Attestation, LogEntry};
 use std::alloc::Global;
+
+/// `hash PLACE TEXT`: what `decode_hash` reads; another length is that of the hash at the place.
+pub(crate) fn hash(arguments: &mut Arguments<'_>, answer: &mut Answer) {
+    let place = arguments.natural() as usize;
+    let text = arguments.text();
+    let read = decode_hash(text.as_str().as_bytes(), UnexpectedKind::HashLength(place));
+    answer_to(answer, read);
+}
+
+/// The digits.
+impl Shown for [u8; 32] {
+    fn add_to(&self, answer: &mut Answer) {
+        answer.hex(self);
+    }
+}
+
+/// `hashes TEXTS`: what `decode_hashes` reads.
+pub(crate) fn hashes(arguments: &mut Arguments<'_>, answer: &mut Answer) {
+    let texts = arguments.entries();
+    answer_to(answer, decode_hashes(arguments.alloc(), &texts));
+}
+
+/// Each hash.
+impl Shown for Hashes {
+    fn add_to(&self, answer: &mut Answer) {
+        for hash in self.as_slice() {
+            answer.hex(hash);
+        }
+    }
+}
 
 /// `from_rekor HASHES INDEX ROOT SIZE CHECKPOINT`: what `InclusionProof::try_from_rekor` reads.
 pub(crate) fn inclusion_proof(arguments: &mut Arguments<'_>, answer: &mut Answer) {
