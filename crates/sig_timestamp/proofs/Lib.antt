@@ -6,5 +6,7 @@ pub mod VectorLaws
 pub mod SctLaws
 pub mod OnlyOne
 pub mod PrecertLaws
+mod KeptLaws
+mod StructLaws
 pub mod EmbeddedLaws
 pub mod CertificateSaid

@@ -6,7 +6,9 @@ pub mod SctList
 pub mod Timestamps
 pub mod Borrowed
 pub mod Precert
+pub mod Kept
 pub mod SctErrors
 pub mod SctBytes
+pub mod SignedStruct
 pub mod Vouched
 pub mod Embedded

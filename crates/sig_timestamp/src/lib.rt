@@ -18,6 +18,7 @@ mod issuer;
 mod key;
 mod keyring;
 mod keyring_error;
+pub mod laws;
 mod opaque;
 mod precert;
 mod sct_error;

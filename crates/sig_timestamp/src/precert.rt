@@ -6,9 +6,10 @@
 //!      extensions  [3] EXPLICIT SEQUENCE OF Extension     without those of 1.3.6.1.4.1.11129.2.4.2 }
 //! ```
 
-ghost use Rattle.std.specs.Prelude.{◌≡◌, [], ◌∷◌, ◌++◌, IfOk, OnOk};
+ghost use Rattle.std.specs.Prelude.{◌≡◌, ℕ, List, [], ◌∷◌, ◌++◌, IfOk, OnOk};
 ghost use Rattle.sig_certificate.specs.Certificate.{IsTbsCertificate};
 ghost use Rattle.sig_certificate.specs.Lookups.{borrowed_extension};
+ghost use Rattle.sig_timestamp.specs.Kept.{IsPrecertificate};
 ghost use Rattle.sig_timestamp.specs.Precert.{precertificate, kept_extensions, kept_of, ders_of, tbs_with};
 ghost use Rattle.sig_timestamp.specs.Precert.{HaveSpelling, IsWithoutScts};
 
@@ -24,6 +25,10 @@ use std::alloc::{AllocError, Global};
 /// SEQUENCE and of the whole are written anew; if no extension is left, the element is `a3 02 30 00`. Fails only if
 /// out of memory.
 pub fn precert_tbs_der(alloc: Global, leaf: &Certificate) -> Result<Bytes, OutOfMemory>
+    // Every extension but the lists of SCTs is kept, in order, each with its bytes, and every part before them.
+    ensures kept { IfOk result (IsPrecertificate leaf.now) }
+    // No other bytes are such a TBSCertificate.
+    ensures only { (tbs : List ℕ) → IsPrecertificate leaf.now tbs → IfOk result (λ t. t ≡ tbs) }
     ensures is { IfOk result (λ t. t ≡ precertificate leaf.now) }
     ensures keeps { IfOk result (IsWithoutScts leaf.now) }
 {

@@ -12,16 +12,18 @@
 //! };
 //! ```
 
-ghost use Rattle.std.specs.Prelude.{◌≡◌, ◌∷◌, ◌++◌, true, false, Ok, Err, IfOk, OnOk};
+ghost use Rattle.std.specs.Prelude.{◌≡◌, ℕ, List, ◌∷◌, ◌++◌, true, false, Ok, Err, IfOk, OnOk};
 ghost use Rattle.sig_base.specs.Answers.{Answers, ComesWhere};
 ghost use Rattle.sig_timestamp.specs.Numbers.{v1, certificate_timestamp, precert_entry};
 ghost use Rattle.sig_timestamp.specs.Vectors.{uint16_bytes, vector, long_vector, IsShort, IsLong};
 ghost use Rattle.sig_timestamp.specs.SctList.{eight_bytes};
 ghost use Rattle.sig_timestamp.specs.SctBytes.{judged, signed_bytes};
+ghost use Rattle.sig_timestamp.specs.SignedStruct.{IsSignedStruct};
 ghost use Rattle.sig_timestamp.specs.Vouched.{HasBytes, IsSignedByLog, IsOfUnknownLog};
 
 use crate::keyring::Keyring;
 use crate::keyring_error::KeyringError;
+use crate::laws::signed_structs;
 use crate::sct_error::SCTError;
 use crate::sct_list::SCT_V1;
 use sig_base::{Bytes, OutOfMemory, SignatureChecker};
@@ -54,7 +56,8 @@ pub struct DigitallySigned {
 }
 
 /// Whether the keyring vouches for the SCT: whether the key of its log's id accepts its signature over what it signs
-/// (RFC 6962 section 3.2). The first of these errors that applies, or `OutOfMemory`:
+/// (RFC 6962 section 3.2), which `laws::signed_structs` and `laws::precertificates` say field by field. The first of
+/// these errors that applies, or `OutOfMemory`:
 ///
 /// - `Serialization` if and only if the TBSCertificate is longer than 2^24 - 1 bytes or the extensions are longer than
 ///   2^16 - 1;
@@ -100,7 +103,7 @@ fn check<C: SignatureChecker>(
     if sct.extensions.as_slice().len() > CT_EXTENSIONS_MAX {
         return Err(SCTError::Serialization);
     }
-    let message = signed_bytes(alloc, sct)?;
+    let message = spell(alloc, sct)?;
     keyring.verify(&sct.log_id, sct.signature.as_slice(), &message, checker)?;
     Ok(())
 }
@@ -108,6 +111,20 @@ fn check<C: SignatureChecker>(
 /// The bytes that the SCT's signature is over (RFC 6962 section 3.2). They are spelled only of a TBSCertificate of at
 /// most 2^24 - 1 bytes and extensions of at most 2^16 - 1. Fails only if out of memory.
 pub fn signed_bytes(alloc: Global, sct: &DigitallySigned) -> Result<Vec<u8>, OutOfMemory>
+    requires tbs { IsLong sct.now.tbs_certificate }
+    requires extensions { IsShort sct.now.extensions }
+    // They are the struct of these fields.
+    ensures fields { IfOk result (λ v. IsSignedStruct sct.now v.items) }
+    // No other bytes are.
+    ensures only { (bytes : List ℕ) → IsSignedStruct sct.now bytes → IfOk result (λ v. v.items ≡ bytes) }
+    // The same in one equation.
+    ensures exact { IfOk result (λ v. v.items ≡ signed_bytes sct.now) }
+{
+    signed_structs(sct);
+    spell(alloc, sct)
+}
+
+fn spell(alloc: Global, sct: &DigitallySigned) -> Result<Vec<u8>, OutOfMemory>
     requires tbs { IsLong sct.now.tbs_certificate }
     requires extensions { IsShort sct.now.extensions }
     ensures { IfOk result (λ v. v.items ≡ signed_bytes sct.now) }
