@@ -264,8 +264,17 @@ def main():
     for t, tag in [("310000", 0x30), ("3100", 0x30), ("3000", 0x30), ("0203010001", 0x02), ("02030100", 0x02), ("", 0x02), (LOG_KEY, 0x30), (LOG_KEY, 0x31),
                    ("3080", 0x30), ("1f00", 0x1f)]:
         row("read_all", f"{hx(h(t))} {tag:02x}", read_all(h(t), tag))
+    note("the same for each cause: a tag that goes on; a length that is indefinite, of five octets, or in more octets than it needs; and bytes that are missing")
+    for t in ["1f", "3f00", "ff80", "3080", "30800000", "3085", "30850000000001", "30ff00", "308100", "30817f" + "07" * 127, "308200", "308200ff", "30830000ff", "3084000fffff",
+              "30", "3001", "3081", "308180", "308180" + "07" * 127, "308201", "30820100", "30820100" + "07" * 255, "3083", "308301", "30830100", "3084", "308401", "30840100",
+              "3084010000", "3084ffffffff"]:
+        for more in ["", "00"]:
+            row("read_all", f"{t}{more} 30", read_all(h(t + more), 0x30))
     note("children BYTES: each element whole, and the error at which they end")
     for t in ["02010505001f0200", "", "0500", "05000500", "0201", "020105" * 5, "1f02000500", "05003080", "0500308100", LOG_KEY, LOG_KEY[4:]]:
+        row("children", hx(h(t)), children(h(t)))
+    note("the same of 300 elements, and of 299 before a fault")
+    for t in ["0500" * 300, "0500" * 299, "0500" * 299 + "05", "0500" * 299 + "1f00", "0500" * 299 + "0580"]:
         row("children", hx(h(t)), children(h(t)))
     note("write_element TAG CONTENT: the first six bytes, and how many there are, at each size from which on a length has an octet more")
     for tag in [0x04, 0x30, 0xa3, 0xde]:
