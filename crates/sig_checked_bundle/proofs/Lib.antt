@@ -12,3 +12,5 @@ mod Told
 pub mod VersionLaws
 pub mod DsseBodies
 pub mod PayloadDigests
+pub mod LoggedEnvelopes
+pub mod BundleClauses

@@ -1,11 +1,14 @@
 //! `CheckedBundle`: a bundle that passed its own checks.
 
-ghost use Rattle.std.specs.Prelude.{◌≡◌, ◌↔◌, Some, Ok, IfOk, IfSome, IsSome};
-ghost use Rattle.sig_base.specs.Answers.{Answers};
+ghost use Rattle.std.specs.Prelude.{◌≡◌, ◌≢◌, ◌↔◌, Some, Ok, IfOk, IfSome, IsSome};
+ghost use Rattle.sig_base.specs.Answers.{Answers, ComesWhere};
 ghost use Rattle.sig_bundle.specs.AnswersOnly.{AnswersOnly};
 ghost use Rattle.sig_checked_bundle.specs.Borrowed.{entry_under_profile};
 ghost use Rattle.sig_checked_bundle.specs.Checked.{Checked, checked, IsChecked, IsCheckedWith};
 ghost use Rattle.sig_checked_bundle.specs.LogBody.{IsLogBody, NeedsNoFetch};
+ghost use Rattle.sig_checked_bundle.specs.Passed.{IsPassed};
+ghost use Rattle.sig_checked_bundle.specs.Refusals.{IsCause};
+ghost use Rattle.sig_checked_bundle.specs.declared.bundle_error.BundleErrorKind.{BundleErrorKind as error_type};
 
 use crate::bundle_error::BundleErrorKind;
 use crate::content_check::{CheckedContent, checked_content};
@@ -92,6 +95,16 @@ fn check_behind_certificate(
     }
 }
 
+/// All checks.
+fn check_bundle(alloc: Global, input: &Bundle) -> Result<CheckedBundle, BundleErrorKind>
+    ensures { AnswersOnly BundleErrorKind.OutOfMemory (IsChecked input.now) result }
+{
+    match &input.verification_material {
+        Some(material) => check(alloc, input, material),
+        None => Err(BundleErrorKind::VerificationMaterialMissing),
+    }
+}
+
 impl CheckedBundle {
     /// Checks what a bundle alone can show, and keeps what the checks behind it need. Fails with the first of these
     /// that has its cause:
@@ -112,13 +125,14 @@ impl CheckedBundle {
     /// 12. `BundleProfile`: `Unknown` for a media type that names no version; under 0.1 `InclusionPromiseMissing`;
     ///     under 0.2 and 0.3 `InclusionProofMissing`, then `CheckpointMissing`.
     pub fn try_from_bundle(alloc: Global, input: &Bundle) -> Result<CheckedBundle, BundleErrorKind>
+        ensures passed { (checked : Checked) → ComesWhere BundleErrorKind.OutOfMemory result (Ok checked)
+            (IsPassed input.now checked) }
+        ensures refused { (kind : error_type) → kind ≢ BundleErrorKind.OutOfMemory
+            → ComesWhere BundleErrorKind.OutOfMemory result (Err kind) (IsCause kind input.now) }
         // What is returned is the result of the checks, of which there is one, unless memory ran out.
-        ensures { AnswersOnly BundleErrorKind.OutOfMemory (IsChecked input.now) result }
+        ensures answer { AnswersOnly BundleErrorKind.OutOfMemory (IsChecked input.now) result }
     {
-        match &input.verification_material {
-            Some(material) => check(alloc, input, material),
-            None => Err(BundleErrorKind::VerificationMaterialMissing),
-        }
+        check_bundle(alloc, input)
     }
 
     /// The signing certificate.

@@ -2,6 +2,7 @@
 ghost use Rattle.std.specs.Prelude.{◌↔◌, Ok};
 ghost use Rattle.sig_bundle.specs.declared.bundle.Bundle.{Bundle};
 ghost use Rattle.sig_checked_bundle.specs.Checked.{Checked, IsChecked};
+ghost use Rattle.sig_checked_bundle.specs.LoggedEnvelope.{EnvelopesAreLogged};
 ghost use Rattle.sig_checked_bundle.specs.OfBytes.{HasCertificateOfBytes, IsFirstOfBytes};
 ghost use Rattle.sig_checked_bundle.specs.Passed.{IsPassed};
 ghost use Rattle.sig_checked_bundle.specs.Refusals.{RefusalsHaveTheirCause};
@@ -20,6 +21,13 @@ pub fn passed_bundles()
 /// before it hold, and this one does not. It has no code.
 pub fn causes_of_refusals()
     ensures { RefusalsHaveTheirCause }
+{}
+
+/// The body of a log's entry is about an envelope if and only if it has these members: the SHA-256 of the envelope's
+/// text and of the payload, each under its name, and as the first signature the envelope's, beside the text of the
+/// certificate that verifies it. It has no code.
+pub fn log_bodies()
+    ensures { EnvelopesAreLogged }
 {}
 
 /// The DER of a bundle's first certificate is bytes. Its call does nothing.

@@ -1,7 +1,8 @@
-use Rattle.sig_checked_bundle.proofs.CheckedLaws.{with_material}
+use Rattle.sig_checked_bundle.proofs.BundleClauses.{bundle-passed, bundle-refused}
 use Rattle.sig_checked_bundle.proofs.checked_bundle.CheckedBundle.try_from_bundle.Goals as goal
 
-pub returns-in-Some : goal.returns-in-Some
-returns-in-Some c =
-    with_material c.args.input.now c.args.input.now.verification_material c.in-Some.material c.check.result
-    c.in-Some.is c.check.ensures
+pub returns-clause-passed : goal.returns-clause-passed
+returns-clause-passed c = bundle-passed c.args.input.now c.check_bundle.result c.check_bundle.ensures
+
+pub returns-clause-refused : goal.returns-clause-refused
+returns-clause-refused c = bundle-refused c.args.input.now c.check_bundle.result c.check_bundle.ensures

@@ -1,0 +1,41 @@
+-- *Logged envelope*: what the body of a log's entry says of a signed envelope, member by member (Rekor's entry of kind
+-- `dsse`, version 0.0.1). Other members are ignored, and all signatures but the first.
+use Rattle.std.specs.Prelude.{◌≡◌, ◌↔◌, ℕ, List, codes, Some, Ok}
+use Rattle.sig_base.specs.Sha256.{sha256}
+use Rattle.sig_dsse.specs.SaidMembers.{HasBytes, HasHash, HasText}
+use Rattle.sig_json.specs.Data.{Data, Items, array, item}
+use Rattle.sig_json.specs.Document.{document_of}
+use Rattle.sig_json.specs.Find.{get}
+use Rattle.sig_json.specs.Record.{record_in}
+use Rattle.sig_checked_bundle.specs.DsseBody.{body_about, dsse_body_of}
+
+-- under the name stands a hash by the algorithm, and it is this one
+pub record HasDigest (name : List ℕ) (d : Data) (algorithm hash : List ℕ) : Type 0 where
+  pub part : Data
+  pub held : get name d ≡ Some part
+  pub by : HasText (codes "algorithm") part algorithm
+  pub value : HasHash (codes "value") part hash
+
+-- the body is about an envelope of this text, with this payload and this signature, which the certificate of this PEM
+-- verifies
+pub record IsLoggedEnvelope (envelope payload signature pem body : List ℕ) : Type 0 where
+  pub tree : Data
+  pub document : document_of body ≡ Ok tree
+  pub kind : HasText (codes "kind") tree (codes "dsse")
+  pub version : HasText (codes "apiVersion") tree (codes "0.0.1")
+  pub spec : Data
+  pub said : get (codes "spec") tree ≡ Some spec
+  pub envelope_hash : HasDigest (codes "envelopeHash") spec (codes "sha256") (sha256 envelope)
+  pub payload_hash : HasDigest (codes "payloadHash") spec (codes "sha256") (sha256 payload)
+  pub first : Data
+  pub others : Items
+  pub signatures : get (codes "signatures") spec ≡ Some (array (item first others))
+  pub signed : HasBytes (codes "signature") first signature
+  pub verifier : HasBytes (codes "verifier") first pem
+
+-- a body is read as the one about an envelope if and only if it has these members
+abbrev pub EnvelopesAreLogged : Type 0
+EnvelopesAreLogged =
+    (envelope payload signature pem body : List ℕ)
+    → (record_in dsse_body_of body ≡ Ok (body_about envelope payload signature pem)) ↔
+    IsLoggedEnvelope envelope payload signature pem body
