@@ -32,7 +32,7 @@ use Rattle.sig_questions.specs.Rows.{certificate_row, point_row}
 -- ---- an anchor that may have issued it
 
 -- rows that are there only if it may
-if_may : (c x : Cert) (rows : List AcceptedRow) (row : AcceptedRow) (P : Type 0) → (Contains rows row ↔ P)
+pub if_may : (c x : Cert) (rows : List AcceptedRow) (row : AcceptedRow) (P : Type 0) → (Contains rows row ↔ P)
     → Contains (cond (may_be_issuer c x) rows []) row ↔ (MayBeIssuer c x × P)
 if_may c x rows row P has = by (may_be_issuer c x) refl
   where

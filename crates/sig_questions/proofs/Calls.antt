@@ -35,6 +35,7 @@ use Rattle.sig_questions.specs.Asked.{IsAskedBy}
 use Rattle.sig_questions.specs.Front.{IsFrontTold, unread}
 use Rattle.sig_questions.specs.Listed.{AreListed, AreListedOf, AreListedText, GivesTrust, IsAnswered}
 use Rattle.sig_questions.specs.Listed.{ListedTextsAreAnswered, Listing, ReadIfOk, trust_in}
+use Rattle.sig_questions.specs.Order.{AreInOrder, IsAskedAt}
 use Rattle.sig_questions.specs.Questions.{AreQuestions, HoldsUnasked, IsDecided, QuestionsSuffice, Suffices}
 use Rattle.sig_questions.specs.Questions.{question_links}
 use Rattle.sig_questions.specs.declared.listing.NoQuestions.{NoQuestions}
@@ -83,6 +84,7 @@ checked_listed law root now time d b most parts c result same gives (inr checked
 nothing_told : (i : Inputs) (most : ℕ) (result : Listing) → result ≡ Err OutOfMemory → IsAnswered i most result
 nothing_told i most result memory = record {
   asked = λ rows same. absurd (let wrong : ◌≡◌ {A = Listing} (Ok rows) (Err OutOfMemory) = sym same ∙ memory in cc);
+  ordered = λ rows same. absurd (let wrong : ◌≡◌ {A = Listing} (Ok rows) (Err OutOfMemory) = sym same ∙ memory in cc);
   decided = subst (λ (r : Listing). IsDecided i most r) (sym memory) tt;
 }
 
@@ -116,6 +118,9 @@ module _ (i : Inputs) (most : ℕ) (result : Listing) (told : IsAnswered i most 
   pub told_order : IfOk result (AreQuestions i)
   told_order = order_of i most result told.decided
 
+  pub told_places : IfOk result (AreInOrder (IsAskedAt i))
+  told_places = if_ok result (AreInOrder (IsAskedAt i)) told.ordered
+
 -- what is listed of a root and of a bundle is listed of the texts that they are
 pub texts_listed : (root_text : List ℕ) (root : TrustedRoot) (now : ℤ) (d : ArtifactDigest) (text : List ℕ) (b : Bundle)
     (most : ℕ) (result : Listing) → trusted_root_in root_text ≡ Ok root → bundle_in text ≡ Ok b
@@ -135,6 +140,7 @@ at_time root now time d bundle most result same told =
 pub none_told : (i : Inputs) (most : ℕ) (e : NoQuestions) → IsDecided i most (Err e) → IsAnswered i most (Err e)
 none_told i most e decided = record {
   asked = λ rows same. absurd (let wrong : ◌≡◌ {A = Listing} (Err e) (Ok rows) = same in cc);
+  ordered = λ rows same. absurd (let wrong : ◌≡◌ {A = Listing} (Err e) (Ok rows) = same in cc);
   decided = decided;
 }
 

@@ -119,7 +119,7 @@ module _ (keys : LogKeys) (e : TransparencyLogEntry) (bytes : IsOfBytes keys e)
       (sym (wide-promise e wide))
       ((λ has. absurd (empty_has row has)), (λ of. absurd (wide of.0)))
 
-  has_promise : (scheme : VerifyScheme) (spki : List ℕ)
+  pub has_promise : (scheme : VerifyScheme) (spki : List ℕ)
       → Contains (promise_questions scheme spki e) row ↔ IsPromiseUnder scheme spki
   has_promise scheme spki = by e.inclusion_promise refl
     where

@@ -12,3 +12,5 @@ pub mod Writing
 pub mod Fronts
 pub mod Named
 pub mod Calls
+pub mod Orderings
+pub mod OrderRows

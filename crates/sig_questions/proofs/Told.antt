@@ -30,12 +30,14 @@ use Rattle.sig_questions.proofs.EntryRows.{has_content, has_entry}
 use Rattle.sig_questions.proofs.Issuers.{some_issuer}
 use Rattle.sig_verify.proofs.Parts.{AnchoredParts, Parts, checked_from, checked_to, log_keys_of, of_parts, one_list}
 use Rattle.sig_verify.proofs.Parts.{parts_from, parts_to, root_from, trust_with}
+use Rattle.sig_questions.proofs.OrderRows.{rows_in_order}
 use Rattle.sig_questions.proofs.RowLaws.{empty_has, has_either, has_one}
 use Rattle.sig_questions.specs.Asked.{IsAskedBy, every_signature}
 use Rattle.sig_questions.specs.Listed.{GivesTrust, AreListed, IsAnswered, ListedTextsAreAnswered, Listing}
 use Rattle.sig_questions.specs.Listed.{ReadIfOk, issuer_questions, trust_in}
 use Rattle.sig_questions.specs.Lists.{certificate_questions, content_questions, entry_questions, questions_behind}
 use Rattle.sig_questions.specs.Lists.{questions_of, sct_questions}
+use Rattle.sig_questions.specs.Order.{AreInOrder, IsAskedAt}
 use Rattle.sig_questions.specs.Questions.{AreQuestions, HoldsUnasked, QuestionsAreOneList, accepting, front_links}
 use Rattle.sig_questions.specs.Questions.{question_links}
 use Rattle.sig_questions.specs.Rows.{certificate_row}
@@ -136,19 +138,29 @@ module _ (one : OneCertificate) (i : Inputs) (most : ℕ)
               (λ has. at.0 (subst (λ (rs : List AcceptedRow). Contains rs row) equal has)),
               (λ asks. subst (λ (rs : List AcceptedRow). Contains rs row) (sym equal) (at.1 asks)),
             ));
+        ordered = λ found same.
+            (let equal : found ≡ its_rows = sym (ok_is rows found same) ∙ is in
+            subst (λ (rs : List AcceptedRow). AreInOrder (IsAskedAt i) rs) (sym equal)
+            (rows_in_order one i its both.0 both.1));
         decided = (all_held some, are_questions rows is, few);
       }
   told (Err TooLong) (some, long) read = record {
     asked = λ found wrong. absurd cc;
+    ordered = λ found wrong. absurd cc;
     decided = (all_held some, (its_rows, are_questions its_rows refl, long));
   }
   told (Err (Link link)) (is, none) read = record {
     asked = λ found wrong. absurd cc;
+    ordered = λ found wrong. absurd cc;
     decided = subst (λ (l : LinkType). FailsFirst (HoldsUnasked i) question_links l) (sym is)
         (fails_behind (HoldsUnasked i) front_links (Issuer ∷ []) Issuer front
         (inl (none_issues one i its none, refl)));
   }
-  told (Err OutOfMemory) listed read = record { asked = λ found wrong. absurd cc; decided = tt }
+  told (Err OutOfMemory) listed read = record {
+    asked = λ found wrong. absurd cc;
+    ordered = λ found wrong. absurd cc;
+    decided = tt;
+  }
 
 -- the points of the ring are those of the keys
 same_trust : (root : TrustedRoot) (i : Inputs) (parts : TrustParts) → GivesTrust root i.now parts

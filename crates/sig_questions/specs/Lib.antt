@@ -6,3 +6,4 @@ pub mod Questions
 pub mod Matters
 pub mod Listed
 pub mod Front
+pub mod Order

@@ -22,6 +22,7 @@ use Rattle.sig_verify.specs.declared.link.Link.TheVariants.{Issuer}
 use Rattle.sig_questions.specs.Lists.{certificate_questions, questions_of}
 use Rattle.sig_questions.specs.Questions.{HoldsUnasked, IsDecided, front_links}
 use Rattle.sig_questions.specs.Asked.{IsAskedBy}
+use Rattle.sig_questions.specs.Order.{AreInOrder, IsAskedAt}
 use Rattle.sig_questions.specs.Rows.{bytes_of_rows}
 use Rattle.sig_questions.specs.declared.listing.NoQuestions.{NoQuestions}
 use Rattle.sig_questions.specs.declared.listing.NoQuestions.TheVariants.{Link, TooLong, OutOfMemory}
@@ -78,6 +79,7 @@ AreListedText root_text now d text most result =
 
 pub record IsAnswered (i : Inputs) (most : ℕ) (result : Listing) : Type 0 where
   pub asked : (rows : List AcceptedRow) → result ≡ Ok rows → (row : AcceptedRow) → Contains rows row ↔ IsAskedBy i row
+  pub ordered : (rows : List AcceptedRow) → result ≡ Ok rows → AreInOrder (IsAskedAt i) rows
   pub decided : IsDecided i most result
 
 abbrev pub ListedTextsAreAnswered : Type 0

@@ -14,6 +14,7 @@ ghost use Rattle.sig_verify.specs.LinkLaws.{IsReadCertificate};
 ghost use Rattle.sig_questions.specs.Asked.{IsAskedBy};
 ghost use Rattle.sig_questions.specs.Listed.{GivesTrust, AreListed, AreListedOf, IsAnswered, trust_in};
 ghost use Rattle.sig_questions.specs.Lists.{content_questions, entry_questions, questions_behind};
+ghost use Rattle.sig_questions.specs.Order.{AreInOrder, IsAskedAt};
 ghost use Rattle.sig_questions.specs.Questions.{AreQuestions, IsDecided, Suffices};
 ghost use Rattle.sig_questions.specs.Written.{AddsRows};
 
@@ -118,6 +119,10 @@ pub fn questions(
     // The rows are those of each group of links, one behind the other.
     ensures order { IfOk result (AreQuestions
         (record { root = trusted_root.now; now = now; digest = digest.now; bundle = bundle.now })) }
+    // Of two positions the smaller is of an earlier link, or of the same link and an earlier trust anchor, or signature of
+    // the note.
+    ensures places { IfOk result (AreInOrder (IsAskedAt
+        (record { root = trusted_root.now; now = now; digest = digest.now; bundle = bundle.now }))) }
     // A link is refused if and only if it is the first of those up to `issuer` that fails whatever the checker and the
     // policy say; where none is, the rows are returned if and only if they have at most so many bytes.
     ensures decided { IsDecided

@@ -1,0 +1,78 @@
+-- *Order of the questions*: by the links that ask for them, and for one link by its trust anchors, or by the signatures
+-- of the note.
+use Rattle.std.specs.Prelude.{◌≡◌, ◌⊎◌, ◌↔◌, ℕ, ◌<◌, List, ◌∷◌, ◌++◌, map, Contains, Some, slice_get}
+use Rattle.sig_base.specs.declared.checker.AcceptedRow.{AcceptedRow}
+use Rattle.sig_bundle.specs.declared.material.TransparencyLogEntry.{TransparencyLogEntry}
+use Rattle.sig_certificate.specs.Certificate.{Cert}
+use Rattle.sig_rekor.specs.NoteText.{note_text}
+use Rattle.sig_rekor.specs.declared.checkpoint.CheckpointSignature.{CheckpointSignature}
+use Rattle.sig_timestamp.specs.Precert.{precertificate}
+use Rattle.sig_timestamp.specs.SctBytes.{signed_bytes, signed_of}
+use Rattle.sig_timestamp.specs.Vectors.{IsLong, IsShort}
+use Rattle.sig_verify.specs.CertificateLinks.{OfSct, Trust}
+use Rattle.sig_verify.specs.EntryLinks.{LogKeys, OfCheckpoint, OfLogKey}
+use Rattle.sig_verify.specs.Links.{Inputs, OfChecked, OfLogged, chain_links}
+use Rattle.sig_verify.specs.declared.link.Link.{Link}
+use Rattle.sig_verify.specs.declared.link.Link.TheVariants.{Issuer, Sct, Signature, Promise, NoteKey}
+use Rattle.sig_questions.specs.Asked.{IsContentRow, IsPromiseRow, MayBeIssuer}
+use Rattle.sig_questions.specs.Rows.{certificate_row, message_row, point_row}
+
+-- ---- who asks for a signature
+
+-- the trust anchor at this place may have issued the certificate, and of it this holds
+abbrev pub OfAnchorAt : ℕ → Trust → Cert → (Cert → Type 0) → Type 0
+OfAnchorAt place trust c P = (x : Cert) × (slice_get trust.anchors place ≡ Some x) × (MayBeIssuer c x × P x)
+
+-- the certificate under that trust anchor
+abbrev pub IsCertificateRowAt : ℕ → Trust → Cert → AcceptedRow → Type 0
+IsCertificateRowAt place trust c row =
+    OfAnchorAt place trust c (λ x. row ≡ certificate_row x.spki c.algorithm c.tbs c.signature)
+
+-- its one SCT, over the certificate as issued by that trust anchor
+abbrev pub IsPointRowAt : ℕ → Trust → Cert → AcceptedRow → Type 0
+IsPointRowAt place trust c row = OfAnchorAt place trust c (λ x. OfSct c (λ s. IsLong (precertificate c)
+    × IsShort s.extensions × (point : List ℕ) × (trust.points s.log_id ≡ Some point)
+    × (row ≡ point_row point (signed_bytes (signed_of c x.spki s)) s.signature)))
+
+-- the signature of the checkpoint at this place, over its note
+abbrev pub IsNoteRowAt : ℕ → LogKeys → TransparencyLogEntry → AcceptedRow → Type 0
+IsNoteRowAt place keys e row = OfLogKey keys e (λ key. OfCheckpoint e (λ p n. (s : CheckpointSignature)
+    × (slice_get n.signatures place ≡ Some s) × (row ≡ message_row key.0 key.1 (note_text n.note) s.raw)))
+
+-- the link asks for it: `issuer` and `sct` for the trust anchor at this place, `note-key` for the signature of the note
+-- at this place, and `signature` and `promise` for one signature, whose place is 0
+abbrev pub IsAskedAt : Inputs → Link → ℕ → AcceptedRow → Type 0
+IsAskedAt i link place row =
+    ((link ≡ Issuer) × OfChecked i (λ trust c. IsCertificateRowAt place trust c.certificate row))
+    ⊎ (((link ≡ Sct) × OfChecked i (λ trust c. IsPointRowAt place trust c.certificate row))
+    ⊎ (((link ≡ Signature) × (place ≡ 0) × OfChecked i (λ trust c. IsContentRow i.digest c row))
+    ⊎ (((link ≡ Promise) × (place ≡ 0) × OfLogged i (λ keys e. IsPromiseRow keys e row))
+    ⊎ ((link ≡ NoteKey) × OfLogged i (λ keys e. IsNoteRowAt place keys e row)))))
+
+-- ---- the order
+
+-- a row, and which link asks for it, at which place
+pub record Asking : Type 0 where
+  pub link : Link
+  pub place : ℕ
+  pub row : AcceptedRow
+
+-- one link comes before the other in the chain of trust
+pub record IsEarlier (one other : Link) : Type 0 where
+  pub before : List Link
+  pub between : List Link
+  pub after : List Link
+  pub split : chain_links ≡ before ++ one ∷ (between ++ other ∷ after)
+
+-- it is of an earlier link, or of the same link and an earlier place
+abbrev pub IsBefore : Asking → Asking → Type 0
+IsBefore one other = IsEarlier one.link other.link ⊎ ((one.link ≡ other.link) × (one.place < other.place))
+
+-- The rows with who asks for each: of two positions in the list the smaller is of an earlier link, or of the same link
+-- and an earlier place; and all that is asked for is there, and nothing else. So there is one such list.
+pub record AreInOrder (Asks : Link → ℕ → AcceptedRow → Type 0) (rows : List AcceptedRow) : Type 0 where
+  pub askings : List Asking
+  pub listed : map (λ asking. asking.row) askings ≡ rows
+  pub ordered : (m n : ℕ) (one other : Asking) → m < n → slice_get askings m ≡ Some one
+      → slice_get askings n ≡ Some other → IsBefore one other
+  pub asked : (asking : Asking) → Contains askings asking ↔ Asks asking.link asking.place asking.row
