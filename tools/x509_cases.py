@@ -308,6 +308,10 @@ def extension_line(content, index):
     return answer(*fields[4 * index + 1:4 * index + 5]) if index < int(fields[0]) else "none"
 
 
+def extension_at(cause, content, index):
+    case(cause, "extension_at %d %s" % (index, spelled(content)), extension_line(content, index))
+
+
 def real_certificates():
     for name, (content, _, _) in FIELDS.items():
         group("the %s of a signature of December 2023, made by Sigstore" % name)
@@ -326,6 +330,11 @@ def real_certificates():
             ("an object identifier one number shorter", "1.3.6.1.4.1.11129.2.4", "ok absent")]:
         case(cause, "extension %s %s" % (fixture.oid(oid).hex(), spelled(LEAF)), expected)
     case("one twice", "extension 551d0f " + spelled(fixture.certificate(leaf_with("", "second-usage=03020780"))), "ok several")
+    group("its extensions by their indices")
+    for index in [*range(9), 2 ** 64 - 1]:
+        extension_at("extension %d of 8" % index, LEAF, index)
+    for index in [0, 1, 2 ** 64 - 1]:
+        extension_at("extension %d of none" % index, fixture.certificate({**leaf_with(), "extensions": b""}), index)
     group("their profiles, and when the leaf is trusted")
     for call, content, expected in [
             ("is_leaf", LEAF, "ok"), ("is_ca", LEAF, "Extension(Missing(BasicConstraints))"),
@@ -645,6 +654,8 @@ def hundreds():
     case("all of them", "certificate " + spelled(content), read_certificate(content))
     count = int(read_certificate(content).split(" ")[11])
     assert count == 305
+    for index in [0, 150, 299, count - 1, count]:
+        extension_at("extension %d of %d" % (index, count), content, index)
     case("the last by its identifier", "extension 2a0263 " + spelled(content), extension_line(content, count - 1))
     without = fixture.tbs({**parts, "extensions": fixture.without_scts(parts["extensions"])})
     case("of the precertificate", "precert_tbs_digest " + spelled(content), answer(len(without), sha256(without).hex()))

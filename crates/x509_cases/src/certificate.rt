@@ -87,6 +87,21 @@ pub(crate) fn found(arguments: &mut Arguments<'_>, answer: &mut Answer) {
     }
 }
 
+/// `extension_at INDEX DER`: the extension at this index.
+pub(crate) fn found_at(arguments: &mut Arguments<'_>, answer: &mut Answer) {
+    let index = arguments.natural() as usize;
+    let Some(read) = certificate(arguments, answer) else {
+        return;
+    };
+    match read.extension_at(index) {
+        None => answer.value(&"none"),
+        Some(found) => {
+            answer.ok();
+            add_extension(answer, found);
+        }
+    }
+}
+
 /// `der_to_pem BYTES`: their PEM text.
 pub(crate) fn pem(arguments: &mut Arguments<'_>, answer: &mut Answer) {
     match der_to_pem(arguments.alloc(), &arguments.hex()) {

@@ -23,6 +23,7 @@ impl Cases for X509Cases {
         match call {
             "certificate" => certificate::read(arguments, answer),
             "extension" => certificate::found(arguments, answer),
+            "extension_at" => certificate::found_at(arguments, answer),
             "flipped" => certificate::flipped(arguments, answer),
             "cut" => certificate::cut(arguments, answer),
             "der_to_pem" => certificate::pem(arguments, answer),
