@@ -379,6 +379,22 @@ def of_log(first, index, entries, handed):
             "accepted": accepted, "entries": [in_base64(entry) for entry in handed]}
 
 
+def largest():
+    """Requests for the first entry of logs about 2^63 and of 2^64 - 1 entries, by a made-up path; with a hash less, and of another size or index."""
+    first = json.loads(FIRST)
+    entry = base64.b64decode(first["entry"])
+    for size in (2 ** 63 - 1, 2 ** 63, 2 ** 63 + 1, 2 ** 64 - 1):
+        root, path = hashlib.sha256(b"\0" + entry).digest(), [bytes([number]) * 32 for number in range((size - 1).bit_length())]
+        for sibling in path:
+            root = hashlib.sha256(b"\1" + root + sibling).digest()
+        note = f"log.example\n{size}\n{in_base64(root)}\n"
+        made = {**first, "treeSize": size, "rootHash": root.hex(), "hashes": [each.hex() for each in path],
+                "checkpoint": note + "\n\u2014 log.example AAAAAXNpZw==\n", "accepted": [{**first["accepted"][0], "message": in_base64(note.encode())}]}
+        for changes in ({}, {"hashes": made["hashes"][1:]}, {"hashes": [*made["hashes"], root.hex()]}, {"logIndex": 2 ** 63 - 1}, {"treeSize": size - 1},
+                        {"treeSize": str(size)}, {"treeSize": 2 ** 64}, {"logIndex": 2 ** 63}):
+            yield {**made, **changes}
+
+
 def main():
     with open(TOP / "examples/log.requests", "w", encoding="utf-8") as made:
         def say(words, texts):
@@ -392,6 +408,7 @@ def main():
         say("members that are ignored: floats in them, members of one name, what is no JSON, nesting", [*map(changed, IGNORED.strip().splitlines()), *NESTED])
         say("the log's own entries: the list, another list, what is no list of base64", map(changed, ENTRIES.strip().splitlines()))
         say("logs of several sizes and their entries", (json.dumps(found, separators=(",", ":")) for found in logs()))
+        say("the largest logs", (json.dumps(found, separators=(",", ":")) for found in largest()))
         say("texts that are no requests", TEXTS)
         say("many signatures and rows, in the worst orders; equal rows; rows that differ in one part", (json.dumps(found, separators=(",", ":")) for found in tables()))
     entries = [b"L%d" % (123456 + number) for number in range(5)]
