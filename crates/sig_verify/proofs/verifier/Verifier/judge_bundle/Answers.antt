@@ -9,4 +9,4 @@ returns-in-Ok g c =
     c.args.self.now
     (policy_of g.P.VerificationPolicy c.args.policy.now)
     c.args.input_digest.now c.args.offline c.args.bundle.now c.in-Ok.checked c.verify_checked.result
-    c.in-Ok.ensures.0 c.verify_checked.ensures
+    c.in-Ok.ensures.answer.0 c.verify_checked.ensures
