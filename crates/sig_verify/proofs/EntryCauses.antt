@@ -5,6 +5,7 @@ use Rattle.std.specs.Prelude.{is_some, nat_lt, bytes_eq, IsSome, ℤ, pos, negsu
 use Rattle.hex.specs.Hex.{encode_lower}
 use Rattle.sig_base.proofs.ByteLists.{byte_at}
 use Rattle.sig_base.proofs.ResultSteps.{bind_err, err_is}
+use Rattle.sig_base.specs.Answers.{OrMemory}
 use Rattle.sig_base.specs.ByText.{text_lookup}
 use Rattle.sig_base.specs.ResultSteps.{◌>>=◌}
 use Rattle.sig_base.specs.declared.error.SigstoreError.{SigstoreError}
@@ -42,52 +43,47 @@ use Rattle.sig_verify.specs.Judged.{Judged}
 use Rattle.sig_verify.specs.LogEntry.{entry_inclusion_answer, fields_answer, from_canonical, from_fields, from_kind}
 use Rattle.sig_verify.specs.LogEntry.{from_proof, if_promised, included, log_entry_answer, log_key_answer}
 use Rattle.sig_verify.specs.LogEntry.{promise_answer, promised, read_found, vouched}
-use Rattle.sig_verify.specs.OfflineErrors.{of_fields, of_proof}
+use Rattle.sig_verify.specs.OfflineErrors.{IsProofRefusal, of_fields, of_proof}
 use Rattle.sig_verify.specs.declared.link.Link.TheVariants.{Promise}
 use Rattle.sig_verify.specs.declared.offline_error.OfflineError.{OfflineError}
 use Rattle.sig_verify.specs.declared.offline_error.OfflineError.TheVariants as error
 
 -- ---- what a proof is refused with, whose checkpoint was read
 
-abbrev IsOfThree : SigstoreError → Type 0
-IsOfThree why = (why ≡ sigstore.CheckpointSignatureVerificationError)
-    ⊎ (((m : MerkleProofError) × (why ≡ sigstore.ConsistencyProofError m))
-    ⊎ ((m : MerkleProofError) × (why ≡ sigstore.InclusionProofError m)))
-
 signed_three : (b : Bool) (why : SigstoreError)
     → ◌≡◌ {A = Result (Unit {0}) SigstoreError} (cond b (Ok tt) (Err sigstore.CheckpointSignatureVerificationError))
-    (Err why) → IsOfThree why
+    (Err why) → IsProofRefusal why
 signed_three true why is = absurd cc
 signed_three false why is = inl (sym (err_is sigstore.CheckpointSignatureVerificationError why is))
 
 tree_three : (a b c : Bool) (x y z : MerkleProofError) (why : SigstoreError)
     → ◌≡◌ {A = Result (Unit {0}) SigstoreError} (cond a (Err (sigstore.ConsistencyProofError x))
     (cond b (Err (sigstore.ConsistencyProofError y)) (cond c (Ok tt) (Err (sigstore.ConsistencyProofError z)))))
-    (Err why) → IsOfThree why
+    (Err why) → IsProofRefusal why
 tree_three true b c x y z why is = inr (inl (x, sym (err_is (sigstore.ConsistencyProofError x) why is)))
 tree_three false true c x y z why is = inr (inl (y, sym (err_is (sigstore.ConsistencyProofError y) why is)))
 tree_three false false true x y z why is = absurd cc
 tree_three false false false x y z why is = inr (inl (z, sym (err_is (sigstore.ConsistencyProofError z) why is)))
 
-path_three : (r : Result (Unit {0}) MerkleProofError) (why : SigstoreError) → as_inclusion r ≡ Err why → IsOfThree why
+path_three : (r : Result (Unit {0}) MerkleProofError) (why : SigstoreError) → as_inclusion r ≡ Err why → IsProofRefusal why
 path_three (Ok done) why is = absurd cc
 path_three (Err m) why is = inr (inr (m, sym (err_is (sigstore.InclusionProofError m) why is)))
 
 at_three : (z : ℤ) (body : List ℕ) (proof : InclusionProof) (why : SigstoreError)
-    → inclusion_at z body proof ≡ Err why → IsOfThree why
+    → inclusion_at z body proof ≡ Err why → IsProofRefusal why
 at_three (pos index) body proof why is =
     path_three (inclusion_answer index (leaf_of body) proof.tree_size proof.hashes proof.root_hash) why is
 at_three (negsuc n) body proof why is = inr (inr (_, sym (err_is _ why is)))
 
 first_three : (r next : Result (Unit {0}) SigstoreError) (why : SigstoreError)
-    → ((x : SigstoreError) → r ≡ Err x → IsOfThree x) → ((x : SigstoreError) → next ≡ Err x → IsOfThree x)
-    → and_then r next ≡ Err why → IsOfThree why
+    → ((x : SigstoreError) → r ≡ Err x → IsProofRefusal x) → ((x : SigstoreError) → next ≡ Err x → IsProofRefusal x)
+    → and_then r next ≡ Err why → IsProofRefusal why
 first_three (Ok done) next why one other is = other why is
 first_three (Err x) next why one other is =
-    subst IsOfThree (err_is x why is) (one x refl)
+    subst IsProofRefusal (err_is x why is) (one x refl)
 
 refused_three : (accepts : List ℕ → List ℕ → Bool) (body : List ℕ) (proof : InclusionProof) (n : SignedCheckpoint)
-    → proof.checkpoint ≡ Some n → (why : SigstoreError) → proof_answer accepts body proof ≡ Err why → IsOfThree why
+    → proof.checkpoint ≡ Some n → (why : SigstoreError) → proof_answer accepts body proof ≡ Err why → IsProofRefusal why
 unfolding proof_answer
 refused_three accepts body proof n carried why is =
     first_three (and_then (signed_answer accepts n) (tree_answer n proof.root_hash proof.tree_size))
@@ -99,6 +95,19 @@ refused_three accepts body proof n carried why is =
     (λ x told. at_three proof.log_index body proof x told)
     (subst (λ (o : Option SignedCheckpoint). and_then (checkpoint_answer accepts proof o)
     (inclusion_at proof.log_index body proof) ≡ Err why) carried is)
+
+some_note : (o found : Option SignedCheckpoint) → o ≡ found → IsSome o → (n : SignedCheckpoint) × (o ≡ Some n)
+some_note o None is some = absurd (let wrong : false ≡ true = sym (ap is_some is) ∙ some in cc)
+some_note o (Some n) is some = (n, is)
+
+pub refusal_of_proof : (accepts : List ℕ → List ℕ → Bool) (body : List ℕ) (proof : InclusionProof)
+    → IsSome proof.checkpoint → (why : SigstoreError)
+    → OrMemory sigstore.OutOfMemory why (proof_answer accepts body proof ≡ Err why)
+    → OrMemory sigstore.OutOfMemory why (IsProofRefusal why)
+refusal_of_proof accepts body proof some why (inl memory) = inl memory
+refusal_of_proof accepts body proof some why (inr told) =
+    let n = some_note proof.checkpoint proof.checkpoint refl some in
+    inr (refused_three accepts body proof n.0 n.1 why told)
 
 -- ---- steps
 
@@ -229,7 +238,7 @@ module _ (laws : ProofLaws) (spki : AcceptsSpki) (keys : LogKeys) (e : Transpare
 
       module _ (p : ProofFields) (is : e.inclusion_proof ≡ Some p) (proof : InclusionProof) (of : IsProof p proof) where
         three_caused : (x : SigstoreError) → proof_answer (spki key.0 key.1) e.canonicalized_body proof ≡ Err x
-            → IsOfThree x → Is (of_proof x)
+            → IsProofRefusal x → Is (of_proof x)
         three_caused x said (inl same) =
             subst (λ (y : SigstoreError). Is (of_proof y)) (sym same)
             (before, (key, has, (p, is, (proof, of, said ∙ ap Err same))))

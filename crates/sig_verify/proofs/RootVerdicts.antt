@@ -16,7 +16,7 @@ use Rattle.sig_x509.proofs.AnchorLaws.{first_refused}
 use Rattle.sig_x509.specs.Issuance.{AreAnchors, IsFirstNoAnchor}
 use Rattle.sig_verify.specs.Judged.{IsOfFirst}
 use Rattle.sig_verify.specs.LinkLaws.{RootsAreJudged}
-use Rattle.sig_verify.specs.OfflineErrors.{link_of, of_root}
+use Rattle.sig_verify.specs.OfflineErrors.{IsRootRefusal, link_of, of_root}
 use Rattle.sig_verify.specs.OfflineVerdict.{authorities_of, ct_keys_of}
 use Rattle.sig_verify.specs.RootLinks.{HoldsOfRoot, IsSomeAnchor, authorities, ct_keys, root_links}
 use Rattle.sig_verify.specs.Verifier.{IsRefusedRoot, IsVerifierOf, Trusted}
@@ -123,6 +123,16 @@ memory_or_other root now error (inr (inr (inl refused))) =
 memory_or_other root now error (inr (inr (inr refused))) =
     let none = none_given part.Ctfe (ct_keys root now) error refused.1 in
     inr (apart error (TufMetadataError part.Ctfe) none.1 (λ e. absurd cc))
+
+-- what a root is refused with
+pub refusal_of_root : (root : TrustedRoot) (now : ℤ) (error : SigstoreError)
+    → IsRefusedRoot (authorities_of root now) (ct_keys_of root now) error → IsRootRefusal error
+refusal_of_root root now error (inl memory) = inl memory
+refusal_of_root root now error (inr (inl refused)) =
+    inr (inl (part.Fulcio, (none_given part.Fulcio (authorities root now) error refused).1))
+refusal_of_root root now error (inr (inr (inl refused))) = inr (inr (refused.0, refused.1))
+refusal_of_root root now error (inr (inr (inr refused))) =
+    inr (inl (part.Ctfe, (none_given part.Ctfe (ct_keys root now) error refused.1).1))
 
 pub roots_are_judged : RootsAreJudged
 roots_are_judged = record { made = all_hold; refused = told }

@@ -1,8 +1,10 @@
 -- The link of each error of the chain of trust, and the errors of the parts as this one.
-use Rattle.std.specs.Prelude.{Option, Some, None}
+use Rattle.std.specs.Prelude.{◌≡◌, ◌⊎◌, ℕ, Option, Some, None}
 use Rattle.sig_base.specs.declared.error.SigstoreError.{SigstoreError}
 use Rattle.sig_base.specs.declared.error.SigstoreError.TheVariants as sigstore
+use Rattle.sig_base.specs.declared.fault.TrustPart.{TrustPart}
 use Rattle.sig_base.specs.declared.fault.TrustPart.TheVariants as part
+use Rattle.sig_base.specs.declared.merkle_error.MerkleProofError.{MerkleProofError}
 use Rattle.sig_checked_bundle.specs.declared.bundle_error.BundleErrorKind.{BundleErrorKind}
 use Rattle.sig_checked_bundle.specs.declared.bundle_error.BundleErrorKind.TheVariants as bundle
 use Rattle.sig_bundle.specs.declared.proof_error.ProofFieldsError.{ProofFieldsError}
@@ -131,3 +133,17 @@ abbrev pub of_root : SigstoreError → OfflineError
 of_root (sigstore.TufMetadataError lacking) = offline.TrustRoot lacking
 of_root (sigstore.CertificatePoolError error) = offline_of_pool error
 of_root other = offline.OutOfMemory
+
+-- ---- which errors there are
+
+-- what a trusted root is refused with, or that memory ran out
+abbrev pub IsRootRefusal : SigstoreError → Type 0
+IsRootRefusal error = (error ≡ sigstore.OutOfMemory)
+    ⊎ (((lacking : TrustPart) × (error ≡ sigstore.TufMetadataError lacking))
+    ⊎ ((place : ℕ) × (error ≡ sigstore.CertificatePoolError (pool.Anchor place))))
+
+-- what a proof is refused with, whose checkpoint was read
+abbrev pub IsProofRefusal : SigstoreError → Type 0
+IsProofRefusal error = (error ≡ sigstore.CheckpointSignatureVerificationError)
+    ⊎ (((why : MerkleProofError) × (error ≡ sigstore.ConsistencyProofError why))
+    ⊎ ((why : MerkleProofError) × (error ≡ sigstore.InclusionProofError why)))

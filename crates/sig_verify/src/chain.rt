@@ -1,5 +1,5 @@
 //! Whether a signed bundle is trusted, without a network.
-ghost use Rattle.std.specs.Prelude.{◌≡◌, IfOk};
+ghost use Rattle.std.specs.Prelude.{◌≡◌, IfOk, IsSome};
 ghost use Rattle.sig_base.specs.Answers.{UnlessMemory};
 ghost use Rattle.sig_verify.specs.Judged.{Judged};
 ghost use Rattle.sig_verify.specs.LinkLaws.{IsKept};
@@ -13,9 +13,9 @@ ghost use Rattle.sig_verify.specs.Verdict.{checker_of, policy_of};
 use crate::laws::{is_entry_bytes, outcomes};
 use crate::log_entry::verify_log_entry;
 use crate::offline::Offline;
-use crate::offline_error::{OfflineError, Part, json_error, root_error};
+use crate::offline_error::{OfflineError, Part, json_error, root_error, verification_error};
 use crate::verifier::Verifier;
-use sig_base::SignatureChecker;
+use sig_base::{SignatureChecker, SigstoreError};
 use sig_bundle::{ArtifactDigest, Bundle, TransparencyLogEntry, read_bundle};
 use sig_checked_bundle::laws::is_certificate_bytes;
 use sig_root::laws::are_log_key_bytes;
@@ -154,11 +154,11 @@ fn verify_under<P: VerificationPolicy, C: SignatureChecker>(
     // No `?`: what the result says is a fact of each arm.
     match verifier.verify_digest_with(alloc, digest, bundle, policy, true, checker) {
         Ok(()) => verify_entry(alloc, root, now, bundle, checker),
-        Err(error) => Err(OfflineError::from(error)),
+        Err(error) => Err(verification_error(error)),
     }
 }
 
-/// The links behind `time`.
+/// The links behind `time`. A bundle that passed its own checks has one entry.
 fn verify_entry<C: SignatureChecker>(
     alloc: Global,
     root: &SigstoreTrustRoot,
@@ -166,16 +166,18 @@ fn verify_entry<C: SignatureChecker>(
     bundle: &Bundle,
     checker: &C,
 ) -> Result<Offline, OfflineError>
+    requires { IsSome (only_entry_of bundle.now) }
     ensures { UnlessMemory OfflineError.OutOfMemory result (IsVouchedIn
         (C.spki_accepts checker.now) root.now now bundle.now result) }
 {
-    // Both give up only if memory runs out: a bundle that passed its own checks has one entry.
     let Some(entry) = only_entry_of(bundle) else {
-        return Err(OfflineError::OutOfMemory);
+        unreachable!()
     };
     match root.rekor_keys(alloc, now) {
         Ok(keys) => verify_log_entry(alloc, entry, &keys, checker),
-        Err(_) => Err(OfflineError::OutOfMemory),
+        Err(SigstoreError::OutOfMemory) => Err(OfflineError::OutOfMemory),
+        // A root has a map of keys at each time, which may be empty.
+        Err(_) => unreachable!(),
     }
 }
 

@@ -102,6 +102,7 @@ fn included<C: SignatureChecker>(
     key: &CosignVerificationKey,
     checker: &C,
 ) -> Result<Offline, OfflineError>
+    requires { IsSome proof.checkpoint }
     ensures { Answers OfflineError.OutOfMemory (λ offline. offline) result
         (included (key_accepts (C.spki_accepts checker.now) key.now) entry.now proof) }
 {
@@ -177,7 +178,8 @@ fn check_promise<C: SignatureChecker>(
 
 /// The links `proof` and `checkpoint`: the entry's proof.
 fn entry_proof(alloc: Global, fields: &Option<ProofFields>) -> Result<InclusionProof, OfflineError>
-    ensures { Answers OfflineError.OutOfMemory (λ proof. proof) result (fields_answer fields.now) }
+    ensures answer { Answers OfflineError.OutOfMemory (λ proof. proof) result (fields_answer fields.now) }
+    ensures carried { IfOk result (λ proof. IsSome proof.checkpoint) }
 {
     match fields {
         Some(fields) => Ok(fields.to_proof(alloc)?),
@@ -194,6 +196,7 @@ fn check_proof<C: SignatureChecker>(
     key: &CosignVerificationKey,
     checker: &C,
 ) -> Result<(), OfflineError>
+    requires { IsSome proof.now.checkpoint }
     ensures { Answers OfflineError.OutOfMemory (λ done. done) result
         (entry_inclusion_answer (key_accepts (C.spki_accepts checker.now) key.now) entry.now.canonicalized_body
         proof.now) }

@@ -1,5 +1,7 @@
 //! `OfflineError`: the first link of the chain of trust that does not hold.
-ghost use Rattle.std.specs.Prelude.{◌≡◌};
+ghost use Rattle.std.specs.Prelude.{◌≡◌, IsSome};
+ghost use Rattle.sig_base.specs.Answers.{OrMemory};
+ghost use Rattle.sig_verify.specs.OfflineErrors.{IsProofRefusal, IsRootRefusal};
 ghost use Rattle.sig_verify.specs.OfflineErrors.{bundle_link, certificate_link, link_of, of_canonical, of_fields};
 ghost use Rattle.sig_verify.specs.OfflineErrors.{of_json};
 ghost use Rattle.sig_verify.specs.OfflineErrors.{of_proof, of_root, of_verification, signature_link};
@@ -208,22 +210,6 @@ impl From<ProofFieldsError> for OfflineError {
     }
 }
 
-impl From<VerificationError> for OfflineError {
-    ghost from_gives = { λ error e. e ≡ of_verification error };
-
-    fn from(error: VerificationError) -> OfflineError {
-        match error {
-            // A digest that is handed in is not read.
-            VerificationError::Input(_) => OfflineError::OutOfMemory,
-            VerificationError::Bundle(kind) => OfflineError::Bundle(kind),
-            VerificationError::Certificate(kind) => OfflineError::Certificate(kind),
-            VerificationError::Signature(kind) => OfflineError::Signature(kind),
-            VerificationError::Policy(error) => OfflineError::Policy(error),
-            VerificationError::OutOfMemory => OfflineError::OutOfMemory,
-        }
-    }
-}
-
 /// The error of a text that was not read.
 pub(crate) fn json_error(part: Part, error: JsonError) -> OfflineError
     ensures { result ≡ of_json part error }
@@ -234,8 +220,24 @@ pub(crate) fn json_error(part: Part, error: JsonError) -> OfflineError
     }
 }
 
+/// The error of a bundle that a verifier refused for a digest that was handed in, so that no artifact was read.
+pub(crate) fn verification_error(error: VerificationError) -> OfflineError
+    requires { OrMemory VerificationError.OutOfMemory error (IsSome (link_of (of_verification error))) }
+    ensures { result ≡ of_verification error }
+{
+    match error {
+        VerificationError::Input(_) => unreachable!(),
+        VerificationError::Bundle(kind) => OfflineError::Bundle(kind),
+        VerificationError::Certificate(kind) => OfflineError::Certificate(kind),
+        VerificationError::Signature(kind) => OfflineError::Signature(kind),
+        VerificationError::Policy(error) => OfflineError::Policy(error),
+        VerificationError::OutOfMemory => OfflineError::OutOfMemory,
+    }
+}
+
 /// The error of a trusted root of which no verifier could be made; it has no others than these.
 pub(crate) fn root_error(error: SigstoreError) -> OfflineError
+    requires { IsRootRefusal error }
     ensures { result ≡ of_root error }
 {
     match error {
@@ -243,22 +245,24 @@ pub(crate) fn root_error(error: SigstoreError) -> OfflineError
         SigstoreError::CertificatePoolError(PoolError::Anchor(place)) => OfflineError::Anchor(
             place,
         ),
-        _ => OfflineError::OutOfMemory,
+        SigstoreError::OutOfMemory => OfflineError::OutOfMemory,
+        _ => unreachable!(),
     }
 }
 
 /// The error of a proof that was not accepted; one whose checkpoint was read has no others than these.
 pub(crate) fn proof_error(error: SigstoreError) -> OfflineError
+    requires { OrMemory SigstoreError.OutOfMemory error (IsProofRefusal error) }
     ensures { result ≡ of_proof error }
 {
     match error {
-        SigstoreError::UnexpectedError(_) => OfflineError::CheckpointMissing,
         SigstoreError::CheckpointSignatureVerificationError => {
             OfflineError::CheckpointSignatureVerificationError
         }
         SigstoreError::ConsistencyProofError(error) => OfflineError::ConsistencyProofError(error),
         SigstoreError::InclusionProofError(error) => OfflineError::InclusionProofError(error),
-        _ => OfflineError::OutOfMemory,
+        SigstoreError::OutOfMemory => OfflineError::OutOfMemory,
+        _ => unreachable!(),
     }
 }
 
