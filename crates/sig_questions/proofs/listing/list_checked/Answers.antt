@@ -6,4 +6,4 @@ pub returns-in-Ok : goal.returns-in-Ok
 returns-in-Ok c =
     checked_listed c.passed_bundles.ensures c.args.root.now c.args.now _ c.args.digest.now c.args.bundle.now
     c.args.most c.in_ok-trust.trust c.in-Ok.checked c.list.result (to_z-of_z c.ranges.now) c.in_ok-trust.ensures
-    c.in-Ok.ensures.0 c.list.ensures.listed c.list.ensures.read c.list.ensures.bytes
+    c.in-Ok.ensures.answer.0 c.list.ensures.listed c.list.ensures.read c.list.ensures.bytes
