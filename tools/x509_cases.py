@@ -645,6 +645,55 @@ def pools_of_one_name():
             case("%s, signed under %s" % (order, letter), pool_line(1702446655, parts, anchors, genuine_leaf(parts, under)), expected)
 
 
+def keys_asked(leaf, anchors, under=None):
+    """The keys that a checker is asked about, which accepts this one alone: each of the issuer's name once, in order, up to that one."""
+    issuer = fields_of(leaf)["issuer"]
+    found = [fields_of(anchor) for anchor in anchors]
+    keys = list(dict.fromkeys(fields["spki"] for fields in found if fields["subject"] == issuer))
+    last = None if under is None else written(under)
+    return keys[:keys.index(last) + 1] if last in keys else keys
+
+
+def asked_case(cause, parts, anchors, under=None, time=1702446655, refusal=None):
+    """What both calls return, and which keys they ask about: none where a refusal is stated."""
+    leaf = fixture.certificate(parts)
+    result = refusal or signer_among(leaf, anchors, b"" if under is None else under)
+    keys = [] if refusal else keys_asked(leaf, anchors, under)
+    rows = genuine_leaf(parts, under) if under is not None else []
+    for call in ["asked", "der_asked"]:
+        case(cause, " ".join([call, str(time), spelled(leaf), listed(anchors), *rows]), " ".join([result, "asked", *keys]))
+
+
+def questions():
+    """Which keys a pool asks its checker about."""
+    parts = leaf_with()
+    group("asked, der_asked: which keys a checker is asked about, of trust anchors of one name: each letter a key, in upper case of another name")
+    for order in [*ORDERS, "", "A", "AB", "z"]:
+        anchors = list(anchors_in(order))
+        asked_case("%s, no genuine signature" % (order or "no trust anchor"), parts, anchors)
+        for letter in sorted({*order.lower()}):
+            asked_case("%s, signed under %s" % (order, letter), parts, anchors, key(ord(letter)))
+    asked_case("one trust anchor twice", parts, [ROOT, ROOT])
+    group("asked, der_asked: 300 trust anchors of one name and three keys, and of three names and one key")
+    numbered = [{"serial": der(2, b"\x01", bytes([number // 100, number % 100]))} for number in range(300)]
+    three_keys = [fixture.certificate(fixture.anchor(**each, key=key(number % 3 + 10))) for number, each in enumerate(numbered)]
+    names = [fixture.name("fixture root"), fixture.name("another root"), fixture.name("fixture roots")]
+    three_names = [fixture.certificate(fixture.anchor(**each, subject=names[number % 3])) for number, each in enumerate(numbered)]
+    asked_case("three keys, no genuine signature", parts, three_keys)
+    asked_case("three names, no genuine signature", parts, three_names)
+    asked_case("two other names, signed under the key", parts, three_names[1:3], key(1))
+    assert len(keys_asked(fixture.certificate(parts), three_keys)) == 3
+    group("asked, der_asked: nothing is asked about a leaf that has not the profile, signs no code, or is not valid at the time")
+    for cause, part, changes in [("version 2", "version=a003020101", ""), ("two algorithms", "inner=3003060155", ""),
+                                 ("key usage twice", "", "second-usage=03020780"), ("an unknown critical extension", "", "critical="),
+                                 ("name constraints", "", "name-constraints=3000"), ("an authority", "", "constraints=30030101ff")]:
+        asked_case(cause, leaf_with(part, changes), [ROOT, ROOT], key(1), refusal="Malformed")
+    for cause, changes in [("no purposes", "purposes=-"), ("another purpose", "purposes=300a06082b06010505070301"), ("malformed purposes", "purposes=")]:
+        asked_case(cause, leaf_with("", changes), [ROOT, ROOT], key(1), refusal="VerificationFailed")
+    for cause, time in [("a second before", 1702446654), ("a second after", 1702447256)]:
+        asked_case(cause, parts, [ROOT, ROOT], key(1), time, "VerificationFailed")
+
+
 def hundreds():
     """Lists of 300 elements: extensions, purposes, names, SCTs, policies of one kind, certificates of a chain, keys of a ring."""
     group("300 extensions")
@@ -753,6 +802,7 @@ def main():
     bits()
     pools()
     pools_of_one_name()
+    questions()
     keyrings()
     hundreds()
     policies()

@@ -6,6 +6,7 @@
 //! and OpenSSL names the places of the parts of the two certificates of Sigstore that the tables begin with.
 #![tactic(auto)]
 
+mod asked;
 mod boxed;
 mod certificate;
 mod policy;
@@ -30,6 +31,8 @@ impl Cases for X509Cases {
             "from_certificates" => pool::made(arguments, answer),
             "anchor_spki" => pool::spki(arguments, answer),
             "verify_der_cert" => pool::issuer(arguments, answer),
+            "asked" => asked::asked(arguments, answer),
+            "der_asked" => asked::der_asked(arguments, answer),
             _ => of_scts(call, arguments, answer),
         }
     }

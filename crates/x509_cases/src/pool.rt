@@ -14,7 +14,7 @@ pub(crate) fn made(arguments: &mut Arguments<'_>, answer: &mut Answer) {
 }
 
 /// The pool of the next argument. Refuses the line if there is none.
-fn pool(arguments: &mut Arguments<'_>, answer: &mut Answer) -> Option<CertificatePool> {
+pub(crate) fn pool(arguments: &mut Arguments<'_>, answer: &mut Answer) -> Option<CertificatePool> {
     match CertificatePool::from_certificates(arguments.alloc(), &arguments.entries()) {
         Ok(pool) => Some(pool),
         Err(PoolError::OutOfMemory) => {
@@ -74,7 +74,7 @@ fn issuer_in(
 }
 
 /// Adds an index, or why there is none.
-fn place(answer: &mut Answer, found: Result<usize, PoolError>) {
+pub(crate) fn place(answer: &mut Answer, found: Result<usize, PoolError>) {
     match found {
         Ok(place) => {
             answer.ok();
