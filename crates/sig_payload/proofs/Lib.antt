@@ -1,0 +1,4 @@
+mod Equality
+mod Extras
+mod PayloadTexts
+mod Promises

@@ -1,0 +1,5 @@
+pub mod Signing
+pub mod Annotations
+pub mod BundleRecord
+pub mod Bundles
+pub mod Promised
