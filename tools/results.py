@@ -59,6 +59,8 @@ LOGGED = (["LogIdMissing", "RekorPublicKeyNotFoundError(_)"] + KEY + ["PromiseMi
           "HashLength(_)", "TreeSize", "CheckpointMissing"] + within("ParseCheckpointError", FAULTS) + ["CheckpointSignatureVerificationError"]
           + MATCH + PATH)
 
+PROMISED = within("UnexpectedError", ["BundleUnreadable", "PromiseInteger"]) + ["RekorPublicKeyNotFoundError(_)"] + ACCEPTED
+
 ALL = []  # of the type
 
 # The public calls: the program and its word for the call, the crate and the name of the error type, and the variants that the call has, all where
@@ -150,6 +152,9 @@ CALLS = [
     ("from_trusted_root_json_unchecked", "verify rekor_keys", "sig_base SigstoreError", ["SerdeJsonError"]),
     ("SigstoreTrustRoot::from_client_trust_config", "client client_config", "sig_base SigstoreError", ["SigstorePKIFileMalformedError"]),
     ("IdentityToken::try_from_text", "client token", "sig_base SigstoreError", ["IdentityTokenError"]),
+    ("read_signing", "cosign signing", "sig_base SigstoreError", ["UnexpectedError(LayerUnreadable)"]),
+    ("Bundle::new_verified", "cosign promise", "sig_base SigstoreError", PROMISED),
+    ("SignedArtifactBundle::new_verified", "cosign artifact", "sig_base SigstoreError", PROMISED),
     ("try_from_log_entry", "client try_from_log_entry", "sig_signing ConversionError", ALL),
     ("Verifier::new", "verify verify_digest_with", "sig_base SigstoreError", ["CertificatePoolError(Anchor(_))"]),
     ("Verifier::verify_digest_with", "verify verify_digest_with", "sig_verify VerificationError", ARTIFACT),
@@ -167,8 +172,7 @@ UNSHOWN = {
     "sig_base SigstoreError": {
         "CertificateWithIncompleteSubjectAlternativeName": FOR_COSIGN, "CertificateParsingError": FOR_COSIGN, "X509Error": FOR_COSIGN,
         "SigstoreMediaTypeNotFoundError": FOR_COSIGN, "SigstoreLayerDigestMismatchError": FOR_COSIGN, "SigstoreAnnotationNotFoundError": FOR_COSIGN,
-        "SigstoreNoVerifiedLayer": FOR_COSIGN, "VerificationConstraintError": CALLERS, "ApplyConstraintError": CALLERS,
-        "RekorPublicKeyNotFoundError": FOR_COSIGN},
+        "SigstoreNoVerifiedLayer": FOR_COSIGN, "VerificationConstraintError": CALLERS, "ApplyConstraintError": CALLERS},
     "sig_der DerWriteError": {"TooLong": "bytes of 2^32 and more"},
     "sig_verify InputFault": {"TooLong": "an artifact of more than 2^40 bytes"},
     "sig_questions NoQuestions": {"Link": "shown by the name of the link alone"},
