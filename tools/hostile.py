@@ -7,8 +7,9 @@
 
 Changed are each byte of the bundle and of the trusted root, in four ways; each member of both, which is left out, doubled, made null, and made each
 other kind of value; each base64 text, which is one character short; each byte, each length and each element of the certificates and of the SCT, with
-all lengths about it made right again or left as they are. What is changed within a bundle or a root is tried twice: with the signatures that the
-fixture accepts, and with each signature accepted that the changed request asks for.
+all lengths about it made right again or left as they are. Where a member, a text of base64 or a certificate is changed, the request is tried twice:
+with the signatures that the fixture accepts; and `questions verify` has to list what the changed request asks for, or to name the link that fails
+whatever is accepted, and `verify` is tried with all that is listed.
 
 A second implementation, tools/verify_links.py, says what the reply is. The program has to write that, with its status 0, 1 or 2, in at most 100
 milliseconds of a processor and with 50 megabytes of addresses. The status of this tool is 0 if it does so for each request."""
@@ -218,19 +219,9 @@ def der_changed(content):
 
 # The requests.
 
-def accepting(members):
-    """The members, which accept each signature that they ask for, as the second implementation finds them; None where it finds none."""
-    listed, status = questions_cases.verify_reply(compact(members))
-    return None if status else {**members, "accepted": json.loads(listed)}
-
-
-def tried(title, members):
-    yield Request(title, compact(members))
-
-
 def tried_twice(title, members):
     yield Request(title, compact(members))
-    yield Request(title + ", accepted", members)  # the signatures are found where the request is tried
+    yield Request(title + ", asked", members)  # the signatures are listed where the request is tried
 
 
 def document_walk(title, members, part):
@@ -281,7 +272,7 @@ def limit():
     resource.setrlimit(resource.RLIMIT_AS, (MOST_MEMORY, MOST_MEMORY))
 
 
-def ended(program, text):
+def ended(program, words, text):
     """What the program writes, its status, and its seconds of a processor."""
     request, reply = os.memfd_create("request"), os.memfd_create("reply")
     os.write(request, text)
@@ -292,7 +283,7 @@ def ended(program, text):
             limit()
             os.dup2(request, 0)
             os.dup2(reply, 1)
-            os.execv(program, [program, "verify"])
+            os.execv(program, [program, *words])
         finally:
             os._exit(127)
     _, status, used = os.wait4(child, 0)
@@ -302,19 +293,27 @@ def ended(program, text):
     return said, os.waitstatus_to_exitcode(status), used.ru_utime + used.ru_stime
 
 
-def fault(program, request):
-    """What is wrong of a request, None where all is well."""
-    text = request.text
-    if isinstance(text, dict):
-        members = accepting(text)
-        if members is None:
-            return None
-        text = compact(members)
-    wanted = questions_cases.verify_second(text)
-    reply, status, seconds = ended(program, text.encode())
+def differs(program, words, text, wanted):
+    """What is wrong of a run, None where all is well."""
+    reply, status, seconds = ended(program, words, text.encode())
     if (reply, status) != (in_lines(wanted[0]), wanted[1]):
-        return f"{request.title}: gave {reply} and {status}, and not {wanted}"
-    return f"{request.title}: took {seconds:.3f} seconds" if seconds > MOST_SECONDS else None
+        return f"{' '.join(words)} gave {reply} and {status}, and not {wanted}"
+    return f"{' '.join(words)} took {seconds:.3f} seconds" if seconds > MOST_SECONDS else None
+
+
+def fault(program, request):
+    """What is wrong of a request, None where all is well. Of members `questions` has to list the signatures, or to name the link that fails whatever
+    is accepted; with those that are listed `verify` is tried."""
+    text = request.text
+    if isinstance(text, str):
+        return differs(program, ["verify"], text, questions_cases.verify_second(text))
+    members, text = text, compact(text)
+    listed = questions_cases.verify_reply(text)
+    found = differs(program, ["questions", "verify"], text, listed)
+    if found or listed[1]:
+        return found
+    text = compact({**members, "accepted": json.loads(listed[0])})
+    return differs(program, ["verify"], text, questions_cases.verify_second(text))
 
 
 def of_worker(work):
@@ -322,7 +321,8 @@ def of_worker(work):
     found, tried_ones = [], 0
     for request in itertools.islice(walk(), first, None, step):
         tried_ones += 1
-        found.append(fault(program, request))
+        wrong = fault(program, request)
+        found.append(wrong and f"{request.title}: {wrong}")
     return tried_ones, [each for each in found if each]
 
 
