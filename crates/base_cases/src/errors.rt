@@ -55,6 +55,7 @@ fn checkpoint_faults(answer: &mut Answer) {
 
 fn pool_errors(answer: &mut Answer) {
     answer.each_shown(&[
+        PoolError::TooMany(1025),
         PoolError::Anchor(3),
         PoolError::Malformed,
         PoolError::VerificationFailed,

@@ -60,16 +60,19 @@ pub enum CheckpointFault {
     HashLength,
 }
 
-/// Why a pool has no issuing trust anchor for a certificate, or could not be made.
+/// Why a pool has no issuer of a certificate, or could not be made.
 #[derive(Clone, Copy, Debug, PartialEq, Eq, Error)]
 pub enum PoolError {
+    /// There is this number of intermediates, above 1024.
+    #[error("TooMany")]
+    TooMany(usize),
     /// The certificate at this index of the list is no trust anchor.
     #[error("Anchor")]
     Anchor(usize),
     /// The leaf does not meet the certificate profile, or its bytes are no certificate.
     #[error("Malformed")]
     Malformed,
-    /// No trust anchor issued the leaf.
+    /// Neither a trust anchor nor an intermediate issued the leaf.
     #[error("VerificationFailed")]
     VerificationFailed,
     /// Out of memory.

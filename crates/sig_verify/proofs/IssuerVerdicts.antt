@@ -51,6 +51,11 @@ no_anchor true None n e = cc
 no_anchor true (Some place) n e = cc
 no_anchor false o n e = cc
 
+never_many : (b : Bool) (o : Option ℕ) (n : ℕ) → cond b (placed o) (Err pool.Malformed) ≡ Err (pool.TooMany n) → ⊥
+never_many true None n e = cc
+never_many true (Some place) n e = cc
+never_many false o n e = cc
+
 no_memory : (b : Bool) (o : Option ℕ) → cond b (placed o) (Err pool.Malformed) ≡ Err pool.OutOfMemory → ⊥
 no_memory true None e = cc
 no_memory true (Some place) e = cc
@@ -238,6 +243,8 @@ module _ (k : Checker) (policy : PolicyOf) (trusted : Trusted) (d : ArtifactDige
       (Issuer, refl, inr (both.0, inl ((λ of. both.1 of.index of.first.anchor of.first.there of.first.issued), refl)))
   by_pool (Err (pool.Anchor n)) is =
       absurd (no_anchor (is_profiled c) (position (is_issued k.cert c c.not_before) trusted.anchors) n is)
+  by_pool (Err (pool.TooMany n)) is =
+      absurd (never_many (is_profiled c) (position (is_issued k.cert c c.not_before) trusted.anchors) n is)
   by_pool (Err pool.OutOfMemory) is =
       absurd (no_memory (is_profiled c) (position (is_issued k.cert c c.not_before) trusted.anchors) is)
 

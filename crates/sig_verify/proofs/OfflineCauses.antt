@@ -99,6 +99,7 @@ module _ (laws : Groups) (refusals : RefusalsHaveTheirCause) (o : Outside) (i : 
   of_pool_error : (e : PoolError) → Is (of_verification (of_pool e))
   of_pool_error pool.Malformed = tt
   of_pool_error pool.VerificationFailed = tt
+  of_pool_error (pool.TooMany count) = tt
   of_pool_error (pool.Anchor place) = tt
   of_pool_error pool.OutOfMemory = tt
 

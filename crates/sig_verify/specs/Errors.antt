@@ -19,6 +19,7 @@ of_bundle kind = Bundle kind
 abbrev pub of_pool : PoolError → VerificationError
 of_pool pool.Malformed = Certificate Malformed
 of_pool pool.VerificationFailed = Certificate VerificationFailed
+of_pool (pool.TooMany count) = Certificate VerificationFailed
 of_pool (pool.Anchor place) = Certificate VerificationFailed
 of_pool pool.OutOfMemory = OutOfMemory
 

@@ -98,7 +98,7 @@ impl From<PoolError> for VerificationError {
         match error {
             PoolError::OutOfMemory => VerificationError::OutOfMemory,
             PoolError::Malformed => VerificationError::Certificate(CertificateErrorKind::Malformed),
-            PoolError::VerificationFailed | PoolError::Anchor(_) => {
+            PoolError::VerificationFailed | PoolError::Anchor(_) | PoolError::TooMany(_) => {
                 VerificationError::Certificate(CertificateErrorKind::VerificationFailed)
             }
         }

@@ -4,7 +4,8 @@ use Rattle.std.proofs.Common.{refl, ap, subst, inl, inr, arith}
 use Rattle.std.specs.Prelude.{slice_get, IfOk, IfErr}
 use Rattle.std.proofs.lemmas.Bool.{cases_order}
 use Rattle.sig_base.specs.declared.fault.PoolError.{PoolError}
-use Rattle.sig_base.specs.declared.fault.PoolError.TheVariants.{Anchor, Malformed, VerificationFailed, OutOfMemory}
+use Rattle.sig_base.specs.declared.fault.PoolError.TheVariants.{TooMany, Anchor, Malformed, VerificationFailed}
+use Rattle.sig_base.specs.declared.fault.PoolError.TheVariants.{OutOfMemory}
 use Rattle.sig_base.specs.Answers.{ComesWhere}
 use Rattle.sig_certificate.specs.Certificate.{Cert}
 use Rattle.sig_x509.specs.Issuance.{IsAnchor, IsNoAnchor, AreAnchors, IsFirstNoAnchor, IsPoolRefusal}
@@ -51,5 +52,6 @@ first_refused texts (Err (Anchor found)) are refused index = (
   (λ is. inr (ap (λ (n : ℕ). Err (Anchor n)) (only_first texts found index refused is))),
 )
 first_refused texts (Err OutOfMemory) are refused index = ((λ e. absurd cc), (λ is. inl refl))
+first_refused texts (Err (TooMany count)) are refused index = absurd refused
 first_refused texts (Err Malformed) are refused index = absurd refused
 first_refused texts (Err VerificationFailed) are refused index = absurd refused

@@ -3,7 +3,8 @@ use Rattle.std.proofs.Common.{◌≡◌, ℕ, ℤ, Bool, true, false, cond, List
 use Rattle.std.proofs.Common.{◌∙◌}
 use Rattle.std.specs.Prelude.{position, slice_get}
 use Rattle.sig_base.specs.declared.fault.PoolError.{PoolError}
-use Rattle.sig_base.specs.declared.fault.PoolError.TheVariants.{Anchor, Malformed, VerificationFailed, OutOfMemory}
+use Rattle.sig_base.specs.declared.fault.PoolError.TheVariants.{TooMany, Anchor, Malformed, VerificationFailed}
+use Rattle.sig_base.specs.declared.fault.PoolError.TheVariants.{OutOfMemory}
 use Rattle.sig_certificate.specs.Certificate.{Cert}
 use Rattle.sig_x509.specs.Issuance.{Accepts, placed, is_issued, is_profiled, issuer_of}
 use Rattle.sig_x509.specs.Issued.{HasProfile, IsIssuedBy, IsIssuedByNone, IsFirstIssuer, IsAsked, AgreeWhereAsked}
@@ -64,6 +65,11 @@ asked_alone accepts other anchors c t agree = by_result (issuer_of accepts ancho
     never true (Some p) n e = cc
     never false o n e = cc
 
+    never_many : (b : Bool) (o : Option ℕ) (n : ℕ) → cond b (placed o) (Err Malformed) ≡ Err (TooMany n) → ⊥
+    never_many true None n e = cc
+    never_many true (Some p) n e = cc
+    never_many false o n e = cc
+
     no_memory : (b : Bool) (o : Option ℕ) → cond b (placed o) (Err Malformed) ≡ Err OutOfMemory → ⊥
     no_memory true None e = cc
     no_memory true (Some p) e = cc
@@ -83,4 +89,6 @@ asked_alone accepts other anchors c t agree = by_result (issuer_of accepts ancho
         e ∙ sym ((answers_none other anchors c t (issuer_of other anchors c t) refl).1
         (is.0, none_too accepts other c t anchors agree is.0 is.1))
     by_result (Err (Anchor n)) e = absurd (never (is_profiled c) (position (is_issued accepts c t) anchors) n e)
+    by_result (Err (TooMany n)) e =
+        absurd (never_many (is_profiled c) (position (is_issued accepts c t) anchors) n e)
     by_result (Err OutOfMemory) e = absurd (no_memory (is_profiled c) (position (is_issued accepts c t) anchors) e)

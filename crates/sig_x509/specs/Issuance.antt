@@ -5,7 +5,8 @@ use Rattle.std.specs.Prelude.{Option, Some, None, Result, Ok, Err, position, int
 use Rattle.std.specs.Str.{bytes_eq}
 use Rattle.std.specs.List.{AllZip, list_all}
 use Rattle.sig_base.specs.declared.fault.PoolError.{PoolError}
-use Rattle.sig_base.specs.declared.fault.PoolError.TheVariants.{Anchor, Malformed, VerificationFailed, OutOfMemory}
+use Rattle.sig_base.specs.declared.fault.PoolError.TheVariants.{TooMany, Anchor, Malformed, VerificationFailed}
+use Rattle.sig_base.specs.declared.fault.PoolError.TheVariants.{OutOfMemory}
 use Rattle.sig_der.specs.ObjectIdentifiers.{key_usage, extended_key_usage, basic_constraints, subject_alternative_name}
 use Rattle.sig_der.specs.ObjectIdentifiers.{name_constraints}
 use Rattle.sig_certificate.specs.declared.values.BasicConstraints.{BasicConstraints as Constraints}
@@ -109,6 +110,7 @@ pub record IsFirstNoAnchor (ders : List (List ℕ)) (index : ℕ) : Type 0 where
 abbrev pub IsRefusedAt : List ℕ → ℕ → PoolError → Type 0
 IsRefusedAt der index (Anchor at) = (at ≡ index) × IsNoAnchor der
 IsRefusedAt der index OutOfMemory = ⊤
+IsRefusedAt der index (TooMany count) = ⊥
 IsRefusedAt der index Malformed = ⊥
 IsRefusedAt der index VerificationFailed = ⊥
 
@@ -116,5 +118,6 @@ IsRefusedAt der index VerificationFailed = ⊥
 abbrev pub IsPoolRefusal : List (List ℕ) → PoolError → Type 0
 IsPoolRefusal ders (Anchor index) = IsFirstNoAnchor ders index
 IsPoolRefusal ders OutOfMemory = ⊤
+IsPoolRefusal ders (TooMany count) = ⊥
 IsPoolRefusal ders Malformed = ⊥
 IsPoolRefusal ders VerificationFailed = ⊥
