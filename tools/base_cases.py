@@ -49,7 +49,7 @@ ERRORS = [
     ('UnknownScheme', ['UnknownScheme']),
     ('DerError', ['Truncated', 'LongTag', 'Length', 'Trailing', 'WrongTag', 'Value']),
     ('CheckpointFault', ['Format', 'NoDash', 'SignatureFormat', 'SignatureBase64', 'SignatureLength', 'NoteFormat', 'EmptyOrigin', 'Size', 'HashBase64', 'HashLength']),
-    ('PoolError', ['Anchor(3)', 'Malformed', 'VerificationFailed', 'OutOfMemory']),
+    ('PoolError', ['TooMany(1025)', 'Anchor(3)', 'Malformed', 'VerificationFailed', 'OutOfMemory']),
     ('TokenFault', ['NotThreeParts', 'ClaimsBase64', 'ClaimsJson', 'NotSigstore']),
     ('PkiFault', ['NotReadable', 'TrustedRootMissing']),
     ('TrustPart', ['Fulcio', 'Ctfe']),
