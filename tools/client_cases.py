@@ -15,7 +15,7 @@ sys.dont_write_bytecode = True
 
 import bundle_cases as bundles
 import fixture
-import json_cases as documents
+import json_documents as documents
 import rekor_cases as notes
 import rekor_model_rows as models
 import verify_calls

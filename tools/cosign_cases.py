@@ -13,9 +13,9 @@ import sys
 sys.dont_write_bytecode = True
 
 import fixture
-import json_cases as documents
+import json_documents as documents
 from case_table import Table
-from json_cases import compact
+from json_documents import compact
 from rekor_cases import debug, quoted
 
 TABLE = Table("cosign_cases")
@@ -405,4 +405,5 @@ def main():
     TABLE.write()
 
 
-main()
+if __name__ == "__main__":
+    main()

@@ -343,4 +343,5 @@ def main():
     TABLE.write()
 
 
-main()
+if __name__ == "__main__":
+    main()

@@ -358,4 +358,5 @@ def main():
     TABLE.write()
 
 
-main()
+if __name__ == "__main__":
+    main()

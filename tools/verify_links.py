@@ -18,7 +18,7 @@ sys.set_int_max_str_digits(0)
 import bundle_cases as bundles
 import der_cases as der
 import dsse_cases as dsse
-import json_cases as documents
+import json_documents as documents
 import log_requests as requests
 import rekor_cases as rekor
 import verify_certificate as certificates
