@@ -8,19 +8,14 @@ tree and its roots are those that Certificate Transparency's implementations pub
 """
 import base64
 import hashlib
-import os
 
 import consistency_cases
-from case_table import Table
+import key_rows
+from case_table import Table, hexed
 from consistency_cases import cut, leaf_hash, node_hash, proof_len, tree_hash
 
-HERE = os.path.dirname(os.path.abspath(__file__))
 TABLE = Table("base_cases")
 case, note = TABLE.case, TABLE.note
-
-
-def hexed(data):
-    return data.hex() or "-"
 
 
 def quoted(text):
@@ -233,7 +228,7 @@ def turned(index, leaf, size, path, root):
     check(index, leaf, size, path + [leaf], root)
 
 
-def merkle():
+def hashes_and_leaves():
     note("empty_root, hash_leaf ENTRY, hash_children LEFT RIGHT: the published hashes")
     case("empty_root", "ok " + ROOTS[0])
     case("hash_leaf " + b"L123456".hex(), "ok 395aa064aa4c29f7010acfe3f25db9485bbd4b91897b6ad7ad547639252b4d56")
@@ -253,6 +248,9 @@ def merkle():
     check(6, leaves[5], 7, path, root)
     check(2, leaves[6], 4, path, root)
     check(6, leaves[6], 7, path[::-1], root)
+
+
+def larger_trees():
     note("trees of 9 to 33 entries: each index, and its path with a hash less and a hash more")
     for size in range(9, 34):
         entries = [f"entry {number} of {size}".encode() for number in range(size)]
@@ -275,6 +273,9 @@ def merkle():
     most = 2 ** 64 - 1
     turned(0, leaf, most, [sibling] * 64, first)
     turned(most - 1, leaf, most, [sibling] * 63, last)
+
+
+def counted_paths():
     note("counted INDEX LEAF SIZE PATH: the root that a path leads to, with a counter of steps")
     entries = REFERENCE[:7]
     for index in range(7):
@@ -283,11 +284,17 @@ def merkle():
     case(f"counted 7 {leaf_hash(b'').hex()} 7 -", "IndexGtTreeSize")
     case(f"counted 0 {leaf_hash(b'').hex()} 7 -", "WrongProofSize { got: 0, want: 3 }")
     case(f"counted 0 {leaf_hash(b'').hex()} 1 -", "ok " + ROOTS[1])
-    zero, root = bytes(32), leaf
+    leaf, zero = leaf_hash(b""), bytes(32)
+    root = leaf
     for level in range(64):
         root = node_hash(root, zero)
     for count, wanted in ((63, "WrongProofSize { got: 63, want: 64 }"), (64, "ok " + root.hex()), (65, "WrongProofSize { got: 65, want: 64 }")):
         case(f"counted 0 {leaf.hex()} {2 ** 63 + 1} {','.join([zero.hex()] * count)}", wanted)
+
+
+def merkle():
+    for rows in (hashes_and_leaves, larger_trees, counted_paths):
+        rows()
 
 
 # one leaf; inner hashes alone and border hashes alone; the most of either
@@ -423,110 +430,6 @@ def trees():
             case(f"twins {index} {size}", "ok n x n x")
 
 
-# ---- sig_key
-
-def keys(path):
-    made = {}
-    for line in open(path):
-        if line.strip() and not line.startswith("#"):
-            name, data = line.split()
-            made[name] = bytes.fromhex(data)
-    p256 = made["P256"]
-
-    def changed(data, index, byte):
-        return data[:index] + bytes([byte]) + data[index + 1:]
-
-    note("key_kind SPKI, try_from_der SPKI, try_from_spki SPKI. Keys that OpenSSL made: RFC 5480, RFC 8017, RFC 8410")
-    kinds = [(made["P256"], "ECDSA_P256_SHA256_ASN1"), (made["P384"], "ECDSA_P384_SHA384_ASN1"), (made["P521"], "ECDSA_P521_SHA512_ASN1"),
-             (made["RSA"], "RSA_PKCS1_SHA256"), (made["ED25519"], "ED25519"),
-             # RSA without parameters, Ed25519 with NULL
-             (bytes.fromhex("3011300b06092a864886f70d01010103020001"), "RSA_PKCS1_SHA256"),
-             (bytes.fromhex("300d300706032b6570050003020001"), "ED25519")]
-    unsupported = [made["SECP256K1"], made["X25519"], changed(p256, 12, p256[12] ^ 2), changed(p256, 22, p256[22] ^ 1), changed(p256, 13, 4),
-                   # EC without parameters
-                   bytes.fromhex("300f300906072a8648ce3d020103020001")]
-    # each bit of each object identifier turned is another algorithm; that of P-384 and that of P-521 are one bit apart
-    curves = {bytes.fromhex("2b81040022"): "ECDSA_P384_SHA384_ASN1", bytes.fromhex("2b81040023"): "ECDSA_P521_SHA512_ASN1"}
-    for name, start, end in [("P256", 6, 13), ("P256", 15, 23), ("P384", 15, 20), ("P521", 16, 21), ("RSA", 8, 17), ("ED25519", 6, 9)]:
-        for index in range(start, end):
-            for bit in range(8):
-                other = changed(made[name], index, made[name][index] ^ 1 << bit)
-                if other[start:end] in curves:
-                    kinds.append((other, curves[other[start:end]]))
-                elif is_identifier(other[start:end]):
-                    unsupported.append(other)
-    none = [b"", p256[:90], changed(p256, 25, 1),
-            # two parameters, an empty identifier, a byte behind
-            bytes.fromhex("300f300906032b65700500050003020001"), bytes.fromhex("30083002060003020001"), bytes.fromhex("300b300506032b65700302000100"),
-            b"key"]
-    for spki, scheme in kinds:
-        case(f"key_kind {spki.hex()}", f"ok {scheme}")
-        case(f"try_from_der {spki.hex()}", f"ok {scheme} {spki.hex()}")
-        case(f"try_from_spki {spki.hex()}", f"ok {scheme} {spki.hex()}")
-    for spki in unsupported:
-        case(f"key_kind {spki.hex()}", "Unsupported")
-    for spki in unsupported[:6]:
-        case(f"try_from_der {spki.hex()}", "PublicKeyUnsupportedAlgorithmError")
-        case(f"try_from_spki {spki.hex()}", "PublicKeyUnsupportedAlgorithmError")
-    for spki in none:
-        case(f"key_kind {hexed(spki)}", "NoKeyInfo")
-        case(f"try_from_der {hexed(spki)}", "KeyParsingError")
-        case(f"try_from_spki {hexed(spki)}", "KeyParsingError")
-    note("from_der SCHEME DER: a key of this scheme, whatever the DER is")
-    for name, _ in SCHEMES:
-        case(f"from_der {name} {b'key'.hex()}", f"ok {name} {b'key'.hex()}")
-    signatures()
-    checks()
-
-
-def is_identifier(contents):
-    """Whether contents octets are those of an object identifier: X.690 section 8.19.2."""
-    start = True
-    for octet in contents:
-        if start and octet == 0x80:
-            return False
-        start = octet < 0x80
-    return start
-
-
-def signatures():
-    note("decode_bytes raw|base64 SIGNATURE: the bytes, of a text in base64 that may be in lines")
-    case(f"decode_bytes raw {b'c2 ln'.hex()}", "ok " + b"c2 ln".hex())
-    case("decode_bytes raw -", "ok -")
-    for text, data in [(b"", b""), (b"c2ln", b"sig"), (b"c2lnbg==", b"sign"), (b"c2\nln\n", b"sig"), (b"c2\r\nlnb\r\ng==\r\n", b"sign"), (b"\n\r", b"")]:
-        case(f"decode_bytes base64 {hexed(text)}", "ok " + hexed(data))
-    for text in [b"c2lnbg", b"c2lnbh==", b"c2 ln", b"c2ln=", b"-_-_", b"\xff\xff\xff\xff", b"c2\tln", b"c2lnbg==\nc2ln", b"c2lnbg\n=\n"]:
-        case(f"decode_bytes base64 {hexed(text)}", "Base64DecodeError")
-
-
-def checks():
-    note("key_accepts SCHEME KEY SIGNATURE MESSAGE and rows; verify_signature and verify_prehash SCHEME KEY FORM SIGNATURE MESSAGE and rows")
-    key, other, msg, sig = b"key".hex(), b"yek".hex(), b"msg".hex(), b"sig".hex()
-    row = f"message ECDSA_P256_SHA256_ASN1 {key} {msg} {sig}"
-    for scheme, k, s, m, fits in [("ECDSA_P256_SHA256_ASN1", key, sig, msg, True), ("ED25519", key, sig, msg, False),
-                                  ("ECDSA_P256_SHA256_ASN1", other, sig, msg, False), ("ECDSA_P256_SHA256_ASN1", key, msg, sig, False),
-                                  ("ECDSA_P256_SHA256_ASN1", key, sig, "-", False)]:
-        verdict = "ok" if fits else "PublicKeyVerificationError"
-        case(f"key_accepts {scheme} {k} {s} {m} {row}", "ok " + ("true" if fits else "false"))
-        case(f"verify_signature {scheme} {k} raw {s} {m} {row}", verdict)
-        text = base64.b64encode(bytes.fromhex(s))
-        lines = text[:2] + b"\n" + text[2:]
-        case(f"verify_signature {scheme} {k} base64 {hexed(lines)} {m} {row}", verdict)
-        case(f"verify_prehash {scheme} {k} raw {s} {m} {row}", "PublicKeyVerificationError")
-        prehash = row.replace("message", "prehash")
-        case(f"verify_prehash {scheme} {k} raw {s} {m} {prehash}", verdict)
-        case(f"verify_prehash {scheme} {k} base64 {hexed(text)} {m} {prehash}", verdict)
-        case(f"verify_signature {scheme} {k} raw {s} {m} {prehash}", "PublicKeyVerificationError")
-    for call in ["verify_signature", "verify_prehash"]:
-        case(f"{call} ED25519 {key} base64 {b'c2l'.hex()} {msg} {row}", "Base64DecodeError")
-        case(f"{call} ED25519 {key} base64 {b'c2ln!'.hex()} {msg} {row}", "Base64DecodeError")
-    note("keys SOUGHT and names, schemes and keys: the last key of the name")
-    listed = "a ECDSA_P256_SHA256_ASN1 01 b ECDSA_P521_SHA512_ASN1 02 a ED25519 03"
-    for sought, found in [("a", "ok ED25519 03"), ("b", "ok ECDSA_P521_SHA512_ASN1 02"), ("c", "None"), ("-", "None")]:
-        case(f"keys {sought} {listed}", found)
-    case("keys a", "None")
-
-
 def main():
     base()
     merkle()
@@ -536,7 +439,7 @@ def main():
         note(text)
         for call, result in rows:
             case(call, result)
-    keys(os.path.join(HERE, "base_cases.txt"))
+    key_rows.rows(TABLE, [name for name, _ in SCHEMES])
     TABLE.write()
 
 

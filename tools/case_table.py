@@ -4,6 +4,11 @@ import pathlib
 CRATES = pathlib.Path(__file__).resolve().parent.parent / "crates"
 
 
+def hexed(data):
+    """Bytes as an argument: in hexadecimal, and `-` for none."""
+    return data.hex() or "-"
+
+
 class Table:
     def __init__(self, crate):
         self.crate = crate

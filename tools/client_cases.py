@@ -317,24 +317,26 @@ def proof_with(**members):
     return models.small({**models.PLAIN, **members})
 
 
-def conversions():
-    entry, small, plain = models.ENTRY, models.small, models.PLAIN
+def converted_entries():
     say("try_from_log_entry ENTRY: a bundle with the converted entry alone. The entry of the staging log: index 1688, and 1227 in its tree.")
-    convert(json.dumps(entry))
+    convert(json.dumps(models.ENTRY))
     say("Without a proof, with an empty checkpoint, a checkpoint that is none, and other values beside.")
-    for text in (small(None), small(plain), proof_with(checkpoint=""), proof_with(checkpoint="x"), proof_with(checkpoint="\n\u20ac\"\\"), small(None, uuid="x", attestation={"dummy": "y"})):
+    for text in (models.small(None), models.small(models.PLAIN), proof_with(checkpoint=""), proof_with(checkpoint="x"), proof_with(checkpoint="\n\u20ac\"\\"), models.small(None, uuid="x", attestation={"dummy": "y"})):
         convert(text)
     say("Numbers at their ends; a tree's size of 2^63 and more has no place in a bundle.")
     for number in (-2**63, -1, 0, 1, 2**63 - 1):
-        convert(small(plain, logIndex=number))
-        convert(small(plain, integratedTime=number))
+        convert(models.small(models.PLAIN, logIndex=number))
+        convert(models.small(models.PLAIN, integratedTime=number))
         convert(proof_with(logIndex=number))
     for number in (0, 1, 2**63 - 1, 2**63, 2**63 + 1, 2**64 - 1):
         convert(proof_with(treeSize=number))
+
+
+def converted_texts():
     say("Texts of hexadecimal digits: of every length, in both cases; then what is none.")
     texts = ("", "00", "ff", "FF", "aB", "0" * 62, "0" * 64, "0" * 66, "0a" * 300, "0", "000", "g0", "0g", "zz", "0x00", " 00", "00 ", "\u00e90", "\uff10\uff10", "0\n", "-1", "+1")
     for text in texts:
-        convert(small(plain, logID=text))
+        convert(models.small(models.PLAIN, logID=text))
         convert(proof_with(rootHash=text))
         convert(proof_with(hashes=[text]))
         convert(proof_with(hashes=["00", text, "11"]))
@@ -343,8 +345,11 @@ def conversions():
         convert(proof_with(hashes=["%04x" % number if number != place else "zz" for number in range(300)]))
     say("Promises in base64: what is the one encoding of bytes, and what is none.")
     for text in ("", "AA==", "AAA=", "AAAA", "//8=", "AA", "A", "AB==", "AA= =", "AA==\n", "-_8=", "%", "AA==AA==", "QUFB" * 300):
-        for proof in (None, plain):
-            convert(json.dumps(dict(entry, body=models.coded(models.BODY), verification={"signedEntryTimestamp": text, "inclusionProof": proof})))
+        for proof in (None, models.PLAIN):
+            convert(json.dumps(dict(models.ENTRY, body=models.coded(models.BODY), verification={"signedEntryTimestamp": text, "inclusionProof": proof})))
+
+
+def converted_bodies():
     say("Bodies: each kind, which the converted entry does not keep apart; names in the order of UTF-16 units; integers at the end of those that have canonical JSON.")
     for kind in models.KINDS:
         convert(models.entry_with(body=models.coded({"kind": kind, "apiVersion": "0.0.2", "spec": {"b": [1, None, True], "a": "\n\u00fc\u2028"}})))
@@ -356,14 +361,22 @@ def conversions():
     say("Rules broken by ones and twos: all are one error.")
     large = models.coded(dict(models.BODY, spec=2**53))
     for body, promise, log_id, hashes, root, size in itertools.product((models.coded(models.BODY), large), ("AA==", "x"), ("00", "x"), ([], ["x"]), ("00", "x"), (1, 2**63)):
-        proof = dict(plain, hashes=hashes, rootHash=root, treeSize=size)
-        convert(json.dumps(dict(entry, body=body, logID=log_id, verification={"signedEntryTimestamp": promise, "inclusionProof": proof})))
+        proof = dict(models.PLAIN, hashes=hashes, rootHash=root, treeSize=size)
+        convert(json.dumps(dict(models.ENTRY, body=body, logID=log_id, verification={"signedEntryTimestamp": promise, "inclusionProof": proof})))
+
+
+def bundles_of_parts():
     say("to_bundle DIGEST CERT SIGNATURE ENTRY: the text of the bundle of these parts, and whether it is read back.")
-    to_bundle(bytes(range(32)), b"\x30\x00", b"sig", json.dumps(entry))
+    to_bundle(bytes(range(32)), b"\x30\x00", b"sig", json.dumps(models.ENTRY))
     for lengths in itertools.product((0, 1, 300), repeat=3):
-        to_bundle(*[bytes([0xAB]) * length for length in lengths], small(plain))
-    to_bundle(b"digest", b"cert", b"signature", small(None))
+        to_bundle(*[bytes([0xAB]) * length for length in lengths], models.small(models.PLAIN))
+    to_bundle(b"digest", b"cert", b"signature", models.small(None))
     to_bundle(b"digest", b"cert", b"signature", proof_with(hashes=["%04x" % number for number in range(300)]))
+
+
+def conversions():
+    for rows in (converted_entries, converted_texts, converted_bodies, bundles_of_parts):
+        rows()
 
 
 if __name__ == "__main__":

@@ -250,7 +250,7 @@ def percent(s):
     return "".join(c if c.isascii() and (c.isalnum() or c in ".:") else "".join(f"%{x:02X}" for x in c.encode()) for c in s) or "-"
 
 
-def main():
+def elements():
     h = bytes.fromhex
     note("read_element BYTES: the tag, the content and what follows (X.690 sections 8.1 and 10.1)")
     for t in ["3003020105ff", "0500", "30800000", "30810500000000", "30857f00000000", "3085010000000000", "308200", "308201", "30820080" + "00" * 128,
@@ -260,6 +260,10 @@ def main():
     note("the same for each tag of one octet, and for those that go on")
     for tag in range(0, 256):
         row("read_element", f"{tag:02x}0107", read_element(bytes([tag, 1, 7])))
+
+
+def whole_elements():
+    h = bytes.fromhex
     note("read_all BYTES TAG: the content; Trailing is told before WrongTag")
     for t, tag in [("310000", 0x30), ("3100", 0x30), ("3000", 0x30), ("0203010001", 0x02), ("02030100", 0x02), ("", 0x02), (LOG_KEY, 0x30), (LOG_KEY, 0x31),
                    ("3080", 0x30), ("1f00", 0x1f)]:
@@ -270,12 +274,20 @@ def main():
               "3084010000", "3084ffffffff"]:
         for more in ["", "00"]:
             row("read_all", f"{t}{more} 30", read_all(h(t + more), 0x30))
+
+
+def lists_of_elements():
+    h = bytes.fromhex
     note("children BYTES: each element whole, and the error at which they end")
     for t in ["02010505001f0200", "", "0500", "05000500", "0201", "020105" * 5, "1f02000500", "05003080", "0500308100", LOG_KEY, LOG_KEY[4:]]:
         row("children", hx(h(t)), children(h(t)))
     note("the same of 300 elements, and of 299 before a fault")
     for t in ["0500" * 300, "0500" * 299, "0500" * 299 + "05", "0500" * 299 + "1f00", "0500" * 299 + "0580"]:
         row("children", hx(h(t)), children(h(t)))
+
+
+def written_elements():
+    h = bytes.fromhex
     note("write_element TAG CONTENT: the first six bytes, and how many there are, at each size from which on a length has an octet more")
     for tag in [0x04, 0x30, 0xa3, 0xde]:
         for n in [0, 1, 127, 128, 255, 256] + ([65535, 65536, 16777215, 16777216] if tag == 0x04 else []):
@@ -284,6 +296,9 @@ def main():
     note("close TAG PIECES: the element whose content is the pieces")
     for tag, ps in [(0x30, ["020105", "0500"]), (0x31, []), (0xa3, ["3000"]), (0x30, ["00" * 100, "11" * 100])]:
         row("close", f"{tag:02x} {','.join(ps) or '-'}", f"ok {hx(element(tag, b''.join(h(p) for p in ps)))}")
+
+
+def times():
     note("time_of TAG TEXT: UTCTime and GeneralizedTime of RFC 5280 section 4.1.2.5, in seconds since 1970")
     utc = ["231213055055Z", "231213060055Z", "220413200615Z", "700101000000Z", "491231235959Z", "500101000000Z", "691231235959Z", "000229000000Z", "010229000000Z",
            "230229000000Z", "240229000000Z", "231301000000Z", "230001000000Z", "230100000000Z", "230132000000Z", "230431000000Z", "230430000000Z", "230101240000Z",
@@ -303,6 +318,9 @@ def main():
             for d, clock in [(1, "000000"), (calendar.monthrange(y, m)[1], "235959"), (calendar.monthrange(y, m)[1] + 1, "000000")]:
                 t = f"{y % 100:02}{m:02}{d:02}{clock}Z"
                 row("time_of", f"17 {t}", time_of(0x17, t))
+
+
+def rfc3339_times():
     note("rfc3339_second TEXT: RFC 3339 section 5.6 with upper-case T and Z, at most nine digits of a fraction, no leap second, years from 1 on")
     for t in ["1970-01-01T00:00:00Z", "1970-01-01T00:00:00.999Z", "1970-01-01T01:00:00+01:00", "1969-12-31T23:59:59.999999999Z", "1969-12-31T12:30:00-11:30",
               "1970-01-01T00:00:00-00:00", "2023-12-31T23:59:59.999Z", "2000-02-29T00:00:00Z", "2021-03-07T03:20:29Z", "0001-01-01T00:00:00Z", "9999-12-31T23:59:59Z",
@@ -313,6 +331,10 @@ def main():
               "2023-01-32T00:00:00Z", "2023-1-01T00:00:00Z", "2023/01/01T00:00:00Z", "2023-01-01T00.00.00Z", "2023-01-01T00:00:00,5Z", "2023-01-01T00:00:00.5", "Z",
               "2023-01-01T00:00:0aZ", "2023-01-01T00:00:00.5a+00:00", "2023-01-01T00:00:00ZZ"]:
         row("rfc3339_second", percent(t), rfc3339(t))
+
+
+def readings():
+    h = bytes.fromhex
     note("place_at BYTES AT END: the tag, and where the element, its content and what follows begin")
     key = h(LOG_KEY)
     for at, end in [(0, 91), (0, 90), (2, 91), (2, 23), (2, 22), (23, 91), (91, 91), (0, 0), (4, 91), (25, 91)]:
@@ -323,6 +345,11 @@ def main():
     note("whole_at BYTES TAG: the element that the bytes are")
     for t, tag in [(LOG_KEY, 0x30), (LOG_KEY, 0x31), (LOG_KEY + "00", 0x30), ("", 0x30), ("3000", 0x30)]:
         row("whole_at", f"{hx(h(t))} {tag:02x}", whole_at(h(t), tag))
+
+
+def key_infos():
+    h = bytes.fromhex
+    key = h(LOG_KEY)
     note("key_info BYTES: the object identifier of the algorithm, the tag of its parameters or -, and the bits (RFC 5280 section 4.1.2.7)")
     oid = h("06032b6570")
     bits = h("0303000102")
@@ -333,6 +360,10 @@ def main():
              seq(seq(oid, b"\x05"), bits), b""]
     for i in infos:
         row("key_info", hx(i), key_info(i))
+
+
+def digests_of_readings():
+    h = bytes.fromhex
     note("prefixes BYTES: the digest of the readings of every prefix at its first 32 offsets")
     for t in [LEAF, INTERMEDIATE, LOG_KEY]:
         row("prefixes", t, prefixes(h(t)))
@@ -340,6 +371,11 @@ def main():
     for t in [LEAF, INTERMEDIATE, LOG_KEY]:
         for mask in [0x01, 0x02, 0x04, 0x08, 0x10, 0x20, 0x40, 0x80, 0xff]:
             row("flips", f"{t} {mask:02x}", flips(h(t), mask))
+
+
+def main():
+    for rows in (elements, whole_elements, lists_of_elements, written_elements, times, rfc3339_times, readings, key_infos, digests_of_readings):
+        rows()
     TABLE.write()
 
 

@@ -29,7 +29,7 @@ import fixture
 import questions_cases
 import verify_cases
 from failing import in_lines
-from fixture import anchor, certificate, compact, der, name
+from fixture import anchor, certificate, compact, name
 
 PROGRAM = pathlib.Path(__file__).resolve().parent.parent / "crates/sigverify/out/sigverify"
 SAMPLED = 40
