@@ -31,8 +31,8 @@ pub fn compact(alloc: Global, json: Json<'_, '_>) -> Result<Text, OutOfMemory>
     write_value(json.value, &mut out)?;
     match String::from_utf8(out.into_inner()) {
         Ok(text) => Ok(Text::from(text)),
-        // The writer's bytes are UTF-8, so this does not come.
-        Err(_) => Err(OutOfMemory),
+        // The writer's bytes are UTF-8.
+        Err(_) => unreachable!(),
     }
 }
 
