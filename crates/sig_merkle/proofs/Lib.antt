@@ -31,3 +31,4 @@ pub mod GrowthStarts
 pub mod GrowthFull
 pub mod Growths
 pub mod GrowthSteps
+pub mod FrontLists

@@ -10,3 +10,4 @@ pub mod Walk
 pub mod HashedText
 pub mod Meeting
 pub mod GrowthWalk
+pub mod Fronts

@@ -1,5 +1,5 @@
 //! Two byte strings of equal SHA-256, from the proof of an entry that the list does not have at the index.
-ghost use Rattle.std.specs.Prelude.{◌≡◌, ◌<◌, ◌↔◌, length, Some, IsNone, IsTrue, IfOk, IfSome, slice_get};
+ghost use Rattle.std.specs.Prelude.{◌≡◌, ◌≢◌, ◌<◌, ◌↔◌, length, Some, IsNone, IsTrue, IfOk, IfSome, slice_get};
 ghost use Rattle.sig_base.specs.Collision.{IsCollision};
 ghost use Rattle.sig_merkle.specs.HashedText.{AreHashedTexts};
 ghost use Rattle.sig_merkle.specs.Inclusion.{IsIncluded};
@@ -19,7 +19,6 @@ use std::alloc::Global;
 /// The proof and the list lead to one root from different leaves. From the leaf upward, the first two nodes (RFC 6962
 /// section 2.1) that differ in what they hash and not in their hash are the two byte strings: they begin with the byte
 /// 0x00 of a leaf or 0x01 of a node.
-#[tactic(auto, using(crate::proofs::EntryMeetings::finds_entry))]
 pub fn inclusion_collision(
     alloc: Global,
     entry: &[u8],
@@ -32,12 +31,31 @@ pub fn inclusion_collision(
     ensures some { IfOk result (λ found. IfSome found (λ c. IsCollision c.left c.right)) }
     ensures texts { IfOk result (λ found. IfSome found (λ c. AreHashedTexts c.left c.right)) }
 {
-    let index = index as usize;
-    if is_at(entries, index, entry) {
+    if is_at(entries, index as usize, entry) {
         return Ok(None);
     }
-    match meet_entry(alloc, entry, index, proof_hashes, entries.as_slice())? {
-        Meeting::Collided(found) => Ok(Some(found)),
+    let found = inclusion_collision_in(alloc, entry, index, proof_hashes, entries.as_slice())?;
+    Ok(Some(found))
+}
+
+/// Returns two different byte strings of equal SHA-256 that the inclusion proof of an entry exhibits, which is not the
+/// one at the index of these entries. They may be the first of a list. Fails only if out of memory.
+#[tactic(auto, using(crate::proofs::EntryMeetings::finds_entry))]
+pub fn inclusion_collision_in(
+    alloc: Global,
+    entry: &[u8],
+    index: u64,
+    proof_hashes: &[[u8; 32]],
+    entries: &[Bytes],
+) -> Result<Collision, OutOfMemory>
+    requires accepted { IsIncluded index (leaf_of entry.now) (length entries.now) proof_hashes.now
+        (root entries.now) }
+    requires other { slice_get entries.now index ≢ Some entry.now }
+    ensures collide { IfOk result (λ c. IsCollision c.left c.right) }
+    ensures texts { IfOk result (λ c. AreHashedTexts c.left c.right) }
+{
+    match meet_entry(alloc, entry, index as usize, proof_hashes, entries)? {
+        Meeting::Collided(found) => Ok(found),
         Meeting::Hashed { .. } => unreachable!(),
     }
 }

@@ -8,7 +8,7 @@ ghost use Rattle.sig_merkle.specs.Meeting.{GrowthMeets};
 ghost use Rattle.sig_merkle.specs.Root.{root};
 
 use crate::meeting::{Children, Meeting, meet_nodes};
-use crate::tree::{halves, root_in, root_of};
+use crate::tree::{halves, root_in};
 use sig_base::{Bytes, Collision, Entries, OutOfMemory};
 use std::alloc::Global;
 
@@ -19,7 +19,6 @@ use std::alloc::Global;
 /// Both trees are built from the hashes of the proof, and the list's from its entries (RFC 6962 section 2.1.2). From the
 /// last node that the old tree fills upward, the first two nodes of the new tree that differ in what they hash and not
 /// in their hash are the two byte strings: they begin with the byte 0x01.
-#[tactic(auto, using(crate::proofs::GrowthMeetings::finds_growth))]
 pub fn consistency_collision(
     alloc: Global,
     old_size: u64,
@@ -32,19 +31,28 @@ pub fn consistency_collision(
     ensures some { IfOk result (λ found. IfSome found (λ c. IsCollision c.left c.right)) }
     ensures texts { IfOk result (λ found. IfSome found (λ c. AreHashedTexts c.left c.right)) }
 {
+    consistency_collision_in(alloc, old_size, old_root, proof_hashes, entries.as_slice())
+}
+
+/// The same for the tree of these entries, which may be the first of a list.
+#[tactic(auto, using(crate::proofs::GrowthMeetings::finds_growth))]
+pub fn consistency_collision_in(
+    alloc: Global,
+    old_size: u64,
+    old_root: &[u8; 32],
+    proof_hashes: &[[u8; 32]],
+    entries: &[Bytes],
+) -> Result<Option<Collision>, OutOfMemory>
+    requires { IsConsistent old_size (length entries.now) proof_hashes.now old_root.now (root entries.now) }
+    ensures none { IfOk result (λ found. IsNone found ↔ (old_root.now ≡ root (take old_size entries.now))) }
+    ensures some { IfOk result (λ found. IfSome found (λ c. IsCollision c.left c.right)) }
+    ensures texts { IfOk result (λ found. IfSome found (λ c. AreHashedTexts c.left c.right)) }
+{
     let old_size = old_size as usize;
-    if root_of(entries, old_size) == *old_root {
+    if root_in(&entries[..old_size]) == *old_root {
         return Ok(None);
     }
-    let met = meet_growth(
-        alloc,
-        old_size,
-        true,
-        old_root,
-        proof_hashes,
-        entries.as_slice(),
-    )?;
-    match met {
+    match meet_growth(alloc, old_size, true, old_root, proof_hashes, entries)? {
         Meeting::Collided(found) => Ok(Some(found)),
         Meeting::Hashed { .. } => unreachable!(),
     }

@@ -10,7 +10,8 @@
 //! - `tree`: the root of a list of entries, and the audit path of one of them: the definitions `root`
 //!   and `audit_path`, which are the standard's MTH and PATH. `subproof`: the standard's PROOF.
 //! - `repeats`: what a tree of many equal entries has at hand, so that none of its hashes is made twice.
-//! - `front`: the roots of a list and of its first entries together, each node hashed once.
+//! - `front`: the roots of a list and of its first entries together, each node hashed once; `fronts`: those of its first
+//!   entries at several sizes.
 //! - `entry_collision`, `paths_collision`, `growth_collision`: an accepted proof of an entry that the
 //!   list does not have at the index, accepted proofs of two entries at one index, and an accepted
 //!   consistency proof from a root that is not that of the list's first entries, give two byte strings
@@ -28,6 +29,7 @@
 mod consistency;
 mod entry_collision;
 mod front;
+mod fronts;
 mod growth_collision;
 mod growth_walk;
 mod hashing;
@@ -44,9 +46,10 @@ pub mod uncounted;
 mod walk;
 
 pub use consistency::verify_consistency;
-pub use entry_collision::inclusion_collision;
+pub use entry_collision::{inclusion_collision, inclusion_collision_in};
 pub use front::front_roots;
-pub use growth_collision::consistency_collision;
+pub use fronts::roots_of_fronts;
+pub use growth_collision::{consistency_collision, consistency_collision_in};
 pub use growth_walk::{Roots, chain_inner_right};
 pub use hashing::{empty_root, hash_children, hash_leaf};
 pub use inclusion::{root_from_inclusion_proof, verify_inclusion};

@@ -1,11 +1,14 @@
 //! The checks of proofs, and the roots of a list and of its front, for a caller that counts no steps.
-ghost use Rattle.std.specs.Prelude.{◌≡◌, ◌<◌, ◌≤◌, ◌↔◌, length, take, IsOk};
+ghost use Rattle.std.specs.Prelude.{◌≡◌, ◌<◌, ◌≤◌, ◌↔◌, length, map, take, IsOk, IfOk};
+ghost use Rattle.std.specs.List.{AllByRecursion};
 ghost use Rattle.sig_merkle.specs.Inclusion.{IsIncluded, inclusion_answer, IsInclusionAnswer};
 ghost use Rattle.sig_merkle.specs.ConsistencyAnswer.{IsConsistent, consistency_answer, IsConsistencyAnswer};
+ghost use Rattle.sig_merkle.specs.Fronts.{Ascend, front_root};
 ghost use Rattle.sig_merkle.specs.Root.{root};
 
 use crate::growth_walk::Roots;
-use sig_base::{Entries, MerkleProofError, Steps};
+use sig_base::{Entries, MerkleProofError, OutOfMemory, Steps};
+use std::alloc::Global;
 use std::marker::Brand;
 use std::sync::ledger::{Blank, Ledger};
 
@@ -131,4 +134,36 @@ fn front_roots_on<L: Ledger>(blank: Blank, entries: &Entries, count: usize) -> R
 {
     let mut steps = Steps::<L>::new(blank);
     crate::front::front_roots(entries, count, &mut steps)
+}
+
+/// Returns for each count the root of the tree of the first so many entries, as `roots_of_fronts` of this crate does.
+pub fn roots_of_fronts(
+    alloc: Global,
+    entries: &Entries,
+    counts: &[usize],
+) -> Result<Vec<[u8; 32]>, OutOfMemory>
+    requires ascending { Ascend 0 counts.now }
+    requires within { AllByRecursion (λ count. count ≤ length entries.now) counts.now }
+    ensures { IfOk result (λ roots. roots.items ≡ map (front_root entries.now) counts.now) }
+{
+    let blank = Blank::new(1);
+    roots_of_fronts_on::<Brand>(blank, alloc, entries, counts)
+}
+
+/// The roots over a ledger of its own.
+fn roots_of_fronts_on<L: Ledger>(
+    blank: Blank,
+    alloc: Global,
+    entries: &Entries,
+    counts: &[usize],
+) -> Result<Vec<[u8; 32]>, OutOfMemory>
+    requires name { blank.name ≡ L.name }
+    requires parts { blank.parts ≡ L.parts }
+    requires some { 0 < blank.parts }
+    requires ascending { Ascend 0 counts.now }
+    requires within { AllByRecursion (λ count. count ≤ length entries.now) counts.now }
+    ensures { IfOk result (λ roots. roots.items ≡ map (front_root entries.now) counts.now) }
+{
+    let mut steps = Steps::<L>::new(blank);
+    crate::fronts::roots_of_fronts(alloc, entries, counts, &mut steps)
 }

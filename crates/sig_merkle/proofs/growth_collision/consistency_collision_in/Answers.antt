@@ -1,7 +1,7 @@
 use Rattle.std.proofs.Common.{rules, ◌≢◌, take}
 use Rattle.sig_merkle.specs.Root.{root}
 use Rattle.sig_merkle.proofs.GrowthMeetings.{growth_some, growth_count, same_front}
-use Rattle.sig_merkle.proofs.growth_collision.consistency_collision.Goals as goal
+use Rattle.sig_merkle.proofs.growth_collision.consistency_collision_in.Goals as goal
 
 pub meet_growth-requires-clause-some : goal.meet_growth-requires-clause-some
 meet_growth-requires-clause-some c =
@@ -11,9 +11,9 @@ meet_growth-requires-clause-some c =
 pub meet_growth-requires-clause-count : goal.meet_growth-requires-clause-count
 meet_growth-requires-clause-count c =
     let apart : root (take c.args.old_size c.args.entries.now) ≢ c.args.old_root.now = search rules in
-    rw c.as_slice.ensures (growth_count _ _ _ _ c.requires apart)
+    growth_count _ _ _ _ c.requires apart
 
 pub unreachable-requires : goal.unreachable-requires
 unreachable-requires c =
     let apart : root (take c.args.old_size c.args.entries.now) ≢ c.args.old_root.now = search rules in
-    same_front _ _ _ _ _ _ c.requires apart (rw (c.as_slice.ensures, c.in-Hashed.is) at c.in_ok-met.ensures)
+    same_front _ _ _ _ _ _ c.requires apart (rw c.in-Hashed.is at c.in_ok-found.ensures)
