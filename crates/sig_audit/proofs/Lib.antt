@@ -1,0 +1,5 @@
+pub mod FirstErrors
+pub mod Chains
+pub mod HeadAnswers
+pub mod AuditAnswers
+pub mod Listings

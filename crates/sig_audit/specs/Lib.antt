@@ -1,0 +1,5 @@
+pub mod Chained
+pub mod Fronts
+pub mod Audited
+pub mod Faults
+pub mod Answer
