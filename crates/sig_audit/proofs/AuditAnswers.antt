@@ -1,30 +1,26 @@
 -- The result of an audit is the one whose cause holds, and no other has its cause.
-use Rattle.std.proofs.Common.{◌≡◌, ◌≢◌, ◌⊎◌, ℕ, zero, suc, ◌+◌, ◌-◌, ◌≤◌, Bool, inl, inr, List, [], ◌∷◌, ◌++◌, length, map}
+use Rattle.std.proofs.Common.{◌≡◌, ◌⊎◌, ℕ, zero, suc, ◌+◌, ◌-◌, ◌≤◌, Bool, inl, inr, List, [], ◌∷◌, length}
 use Rattle.std.proofs.Common.{Option, Some, None, Result, Ok, Err, slice_get, refl, sym, ◌∙◌, ap, subst, arith, zero-add}
-use Rattle.std.proofs.lemmas.Option.{slice_get_past, slice_get_within}
+use Rattle.std.proofs.lemmas.Option.{slice_get_past}
 use Rattle.std.specs.List.{AllByRecursion}
 use Rattle.sig_base.proofs.ResultSteps.{bind_ok}
 use Rattle.sig_base.specs.Answers.{Answers, UnlessMemory}
-use Rattle.sig_base.specs.ResultSteps.{◌>>=◌}
-use Rattle.sig_base.specs.declared.merkle_error.MerkleProofError.{MerkleProofError}
 use Rattle.sig_merkle.proofs.InclusionLaws.{inclusion_answers}
-use Rattle.sig_merkle.specs.Inclusion.{inclusion_answer}
 use Rattle.sig_audit.specs.declared.chain.ChainHead.{ChainHead}
 use Rattle.sig_audit.specs.declared.error.AuditError.{AuditError}
-use Rattle.sig_audit.specs.declared.error.AuditError.TheVariants.{Empty, Consistency, Head, Inclusion, OutOfMemory}
+use Rattle.sig_audit.specs.declared.error.AuditError.TheVariants.{Head, Inclusion, OutOfMemory}
 use Rattle.sig_audit.specs.declared.heads.AuditHead.{AuditHead}
 use Rattle.sig_audit.specs.declared.heads.Watch.{Watch}
 use Rattle.sig_audit.specs.Answer.{first_error, as_fault, head_answer, path_answer, watch_answer, size_or, latest_size}
 use Rattle.sig_audit.specs.Answer.{audit_answer}
-use Rattle.sig_audit.specs.Audited.{chain_head, chain_of, IsHeadSigned, HasOriginOf, AreAudited, IsWatched, IsAudited}
-use Rattle.sig_audit.specs.Chained.{HaveGrown}
+use Rattle.sig_audit.specs.Audited.{chain_head, chain_of, AreAudited, IsWatched}
 use Rattle.sig_audit.specs.Faults.{IsNotIncluded}
-use Rattle.sig_audit.specs.Faults.{IsUngrown, IsHeadFault, IsHeadsFault, IsWatchFault, IsWatchesFault, IsAuditFault}
+use Rattle.sig_audit.specs.Faults.{IsHeadFault, IsHeadsFault, IsWatchFault, IsWatchesFault}
 use Rattle.sig_audit.specs.Faults.{IsLatestSize, IsAuditAnswer}
 use Rattle.sig_audit.specs.Fronts.{IsLast}
 use Rattle.sig_audit.proofs.Chains.{last-later}
-use Rattle.sig_audit.proofs.FirstErrors.{last_or, IsFirstError, first-at, first-from}
-use Rattle.sig_audit.proofs.HeadAnswers.{HeadsPass, HeadFails, UngrownAfter, head-err, head-fails, heads-ok, heads-pass}
+use Rattle.sig_audit.proofs.FirstErrors.{last_or, first-at, first-from}
+use Rattle.sig_audit.proofs.HeadAnswers.{HeadsPass, HeadFails, head-err, head-fails, heads-ok, heads-pass}
 use Rattle.sig_audit.proofs.HeadAnswers.{ok_fault, err_fault, same_err, err_apart}
 
 -- ---- the first fault of the heads

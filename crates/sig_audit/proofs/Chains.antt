@@ -1,6 +1,6 @@
 -- Chained heads: their sizes, and what is known at an index.
-use Rattle.std.proofs.Common.{◌≡◌, ◌≢◌, ◌↔◌, ℕ, zero, suc, ◌+◌, ◌-◌, ◌<◌, ◌≤◌, List, [], ◌∷◌, ◌++◌, length, map, take, drop}
-use Rattle.std.proofs.Common.{get_or, slice_get, Some, None, Option, IsNone, refl, sym, ◌∙◌, ap, arith}
+use Rattle.std.proofs.Common.{◌≡◌, ◌↔◌, ℕ, zero, suc, ◌+◌, ◌-◌, ◌<◌, ◌≤◌, List, [], ◌∷◌, length, map, take, drop}
+use Rattle.std.proofs.Common.{get_or, Some, None, Option, IsNone, refl, ◌∙◌, ap, arith}
 use Rattle.std.proofs.lemmas.List.{drop_more, drop_all, length-take-le, take_all}
 use Rattle.std.proofs.lemmas.Option.{get_or_from_slice_get}
 use Rattle.std.specs.List.{AllByRecursion}
@@ -12,7 +12,7 @@ use Rattle.sig_merkle.specs.Fronts.{Ascend, front_root}
 use Rattle.sig_merkle.specs.Root.{root}
 use Rattle.sig_audit.specs.declared.chain.ChainHead.{ChainHead}
 use Rattle.sig_audit.specs.Chained.{HasGrownFrom, HaveGrownFrom, HaveGrown, AreChained}
-use Rattle.sig_audit.specs.Fronts.{IsOfFront, IsOfList, IsLast, EndsInList, IsWithin, fronts_of, sizes_in}
+use Rattle.sig_audit.specs.Fronts.{IsOfFront, IsLast, EndsInList, IsWithin, fronts_of, sizes_in}
 
 -- ---- the last of a list
 
@@ -24,10 +24,10 @@ last-later x y last later is =
 
 -- ---- sizes
 
-grown_sizes : (older head : ChainHead) → HasGrownFrom older head → older.size ≤ head.size
+pub grown_sizes : (older head : ChainHead) → HasGrownFrom older head → older.size ≤ head.size
 grown_sizes older head grown = consistent_sizes older.size head.size head.hashes older.hash head.hash grown
 
-sizes-grown : (size : ℕ) (first last : ChainHead) (later : List ChainHead) → HaveGrownFrom first later
+pub sizes-grown : (size : ℕ) (first last : ChainHead) (later : List ChainHead) → HaveGrownFrom first later
     → IsLast (first ∷ later) last → last.size ≤ size → (first.size ≤ size) × AllByRecursion (IsWithin size) later
 sizes-grown size first last [] grown is fits = (let same : first ≡ last = cc in rw same fits, tt)
 sizes-grown size first last (next ∷ later) grown is fits =

@@ -2,7 +2,7 @@
 use Rattle.std.proofs.Common.{◌≡◌, ℕ, ◌+◌, ◌<◌, ◌≤◌, List, [], ◌∷◌, ◌++◌, length, drop, get_or, slice_get, Option, Some, None, Result, Ok}
 use Rattle.std.proofs.Common.{suc, Err, refl, sym, ap, ◌∙◌, arith, inl, inr, add-zero}
 use Rattle.std.proofs.lemmas.List.{drop_more, drop_all}
-use Rattle.sig_base.proofs.ResultSteps.{bind_ok, bind_of_ok, bind_err}
+use Rattle.sig_base.proofs.ResultSteps.{bind_ok, bind_err}
 use Rattle.sig_base.specs.ResultSteps.{◌>>=◌}
 use Rattle.sig_audit.specs.Answer.{first_error, path_answer, watch_answer}
 use Rattle.sig_audit.specs.declared.error.AuditError.{AuditError}

@@ -1,7 +1,7 @@
 -- The check of a head, and of the heads in turn: it passes if and only if what is asked holds, and else fails with the
 -- first that does not.
-use Rattle.std.proofs.Common.{◌≡◌, ◌⊎◌, ◌↔◌, ℕ, suc, ◌+◌, ◌-◌, Bool, true, false, inl, inr, List, [], ◌∷◌, ◌++◌, length}
-use Rattle.std.proofs.Common.{Option, Some, None, Result, Ok, Err, slice_get, refl, sym, ◌∙◌, ap, arith}
+use Rattle.std.proofs.Common.{◌≡◌, ◌⊎◌, ℕ, ◌+◌, Bool, true, false, inl, inr, List, [], ◌∷◌}
+use Rattle.std.proofs.Common.{Option, Some, None, Result, Ok, Err, refl, sym, ◌∙◌, ap}
 use Rattle.std.proofs.lemmas.List.Folds.{Any-from_list_any, list_any-from_Any}
 use Rattle.std.specs.Cmp.Lexicographic.{bytes_decides}
 use Rattle.std.specs.List.{AllByRecursion}
@@ -9,7 +9,6 @@ use Rattle.std.specs.Str.{bytes_eq}
 use Rattle.sig_base.proofs.ResultSteps.{bind_ok}
 use Rattle.sig_base.specs.declared.merkle_error.MerkleProofError.{MerkleProofError}
 use Rattle.sig_merkle.proofs.ConsistencyAnswers.{consistency_answers}
-use Rattle.sig_merkle.specs.ConsistencyAnswer.{consistency_answer}
 use Rattle.sig_rekor.specs.NoteText.{note_text}
 use Rattle.sig_rekor.specs.Refusals.{IsSigned}
 use Rattle.sig_rekor.specs.Verify.{has_accepted_signature}

@@ -45,7 +45,7 @@ pub fn audit_collision(
 
 /// Returns what the heads say of their trees, with copies of their proofs. Fails only if out of memory.
 #[tactic(auto, using(std::proofs::lemmas::List::map_more))]
-fn chain_of(alloc: Global, heads: &[AuditHead]) -> Result<Chain, OutOfMemory>
+pub(crate) fn chain_of(alloc: Global, heads: &[AuditHead]) -> Result<Chain, OutOfMemory>
     ensures { IfOk result (λ chain. chain ≡ chain_of heads.now) }
 {
     let mut chain = Chain::new(alloc);
@@ -62,7 +62,7 @@ fn chain_of(alloc: Global, heads: &[AuditHead]) -> Result<Chain, OutOfMemory>
 
 /// The same of these heads, beside the roots of the list's first entries.
 #[tactic(auto, using(crate::proofs::Listings::finds_log))]
-fn log_collision(
+pub(crate) fn log_collision(
     alloc: Global,
     heads: &[ChainHead],
     roots: &[[u8; 32]],

@@ -1,5 +1,5 @@
 use Rattle.std.proofs.Common.{rules, arith}
-use Rattle.sig_audit.proofs.Chains.{head-front, root-at, grown-before, older-front, none-front, unfronted-at}
+use Rattle.sig_audit.proofs.Chains.{head-front, root-at, grown-before, older-front, none-front}
 use Rattle.sig_audit.specs.Fronts.{IsOfFront}
 use Rattle.sig_audit.proofs.head_collision.collision_beside.Goals as goal
 

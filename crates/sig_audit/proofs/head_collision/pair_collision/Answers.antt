@@ -1,6 +1,5 @@
-use Rattle.std.proofs.Common.{rules, ◌≡◌, take, refl, sym, ◌∙◌}
+use Rattle.std.proofs.Common.{rules, ◌≡◌, refl, ◌∙◌}
 use Rattle.std.proofs.lemmas.Result.{IfOk-weaker}
-use Rattle.sig_merkle.specs.Root.{root}
 use Rattle.sig_audit.proofs.Chains.{grown-consistent, older-known, older-decided}
 use Rattle.sig_audit.proofs.head_collision.pair_collision.Goals as goal
 
