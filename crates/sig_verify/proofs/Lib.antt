@@ -1,3 +1,4 @@
+pub mod AloneAnchors
 pub mod Artifacts
 pub mod BundleVerdicts
 pub mod CertificateBytes

@@ -1,6 +1,6 @@
 -- The links `fulcio`, `anchor` and `ctfe`: what a trusted root means says which of them fails first.
 use Rattle.std.proofs.Common.{◌≡◌, ◌≢◌, ◌⊎◌, ℕ, ℤ, List, [], ◌∷◌, Result, Ok, Err, inl, inr, refl, sym, ap, subst}
-use Rattle.std.proofs.Common.{◌∙◌}
+use Rattle.std.proofs.Common.{◌∙◌, ◌≤◌, arith}
 use Rattle.std.specs.List.{AllByRecursion}
 use Rattle.sig_base.specs.declared.error.SigstoreError.{SigstoreError}
 use Rattle.sig_base.specs.declared.error.SigstoreError.TheVariants.{CertificatePoolError, OutOfMemory}
@@ -13,6 +13,7 @@ use Rattle.sig_root.specs.Picked.{unless_empty}
 use Rattle.sig_root.specs.declared.record.TrustedRoot.{TrustedRoot}
 use Rattle.sig_base.specs.declared.fault.TrustPart.TheVariants as part
 use Rattle.sig_x509.proofs.AnchorLaws.{first_refused}
+use Rattle.sig_x509.specs.Pool.{Pool, most_intermediates}
 use Rattle.sig_x509.specs.Issuance.{AreAnchors, IsFirstNoAnchor}
 use Rattle.sig_verify.specs.Judged.{IsOfFirst}
 use Rattle.sig_verify.specs.LinkLaws.{RootsAreJudged}
@@ -48,12 +49,16 @@ anchors_of (t ∷ ts) all = let rest = anchors_of ts all.1 in (all.0.0 ∷ rest.
 not_all_anchors : (ders : List (List ℕ)) (place : ℕ) → IsFirstNoAnchor ders place → ¬ AllByRecursion IsSomeAnchor ders
 not_all_anchors ders place is all =
     let found = anchors_of ders all in
-    wrong found.0 ((first_refused ders (Ok found.0) found.1 tt place).1 is)
+    wrong (record { anchors = found.0; intermediates = [] })
+    ((first_refused ders [] (Ok (record { anchors = found.0; intermediates = [] })) found.1 tt place).1 (few, is))
   where
-    wrong : (cs : List Cert) → ◌≡◌ {A = Result (List Cert) PoolError} (Ok cs) (Err pool.OutOfMemory)
-        ⊎ ◌≡◌ {A = Result (List Cert) PoolError} (Ok cs) (Err (pool.Anchor place)) → ⊥
-    wrong cs (inl e) = cc
-    wrong cs (inr e) = cc
+    few : 0 ≤ most_intermediates
+    few = omega arith
+
+    wrong : (p : Pool) → ◌≡◌ {A = Result Pool PoolError} (Ok p) (Err pool.OutOfMemory)
+        ⊎ ◌≡◌ {A = Result Pool PoolError} (Ok p) (Err (pool.Anchor place)) → ⊥
+    wrong p (inl e) = cc
+    wrong p (inr e) = cc
 
 module _ (root : TrustedRoot) (now : ℤ) where
   all_hold : (trusted : Trusted) → IsVerifierOf (authorities_of root now) (ct_keys_of root now) trusted

@@ -1,5 +1,5 @@
 //! `Verifier`: what bundles are verified against.
-ghost use Rattle.std.specs.Prelude.{◌≡◌, IfOk, IfErr};
+ghost use Rattle.std.specs.Prelude.{◌≡◌, [], IfOk, IfErr};
 ghost use Rattle.sig_x509.specs.Issuance.{AreAnchors};
 ghost use Rattle.sig_verify.specs.Verifier.{HasKeys, IsRefusedPool, IsRefusedRoot, IsVerifierOf, values_of};
 
@@ -22,7 +22,11 @@ impl Model for Verifier {
 
     ghost Value = { Trusted };
 
-    ghost view = { λ v. record { anchors = v.pool; ring = v.keyring } };
+    ghost view = { λ v. record { anchors = v.pool.anchors; ring = v.keyring } };
+
+    ghost use Rattle.std.specs.Prelude.{◌≡◌, []};
+
+    ghost invariant = { λ v. v.pool.intermediates ≡ [] };
 }
 
 impl Verifier {
@@ -47,12 +51,15 @@ impl Verifier {
     }
 }
 
-/// Returns the pool of these trust anchors.
+/// Returns the pool of these trust anchors, without intermediates.
+#[tactic(auto, using(crate::proofs::AloneAnchors::alone_anchors))]
 fn pool_of(alloc: Global, certs: &Entries) -> sig_base::Result<CertificatePool>
-    ensures made { IfOk result (AreAnchors certs.now) }
+    ensures made { IfOk result (λ pool. AreAnchors certs.now pool.anchors) }
+    ensures alone { IfOk result (λ pool. pool.intermediates ≡ []) }
     ensures refused { IfErr result (IsRefusedPool certs.now) }
 {
-    match CertificatePool::from_certificates(alloc, certs) {
+    let none = Entries::new(alloc);
+    match CertificatePool::from_certificates(alloc, certs, &none) {
         Ok(pool) => Ok(pool),
         Err(PoolError::OutOfMemory) => Err(SigstoreError::OutOfMemory),
         Err(error) => Err(SigstoreError::CertificatePoolError(error)),

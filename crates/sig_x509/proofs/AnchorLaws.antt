@@ -1,6 +1,6 @@
 -- Texts of anchors: the first that is none is refused, and no other.
 use Rattle.std.proofs.Common.{◌≡◌, ◌⊎◌, ℕ, zero, suc, ◌<◌, List, [], ◌∷◌, take, Some, Result, Ok, Err}
-use Rattle.std.proofs.Common.{refl, ap, subst, inl, inr, arith}
+use Rattle.std.proofs.Common.{length, ◌≤◌, refl, sym, ap, subst, ◌∙◌, inl, inr, arith}
 use Rattle.std.specs.Prelude.{slice_get, IfOk, IfErr}
 use Rattle.std.proofs.lemmas.Bool.{cases_order}
 use Rattle.sig_base.specs.declared.fault.PoolError.{PoolError}
@@ -8,7 +8,8 @@ use Rattle.sig_base.specs.declared.fault.PoolError.TheVariants.{TooMany, Anchor,
 use Rattle.sig_base.specs.declared.fault.PoolError.TheVariants.{OutOfMemory}
 use Rattle.sig_base.specs.Answers.{ComesWhere}
 use Rattle.sig_certificate.specs.Certificate.{Cert}
-use Rattle.sig_x509.specs.Issuance.{IsAnchor, IsNoAnchor, AreAnchors, IsFirstNoAnchor, IsPoolRefusal}
+use Rattle.sig_x509.specs.Issuance.{IsAnchor, IsNoAnchor, AreAnchors, IsFirstNoAnchor}
+use Rattle.sig_x509.specs.Pool.{IsPoolRefusal, Pool, most_intermediates}
 
 at_front : (u t : List ℕ) (c : Cert) → IsAnchor u c → Some u ≡ Some t → IsNoAnchor t → ⊥
 at_front u t c is got none =
@@ -42,16 +43,37 @@ only_first texts p q a b = by_order (cases_order p q)
     by_order (inr (inl lt)) = absurd (among_first q texts b.anchors p a.der b.before lt a.there a.no)
     by_order (inr (inr lt)) = absurd (among_first p texts a.anchors q b.der a.before lt b.there b.no)
 
-pub first_refused : (texts : List (List ℕ)) (r : Result (List Cert) PoolError) → IfOk r (AreAnchors texts)
-    → IfErr r (IsPoolRefusal texts)
-    → (index : ℕ) → ComesWhere OutOfMemory r (Err (Anchor index)) (IsFirstNoAnchor texts index)
-first_refused texts (Ok cs) are refused index =
-    ((λ e. absurd cc), (λ is. absurd (among texts cs index is.der are is.there is.no)))
-first_refused texts (Err (Anchor found)) are refused index = (
-  (λ e. let same : found ≡ index = cc in subst (λ (n : ℕ). IsFirstNoAnchor texts n) same refused),
-  (λ is. inr (ap (λ (n : ℕ). Err (Anchor n)) (only_first texts found index refused is))),
-)
-first_refused texts (Err OutOfMemory) are refused index = ((λ e. absurd cc), (λ is. inl refl))
-first_refused texts (Err (TooMany count)) are refused index = absurd refused
-first_refused texts (Err Malformed) are refused index = absurd refused
-first_refused texts (Err VerificationFailed) are refused index = absurd refused
+module _ (roots ders : List (List ℕ)) where
+  pub first_refused : (r : Result Pool PoolError) → IfOk r (λ p. AreAnchors roots p.anchors)
+      → IfErr r (IsPoolRefusal roots ders)
+      → (index : ℕ)
+      → ComesWhere OutOfMemory r (Err (Anchor index))
+      ((length ders ≤ most_intermediates) × IsFirstNoAnchor roots index)
+  first_refused (Ok p) are refused index =
+      ((λ e. absurd cc), (λ is. absurd (among roots p.anchors index is.1.der are is.1.there is.1.no)))
+  first_refused (Err (Anchor found)) are refused index = (
+    (λ e. let same : found ≡ index = cc in
+        (refused.0, subst (λ (n : ℕ). IsFirstNoAnchor roots n) same refused.1)),
+    (λ is. inr (ap (λ (n : ℕ). Err (Anchor n)) (only_first roots found index refused.1 is.1))),
+  )
+  first_refused (Err OutOfMemory) are refused index = ((λ e. absurd cc), (λ is. inl refl))
+  first_refused (Err (TooMany count)) are refused index =
+      ((λ e. absurd cc), (λ is. absurd (omega (arith, refused.1, is.0))))
+  first_refused (Err Malformed) are refused index = absurd refused
+  first_refused (Err VerificationFailed) are refused index = absurd refused
+
+  pub too_many : (r : Result Pool PoolError) → IfOk r (λ p. length ders ≤ most_intermediates)
+      → IfErr r (IsPoolRefusal roots ders)
+      → (count : ℕ)
+      → ComesWhere OutOfMemory r (Err (TooMany count))
+      ((count ≡ length ders) × (most_intermediates < length ders))
+  too_many (Ok p) few refused count = ((λ e. absurd cc), (λ is. absurd (omega (arith, few, is.1))))
+  too_many (Err (TooMany found)) few refused count = (
+    (λ e. let same : found ≡ count = cc in (sym same ∙ refused.0, refused.1)),
+    (λ is. inr (ap (λ (n : ℕ). Err (TooMany n)) (refused.0 ∙ sym is.0))),
+  )
+  too_many (Err OutOfMemory) few refused count = ((λ e. absurd cc), (λ is. inl refl))
+  too_many (Err (Anchor found)) few refused count =
+      ((λ e. absurd cc), (λ is. absurd (omega (arith, refused.0, is.1))))
+  too_many (Err Malformed) few refused count = absurd refused
+  too_many (Err VerificationFailed) few refused count = absurd refused

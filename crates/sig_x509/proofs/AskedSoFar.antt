@@ -12,13 +12,14 @@ use Rattle.std.specs.Cmp.{Equal-is}
 use borrow.Author.Count.{below_more}
 use Rattle.std.proofs.lemmas.Bool.{cond_both, both_ways}
 use Rattle.std.proofs.lemmas.Cmp.{tied_itself, nat_list_cmp_total}
+use Rattle.std.proofs.lemmas.List.{length_push}
 use Rattle.std.proofs.lemmas.List.Elements.{All-nil, All-push, All-weaker, Contains-append_left, Contains-push}
 use Rattle.std.proofs.lemmas.List.Quantifiers.{all_pairs_push}
 use Rattle.std.proofs.lemmas.Map.Lookups.{exact_bytes}
 use Rattle.std.proofs.lemmas.Option.{same_Some, slice_get_within}
 use Rattle.sig_base.proofs.Orderings.{both_tie}
 use Rattle.sig_certificate.specs.Certificate.{Cert}
-use Rattle.sig_x509.specs.AskedAnchors.{IsFirstOfItsKey, IsCovered, AreAsked}
+use Rattle.sig_x509.specs.AskedAnchors.{IsFirstOfItsKey, IsCovered, AreAsked, AreFewAsked}
 
 -- ---- the set of the subjects and SPKIs so far
 
@@ -57,6 +58,8 @@ pub record AreAskedSoFar (anchors : List Cert) (n : ℕ) (seen : BTreeSet Key) (
   pub covers : (index : ℕ) (x : Cert) → index < n → slice_get anchors index ≡ Some x → IsCovered anchors asked index x
   pub ascends : AllPairs (λ one later. one < later) asked
   pub below : All (λ index. index < n) asked
+  pub within : n ≤ length anchors
+  pub few : length asked ≤ n
 
 -- before the first anchor
 pub none_so_far : (anchors : List Cert) (seen : BTreeSet Key) (asked : List ℕ) → seen.keys ≡ [] → asked ≡ []
@@ -68,16 +71,21 @@ none_so_far anchors seen asked no_keys none = record {
   covers = λ index x lt got. absurd (omega (arith, lt));
   ascends = rw none (λ i j d lt within. absurd (omega arith));
   below = rw none (All-nil (λ index. index < 0));
+  within = omega arith;
+  few = omega (arith, ap (λ (is : List ℕ). length is) none);
 }
 
 -- after the last
 pub all_asked : (anchors : List Cert) (n : ℕ) (seen : BTreeSet Key) (asked : List ℕ) → length anchors ≤ n
-    → AreAskedSoFar anchors n seen asked → AreAsked anchors asked
-all_asked anchors n seen asked done so_far = record {
-  firsts = so_far.firsts;
-  covers = λ index x got. so_far.covers index x (let within = slice_get_within anchors index x got in omega arith) got;
-  ascends = so_far.ascends;
-}
+    → AreAskedSoFar anchors n seen asked → AreFewAsked anchors asked
+all_asked anchors n seen asked done so_far = (
+  record {
+    firsts = so_far.firsts;
+    covers = λ index x got. so_far.covers index x (let within = slice_get_within anchors index x got in omega arith) got;
+    ascends = so_far.ascends;
+  },
+  omega (arith, so_far.few, so_far.within),
+)
 
 -- ---- one anchor more
 
@@ -163,6 +171,8 @@ module _ (anchors : List Cert) (n : ℕ) (x : Cert) (there : slice_get anchors n
       below = rw are (All-push (λ index. index < n + 1) asked n
           (All-weaker (λ index. index < n) (λ index. index < n + 1) (λ index lt. omega arith) asked so_far.below)
           (omega arith));
+      within = let lt = slice_get_within anchors n x there in omega (arith, lt);
+      few = omega (arith, so_far.few, ap (λ (is : List ℕ). length is) are ∙ length_push asked n);
     }
       where
         before : (index : ℕ) (y : Cert) → slice_get anchors index ≡ Some y → index < n → IsCovered anchors more index y
@@ -201,6 +211,8 @@ module _ (anchors : List Cert) (n : ℕ) (x : Cert) (there : slice_get anchors n
           (λ at less got. so_far.covers at y less got) (λ got. last y got) index lt;
       ascends = so_far.ascends;
       below = All-weaker (λ index. index < n) (λ index. index < n + 1) (λ index lt. omega arith) asked so_far.below;
+      within = let lt = slice_get_within anchors n x there in omega (arith, lt);
+      few = omega (arith, so_far.few);
     }
       where
         last : (y : Cert) → slice_get anchors n ≡ Some y → IsCovered anchors asked n y

@@ -1,13 +1,15 @@
 -- How often an object identifier stands, by what a look-up finds; what is left of a list.
 use Rattle.std.proofs.Common.{◌≡◌, ℕ, ◌≤◌, ◌&&◌, Bool, true, false, cond, List, [], ◌∷◌, length}
-use Rattle.std.proofs.Common.{ℤ, Option, Err, refl, sym, ap, ◌∙◌, arith}
-use Rattle.std.specs.Prelude.{nat_eq, position}
+use Rattle.std.proofs.Common.{Option, Some, None, refl, sym, ap, ◌∙◌, arith}
+use Rattle.std.specs.Prelude.{nat_eq}
 use Rattle.std.specs.List.{list_all}
 use Rattle.std.proofs.lemmas.Bool.{ne_eqb}
 use Rattle.sig_certificate.proofs.Readings.{read, read_same}
 use Rattle.sig_certificate.specs.Certificate.{Extension, Cert}
-use Rattle.sig_base.specs.declared.fault.PoolError.TheVariants.{Malformed}
-use Rattle.sig_x509.specs.Issuance.{Accepts, placed, is_issued, is_profiled, issuer_of, is_unconstrained}
+use Rattle.sig_certificate.specs.Profile.{held, read_as}
+use Rattle.sig_certificate.specs.Trust.{may_sign_code}
+use Rattle.sig_x509.specs.Issuance.{is_unconstrained}
+use Rattle.sig_x509.specs.PathSearch.{may_issue_code}
 
 pub none_absent : (es : List Extension) → es ≡ [] → nat_eq (length es) 0 ≡ true
 none_absent es is = rw is refl
@@ -44,12 +46,33 @@ no_anchor c d b same answer is un =
     let wrong : true ≡ false = sym un ∙ ap (λ (x : Cert). is_unconstrained x) (read_same c d same) ∙ sym is ∙ answer in
     absurd cc
 
--- ---- the issuer
+-- ---- purposes, by what a look-up finds
 
-pub judged : (accepts : Accepts) (anchors : List Cert) (c : Cert) (t s : ℤ) (b : Bool) (o : Option ℕ) → s ≡ t
-    → b ≡ true → b ≡ is_profiled c
-    → o ≡ position (is_issued accepts c s) anchors → placed o ≡ issuer_of accepts anchors c t
-judged accepts anchors c t s b o time profiled is found =
-    ap placed (found ∙ ap (λ (x : ℤ). position (is_issued accepts c x) anchors) time)
-    ∙ sym (ap (λ (x : Bool). cond x (placed (position (is_issued accepts c t) anchors)) (Err Malformed))
-    (sym is ∙ profiled))
+held_issues : (read : Extension → Option Bool) (e : Extension)
+    → may_sign_code (held read (e ∷ [])) ≡ may_issue_code (held read (e ∷ []))
+held_issues read e = by (read e)
+  where
+    by : (o : Option Bool) → may_sign_code (read_as o) ≡ may_issue_code (read_as o)
+    by None = refl
+    by (Some b) = refl
+
+module _ (read : Extension → Option Bool) (es : List Extension) where
+  pub absent_issues : es ≡ [] → true ≡ may_issue_code (held read es)
+  absent_issues none = sym (ap (λ (xs : List Extension). may_issue_code (held read xs)) none)
+
+  pub one_issues : (e : Extension) (b : Bool) → es ≡ e ∷ [] → b ≡ may_sign_code (held read es)
+      → b ≡ may_issue_code (held read es)
+  one_issues e b one is =
+      is ∙ ap (λ (xs : List Extension). may_sign_code (held read xs)) one
+      ∙ held_issues read e
+      ∙ sym (ap (λ (xs : List Extension). may_issue_code (held read xs)) one)
+
+  pub several_issue : (b : Bool) → 2 ≤ length es → b ≡ may_sign_code (held read es) → b ≡ may_issue_code (held read es)
+  several_issue b many is = is ∙ by es many
+    where
+      by : (xs : List Extension) → 2 ≤ length xs → may_sign_code (held read xs) ≡ may_issue_code (held read xs)
+      by [] many = absurd (omega (arith, many))
+      by (e ∷ []) many = absurd (omega (arith, many))
+      by (e ∷ f ∷ xs) many = refl
+
+pub ruleset purpose_laws = (absent_issues, one_issues, several_issue)

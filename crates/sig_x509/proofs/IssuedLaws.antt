@@ -24,7 +24,6 @@ use Rattle.sig_certificate.specs.Trust.{may_sign_code}
 use Rattle.sig_x509.specs.Issuance.{Accepts, may_be_critical, is_understood, are_understood, is_fit, is_no_authority}
 use Rattle.sig_x509.specs.Issuance.{is_profiled, is_issued, placed, issuer_of}
 use Rattle.sig_x509.specs.Issued.{MayBeCritical, IsFit, HasProfile, IsIssuedBy, IsIssuedByNone, IsFirstIssuer}
-use Rattle.sig_x509.specs.Issued.{HasNoProfile, IsIssuedText, IsUnissuedText, IsJudgedText}
 use Rattle.sig_certificate.proofs.DistinctLaws.{distinct_from, distinct_is}
 
 -- ---- extensions
@@ -285,85 +284,3 @@ module _ (accepts : Accepts) (anchors : List Cert) (c : Cert) (t : ℤ) where
         to (inl is) f =
             (is, none_from_position accepts c t anchors (placed_none Found (sym (profiled is) ∙ sym e ∙ f)))
         to (inr not_so) f = let wrong = sym (unprofiled not_so) ∙ sym e ∙ f in absurd cc
-
--- ---- the answers of a text
-
-answers_itself : (r m : Result ℕ PoolError) → r ≡ m → Answers OutOfMemory (λ (index : ℕ). index) r m
-answers_itself (Ok index) m e = sym e
-answers_itself (Err x) m e = inr (sym e)
-
-memory : (r : Result ℕ PoolError) → r ≡ Err OutOfMemory → (m : Result ℕ PoolError)
-    → Answers OutOfMemory (λ (index : ℕ). index) r m
-memory (Ok index) e m = absurd cc
-memory (Err x) e m = inl cc
-
-module _ (accepts : Accepts) (text : List ℕ) (t : ℤ) (anchors : List Cert) (r : Result ℕ PoolError)
-    (j : IsJudgedText accepts text t anchors r) where
-  pub text_issued : (index : ℕ) → ComesWhere OutOfMemory r (Ok index) (IsIssuedText accepts text t anchors index)
-  text_issued index = (to j, from j)
-    where
-      to : IsJudgedText accepts text t anchors r → r ≡ Ok index → IsIssuedText accepts text t anchors index
-      to (inl x) f =
-          let is = (answers_issued accepts anchors x.0 t r x.2 index).0 f in
-          record { certificate = x.0; is = x.1.is; profile = is.0; issuer = is.1 }
-      to (inr (inl x)) f = let wrong = sym x.1 ∙ f in absurd cc
-      to (inr (inr x)) f = let wrong = sym x ∙ f in absurd cc
-
-      from : IsJudgedText accepts text t anchors r → IsIssuedText accepts text t anchors index
-          → (r ≡ Err OutOfMemory) ⊎ (r ≡ Ok index)
-      from (inl x) is =
-          let same = x.1.only is.certificate is.is in
-          let here =
-          subst (λ (w : Cert). HasProfile w × IsFirstIssuer accepts w t anchors index) same
-          (is.profile, is.issuer) in
-          inr ((answers_issued accepts anchors x.0 t r x.2 index).1 here)
-      from (inr (inl x)) is = absurd (x.0 is.certificate is.is)
-      from (inr (inr x)) is = inl x
-
-  pub text_malformed : ComesWhere OutOfMemory r (Err Malformed) (HasNoProfile text)
-  text_malformed = (to j, from j)
-    where
-      to : IsJudgedText accepts text t anchors r → r ≡ Err Malformed → HasNoProfile text
-      to (inl x) f =
-          λ d is has. (answers_malformed accepts anchors x.0 t r x.2).0 f
-          (subst (λ (w : Cert). HasProfile w) (x.1.only d is) has)
-      to (inr (inl x)) f = λ d is has. x.0 d is
-      to (inr (inr x)) f = let wrong = sym x ∙ f in absurd cc
-
-      from : IsJudgedText accepts text t anchors r → HasNoProfile text → (r ≡ Err OutOfMemory) ⊎ (r ≡ Err Malformed)
-      from (inl x) not_so = inr ((answers_malformed accepts anchors x.0 t r x.2).1 (not_so x.0 x.1.is))
-      from (inr (inl x)) not_so = inr x.1
-      from (inr (inr x)) not_so = inl x
-
-  pub text_unissued : ComesWhere OutOfMemory r (Err VerificationFailed) (IsUnissuedText accepts text t anchors)
-  text_unissued = (to j, from j)
-    where
-      to : IsJudgedText accepts text t anchors r → r ≡ Err VerificationFailed → IsUnissuedText accepts text t anchors
-      to (inl x) f =
-          let is = (answers_none accepts anchors x.0 t r x.2).0 f in
-          record { certificate = x.0; is = x.1.is; profile = is.0; none = is.1 }
-      to (inr (inl x)) f = let wrong = sym x.1 ∙ f in absurd cc
-      to (inr (inr x)) f = let wrong = sym x ∙ f in absurd cc
-
-      from : IsJudgedText accepts text t anchors r → IsUnissuedText accepts text t anchors
-          → (r ≡ Err OutOfMemory) ⊎ (r ≡ Err VerificationFailed)
-      from (inl x) is =
-          let same = x.1.only is.certificate is.is in
-          let here =
-          subst (λ (w : Cert). HasProfile w × IsIssuedByNone accepts w t anchors) same (is.profile, is.none) in
-          inr ((answers_none accepts anchors x.0 t r x.2).1 here)
-      from (inr (inl x)) is = absurd (x.0 is.certificate is.is)
-      from (inr (inr x)) is = inl x
-
-  -- of a certificate, the answer is that of its record
-  pub text_certificate : (c : Cert) → IsCertificate text c
-      → Answers OutOfMemory (λ (index : ℕ). index) r (issuer_of accepts anchors c t)
-  text_certificate c is = by_cases j
-    where
-      by_cases : IsJudgedText accepts text t anchors r
-          → Answers OutOfMemory (λ (index : ℕ). index) r (issuer_of accepts anchors c t)
-      by_cases (inl x) =
-          answers_itself r (issuer_of accepts anchors c t)
-          (x.2 ∙ ap (λ (w : Cert). issuer_of accepts anchors w t) (sym (x.1.only c is)))
-      by_cases (inr (inl x)) = absurd (x.0 c is)
-      by_cases (inr (inr x)) = memory r x (issuer_of accepts anchors c t)

@@ -1,7 +1,19 @@
 pub mod IssuanceLaws
 pub mod IssuedLaws
-pub mod AskedLaws
+pub mod PathAlone
+pub mod PathAnswers
+pub mod PathAsked
 pub mod AnchorLaws
 mod AskedSoFar
+mod Counts
+pub mod Elements
 mod FirstAsked
-mod FirstIssuers
+mod IndexLaws
+mod Leading
+mod PathClauses
+pub mod PathConditions
+pub mod PathTable
+mod RowLaws
+mod RowSteps
+mod Seen
+mod Walks

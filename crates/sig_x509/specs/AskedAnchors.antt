@@ -1,6 +1,6 @@
 -- *Asked anchors*: which trust anchors a checker is asked about. What it says of an anchor is told by the subject and
 -- the SPKI, so of those that have both in common it is asked about the first alone.
-use Rattle.std.specs.Prelude.{◌≡◌, ℕ, ◌<◌, ◌≤◌, List, Bool, false, Option, Some, None, slice_get, Contains}
+use Rattle.std.specs.Prelude.{◌≡◌, ℕ, ◌<◌, ◌≤◌, List, Bool, false, Option, Some, None, slice_get, Contains, length}
 use Rattle.std.specs.List.{All, AllPairs}
 use Rattle.sig_certificate.specs.Certificate.{Cert}
 use Rattle.sig_x509.specs.Issuance.{Accepts, is_signed_by}
@@ -30,6 +30,10 @@ pub record AreAsked (anchors : List Cert) (asked : List ℕ) : Type 0 where
   pub firsts : All (IsFirstOfItsKey anchors) asked
   pub covers : (index : ℕ) (x : Cert) → slice_get anchors index ≡ Some x → IsCovered anchors asked index x
   pub ascends : AllPairs (λ one later. one < later) asked
+
+-- them, of which there are no more than anchors
+abbrev pub AreFewAsked : List Cert → List ℕ → Type 0
+AreFewAsked anchors asked = AreAsked anchors asked × (length asked ≤ length anchors)
 
 -- there is a trust anchor, and it signed c
 abbrev pub has_signed : Accepts → Cert → Option Cert → Bool

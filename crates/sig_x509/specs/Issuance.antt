@@ -114,10 +114,10 @@ IsRefusedAt der index (TooMany count) = ⊥
 IsRefusedAt der index Malformed = ⊥
 IsRefusedAt der index VerificationFailed = ⊥
 
--- why there is no pool of these DERs
-abbrev pub IsPoolRefusal : List (List ℕ) → PoolError → Type 0
-IsPoolRefusal ders (Anchor index) = IsFirstNoAnchor ders index
-IsPoolRefusal ders OutOfMemory = ⊤
-IsPoolRefusal ders (TooMany count) = ⊥
-IsPoolRefusal ders Malformed = ⊥
-IsPoolRefusal ders VerificationFailed = ⊥
+-- why there is no list of trust anchors of these DERs
+abbrev pub AreRefused : List (List ℕ) → PoolError → Type 0
+AreRefused ders (Anchor index) = IsFirstNoAnchor ders index
+AreRefused ders OutOfMemory = ⊤
+AreRefused ders (TooMany count) = ⊥
+AreRefused ders Malformed = ⊥
+AreRefused ders VerificationFailed = ⊥

@@ -71,50 +71,9 @@ pub record IsFirstIssuer (accepts : Accepts) (c : Cert) (t : ℤ) (anchors : Lis
   pub first : (earlier : ℕ) (x : Cert) → earlier < index → slice_get anchors earlier ≡ Some x
       → ¬ IsIssuedBy accepts c t x
 
--- ---- what the checker is asked
-
--- Only then does the checker's word on the key of x matter: c has the profile, signs code and is valid at the time t,
--- and x has the name of its issuer.
-pub record IsAsked (c : Cert) (t : ℤ) (x : Cert) : Type 0 where
-  pub profile : HasProfile c
-  pub begun : c.not_before ≤ℤ t
-  pub lasting : t ≤ℤ c.not_after
-  pub purpose : code_signing c ≡ Ok (Some true)
-  pub issuer : c.issuer ≡ x.subject
-
--- two checkers say the same of the trust anchors that are asked
-abbrev pub AgreeWhereAsked : Accepts → Accepts → Cert → ℤ → List Cert → Type 0
-AgreeWhereAsked accepts other c t anchors =
-    (index : ℕ) (x : Cert) → slice_get anchors index ≡ Some x → IsAsked c t x
-    → accepts x.spki c.algorithm c.tbs c.signature ≡ other x.spki c.algorithm c.tbs c.signature
-
 -- ---- of bytes
-
--- the bytes are no certificate with the profile
-abbrev pub HasNoProfile : List ℕ → Type 0
-HasNoProfile der = (c : Cert) → IsCertificate der c → ¬ HasProfile c
-
--- The bytes are a certificate with the profile, and the trust anchor at the index is the first that issued it.
-pub record IsIssuedText (accepts : Accepts) (der : List ℕ) (t : ℤ) (anchors : List Cert) (index : ℕ) : Type 0 where
-  pub certificate : Cert
-  pub is : IsCertificate der certificate
-  pub profile : HasProfile certificate
-  pub issuer : IsFirstIssuer accepts certificate t anchors index
-
--- The bytes are a certificate with the profile, and no trust anchor issued it.
-pub record IsUnissuedText (accepts : Accepts) (der : List ℕ) (t : ℤ) (anchors : List Cert) : Type 0 where
-  pub certificate : Cert
-  pub is : IsCertificate der certificate
-  pub profile : HasProfile certificate
-  pub none : IsIssuedByNone accepts certificate t anchors
 
 -- The bytes are this certificate and no other.
 pub record IsOnlyCertificate (der : List ℕ) (c : Cert) : Type 0 where
   pub is : IsCertificate der c
   pub only : (d : Cert) → IsCertificate der d → d ≡ c
-
--- the result for these bytes: that of the one certificate that they are, or `Malformed`, or out of memory
-abbrev pub IsJudgedText : Accepts → List ℕ → ℤ → List Cert → Result ℕ PoolError → Type 0
-IsJudgedText accepts der t anchors answer =
-    ((c : Cert) × IsOnlyCertificate der c × (answer ≡ issuer_of accepts anchors c t))
-    ⊎ ((((c : Cert) → ¬ IsCertificate der c) × (answer ≡ Err Malformed)) ⊎ (answer ≡ Err OutOfMemory))

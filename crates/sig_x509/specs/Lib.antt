@@ -1,3 +1,9 @@
 pub mod AskedAnchors
+pub mod Candidates
 pub mod Issuance
 pub mod Issued
+pub mod Path
+pub mod PathSearch
+pub mod PathText
+pub mod Pool
+pub mod Rows

@@ -1,17 +1,19 @@
-//! Which certificates may be issued, and by which trust anchor: RFC 5280 sections 4.2 and 6.1, in the profile of
+//! Which certificates may be issued, and which may issue them: RFC 5280 sections 4.2 and 6.1, in the profile of
 //! Sigstore.
 
-ghost use Rattle.std.specs.Prelude.{◌≡◌};
+ghost use Rattle.std.specs.Prelude.{◌≡◌, ◌+◌, ◌≤◌, is_none};
 ghost use Rattle.sig_certificate.specs.Lookups.{borrowed_extension, with_oid};
-ghost use Rattle.sig_certificate.specs.Profile.{constraints};
+ghost use Rattle.sig_certificate.specs.Profile.{ca_refusal, code_signing, constraints};
 ghost use Rattle.sig_x509.specs.Issuance.{may_be_critical, is_understood, are_understood, is_unconstrained, is_fit};
-ghost use Rattle.sig_x509.specs.Issuance.{is_no_authority, is_profiled, is_signed_by, signs_code_at};
+ghost use Rattle.sig_x509.specs.Issuance.{is_no_authority, is_profiled, is_signed_by, is_within, signs_code_at};
+ghost use Rattle.sig_x509.specs.PathSearch.{may_issue, may_issue_code};
 
-use sig_base::SignatureChecker;
-use sig_certificate::{Certificate, ExtensionRef, Lookup, basic_constraints, may_sign_code};
+use sig_base::{SignatureChecker, Steps};
+use sig_certificate::{Certificate, ExtensionRef, Lookup, basic_constraints, is_ca, may_sign_code};
 use sig_der::oid::{
     BASIC_CONSTRAINTS, EXTENDED_KEY_USAGE, KEY_USAGE, NAME_CONSTRAINTS, SUBJECT_ALTERNATIVE_NAME,
 };
+use std::sync::ledger::Ledger;
 
 fn may_be_critical(oid: &[u8]) -> bool
     ensures { result ≡ may_be_critical oid.now }
@@ -90,20 +92,64 @@ pub(crate) fn signs_code_at(certificate: &Certificate, time: i64) -> bool
         && may_sign_code(certificate)
 }
 
-/// Whether the trust anchor signed the certificate. The checker is asked only if the trust anchor's name is that of the
+/// Whether the signer signed the certificate. The checker is asked, which is a step, only if the signer's subject is the
 /// issuer.
-pub(crate) fn is_signed_by<C: SignatureChecker>(
+pub(crate) fn is_signed_by<C: SignatureChecker, L: Ledger>(
     certificate: &Certificate,
-    anchor: &Certificate,
+    signer: &Certificate,
     checker: &C,
+    steps: &mut Steps<L>,
 ) -> bool
-    ensures { result ≡ is_signed_by (C.cert_accepts checker.now) certificate.now anchor.now }
+    ensures signed { result ≡ is_signed_by (C.cert_accepts checker.now) certificate.now signer.now }
+    ensures steps { steps.new ≤ steps.old + 1 }
 {
-    certificate.issuer() == anchor.subject()
-        && checker.verify_cert_signature(
-            anchor.spki(),
-            certificate.algorithm(),
-            certificate.tbs(),
-            certificate.signature(),
-        )
+    if certificate.issuer() != signer.subject() {
+        return false;
+    }
+    steps.tick();
+    checker.verify_cert_signature(
+        signer.spki(),
+        certificate.algorithm(),
+        certificate.tbs(),
+        certificate.signature(),
+    )
+}
+
+/// Whether the certificate has the profile of an authority.
+fn is_authority(certificate: &Certificate) -> bool
+    ensures { result ≡ is_none (ca_refusal certificate.now) }
+{
+    match is_ca(certificate) {
+        Ok(()) => true,
+        Err(_) => false,
+    }
+}
+
+/// Whether the certificate is valid at the time, in seconds since 1970.
+fn is_within(certificate: &Certificate, time: i64) -> bool
+    ensures { result ≡ is_within certificate.now time }
+{
+    certificate.not_before() <= time && time <= certificate.not_after()
+}
+
+/// Whether the certificate may issue others of code signing at the time, in seconds since 1970.
+pub(crate) fn may_issue(certificate: &Certificate, time: i64) -> bool
+    ensures { result ≡ may_issue time certificate.now }
+{
+    is_fit(certificate)
+        && is_authority(certificate)
+        && is_within(certificate, time)
+        && may_issue_code(certificate)
+}
+
+/// Whether the extended key usage is absent or has code signing (RFC 5280 section 4.2.1.12).
+#[tactic(auto, using(crate::proofs::IssuanceLaws::purpose_laws))]
+fn may_issue_code(certificate: &Certificate) -> bool
+    ensures { result ≡ may_issue_code (code_signing certificate.now) }
+{
+    match certificate.extension(EXTENDED_KEY_USAGE) {
+        Lookup::Absent => true,
+        Lookup::One(_) => may_sign_code(certificate),
+        Lookup::Several => may_sign_code(certificate),
+    }
 }

@@ -1,40 +1,50 @@
-//! `CertificatePool`: the trust anchors that may have issued a certificate.
+//! `CertificatePool`: the trust anchors that may have issued a certificate, and the intermediates that may lead to them.
 
-ghost use Rattle.std.specs.Prelude.{◌≡◌, ◌↔◌, ℕ, Ok, Err, option_map, slice_get, position, IfOk, IfErr, IsErrOf};
+ghost use Rattle.std.specs.Prelude.{◌≡◌, ℕ, ◌+◌, ◌<◌, ◌≤◌, length, Ok, Err, option_map, IfOk, IfErr};
 ghost use Rattle.sig_base.specs.Answers.{Answers, ComesWhere};
 ghost use Rattle.sig_certificate.specs.Certificate.{Cert, IsCertificate};
-ghost use Rattle.sig_x509.specs.Issuance.{Accepts, is_issued, is_signed_by, issuer_of, IsAnchor, AreAnchors};
-ghost use Rattle.sig_x509.specs.Issuance.{IsFirstNoAnchor, IsRefusedAt, IsPoolRefusal};
-ghost use Rattle.sig_x509.specs.Issued.{HasProfile, IsFirstIssuer, IsIssuedByNone, HasNoProfile, IsIssuedText};
-ghost use Rattle.sig_x509.specs.Issued.{IsUnissuedText, IsJudgedText};
-ghost use Rattle.sig_x509.specs.Issued.{AgreeWhereAsked};
+ghost use Rattle.sig_x509.specs.Issuance.{Accepts, AreAnchors, AreRefused, IsAnchor, IsFirstNoAnchor, IsRefusedAt};
+ghost use Rattle.sig_x509.specs.Issued.{HasProfile};
+ghost use Rattle.sig_x509.specs.Path.{IsFirstInPath, HasNoPath, AgreeOnPaths};
+ghost use Rattle.sig_x509.specs.PathSearch.{most_questions, path_issuer};
+ghost use Rattle.sig_x509.specs.PathText.{HasNoProfile, IsIssuedText, IsJudgedText, IsUnissuedText};
+ghost use Rattle.sig_x509.specs.Pool.{AreReadAs, IsPoolRefusal, IsReadAs, certificate_of, most_intermediates};
+ghost use Rattle.sig_x509.specs.Pool.{with_further};
+ghost use Rattle.sig_x509.specs.declared.issuer.Issuer.{Issuer};
 
-use crate::asked::{asked_of, first_signer_of};
-use crate::issuance::{is_profiled, is_unconstrained, signs_code_at};
-use sig_base::{Entries, PoolError, Register, SignatureChecker};
+use crate::asked::asked_of;
+use crate::issuance::is_unconstrained;
+use crate::issuer::Issuer;
+use sig_base::{Entries, OutOfMemory, PoolError, Register, SignatureChecker, Steps};
 use sig_certificate::{Certificate, X509ReadError};
 use std::alloc::Global;
 use std::marker::Model;
+use std::sync::ledger::Ledger;
 
-/// Trust anchors, in order: certificates that are trusted by themselves, and have no name constraints; and the indices
-/// of those that a checker is asked about. Contracts see the list of the trust anchors' records.
+/// How many intermediates a pool has at most.
+const MOST_INTERMEDIATES: usize = 1024;
+
+/// Trust anchors, in order: certificates that are trusted by themselves, and have no name constraints; and the
+/// intermediates that may lead to them, in order, which are not trusted. Contracts see both lists; an intermediate whose
+/// bytes are no certificate has its index, and is absent. Beside them are the indices of the trust anchors that a checker
+/// is asked about.
 #[derive(Drop)]
 pub struct CertificatePool {
-    anchors: Register<Certificate>,
-    asked: Vec<usize>,
+    pub(crate) anchors: Register<Certificate>,
+    pub(crate) asked: Vec<usize>,
+    pub(crate) intermediates: Register<Option<Certificate>>,
 }
 
 impl Model for CertificatePool {
-    ghost use Rattle.std.specs.Prelude.{List};
-    ghost use Rattle.sig_certificate.specs.Certificate.{Cert};
+    ghost use Rattle.sig_x509.specs.Pool.{Pool};
 
-    ghost Value = { List Cert };
+    ghost Value = { Pool };
 
-    ghost view = { λ p. p.anchors };
+    ghost view = { λ p. record { anchors = p.anchors; intermediates = p.intermediates } };
 
-    ghost use Rattle.sig_x509.specs.AskedAnchors.{AreAsked};
+    ghost use Rattle.sig_x509.specs.AskedAnchors.{AreFewAsked};
 
-    ghost invariant = { λ p. AreAsked p.anchors p.asked.items };
+    ghost invariant = { λ p. AreFewAsked p.anchors p.asked.items };
 }
 
 /// Returns the trust anchor that the bytes at this index are. Fails with `Anchor` and the index if and only if they
@@ -56,175 +66,261 @@ fn read_anchor(alloc: Global, index: usize, der: &[u8]) -> Result<Certificate, P
     }
 }
 
+/// Returns the trust anchors, one by one. Fails with `Anchor` and the index of the first that is none.
+fn read_anchors(alloc: Global, ders: &Entries) -> Result<Register<Certificate>, PoolError>
+    ensures anchors { IfOk result (AreAnchors ders.now) }
+    ensures refused { IfErr result (AreRefused ders.now) }
+{
+    let mut anchors = Register::new(alloc);
+    'ders: for (index, der) in ders.as_slice().iter().enumerate() {
+        let anchor = read_anchor(alloc, index, der.as_slice())?;
+        anchors.push(anchor)?;
+    }
+    Ok(anchors)
+}
+
+/// Returns the certificate that the bytes are, `None` if they are none. Fails only if out of memory.
+fn read_intermediate(alloc: Global, der: &[u8]) -> Result<Option<Certificate>, OutOfMemory>
+    ensures { IfOk result (IsReadAs der.now) }
+{
+    match Certificate::try_from_der(alloc, der) {
+        Ok(certificate) => Ok(Some(certificate)),
+        Err(X509ReadError::Der) => Ok(None),
+        Err(X509ReadError::OutOfMemory) => Err(OutOfMemory),
+    }
+}
+
+/// Returns the intermediates, one by one. Fails only if out of memory.
+fn read_intermediates(
+    alloc: Global,
+    ders: &Entries,
+) -> Result<Register<Option<Certificate>>, OutOfMemory>
+    ensures { IfOk result (AreReadAs ders.now) }
+{
+    let mut intermediates = Register::new(alloc);
+    'ders: for der in ders.as_slice() {
+        let intermediate = read_intermediate(alloc, der.as_slice())?;
+        intermediates.push(intermediate)?;
+    }
+    Ok(intermediates)
+}
+
 impl CertificatePool {
-    /// Returns the pool of these trust anchors (DER). Errors:
+    /// Returns the pool of these trust anchors and intermediates (DER). An intermediate that is no certificate keeps its
+    /// index, and issued nothing. Errors, the first that applies:
     ///
-    /// - `Anchor` with the index of the first that is no certificate or has name constraints;
+    /// - `TooMany` with the number of intermediates, which is above 1024;
+    /// - `Anchor` with the index of the first trust anchor that is no certificate or has name constraints;
     /// - `OutOfMemory`.
     pub fn from_certificates(
         alloc: Global,
         trusted_roots: &Entries,
+        untrusted_intermediates: &Entries,
     ) -> Result<CertificatePool, PoolError>
         // The anchors are those of the DERs, one by one.
-        ensures anchors { IfOk result (AreAnchors trusted_roots.now) }
-        // An error names the first DER that is no anchor, unless memory ran out.
-        ensures err { IfErr result (IsPoolRefusal trusted_roots.now) }
-        // `Anchor` is returned with an index if and only if the DER there is the first that is no anchor, unless
-        // memory ran out.
-        ensures anchor { (index : ℕ) → ComesWhere PoolError.OutOfMemory result
-            (Err (PoolError.Anchor index)) (IsFirstNoAnchor trusted_roots.now index) }
+        ensures anchors { IfOk result (λ p. AreAnchors trusted_roots.now p.anchors) }
+        // So are the intermediates; one that is no certificate is absent.
+        ensures intermediates { IfOk result (λ p. AreReadAs untrusted_intermediates.now p.intermediates) }
+        // An error has its cause, unless memory ran out.
+        ensures err { IfErr result (IsPoolRefusal trusted_roots.now untrusted_intermediates.now) }
+        // `TooMany` is returned if and only if there are more than 1024 intermediates, with their number, unless memory
+        // ran out.
+        ensures too_many { (count : ℕ) → ComesWhere PoolError.OutOfMemory result (Err (PoolError.TooMany count))
+            ((count ≡ length untrusted_intermediates.now)
+            × (most_intermediates < length untrusted_intermediates.now)) }
+        // `Anchor` is returned with an index if and only if there are no more, and the DER there is the first that is no
+        // anchor, unless memory ran out.
+        ensures anchor { (index : ℕ) → ComesWhere PoolError.OutOfMemory result (Err (PoolError.Anchor index))
+            ((length untrusted_intermediates.now ≤ most_intermediates)
+            × IsFirstNoAnchor trusted_roots.now index) }
     {
-        CertificatePool::read(alloc, trusted_roots)
+        CertificatePool::read(alloc, trusted_roots, untrusted_intermediates)
     }
 
-    fn read(alloc: Global, trusted_roots: &Entries) -> Result<CertificatePool, PoolError>
-        ensures anchors { IfOk result (AreAnchors trusted_roots.now) }
-        ensures err { IfErr result (IsPoolRefusal trusted_roots.now) }
+    fn read(
+        alloc: Global,
+        trusted_roots: &Entries,
+        untrusted_intermediates: &Entries,
+    ) -> Result<CertificatePool, PoolError>
+        ensures anchors { IfOk result (λ p. AreAnchors trusted_roots.now p.anchors) }
+        ensures intermediates { IfOk result (λ p. AreReadAs untrusted_intermediates.now p.intermediates) }
+        ensures few { IfOk result (λ p. length untrusted_intermediates.now ≤ most_intermediates) }
+        ensures err { IfErr result (IsPoolRefusal trusted_roots.now untrusted_intermediates.now) }
     {
-        let mut anchors = Register::new(alloc);
-        'ders: for (index, der) in trusted_roots.as_slice().iter().enumerate() {
-            let anchor = read_anchor(alloc, index, der.as_slice())?;
-            anchors.push(anchor)?;
+        let count = untrusted_intermediates.len();
+        if count > MOST_INTERMEDIATES {
+            return Err(PoolError::TooMany(count));
         }
-        let asked = asked_of(alloc, anchors.as_slice())?;
-        Ok(CertificatePool { anchors, asked })
-    }
-
-    /// Returns the index of the first trust anchor that signed the leaf. The checker is asked at most once for each
-    /// different subject and SPKI.
-    fn first_signer<C: SignatureChecker>(&self, leaf: &Certificate, checker: &C) -> Option<usize>
-        ensures { result ≡ position (is_signed_by (C.cert_accepts checker.now) leaf.now) self.now }
-    {
-        first_signer_of(leaf, self.anchors.as_slice(), &self.asked, checker)
-    }
-
-    /// Returns the index of the first trust anchor that issued the leaf, which signs code at the time: that is asked
-    /// once, and not of each trust anchor.
-    #[tactic(auto, using(crate::proofs::FirstIssuers::first_issuers))]
-    fn first_issuer<C: SignatureChecker>(
-        &self,
-        leaf: &Certificate,
-        time: i64,
-        checker: &C,
-    ) -> Option<usize>
-        ensures { result ≡ position (is_issued (C.cert_accepts checker.now) leaf.now time) self.now }
-    {
-        if !signs_code_at(leaf, time) {
-            return None;
-        }
-        self.first_signer(leaf, checker)
-    }
-
-    /// Returns the index of the first trust anchor that issued the leaf, or why there is none.
-    fn check<C: SignatureChecker>(
-        &self,
-        leaf: &Certificate,
-        time: i64,
-        checker: &C,
-    ) -> Result<usize, PoolError>
-        ensures { result ≡ issuer_of (C.cert_accepts checker.now) self.now leaf.now time }
-    {
-        if !is_profiled(leaf) {
-            return Err(PoolError::Malformed);
-        }
-        match self.first_issuer(leaf, time, checker) {
-            Some(index) => Ok(index),
-            None => Err(PoolError::VerificationFailed),
+        // No `?`: what the error says of the bytes is a fact of this arm.
+        match read_anchors(alloc, trusted_roots) {
+            Err(error) => Err(error),
+            Ok(anchors) => {
+                let asked = asked_of(alloc, anchors.as_slice())?;
+                let intermediates = read_intermediates(alloc, untrusted_intermediates)?;
+                Ok(CertificatePool {
+                    anchors,
+                    asked,
+                    intermediates,
+                })
+            }
         }
     }
 
-    /// Returns the index of the first trust anchor that issued the leaf, which signs code at the time, in seconds
-    /// since 1970 (RFC 5280 section 6.1). It takes no memory. The checker's word matters only on trust anchors whose
-    /// name is that of the leaf's issuer, and it is asked at most once for each different SPKI of these. Errors:
+    /// Returns the issuer of the leaf in the first certification path (RFC 5280 section 6.1) from it to a trust anchor,
+    /// at the time, in seconds since 1970: the first trust anchor that issued the leaf; or else the first intermediate
+    /// that did and that at most five others connect to a trust anchor, each signed by the next. `further` are
+    /// intermediates that come with the leaf; their indices follow those of the pool.
+    ///
+    /// A step is a signature that the checker is asked about. It is asked only where the issuer of one certificate is the
+    /// subject of the other, and once for each two. Errors:
     ///
     /// - `Malformed` if and only if the leaf has not the profile: version 3, two equal algorithms, no duplicate
     ///   extension, no critical extensions but key usage, alternative names, basic constraints and extended key usage,
     ///   no name constraints, and basic constraints that are absent, or well formed and not cA;
-    /// - `VerificationFailed` if and only if it has the profile, and no trust anchor issued it.
-    pub fn verify_cert_with_time<C: SignatureChecker>(
+    /// - `VerificationFailed` if and only if it has the profile, and no path leads from it to a trust anchor;
+    /// - `OutOfMemory`.
+    pub fn verify_cert_with_chain<C: SignatureChecker, L: Ledger>(
         &self,
+        alloc: Global,
+        leaf: &Certificate,
+        further: &[Certificate],
+        verification_time: i64,
+        checker: &C,
+        steps: &mut Steps<L>,
+    ) -> Result<Issuer, PoolError>
+        requires few { length further.now ≤ 16 }
+        // An issuer is returned if and only if the leaf has the profile, this is its issuer in a path to a trust anchor,
+        // and none before it is, unless memory ran out.
+        ensures issued { (issuer : Issuer) → ComesWhere PoolError.OutOfMemory result (Ok issuer)
+            (HasProfile leaf.now × IsFirstInPath (C.cert_accepts checker.now) (with_further self.now further.now)
+            leaf.now verification_time issuer) }
+        // `Malformed` is returned if and only if it has not the profile, unless memory ran out.
+        ensures malformed { ComesWhere PoolError.OutOfMemory result (Err PoolError.Malformed)
+            (HasProfile leaf.now → ⊥) }
+        // `VerificationFailed` is returned if and only if it has the profile, and no path leads to a trust anchor,
+        // unless memory ran out.
+        ensures none { ComesWhere PoolError.OutOfMemory result (Err PoolError.VerificationFailed)
+            (HasProfile leaf.now × HasNoPath (C.cert_accepts checker.now) (with_further self.now further.now)
+            leaf.now verification_time) }
+        // The number of questions is bounded.
+        ensures steps { steps.new ≤ steps.old + most_questions (with_further self.now further.now) }
+        // The checker's word matters only on the signatures of paths that would hold if each were genuine: another
+        // checker that says the same of these has the same result.
+        ensures asked { (other : Accepts) → AgreeOnPaths
+            (C.cert_accepts checker.now) other (with_further self.now further.now) leaf.now verification_time
+            → Answers PoolError.OutOfMemory (λ issuer. issuer) result
+            (path_issuer other (with_further self.now further.now) leaf.now verification_time) }
+        // The same in one equation.
+        ensures exact { Answers PoolError.OutOfMemory (λ issuer. issuer) result (path_issuer
+            (C.cert_accepts checker.now) (with_further self.now further.now) leaf.now verification_time) }
+    {
+        self.find_issuer(alloc, leaf, further, verification_time, checker, steps)
+    }
+
+    /// Returns what `verify_cert_with_chain` returns for a leaf that comes alone, with the same errors.
+    pub fn verify_cert_with_time<C: SignatureChecker, L: Ledger>(
+        &self,
+        alloc: Global,
         leaf: &Certificate,
         verification_time: i64,
         checker: &C,
-    ) -> Result<usize, PoolError>
-        // An index is returned if and only if the leaf has the profile, the anchor there issued it, and none before it
-        // did.
-        ensures issued { (index : ℕ) → (result ≡ Ok index) ↔ (HasProfile leaf.now × IsFirstIssuer
-            (C.cert_accepts checker.now) leaf.now verification_time self.now index) }
-        // `Malformed` is returned if and only if it has not the profile.
-        ensures malformed { IsErrOf result PoolError.Malformed ↔ (HasProfile leaf.now → ⊥) }
-        // `VerificationFailed` is returned if and only if it has the profile, and no anchor issued it.
-        ensures none { IsErrOf result PoolError.VerificationFailed
-            ↔ (HasProfile leaf.now × IsIssuedByNone (C.cert_accepts checker.now) leaf.now verification_time self.now) }
-        // Of the anchors that the checker is not asked about, its word does not matter: another checker that says the
-        // same of the others has the same result.
-        ensures asked { (other : Accepts) → AgreeWhereAsked
-            (C.cert_accepts checker.now) other leaf.now verification_time self.now
-            → result ≡ issuer_of other self.now leaf.now verification_time }
+        steps: &mut Steps<L>,
+    ) -> Result<Issuer, PoolError>
+        // An issuer is returned if and only if the leaf has the profile, this is its issuer in a path to a trust anchor,
+        // and none before it is, unless memory ran out.
+        ensures issued { (issuer : Issuer) → ComesWhere PoolError.OutOfMemory result (Ok issuer)
+            (HasProfile leaf.now × IsFirstInPath (C.cert_accepts checker.now) self.now leaf.now verification_time
+            issuer) }
+        // `Malformed` is returned if and only if it has not the profile, unless memory ran out.
+        ensures malformed { ComesWhere PoolError.OutOfMemory result (Err PoolError.Malformed)
+            (HasProfile leaf.now → ⊥) }
+        // `VerificationFailed` is returned if and only if it has the profile, and no path leads to a trust anchor,
+        // unless memory ran out.
+        ensures none { ComesWhere PoolError.OutOfMemory result (Err PoolError.VerificationFailed)
+            (HasProfile leaf.now × HasNoPath (C.cert_accepts checker.now) self.now leaf.now verification_time) }
+        // The number of questions is bounded.
+        ensures steps { steps.new ≤ steps.old + most_questions self.now }
+        // The checker's word matters only on the signatures of paths that would hold if each were genuine.
+        ensures asked { (other : Accepts) → AgreeOnPaths
+            (C.cert_accepts checker.now) other self.now leaf.now verification_time
+            → Answers PoolError.OutOfMemory (λ issuer. issuer) result
+            (path_issuer other self.now leaf.now verification_time) }
         // The same in one equation.
-        ensures exact { result ≡ issuer_of (C.cert_accepts checker.now) self.now leaf.now verification_time }
+        ensures exact { Answers PoolError.OutOfMemory (λ issuer. issuer) result
+            (path_issuer (C.cert_accepts checker.now) self.now leaf.now verification_time) }
     {
-        self.check(leaf, verification_time, checker)
+        self.find_issuer(alloc, leaf, &[], verification_time, checker, steps)
     }
 
     /// Returns the result for the certificate that the bytes are.
-    fn check_der<C: SignatureChecker>(
+    pub(crate) fn check_der<C: SignatureChecker, L: Ledger>(
         &self,
         alloc: Global,
         der: &[u8],
         time: i64,
         checker: &C,
-    ) -> Result<usize, PoolError>
-        ensures { IsJudgedText (C.cert_accepts checker.now) der.now time self.now result }
+        steps: &mut Steps<L>,
+    ) -> Result<Issuer, PoolError>
+        ensures judged { IsJudgedText (C.cert_accepts checker.now) self.now der.now time result }
+        ensures steps { steps.new ≤ steps.old + most_questions self.now }
     {
         match Certificate::try_from_der(alloc, der) {
-            Ok(leaf) => self.check(&leaf, time, checker),
+            Ok(leaf) => self.find_issuer(alloc, &leaf, &[], time, checker, steps),
             Err(X509ReadError::Der) => Err(PoolError::Malformed),
             Err(X509ReadError::OutOfMemory) => Err(PoolError::OutOfMemory),
         }
     }
 
-    /// Returns what `verify_cert_with_time` returns for the certificate that the bytes are. Errors besides:
-    ///
-    /// - `Malformed` also if the bytes are no certificate;
-    /// - `OutOfMemory`.
-    pub fn verify_der_cert<C: SignatureChecker>(
+    /// Returns what `verify_cert_with_time` returns for the certificate that the bytes are, with the same errors, and
+    /// `Malformed` also if they are no certificate.
+    pub fn verify_der_cert<C: SignatureChecker, L: Ledger>(
         &self,
         alloc: Global,
         der: &[u8],
         verification_time: i64,
         checker: &C,
-    ) -> Result<usize, PoolError>
-        // An index is returned if and only if the bytes are a certificate with the profile, the anchor there issued
-        // it, and none before it did, unless memory ran out.
-        ensures issued { (index : ℕ) → ComesWhere PoolError.OutOfMemory result (Ok index) (IsIssuedText
-            (C.cert_accepts checker.now) der.now verification_time self.now index) }
+        steps: &mut Steps<L>,
+    ) -> Result<Issuer, PoolError>
+        // An issuer is returned if and only if the bytes are a certificate with the profile, this is its issuer in a path
+        // to a trust anchor, and none before it is, unless memory ran out.
+        ensures issued { (issuer : Issuer) → ComesWhere PoolError.OutOfMemory result (Ok issuer)
+            (IsIssuedText (C.cert_accepts checker.now) self.now der.now verification_time issuer) }
         // `Malformed` is returned if and only if the bytes are no certificate with the profile, unless memory ran out.
         ensures malformed { ComesWhere PoolError.OutOfMemory result (Err PoolError.Malformed) (HasNoProfile der.now) }
-        // `VerificationFailed` is returned if and only if they are one, and no anchor issued it, unless memory ran
-        // out.
-        ensures failed { ComesWhere PoolError.OutOfMemory result (Err PoolError.VerificationFailed) (IsUnissuedText
-            (C.cert_accepts checker.now) der.now verification_time self.now) }
+        // `VerificationFailed` is returned if and only if they are one, and no path leads to a trust anchor, unless
+        // memory ran out.
+        ensures none { ComesWhere PoolError.OutOfMemory result (Err PoolError.VerificationFailed)
+            (IsUnissuedText (C.cert_accepts checker.now) self.now der.now verification_time) }
+        // The number of questions is bounded.
+        ensures steps { steps.new ≤ steps.old + most_questions self.now }
+        // Of a certificate, the checker's word matters only on the signatures of paths that would hold if each were
+        // genuine.
+        ensures asked { (other : Accepts) (c : Cert) → IsCertificate der.now c
+            → AgreeOnPaths (C.cert_accepts checker.now) other self.now c verification_time
+            → Answers PoolError.OutOfMemory (λ issuer. issuer) result (path_issuer other self.now c verification_time) }
         // Of a certificate, the result is that of its record.
         ensures certificate { (c : Cert) → IsCertificate der.now c
-            → Answers PoolError.OutOfMemory (λ index. index) result (issuer_of
-            (C.cert_accepts checker.now) self.now c verification_time) }
-        // Of the anchors that the checker is not asked about, its word does not matter.
-        ensures asked { (other : Accepts) (c : Cert) → IsCertificate der.now c
-            → AgreeWhereAsked (C.cert_accepts checker.now) other c verification_time self.now
-            → Answers PoolError.OutOfMemory (λ index. index) result (issuer_of other self.now c verification_time) }
+            → Answers PoolError.OutOfMemory (λ issuer. issuer) result
+            (path_issuer (C.cert_accepts checker.now) self.now c verification_time) }
     {
-        self.check_der(alloc, der, verification_time, checker)
+        self.check_der(alloc, der, verification_time, checker, steps)
     }
 
-    /// Returns the SubjectPublicKeyInfo (DER) of the trust anchor at this index. `None` if and only if the index is
-    /// not below the number of trust anchors.
-    pub fn anchor_spki(&self, index: usize) -> Option<&[u8]>
-        ensures { option_map (λ s. s.now) result ≡ option_map (λ c. c.spki) (slice_get self.now index) }
+    /// Returns the SubjectPublicKeyInfo (DER) of this trust anchor or intermediate of the pool. `None` if and only if
+    /// there is none at its index, or the intermediate there is no certificate.
+    pub fn issuer_spki(&self, issuer: Issuer) -> Option<&[u8]>
+        ensures { option_map (λ s. s.now) result ≡ option_map (λ c. c.spki) (certificate_of self.now issuer) }
     {
-        match self.anchors.get(index) {
-            Some(anchor) => Some(anchor.spki()),
-            None => None,
+        match issuer {
+            Issuer::Anchor(index) => match self.anchors.get(index) {
+                Some(anchor) => Some(anchor.spki()),
+                None => None,
+            },
+            Issuer::Intermediate(index) => match self.intermediates.get(index) {
+                Some(Some(intermediate)) => Some(intermediate.spki()),
+                Some(None) => None,
+                None => None,
+            },
         }
     }
 }

@@ -4,6 +4,7 @@ use crate::certificate::certificate;
 use crate::pool::{place, pool};
 use sig_base::{SignatureChecker, TableChecker, VerifyScheme};
 use sig_cases::{Answer, Arguments};
+use sig_x509::uncounted;
 use std::alloc::Global;
 use std::cell::{Cell, RefCell};
 
@@ -113,7 +114,7 @@ impl SignatureChecker for Recorder {
     }
 }
 
-/// `asked TIME LEAF ANCHOR,.. ROW ..`: what `verify_cert_with_time` returns, and each key that the checker was asked
+/// `asked TIME LEAF ANCHOR,.. INTERMEDIATE,.. ROW ..`: what `verify_cert_with_time` returns, and each key that the checker was asked
 /// about, in order.
 pub(crate) fn asked(arguments: &mut Arguments<'_>, answer: &mut Answer) {
     let time = arguments.integer();
@@ -121,12 +122,15 @@ pub(crate) fn asked(arguments: &mut Arguments<'_>, answer: &mut Answer) {
     let anchors = pool(arguments, answer);
     let recorder = Recorder::new(arguments.alloc(), arguments.checker());
     if let (Some(leaf), Some(anchors)) = (&leaf, &anchors) {
-        place(answer, anchors.verify_cert_with_time(leaf, time, &recorder));
+        place(
+            answer,
+            uncounted::verify_cert_with_time(anchors, arguments.alloc(), leaf, time, &recorder),
+        );
     }
     recorder.add_to(answer);
 }
 
-/// `der_asked TIME LEAF ANCHOR,.. ROW ..`: the same of `verify_der_cert`.
+/// `der_asked TIME LEAF ANCHOR,.. INTERMEDIATE,.. ROW ..`: the same of `verify_der_cert`.
 pub(crate) fn der_asked(arguments: &mut Arguments<'_>, answer: &mut Answer) {
     let time = arguments.integer();
     let leaf = arguments.hex();
@@ -135,7 +139,7 @@ pub(crate) fn der_asked(arguments: &mut Arguments<'_>, answer: &mut Answer) {
     if let Some(anchors) = &anchors {
         place(
             answer,
-            anchors.verify_der_cert(arguments.alloc(), &leaf, time, &recorder),
+            uncounted::verify_der_cert(anchors, arguments.alloc(), &leaf, time, &recorder),
         );
     }
     recorder.add_to(answer);

@@ -29,7 +29,7 @@ impl Cases for X509Cases {
             "cut" => certificate::cut(arguments, answer),
             "der_to_pem" => certificate::pem(arguments, answer),
             "from_certificates" => pool::made(arguments, answer),
-            "anchor_spki" => pool::spki(arguments, answer),
+            "issuer_spki" => pool::spki(arguments, answer),
             "verify_der_cert" => pool::issuer(arguments, answer),
             "asked" => asked::asked(arguments, answer),
             "der_asked" => asked::der_asked(arguments, answer),

@@ -1,21 +1,25 @@
-//! Pools of trust anchors.
+//! Pools of trust anchors and intermediates.
 
 use crate::certificate::certificate_of;
 use sig_base::PoolError;
 use sig_cases::{Answer, Arguments};
-use sig_x509::CertificatePool;
+use sig_x509::{CertificatePool, Issuer, uncounted};
 
-/// `from_certificates ANCHOR,..`: whether they are trust anchors.
+/// `from_certificates ANCHOR,.. INTERMEDIATE,..`: whether there is a pool of them.
 pub(crate) fn made(arguments: &mut Arguments<'_>, answer: &mut Answer) {
-    match CertificatePool::from_certificates(arguments.alloc(), &arguments.entries()) {
+    let roots = arguments.entries();
+    let intermediates = arguments.entries();
+    match CertificatePool::from_certificates(arguments.alloc(), &roots, &intermediates) {
         Ok(_) => answer.ok(),
         Err(refusal) => answer.error(refusal),
     }
 }
 
-/// The pool of the next argument. Refuses the line if there is none.
+/// The pool of the next two arguments. Refuses the line if there is none.
 pub(crate) fn pool(arguments: &mut Arguments<'_>, answer: &mut Answer) -> Option<CertificatePool> {
-    match CertificatePool::from_certificates(arguments.alloc(), &arguments.entries()) {
+    let roots = arguments.entries();
+    let intermediates = arguments.entries();
+    match CertificatePool::from_certificates(arguments.alloc(), &roots, &intermediates) {
         Ok(pool) => Some(pool),
         Err(PoolError::OutOfMemory) => {
             answer.out_of_memory();
@@ -28,13 +32,20 @@ pub(crate) fn pool(arguments: &mut Arguments<'_>, answer: &mut Answer) -> Option
     }
 }
 
-/// `anchor_spki PLACE ANCHOR,..`: the SPKI of the trust anchor at the index.
+/// `issuer_spki anchor|intermediate PLACE ANCHOR,.. INTERMEDIATE,..`: the SPKI of the trust anchor or intermediate at
+/// the index.
 pub(crate) fn spki(arguments: &mut Arguments<'_>, answer: &mut Answer) {
+    let is_anchor = arguments.next() == "anchor";
     let place = arguments.natural() as usize;
     let Some(pool) = pool(arguments, answer) else {
         return;
     };
-    match pool.anchor_spki(place) {
+    let issuer = if is_anchor {
+        Issuer::Anchor(place)
+    } else {
+        Issuer::Intermediate(place)
+    };
+    match pool.issuer_spki(issuer) {
         Some(spki) => {
             answer.ok();
             answer.hex(spki);
@@ -43,7 +54,7 @@ pub(crate) fn spki(arguments: &mut Arguments<'_>, answer: &mut Answer) {
     }
 }
 
-/// `verify_der_cert TIME LEAF ANCHOR,.. ROW ..`: the index of the leaf's issuer. `verify_cert_with_time` has to say
+/// `verify_der_cert TIME LEAF ANCHOR,.. INTERMEDIATE,.. ROW ..`: the leaf's issuer. `verify_cert_with_time` has to say
 /// the same of a leaf that is a certificate; if it does not, its answer follows.
 pub(crate) fn issuer(arguments: &mut Arguments<'_>, answer: &mut Answer) {
     let time = arguments.integer();
@@ -53,7 +64,7 @@ pub(crate) fn issuer(arguments: &mut Arguments<'_>, answer: &mut Answer) {
     }
 }
 
-/// `ROW ..`: the index of the leaf's issuer in this pool.
+/// `ROW ..`: the leaf's issuer in this pool.
 fn issuer_in(
     pool: &CertificatePool,
     leaf: &[u8],
@@ -62,10 +73,10 @@ fn issuer_in(
     answer: &mut Answer,
 ) {
     let checker = arguments.checker();
-    let found = pool.verify_der_cert(arguments.alloc(), leaf, time, &checker);
+    let found = uncounted::verify_der_cert(pool, arguments.alloc(), leaf, time, &checker);
     place(answer, found);
     if let Some(read) = certificate_of(arguments.alloc(), answer, leaf) {
-        let other = pool.verify_cert_with_time(&read, time, &checker);
+        let other = uncounted::verify_cert_with_time(pool, arguments.alloc(), &read, time, &checker);
         if other != found {
             place(answer, other);
         }
@@ -73,11 +84,17 @@ fn issuer_in(
     drop(checker);
 }
 
-/// Adds an index, or why there is none.
-pub(crate) fn place(answer: &mut Answer, found: Result<usize, PoolError>) {
+/// Adds an issuer, or why there is none.
+pub(crate) fn place(answer: &mut Answer, found: Result<Issuer, PoolError>) {
     match found {
-        Ok(place) => {
+        Ok(Issuer::Anchor(place)) => {
             answer.ok();
+            answer.value(&"anchor");
+            answer.value(&place);
+        }
+        Ok(Issuer::Intermediate(place)) => {
+            answer.ok();
+            answer.value(&"intermediate");
             answer.value(&place);
         }
         Err(refusal) => answer.error(refusal),

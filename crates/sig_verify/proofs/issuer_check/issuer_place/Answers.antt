@@ -1,21 +1,29 @@
-use Rattle.std.proofs.Common.{Ok, Err, ap, w64, FitsSigned, arith, rules, ◌∙◌}
+use Rattle.std.proofs.Common.{◌≡◌, Ok, Err, ap, subst, sym, w64, FitsSigned, arith, rules, ◌∙◌}
 use Rattle.std.proofs.lemmas.Int.{ints, to_z-of_z}
-use Rattle.sig_verify.proofs.Issuers.{issuer_placed}
+use Rattle.sig_base.specs.Answers.{OrMemory}
+use Rattle.sig_x509.specs.declared.issuer.Issuer.{Issuer}
+use Rattle.sig_verify.specs.IssuerCheck.{issuer_place}
+use Rattle.sig_verify.specs.declared.error.VerificationError.{VerificationError}
+use Rattle.sig_verify.specs.declared.error.VerificationError.TheVariants.{OutOfMemory}
+use Rattle.sig_verify.proofs.Issuers.{issuer_placed, issuer_refused}
 use Rattle.sig_verify.proofs.issuer_check.issuer_place.Goals as goal
 
-pub returns-in-Ok : goal.returns-in-Ok
-returns-in-Ok g c =
+pub returns-in-Ok-Anchor : goal.returns-in-Ok-Anchor
+returns-in-Ok-Anchor g c =
     let fits : FitsSigned w64 c.not_before-time.result = first_of
     (omega (arith, ints, c.not_before-time.type_inv), search rules) in
     issuer_placed (g.C.SignatureChecker.cert_accepts c.args.checker.now) c.args.pool.now c.args.leaf.now _
-    (Ok c.in-Ok.place)
-    (to_z-of_z w64 c.not_before-time.result fits ∙ c.not_before-time.ensures) c.in-Ok.ensures.exact
+    (to_z-of_z w64 c.not_before-time.result fits ∙ c.not_before-time.ensures) c.requires.alone c.in-Ok-Anchor.place
+    (c.in-Ok-Anchor.ensures.exact ∙ ap (λ (i : Issuer). Ok i) c.in-Ok-Anchor.field-0-is)
 
 pub returns-in-Err : goal.returns-in-Err
 returns-in-Err g c =
     let fits : FitsSigned w64 c.not_before-time.result = first_of
     (omega (arith, ints, c.not_before-time.type_inv), search rules) in
-    ap Err c.from.ensures
-    ∙ issuer_placed (g.C.SignatureChecker.cert_accepts c.args.checker.now) c.args.pool.now c.args.leaf.now _
-    (Err c.in-Err.error)
-    (to_z-of_z w64 c.not_before-time.result fits ∙ c.not_before-time.ensures) c.in-Err.ensures.exact
+    let refused = issuer_refused (g.C.SignatureChecker.cert_accepts c.args.checker.now) c.args.pool.now
+    c.args.leaf.now _
+    (to_z-of_z w64 c.not_before-time.result fits ∙ c.not_before-time.ensures) c.requires.alone c.in-Err.error
+    c.in-Err.ensures.exact in
+    subst (λ (e : VerificationError). OrMemory OutOfMemory e (issuer_place
+    (g.C.SignatureChecker.cert_accepts c.args.checker.now) c.args.pool.now.anchors c.args.leaf.now ≡ Err e))
+    (sym c.from.ensures) refused

@@ -1,40 +1,57 @@
--- The answer of the definition is what the relations say.
-use Rattle.std.proofs.Common.{◌∙◌}
+-- The clauses follow from the equation.
+use Rattle.std.proofs.Common.{ℤ, ◌+◌, ◌≤◌, [], subst}
 use Rattle.std.proofs.Math.Facts.{to_z-of_z}
-use Rattle.sig_x509.proofs.AskedLaws.{asked_alone}
-use Rattle.sig_x509.proofs.IssuedLaws.{at_time, answers_issued, answers_malformed, answers_none}
+use Rattle.sig_x509.specs.PathSearch.{most_questions, path_issuer}
+use Rattle.sig_x509.specs.PathText.{Meant}
+use Rattle.sig_x509.specs.Pool.{Pool, with_further}
+use Rattle.sig_x509.proofs.PathClauses.{none_further, says_asked, says_issued, says_malformed, says_none}
 use Rattle.sig_x509.proofs.pool.CertificatePool.verify_cert_with_time.Goals as goal
 
 pub returns-clause-issued : goal.returns-clause-issued
-returns-clause-issued g c = λ index.
+returns-clause-issued g c =
     let accepts = g.C.SignatureChecker.cert_accepts c.args.checker.now in
-    answers_issued accepts c.args.self.now c.args.leaf.now c.args.verification_time c.check.result
-    (at_time accepts c.args.self.now c.args.leaf.now c.args.verification_time _ c.check.result
-    (to_z-of_z c.ranges.verification_time) c.check.ensures) index
+    says_issued accepts c.args.self.now c.args.leaf.now c.args.verification_time c.find_issuer.result
+    (subst (λ (p : Pool). Meant c.find_issuer.result (path_issuer accepts p c.args.leaf.now c.args.verification_time))
+    (none_further c.args.self.now)
+    (subst (λ (s : ℤ). Meant c.find_issuer.result (path_issuer accepts (with_further c.args.self.now []) c.args.leaf.now s))
+    (to_z-of_z c.ranges.verification_time) c.find_issuer.ensures.exact))
 
 pub returns-clause-malformed : goal.returns-clause-malformed
 returns-clause-malformed g c =
     let accepts = g.C.SignatureChecker.cert_accepts c.args.checker.now in
-    answers_malformed accepts c.args.self.now c.args.leaf.now c.args.verification_time c.check.result
-    (at_time accepts c.args.self.now c.args.leaf.now c.args.verification_time _ c.check.result
-    (to_z-of_z c.ranges.verification_time) c.check.ensures)
+    says_malformed accepts c.args.self.now c.args.leaf.now c.args.verification_time c.find_issuer.result
+    (subst (λ (p : Pool). Meant c.find_issuer.result (path_issuer accepts p c.args.leaf.now c.args.verification_time))
+    (none_further c.args.self.now)
+    (subst (λ (s : ℤ). Meant c.find_issuer.result (path_issuer accepts (with_further c.args.self.now []) c.args.leaf.now s))
+    (to_z-of_z c.ranges.verification_time) c.find_issuer.ensures.exact))
 
 pub returns-clause-none : goal.returns-clause-none
 returns-clause-none g c =
     let accepts = g.C.SignatureChecker.cert_accepts c.args.checker.now in
-    answers_none accepts c.args.self.now c.args.leaf.now c.args.verification_time c.check.result
-    (at_time accepts c.args.self.now c.args.leaf.now c.args.verification_time _ c.check.result
-    (to_z-of_z c.ranges.verification_time) c.check.ensures)
+    says_none accepts c.args.self.now c.args.leaf.now c.args.verification_time c.find_issuer.result
+    (subst (λ (p : Pool). Meant c.find_issuer.result (path_issuer accepts p c.args.leaf.now c.args.verification_time))
+    (none_further c.args.self.now)
+    (subst (λ (s : ℤ). Meant c.find_issuer.result (path_issuer accepts (with_further c.args.self.now []) c.args.leaf.now s))
+    (to_z-of_z c.ranges.verification_time) c.find_issuer.ensures.exact))
+
+pub returns-clause-asked : goal.returns-clause-asked
+returns-clause-asked g c =
+    let accepts = g.C.SignatureChecker.cert_accepts c.args.checker.now in
+    says_asked accepts c.args.self.now c.args.leaf.now c.args.verification_time c.find_issuer.result
+    (subst (λ (p : Pool). Meant c.find_issuer.result (path_issuer accepts p c.args.leaf.now c.args.verification_time))
+    (none_further c.args.self.now)
+    (subst (λ (s : ℤ). Meant c.find_issuer.result (path_issuer accepts (with_further c.args.self.now []) c.args.leaf.now s))
+    (to_z-of_z c.ranges.verification_time) c.find_issuer.ensures.exact))
 
 pub returns-clause-exact : goal.returns-clause-exact
 returns-clause-exact g c =
-    at_time (g.C.SignatureChecker.cert_accepts c.args.checker.now) c.args.self.now c.args.leaf.now
-    c.args.verification_time _ c.check.result
-    (to_z-of_z c.ranges.verification_time) c.check.ensures
-
-pub returns-clause-asked : goal.returns-clause-asked
-returns-clause-asked g c = λ other agree.
     let accepts = g.C.SignatureChecker.cert_accepts c.args.checker.now in
-    at_time accepts c.args.self.now c.args.leaf.now c.args.verification_time _ c.check.result
-    (to_z-of_z c.ranges.verification_time) c.check.ensures
-    ∙ asked_alone accepts other c.args.self.now c.args.leaf.now c.args.verification_time agree
+    subst (λ (p : Pool). Meant c.find_issuer.result (path_issuer accepts p c.args.leaf.now c.args.verification_time))
+    (none_further c.args.self.now)
+    (subst (λ (s : ℤ). Meant c.find_issuer.result (path_issuer accepts (with_further c.args.self.now []) c.args.leaf.now s))
+    (to_z-of_z c.ranges.verification_time) c.find_issuer.ensures.exact)
+
+pub returns-clause-steps : goal.returns-clause-steps
+returns-clause-steps g c =
+    subst (λ (p : Pool). c.find_issuer.new.steps ≤ c.args.steps.now + most_questions p) (none_further c.args.self.now)
+    c.find_issuer.ensures.steps
