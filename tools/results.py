@@ -102,7 +102,7 @@ CALLS = [
     ("verify_validity", "x509 verify_validity", "sig_base SigstoreError", ["CertificateValidityError(_)"]),
     ("verify_expiration", "x509 verify_expiration", "sig_base SigstoreError", OUTSIDE),
     ("is_trusted", "x509 is_trusted", "sig_base SigstoreError", USAGES + NO_NAME + ["CertificateValidityError(_)"] + OUTSIDE),
-    ("CertificatePool::from_certificates", "x509 from_certificates", "sig_base PoolError", ["Anchor(_)"]),
+    ("CertificatePool::from_certificates", "x509 from_certificates", "sig_base PoolError", ["Anchor(_)", "TooMany(_)"]),
     ("CertificatePool::verify_der_cert", "x509 verify_der_cert", "sig_base PoolError", ["Malformed", "VerificationFailed"]),
     ("Key::new", "x509 key", "sig_timestamp KeyringError", ["KeyMalformed", "AlgoUnsupported"]),
     ("Keyring::verify", "x509 keyring", "sig_timestamp KeyringError", KEYRING),

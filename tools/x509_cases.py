@@ -14,6 +14,7 @@ import re
 
 import fixture
 import request_cases
+import x509_paths
 from case_table import Table
 from fixture import der, extension, extensions, key, leaf_extensions, sha256, spelled
 
@@ -430,8 +431,8 @@ def genuine_leaf(parts, under=None):
     return ["certificate", *map(spelled, [parts["algorithm"], under, fixture.tbs(parts), b"sig-leaf"])]
 
 
-def pool_line(time, parts, anchors, accepts):
-    return " ".join(["verify_der_cert", str(time), spelled(fixture.certificate(parts)), listed(anchors), *accepts])
+def pool_line(time, parts, anchors, accepts, intermediates=()):
+    return " ".join(["verify_der_cert", str(time), spelled(fixture.certificate(parts)), listed(anchors), listed(intermediates), *accepts])
 
 
 ROOT = fixture.certificate(fixture.anchor())
@@ -594,20 +595,20 @@ def pools():
     wide = fixture.certificate(fixture.anchor(key=fixture.wide_key()))
     several = [other_name, other_key, ROOT, ROOT]
     group("pools of several trust anchors")
-    case("the first issuer of four", pool_line(1702446655, parts, several, genuine_leaf(parts)), "ok 2")
+    case("the first issuer of four", pool_line(1702446655, parts, several, genuine_leaf(parts)), "ok anchor 2")
     case("a signature that is not genuine", pool_line(1702446655, parts, several, []), "VerificationFailed")
-    case("a signature under another key", pool_line(1702446655, parts, several, genuine_leaf(parts, key(9))), "ok 1")
-    case("a key of 294 bytes", pool_line(1702446655, parts, [wide], genuine_leaf(parts, fixture.wide_key())), "ok 0")
+    case("a signature under another key", pool_line(1702446655, parts, several, genuine_leaf(parts, key(9))), "ok anchor 1")
+    case("a key of 294 bytes", pool_line(1702446655, parts, [wide], genuine_leaf(parts, fixture.wide_key())), "ok anchor 0")
     case("no trust anchor", pool_line(1702446655, parts, [], genuine_leaf(parts)), "VerificationFailed")
     for place, expected in [(0, answer(key(1).hex())), (1, answer(key(9).hex())), (2, answer(key(1).hex())), (4, "none")]:
-        case("the SPKI of the trust anchor %d" % place, "anchor_spki %d %s" % (place, listed(several)), expected)
+        case("the SPKI of the trust anchor %d" % place, "issuer_spki anchor %d %s -" % (place, listed(several)), expected)
     content = fixture.certificate(parts)
-    case("a leaf that is cut", "verify_der_cert 1702446655 %s %s" % (spelled(content[:-1]), spelled(ROOT)), "Malformed")
+    case("a leaf that is cut", "verify_der_cert 1702446655 %s %s -" % (spelled(content[:-1]), spelled(ROOT)), "Malformed")
     constrained = fixture.certificate(leaf_with("", "name-constraints=3000"))
     for cause, anchors, expected in [
             ("no trust anchor", [], "ok"), ("one", [ROOT], "ok"), ("no certificate at the second place", [ROOT, content[:-1]], "Anchor(1)"),
             ("no certificate at the first", [b"", ROOT], "Anchor(0)"), ("one with name constraints", [ROOT, ROOT, constrained], "Anchor(2)")]:
-        case(cause, "from_certificates " + listed(anchors), expected)
+        case(cause, "from_certificates %s -" % listed(anchors), expected)
 
 
 ORDERS = ["aa", "aab", "aba", "baa", "abab", "abba", "bbaa", "abc", "acb", "bac", "bca", "cab", "cba", "abcabc", "Aa", "aAa", "Aba", "bAa"]
@@ -624,7 +625,7 @@ def signer_among(leaf, anchors, under):
     wanted = (fields_of(leaf)["issuer"], written(under))
     found = [fields_of(anchor) for anchor in anchors]
     places = [place for place, fields in enumerate(found) if (fields["subject"], fields["spki"]) == wanted]
-    return answer(places[0]) if places else "VerificationFailed"
+    return answer("anchor", places[0]) if places else "VerificationFailed"
 
 
 def anchors_in(order):
@@ -661,7 +662,7 @@ def asked_case(cause, parts, anchors, under=None, time=1702446655, refusal=None)
     keys = [] if refusal else keys_asked(leaf, anchors, under)
     rows = genuine_leaf(parts, under) if under is not None else []
     for call in ["asked", "der_asked"]:
-        case(cause, " ".join([call, str(time), spelled(leaf), listed(anchors), *rows]), " ".join([result, "asked", *keys]))
+        case(cause, " ".join([call, str(time), spelled(leaf), listed(anchors), "-", *rows]), " ".join([result, "asked", *keys]))
 
 
 def questions():
@@ -692,6 +693,10 @@ def questions():
         asked_case(cause, leaf_with("", changes), [ROOT, ROOT], key(1), refusal="VerificationFailed")
     for cause, time in [("a second before", 1702446654), ("a second after", 1702447256)]:
         asked_case(cause, parts, [ROOT, ROOT], key(1), time, "VerificationFailed")
+
+
+def paths():
+    x509_paths.rows(group, case, listed, spelled)
 
 
 def hundreds():
@@ -803,6 +808,7 @@ def main():
     pools()
     pools_of_one_name()
     questions()
+    paths()
     keyrings()
     hundreds()
     policies()

@@ -41,6 +41,17 @@ impl Recorder {
         }
     }
 
+    /// Adds the word `asked`, and how many keys there are.
+    fn count_in(&self, answer: &mut Answer) {
+        answer.value(&"asked");
+        if let Ok(asked) = self.asked.try_borrow() {
+            answer.value(&asked.len());
+        }
+        if self.is_full.get() {
+            answer.out_of_memory();
+        }
+    }
+
     /// Adds the word `asked`, and each key.
     fn add_to(&self, answer: &mut Answer) {
         answer.value(&"asked");
@@ -143,4 +154,20 @@ pub(crate) fn der_asked(arguments: &mut Arguments<'_>, answer: &mut Answer) {
         );
     }
     recorder.add_to(answer);
+}
+
+/// `questions TIME LEAF ANCHOR,.. INTERMEDIATE,.. ROW ..`: what `verify_cert_with_time` returns, and how many signatures
+/// the checker was asked about.
+pub(crate) fn questions(arguments: &mut Arguments<'_>, answer: &mut Answer) {
+    let time = arguments.integer();
+    let leaf = certificate(arguments, answer);
+    let pool = pool(arguments, answer);
+    let recorder = Recorder::new(arguments.alloc(), arguments.checker());
+    if let (Some(leaf), Some(pool)) = (&leaf, &pool) {
+        place(
+            answer,
+            uncounted::verify_cert_with_time(pool, arguments.alloc(), leaf, time, &recorder),
+        );
+    }
+    recorder.count_in(answer);
 }

@@ -33,6 +33,7 @@ impl Cases for X509Cases {
             "verify_der_cert" => pool::issuer(arguments, answer),
             "asked" => asked::asked(arguments, answer),
             "der_asked" => asked::der_asked(arguments, answer),
+            "questions" => asked::questions(arguments, answer),
             _ => of_scts(call, arguments, answer),
         }
     }

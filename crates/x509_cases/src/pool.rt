@@ -35,7 +35,7 @@ pub(crate) fn pool(arguments: &mut Arguments<'_>, answer: &mut Answer) -> Option
 /// `issuer_spki anchor|intermediate PLACE ANCHOR,.. INTERMEDIATE,..`: the SPKI of the trust anchor or intermediate at
 /// the index.
 pub(crate) fn spki(arguments: &mut Arguments<'_>, answer: &mut Answer) {
-    let is_anchor = arguments.next() == "anchor";
+    let is_anchor = arguments.word() == "anchor";
     let place = arguments.natural() as usize;
     let Some(pool) = pool(arguments, answer) else {
         return;
@@ -76,7 +76,13 @@ fn issuer_in(
     let found = uncounted::verify_der_cert(pool, arguments.alloc(), leaf, time, &checker);
     place(answer, found);
     if let Some(read) = certificate_of(arguments.alloc(), answer, leaf) {
-        let other = uncounted::verify_cert_with_time(pool, arguments.alloc(), &read, time, &checker);
+        let other = uncounted::verify_cert_with_time(
+            pool,
+            arguments.alloc(),
+            &read,
+            time,
+            &checker,
+        );
         if other != found {
             place(answer, other);
         }
