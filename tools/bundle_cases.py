@@ -236,8 +236,12 @@ CERTIFICATES = {
 
 
 def certificates(names):
-    """The DER of certificates: an issuer is an authority, and an anchor a root."""
-    return [{"rawBytes": base64_of(CERTIFICATES[name])} for name in names.split("+") if name]
+    """The DER of certificates: an issuer is an authority, and an anchor a root. A name may have a count before it."""
+    found = []
+    for each in filter(None, names.split("+")):
+        count, _, name = each.rpartition("*")
+        found += [{"rawBytes": base64_of(CERTIFICATES[name])}] * int(count or 1)
+    return found
 
 
 def spoil(bundle, fault):
@@ -306,7 +310,12 @@ def fixture_bundle():
     group("the fixture's bundle of a signature over an artifact, with a chain, does the same")
     case("read_bundle " + bundle, "ok " + bundle)
     case("try_from_bundle " + bundle, digests([]))
-    case("checked " + bundle, " ".join(["ok", message.leaf_der.hex(), message.signature.hex(), "true", "true", "-"]))
+    case("checked " + bundle, " ".join(
+        ["ok", message.leaf_der.hex(), message.signature.hex(), "true", "true", "-", CERTIFICATES["issuer"].hex()]))
+    further = (CERTIFICATES["issuer"], CERTIFICATES["self-issued"]) * 8
+    many = fixture.MessageRequest(later=further)
+    named_case("16 further certificates, in their order", "checked " + compact(many.bundle(), canonical=True), " ".join(
+        ["ok", many.leaf_der.hex(), many.signature.hex(), "true", "true", "-"] + [der.hex() for der in further]))
     group("without an inclusion proof, which profile 0.1 does not ask for")
     fetched(message, NARROW)
     fetched(request, "-")

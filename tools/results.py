@@ -47,7 +47,8 @@ NO_NAME = ["CertificateWithoutSubjectAlternativeName"]
 KEY = ["KeyParsingError", "PublicKeyUnsupportedAlgorithmError"]
 ACCEPTED = ["Base64DecodeError", "PublicKeyVerificationError"]
 # A bundle's own checks; what follows them for an artifact; and a log's word for an entry.
-BUNDLE = (["VerificationMaterialMissing", "VerificationMaterialContentUnsupported", "CertificateMalformed(_)", "CertificatesMissing"]
+BUNDLE = (["VerificationMaterialMissing", "VerificationMaterialContentUnsupported", "TooManyCertificates(_)", "CertificateMalformed(_)",
+           "CertificatesMissing"]
           + within("NoLeaf", LEAF) + ["RootInChain", "SignatureMissing", "DsseInvalidSignatureCount(_)", "DssePayloadDecode", "DsseTooManySubjects(_)",
           "DsseTooManySubjectDigests(_)", "DsseSubjectDigestMalformed(Sha256)", "DsseSubjectDigestMalformed(Sha512)", "DsseNoRecognizedSubjectDigest",
           "TlogEntry(_)"] + within("BundleProfile", ["Unknown(_)", "Bundle01Profile(InclusionPromiseMissing)",

@@ -40,7 +40,8 @@ pub(crate) fn add_digest(answer: &mut Answer, digest: &ArtifactDigest) {
 }
 
 /// `checked TEXT`: what the checked bundle has: certificate, signature, whether the entry is the bundle's first
-/// and a copy of it is equal, the pre-authentication encoding, the payload, and the envelope's text.
+/// and a copy of it is equal, the pre-authentication encoding, the payload, the envelope's text, and the further
+/// certificates.
 pub(crate) fn lent(arguments: &mut Arguments<'_>, answer: &mut Answer) {
     let bundle = bundle(arguments.rest(), arguments, answer);
     match CheckedBundle::try_from_bundle(arguments.alloc(), &bundle) {
@@ -61,6 +62,9 @@ fn add_parts(answer: &mut Answer, alloc: Global, checked: &CheckedBundle, bundle
     answer.value(&(entry(bundle) == Some(checked.entry())));
     add_copied(answer, alloc, checked.entry());
     add_content(answer, checked.content());
+    for further in checked.further() {
+        answer.hex(further.der());
+    }
 }
 
 /// Adds what the signature is over.

@@ -1,7 +1,8 @@
 -- A refusal of a bundle's own checks has its cause.
 use Rattle.std.proofs.Common.{◌≡◌, inl, inr, ℕ, List, [], ◌∷◌, length, Bool, true, false, Option, Some, None}
 use Rattle.std.proofs.Common.{Result, Ok, Err, refl, sym, ap, subst, ◌∙◌, arith}
-use Rattle.std.specs.Prelude.{if◌then◌else◌}
+use Rattle.std.proofs.lemmas.Bool.{ltb-false, ltb-true}
+use Rattle.std.specs.Prelude.{nat_lt, if◌then◌else◌}
 use Rattle.std.specs.List.{list_any}
 use Rattle.sig_base.proofs.ResultSteps.{bind_err, err_is}
 use Rattle.sig_base.specs.ResultSteps.{◌>>=◌}
@@ -25,9 +26,10 @@ use Rattle.sig_checked_bundle.specs.Passed.{HoldsLeaf}
 use Rattle.sig_checked_bundle.specs.Profile.{entry_among, lacks, lacks_checkpoint, lacks_promise, lacks_proof}
 use Rattle.sig_checked_bundle.specs.Profile.{meets_profile, meets_version, unless_lacking}
 use Rattle.sig_checked_bundle.specs.Refusals.{DemandsProof, HasCertificates, HasContent, HasEncodings, HasEntry}
+use Rattle.sig_checked_bundle.specs.Refusals.{HasFewEncodings}
 use Rattle.sig_checked_bundle.specs.Refusals.{HasEnvelope, HasMaterial, HasNoRoot, HasSignature, HasStatement}
 use Rattle.sig_checked_bundle.specs.Refusals.{HasVersion, IsCause, material_under}
-use Rattle.sig_checked_bundle.specs.SigningCertificate.{AreRead, IsLeafAmong, IsSigningCertificate}
+use Rattle.sig_checked_bundle.specs.SigningCertificate.{AreRead, IsLeafAmong, IsLeafUnlessMany, IsSigningCertificate}
 use Rattle.sig_checked_bundle.specs.SigningCertificate.{encodings_in, is_root, leaf_among, leaf_or_refusal}
 use Rattle.sig_checked_bundle.specs.Version.{version_of}
 use Rattle.sig_bundle.specs.declared.bundle.Bundle.{Bundle}
@@ -39,6 +41,7 @@ use Rattle.sig_checked_bundle.specs.declared.bundle_error.BundleErrorKind.TheVar
   VerificationMaterialContentUnsupported,
 }
 use Rattle.sig_checked_bundle.specs.declared.bundle_error.BundleErrorKind.TheVariants.{CertificateMalformed}
+use Rattle.sig_checked_bundle.specs.declared.bundle_error.BundleErrorKind.TheVariants.{TooManyCertificates}
 use Rattle.sig_checked_bundle.specs.declared.bundle_error.BundleErrorKind.TheVariants.{CertificatesMissing, NoLeaf}
 use Rattle.sig_checked_bundle.specs.declared.bundle_error.BundleErrorKind.TheVariants.{RootInChain, SignatureMissing}
 use Rattle.sig_checked_bundle.specs.declared.bundle_error.BundleErrorKind.TheVariants.{DsseInvalidSignatureCount}
@@ -49,6 +52,7 @@ use Rattle.sig_checked_bundle.specs.declared.bundle_error.BundleProfileErrorKind
 use Rattle.sig_checked_bundle.specs.declared.bundle_error.Bundle01ProfileErrorKind.TheVariants.{InclusionPromiseMissing}
 use Rattle.sig_checked_bundle.specs.declared.bundle_error.Bundle02ProfileErrorKind.TheVariants.{InclusionProofMissing}
 use Rattle.sig_checked_bundle.specs.declared.bundle_error.Bundle02ProfileErrorKind.TheVariants.{CheckpointMissing}
+use Rattle.sig_checked_bundle.specs.declared.signing_certificate.SigningChain.{SigningChain}
 use Rattle.sig_bundle.specs.declared.material.ProofFields.{ProofFields}
 use Rattle.sig_bundle.specs.declared.material.TransparencyLogEntry.{TransparencyLogEntry}
 use Rattle.sig_bundle.specs.declared.material.VerificationMaterial.{VerificationMaterial}
@@ -66,33 +70,45 @@ under b one other same cause = subst (λ k. IsCause k b) same cause
 
 -- ---- the certificates
 
+abbrev chain_at : {b : Bundle} → HasCertificates b → SigningChain
+chain_at h = record { certificate = h.certificate; further = h.further }
+
 rooted-caused : (b : Bundle) (h : HasCertificates b) (kind : BundleErrorKind) (found : Bool)
-    → leaf_refusal h.certificate ≡ None → list_any is_root h.later ≡ found
-    → Err kind ≡ (if found then Err RootInChain else Ok h.certificate) → IsCause kind b
+    → leaf_refusal h.certificate ≡ None → list_any is_root h.further ≡ found
+    → Err kind ≡ (if found then Err RootInChain else Ok (chain_at h)) → IsCause kind b
 rooted-caused b h kind true may_sign is told =
     under b RootInChain kind (sym (err_is kind RootInChain told))
-    (record { before = h; may_sign = may_sign }, a_root-told h.later is)
+    (record { before = h; may_sign = may_sign }, a_root-told h.further is)
 rooted-caused b h kind false may_sign is told = absurd cc
 
 led-caused : (b : Bundle) (h : HasCertificates b) (kind : BundleErrorKind) (found : Option CertificateValidationError)
     → leaf_refusal h.certificate ≡ found
-    → Err kind ≡ leaf_or_refusal h.certificate h.later found → IsCause kind b
+    → Err kind ≡ leaf_or_refusal h.certificate h.further found → IsCause kind b
 led-caused b h kind (Some e) is told = under b (NoLeaf e) kind (sym (err_is kind (NoLeaf e) told)) (h, is)
-led-caused b h kind None is told = rooted-caused b h kind (list_any is_root h.later) is refl told
+led-caused b h kind None is told = rooted-caused b h kind (list_any is_root h.further) is refl told
 
 empty : (ders : List (List ℕ)) → AreCertificates ders [] → ders ≡ []
 empty [] are = refl
 empty (der ∷ ders) are = absurd are
 
-read-caused : (b : Bundle) (h : HasEncodings b) (kind : BundleErrorKind) (read : Result (List Cert) BundleErrorKind)
-    → AreRead h.encodings read
+read-caused : (b : Bundle) (h : HasFewEncodings b) (kind : BundleErrorKind)
+    (read : Result (List Cert) BundleErrorKind) → AreRead h.before.encodings read
     → Err kind ≡ (read >>= leaf_among) → IsCause kind b
 read-caused b h kind (Err e) are told =
     under b (CertificateMalformed are.0) kind (sym (err_is kind e told ∙ are.1)) (h, are.2)
 read-caused b h kind (Ok []) are told =
-    under b CertificatesMissing kind (sym (err_is kind CertificatesMissing told)) (h, empty h.encodings are)
-read-caused b h kind (Ok (c ∷ later)) are told =
-    led-caused b (record { before = h; certificate = c; later = later; read = are }) kind (leaf_refusal c) refl told
+    under b CertificatesMissing kind (sym (err_is kind CertificatesMissing told)) (h, empty h.before.encodings are)
+read-caused b h kind (Ok (c ∷ further)) are told =
+    led-caused b (record { before = h; certificate = c; further = further; read = are }) kind (leaf_refusal c) refl told
+
+counted-caused : (b : Bundle) (h : HasEncodings b) (kind : BundleErrorKind) (many : Bool)
+    → nat_lt 17 (length h.encodings) ≡ many → IsLeafUnlessMany many h.encodings (Err kind) → IsCause kind b
+counted-caused b h kind true count told =
+    under b (TooManyCertificates (length h.encodings)) kind
+    (sym (err_is kind (TooManyCertificates (length h.encodings)) told))
+    (h, refl, ltb-true 17 (length h.encodings) count)
+counted-caused b h kind false count told =
+    read-caused b (record { before = h; few = ltb-false 17 (length h.encodings) count }) kind told.0 told.1 told.2
 
 certificate-caused : (b : Bundle) (h : HasMaterial b) (kind : BundleErrorKind) (held : Option (List (List ℕ)))
     → encodings_in h.material.content ≡ held
@@ -101,7 +117,7 @@ certificate-caused b h kind None is told =
     under b VerificationMaterialContentUnsupported kind
     (sym (err_is kind VerificationMaterialContentUnsupported told)) (h, is)
 certificate-caused b h kind (Some ders) is told =
-    read-caused b (record { before = h; encodings = ders; held = is }) kind told.0 told.1 told.2
+    counted-caused b (record { before = h; encodings = ders; held = is }) kind (nat_lt 17 (length ders)) refl told
 
 -- ---- the content
 
@@ -255,13 +271,17 @@ met-caused b h kind c told =
       none e = cc
 
 -- the certificates that passed
-abbrev rootless : (b : Bundle) (m : HasMaterial b) (c : Cert) → HoldsLeaf m.material.content c → HasNoRoot b
+abbrev rootless : (b : Bundle) (m : HasMaterial b) (c : SigningChain)
+    → HoldsLeaf m.material.content c.certificate c.further → HasNoRoot b
 rootless b m c held = record {
   before = record {
     before = record {
-      before = record { before = m; encodings = held.encodings; held = held.held };
-      certificate = c;
-      later = held.later;
+      before = record {
+        before = record { before = m; encodings = held.encodings; held = held.held };
+        few = held.few;
+      };
+      certificate = c.certificate;
+      further = c.further;
       read = held.read;
     };
     may_sign = held.may_sign;
@@ -269,7 +289,7 @@ rootless b m c held = record {
   rootless = held.rootless;
 }
 
-checks-caused : (b : Bundle) (m : HasMaterial b) (kind : BundleErrorKind) (answer : Result Cert BundleErrorKind)
+checks-caused : (b : Bundle) (m : HasMaterial b) (kind : BundleErrorKind) (answer : Result SigningChain BundleErrorKind)
     → IsSigningCertificate m.material.content answer
     → Err kind ≡ checked b m.material answer → IsCause kind b
 checks-caused b m kind (Err other) certificate told =

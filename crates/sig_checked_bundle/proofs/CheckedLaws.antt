@@ -1,10 +1,9 @@
--- The checks behind the certificate's, where the certificate is known.
+-- The checks behind the certificates', where the certificates are known.
 use Rattle.std.proofs.Common.{◌≡◌, ◌⊎◌, inl, inr, Option, Some, Result, Ok, Err, refl, sym, ap, subst, ◌∙◌}
 use Rattle.sig_base.specs.Answers.{Answers, UnlessMemory}
 use Rattle.sig_base.proofs.ResultSteps.{err_is, ok_is}
 use Rattle.sig_base.specs.ResultSteps.{◌>>=◌}
 use Rattle.sig_bundle.specs.AnswersOnly.{AnswersOnly}
-use Rattle.sig_certificate.specs.Certificate.{Cert}
 use Rattle.sig_checked_bundle.specs.Borrowed.{entry_under_profile}
 use Rattle.sig_checked_bundle.specs.Checked.{Checked, checked, IsCheckedWith}
 use Rattle.sig_checked_bundle.specs.Content.{ContentWithSignature, content_with_signature}
@@ -13,6 +12,7 @@ use Rattle.sig_checked_bundle.specs.SigningCertificate.{IsSigningCertificate}
 use Rattle.sig_bundle.specs.declared.bundle.Bundle.{Bundle}
 use Rattle.sig_checked_bundle.specs.declared.bundle_error.BundleErrorKind.{BundleErrorKind}
 use Rattle.sig_checked_bundle.specs.declared.bundle_error.BundleErrorKind.TheVariants.{OutOfMemory}
+use Rattle.sig_checked_bundle.specs.declared.signing_certificate.SigningChain.{SigningChain}
 use Rattle.sig_bundle.specs.declared.material.TransparencyLogEntry.{TransparencyLogEntry}
 use Rattle.sig_bundle.specs.declared.material.VerificationMaterial.{VerificationMaterial}
 
@@ -38,11 +38,16 @@ made-err : {A B E : Type 0} (found : Result A E) (test : A → Result (Unit {0})
 made-err (Ok x) test make e is = tested-err x (test x) make e is
 made-err (Err d) test make e is = ap Err (err_is d e is)
 
-abbrev made : Cert → ContentWithSignature → TransparencyLogEntry → Checked
-made c content entry =
-    record { certificate = c; signature = content.signature; content = content.content; entry = entry }
+abbrev made : SigningChain → ContentWithSignature → TransparencyLogEntry → Checked
+made c content entry = record {
+  certificate = c.certificate;
+  further = c.further;
+  signature = content.signature;
+  content = content.content;
+  entry = entry;
+}
 
-pub checked-found : (b : Bundle) (m : VerificationMaterial) (c : Cert) (content : ContentWithSignature)
+pub checked-found : (b : Bundle) (m : VerificationMaterial) (c : SigningChain) (content : ContentWithSignature)
     (entry : TransparencyLogEntry)
     → content_with_signature b.content ≡ Ok content
     → entry_under_profile b.media_type m.tlog_entries ≡ Ok entry
@@ -50,7 +55,7 @@ pub checked-found : (b : Bundle) (m : VerificationMaterial) (c : Cert) (content 
 checked-found b m c content entry is of =
     rw is (made-ok (entry_among m.tlog_entries) (meets_profile b.media_type) (made c content) entry of)
 
-pub checked-refused : (b : Bundle) (m : VerificationMaterial) (c : Cert) (content : ContentWithSignature)
+pub checked-refused : (b : Bundle) (m : VerificationMaterial) (c : SigningChain) (content : ContentWithSignature)
     (e : BundleErrorKind)
     → content_with_signature b.content ≡ Ok content
     → (e ≡ OutOfMemory) ⊎ (entry_under_profile b.media_type m.tlog_entries ≡ Err e)
@@ -67,7 +72,7 @@ answered (Err e) m (inl is) =
     subst P (sym is) refl)
 answered (Err e) m (inr is) = inr (sym is)
 
-goes_meant : (b : Bundle) → (m : VerificationMaterial) → (c : Cert) → (r : Result Checked BundleErrorKind)
+goes_meant : (b : Bundle) → (m : VerificationMaterial) → (c : SigningChain) → (r : Result Checked BundleErrorKind)
     → UnlessMemory OutOfMemory (Ok c) (IsSigningCertificate m.content (Ok c))
     → Answers OutOfMemory (λ x. x) r (checked b m (Ok c))
     → UnlessMemory OutOfMemory r (IsCheckedWith b (Some m) r)
@@ -75,16 +80,16 @@ goes_meant b m c r (inl is) answers = absurd cc
 goes_meant b m c r (inr signer) answers =
     elim (answered r (checked b m (Ok c)) answers) [ inl e ↦ inl e | inr e ↦ inr (Ok c, signer, e) ]
 
--- what is meant under the same certificate is meant
-joined : (b : Bundle) → (m : VerificationMaterial) → (signer one : Result Cert BundleErrorKind)
+-- what is meant under the same certificates is meant
+joined : (b : Bundle) → (m : VerificationMaterial) → (signer one : Result SigningChain BundleErrorKind)
     → (r other : Result Checked BundleErrorKind)
     → one ≡ signer → r ≡ checked b m one → other ≡ checked b m signer → r ≡ other
 joined b m signer one r other same e of =
-    let P : Result Cert BundleErrorKind → Type 0 = λ s. other ≡ checked b m s in
+    let P : Result SigningChain BundleErrorKind → Type 0 = λ s. other ≡ checked b m s in
     let Q : Result Checked BundleErrorKind → Type 0 = λ a. r ≡ a in
     subst Q (sym (subst P (sym same) of)) e
 
-goes_on : (b : Bundle) → (m : VerificationMaterial) → (c : Cert) → (signer : Result Cert BundleErrorKind)
+goes_on : (b : Bundle) → (m : VerificationMaterial) → (c : SigningChain) → (signer : Result SigningChain BundleErrorKind)
     → (r other : Result Checked BundleErrorKind)
     → (Ok c ≡ Err OutOfMemory) ⊎ (Ok c ≡ signer) → (r ≡ Err OutOfMemory) ⊎ (r ≡ checked b m (Ok c))
     → other ≡ checked b m signer
@@ -93,8 +98,8 @@ goes_on b m c signer r other (inl is) answers of = absurd cc
 goes_on b m c signer r other (inr same) (inl e) of = inl e
 goes_on b m c signer r other (inr same) (inr e) of = inr (joined b m signer (Ok c) r other same e of)
 
--- the answer behind that of the certificate
-pub goes : (b : Bundle) → (m : VerificationMaterial) → (c : Cert) → (r : Result Checked BundleErrorKind)
+-- the answer behind that of the certificates
+pub goes : (b : Bundle) → (m : VerificationMaterial) → (c : SigningChain) → (r : Result Checked BundleErrorKind)
     → AnswersOnly OutOfMemory (IsSigningCertificate m.content) (Ok c)
     → Answers OutOfMemory (λ x. x) r (checked b m (Ok c))
     → AnswersOnly OutOfMemory (IsCheckedWith b (Some m)) r
@@ -103,7 +108,7 @@ goes b m c r signer answers = (
   λ other of. goes_on b m c of.0 r other (signer.1 of.0 of.1) (answered r (checked b m (Ok c)) answers) of.2,
 )
 
-ended : (b : Bundle) → (m : VerificationMaterial) → (e : BundleErrorKind) → (signer : Result Cert BundleErrorKind)
+ended : (b : Bundle) → (m : VerificationMaterial) → (e : BundleErrorKind) → (signer : Result SigningChain BundleErrorKind)
     → signer ≡ Err e
     → (signer ≡ Err OutOfMemory) ⊎ IsSigningCertificate m.content (Err e)
     → UnlessMemory {X = Checked} OutOfMemory (Err e) (IsCheckedWith b (Some m) (Err e))
@@ -111,16 +116,16 @@ ended b m e signer is (inl memory) = inl (let same : e ≡ OutOfMemory = cc in a
 ended b m e signer is (inr signs) = inr (Err e, signs, refl)
 
 ends_as : (b : Bundle) → (m : VerificationMaterial) → (e : BundleErrorKind)
-    → (signer one : Result Cert BundleErrorKind) → (other : Result Checked BundleErrorKind) → signer ≡ Err e
+    → (signer one : Result SigningChain BundleErrorKind) → (other : Result Checked BundleErrorKind) → signer ≡ Err e
     → (signer ≡ Err OutOfMemory) ⊎ (signer ≡ one) → other ≡ checked b m one
     → UnlessMemory {X = Checked} OutOfMemory (Err e) (Err e ≡ other)
 ends_as b m e signer one other is (inl memory) of = inl (let same : e ≡ OutOfMemory = cc in ap Err same)
 ends_as b m e signer one other is (inr same) of =
     let read : one ≡ Err e = sym same ∙ is in inr (sym (of ∙ ap (checked b m) read))
 
--- the certificate's refusal is that of the checks
+-- the certificates' refusal is that of the checks
 pub ends : (b : Bundle) → (m : VerificationMaterial) → (e : BundleErrorKind)
-    → AnswersOnly {X = Cert} OutOfMemory (IsSigningCertificate m.content) (Err e)
+    → AnswersOnly {X = SigningChain} OutOfMemory (IsSigningCertificate m.content) (Err e)
     → AnswersOnly {X = Checked} OutOfMemory (IsCheckedWith b (Some m)) (Err e)
 ends b m e signer = (
   ended b m e (Err e) refl signer.0,

@@ -2,7 +2,6 @@
 use Rattle.std.proofs.Common.{◌≡◌, Option, Some, None, Result, Ok, Err, refl, sym, subst}
 use Rattle.std.specs.Prelude.{◌↔◌}
 use Rattle.sig_base.proofs.ResultSteps.{ok_is, bind_ok}
-use Rattle.sig_certificate.specs.Certificate.{Cert}
 use Rattle.sig_checked_bundle.specs.Checked.{Checked, checked, IsChecked, IsCheckedWith}
 use Rattle.sig_checked_bundle.specs.Content.{content_with_signature}
 use Rattle.sig_checked_bundle.specs.Passed.{IsPassed}
@@ -11,6 +10,7 @@ use Rattle.sig_checked_bundle.specs.SigningCertificate.{IsSigningCertificate}
 use Rattle.sig_checked_bundle.specs.Version.{version_of}
 use Rattle.sig_bundle.specs.declared.bundle.Bundle.{Bundle}
 use Rattle.sig_checked_bundle.specs.declared.bundle_error.BundleErrorKind.{BundleErrorKind}
+use Rattle.sig_checked_bundle.specs.declared.signing_certificate.SigningChain.{SigningChain}
 use Rattle.sig_bundle.specs.declared.material.VerificationMaterial.{VerificationMaterial}
 use Rattle.sig_checked_bundle.proofs.ContentLaws.{content-held, content-meant}
 use Rattle.sig_checked_bundle.proofs.LeafLaws.{certificate-held, certificate-meant}
@@ -18,10 +18,10 @@ use Rattle.sig_checked_bundle.proofs.ProfileLaws.{profile-held, profile-meant, s
 
 passed : (bundle : Bundle) → (c : Checked) → (material : VerificationMaterial)
     → bundle.verification_material ≡ Some material
-    → (signer : Result Cert BundleErrorKind) → IsSigningCertificate material.content signer
+    → (signer : Result SigningChain BundleErrorKind) → IsSigningCertificate material.content signer
     → checked bundle material signer ≡ Ok c → IsPassed bundle c
 passed bundle c material brought (Err e) signer is = absurd cc
-passed bundle c material brought (Ok certificate) signer is =
+passed bundle c material brought (Ok chain) signer is =
     let content = bind_ok (content_with_signature bundle.content) _ c is in
     let entry = bind_ok (entry_among material.tlog_entries) _ c content.2 in
     let met = bind_ok (meets_profile bundle.media_type entry.0) _ c entry.2 in
@@ -30,7 +30,7 @@ passed bundle c material brought (Ok certificate) signer is =
     subst (IsPassed bundle) (ok_is _ c met.2) (record {
       material = material;
       brought = brought;
-      certificate = certificate-held material.content certificate signer;
+      certificate = certificate-held material.content chain signer;
       content = content-held bundle.content content.0 content.1;
       logged = sole_entry material.tlog_entries entry.0 entry.1;
       version = profile.0;
@@ -48,8 +48,8 @@ passes : (bundle : Bundle) → (c : Checked) → IsPassed bundle c → IsChecked
 passes bundle c p =
     let P : Option VerificationMaterial → Type 0 = λ o. IsCheckedWith bundle o (Ok c) in
     subst P (sym p.brought) (
-      Ok c.certificate,
-      certificate-meant p.material.content c.certificate p.certificate,
+      Ok (record { certificate = c.certificate; further = c.further }),
+      certificate-meant p.material.content c.certificate c.further p.certificate,
       (
           rw (
             content-meant bundle.content c.signature c.content p.content,

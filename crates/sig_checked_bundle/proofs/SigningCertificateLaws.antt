@@ -1,7 +1,8 @@
 -- The signing certificate among the certificates of a bundle.
-use Rattle.std.proofs.Common.{◌≡◌, inl, inr, ℕ, zero, suc, ◌+◌, ◌<◌, List, [], ◌∷◌, take, length, get_or}
+use Rattle.std.proofs.Common.{◌≡◌, inl, inr, ℕ, zero, suc, ◌+◌, ◌<◌, ◌≤◌, List, [], ◌∷◌, take, length, get_or}
 use Rattle.std.proofs.Common.{true, false, Option, Some, None, Result, Ok, Err, refl, sym, ap, subst, ◌∙◌, arith}
 use Rattle.std.proofs.Common.{add-one}
+use Rattle.std.proofs.lemmas.Bool.{lt-ltb, le-ltb}
 use Rattle.std.specs.List.{list_any}
 use Rattle.std.specs.Prelude.{IfErr}
 use Rattle.sig_base.specs.Answers.{ComesWhere}
@@ -14,7 +15,7 @@ use Rattle.sig_certificate.specs.Profile.{leaf_refusal}
 use Rattle.sig_certificate.specs.declared.error.X509ReadError.{X509ReadError}
 use Rattle.sig_certificate.specs.declared.error.X509ReadError.TheVariants.{Der, OutOfMemory as NoMemory}
 use Rattle.sig_checked_bundle.specs.Borrowed.{AreUnreadBehind, IsUnreadAt}
-use Rattle.sig_checked_bundle.specs.SigningCertificate.{AreRead, IsFirstMalformed, IsLeafAmong}
+use Rattle.sig_checked_bundle.specs.SigningCertificate.{AreRead, IsFirstMalformed, IsLeafAmong, IsLeafOf}
 use Rattle.sig_checked_bundle.specs.SigningCertificate.{IsNoCertificate, is_root, leaf_among}
 use Rattle.sig_checked_bundle.specs.declared.bundle_error.BundleErrorKind.{BundleErrorKind}
 use Rattle.sig_checked_bundle.specs.declared.bundle_error.BundleErrorKind.TheVariants.{OutOfMemory}
@@ -23,6 +24,8 @@ use Rattle.sig_checked_bundle.specs.declared.bundle_error.BundleErrorKind.TheVar
 use Rattle.sig_checked_bundle.specs.declared.bundle_error.BundleErrorKind.TheVariants.{
   VerificationMaterialContentUnsupported,
 }
+use Rattle.sig_checked_bundle.specs.declared.bundle_error.BundleErrorKind.TheVariants.{TooManyCertificates}
+use Rattle.sig_checked_bundle.specs.declared.signing_certificate.SigningChain.{SigningChain}
 use Rattle.sig_checked_bundle.proofs.Certificates.{OneCertificate, read_one}
 
 -- ---- the first that is none
@@ -63,8 +66,8 @@ behind_refused ders index der item cs e answer is below there seen are why =
 
 -- the result that the certificates give
 pub read_answers : OneCertificate → (ders : List (List ℕ)) (read : Result (List Cert) BundleErrorKind)
-    (answer : Result Cert BundleErrorKind)
-    → AreRead ders read → answer ≡ (read >>= leaf_among) → AnswersOnly OutOfMemory (IsLeafAmong (Some ders)) answer
+    (answer : Result SigningChain BundleErrorKind)
+    → AreRead ders read → answer ≡ (read >>= leaf_among) → AnswersOnly OutOfMemory (IsLeafOf ders) answer
 read_answers one ders read answer are is = (
   inr (read, are, is),
   λ other of.
@@ -72,13 +75,13 @@ read_answers one ders read answer are is = (
       ∙ sym of.2),
 )
 
-memory_answers : (ders : Option (List (List ℕ))) (e : BundleErrorKind) → e ≡ OutOfMemory
-    → AnswersOnly {X = Cert} OutOfMemory (IsLeafAmong ders) (Err e)
+memory_answers : (ders : List (List ℕ)) (e : BundleErrorKind) → e ≡ OutOfMemory
+    → AnswersOnly {X = SigningChain} OutOfMemory (IsLeafOf ders) (Err e)
 memory_answers ders e is = (inl (ap Err is), λ other of. inl (ap Err is))
 
 -- there is none
 pub missing_answers : OneCertificate → (ders : List (List ℕ)) → length ders ≡ 0
-    → AnswersOnly {X = Cert} OutOfMemory (IsLeafAmong (Some ders)) (Err CertificatesMissing)
+    → AnswersOnly {X = SigningChain} OutOfMemory (IsLeafOf ders) (Err CertificatesMissing)
 missing_answers one [] is = read_answers one [] (Ok []) (Err CertificatesMissing) tt refl
 missing_answers one (der ∷ ders) is = absurd (omega (arith, is))
 
@@ -90,36 +93,35 @@ module _ (one : OneCertificate) (ders : List (List ℕ)) (item : List ℕ) (late
 
   -- the first is none
   unread_first : (e : BundleErrorKind) → IsUnreadAt 0 first e
-      → AnswersOnly {X = Cert} OutOfMemory (IsLeafAmong (Some ders)) (Err e)
-  unread_first e (inl memory) = memory_answers (Some ders) e memory
+      → AnswersOnly {X = SigningChain} OutOfMemory (IsLeafOf ders) (Err e)
+  unread_first e (inl memory) = memory_answers ders e memory
   unread_first e (inr why) =
       rw whole (read_answers one (first ∷ later) (Err e) (Err e) (0, why.0, why.1) refl)
 
   -- a later one is none
   unread_later : (c : Cert) (e : BundleErrorKind) → IsCertificate first c → AreUnreadBehind later e
-      → AnswersOnly {X = Cert} OutOfMemory (IsLeafAmong (Some ders)) (Err e)
-  unread_later c e is (inl memory) = memory_answers (Some ders) e memory
+      → AnswersOnly {X = SigningChain} OutOfMemory (IsLeafOf ders) (Err e)
+  unread_later c e is (inl memory) = memory_answers ders e memory
   unread_later c e is (inr why) =
       rw whole (read_answers one (first ∷ later) (Err e) (Err e)
       (suc why.0, why.1 ∙ ap CertificateMalformed (add-one why.0), (c, is, why.2)) refl)
 
-  pub first_answers : (e : BundleErrorKind) (answer : Result Cert BundleErrorKind) → answer ≡ Err e
+  pub first_answers : (e : BundleErrorKind) (answer : Result SigningChain BundleErrorKind) → answer ≡ Err e
       → IsUnreadAt 0 first e
-      → AnswersOnly OutOfMemory (IsLeafAmong (Some ders)) answer
+      → AnswersOnly OutOfMemory (IsLeafOf ders) answer
   first_answers e answer is why = rw is (unread_first e why)
 
-  pub later_answers : (e : BundleErrorKind) (answer : Result Cert BundleErrorKind) → answer ≡ Err e → (c : Cert)
+  pub later_answers : (e : BundleErrorKind) (answer : Result SigningChain BundleErrorKind) → answer ≡ Err e → (c : Cert)
       → IsCertificate first c → AreUnreadBehind later e
-      → AnswersOnly OutOfMemory (IsLeafAmong (Some ders)) answer
+      → AnswersOnly OutOfMemory (IsLeafOf ders) answer
   later_answers e answer is c read why = rw is (unread_later c e read why)
 
   -- all are certificates
-  pub judged_answers : (c : Cert) (cs held : List Cert) (answer : Result Cert BundleErrorKind)
-      → IsCertificate first c → AreCertificates later cs → held ≡ cs → answer ≡ leaf_among (c ∷ held)
-      → AnswersOnly OutOfMemory (IsLeafAmong (Some ders)) answer
-  judged_answers c cs held answer is are same judged =
-      rw whole (read_answers one (first ∷ later) (Ok (c ∷ cs)) answer (is, are)
-      (judged ∙ ap (λ (l : List Cert). leaf_among (c ∷ l)) same))
+  pub judged_answers : (c : Cert) (cs : List Cert) (answer : Result SigningChain BundleErrorKind)
+      → IsCertificate first c → AreCertificates later cs → answer ≡ leaf_among (c ∷ cs)
+      → AnswersOnly OutOfMemory (IsLeafOf ders) answer
+  judged_answers c cs answer is are judged =
+      rw whole (read_answers one (first ∷ later) (Ok (c ∷ cs)) answer (is, are) judged)
 
 -- ---- the judgement of the certificates
 
@@ -128,21 +130,37 @@ pub rooted : (c : Cert) (later : List Cert) → None ≡ leaf_refusal c → list
 rooted c later may_sign found = rw (sym may_sign, found) refl
 
 pub rootless : (c : Cert) (later : List Cert) → None ≡ leaf_refusal c → list_any is_root later ≡ false
-    → Ok c ≡ leaf_among (c ∷ later)
+    → Ok (record { certificate = c; further = later }) ≡ leaf_among (c ∷ later)
 rootless c later may_sign none = rw (sym may_sign, none) refl
 
 pub ruleset judgements = (rooted, rootless)
 
+-- ---- how many there are
+
+pub many_answers : (ders : List (List ℕ)) (n : ℕ) → 17 < n → n ≡ length ders
+    → AnswersOnly {X = SigningChain} OutOfMemory (IsLeafAmong (Some ders)) (Err (TooManyCertificates n))
+many_answers ders n many count =
+    let told : ◌≡◌ {A = Result SigningChain BundleErrorKind} (Err (TooManyCertificates n))
+    (Err (TooManyCertificates (length ders))) = ap (λ k. Err (TooManyCertificates k)) count in
+    rw (lt-ltb 17 (length ders) (subst (λ k. 17 < k) count many)) (inr told, λ other of. inr (told ∙ sym of))
+
+pub few_answers : (ders : List (List ℕ)) (n : ℕ) (answer : Result SigningChain BundleErrorKind) → n ≤ 17
+    → n ≡ length ders
+    → AnswersOnly OutOfMemory (IsLeafOf ders) answer → AnswersOnly OutOfMemory (IsLeafAmong (Some ders)) answer
+few_answers ders n answer few count is = rw (le-ltb 17 (length ders) (subst (λ k. k ≤ 17) count few)) is
+
+pub ruleset counts = (many_answers, few_answers)
+
 -- ---- the encodings are those of the material's content
 
-pub encodings_answer : (ders : List (List ℕ)) (held : Option (List (List ℕ))) (answer : Result Cert BundleErrorKind)
+pub encodings_answer : (ders : List (List ℕ)) (held : Option (List (List ℕ))) (answer : Result SigningChain BundleErrorKind)
     → Some ders ≡ held
     → AnswersOnly OutOfMemory (IsLeafAmong (Some ders)) answer → AnswersOnly OutOfMemory (IsLeafAmong held) answer
 encodings_answer ders held answer is answers =
     subst (λ (o : Option (List (List ℕ))). AnswersOnly OutOfMemory (IsLeafAmong o) answer) is answers
 
 pub nothing_answers : (held : Option (List (List ℕ))) → None ≡ held
-    → AnswersOnly {X = Cert} OutOfMemory (IsLeafAmong held) (Err VerificationMaterialContentUnsupported)
+    → AnswersOnly {X = SigningChain} OutOfMemory (IsLeafAmong held) (Err VerificationMaterialContentUnsupported)
 nothing_answers held is =
-    subst (λ (o : Option (List (List ℕ))). AnswersOnly {X = Cert} OutOfMemory (IsLeafAmong o)
+    subst (λ (o : Option (List (List ℕ))). AnswersOnly {X = SigningChain} OutOfMemory (IsLeafAmong o)
     (Err VerificationMaterialContentUnsupported)) is (inr refl, λ other of. inr (sym of))

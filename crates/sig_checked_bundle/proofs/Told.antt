@@ -1,6 +1,7 @@
 -- A bundle that has the cause of a refusal is refused so.
-use Rattle.std.proofs.Common.{◌≡◌, ◌≢◌, ℕ, List, [], ◌∷◌, length, Option, Some, None}
+use Rattle.std.proofs.Common.{◌≡◌, ◌≢◌, ◌<◌, ℕ, List, [], ◌∷◌, length, Option, Some, None}
 use Rattle.std.proofs.Common.{Result, Ok, Err, refl, sym, ap, subst, ◌∙◌}
+use Rattle.std.proofs.lemmas.Bool.{lt-ltb}
 use Rattle.sig_base.proofs.ResultSteps.{bind_of_ok}
 use Rattle.sig_base.specs.ResultSteps.{◌>>=◌}
 use Rattle.sig_certificate.specs.Certificate.{Cert}
@@ -15,6 +16,7 @@ use Rattle.sig_checked_bundle.specs.Content.{ContentWithSignature, signature_amo
 use Rattle.sig_checked_bundle.specs.Content.{digests_in, envelope_content, content_with_signature}
 use Rattle.sig_checked_bundle.specs.Profile.{entry_among, lacks, lacks_proof, meets_profile, unless_lacking}
 use Rattle.sig_checked_bundle.specs.Refusals.{DemandsProof, HasCertificates, HasContent, HasEncodings, HasEntry}
+use Rattle.sig_checked_bundle.specs.Refusals.{HasFewEncodings}
 use Rattle.sig_checked_bundle.specs.Refusals.{HasEnvelope, HasMaterial, HasNoRoot, HasSignature, HasStatement}
 use Rattle.sig_checked_bundle.specs.Refusals.{HasVersion, IsCause, IsProfileCauseOf, material_under}
 use Rattle.sig_checked_bundle.specs.SigningCertificate.{AreRead, IsLeafAmong, IsSigningCertificate}
@@ -27,6 +29,7 @@ use Rattle.sig_checked_bundle.specs.declared.bundle_error.BundleErrorKind.TheVar
   VerificationMaterialContentUnsupported,
 }
 use Rattle.sig_checked_bundle.specs.declared.bundle_error.BundleErrorKind.TheVariants.{CertificateMalformed}
+use Rattle.sig_checked_bundle.specs.declared.bundle_error.BundleErrorKind.TheVariants.{TooManyCertificates}
 use Rattle.sig_checked_bundle.specs.declared.bundle_error.BundleErrorKind.TheVariants.{CertificatesMissing, NoLeaf}
 use Rattle.sig_checked_bundle.specs.declared.bundle_error.BundleErrorKind.TheVariants.{RootInChain, SignatureMissing}
 use Rattle.sig_checked_bundle.specs.declared.bundle_error.BundleErrorKind.TheVariants.{DsseInvalidSignatureCount}
@@ -43,44 +46,60 @@ use Rattle.sig_checked_bundle.specs.declared.bundle_error.BundleProfileErrorKind
 use Rattle.sig_checked_bundle.specs.declared.bundle_error.Bundle01ProfileErrorKind.TheVariants.{InclusionPromiseMissing}
 use Rattle.sig_checked_bundle.specs.declared.bundle_error.Bundle02ProfileErrorKind.TheVariants.{InclusionProofMissing}
 use Rattle.sig_checked_bundle.specs.declared.bundle_error.Bundle02ProfileErrorKind.TheVariants.{CheckpointMissing}
+use Rattle.sig_checked_bundle.specs.declared.signing_certificate.SigningChain.{SigningChain}
 use Rattle.sig_bundle.specs.declared.material.TransparencyLogEntry.{TransparencyLogEntry}
 use Rattle.sig_bundle.specs.declared.material.VerificationMaterial.{VerificationMaterial}
 use Rattle.sig_checked_bundle.specs.declared.version.Version.{Version}
 use Rattle.sig_checked_bundle.specs.declared.version.Version.TheVariants.{Bundle0_1, Bundle0_2, Bundle0_3}
 use Rattle.sig_checked_bundle.proofs.Certificates.{a_root-tells}
 use Rattle.sig_checked_bundle.proofs.ContentLaws.{content-meant}
-use Rattle.sig_checked_bundle.proofs.LeafLaws.{certificate-meant}
+use Rattle.sig_checked_bundle.proofs.LeafLaws.{certificate-meant, few-meant}
 use Rattle.sig_checked_bundle.proofs.VersionLaws.{version-held, version-meant}
 
-from_material : (b : Bundle) (h : HasMaterial b) (kind : BundleErrorKind) (answer : Result Cert BundleErrorKind)
+from_material : (b : Bundle) (h : HasMaterial b) (kind : BundleErrorKind) (answer : Result SigningChain BundleErrorKind)
     → IsSigningCertificate h.material.content answer
     → checked b h.material answer ≡ Err kind → IsChecked b (Err kind)
 from_material b h kind answer certificate told =
     subst (λ o. IsCheckedWith b o (Err kind)) (sym h.brought) (answer, certificate, sym told)
 
 -- what is made of the encodings that the material holds
-from_encodings : (b : Bundle) (h : HasEncodings b) (kind : BundleErrorKind) (read : Result (List Cert) BundleErrorKind)
-    → AreRead h.encodings read
-    → (read >>= leaf_among) ≡ Err kind → IsChecked b (Err kind)
-from_encodings b h kind read are told =
+from_encodings : (b : Bundle) (h : HasEncodings b) (kind : BundleErrorKind)
+    → IsLeafAmong (Some h.encodings) (Err kind) → IsChecked b (Err kind)
+from_encodings b h kind told =
     from_material b h.before kind (Err kind)
-    (subst (λ (o : Option (List (List ℕ))). IsLeafAmong o (Err kind)) (sym h.held) (read, are, sym told)) refl
+    (subst (λ (o : Option (List (List ℕ))). IsLeafAmong o (Err kind)) (sym h.held) told) refl
+
+-- what is made of at most 17 encodings
+from_few : (b : Bundle) (h : HasFewEncodings b) (kind : BundleErrorKind) (read : Result (List Cert) BundleErrorKind)
+    → AreRead h.before.encodings read
+    → (read >>= leaf_among) ≡ Err kind → IsChecked b (Err kind)
+from_few b h kind read are told =
+    from_encodings b h.before kind (few-meant h.before.encodings (Err kind) h.few (read, are, sym told))
+
+many-told : (ders : List (List ℕ)) (count : ℕ) → length ders ≡ count → 17 < count
+    → IsLeafAmong (Some ders) (Err (TooManyCertificates count))
+many-told ders count is many =
+    rw (lt-ltb 17 (length ders) (subst (λ n. 17 < n) (sym is) many)) (ap (λ n. Err (TooManyCertificates n)) (sym is))
 
 from_certificates : (b : Bundle) (h : HasCertificates b) (kind : BundleErrorKind)
-    → leaf_among (h.certificate ∷ h.later) ≡ Err kind → IsChecked b (Err kind)
-from_certificates b h kind told = from_encodings b h.before kind (Ok (h.certificate ∷ h.later)) h.read told
+    → leaf_among (h.certificate ∷ h.further) ≡ Err kind → IsChecked b (Err kind)
+from_certificates b h kind told = from_few b h.before kind (Ok (h.certificate ∷ h.further)) h.read told
+
+-- the certificates of a bundle whose rules hold so far
+abbrev chain_under : {b : Bundle} → HasNoRoot b → SigningChain
+chain_under h = record { certificate = h.before.before.certificate; further = h.before.before.further }
 
 from_leaf : (b : Bundle) (h : HasNoRoot b) (kind : BundleErrorKind)
-    → checked b h.before.before.before.before.material (Ok h.before.before.certificate) ≡ Err kind
+    → checked b h.before.before.before.before.before.material (Ok (chain_under h)) ≡ Err kind
     → IsChecked b (Err kind)
 from_leaf b h kind told =
     let certificates = h.before.before in
-    let material = certificates.before.before in
-    from_material b material kind (Ok certificates.certificate)
-    (certificate-meant material.material.content certificates.certificate (record {
-      encodings = certificates.before.encodings;
-      held = certificates.before.held;
-      later = certificates.later;
+    let encodings = certificates.before.before in
+    from_material b encodings.before kind (Ok (chain_under h))
+    (certificate-meant encodings.before.material.content certificates.certificate certificates.further (record {
+      encodings = encodings.encodings;
+      held = encodings.held;
+      few = certificates.before.few;
       read = certificates.read;
       may_sign = h.before.may_sign;
       rootless = h.rootless;
@@ -107,13 +126,19 @@ from_statement b h fault cause =
     (rw (h.stated, (faults_have_their_cause h.statement fault).1 cause) refl)
 
 -- what is made of the content, behind it
-abbrev behind_content : Bundle → VerificationMaterial → Cert → ContentWithSignature → Result Checked BundleErrorKind
-behind_content b material certificate content =
-    entry_among material.tlog_entries >>= λ entry. meets_profile b.media_type entry >>= λ _. Ok
-    (record { certificate = certificate; signature = content.signature; content = content.content; entry = entry })
+abbrev behind_content : Bundle → VerificationMaterial → SigningChain → ContentWithSignature
+    → Result Checked BundleErrorKind
+behind_content b material chain content =
+    entry_among material.tlog_entries >>= λ entry. meets_profile b.media_type entry >>= λ _. Ok (record {
+      certificate = chain.certificate;
+      further = chain.further;
+      signature = content.signature;
+      content = content.content;
+      entry = entry;
+    })
 
 from_read : (b : Bundle) (h : HasContent b) (kind : BundleErrorKind)
-    → behind_content b (material_under h) h.before.before.before.certificate
+    → behind_content b (material_under h) (chain_under h.before)
     (record { signature = h.signature; content = h.kept }) ≡ Err kind
     → IsChecked b (Err kind)
 from_read b h kind told =
@@ -179,15 +204,17 @@ told b VerificationMaterialContentUnsupported cause =
     from_material b cause.0 VerificationMaterialContentUnsupported (Err VerificationMaterialContentUnsupported)
     (subst (λ (o : Option (List (List ℕ))). IsLeafAmong o (Err VerificationMaterialContentUnsupported)) (sym cause.1)
     refl) refl
+told b (TooManyCertificates count) cause =
+    from_encodings b cause.0 (TooManyCertificates count) (many-told cause.0.encodings count cause.1 cause.2)
 told b (CertificateMalformed index) cause =
-    from_encodings b cause.0 (CertificateMalformed index) (Err (CertificateMalformed index)) (index, refl, cause.1) refl
+    from_few b cause.0 (CertificateMalformed index) (Err (CertificateMalformed index)) (index, refl, cause.1) refl
 told b CertificatesMissing cause =
-    from_encodings b cause.0 CertificatesMissing (Ok [])
+    from_few b cause.0 CertificatesMissing (Ok [])
     (subst (λ (ders : List (List ℕ)). AreCertificates ders []) (sym cause.1) tt) refl
 told b (NoLeaf e) cause = from_certificates b cause.0 (NoLeaf e) (rw cause.1 refl)
 told b RootInChain cause =
     from_certificates b cause.0.before RootInChain
-    (rw (cause.0.may_sign, a_root-tells cause.0.before.later cause.1) refl)
+    (rw (cause.0.may_sign, a_root-tells cause.0.before.further cause.1) refl)
 told b SignatureMissing cause = from_content b cause.0 SignatureMissing (rw cause.1 refl)
 told b (DsseInvalidSignatureCount count) cause =
     from_envelope b cause.0 (DsseInvalidSignatureCount count)

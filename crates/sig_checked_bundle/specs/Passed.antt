@@ -1,6 +1,6 @@
 -- *Passed bundle*: what a bundle that passes its own checks holds (Sigstore bundle format; DSSE protocol; in-toto
 -- attestation framework; RFC 5280).
-use Rattle.std.specs.Prelude.{◌≡◌, ◌⊎◌, ℕ, List, [], ◌∷◌, Option, Some, None}
+use Rattle.std.specs.Prelude.{◌≡◌, ◌⊎◌, ◌≤◌, ℕ, List, [], ◌∷◌, length, Option, Some, None}
 use Rattle.std.specs.List.{AllByRecursion}
 use Rattle.sig_dsse.specs.EnvelopeText.{envelope_text}
 use Rattle.sig_dsse.specs.Named.{AreTaken}
@@ -31,14 +31,14 @@ use Rattle.sig_bundle.specs.declared.material.VerificationMaterial.{Verification
 use Rattle.sig_checked_bundle.specs.declared.version.Version.{Version}
 use Rattle.sig_checked_bundle.specs.declared.version.Version.TheVariants.{Bundle0_1, Bundle0_2, Bundle0_3}
 
--- the material holds certificates, of which this is the first and may sign; none of the later ones is a root
-pub record HoldsLeaf (content : Option MaterialContent) (certificate : Cert) : Type 0 where
+-- the material holds at most 17 certificates: the first, which may sign, and the further ones, none of which is a root
+pub record HoldsLeaf (content : Option MaterialContent) (certificate : Cert) (further : List Cert) : Type 0 where
   pub encodings : List (List ℕ)
   pub held : encodings_in content ≡ Some encodings
-  pub later : List Cert
-  pub read : AreCertificates encodings (certificate ∷ later)
+  pub few : length encodings ≤ 17
+  pub read : AreCertificates encodings (certificate ∷ further)
   pub may_sign : leaf_refusal certificate ≡ None
-  pub rootless : AllByRecursion IsNoRoot later
+  pub rootless : AllByRecursion IsNoRoot further
 
 -- a signature over an artifact, of which the bundle holds nothing more that the signature has to be over
 pub record IsMessageOf (content : Option Content) (bytes : List ℕ) (kept : CheckedContent) : Type 0 where
@@ -86,7 +86,7 @@ IsMet Bundle0_3 entry = HasProof entry
 pub record IsPassed (bundle : Bundle) (c : Checked) : Type 0 where
   pub material : VerificationMaterial
   pub brought : bundle.verification_material ≡ Some material
-  pub certificate : HoldsLeaf material.content c.certificate
+  pub certificate : HoldsLeaf material.content c.certificate c.further
   pub content : IsContentOf bundle.content c.signature c.content
   pub logged : material.tlog_entries ≡ c.entry ∷ []
   pub version : Version

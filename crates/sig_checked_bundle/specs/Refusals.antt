@@ -1,6 +1,6 @@
 -- *Causes of the refusals*: each error of a bundle's own checks in the words of the bundle: the rules before it
 -- hold, and this one does not.
-use Rattle.std.specs.Prelude.{⊤, ◌≡◌, ◌≢◌, ◌↔◌, ℕ, List, [], ◌∷◌, length, Any, Some, None, Err}
+use Rattle.std.specs.Prelude.{⊤, ◌≡◌, ◌≢◌, ◌≤◌, ◌<◌, ◌↔◌, ℕ, List, [], ◌∷◌, length, Any, Some, None, Err}
 use Rattle.std.specs.List.{AllByRecursion}
 use Rattle.sig_certificate.specs.Certificate.{Cert}
 use Rattle.sig_certificate.specs.Certificates.{AreCertificates}
@@ -44,22 +44,27 @@ pub record HasEncodings (b : Bundle) : Type 0 where
   pub encodings : List (List ℕ)
   pub held : encodings_in before.material.content ≡ Some encodings
 
+-- there are at most 17 of them
+pub record HasFewEncodings (b : Bundle) : Type 0 where
+  pub before : HasEncodings b
+  pub few : length before.encodings ≤ 17
+
 -- each is that of a certificate (RFC 5280 section 4.1), and there is one
 pub record HasCertificates (b : Bundle) : Type 0 where
-  pub before : HasEncodings b
+  pub before : HasFewEncodings b
   pub certificate : Cert
-  pub later : List Cert
-  pub read : AreCertificates before.encodings (certificate ∷ later)
+  pub further : List Cert
+  pub read : AreCertificates before.before.encodings (certificate ∷ further)
 
 -- the first may sign
 pub record HasLeaf (b : Bundle) : Type 0 where
   pub before : HasCertificates b
   pub may_sign : leaf_refusal before.certificate ≡ None
 
--- no later one is a root
+-- no further one is a root
 pub record HasNoRoot (b : Bundle) : Type 0 where
   pub before : HasLeaf b
-  pub rootless : AllByRecursion IsNoRoot before.before.later
+  pub rootless : AllByRecursion IsNoRoot before.before.further
 
 -- the content is an envelope
 pub record HasEnvelope (b : Bundle) : Type 0 where
@@ -88,7 +93,7 @@ pub record HasContent (b : Bundle) : Type 0 where
 
 -- the material of a bundle whose rules hold so far
 abbrev pub material_under : {b : Bundle} → HasContent b → VerificationMaterial
-material_under h = h.before.before.before.before.before.material
+material_under h = h.before.before.before.before.before.before.material
 
 -- there is one log entry
 pub record HasEntry (b : Bundle) : Type 0 where
@@ -125,10 +130,13 @@ abbrev pub IsCause : BundleErrorKind → Bundle → Type 0
 IsCause refusal.VerificationMaterialMissing b = b.verification_material ≡ None
 IsCause refusal.VerificationMaterialContentUnsupported b =
     (h : HasMaterial b) × (encodings_in h.material.content ≡ None)
-IsCause (refusal.CertificateMalformed index) b = (h : HasEncodings b) × IsFirstMalformed h.encodings index
-IsCause refusal.CertificatesMissing b = (h : HasEncodings b) × (h.encodings ≡ [])
+IsCause (refusal.TooManyCertificates count) b =
+    (h : HasEncodings b) × (length h.encodings ≡ count) × (17 < count)
+IsCause (refusal.CertificateMalformed index) b =
+    (h : HasFewEncodings b) × IsFirstMalformed h.before.encodings index
+IsCause refusal.CertificatesMissing b = (h : HasFewEncodings b) × (h.before.encodings ≡ [])
 IsCause (refusal.NoLeaf e) b = (h : HasCertificates b) × (leaf_refusal h.certificate ≡ Some e)
-IsCause refusal.RootInChain b = (h : HasLeaf b) × Any IsRoot h.before.later
+IsCause refusal.RootInChain b = (h : HasLeaf b) × Any IsRoot h.before.further
 IsCause refusal.SignatureMissing b = HasNoRoot b × (b.content ≡ None)
 IsCause (refusal.DsseInvalidSignatureCount count) b =
     (h : HasEnvelope b) × (length h.envelope.signatures ≡ count) × (count ≢ 1)

@@ -1,7 +1,7 @@
--- The signing certificate of a bundle: the first of its certificates (sigstore_bundle.proto, the comments on
+-- The signing certificate of a bundle, the first of its certificates, and the further ones (sigstore_bundle.proto, the comments on
 -- verification_material).
 use Rattle.std.specs.Prelude.{◌≡◌, ◌≢◌, ℕ, zero, suc, List, [], ◌∷◌, Bool, Option, Some, None, is_none, Result}
-use Rattle.std.specs.Prelude.{Ok, Err, if◌then◌else◌}
+use Rattle.std.specs.Prelude.{true, false, length, nat_lt, Ok, Err, if◌then◌else◌}
 use Rattle.std.specs.List.{list_any}
 use Rattle.sig_base.specs.ResultSteps.{◌>>=◌}
 use Rattle.sig_certificate.specs.Certificate.{Cert, IsCertificate}
@@ -15,6 +15,8 @@ use Rattle.sig_checked_bundle.specs.declared.bundle_error.BundleErrorKind.TheVar
 use Rattle.sig_checked_bundle.specs.declared.bundle_error.BundleErrorKind.TheVariants.{CertificateMalformed}
 use Rattle.sig_checked_bundle.specs.declared.bundle_error.BundleErrorKind.TheVariants.{CertificatesMissing, NoLeaf}
 use Rattle.sig_checked_bundle.specs.declared.bundle_error.BundleErrorKind.TheVariants.{RootInChain}
+use Rattle.sig_checked_bundle.specs.declared.bundle_error.BundleErrorKind.TheVariants.{TooManyCertificates}
+use Rattle.sig_checked_bundle.specs.declared.signing_certificate.SigningChain.{SigningChain}
 use Rattle.sig_bundle.specs.declared.material.MaterialContent.{MaterialContent}
 use Rattle.sig_bundle.specs.declared.material.MaterialContent.TheVariants.{Certificate, X509CertificateChain}
 use Rattle.sig_bundle.specs.declared.material.MaterialContent.TheVariants.{PublicKey}
@@ -53,20 +55,34 @@ IsRoot c = root_refusal c ≡ None
 abbrev pub IsNoRoot : Cert → Type 0
 IsNoRoot c = root_refusal c ≢ None
 
-abbrev pub leaf_or_refusal : Cert → List Cert → Option CertificateValidationError → Result Cert BundleErrorKind
-leaf_or_refusal c later (Some e) = Err (NoLeaf e)
-leaf_or_refusal c later None = if list_any is_root later then Err RootInChain else Ok c
+abbrev pub leaf_or_refusal : Cert → List Cert → Option CertificateValidationError
+    → Result SigningChain BundleErrorKind
+leaf_or_refusal c further (Some e) = Err (NoLeaf e)
+leaf_or_refusal c further None = if list_any is_root further then Err RootInChain
+    else Ok (record { certificate = c; further = further })
 
--- the first certificate, which has to be a leaf; no later one may be a root
-abbrev pub leaf_among : List Cert → Result Cert BundleErrorKind
+-- the first certificate, which has to be a leaf, and the further ones, none of which may be a root
+abbrev pub leaf_among : List Cert → Result SigningChain BundleErrorKind
 leaf_among [] = Err CertificatesMissing
-leaf_among (c ∷ later) = leaf_or_refusal c later (leaf_refusal c)
+leaf_among (c ∷ further) = leaf_or_refusal c further (leaf_refusal c)
 
-abbrev pub IsLeafAmong : Option (List (List ℕ)) → Result Cert BundleErrorKind → Type 0
-IsLeafAmong None answer = answer ≡ Err VerificationMaterialContentUnsupported
-IsLeafAmong (Some ders) answer =
+abbrev pub IsLeafOf : List (List ℕ) → Result SigningChain BundleErrorKind → Type 0
+IsLeafOf ders answer =
     (read : Result (List Cert) BundleErrorKind) × AreRead ders read × (answer ≡ (read >>= leaf_among))
 
--- the signing certificate, or the first cause against the certificates
-abbrev pub IsSigningCertificate : Option MaterialContent → Result Cert BundleErrorKind → Type 0
+-- ---- how many there may be: the signing one, and 16 further ones
+
+abbrev pub most_certificates : ℕ
+most_certificates = 17
+
+abbrev pub IsLeafUnlessMany : Bool → List (List ℕ) → Result SigningChain BundleErrorKind → Type 0
+IsLeafUnlessMany true ders answer = answer ≡ Err (TooManyCertificates (length ders))
+IsLeafUnlessMany false ders answer = IsLeafOf ders answer
+
+abbrev pub IsLeafAmong : Option (List (List ℕ)) → Result SigningChain BundleErrorKind → Type 0
+IsLeafAmong None answer = answer ≡ Err VerificationMaterialContentUnsupported
+IsLeafAmong (Some ders) answer = IsLeafUnlessMany (nat_lt most_certificates (length ders)) ders answer
+
+-- the signing certificate with the further ones, or the first cause against the certificates
+abbrev pub IsSigningCertificate : Option MaterialContent → Result SigningChain BundleErrorKind → Type 0
 IsSigningCertificate content answer = IsLeafAmong (encodings_in content) answer

@@ -21,6 +21,9 @@ pub enum BundleErrorKind {
     /// The material has no content, or a hint at a key, which is not read.
     #[error("VerificationMaterialContentUnsupported")]
     VerificationMaterialContentUnsupported,
+    /// A chain has this number of certificates, above 17.
+    #[error("TooManyCertificates")]
+    TooManyCertificates(usize),
     /// The bytes at this index, counted from 0, are no certificate.
     #[error("CertificateMalformed")]
     CertificateMalformed(usize),

@@ -14,8 +14,8 @@ use crate::bundle_error::BundleErrorKind;
 use crate::content_check::{CheckedContent, checked_content};
 use crate::log_body::is_body_about;
 use crate::profile_check::{entry_among, meets_profile};
-use crate::signing_certificate::signing_certificate;
-use sig_base::{Bytes, OutOfMemory};
+use crate::signing_certificate::{SigningChain, signing_chain};
+use sig_base::{Bytes, OutOfMemory, Register};
 use sig_bundle::{Bundle, TransparencyLogEntry, VerificationMaterial};
 use sig_certificate::Certificate;
 use std::alloc::Global;
@@ -26,6 +26,7 @@ use std::marker::Model;
 #[derive(Drop)]
 pub struct CheckedBundle {
     certificate: Certificate,
+    further: Register<Certificate>,
     signature: Bytes,
     content: CheckedContent,
     entry: TransparencyLogEntry,
@@ -38,6 +39,7 @@ impl Model for CheckedBundle {
 
     ghost view = { λ b. record {
       certificate = b.certificate;
+      further = b.further;
       signature = b.signature;
       content = b.content;
       entry = b.entry;
@@ -52,8 +54,8 @@ fn check(
 ) -> Result<CheckedBundle, BundleErrorKind>
     ensures { AnswersOnly BundleErrorKind.OutOfMemory (IsCheckedWith input.now (Some material.now)) result }
 {
-    let certificate = signing_certificate(alloc, &material.content)?;
-    check_behind_certificate(alloc, input, material, certificate)
+    let chain = signing_chain(alloc, &material.content)?;
+    check_behind_certificates(alloc, input, material, chain)
 }
 
 /// The log entry, in memory of its own, if it has what the media type demands.
@@ -70,20 +72,21 @@ fn checked_entry(
     Ok(entry.copy(alloc)?)
 }
 
-/// The checks behind that of the signing certificate.
-fn check_behind_certificate(
+/// The checks behind that of the certificates.
+fn check_behind_certificates(
     alloc: Global,
     input: &Bundle,
     material: &VerificationMaterial,
-    certificate: Certificate,
+    chain: SigningChain,
 ) -> Result<CheckedBundle, BundleErrorKind>
     ensures { Answers BundleErrorKind.OutOfMemory (λ checked. checked) result
-        (checked input.now material.now (Ok certificate)) }
+        (checked input.now material.now (Ok chain)) }
 {
     let content = checked_content(alloc, &input.content)?;
     match checked_entry(alloc, input, material) {
         Ok(entry) => Ok(CheckedBundle {
-            certificate,
+            certificate: chain.certificate,
+            further: chain.further,
             signature: content.signature,
             content: content.content,
             entry,
@@ -111,18 +114,19 @@ impl CheckedBundle {
     ///
     /// 1. `VerificationMaterialMissing`: there is no verification material.
     /// 2. `VerificationMaterialContentUnsupported`: the material has no content, or a hint at a key.
-    /// 3. `CertificateMalformed` with the index of the first that is no certificate (RFC 5280 section 4.1); a
+    /// 3. `TooManyCertificates`: the chain has this number of certificates, above 17. None of them is read.
+    /// 4. `CertificateMalformed` with the index of the first that is no certificate (RFC 5280 section 4.1); a
     ///    certificate alone has index 0.
-    /// 4. `CertificatesMissing`: the chain is empty.
-    /// 5. `NoLeaf`: the first certificate may not sign, with the error of [`sig_certificate::is_leaf`].
-    /// 6. `RootInChain`: a later certificate of the chain is a root, as [`sig_certificate::is_root_ca`] says.
-    /// 7. `SignatureMissing`: there is no content.
-    /// 8. `DsseInvalidSignatureCount`: an envelope has not one signature.
-    /// 9. `DssePayloadDecode`: its payload is no statement.
-    /// 10. `DsseTooManySubjects` above 1024, `DsseTooManySubjectDigests` above 32, `DsseSubjectDigestMalformed`, and
+    /// 5. `CertificatesMissing`: the chain is empty.
+    /// 6. `NoLeaf`: the first certificate may not sign, with the error of [`sig_certificate::is_leaf`].
+    /// 7. `RootInChain`: a further certificate of the chain is a root, as [`sig_certificate::is_root_ca`] says.
+    /// 8. `SignatureMissing`: there is no content.
+    /// 9. `DsseInvalidSignatureCount`: an envelope has not one signature.
+    /// 10. `DssePayloadDecode`: its payload is no statement.
+    /// 11. `DsseTooManySubjects` above 1024, `DsseTooManySubjectDigests` above 32, `DsseSubjectDigestMalformed`, and
     ///     `DsseNoRecognizedSubjectDigest`, as [`sig_dsse::recognized_digests`].
-    /// 11. `TlogEntry`: there is not one log entry.
-    /// 12. `BundleProfile`: `Unknown` for a media type that names no version; under 0.1 `InclusionPromiseMissing`;
+    /// 12. `TlogEntry`: there is not one log entry.
+    /// 13. `BundleProfile`: `Unknown` for a media type that names no version; under 0.1 `InclusionPromiseMissing`;
     ///     under 0.2 and 0.3 `InclusionProofMissing`, then `CheckpointMissing`.
     pub fn try_from_bundle(alloc: Global, input: &Bundle) -> Result<CheckedBundle, BundleErrorKind>
         ensures passed { (checked : Checked) → ComesWhere BundleErrorKind.OutOfMemory result (Ok checked)
@@ -140,6 +144,13 @@ impl CheckedBundle {
         ensures { result.now ≡ self.now.certificate }
     {
         &self.certificate
+    }
+
+    /// The certificates after the signing one, in order: at most 16, of which none is a root.
+    pub fn further(&self) -> &[Certificate]
+        ensures { result.now ≡ self.now.further }
+    {
+        self.further.as_slice()
     }
 
     /// The signature.

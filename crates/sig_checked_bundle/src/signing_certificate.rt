@@ -1,12 +1,12 @@
 //! The signing certificate of a bundle: the first of its certificates, which has to be a leaf, and behind which there
-//! is no root. No signature by any of their keys is checked here.
+//! is no root. The further ones are at most 16. No signature by any of their keys is checked here.
 
 ghost use Rattle.std.specs.Prelude.{◌≡◌, ◌∷◌, IfOk, IfErr, Some, option_map};
 ghost use Rattle.std.specs.List.{list_any};
 ghost use Rattle.sig_bundle.specs.AnswersOnly.{AnswersOnly};
 ghost use Rattle.sig_checked_bundle.specs.Borrowed.{AreUnreadBehind, IsUnreadAt};
-ghost use Rattle.sig_checked_bundle.specs.SigningCertificate.{IsLeafAmong, IsSigningCertificate, encodings_in};
-ghost use Rattle.sig_checked_bundle.specs.SigningCertificate.{is_root, leaf_among};
+ghost use Rattle.sig_checked_bundle.specs.SigningCertificate.{IsLeafAmong, IsLeafOf, IsSigningCertificate};
+ghost use Rattle.sig_checked_bundle.specs.SigningCertificate.{encodings_in, is_root, leaf_among};
 ghost use Rattle.sig_certificate.specs.Certificate.{IsCertificate};
 ghost use Rattle.sig_certificate.specs.Certificates.{AreCertificates};
 
@@ -17,6 +17,18 @@ use sig_certificate::laws::certificates;
 use sig_certificate::{Certificate, X509ReadError, is_leaf, is_root_ca};
 use std::alloc::Global;
 use std::slice;
+
+/// How many certificates a chain may have: the signing one, and 16 further ones.
+const MOST_CERTIFICATES: usize = 17;
+
+/// The signing certificate, and the further ones in order.
+#[derive(Drop)]
+pub(crate) struct SigningChain {
+    /// The signing certificate.
+    pub(crate) certificate: Certificate,
+    /// The certificates after it.
+    pub(crate) further: Register<Certificate>,
+}
 
 /// The encodings (DER) of the certificates, the signing one first. `None` if and only if there are none to read: no
 /// content, or a hint at a key.
@@ -42,17 +54,17 @@ fn read_certificate(alloc: Global, index: usize, der: &[u8]) -> Result<Certifica
     }
 }
 
-/// The certificates behind the first. Fails with `CertificateMalformed` and the index of the first that is none.
-fn read_later(alloc: Global, ders: &[Bytes]) -> Result<Register<Certificate>, BundleErrorKind>
+/// The further certificates, of these encodings behind the first. Fails with `CertificateMalformed` and the index of the first that is none.
+fn read_further(alloc: Global, ders: &[Bytes]) -> Result<Register<Certificate>, BundleErrorKind>
     ensures found { IfOk result (AreCertificates ders.now) }
     ensures refused { IfErr result (AreUnreadBehind ders.now) }
 {
-    let mut later = Register::new(alloc);
+    let mut further = Register::new(alloc);
     'ders: for (index, der) in ders.iter().enumerate() {
         let certificate = read_certificate(alloc, index + 1, der.as_slice())?;
-        later.push(certificate)?;
+        further.push(certificate)?;
     }
-    Ok(later)
+    Ok(further)
 }
 
 fn is_root(certificate: &Certificate) -> bool
@@ -68,47 +80,63 @@ fn has_root(certificates: &[Certificate]) -> bool
     certificates.iter().any(|certificate| is_root(certificate))
 }
 
-/// The first certificate. Fails with `NoLeaf` if it is no leaf, then with `RootInChain` if a later one is a root.
+/// The certificates. Fails with `NoLeaf` if the first is no leaf, then with `RootInChain` if a further one is a root.
 #[tactic(auto, using(crate::proofs::SigningCertificateLaws::judgements))]
-fn judged(certificate: Certificate, later: &[Certificate]) -> Result<Certificate, BundleErrorKind>
-    ensures { result ≡ leaf_among (certificate ∷ later.now) }
+fn judged(
+    certificate: Certificate,
+    further: Register<Certificate>,
+) -> Result<SigningChain, BundleErrorKind>
+    ensures { result ≡ leaf_among (certificate ∷ further) }
 {
     if let Err(refusal) = is_leaf(&certificate) {
         return Err(BundleErrorKind::NoLeaf(refusal));
     }
-    if has_root(later) {
+    if has_root(further.as_slice()) {
         return Err(BundleErrorKind::RootInChain);
     }
-    Ok(certificate)
+    Ok(SigningChain { certificate, further })
 }
 
-/// The first of the certificates of these encodings. Fails with `CertificateMalformed` and the index of the first that
-/// is none, then with `CertificatesMissing` if there is none, `NoLeaf` and `RootInChain`.
-fn leaf_of(alloc: Global, ders: &[Bytes]) -> Result<Certificate, BundleErrorKind>
-    ensures { AnswersOnly BundleErrorKind.OutOfMemory (IsLeafAmong (Some ders.now)) result }
+/// The certificates of these encodings. Fails with `CertificateMalformed` and the index of the first that is none, then
+/// with `CertificatesMissing` if there is none, `NoLeaf` and `RootInChain`.
+fn chain_of(alloc: Global, ders: &[Bytes]) -> Result<SigningChain, BundleErrorKind>
+    ensures { AnswersOnly BundleErrorKind.OutOfMemory (IsLeafOf ders.now) result }
 {
     certificates();
-    let Some((first, later)) = ders.split_first() else {
+    let Some((first, others)) = ders.split_first() else {
         return Err(BundleErrorKind::CertificatesMissing);
     };
     let certificate = read_certificate(alloc, 0, first.as_slice())?;
-    let later = read_later(alloc, later)?;
-    judged(certificate, later.as_slice())
+    let further = read_further(alloc, others)?;
+    judged(certificate, further)
 }
 
-/// Returns the signing certificate.
+/// The certificates of these encodings. Fails with `TooManyCertificates` and their number if there are more than 17,
+/// and then as [`chain_of`].
+#[tactic(auto, using(crate::proofs::SigningCertificateLaws::counts))]
+fn counted(alloc: Global, ders: &[Bytes]) -> Result<SigningChain, BundleErrorKind>
+    ensures { AnswersOnly BundleErrorKind.OutOfMemory (IsLeafAmong (Some ders.now)) result }
+{
+    if ders.len() > MOST_CERTIFICATES {
+        return Err(BundleErrorKind::TooManyCertificates(ders.len()));
+    }
+    chain_of(alloc, ders)
+}
+
+/// Returns the signing certificate with the further ones.
 ///
 /// Fails with `VerificationMaterialContentUnsupported` if and only if the material holds no certificates: no content,
-/// or a hint at a key; then with `CertificateMalformed` and the index of the first that is none, `CertificatesMissing`
-/// if a chain is empty, `NoLeaf` if the first is no leaf, and `RootInChain` if a later one is a root.
-pub(crate) fn signing_certificate(
+/// or a hint at a key; then with `TooManyCertificates` and their number if there are more than 17, of which none is
+/// read; with `CertificateMalformed` and the index of the first that is none, `CertificatesMissing` if a chain is empty,
+/// `NoLeaf` if the first is no leaf, and `RootInChain` if a further one is a root.
+pub(crate) fn signing_chain(
     alloc: Global,
     content: &Option<MaterialContent>,
-) -> Result<Certificate, BundleErrorKind>
+) -> Result<SigningChain, BundleErrorKind>
     ensures { AnswersOnly BundleErrorKind.OutOfMemory (IsSigningCertificate content.now) result }
 {
     match encodings(content) {
-        Some(ders) => leaf_of(alloc, ders),
+        Some(ders) => counted(alloc, ders),
         None => Err(BundleErrorKind::VerificationMaterialContentUnsupported),
     }
 }

@@ -3,5 +3,5 @@ use Rattle.sig_checked_bundle.proofs.checked_bundle.check.Goals as goal
 
 pub returns : goal.returns
 returns c =
-    goes c.args.input.now c.args.material.now c.in_ok-certificate.certificate c.check_behind_certificate.result
-    c.in_ok-certificate.ensures c.check_behind_certificate.ensures
+    goes c.args.input.now c.args.material.now c.in_ok-chain.chain c.check_behind_certificates.result
+    c.in_ok-chain.ensures c.check_behind_certificates.ensures
