@@ -183,6 +183,7 @@ def material(case):
 
 
 def certificate(case):
+    want(len(case.encodings) <= 17, "Bundle(TooManyCertificates(%d))" % len(case.encodings))
     read = [certificates.read_certificate(each) for each in case.encodings]
     for place, each in enumerate(read):
         want(each, "Bundle(CertificateMalformed(%d))" % place)

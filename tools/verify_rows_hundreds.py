@@ -53,10 +53,12 @@ def anchors():
 
 def chains():
     issuer, self_issued = certificate(anchor(issuer=fixture.name("another root"))), certificate(anchor())
-    row("hundreds: a chain", "verified 2 5", in_chain(*[issuer] * LAST))
-    row("hundreds: a chain with a root at its end", "root-in-chain Bundle(RootInChain)", in_chain(*[issuer] * (LAST - 1), self_issued))
-    row("hundreds: a chain with no certificate at its end", "certificate Bundle(CertificateMalformed(%d))" % LAST,
-        in_chain(*[issuer] * (LAST - 1), b"\x30\x00"))
+    many = "certificate Bundle(TooManyCertificates(%d))" % COUNT
+    row("hundreds: a chain", many, in_chain(*[issuer] * LAST))
+    row("hundreds: a chain with a root at its end", many, in_chain(*[issuer] * (LAST - 1), self_issued))
+    row("hundreds: a chain with no certificate at its end", many, in_chain(*[issuer] * (LAST - 1), b"\x30\x00"))
+    row("hundreds: a chain with no certificate first", many, bundle(MATERIAL, lambda material: {
+        "tlogEntries": material["tlogEntries"], "x509CertificateChain": {"certificates": [{"rawBytes": "MAA="}] * COUNT}}))
 
 
 def leaves():

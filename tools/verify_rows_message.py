@@ -83,6 +83,9 @@ def chains():
     for name, later, expected in [
             ("of one", (), "verified 2 5"), ("of three", (other, other), "verified 2 5"), ("with an authority that another issued", (intermediate,),
             "verified 2 5"),
+            ("of 17", (other, intermediate) * 8, "verified 2 5"),
+            ("of 18", (intermediate,) * 17, "certificate Bundle(TooManyCertificates(18))"),
+            ("of 18, the last of which is no certificate", (other,) * 16 + (NO_CERTIFICATE,), "certificate Bundle(TooManyCertificates(18))"),
             ("with a root", (ROOT,), "root-in-chain Bundle(RootInChain)"),
             ("with a root at the end of three", (intermediate, ROOT), "root-in-chain Bundle(RootInChain)"),
             ("with bytes behind the first", (NO_CERTIFICATE,), "certificate Bundle(CertificateMalformed(1))"),

@@ -1,6 +1,6 @@
 -- Encodings are read as certificates in one way, and roots among certificates are found.
-use Rattle.std.proofs.Common.{◌≡◌, ◌≢◌, ℕ, zero, suc, List, [], ◌∷◌, true, false, Option, Some, None, Result}
-use Rattle.std.proofs.Common.{Ok, Err, refl, ap}
+use Rattle.std.proofs.Common.{◌≡◌, ◌≢◌, ◌≤◌, ℕ, zero, suc, List, [], ◌∷◌, length, true, false, Option, Some, None}
+use Rattle.std.proofs.Common.{Result, Ok, Err, refl, ap, arith}
 use Rattle.std.proofs.lemmas.Bool.{or_from, or_parts}
 use Rattle.std.proofs.lemmas.List.Folds.{Any-from_list_any, list_any-from_Any}
 use Rattle.std.specs.Prelude.{Any, is_none}
@@ -22,6 +22,26 @@ OneCertificate = (der : List ℕ) (c d : Cert) → IsCertificate der c → IsCer
 pub certificates_one : OneCertificate → (ders : List (List ℕ)) (cs ds : List Cert) → AreCertificates ders cs
     → AreCertificates ders ds → cs ≡ ds
 certificates_one one = zip_one IsCertificate IsCertificate one
+
+-- there are as many certificates as encodings
+pub certificates-count : (ders : List (List ℕ)) (cs : List Cert) → AreCertificates ders cs → length ders ≡ length cs
+certificates-count [] [] are = refl
+certificates-count [] (c ∷ cs) are = absurd are
+certificates-count (der ∷ ders) [] are = absurd are
+certificates-count (der ∷ ders) (c ∷ cs) are = ap suc (certificates-count ders cs are.1)
+
+-- of at most 17 there are at most 16 further ones, and the other way round
+pub further-few : (ders : List (List ℕ)) (c : Cert) (further : List Cert) → AreCertificates ders (c ∷ further)
+    → length ders ≤ 17 → length further ≤ 16
+further-few ders c further are few =
+    let count : length ders ≡ suc (length further) = certificates-count ders (c ∷ further) are in
+    omega (arith, count, few)
+
+pub encodings-few : (ders : List (List ℕ)) (c : Cert) (further : List Cert) → AreCertificates ders (c ∷ further)
+    → length further ≤ 16 → length ders ≤ 17
+encodings-few ders c further are few =
+    let count : length ders ≡ suc (length further) = certificates-count ders (c ∷ further) are in
+    omega (arith, count, few)
 
 -- where all are certificates, none is the first that is not
 pub none_malformed : (ders : List (List ℕ)) (cs : List Cert) (index : ℕ) → AreCertificates ders cs

@@ -1,9 +1,10 @@
 -- The links `material` to `profile`: a bundle's own checks say which of them fails first.
-use Rattle.std.proofs.Common.{◌≡◌, ◌↔◌, ℕ, List, [], ◌∷◌, length, Option, Some, None, Result, Ok}
+use Rattle.std.proofs.Common.{◌≡◌, ◌↔◌, ◌≤◌, ◌<◌, ℕ, List, [], ◌∷◌, length, arith, Option, Some, None, Result, Ok}
 use Rattle.std.proofs.Common.{Err, inl, inr, refl, sym, ap, subst, ◌∙◌}
 use Rattle.std.specs.List.{AllByRecursion}
 use Rattle.sig_base.proofs.OptionSteps.{some_is}
-use Rattle.sig_checked_bundle.proofs.Certificates.{OneCertificate, certificates_one, none_malformed, rootless-none}
+use Rattle.sig_checked_bundle.proofs.Certificates.{OneCertificate, certificates_one, encodings-few, further-few}
+use Rattle.sig_checked_bundle.proofs.Certificates.{none_malformed, rootless-none}
 use Rattle.sig_checked_bundle.proofs.VersionLaws.{version-meant}
 use Rattle.sig_checked_bundle.specs.Checked.{Checked, IsChecked}
 use Rattle.sig_checked_bundle.specs.Passed.{HasPromise, HasProof, IsContentOf, IsMet, IsPassed}
@@ -49,7 +50,7 @@ use Rattle.sig_dsse.specs.declared.recognized.SubjectFault.{SubjectFault}
 use Rattle.sig_dsse.specs.declared.recognized.SubjectFault.TheVariants as fault
 use Rattle.sig_rekor.proofs.Steps.{head_is}
 use Rattle.sig_base.specs.Rules.{FailsFirst}
-use Rattle.sig_verify.specs.BundleLinks.{HoldsOfBundle, IsContentRead, IsEnvelopeRead, OfCertificates, OfContent}
+use Rattle.sig_verify.specs.BundleLinks.{AreFew, HoldsOfBundle, IsContentRead, IsEnvelopeRead, OfCertificates, OfContent}
 use Rattle.sig_verify.specs.BundleLinks.{OfEncodings, OfEntry, OfMaterial, bundle_links}
 use Rattle.sig_verify.specs.Judged.{IsOfFirst}
 use Rattle.sig_verify.specs.LinkLaws.{BundlesAreJudged}
@@ -60,10 +61,10 @@ use Rattle.sig_verify.specs.declared.offline_error.OfflineError.TheVariants.{Bun
 
 -- ---- equal parts
 
--- what holds of the first and of the later ones of a list
+-- what holds of the first and of the further ones of a list
 abbrev OfParts : (Cert → List Cert → Type 0) → List Cert → Type 0
 OfParts P [] = Unit {0}
-OfParts P (c ∷ later) = P c later
+OfParts P (c ∷ further) = P c further
 
 -- what a version that demands a proof asks
 demanded : (version : Version) (e : TransparencyLogEntry) → DemandsProof version → IsMet version e → HasProof e
@@ -107,20 +108,20 @@ module _ (b : Bundle) where
       subst P (some_is there.0 h.encodings (sym there.1 ∙ h.held)) there.2
 
   at_certificates : OneCertificate → (h : HasCertificates b) (P : Cert → List Cert → Type 0) → OfCertificates b P
-      → P h.certificate h.later
+      → P h.certificate h.further
   at_certificates one h P holds =
       let there =
-      at_encodings h.before (λ ders. (c : Cert) × (later : List Cert) × AreCertificates ders (c ∷ later) × P c later)
+      at_encodings h.before.before (λ ders. (c : Cert) × (further : List Cert) × AreCertificates ders (c ∷ further) × P c further)
       holds in
       subst (λ (cs : List Cert). OfParts P cs)
-      (certificates_one one h.before.encodings (there.0 ∷ there.1) (h.certificate ∷ h.later) there.2 h.read) there.3
+      (certificates_one one h.before.before.encodings (there.0 ∷ there.1) (h.certificate ∷ h.further) there.2 h.read) there.3
 
   at_envelope : (h : HasEnvelope b) → OfContent b IsContentRead → IsEnvelopeRead h.envelope
   at_envelope h holds =
       subst IsContentRead (some_is holds.0 (Enveloped h.envelope) (sym holds.1 ∙ h.held)) holds.2
 
   abbrev material_at : HasContent b → HasMaterial b
-  material_at h = h.before.before.before.before.before
+  material_at h = h.before.before.before.before.before.before
 
   at_entry : (h : HasEntry b) (P : TransparencyLogEntry → Type 0) → OfEntry b P → P h.entry
   at_entry h P holds =
@@ -137,15 +138,18 @@ module _ (b : Bundle) where
 
   -- ---- what holds before
 
+  few_of : (h : HasCertificates b) → AreFew h.further
+  few_of h = further-few h.before.before.encodings h.certificate h.further h.read h.before.few
+
   material_holds : HasEncodings b → Holds Material
   material_holds h = (h.before.material, h.before.brought, (h.encodings, h.held, tt))
 
-  certificates_hold : (h : HasCertificates b) (P : Cert → List Cert → Type 0) → P h.certificate h.later
+  certificates_hold : (h : HasCertificates b) (P : Cert → List Cert → Type 0) → P h.certificate h.further
       → OfCertificates b P
   certificates_hold h P p = (
-    h.before.before.material,
-    h.before.before.brought,
-    (h.before.encodings, h.before.held, (h.certificate, h.later, h.read, p)),
+    h.before.before.before.material,
+    h.before.before.before.brought,
+    (h.before.before.encodings, h.before.before.held, (h.certificate, h.further, h.read, p)),
   )
 
   content_read : (signature : List ℕ) (kept : CheckedContent) → IsContentOf b.content signature kept
@@ -176,19 +180,19 @@ module _ (b : Bundle) where
   behind_certificate : HasCertificates b → (links : List Link) (link : Link) → FailsFirst Holds links link
       → FailsFirst Holds (Material ∷ Certificate ∷ links) link
   behind_certificate h links link fails =
-      inr (material_holds h.before, inr (certificates_hold h (λ c later. Unit {0}) tt, fails))
+      inr (material_holds h.before.before, inr (certificates_hold h (λ c further. AreFew further) (few_of h), fails))
 
   behind_leaf : HasLeaf b → (links : List Link) (link : Link) → FailsFirst Holds links link
       → FailsFirst Holds (Material ∷ Certificate ∷ Leaf ∷ links) link
   behind_leaf h links link fails =
       behind_certificate h.before (Leaf ∷ links) link
-      (inr (certificates_hold h.before (λ c later. leaf_refusal c ≡ None) h.may_sign, fails))
+      (inr (certificates_hold h.before (λ c further. leaf_refusal c ≡ None) h.may_sign, fails))
 
   behind_chain : HasNoRoot b → (links : List Link) (link : Link) → FailsFirst Holds links link
       → FailsFirst Holds (Material ∷ Certificate ∷ Leaf ∷ RootInChain ∷ links) link
   behind_chain h links link fails =
       behind_leaf h.before (RootInChain ∷ links) link
-      (inr (certificates_hold h.before.before (λ c later. AllByRecursion IsNoRoot later) h.rootless, fails))
+      (inr (certificates_hold h.before.before (λ c further. AllByRecursion IsNoRoot further) h.rootless, fails))
 
   behind_content : HasContent b → (links : List Link) (link : Link) → FailsFirst Holds links link
       → FailsFirst Holds (Material ∷ Certificate ∷ Leaf ∷ RootInChain ∷ ContentLink ∷ Envelope ∷ links) link
@@ -264,20 +268,31 @@ module _ (b : Bundle) where
       refl,
     ),
   )
-  told one (refusal.CertificateMalformed index) cause = (
+  told one (refusal.TooManyCertificates count) cause = (
     Certificate,
     refl,
     first_certificate cause.0 (λ holds.
         let there = at_encodings cause.0
-        (λ ders. (c : Cert) × (later : List Cert) × AreCertificates ders (c ∷ later) × Unit {0}) holds in
-        none_malformed cause.0.encodings (there.0 ∷ there.1) index there.2 cause.1),
+        (λ ders. (c : Cert) × (further : List Cert) × AreCertificates ders (c ∷ further) × AreFew further) holds in
+        let few : length cause.0.encodings ≤ 17 =
+        encodings-few cause.0.encodings there.0 there.1 there.2 there.3 in
+        let same : length cause.0.encodings ≡ count = cause.1 in
+        let many : 17 < count = cause.2 in absurd (omega (arith, few, same, many))),
+  )
+  told one (refusal.CertificateMalformed index) cause = (
+    Certificate,
+    refl,
+    first_certificate cause.0.before (λ holds.
+        let there = at_encodings cause.0.before
+        (λ ders. (c : Cert) × (further : List Cert) × AreCertificates ders (c ∷ further) × AreFew further) holds in
+        none_malformed cause.0.before.encodings (there.0 ∷ there.1) index there.2 cause.1),
   )
   told one refusal.CertificatesMissing cause = (
     Certificate,
     refl,
-    first_certificate cause.0 (λ holds.
-        let there = at_encodings cause.0
-        (λ ders. (c : Cert) × (later : List Cert) × AreCertificates ders (c ∷ later) × Unit {0}) holds in
+    first_certificate cause.0.before (λ holds.
+        let there = at_encodings cause.0.before
+        (λ ders. (c : Cert) × (further : List Cert) × AreCertificates ders (c ∷ further) × AreFew further) holds in
         subst (λ (ders : List (List ℕ)). AreCertificates ders (there.0 ∷ there.1)) cause.1 there.2),
   )
   told one (refusal.NoLeaf e) cause = (
@@ -286,7 +301,7 @@ module _ (b : Bundle) where
     behind_certificate cause.0 (Leaf ∷ RootInChain ∷ ContentLink ∷ Envelope ∷ Entry ∷ Profile ∷ []) Leaf (inl (
       (λ holds.
           let may : leaf_refusal cause.0.certificate ≡ None =
-          at_certificates one cause.0 (λ c later. leaf_refusal c ≡ None) holds in
+          at_certificates one cause.0 (λ c further. leaf_refusal c ≡ None) holds in
           let wrong : ◌≡◌ {A = Option CertificateValidationError} None (Some e) = sym may ∙ cause.1 in absurd cc),
       refl,
     )),
@@ -295,8 +310,8 @@ module _ (b : Bundle) where
     RootInChain,
     refl,
     behind_leaf cause.0 (RootInChain ∷ ContentLink ∷ Envelope ∷ Entry ∷ Profile ∷ []) RootInChain (inl (
-      (λ holds. rootless-none cause.0.before.later
-          (at_certificates one cause.0.before (λ c later. AllByRecursion IsNoRoot later) holds) cause.1),
+      (λ holds. rootless-none cause.0.before.further
+          (at_certificates one cause.0.before (λ c further. AllByRecursion IsNoRoot further) holds) cause.1),
       refl,
     )),
   )
@@ -351,22 +366,25 @@ module _ (b : Bundle) where
       let l = is.certificate in
       let h : HasCertificates b = record {
         before = record {
-          before = record { material = is.material; brought = is.brought };
-          encodings = l.encodings;
-          held = l.held;
+          before = record {
+            before = record { material = is.material; brought = is.brought };
+            encodings = l.encodings;
+            held = l.held;
+          };
+          few = l.few;
         };
         certificate = c.certificate;
-        later = l.later;
+        further = c.further;
         read = l.read;
       } in
       let read = content_read c.signature c.content is.content in (
-        material_holds h.before,
+        material_holds h.before.before,
         (
-          certificates_hold h (λ x later. Unit {0}) tt,
+          certificates_hold h (λ x further. AreFew further) (few_of h),
           (
-            certificates_hold h (λ x later. leaf_refusal x ≡ None) l.may_sign,
+            certificates_hold h (λ x further. leaf_refusal x ≡ None) l.may_sign,
             (
-              certificates_hold h (λ x later. AllByRecursion IsNoRoot later) l.rootless,
+              certificates_hold h (λ x further. AllByRecursion IsNoRoot further) l.rootless,
               (
                 content_there read,
                 (
@@ -387,16 +405,26 @@ module _ (b : Bundle) where
       let m : HasMaterial b = record { material = leaf.0; brought = leaf.1 } in
       let held = leaf.2 in
       let first = held.2 in
+      let e : HasEncodings b = record { before = m; encodings = held.0; held = held.1 } in
+      let counted = at_encodings e
+      (λ ders. (c : Cert) × (further : List Cert) × AreCertificates ders (c ∷ further) × AreFew further) certificate in
+      let few : length held.0 ≤ 17 = encodings-few held.0 counted.0 counted.1 counted.2 counted.3 in
       let h : HasCertificates b = record {
-        before = record { before = m; encodings = held.0; held = held.1 };
+        before = record { before = e; few = few };
         certificate = first.0;
-        later = first.1;
+        further = first.1;
         read = first.2;
       } in
       let kept = kept_of content.0 content.2 in
       let logged =
       at_material m (λ w. (e : TransparencyLogEntry) × (w.tlog_entries ≡ e ∷ []) × IsMet profile.0 e) profile.2 in
-      let c : Checked = record { certificate = first.0; signature = kept.0; content = kept.1; entry = logged.0 } in (
+      let c : Checked = record {
+        certificate = first.0;
+        further = first.1;
+        signature = kept.0;
+        content = kept.1;
+        entry = logged.0;
+      } in (
         c,
         record {
           material = leaf.0;
@@ -404,10 +432,10 @@ module _ (b : Bundle) where
           certificate = record {
             encodings = held.0;
             held = held.1;
-            later = first.1;
+            few = few;
             read = first.2;
             may_sign = first.3;
-            rootless = at_certificates one h (λ x later. AllByRecursion IsNoRoot later) chain;
+            rootless = at_certificates one h (λ x further. AllByRecursion IsNoRoot further) chain;
           };
           content = subst (λ (o : Option Content). IsContentOf o kept.0 kept.1) (sym content.1) kept.2;
           logged = logged.1;

@@ -24,7 +24,7 @@ read_as text c is are =
 -- of a bundle whose certificate is bytes
 pub read_of_bundle : (b : Bundle) → HasCertificateOfBytes b → (c : Checked) → IsPassed b c → IsReadCertificate c
 read_of_bundle b bytes c is =
-    read_first is.certificate.encodings is.certificate.later is.certificate.read
+    read_first is.certificate.encodings c.further is.certificate.read
     (bytes is.material is.certificate.encodings is.brought is.certificate.held)
   where
     read_first : (ders : List (List ℕ)) (later : List Cert) → AreCertificates ders (c.certificate ∷ later)

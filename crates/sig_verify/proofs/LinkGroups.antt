@@ -23,8 +23,8 @@ use Rattle.sig_verify.proofs.Parts.{AnchoredParts, Parts, bundle_from, checked_f
 use Rattle.sig_verify.proofs.Parts.{of_checked, root_from}
 use Rattle.sig_verify.proofs.RootVerdicts.{some_given}
 use Rattle.sig_verify.proofs.WholeVerdicts.{one_checked}
-use Rattle.sig_verify.specs.BundleLinks.{IsContentRead, OfCertificates, OfContent, OfEncodings, OfEntry, OfVersion}
-use Rattle.sig_verify.specs.BundleLinks.{bundle_links}
+use Rattle.sig_verify.specs.BundleLinks.{AreFew, IsContentRead, OfCertificates, OfContent, OfEncodings, OfEntry}
+use Rattle.sig_verify.specs.BundleLinks.{OfVersion, bundle_links}
 use Rattle.sig_verify.specs.CertificateLinks.{HasIssuer, HasSignedBytes, IsAbout, IsSignedContent, IsTimely}
 use Rattle.sig_verify.specs.CertificateLinks.{IsVouchedFor, OfScheme, Trust, certificate_links}
 use Rattle.sig_verify.specs.EntryLinks.{HasCanonicalPromise, HoldsOfEntry, IsLed, IsNoteOf, IsNoteSignedBy, IsPlaced}
@@ -168,11 +168,11 @@ module _ (o : Outside) (i : Inputs) (root : TrustedRoot) (root_is : trusted_root
       bundles_alike = (
         bundle_as (λ x. OfEncodings x (λ ders. Unit {0})),
         (
-          bundle_as (λ x. OfCertificates x (λ c later. Unit {0})),
+          bundle_as (λ x. OfCertificates x (λ c further. AreFew further)),
           (
-            bundle_as (λ x. OfCertificates x (λ c later. leaf_refusal c ≡ None)),
+            bundle_as (λ x. OfCertificates x (λ c further. leaf_refusal c ≡ None)),
             (
-              bundle_as (λ x. OfCertificates x (λ c later. AllByRecursion IsNoRoot later)),
+              bundle_as (λ x. OfCertificates x (λ c further. AllByRecursion IsNoRoot further)),
               (
                 bundle_as (λ x. OfContent x (λ content. Unit {0})),
                 (

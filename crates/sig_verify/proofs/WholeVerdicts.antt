@@ -35,17 +35,30 @@ one_content : (content : Option Content) (a b : List ℕ) (x y : CheckedContent)
 one_content content a b x y is other =
     ok_is _ _ (sym (content-meant content b y other) ∙ content-meant content a x is)
 
-of_parts : (c d : Checked) → c.certificate ≡ d.certificate
+abbrev with_parts : Cert → List Cert → ContentWithSignature → TransparencyLogEntry → Checked
+with_parts certificate further content entry = record {
+  certificate = certificate;
+  further = further;
+  signature = content.signature;
+  content = content.content;
+  entry = entry;
+}
+
+rest_is : {A : Type 0} (x y : A) (xs ys : List A) → x ∷ xs ≡ y ∷ ys → xs ≡ ys
+rest_is x y xs ys e = cc
+
+of_parts : (c d : Checked) → c.certificate ≡ d.certificate → c.further ≡ d.further
     → ◌≡◌ {A = ContentWithSignature} (record { signature = c.signature; content = c.content })
     (record { signature = d.signature; content = d.content })
     → c.entry ≡ d.entry → c ≡ d
-of_parts c d certificate content entry =
-    ap (λ (x : Cert). record { certificate = x; signature = c.signature; content = c.content; entry = c.entry })
+of_parts c d certificate further content entry =
+    ap (λ (x : Cert). with_parts x c.further (record { signature = c.signature; content = c.content }) c.entry)
     certificate
-    ∙ ap (λ (x : ContentWithSignature).
-    record { certificate = d.certificate; signature = x.signature; content = x.content; entry = c.entry }) content
+    ∙ ap (λ (x : List Cert).
+    with_parts d.certificate x (record { signature = c.signature; content = c.content }) c.entry) further
+    ∙ ap (λ (x : ContentWithSignature). with_parts d.certificate d.further x c.entry) content
     ∙ ap (λ (x : TransparencyLogEntry).
-    record { certificate = d.certificate; signature = d.signature; content = d.content; entry = x }) entry
+    with_parts d.certificate d.further (record { signature = d.signature; content = d.content }) x) entry
 
 -- a bundle is checked in one way
 pub one_checked : OneCertificate → (b : Bundle) (c o : Checked) → IsPassed b c → IsPassed b o → o ≡ c
@@ -57,11 +70,12 @@ one_checked one b c o is other =
     let encodings : m.encodings ≡ l.encodings =
     some_is m.encodings l.encodings
     (sym m.held ∙ ap (λ (x : VerificationMaterial). encodings_in x.content) material ∙ l.held) in
-    let read : AreCertificates l.encodings (o.certificate ∷ m.later) =
-    subst (λ (ders : List (List ℕ)). AreCertificates ders (o.certificate ∷ m.later)) encodings m.read in
-    of_parts o c
-    (head_is o.certificate c.certificate m.later l.later
-    (certificates_one one l.encodings (o.certificate ∷ m.later) (c.certificate ∷ l.later) read l.read))
+    let read : AreCertificates l.encodings (o.certificate ∷ o.further) =
+    subst (λ (ders : List (List ℕ)). AreCertificates ders (o.certificate ∷ o.further)) encodings m.read in
+    let certificates : o.certificate ∷ o.further ≡ c.certificate ∷ c.further =
+    certificates_one one l.encodings (o.certificate ∷ o.further) (c.certificate ∷ c.further) read l.read in
+    of_parts o c (head_is o.certificate c.certificate o.further c.further certificates)
+    (rest_is o.certificate c.certificate o.further c.further certificates)
     (one_content b.content c.signature o.signature c.content o.content is.content other.content)
     (head_is o.entry c.entry [] []
     (sym other.logged ∙ ap (λ (x : VerificationMaterial). x.tlog_entries) material ∙ is.logged))

@@ -1,6 +1,6 @@
 -- The links `material` to `profile`, each in its own words: what a bundle needs to pass its own checks (Sigstore
 -- bundle format; RFC 5280 section 4.1; DSSE protocol; in-toto attestation framework).
-use Rattle.std.specs.Prelude.{◌≡◌, ℕ, List, [], ◌∷◌, Some, None}
+use Rattle.std.specs.Prelude.{◌≡◌, ◌≤◌, ℕ, List, [], ◌∷◌, length, Some, None}
 use Rattle.std.specs.List.{AllByRecursion}
 use Rattle.sig_checked_bundle.specs.Passed.{IsMet}
 use Rattle.sig_checked_bundle.specs.SigningCertificate.{IsNoRoot, encodings_in}
@@ -34,10 +34,10 @@ abbrev pub OfEncodings : Bundle → (List (List ℕ) → Type 0) → Type 0
 OfEncodings b P =
     OfMaterial b (λ material. (ders : List (List ℕ)) × (encodings_in material.content ≡ Some ders) × P ders)
 
--- each is that of a certificate, and there is a first one; of it and of the later ones this holds
+-- each is that of a certificate, and there is a first one; of it and of the further ones this holds
 abbrev pub OfCertificates : Bundle → (Cert → List Cert → Type 0) → Type 0
 OfCertificates b P =
-    OfEncodings b (λ ders. (c : Cert) × (later : List Cert) × AreCertificates ders (c ∷ later) × P c later)
+    OfEncodings b (λ ders. (c : Cert) × (further : List Cert) × AreCertificates ders (c ∷ further) × P c further)
 
 -- there is content, of which this holds
 abbrev pub OfContent : Bundle → (ContentType → Type 0) → Type 0
@@ -52,6 +52,10 @@ abbrev pub OfVersion : Bundle → (Version → Type 0) → Type 0
 OfVersion b P = (version : Version) × IsMediaType b.media_type version × P version
 
 -- ---- what a link asks
+
+-- a bundle has at most 16 further certificates
+abbrev pub AreFew : List Cert → Type 0
+AreFew further = length further ≤ 16
 
 -- the envelope has one signature, its payload is a statement, and the statement's subjects have digests that are known
 pub record IsEnvelopeRead (envelope : DsseEnvelope) : Type 0 where
@@ -75,9 +79,9 @@ bundle_links = Material ∷ Certificate ∷ Leaf ∷ RootInChain ∷ Content ∷
 -- what a link asks of a bundle, of which all links before it hold
 abbrev pub HoldsOfBundle : Bundle → Link → Type 0
 HoldsOfBundle b Material = OfEncodings b (λ ders. Unit {0})
-HoldsOfBundle b Certificate = OfCertificates b (λ c later. Unit {0})
-HoldsOfBundle b Leaf = OfCertificates b (λ c later. leaf_refusal c ≡ None)
-HoldsOfBundle b RootInChain = OfCertificates b (λ c later. AllByRecursion IsNoRoot later)
+HoldsOfBundle b Certificate = OfCertificates b (λ c further. AreFew further)
+HoldsOfBundle b Leaf = OfCertificates b (λ c further. leaf_refusal c ≡ None)
+HoldsOfBundle b RootInChain = OfCertificates b (λ c further. AllByRecursion IsNoRoot further)
 HoldsOfBundle b Content = OfContent b (λ content. Unit {0})
 HoldsOfBundle b Envelope = OfContent b IsContentRead
 HoldsOfBundle b Entry = OfEntry b (λ e. Unit {0})

@@ -13,7 +13,7 @@ use Rattle.sig_dsse.specs.declared.artifact_digest.ArtifactDigest.{ArtifactDiges
 use Rattle.sig_root.specs.RootRecord.{trusted_root_in}
 use Rattle.sig_root.specs.declared.record.TrustedRoot.{TrustedRoot}
 use Rattle.sig_x509.specs.Issued.{HasProfile}
-use Rattle.sig_verify.specs.BundleLinks.{IsContentRead, OfCertificates, OfContent, OfEncodings, OfEntry, OfVersion}
+use Rattle.sig_verify.specs.BundleLinks.{AreFew, IsContentRead, OfCertificates, OfContent, OfEncodings, OfEntry, OfVersion}
 use Rattle.sig_verify.specs.CertificateLinks.{HasIssuer, HasSignedBytes, IsAbout, IsSignedContent, IsTimely}
 use Rattle.sig_verify.specs.CertificateLinks.{IsVouchedFor}
 use Rattle.sig_verify.specs.CertificateLinks.{OfScheme, Trust}
@@ -83,9 +83,9 @@ HoldsOf o i Fulcio = OfRoot i (λ root. authorities root i.now ≢ [])
 HoldsOf o i Anchor = OfRoot i (λ root. AllByRecursion IsSomeAnchor (authorities root i.now))
 HoldsOf o i Ctfe = OfRoot i (λ root. ct_keys root i.now ≢ [])
 HoldsOf o i Material = OfBundle i (λ b. OfEncodings b (λ ders. Unit {0}))
-HoldsOf o i Certificate = OfBundle i (λ b. OfCertificates b (λ c later. Unit {0}))
-HoldsOf o i Leaf = OfBundle i (λ b. OfCertificates b (λ c later. leaf_refusal c ≡ None))
-HoldsOf o i RootInChain = OfBundle i (λ b. OfCertificates b (λ c later. AllByRecursion IsNoRoot later))
+HoldsOf o i Certificate = OfBundle i (λ b. OfCertificates b (λ c further. AreFew further))
+HoldsOf o i Leaf = OfBundle i (λ b. OfCertificates b (λ c further. leaf_refusal c ≡ None))
+HoldsOf o i RootInChain = OfBundle i (λ b. OfCertificates b (λ c further. AllByRecursion IsNoRoot further))
 HoldsOf o i Content = OfBundle i (λ b. OfContent b (λ content. Unit {0}))
 HoldsOf o i Envelope = OfBundle i (λ b. OfContent b IsContentRead)
 HoldsOf o i Entry = OfBundle i (λ b. OfEntry b (λ e. Unit {0}))

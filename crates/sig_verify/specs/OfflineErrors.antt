@@ -33,6 +33,7 @@ use Rattle.sig_verify.specs.declared.offline_error.Part.TheVariants as text
 abbrev pub bundle_link : BundleErrorKind → Option Link
 bundle_link bundle.VerificationMaterialMissing = Some link.Material
 bundle_link bundle.VerificationMaterialContentUnsupported = Some link.Material
+bundle_link (bundle.TooManyCertificates count) = Some link.Certificate
 bundle_link (bundle.CertificateMalformed place) = Some link.Certificate
 bundle_link bundle.CertificatesMissing = Some link.Certificate
 bundle_link (bundle.NoLeaf refusal) = Some link.Leaf

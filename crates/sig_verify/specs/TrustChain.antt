@@ -5,7 +5,7 @@ use Rattle.sig_checked_bundle.specs.Passed.{IsMet}
 use Rattle.sig_checked_bundle.specs.SigningCertificate.{IsNoRoot}
 use Rattle.sig_certificate.specs.Profile.{leaf_refusal}
 use Rattle.sig_x509.specs.Issued.{HasProfile}
-use Rattle.sig_verify.specs.BundleLinks.{IsContentRead, OfCertificates, OfContent, OfEncodings, OfEntry, OfVersion}
+use Rattle.sig_verify.specs.BundleLinks.{AreFew, IsContentRead, OfCertificates, OfContent, OfEncodings, OfEntry, OfVersion}
 use Rattle.sig_verify.specs.CertificateLinks.{HasIssuer, HasSignedBytes, IsAbout, IsSignedContent, IsTimely}
 use Rattle.sig_verify.specs.CertificateLinks.{IsVouchedFor}
 use Rattle.sig_verify.specs.CertificateLinks.{OfScheme}
@@ -49,9 +49,9 @@ pub record IsValid (o : Outside) (i : Inputs) : Type 0 where
   pub anchor : OfRoot i (λ root. AllByRecursion IsSomeAnchor (authorities root i.now))
   pub ctfe : OfRoot i (λ root. ct_keys root i.now ≢ [])
   pub material : OfBundle i (λ b. OfEncodings b (λ ders. Unit {0}))
-  pub certificate : OfBundle i (λ b. OfCertificates b (λ c later. Unit {0}))
-  pub leaf : OfBundle i (λ b. OfCertificates b (λ c later. leaf_refusal c ≡ None))
-  pub root_in_chain : OfBundle i (λ b. OfCertificates b (λ c later. AllByRecursion IsNoRoot later))
+  pub certificate : OfBundle i (λ b. OfCertificates b (λ c further. AreFew further))
+  pub leaf : OfBundle i (λ b. OfCertificates b (λ c further. leaf_refusal c ≡ None))
+  pub root_in_chain : OfBundle i (λ b. OfCertificates b (λ c further. AllByRecursion IsNoRoot further))
   pub content : OfBundle i (λ b. OfContent b (λ content. Unit {0}))
   pub envelope : OfBundle i (λ b. OfContent b IsContentRead)
   pub entry : OfBundle i (λ b. OfEntry b (λ e. Unit {0}))

@@ -125,7 +125,9 @@ fn bundle_link(kind: &BundleErrorKind) -> Option<Link>
     match kind {
         BundleErrorKind::VerificationMaterialMissing
         | BundleErrorKind::VerificationMaterialContentUnsupported => Some(Link::Material),
-        BundleErrorKind::CertificateMalformed(_) | BundleErrorKind::CertificatesMissing => {
+        BundleErrorKind::TooManyCertificates(_)
+        | BundleErrorKind::CertificateMalformed(_)
+        | BundleErrorKind::CertificatesMissing => {
             Some(Link::Certificate)
         }
         BundleErrorKind::NoLeaf(_) => Some(Link::Leaf),
