@@ -94,7 +94,10 @@ fn judged(
     if has_root(further.as_slice()) {
         return Err(BundleErrorKind::RootInChain);
     }
-    Ok(SigningChain { certificate, further })
+    Ok(SigningChain {
+        certificate,
+        further,
+    })
 }
 
 /// The certificates of these encodings. Fails with `CertificateMalformed` and the index of the first that is none, then
