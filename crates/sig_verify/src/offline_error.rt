@@ -127,9 +127,7 @@ fn bundle_link(kind: &BundleErrorKind) -> Option<Link>
         | BundleErrorKind::VerificationMaterialContentUnsupported => Some(Link::Material),
         BundleErrorKind::TooManyCertificates(_)
         | BundleErrorKind::CertificateMalformed(_)
-        | BundleErrorKind::CertificatesMissing => {
-            Some(Link::Certificate)
-        }
+        | BundleErrorKind::CertificatesMissing => { Some(Link::Certificate) }
         BundleErrorKind::NoLeaf(_) => Some(Link::Leaf),
         BundleErrorKind::RootInChain => Some(Link::RootInChain),
         BundleErrorKind::SignatureMissing => Some(Link::Content),
