@@ -138,6 +138,9 @@ CALLS = [
      within("UnexpectedError", ["ProofMissing", "ProofConversion", "CanonicalBody", "CheckpointMissing"]) + ["CheckpointSignatureVerificationError"]
      + MATCH + PATH),
     ("PublicKey::decode", "rekor public_key", "sig_base SigstoreError", ["Base64DecodeError", "Utf8Error"]),
+    ("audit", "audit audit", "sig_audit AuditError",
+     ["Empty", "NoteKey(_)", "Origin(_)", "Head(_)"] + ["Consistency(_,%s)" % kind for kind in CONSISTENCY]
+     + ["Inclusion(_,%s)" % kind for kind in INCLUSION]),
     ("InTotoStatementV1::from_json", "dsse statement", "sig_base SigstoreError", ["UnexpectedError(Statement)"]),
     ("InTotoStatementV1::validate_cosign_v1", "dsse cosign", "sig_base SigstoreError",
      within("UnexpectedError", ["StatementType", "PredicateType", "NoSubjects", "FirstSubjectWithoutSha256"])),
