@@ -1,48 +1,17 @@
 """Requests of `verify` with many of one kind: each a function from a count to the bytes. Nothing but the list grows:
 the rest is the fixture of tools/fixture.py, of which each link holds unless the table says another reply."""
 import random
-import sys
 
-import measure
 import shapes
-from shapes import coded, numbered, repeated
+from roots import (anchors_and_rows, anchors_by_name, anchors_of_one_key, anchors_of_other_keys, authorities, certificate_log_keys, log_keys,
+                   log_keys_of_one_id, usual_log_keys, with_anchors)
+from shapes import coded, numbered
+from signed import Signed, unknown, written
 
-sys.path.append(str(measure.TOP / "tools"))
 import fixture
-from fixture import SEQUENCE, certificate, compact, der, extension, extensions, leaf
+from fixture import SEQUENCE, compact, der, extension
 
 MOST_SUBJECTS, MOST_DIGESTS = 1024, 32  # of a statement
-FAR = "fixture root" + "n" * 1000  # a name that agrees with no issuer's in its last bytes
-
-
-class Signed(fixture.Request):
-    """A request whose leaf has many extensions; its precertificate is made of the extensions by name."""
-
-    def __init__(self, held, **changes):
-        self.held = held
-        super().__init__(leaf=leaf(held), **changes)
-
-    def precertificate(self):
-        others = [item for name, item in self.held.items() if name != "list"]
-        return fixture.tbs({**self.leaf, "extensions": extensions(*others)})
-
-
-def written(made, root=None, bundle=None, rows=None, **members):
-    """The request's text, by a trusted root, a bundle, rows and members in place of those that were made."""
-    members = {"now": made.now, "digest": made.digest, "policy": made.policy, **members}
-    members["trustedRoot"] = compact(root or made.trusted_root())
-    members["bundle"] = compact(bundle or made.bundle(), canonical=True)
-    members["accepted"] = made.accepted() if rows is None else rows
-    return compact(members).encode()
-
-
-def example(_count=0):
-    return written(fixture.Request())
-
-
-def bundle():
-    """The bundle of the example."""
-    return compact(fixture.Request().bundle(), canonical=True).encode()
 
 
 def payload_of(size):
@@ -58,121 +27,7 @@ def predicate(count):
     return written(fixture.Request(payload=payload_of(500 + 3 * count)))
 
 
-# The trusted root
-
-
-def with_anchors(made, anchors):
-    """The made trusted root with these trust anchors before its own."""
-    root = made.trusted_root()
-    chain = root["certificateAuthorities"][0]["certChain"]["certificates"]
-    chain[:0] = [{"rawBytes": coded(certificate(anchor))} for anchor in anchors]
-    return root
-
-
-def keys(count):
-    """So many keys of P-256 whose points share a prefix, in an order that is none."""
-    prefix = fixture.key(9)[:-4]
-    return list(numbered(prefix, count))
-
-
-def turned(content):
-    """The bytes with another last one."""
-    return content[:-1] + bytes([content[-1] ^ 1])
-
-
-def anchors_and_rows(count):
-    """Trust anchors of the issuer's name and other keys, each with a row of the leaf's signature over other bytes."""
-    made, others = fixture.Request(), keys(count)
-    first = made.accepted()[0]
-    other = coded(turned(fixture.tbs(made.leaf)))
-    rows = [{**first, "key": coded(key), "message": other} for key in others]
-    return written(made, with_anchors(made, (fixture.anchor(key=key) for key in others)), rows=rows + made.accepted())
-
-
-def anchors_of_one_key(count):
-    """Trust anchors of the issuer's name and one other key, a leaf of a hundred bytes for each of them, and a row under
-    that key whose message differs from the leaf's TBSCertificate in its last byte."""
-    made = Signed(fixture.leaf_extensions(others=extension(unknown(0), b"v" * (100 * count))))
-    first = made.accepted()[0]
-    row = {**first, "key": coded(fixture.key(9)), "message": coded(turned(fixture.tbs(made.leaf)))}
-    root = with_anchors(made, [fixture.anchor(key=fixture.key(9))] * count)
-    return written(made, root, rows=[row] + made.accepted())
-
-
-def anchors_of_other_keys(count):
-    """Trust anchors of the issuer's name and other keys, a leaf whose signature has a hundred bytes for each of them,
-    and a row of that signature under a key that no anchor has."""
-    signature = b"s" * (100 * count)
-    made = fixture.Request(leaf=leaf(signature=der(fixture.BIT_STRING, b"\x00", signature)))
-    first, *others = made.accepted()
-    first = {**first, "signature": coded(signature)}
-    rows = [{**first, "key": coded(turned(fixture.key(9)))}, first, *others]
-    return written(made, with_anchors(made, (fixture.anchor(key=key) for key in keys(count))), rows=rows)
-
-
-def anchors_by_name(count):
-    """Trust anchors whose names share all but the last bytes with the leaf's issuer."""
-    issuer = fixture.name(FAR)
-    made = fixture.Request(anchor=fixture.anchor(subject=issuer), leaf=leaf(issuer=issuer))
-    names = [fixture.name(FAR[:-8] + "%08d" % place) for place in range(count)]
-    return written(made, with_anchors(made, (fixture.anchor(subject=name) for name in names)))
-
-
-def authorities(count):
-    """As many authorities, with a trust anchor of another name each."""
-    made = fixture.Request()
-    root = made.trusted_root()
-    other = certificate(fixture.anchor(subject=fixture.name("fixture r00t")))
-    chain = {"certificates": [{"rawBytes": coded(other)}]}
-    listed = [{"certChain": chain, "validFor": {"start": "2023-01-01T00:00:00Z"}}] * count
-    return written(made, {**root, "certificateAuthorities": listed + root["certificateAuthorities"]})
-
-
-def anchors_beside_extensions(count):
-    """As many trust anchors of the issuer's name, of one other key, as the leaf has extensions more."""
-    made = Signed(leaf_of_extensions(count))
-    return written(made, with_anchors(made, [fixture.anchor(key=fixture.key(9))] * count))
-
-
-def log_of(key, identifier, **valid_for):
-    opened = {"start": "2023-01-01T00:00:00Z", **valid_for}
-    return {"publicKey": {"rawBytes": coded(key), "validFor": opened}, "logId": {"keyId": coded(identifier)}}
-
-
-def log_keys(count, size=1000):
-    """Keys of logs whose ids share so many bytes with the entry's."""
-    made = fixture.Request(log_id=b"\x44" * size)
-    root = made.trusted_root()
-    others = [log_of(fixture.key(9), identifier) for identifier in numbered(b"\x44" * (size - 4), count)]
-    return written(made, {**root, "tlogs": others + root["tlogs"]})
-
-
-def usual_log_keys(count):
-    """Keys of logs whose ids have 32 bytes, as those of Sigstore."""
-    return log_keys(count, size=32)
-
-
-def log_keys_of_one_id(count):
-    """Keys of the entry's log; the last in range is the one."""
-    made = fixture.Request()
-    root = made.trusted_root()
-    others = [log_of(key, fixture.LOG_ID) for key in keys(count)]
-    return written(made, {**root, "tlogs": others + root["tlogs"]})
-
-
-def certificate_log_keys(count):
-    made = fixture.Request()
-    root = made.trusted_root()
-    others = [log_of(key, fixture.CERTIFICATE_LOG_ID) for key in keys(count)]
-    return written(made, {**root, "ctlogs": others + root["ctlogs"]})
-
-
 # The leaf and the policy
-
-
-def unknown(place):
-    """The contents octets of an object identifier that nothing here knows."""
-    return b"\x2b\x06\x01\x05" + shapes.arc(2**14 + place)
 
 
 def leaf_of_extensions(count):
@@ -191,6 +46,12 @@ def leaf_of_names(names):
     """The leaf's extensions, where the alternative names are these."""
     listed = der(SEQUENCE, *(der(fixture.URI, name.encode()) for name in names))
     return fixture.leaf_extensions(names=extension(fixture.SUBJECT_ALTERNATIVE_NAME, listed, critical=True))
+
+
+def anchors_beside_extensions(count):
+    """As many trust anchors of the issuer's name, of one other key, as the leaf has extensions more."""
+    made = Signed(leaf_of_extensions(count))
+    return written(made, with_anchors(made, [fixture.anchor(key=fixture.key(9))] * count))
 
 
 def leaf_extensions(count):

@@ -6,6 +6,7 @@ import chains
 import measure
 import own_entries
 import shapes
+import signed
 from measure import megabytes, written
 from shapes import filled
 
@@ -138,7 +139,7 @@ def verify(bench):
         measure.expect(command, path, written(command, path, status), reply)
         return bench.seconds(path, command, status=status, slow=True)[0] - start
 
-    for name, text in (("examples/verify.json", chains.example()), ("a payload of 10 KB", chains.small(10000))):
+    for name, text in (("examples/verify.json", signed.example()), ("a payload of 10 KB", chains.small(10000))):
         bench.goal(f"verify, {name}, ms beyond the start", row(name, text, "verified 2 5"), MOST_BEYOND_START)
     for name, make, most in chains.COUNTED:
         row(name, make(most), "verified 2 5", make(most // 2))
@@ -150,7 +151,7 @@ def verify(bench):
     name, text, reply = million[place]
     table.row(f"the slowest of a million bytes: {name}", reply, len(text), took * 1000, None, None)
     bench.goal(f"verify, {name}, a million bytes, seconds", took, MOST_SECONDS_OF_A_MILLION)
-    row("too long, refused", chains.example() + b" " * 2**25, "refused request")
+    row("too long, refused", signed.example() + b" " * 2**25, "refused request")
 
 
 def questions(bench):
@@ -365,7 +366,7 @@ def read(bench, table, rows, words, most=MOST_MEGABYTES):
 def artifacts(bench):
     """Artifacts of zero bytes that `Verifier::verify` reads from a source, beside their SHA-256 alone, by the same
     `sha2`."""
-    path = bench.kept(chains.bundle())
+    path = bench.kept(signed.bundle())
     table = bench.table(artifacts, "artifact", "bytes", "hashed ms", "verified ms", "to hashing", "MB")
     for size in (10**8, 10**9):
         commands = [[bench.reader, word, str(size)] for word in ("hash", "artifact")]

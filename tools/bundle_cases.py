@@ -3,135 +3,17 @@
 
     tools/bundle_cases.py
 
-Bundles are read and written here a second time, by the table of the format alone; the rows of bundle_cases.txt state the refusals and,
-for some, the text that is written. The checked bundles are that of fixture.py with the faults that a row names put into it.
+Bundles are read and written a second time, by the table of the format alone (bundle_reader.py); the rows of bundle_cases.txt state the
+refusals and, for some, the text that is written. The checked bundles are that of fixture.py with the faults that a row names put into it.
 """
-import base64
-import binascii
-import copy
 import json
-import os
-import re
 
 import fixture
-from case_table import Table
-from fixture import base64_of, compact, der, extension
-from rekor_cases import Fault, debug, read_checkpoint
-
-HERE = os.path.dirname(os.path.abspath(__file__))
-
-
-# A bundle read by the table of the format: an absent member and null mean an empty text, no bytes, 0, no elements, or nothing.
-
-class Refused(Exception):
-    pass
-
-
-def ask(holds):
-    if not holds:
-        raise Refused("Member")
-
-
-def text(value):
-    ask(value is None or isinstance(value, str))
-    return value or ""
-
-
-def octets(value):
-    try:
-        decoded = base64.b64decode(text(value).encode(), validate=True)
-    except (binascii.Error, UnicodeError):
-        raise Refused("Member")
-    ask(base64_of(decoded) == text(value))
-    return text(value)
-
-
-def integer(value):
-    """A whole number of 64 bits with a sign, or a text of one; written as a text."""
-    value = 0 if value is None else value
-    if isinstance(value, str):
-        ask(re.fullmatch(r"-?[0-9]+", value))
-        value = int(value)
-    ask(isinstance(value, int) and not isinstance(value, bool) and -2 ** 63 <= value < 2 ** 63)
-    return str(value)
-
-
-def element(value, members):
-    """An object with these readers of its members."""
-    ask(isinstance(value, dict))
-    read = {name: reader(value.get(name)) for name, reader in members.items()}
-    return {name: each for name, each in read.items() if each is not None}
-
-
-def optional(members):
-    return lambda value: None if value is None else element(value, members)
-
-
-def elements(reader):
-    def read(value):
-        ask(value is None or isinstance(value, list))
-        ask(all(each is not None for each in value or []))
-        return [reader(each) for each in value or []]
-    return read
-
-
-def objects(members):
-    return elements(lambda value: element(value, members))
-
-
-CERTIFICATE = {"rawBytes": octets}
-PROOF = {"logIndex": integer, "treeSize": integer, "rootHash": octets, "hashes": elements(octets),
-         "checkpoint": optional({"envelope": text})}
-ENTRY = {"logIndex": integer, "integratedTime": integer, "logId": optional({"keyId": octets}),
-         "kindVersion": optional({"kind": text, "version": text}),
-         "inclusionPromise": optional({"signedEntryTimestamp": octets}), "inclusionProof": optional(PROOF),
-         "canonicalizedBody": octets}
-MATERIAL = {"certificate": optional(CERTIFICATE), "x509CertificateChain": optional({"certificates": objects(CERTIFICATE)}),
-            "publicKey": optional({}), "tlogEntries": objects(ENTRY)}
-SIGNATURE = {"signature": octets, "messageDigest": optional({"digest": octets})}
-ENVELOPE = {"payload": octets, "payloadType": text, "signatures": objects({"sig": octets, "keyid": text})}
-BUNDLE = {"mediaType": text, "verificationMaterial": optional(MATERIAL), "messageSignature": optional(SIGNATURE),
-          "dsseEnvelope": optional(ENVELOPE)}
-
-
-class Float:
-    pass
-
-
-def has_float(tree):
-    if isinstance(tree, dict):
-        tree = list(tree.values())
-    return isinstance(tree, Float) or isinstance(tree, list) and any(map(has_float, tree))
-
-
-def read_bundle(content):
-    """The text that is written for a bundle, or the name of the refusal."""
-    try:
-        tree = json.loads(content, parse_float=lambda _: Float())
-    except ValueError:
-        return "NotJson"
-    if has_float(tree):
-        return "Float"
-    try:
-        bundle = element(tree, BUNDLE)
-        ask("messageSignature" not in bundle or "dsseEnvelope" not in bundle)
-        material = bundle.get("verificationMaterial", {})
-        ask(len({"certificate", "x509CertificateChain", "publicKey"} & set(material)) < 2)
-    except Refused as refusal:
-        return str(refusal)
-    return "ok " + compact(bundle, canonical=True)
-
-
-# Lines.
-
-TABLE = Table("bundle_cases")
-case, group = TABLE.case, TABLE.group
-
-
-def named_case(cause, call, expected):
-    TABLE.note(cause)
-    case(call, expected)
-
+from bundle_bodies import body_case, message_case, proof_case
+from bundle_faults import CERTIFICATES, MEDIA_TYPE, NARROW, OLDER, PROFILES, WIDE, digests, faulty_case
+from bundle_reader import read_bundle
+from bundle_table import TABLE, case, group, named_case, sections_of_rows
+from fixture import base64_of, compact
 
 # Bundles that differ in one part.
 
@@ -171,124 +53,7 @@ def changed_case(line):
     equal_case("the same, and itself", other, other)
 
 
-# Bundles with faults.
-
-MEDIA_TYPE = "application/vnd.dev.sigstore.bundle.v0.3+json"
-OLDER = "application/vnd.dev.sigstore.bundle+json;version="
-PROFILES = {"0.1": OLDER + "0.1", "0.2": OLDER + "0.2", "0.3": MEDIA_TYPE, "older-0.3": OLDER + "0.3"}
-NARROW, WIDE = "a" * 64, "b" * 128
-OTHERS = {"%d" % number: "zz" for number in range(31)}
-DIGESTS = {
-    "none": {}, "narrow": {"sha256": NARROW}, "capital-name": {"SHA256": NARROW}, "capital-digits": {"sha256": "A" * 64},
-    "wide": {"sha512": WIDE}, "wide-and-narrow": {"sha512": WIDE, "sha256": NARROW}, "zz": {"sha256": "zz"},
-    "wide-zz": {"sha512": "zz"}, "both-zz": {"sha512": "zz", "sha256": "zz"}, "short-wide": {"sha512": NARROW},
-    "long-narrow": {"sha256": WIDE}, "31-others-and-narrow": {**OTHERS, "sha256": NARROW}, "32-others": {**OTHERS, "other": "zz"},
-    "33-others": {**OTHERS, "31": "zz", "other": "zz"}, "32-others-and-zz": {**OTHERS, "31": "zz", "sha256": "zz"}}
-
-
-def about(digests):
-    return compact({"_type": "", "predicateType": "", "subject": [{"digest": each} for each in digests]}).encode()
-
-
-def payload(name):
-    if name == "no-statement":
-        return b"{}"
-    if name == "1025-and-zz":
-        return fixture.statement(first="zz", subjects=1025)
-    if name in ("1023-nones-and-narrow", "1024-nones-and-narrow"):
-        return about([{}] * int(name[:4]) + [DIGESTS["narrow"]])
-    return about([DIGESTS[each] for each in name.split("+")])
-
-
-def entries(names, entry):
-    found = []
-    for name in names.split("+") if names != "none" else []:
-        each = copy.deepcopy(entry)
-        if name == "no-promise":
-            del each["inclusionPromise"]
-        elif name == "no-proof":
-            del each["inclusionProof"]
-        elif name == "nothing":
-            del each["inclusionPromise"], each["inclusionProof"]
-        elif name == "no-checkpoint":
-            del each["inclusionProof"]["checkpoint"]
-        else:
-            assert name == "empty-checkpoint"
-            each["inclusionProof"]["checkpoint"] = {"envelope": ""}
-        found.append(each)
-    return found
-
-
-def leaf_with(**changes):
-    """The fixture's leaf with other extensions."""
-    return fixture.certificate(fixture.leaf(fixture.leaf_extensions(**changes)))
-
-
-CERTIFICATES = {
-    "leaf": fixture.certificate(fixture.leaf()), "malformed": b"\x30\x00", "anchor": fixture.certificate(fixture.anchor()),
-    "issuer": fixture.certificate(fixture.anchor(subject=fixture.name("fixture issuer"))),
-    "self-issued": fixture.certificate(fixture.leaf(subject=fixture.name("fixture root"))),
-    "cut-anchor": fixture.certificate(fixture.anchor())[:-1],
-    "version-2": fixture.certificate(fixture.leaf(version=der(fixture.A0, b"\x02\x01\x01"))),
-    "malformed-usage": leaf_with(usage=extension(fixture.KEY_USAGE, b"")), "no-usage": leaf_with(usage=b""),
-    "other-usage": leaf_with(usage=extension(fixture.KEY_USAGE, der(fixture.BIT_STRING, b"\x05\x20"))), "no-purposes": leaf_with(purposes=b""),
-    "other-purpose": leaf_with(purposes=extension(fixture.EXTENDED_KEY_USAGE, der(fixture.SEQUENCE, der(fixture.OBJECT_IDENTIFIER, b"\x55\x1d"))))}
-
-
-def certificates(names):
-    """The DER of certificates: an issuer is an authority, and an anchor a root. A name may have a count before it."""
-    found = []
-    for each in filter(None, names.split("+")):
-        count, _, name = each.rpartition("*")
-        found += [{"rawBytes": base64_of(CERTIFICATES[name])}] * int(count or 1)
-    return found
-
-
-def spoil(bundle, fault):
-    material, envelope = bundle.get("verificationMaterial"), bundle.get("dsseEnvelope")
-    kind, _, name = fault.partition(":")
-    if fault == "no-material":
-        del bundle["verificationMaterial"]
-    elif fault == "no-content":
-        del bundle["dsseEnvelope"]
-    elif kind == "content":
-        del bundle["dsseEnvelope"]
-        digest = {"messageDigest": {"digest": base64_of(b"another digest")}} if name == "message-with-digest" else {}
-        bundle["messageSignature"] = {"signature": base64_of(b"sig-msg"), **digest}
-    elif kind == "media":
-        bundle["mediaType"] = name
-    elif kind == "profile":
-        bundle["mediaType"] = PROFILES[name]
-    elif kind == "signer":
-        del material["certificate"]
-        material.update({"publicKey": {}} if name == "key" else {})
-    elif kind == "certificate":
-        material["certificate"], = certificates(name)
-    elif kind == "chain":
-        del material["certificate"]
-        material["x509CertificateChain"] = {"certificates": certificates(name)}
-    elif kind == "entries":
-        material["tlogEntries"] = entries(name, material["tlogEntries"][0])
-    elif kind == "signatures":
-        envelope["signatures"] = {"none": [], "two": envelope["signatures"] + [{"sig": base64_of(b"sig-other"), "keyid": ""}]}[name]
-    else:
-        assert kind == "payload"
-        envelope["payload"] = base64_of(payload(name))
-
-
-def digests(words):
-    return " ".join(["ok"] + [{"narrow": "sha256 " + NARROW, "wide": "sha512 " + WIDE}[word] for word in words])
-
-
-def faulty_case(line):
-    faults, expected = line.split(" => ")
-    bundle = fixture.Request().bundle()
-    for fault in faults.split(" "):
-        spoil(bundle, fault)
-    if expected.startswith("Ok"):
-        expected = digests(expected.split(" ")[1:])
-    named_case(faults, "try_from_bundle " + compact(bundle, canonical=True), expected)
-
+# The fixture's bundle.
 
 def fixture_bundle():
     request = fixture.Request()
@@ -323,158 +88,6 @@ def fixture_bundle():
     case("subject_sha256_digest " + request.payload.decode(), "ok " + NARROW)
     case("artifact_digest " + NARROW, "ok sha256 %s %s" % (NARROW, NARROW))
     case("artifact_digest " + WIDE, "ok sha512 %s %s" % (WIDE, WIDE))
-
-
-# Proofs and bodies of log entries, with one part changed or more.
-
-def changed(tree, change):
-    """Sets the part of this path to a value: JSON, `absent`, or a word for what becomes of the part that is there."""
-    path, _, value = change.partition(" ")
-    *above, last = [int(step) if step.isdigit() else step for step in path.split(".")]
-    for step in above:
-        tree = tree[step]
-    words = {"upper": str.upper, "short": lambda text: text[:-2], "again": lambda held: held + held,
-             "other-first": lambda text: ("1" if text[0] == "0" else "0") + text[1:], "more": lambda text: text + "00",
-             "after-null": lambda held: [None] + held, "before-null": lambda held: held + [None],
-             "unpadded": lambda text: text.rstrip("="), "first": lambda held: held[0]}
-    if value == "absent":
-        del tree[last]
-    else:
-        tree[last] = words[value](tree[last]) if value in words else json.loads(value)
-
-
-def proof_of(fields):
-    """The line of the proof that the members are, or the first fault (RFC 6962 section 2.1.1)."""
-    def is_hash(coded):
-        return len(base64.b64decode(coded)) == 32
-    if not is_hash(fields["rootHash"]):
-        return "RootLength"
-    for place, coded in enumerate(fields["hashes"]):
-        if not is_hash(coded):
-            return "HashLength(%d)" % place
-    if int(fields["treeSize"]) < 0:
-        return "TreeSize"
-    if fields.get("checkpoint") is None:
-        return "CheckpointMissing"
-    try:
-        note, signatures = read_checkpoint(fields["checkpoint"].get("envelope", ""))
-    except Fault as fault:
-        return "Checkpoint(%s)" % fault
-    hashes = [base64.b64decode(coded).hex() for coded in fields["hashes"]]
-    return " ".join(["ok", fields["logIndex"], base64.b64decode(fields["rootHash"]).hex(), fields["treeSize"], str(len(hashes)), *hashes,
-                     debug(note[0]), str(note[1]), note[2].hex(), str(len(signatures))])
-
-
-def proof_case(line):
-    expected, _, changes = line.partition(" ")
-    bundle = fixture.Request().bundle()
-    fields = bundle["verificationMaterial"]["tlogEntries"][0]["inclusionProof"]
-    for change in changes.split("; ") if changes else []:
-        changed(fields, change)
-    found = proof_of(fields)
-    assert found.split(" ")[0] == expected, line
-    named_case(changes or "as it is", "to_proof " + compact(bundle, canonical=True), found)
-
-
-def get(value, name):
-    """The member of an object, none where it is absent or null."""
-    ask(isinstance(value, dict) and value.get(name) is not None)
-    return value[name]
-
-
-def says(value, name, wanted):
-    found = get(value, name)
-    ask(isinstance(found, str) and found == wanted)
-
-
-def hashes_to(value, name, content):
-    part = get(value, name)
-    says(part, "algorithm", "sha256")
-    digits = get(part, "value")
-    ask(isinstance(digits, str) and re.fullmatch("[0-9a-fA-F]{64}", digits) and digits.lower() == fixture.sha256(content).hex())
-
-
-def is_body(body, request):
-    """Whether the text is Rekor's entry of kind dsse, version 0.0.1, about the request's envelope."""
-    try:
-        tree = json.loads(body, parse_float=lambda _: Float())
-        ask(not has_float(tree))
-        says(tree, "kind", "dsse")
-        says(tree, "apiVersion", "0.0.1")
-        spec = get(tree, "spec")
-        hashes_to(spec, "envelopeHash", fixture.envelope_json(request.payload, request.signature).encode())
-        hashes_to(spec, "payloadHash", request.payload)
-        listed = get(spec, "signatures")
-        ask(isinstance(listed, list) and listed)
-        says(listed[0], "signature", base64_of(request.signature))
-        says(listed[0], "verifier", base64_of(fixture.pem(request.leaf_der).encode()))
-    except (ValueError, Refused):
-        return False
-    return True
-
-
-def is_hashedrekord(body, request, digest):
-    """Whether the text is Rekor's entry of kind hashedrekord, version 0.0.1, about an artifact of this digest, and nothing else."""
-    hashed = {"algorithm": "sha256", "value": digest.hex()}
-    key = {"content": base64_of(fixture.pem(request.leaf_der).encode())}
-    signed = {"content": base64_of(request.signature), "publicKey": key}
-    entry = {"apiVersion": "0.0.1", "kind": "hashedrekord", "spec": {"data": {"hash": hashed}, "signature": signed}}
-    try:
-        return json.loads(body, parse_float=lambda _: Float()) == entry
-    except ValueError:
-        return False
-
-
-def turned(tree):
-    """The members of each object in the other order."""
-    return {name: turned(tree[name]) for name in reversed(tree)} if isinstance(tree, dict) else tree
-
-
-def changed_body(body, kind, rest, change):
-    """The body with a change; behind `text` it is that text, and `blanks`, `turned` and `escaped` are other texts of the same tree."""
-    if kind == "text":
-        return rest
-    if kind == "blanks":
-        return " " + json.dumps(json.loads(body), indent=1) + "\n"
-    if kind == "turned":
-        return compact(turned(json.loads(body)))
-    if kind == "escaped":
-        return body.replace("sha256", "\\u0073ha256").replace("/", "\\/")
-    if kind == "doubled":
-        return body.replace('{"apiVersion"', '{"kind":"dsse","apiVersion"', 1)
-    if not change:
-        return body
-    tree = json.loads(body)
-    changed(tree, change)
-    return compact(tree)
-
-
-def body_lines(request, is_body, digest, line):
-    """A change of the body, or of the leaf, or behind `digest` another digest of the artifact."""
-    expected, _, change = line.partition(" ")
-    kind, _, rest = change.partition(" ")
-    made = request()
-    bundle, body = made.bundle(), made.body.decode()
-    if kind == "leaf":
-        made = request(leaf=fixture.leaf(serial=b"\x02\x01\x09"))
-        bundle = made.bundle()
-    elif kind == "digest":
-        digest = bytes.fromhex(rest)
-    else:
-        body = changed_body(body, kind, rest, change)
-    bundle["verificationMaterial"]["tlogEntries"][0]["canonicalizedBody"] = base64_of(body.encode())
-    assert is_body(body, made, digest) == (expected == "true"), line
-    for offline in ("true", "false"):
-        call = "tlog_entry %s %s %s" % (offline, digest.hex() or "-", compact(bundle, canonical=True))
-        named_case(change or "as it is", call, "ok " + expected)
-
-
-def body_case(line):
-    body_lines(fixture.Request, lambda body, request, _: is_body(body, request), b"", line)
-
-
-def message_case(line):
-    body_lines(fixture.MessageRequest, is_hashedrekord, bytes.fromhex(NARROW), line)
 
 
 def fetched(request, digest):
@@ -532,18 +145,6 @@ def errors():
                         ("Bundle02Profile", "(CheckpointMissing)"), ("Unknown", '("text/plain")')]:
         case("shown " + name, name + shown)
     case("shown OutOfMemory", "ok OutOfMemory")
-
-
-def table():
-    """The sections of the table: their heads, and their rows."""
-    sections = []
-    with open(os.path.join(HERE, "bundle_cases.txt"), encoding="utf-8") as file:
-        for line in file.read().split("\n"):
-            if line.startswith("@"):
-                sections.append((line[1:], []))
-            elif line:
-                sections[-1][1].append(line)
-    return sections
 
 
 def refused_rows(rows):
@@ -604,7 +205,7 @@ ROWS = {"equal": changed_case, "checked": faulty_case, "to_proof": proof_case, "
 
 def main():
     found = {}
-    for head, rows in table():
+    for head, rows in sections_of_rows():
         kind, _, title = head.partition(" ")
         found[kind] = rows
         if kind in ("member", "value"):

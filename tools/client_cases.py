@@ -13,7 +13,8 @@ import sys
 
 sys.dont_write_bytecode = True
 
-import bundle_cases as bundles
+import bundle_reader as bundles
+from bundle_faults import PROFILES
 import fixture
 import json_documents as documents
 import rekor_cases as notes
@@ -308,7 +309,7 @@ def to_bundle(digest, certificate, signature, text):
     def answer():
         signed = {"signature": base64_of(signature), "messageDigest": {"digest": base64_of(digest)}}
         material = {"x509CertificateChain": {"certificates": [{"rawBytes": base64_of(certificate)}]}, "tlogEntries": [converted(text)]}
-        return bundle_line({"mediaType": bundles.OLDER + "0.2", "verificationMaterial": material, "messageSignature": signed})
+        return bundle_line({"mediaType": PROFILES["0.2"], "verificationMaterial": material, "messageSignature": signed})
 
     row(" ".join(["to_bundle", *[each.hex() or "-" for each in (digest, certificate, signature)], quoted(text)]), answer)
 

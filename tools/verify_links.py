@@ -15,7 +15,7 @@ from types import SimpleNamespace
 sys.dont_write_bytecode = True
 sys.set_int_max_str_digits(0)
 
-import bundle_cases as bundles
+import bundle_reader as bundles
 import der_cases as der
 import dsse_cases as dsse
 import json_documents as documents
