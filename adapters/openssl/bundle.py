@@ -1,19 +1,16 @@
-"""What sigverify-bundle does: it reads its words, makes the request, and runs sigverify on it, twice."""
+"""What sigverify-bundle does: it reads its words, and makes the request."""
 import codecs
 import datetime
 import hashlib
-import json
 import os
 import re
 import stat
-import subprocess
 import sys
 import time
 
-from genuine import is_genuine
+from checked import MOST_BYTES, REFUSED, compact, reply
+from words import misused, named_words, utf8, write
 
-MOST_BYTES = 1 << 24  # of a request
-SIGVERIFY = os.path.join(os.path.dirname(os.path.realpath(__file__)), "..", "..", "sigverify")
 HELP = """\
 usage: sigverify-bundle --trusted-root FILE --bundle FILE --identity TEXT --issuer TEXT [--now TIME]
                         [--print-request] [--sigverify PROGRAM] [--] ARTIFACT
@@ -28,22 +25,12 @@ Verifies the Sigstore bundle of an artifact.
   --now TIME           as 2023-12-14T00:00:00Z (RFC 3339), or in seconds since 1970; else by the clock
   --print-request      write the request, with `accepted`, to standard output, and the reply to standard error
   --sigverify PROGRAM  else that of this repository
-  ARTIFACT             a regular file; behind -- also one whose name begins with -
+  ARTIFACT             a regular file; after -- also one whose name begins with -
 
 A value can also be given as --word=VALUE, and one that begins with - has to be. Each word is given at most once.
 
 Status: 0 trusted; 1 and 2 not, and the line names the link that fails; 3 there was no reply.
 """
-
-
-def write(number, content):
-    """All of the content to standard output, 1, or standard error, 2."""
-    left = memoryview(content)
-    try:
-        while left:
-            left = left[os.write(number, left):]
-    except OSError as error:
-        sys.exit(f"standard {'output' if number == 1 else 'error'} cannot be written: {error.strerror}")
 
 
 # The words.
@@ -54,51 +41,6 @@ TIME = re.compile("([0-9]{4})-([0-9]{2})-([0-9]{2})[Tt]([0-9]{2}):([0-9]{2}):([0
                   "(?:[Zz]|([+-])([0-9]{2}):([0-9]{2}))")
 EPOCH = datetime.date(1970, 1, 1).toordinal()
 CYCLE = 146097  # the days of 400 years
-
-
-def misused(message):
-    sys.exit(f"{message}; see --help")
-
-
-def named_words(given):
-    """The values by their words' names. Nothing is guessed: what begins with - is a word of the help, or follows --."""
-    found, rest = {}, iter(given)
-
-    def keep(name, value):
-        if name in found:
-            misused(f"{name} is given twice")
-        if value == "":
-            misused(f"{name} is empty")
-        found[name] = value
-
-    for word in rest:
-        name, equals, value = word.partition("=")
-        if word == "--":
-            for artifact in rest:
-                keep("ARTIFACT", artifact)
-        elif not word.startswith("-"):
-            keep("ARTIFACT", word)
-        elif word == "--print-request":
-            keep(word, word)
-        elif name not in VALUED:
-            misused(f"{word} is no word here, or not beside others; for an artifact put -- before it")
-        else:
-            value = value if equals else next(rest, "-")
-            if not equals and value.startswith("-"):
-                misused(f"{name} needs a value, and one that begins with - as {name}=VALUE")
-            keep(name, value)
-    for name in NEEDED:
-        if name not in found:
-            misused(f"{name} is missing")
-    return found
-
-
-def utf8(name, word):
-    """The text of a word, whose bytes are UTF-8 whatever the locale is."""
-    try:
-        return os.fsencode(word).decode()
-    except UnicodeDecodeError:
-        return sys.exit(f"{name} is not UTF-8")
 
 
 def seconds_at(year, month, day, hour, minute, second, offset):
@@ -131,11 +73,6 @@ def seconds_of(text):
 
 
 # The request.
-
-def compact(value):
-    """JSON in the fewest bytes, as sigverify writes its lists."""
-    return json.dumps(value, ensure_ascii=False, separators=(",", ":")).encode()
-
 
 def text_of(path):
     """The file's text, or enough of it for a request that is refused as too long."""
@@ -173,42 +110,7 @@ def request_of(words):
 
 # The runs.
 
-# What a reply is, by its status; the list of `questions` has status 0.
-REFUSED = {1: b"refused [0-9a-z-]+\n", 2: b"refused request\n"}
 VERIFIED = {0: b"verified [0-9]+ [0-9]+\n", **REFUSED}
-LISTED = {0: rb"(?s)\[.*\]\n", **REFUSED}
-
-
-def run(program, words, request, replies):
-    """The program's reply, and its status. Whatever else the program does is no reply."""
-    title = " ".join([program, *words])
-    try:
-        done = subprocess.run([program, *words], input=request, stdout=subprocess.PIPE)
-    except OSError as error:
-        sys.exit(f"no reply: {program}: {error.strerror}")
-    if done.returncode not in replies:
-        sys.exit(f"no reply: {title} ended with status {done.returncode}")
-    if not re.fullmatch(replies[done.returncode], done.stdout):
-        sys.exit(f"no reply: what {title} wrote is none of status {done.returncode}")
-    return done.stdout, done.returncode
-
-
-def genuine_of(listed):
-    """The rows of a list that are genuine."""
-    try:
-        return [row for row in json.loads(listed) if is_genuine(row)]
-    except (AttributeError, KeyError, RecursionError, TypeError, ValueError):
-        return sys.exit("no reply: what `questions verify` wrote is no list of signatures")
-
-
-def answer(program, request):
-    """The request with the rows that are accepted, the reply to it, and its status. The rows come before the last brace
-    of the request, byte for byte as listed, since sigverify lists what fits in there."""
-    listed, status = run(program, ["questions", "verify"], request, LISTED)
-    if status != 0:
-        return request, listed, status
-    answered = request[:-1] + b',"accepted":' + compact(genuine_of(listed)) + b"}"
-    return answered, *run(program, ["verify"], answered, VERIFIED)
 
 
 def main(given):
@@ -216,9 +118,5 @@ def main(given):
     if given in (["--help"], ["-h"]):
         write(1, HELP.encode())
         return 0
-    words = named_words(given)
-    answered, reply, status = answer(words.get("--sigverify", SIGVERIFY), request_of(words))
-    if "--print-request" in words:
-        write(1, answered + b"\n")
-    write(2 if "--print-request" in words else 1, reply)
-    return status
+    words = named_words(given, VALUED, NEEDED)
+    return reply(words, "verify", request_of(words), VERIFIED)

@@ -1,4 +1,4 @@
-"""What the tests of sigverify-bundle share: results, runs, and the files that a run is given."""
+"""What the tests of the adapters share: results, runs, and the files that a run is given."""
 import os
 import subprocess
 import sys
@@ -7,6 +7,7 @@ from signed import IDENTITY, ISSUER, NOW
 
 HERE = os.path.dirname(os.path.abspath(__file__))
 ADAPTER = os.path.join(HERE, "sigverify-bundle")
+CHECKED = os.path.join(HERE, "sigverify-checked")
 VERIFIED = "verified 2 5"
 NO_REPLY = 3
 
@@ -23,17 +24,18 @@ class Results:
             print(f"{title}: gave\n{gave}\nand not\n{wanted}", file=sys.stderr)
 
 
-def run(words, start=(), **options):
-    """Status, standard output and standard error of sigverify-bundle, which its first line starts, or other words."""
-    done = subprocess.run([*start, ADAPTER, *words], capture_output=True, timeout=300, **options)
+def run(words, start=(), adapter=ADAPTER, **options):
+    """Status, standard output and standard error of an adapter, which its first line starts, or other words."""
+    done = subprocess.run([*start, adapter, *words], capture_output=True, timeout=300, **options)
     return done.returncode, done.stdout.decode(), done.stderr.decode()
 
 
-def compare_end(results, title, words, said="", **options):
+def compare_end(results, title, words, said="", adapter=ADAPTER, **options):
     """Whether a run ends without a reply: status 3, nothing on standard output, and one line, which has these words, on
     standard error."""
-    status, reply, line = run(words, **options)
-    is_line = line.startswith("sigverify-bundle: ") and line.count("\n") == 1 and line.endswith("\n") and said in line
+    status, reply, line = run(words, adapter=adapter, **options)
+    prefix = os.path.basename(adapter) + ": "
+    is_line = line.startswith(prefix) and line.count("\n") == 1 and line.endswith("\n") and said in line
     results.compare(f"{title} ({line!r})", (status, reply, is_line), (NO_REPLY, "", True))
 
 

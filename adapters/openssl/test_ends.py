@@ -3,7 +3,6 @@ and no environment or file makes a reply."""
 import os
 import shutil
 import subprocess
-import sys
 import tempfile
 
 import signed
@@ -143,8 +142,8 @@ def check_imports(results, program):
     with tempfile.TemporaryDirectory() as folder:
         signed.write(folder, Signed())
         there = os.path.join(folder, "sigverify-bundle")
-        for name in "genuine", "bundle":
-            for each in "sigverify-bundle", "bundle.py", "genuine.py":
+        for name in "genuine", "words", "checked", "bundle":
+            for each in "sigverify-bundle", "start.py", "words.py", "checked.py", "bundle.py", "genuine.py":
                 shutil.copy(os.path.join(HERE, each), folder)
             for does, said in {**RAISED, SPEECHLESS: ""}.items():
                 file_of(folder, f"{name}.py", does.encode())
@@ -155,7 +154,8 @@ def check_imports(results, program):
                 results.compare(f"{name}.py does: {does} ({done.stderr})", gave, (3, b"", 1 if said else 0, True))
         with open(os.path.join(HERE, "genuine.py"), encoding="utf-8") as file:
             older = file.read().replace("import InvalidSignature,", "import Absent, InvalidSignature,")
-        shutil.copy(os.path.join(HERE, "bundle.py"), folder)
+        for each in "start.py", "words.py", "checked.py", "bundle.py":
+            shutil.copy(os.path.join(HERE, each), folder)
         file_of(folder, "genuine.py", older.encode())
         done = subprocess.run([there, *words_of(folder, program)], capture_output=True)
         said = b"from version 38 on, which cannot be loaded: cannot import name 'Absent'" in done.stderr
@@ -187,7 +187,8 @@ def planted(folder):
     for package in "cryptography", "encodings", "importlib":
         os.mkdir(os.path.join(folder, package))
         file_of(folder, os.path.join(package, "__init__.py"), FORGED.encode())
-    for name in "sitecustomize", "usercustomize", "genuine", "bundle", "json", "re", "os", "subprocess", "hashlib":
+    for name in ("sitecustomize", "usercustomize", "start", "genuine", "words", "checked", "bundle", "json", "re", "os",
+                 "subprocess", "hashlib"):
         file_of(folder, f"{name}.py", FORGED.encode())
     file_of(folder, "bash_env", b"echo verified 2 5; exit 0\n")
     file_of(folder, "openssl.cnf", OPENSSL_SETTINGS)

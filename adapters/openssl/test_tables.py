@@ -5,7 +5,7 @@ import subprocess
 import tempfile
 
 import signed
-from fixture import BASIC_CONSTRAINTS, BIT_STRING, BOOLEAN, KEY_USAGE, SEQUENCE, base64_of, compact, der, extension, oid
+from fixture import BASIC_CONSTRAINTS, BIT_STRING, KEY_USAGE, SEQUENCE, base64_of, compact, der, extension, oid
 from signed import IDENTITY, ISSUER, Signed, fixture
 from test_common import HERE, file_of, run, words_of
 

@@ -1,0 +1,104 @@
+"""Asks sigverify for the signatures of a request, OpenSSL for the genuine ones, and sigverify for the reply."""
+import json
+import os
+import re
+import subprocess
+import sys
+
+from genuine import is_genuine
+from words import misused, named_words, write
+
+MOST_BYTES = 1 << 24  # of a request
+SIGVERIFY = os.path.join(os.path.dirname(os.path.realpath(__file__)), "..", "..", "sigverify")
+HELP = """\
+usage: sigverify-checked [--print-request] [--sigverify PROGRAM] COMMAND < REQUEST
+       sigverify-checked --help
+
+Runs a command of sigverify on a request, of which OpenSSL verifies the signatures.
+
+  COMMAND              %s
+  --print-request      write the request, with `accepted`, to standard output, and the reply to standard error
+  --sigverify PROGRAM  else that of this repository
+
+The request is JSON of at most 2^24 bytes, without `accepted`, or with one that does not count.
+
+Status: that of the reply, 0 if every link of the command holds, 1 and 2 if not; 3 there was no reply.
+"""
+
+# What a reply is, by its status; the list of `questions` has status 0.
+REFUSED = {1: b"refused [0-9a-z-]+\n", 2: b"refused request\n"}
+LISTED = {0: rb"(?s)\[.*\]\n", **REFUSED}
+OF_ENTRIES = b"(?:(?:entry|prefix) [0-9]+\n|other list\n|collision [0-9a-f]+ [0-9a-f]+\n)?"
+REPLIES = {command: {0: b"%s [0-9]+ [0-9]+\n%s" % (word, OF_ENTRIES), **REFUSED}
+           for command, word in (("log", b"logged"), ("verify", b"verified"), ("consistency", b"consistent"))}
+
+
+def compact(value):
+    """JSON in the fewest bytes, as sigverify writes its lists."""
+    return json.dumps(value, ensure_ascii=False, separators=(",", ":")).encode()
+
+
+def run(program, words, request, replies):
+    """The program's reply, and its status. Whatever else the program does is no reply."""
+    title = " ".join([program, *words])
+    try:
+        done = subprocess.run([program, *words], input=request, stdout=subprocess.PIPE)
+    except OSError as error:
+        sys.exit(f"no reply: {program}: {error.strerror}")
+    if done.returncode not in replies:
+        sys.exit(f"no reply: {title} ended with status {done.returncode}")
+    if not re.fullmatch(replies[done.returncode], done.stdout):
+        sys.exit(f"no reply: what {title} wrote is none of status {done.returncode}")
+    return done.stdout, done.returncode
+
+
+def genuine_of(command, listed):
+    """The rows of a list that are genuine."""
+    try:
+        return [row for row in json.loads(listed) if is_genuine(row)]
+    except (AttributeError, KeyError, RecursionError, TypeError, ValueError):
+        return sys.exit(f"no reply: what `questions {command}` wrote is no list of signatures")
+
+
+def answer(program, command, request, replies):
+    """The request with the rows that are accepted, the reply to it, and its status. The rows come before the last brace
+    of the request, byte for byte as listed, since sigverify lists what fits in there, for an object with members."""
+    listed, status = run(program, ["questions", command], request, LISTED)
+    if status != 0:
+        return request, listed, status
+    end = request.rindex(b"}")
+    answered = request[:end] + b',"accepted":' + compact(genuine_of(command, listed)) + request[end:]
+    return answered, *run(program, [command], answered, replies)
+
+
+def reply(words, command, request, replies):
+    """The status of the reply, once that is written."""
+    answered, line, status = answer(words.get("--sigverify", SIGVERIFY), command, request, replies)
+    if "--print-request" in words:
+        write(1, answered + b"\n")
+    write(2 if "--print-request" in words else 1, line)
+    return status
+
+
+def given_request():
+    """What standard input gives, or enough of it for a request that is refused as too long."""
+    parts, left = [], MOST_BYTES + 1
+    try:
+        while left and (part := os.read(0, min(left, 1 << 20))):
+            parts.append(part)
+            left -= len(part)
+    except OSError as error:
+        sys.exit(f"standard input cannot be read: {error.strerror}")
+    return b"".join(parts)
+
+
+def main(given):
+    """The status of the reply to the request of standard input."""
+    if given in (["--help"], ["-h"]):
+        write(1, (HELP % ", ".join(REPLIES)).encode())
+        return 0
+    words = named_words(given, ["--sigverify"], ["COMMAND"])
+    command = words["COMMAND"]
+    if command not in REPLIES:
+        misused(f"{command} is not a command here: {', '.join(REPLIES)}")
+    return reply(words, command, given_request(), REPLIES[command])

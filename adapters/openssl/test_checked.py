@@ -1,0 +1,167 @@
+"""sigverify-checked: requests of each command that are really signed, what becomes of their texts, and each end without
+a reply."""
+import base64
+import os
+import subprocess
+import tempfile
+
+import signed
+from signed import IDENTITY, ISSUER, NOW, Signed, fixture
+from test_common import CHECKED, VERIFIED, compare_end, file_of, program_that, run
+
+LIMIT = 1 << 24
+SIZES = 3, 7
+
+
+def compact(value):
+    return signed.compact(value).encode()
+
+
+def log_request(made):
+    """The request of `log` about the entry of a bundle."""
+    proof = made.entry["inclusionProof"]
+    hashes = [base64.b64decode(each).hex() for each in proof["hashes"]]
+    return {"entry": made.entry["canonicalizedBody"], "logIndex": int(proof["logIndex"]),
+            "treeSize": int(proof["treeSize"]), "rootHash": base64.b64decode(proof["rootHash"]).hex(),
+            "hashes": hashes, "checkpoint": proof["checkpoint"]["envelope"], "scheme": made.log.scheme,
+            "key": signed.base64_of(made.log.spki)}
+
+
+def verify_request(made):
+    return {"trustedRoot": signed.compact(made.trusted_root()), "bundle": signed.compact(made.bundle()), "now": NOW,
+            "digest": "sha256:" + made.digest.hex(), "policy": {"identity": IDENTITY, "issuer": ISSUER}}
+
+
+def grown(kind, spoil=False):
+    """The request of `consistency` for a log that grew, with its entries, and signed by a key of the kind."""
+    import consistency_requests
+    log, entries = signed.signer(kind, "log"), [b"entry %d" % place for place in range(SIZES[1])]
+    request = consistency_requests.request(SIZES[0], entries, entries)
+    note = fixture.note(fixture.root_hash(entries), SIZES[1])
+    made = log.sign(note.encode())
+    made = signed.flipped(made) if spoil else made
+    del request["accepted"]
+    line = signed.base64_of(fixture.sha256(log.spki)[:4] + made)
+    return {**request, "checkpoint": f"{note}\n\u2014 fixture.log {line}\n", "scheme": log.scheme,
+            "key": signed.base64_of(log.spki)}
+
+
+def requests():
+    """By command: a request, the status, and the lines."""
+    for kind in "P-256", "P-384", "P-521", "RSA", "RSA-PSS", "Ed25519":
+        yield "consistency", grown(kind), 0, "consistent 3 7\nprefix 3\n"
+        yield "consistency", grown(kind, spoil=True), 1, "refused note-key\n"
+    for kind in "P-256", "RSA":
+        yield "log", log_request(Signed(log=kind)), 0, "logged 2 5\n"
+        for by in "flip", "stranger":
+            yield "log", log_request(Signed(log=kind, spoiled="note", by=by)), 1, "refused note-key\n"
+    yield "log", {**log_request(Signed()), "entry": ""}, 1, "refused inclusion\n"
+    yield "log", {**log_request(Signed()), "entries": []}, 0, "logged 2 5\nother list\n"
+    yield "verify", verify_request(Signed()), 0, VERIFIED + "\n"
+    for title, link in signed.LINKS.items():
+        yield "verify", verify_request(Signed(spoiled=title)), 1, f"refused {link}\n"
+    yield "log", verify_request(Signed()), 2, "refused request\n"
+    yield "verify", {}, 2, "refused request\n"
+
+
+def ask(program, command, text, *words):
+    return run([f"--sigverify={program}", *words, command], adapter=CHECKED, input=text)
+
+
+def check_requests(results, program):
+    for command, request, status, lines in requests():
+        results.compare(f"{command} {request}", ask(program, command, compact(request)), (status, lines, ""))
+
+
+def check_texts(results, program):
+    """The text is handed on as it came: with blanks, doubled members, and what the program refuses. A list of its own,
+    forged or not, does not count."""
+    made = Signed(spoiled="note")
+    forged = compact({**log_request(made), "accepted": [made.rows["note"]]})
+    results.compare("a forged list", ask(program, "log", forged), (1, "refused note-key\n", ""))
+    text = compact(log_request(Signed()))
+    logged, refused = (0, "logged 2 5\n", ""), (2, "refused request\n", "")
+    for title, other, wanted in [
+            ("blanks", b" \t\r\n" + text[:-1] + b" \n}\r\n\t ", logged),
+            ("an ignored member", text[:-1] + b',"a":{"}":"}"}}', logged),
+            ("a member that is replaced", b'{"logIndex":7,' + text[1:], logged),
+            ("a member that replaces", text[:-1] + b',"logIndex":7}', (1, "refused inclusion\n", "")),
+            ("-0", text[:-1] + b',"logIndex":-0}', refused), ("a float", text[:-1] + b',"logIndex":2.0}', refused),
+            ("half a pair", text[:-1] + b',"checkpoint":"\\ud800"}', refused), ("more text", text + b"{}", refused),
+            ("two texts", text + text, refused), ("no end", text[:-1], refused), ("no text", b"", refused),
+            ("no UTF-8", text[:-1] + b',"a":"\xff"}', refused), ("a list", b"[" + text + b"]", refused),
+            ("an empty object", b"{}", refused), ("a comma", text[:-1] + b",}", refused)]:
+        results.compare(title, ask(program, "log", other), wanted)
+        if wanted == logged:
+            status, request, line = ask(program, "log", other, "--print-request")
+            end = other.rindex(b"}")
+            first, last = request.encode()[:end + 13], request.encode()[end - len(other) - 1:]
+            kept = first == other[:end] + b',"accepted":[', last == other[end:] + b"\n"
+            results.compare(f"{title}, printed", (status, line, *kept), (0, "logged 2 5\n", True, True))
+            again = subprocess.run([program, "log"], input=request.encode(), capture_output=True)
+            results.compare(f"{title}, without the adapter", (again.returncode, again.stdout), (0, b"logged 2 5\n"))
+
+
+def check_limit(results, program):
+    """A request whose text, list and `,"accepted":` have 2^24 bytes, and one of a byte more."""
+    text = compact(log_request(Signed()))
+    with_list = ask(program, "log", text, "--print-request")[1].rstrip("\n").encode()
+    room = LIMIT - len(with_list) - len(b',"a":""')
+    for more, wanted in (0, (0, "logged 2 5\n", "")), (1, (2, "refused request\n", "")):
+        padded = text[:-1] + b',"a":"' + b"x" * (room + more) + b'"}'
+        results.compare(f"{LIMIT + more} bytes", ask(program, "log", padded), wanted)
+    results.compare("no end of input", ask(program, "log", b" " * (LIMIT + 2)), (2, "refused request\n", ""))
+
+
+MISUSED = [
+    ([], "COMMAND is missing"), (["--"], "is missing"), (["--sigverify", "log"], "is missing"), ([""], "empty"),
+    (["log", "log"], "twice"), (["audit", "log"], "twice"), (["--print-request", "--print-request", "log"], "twice"),
+    (["--help", "log"], "not a word"), (["log", "--help"], "not a word"), (["-x"], "not a word"),
+    (["--now=1", "log"], "not a word"), (["log", "--sigverify"], "needs a value"), (["x"], "not a command"),
+    (["--", "-x"], "not a command"), (["questions"], "not a command"), (["demo"], "not a command")]
+
+
+def check_misuse(results, program):
+    for words, said in MISUSED:
+        compare_end(results, f"the words {words}", words, said, adapter=CHECKED, input=b"{}")
+    status, shown, said = run(["--help"], adapter=CHECKED)
+    results.compare("--help", (status, shown.startswith("usage: sigverify-checked"), said), (0, True, ""))
+    results.compare("-h", run(["-h"], adapter=CHECKED), (status, shown, said))
+
+
+NO_REPLIES = [
+    "exit 0", "exit 1", "exit 71", "exit 64; echo usage", "echo 'logged 2 5'", "echo '[]'; exit 1", "kill -9 $$"]
+NO_SECOND_REPLIES = [
+    "exit 0", "exit 1", "exit 71", "echo 'verified 2 5'", "echo 'logged 2 5'; exit 1", "printf 'logged 2 5'",
+    "echo 'logged 2 5'; echo", "echo 'logged 2 5'; echo 'entry'", "echo 'refused x'",
+    "echo 'logged 2 5'; echo 'entry 2'; echo 'entry 2'"]
+
+
+def check_ends(results, program):
+    text = compact(log_request(Signed()))
+    with tempfile.TemporaryDirectory() as folder:
+        def ends(title, does):
+            words = [f"--sigverify={program_that(folder, does)}", "log"]
+            compare_end(results, title, words, "no reply", adapter=CHECKED, input=text)
+        for does in NO_REPLIES:
+            ends(f"a program that does: {does}", does)
+        for does in NO_SECOND_REPLIES:
+            ends(f"a second run that does: {does}", f'[ "$1" = log ] || {{ echo "[]"; exit; }}; {does}')
+        file_of(folder, "start.py", b"raise MemoryError")
+        there = os.path.join(folder, "sigverify-checked")
+        with open(CHECKED, "rb") as file:
+            os.chmod(file_of(folder, "sigverify-checked", file.read()), 0o755)
+        compare_end(results, "start.py fails", ["log"], "start.py", adapter=there, input=text)
+        os.remove(os.path.join(folder, "start.py"))
+        compare_end(results, "no start.py", ["log"], "start.py", adapter=there, input=text)
+    words = [f"--sigverify={program}", "log"]
+    shell = ["/bin/sh", "-c", 'exec "$@" <&-', "sh"]
+    compare_end(results, "the input is closed", words, "standard input cannot be read", adapter=CHECKED, start=shell)
+    compare_end(results, "the input is a folder", words, "standard input cannot be read", adapter=CHECKED,
+                start=["/bin/sh", "-c", 'exec "$@" </', "sh"])
+    for output in "/dev/full", "&-":
+        gave = run(words, ["/bin/sh", "-c", f'exec "$@" >{output}', "sh"], CHECKED, input=text)
+        results.compare(f"the output is {output}", (gave[0], gave[1]), (3, ""))
+
+
+PARTS = check_requests, check_texts, check_limit, check_misuse, check_ends
