@@ -63,96 +63,107 @@ def outcome(words, text, source, sink, reply, status):
     return f"{status if is_written else FAULT} {taken.hex() or '-'} {left}"
 
 
-def main():
-    table = Table("run_cases")
+TABLE = Table("run_cases")
+group = TABLE.group
+STEADY, WIDE = (64, NEVER), (64, NEVER, 256)
+LOGGED, REFUSED, USAGE = b"logged 0 1\n", b"refused request\n", b"usage\n"
 
-    def run(words, text, source, sink, reply, status):
-        shown = urllib.parse.quote(text, safe="") or "-"
-        call = f"run {words} {shown} {source[0]} {source[1]} {sink[0]} {sink[1]} {sink[2]}"
-        table.case(call, outcome(words, text.encode(), source, sink, reply, status))
 
-    table.note("`run` over a source that gives pieces, and a sink that takes pieces: the status, what was written, what is left.")
-    steady, wide = (64, NEVER), (64, NEVER, 256)
-    logged, refused, usage = b"logged 0 1\n", b"refused request\n", b"usage\n"
+def run(words, text, source, sink, reply, status):
+    """The case of a run. A source is the size of its pieces and the call that fails; a sink has its room besides."""
+    shown = urllib.parse.quote(text, safe="") or "-"
+    call = f"run {words} {shown} {source[0]} {source[1]} {sink[0]} {sink[1]} {sink[2]}"
+    TABLE.case(call, outcome(words, text.encode(), source, sink, reply, status))
+
+
+def pieces():
     size = len(FIRST)
-
-    table.group("A request that is logged, in pieces of every kind")
+    group("A request that is logged, in pieces of every kind")
     for piece in (1, 2, 3, 7, 63, 64, 65, size - 1, size, size + 1, 20_000):
-        run("log", FIRST, (piece, NEVER), wide, logged, 0)
-    for piece in range(1, len(logged) + 2):
-        run("log", FIRST, steady, (piece, NEVER, 256), logged, 0)
-
-    table.group("Each strict prefix of the request")
+        run("log", FIRST, (piece, NEVER), WIDE, LOGGED, 0)
+    for piece in range(1, len(LOGGED) + 2):
+        run("log", FIRST, STEADY, (piece, NEVER, 256), LOGGED, 0)
+    group("Each strict prefix of the request")
     for end in range(size):
-        run("log", FIRST[:end], wide[:2], wide, refused, 2)
+        run("log", FIRST[:end], WIDE[:2], WIDE, REFUSED, 2)
 
-    table.group("The source fails at each of its calls, the one that tells the end included: nothing is written")
-    for failing in range(-(-size // 64) + 3):
-        run("log", FIRST, (64, failing), wide, logged, 0)
+
+def failing_calls():
+    group("The source fails at each of its calls, the one that tells the end included: nothing is written")
+    for failing in range(-(-len(FIRST) // 64) + 3):
+        run("log", FIRST, (64, failing), WIDE, LOGGED, 0)
     for command in COMMANDS:
         for failing in range(8):
-            run(command, "12345", (1, failing), wide, refused, 2)
-
-    table.group("The sink fails at each of its calls: what was written before stays written")
+            run(command, "12345", (1, failing), WIDE, REFUSED, 2)
+    group("The sink fails at each of its calls: what was written before stays written")
     for piece in (1, 4, 10, 11):
-        for failing in range(-(-len(logged) // piece) + 1):
-            run("log", FIRST, steady, (piece, failing, 256), logged, 0)
+        for failing in range(-(-len(LOGGED) // piece) + 1):
+            run("log", FIRST, STEADY, (piece, failing, 256), LOGGED, 0)
     for command in COMMANDS:
         for failing in range(6):
-            run(command, "12345", steady, (4, failing, 256), refused, 2)
+            run(command, "12345", STEADY, (4, failing, 256), REFUSED, 2)
+    group("The sink has room for a part of the reply")
+    for room in range(len(LOGGED) + 2):
+        run("log", FIRST, STEADY, (64, NEVER, room), LOGGED, 0)
 
-    table.group("The sink has room for a part of the reply")
-    for room in range(len(logged) + 2):
-        run("log", FIRST, steady, (64, NEVER, room), logged, 0)
 
-    table.group("A tree that grew, with the log's own entries and with another list; and the signatures that `consistency` rests on")
+def grown_trees():
+    def both(request, source=STEADY):
+        found = json.dumps(request, separators=(",", ":"))
+        for words, (reply, status) in (("consistency", growth.lines(found)), ("questions,consistency", questions_cases.consistency_reply(found))):
+            run(words, found, source, (64, NEVER, 4096), reply.encode() + b"\n", status)
+
+    group("A tree that grew, with the log's own entries and with another list; and the signatures that `consistency` rests on")
     for handed in (growth.ENTRIES, growth.ENTRIES[:-1], growth.ENTRIES[1:] + growth.ENTRIES[:1], None):
-        found = json.dumps(growth.request(3, growth.ENTRIES, handed), separators=(",", ":"))
-        for words, (reply, status) in (("consistency", growth.lines(found)), ("questions,consistency", questions_cases.consistency_reply(found))):
-            run(words, found, steady, (64, NEVER, 4096), reply.encode() + b"\n", status)
+        both(growth.request(3, growth.ENTRIES, handed))
     most = [b"entry %d" % number for number in range(300)]
-    for words, reply in (("consistency", growth.lines), ("questions,consistency", questions_cases.consistency_reply)):
-        found = json.dumps(growth.request(299, most, most), separators=(",", ":"))
-        run(words, found, wide[:2], (64, NEVER, 4096), reply(found)[0].encode() + b"\n", 0)
+    both(growth.request(299, most, most))
     for changes in ({"checkpoint": ""}, {"oldRoot": growth.ROOT}, {"accepted": []}, {"entries": 1}):
-        found = json.dumps(growth.request(3, growth.ENTRIES, **changes), separators=(",", ":"))
-        for words, (reply, status) in (("consistency", growth.lines(found)), ("questions,consistency", questions_cases.consistency_reply(found))):
-            run(words, found, steady, (64, NEVER, 4096), reply.encode() + b"\n", status)
+        both(growth.request(3, growth.ENTRIES, **changes))
 
-    table.group("Both fail: the read comes first")
-    run("log", FIRST, (64, 2), (1, 3, 256), logged, 0)
-    run("log", "", (1, 0), (1, 0, 0), refused, 2)
 
-    table.group("Words that are no command, and those that `main` answers itself: nothing is read")
+def other_words():
+    group("Both fail: the read comes first")
+    run("log", FIRST, (64, 2), (1, 3, 256), LOGGED, 0)
+    run("log", "", (1, 0), (1, 0, 0), REFUSED, 2)
+    group("Words that are no command, and those that `main` answers itself: nothing is read")
     for words in ("x", "--help", "--version", "log,log", "questions", "questions,questions", "questions,consistency,log", "Log", "log,"):
-        run(words, "12345", (1, 0), wide, usage, 64)
+        run(words, "12345", (1, 0), WIDE, USAGE, 64)
         for failing in range(4):
-            run(words, "12345", steady, (2, failing, 256), usage, 64)
-
-    table.group("A source with nothing left")
+            run(words, "12345", STEADY, (2, failing, 256), USAGE, 64)
+    group("A source with nothing left")
     for command in COMMANDS:
-        run(command, "", steady, wide, refused, 2)
+        run(command, "", STEADY, WIDE, REFUSED, 2)
 
-    table.group("`demo N`: nothing is read, and the sink fails at each of its calls, or has room for a part of the text")
+
+def demo():
+    group("`demo N`: nothing is read, and the sink fails at each of its calls, or has room for a part of the text")
     for count in (1, 2, 3, 5, 70, 4095, 4096):
         for _ in range(2):
-            run(f"demo,{count}", "12345", (1, 0), wide, demo_requests.shown(count).encode(), 0)
+            run(f"demo,{count}", "12345", (1, 0), WIDE, demo_requests.shown(count).encode(), 0)
     for failing in range(9):
-        run("demo,5", "12345", steady, (12, failing, 256), demo_requests.shown(5).encode(), 0)
+        run("demo,5", "12345", STEADY, (12, failing, 256), demo_requests.shown(5).encode(), 0)
     for room in (0, 1, 9, 10, 80, 81, 92, 93, 94):
-        run("demo,5", "12345", steady, (64, NEVER, room), demo_requests.shown(5).encode(), 0)
-
-    table.group("Words that are not `demo` and a number from 1 to 4096 in decimal digits")
+        run("demo,5", "12345", STEADY, (64, NEVER, room), demo_requests.shown(5).encode(), 0)
+    group("Words that are not `demo` and a number from 1 to 4096 in decimal digits")
     for words in NOT_DEMO:
-        run(urllib.parse.quote(words, safe=","), "12345", (1, 0), wide, usage, 64)
+        run(urllib.parse.quote(words, safe=","), "12345", (1, 0), WIDE, USAGE, 64)
         for failing in range(4):
-            run(urllib.parse.quote(words, safe=","), "12345", steady, (2, failing, 256), usage, 64)
-
-    table.group("The request of `demo`: the SHA-256 of its text, its length, and what `log` replies to it")
+            run(urllib.parse.quote(words, safe=","), "12345", STEADY, (2, failing, 256), USAGE, 64)
+    group("The request of `demo`: the SHA-256 of its text, its length, and what `log` replies to it")
     for count in (*range(1, 71), 127, 128, 129, 1000, demo_requests.MOST - 1, demo_requests.MOST):
         text = demo_requests.request(count).encode()
-        table.case(f"request {count}", f"{hashlib.sha256(text).hexdigest()} {len(text)} 0 {demo_requests.reply(count).encode().hex()}")
-    table.write()
+        TABLE.case(f"request {count}", f"{hashlib.sha256(text).hexdigest()} {len(text)} 0 {demo_requests.reply(count).encode().hex()}")
+
+
+def main():
+    TABLE.note("`run` over a source that gives pieces, and a sink that takes pieces: the status, what was written, what is left.")
+    pieces()
+    failing_calls()
+    grown_trees()
+    other_words()
+    demo()
+    TABLE.write()
 
 
 if __name__ == "__main__":
