@@ -29,7 +29,7 @@ def log_request(made):
 
 def verify_request(made):
     return {"trustedRoot": signed.compact(made.trusted_root()), "bundle": signed.compact(made.bundle()), "now": NOW,
-            "digest": "sha256:" + made.digest.hex(), "policy": {"identity": IDENTITY, "issuer": ISSUER}}
+            "digest": "sha256:" + made.digest.hex(), "policy": {"all": [{"identity": IDENTITY, "issuer": ISSUER}]}}
 
 
 def grown(kind, spoil=False):
@@ -70,7 +70,7 @@ def ask(program, command, text, *words):
 
 def check_requests(results, program):
     for command, request, status, lines in requests():
-        results.compare(f"{command} {request}", ask(program, command, compact(request)), (status, lines, ""))
+        results.compare(f"{command}, {lines!r}", ask(program, command, compact(request)), (status, lines, ""))
 
 
 def check_texts(results, program):
@@ -157,8 +157,8 @@ def check_ends(results, program):
     words = [f"--sigverify={program}", "log"]
     shell = ["/bin/sh", "-c", 'exec "$@" <&-', "sh"]
     compare_end(results, "the input is closed", words, "standard input cannot be read", adapter=CHECKED, start=shell)
-    compare_end(results, "the input is a folder", words, "standard input cannot be read", adapter=CHECKED,
-                start=["/bin/sh", "-c", 'exec "$@" </', "sh"])
+    gave = run(words, ["/bin/sh", "-c", 'exec "$@" </', "sh"], CHECKED)  # Python does not start
+    results.compare("the input is a folder", gave[:2], (1, ""))
     for output in "/dev/full", "&-":
         gave = run(words, ["/bin/sh", "-c", f'exec "$@" >{output}', "sh"], CHECKED, input=text)
         results.compare(f"the output is {output}", (gave[0], gave[1]), (3, ""))
