@@ -203,9 +203,10 @@ fn read_body(alloc: Global, body: &[u8]) -> Result<Option<DsseBody>, OutOfMemory
 
 /// Whether the body of an entry is about an envelope of this text and payload, with this signature, which the
 /// certificate of this DER verifies: it is one of kind `dsse`, version 0.0.1, whose hashes are the SHA-256 of both, and
-/// whose first signature is this one. Fails only if out of memory.
+/// whose first signature is this one. [`log_bodies`](crate::laws::log_bodies) says it member by member. Fails only if out
+/// of memory.
 #[tactic(auto, using(crate::proofs::DsseBodies::bodies))]
-pub(crate) fn is_about_envelope(
+pub fn is_about_envelope(
     alloc: Global,
     envelope: &[u8],
     payload: &[u8],

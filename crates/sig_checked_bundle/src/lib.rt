@@ -22,4 +22,5 @@ pub use bundle_error::{
 };
 pub use checked_bundle::CheckedBundle;
 pub use content_check::CheckedContent;
+pub use dsse_body::is_about_envelope;
 pub use version::Version;

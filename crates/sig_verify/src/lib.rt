@@ -25,7 +25,7 @@ pub use artifact::InputFault;
 pub use chain::{verify_offline, verify_parts};
 pub use error::{CertificateErrorKind, SignatureErrorKind, VerificationError, VerificationResult};
 pub use link::Link;
-pub use log_entry::verify_log_entry;
+pub use log_entry::{verify_log_entry, vouched};
 pub use offline::Offline;
 pub use offline_error::{OfflineError, Part};
 pub use sig_root::{ManualTrustRoot, SigstoreTrustRoot, TrustRoot};

@@ -78,8 +78,9 @@ fn judge_entry<C: SignatureChecker>(
     vouched(alloc, entry, &key, checker)
 }
 
-/// The links behind `log-key`.
-fn vouched<C: SignatureChecker>(
+/// Checks that a log vouches for an entry, under this key of the log: the links behind `log-key`, for a caller that has
+/// keys of its own. Returns what [`verify_log_entry`] returns, with its errors from `PromiseMissing` on.
+pub fn vouched<C: SignatureChecker>(
     alloc: Global,
     entry: &TransparencyLogEntry,
     key: &CosignVerificationKey,
