@@ -6,6 +6,7 @@ pub mod PathAsked
 pub mod AnchorLaws
 mod AskedSoFar
 mod Counts
+mod CycleLaws
 pub mod Elements
 mod FirstAsked
 mod IndexLaws
@@ -13,6 +14,7 @@ mod Leading
 mod PathClauses
 pub mod PathConditions
 pub mod PathTable
+mod PlaceLaws
 mod RowLaws
 mod RowSteps
 mod Seen

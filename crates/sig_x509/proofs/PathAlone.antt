@@ -1,48 +1,101 @@
 -- Where there are no intermediates, a path is issuance by a trust anchor.
-use Rattle.std.proofs.Common.{◌≡◌, ◌⊎◌, ℕ, zero, suc, ◌<◌, ℤ, List, [], ◌∷◌, Option, Some, None, slice_get, length}
-use Rattle.std.proofs.Common.{refl, sym, ap, subst, ◌∙◌, arith}
+use Rattle.std.proofs.Common.{◌≡◌, ℕ, zero, ℤ, List, [], ◌∷◌, Option, Some, slice_get, length}
+use Rattle.std.proofs.Common.{refl, sym, ap, subst, arith}
 use Rattle.std.specs.Prelude.{◌↔◌, Contains}
 use Rattle.sig_certificate.specs.Certificate.{Cert}
 use Rattle.sig_x509.specs.Issuance.{Accepts}
-use Rattle.sig_x509.specs.Issued.{IsIssuedBy}
-use Rattle.sig_x509.specs.Path.{AreSignedUp, HasPath, IsPath}
-use Rattle.sig_x509.specs.Pool.{Pool}
+use Rattle.sig_x509.specs.Issued.{IsIssuedBy, IsIssuedByNone, IsSignedBy}
+use Rattle.sig_x509.specs.Path.{AreSignedUp, HasNoPath, HasPath, IsFirstInPath, IsPath}
+use Rattle.sig_x509.specs.PathPlaces.{IsFirstIssuedAt, IsIssuedAt}
+use Rattle.sig_x509.specs.Pool.{Pool, IsBefore}
 use Rattle.sig_x509.specs.declared.issuer.Issuer.{Issuer}
 use Rattle.sig_x509.specs.declared.issuer.Issuer.TheVariants.{Anchor, Intermediate}
-use Rattle.sig_x509.proofs.PathAnswers.{anchor_issues, anchor_path}
-use Rattle.sig_x509.proofs.IssuedLaws.{issued_from, issued_is}
+use Rattle.sig_x509.proofs.Elements.{contains_at}
 
--- the trust anchor at the index issued c
-abbrev pub IsIssuedAt : Accepts → List Cert → Cert → ℤ → Issuer → Type 0
-IsIssuedAt accepts anchors c t issuer = (index : ℕ) × (x : Cert) × (issuer ≡ Anchor index)
-    × (slice_get anchors index ≡ Some x) × IsIssuedBy accepts c t x
+module _ (accepts : Accepts) (pool : Pool) (c : Cert) (t : ℤ) where
+  -- an anchor in a path issued the leaf, whatever else the pool has
+  pub anchor_issued : (index : ℕ) → (has : HasPath accepts pool c t (Anchor index))
+      → IsIssuedBy accepts c t has.certificate
+  anchor_issued index has =
+      let signed : IsSignedBy accepts c has.certificate =
+      subst (λ (a : Cert). IsSignedBy accepts c a) has.is.1
+      (subst (λ (over : List Cert). AreSignedUp accepts c over has.anchor) has.is.0 has.path.signed) in
+      record { begun = has.path.begun; lasting = has.path.lasting; purpose = has.path.purpose; signed = signed }
 
-none_there : (index : ℕ) (os : List (Option Cert)) (o : Option Cert) → os ≡ [] → slice_get os index ≡ Some o → ⊥
-none_there index os o none got = let wrong = sym (ap (λ (xs : List (Option Cert)). slice_get xs index) none) ∙ got in cc
+  pub issued_has : (index : ℕ) (x : Cert) → slice_get pool.anchors index ≡ Some x → IsIssuedBy accepts c t x
+      → HasPath accepts pool c t (Anchor index)
+  issued_has index x got is = record {
+    certificate = x;
+    there = got;
+    over = [];
+    anchor = x;
+    path = record {
+      begun = is.begun;
+      lasting = is.lasting;
+      purpose = is.purpose;
+      few = omega arith;
+      trusted = contains_at pool.anchors index x got;
+      given = λ others y at. absurd cc;
+      may_issue = λ others y at. absurd cc;
+      path_length = λ others y at. absurd cc;
+      signed = is.signed;
+    };
+    is = (refl, refl);
+  }
 
-pub alone : (accepts : Accepts) (pool : Pool) (c : Cert) (t : ℤ) → pool.intermediates ≡ [] → (issuer : Issuer)
-    → HasPath accepts pool c t issuer ↔ IsIssuedAt accepts pool.anchors c t issuer
-alone accepts pool c t none issuer = (to issuer, from)
-  where
-    to : (i : Issuer) → HasPath accepts pool c t i → IsIssuedAt accepts pool.anchors c t i
-    to (Anchor index) has = (
-      index,
-      has.certificate,
-      refl,
-      has.there,
-      issued_from accepts c t has.certificate (anchor_issues accepts pool c t index has),
-    )
-    to (Intermediate index) has =
-        by has.over has.path has.is.1
+  module _ (none : pool.intermediates ≡ []) where
+    none_through : (index : ℕ) → ¬ HasPath accepts pool c t (Intermediate index)
+    none_through index has = by has.over has.path has.is.1
       where
-        by : (over : List Cert) → IsPath accepts pool c t over has.anchor → over ≡ has.certificate ∷ has.is.0
-            → IsIssuedAt accepts pool.anchors c t (Intermediate index)
+        by : (over : List Cert) → IsPath accepts pool c t over has.anchor → over ≡ has.certificate ∷ has.is.0 → ⊥
         by over path same =
             let given : Contains pool.intermediates (Some has.certificate) =
             path.given zero has.certificate (ap (λ (xs : List Cert). slice_get xs zero) same) in
-            absurd (omega (arith, given.1, ap (λ (xs : List (Option Cert)). length xs) none))
+            omega (arith, given.1, ap (λ (xs : List (Option Cert)). length xs) none)
 
-    from : IsIssuedAt accepts pool.anchors c t issuer → HasPath accepts pool c t issuer
-    from at =
-        subst (λ (i : Issuer). HasPath accepts pool c t i) (sym at.2)
-        (anchor_path accepts pool c t at.0 at.1 at.3 (issued_is accepts c t at.1 at.4))
+    path_issued : (issuer : Issuer) → HasPath accepts pool c t issuer → IsIssuedAt accepts pool.anchors c t issuer
+    path_issued (Anchor index) has = (index, has.certificate, refl, has.there, anchor_issued index has)
+    path_issued (Intermediate index) has = absurd (none_through index has)
+
+    issued_path : (issuer : Issuer) → IsIssuedAt accepts pool.anchors c t issuer → HasPath accepts pool c t issuer
+    issued_path issuer at =
+        subst (λ (i : Issuer). HasPath accepts pool c t i) (sym at.2) (issued_has at.0 at.1 at.3 at.4)
+
+    pub alone : (issuer : Issuer) → HasPath accepts pool c t issuer ↔ IsIssuedAt accepts pool.anchors c t issuer
+    alone issuer = (path_issued issuer, issued_path issuer)
+
+    first_issued : (issuer : Issuer) → IsFirstInPath accepts pool c t issuer
+        → IsFirstIssuedAt accepts pool.anchors c t issuer
+    first_issued (Anchor index) is = (
+      index,
+      is.path.certificate,
+      refl,
+      is.path.there,
+      anchor_issued index is.path,
+      λ earlier y lt got issued. is.first (Anchor earlier) lt (issued_has earlier y got issued),
+    )
+    first_issued (Intermediate index) is = absurd (none_through index is.path)
+
+    issued_first : (issuer : Issuer) → IsFirstIssuedAt accepts pool.anchors c t issuer
+        → IsFirstInPath accepts pool c t issuer
+    issued_first issuer at =
+        subst (λ (i : Issuer). IsFirstInPath accepts pool c t i) (sym at.2)
+        (record { path = issued_has at.0 at.1 at.3 at.4; first = earlier })
+      where
+        earlier : (other : Issuer) → IsBefore other (Anchor at.0) → ¬ HasPath accepts pool c t other
+        earlier (Anchor k) lt has = at.5 k has.certificate lt has.there (anchor_issued k has)
+        earlier (Intermediate k) lt has = lt
+
+    pub first_alone : (issuer : Issuer)
+        → IsFirstInPath accepts pool c t issuer ↔ IsFirstIssuedAt accepts pool.anchors c t issuer
+    first_alone issuer = (first_issued issuer, issued_first issuer)
+
+    no_path_issued : HasNoPath accepts pool c t → IsIssuedByNone accepts c t pool.anchors
+    no_path_issued nowhere index x got issued = nowhere (Anchor index) (issued_has index x got issued)
+
+    issued_no_path : IsIssuedByNone accepts c t pool.anchors → HasNoPath accepts pool c t
+    issued_no_path unissued (Anchor index) has = unissued index has.certificate has.there (anchor_issued index has)
+    issued_no_path unissued (Intermediate index) has = none_through index has
+
+    pub none_alone : HasNoPath accepts pool c t ↔ IsIssuedByNone accepts c t pool.anchors
+    none_alone = (no_path_issued, issued_no_path)

@@ -3,6 +3,7 @@ pub mod Candidates
 pub mod Issuance
 pub mod Issued
 pub mod Path
+pub mod PathPlaces
 pub mod PathSearch
 pub mod PathText
 pub mod Pool

@@ -11,6 +11,7 @@ mod asked;
 mod candidates;
 mod issuance;
 mod issuer;
+pub mod laws;
 mod links;
 mod pool;
 mod search;
