@@ -1,78 +1,77 @@
-"""What sigverify-bundle does: it reads its words, and makes the request."""
+"""What sigverify-bundle does: it reads its words, and makes the request of each artifact."""
 import codecs
-import datetime
 import hashlib
 import os
 import re
 import stat
+import subprocess
 import sys
 import time
 
-from checked import MOST_BYTES, REFUSED, compact, reply
-from words import misused, named_words, utf8, write
+from checked import MOST_BYTES, REFUSED, SIGVERIFY, answer, compact, reply
+from start import NO_REPLY, reason, say, shown
+from times import seconds_of
+from words import misused, read_words, utf8, write
 
 HELP = """\
-usage: sigverify-bundle --trusted-root FILE --bundle FILE --identity TEXT --issuer TEXT [--now TIME]
-                        [--print-request] [--sigverify PROGRAM] [--] ARTIFACT
+usage: sigverify-bundle --trusted-root FILE [--bundle FILE] --certificate-identity TEXT
+                        --certificate-oidc-issuer URL [--certificate-github-workflow-... TEXT] [--now TIME]
+                        [--print-request] [--sigverify PROGRAM] [--] ARTIFACT ...
+       sigverify-bundle verify-bundle [--staging] ...
        sigverify-bundle --help
 
-Verifies the Sigstore bundle of an artifact.
+Verifies the Sigstore bundles of artifacts, each under the same policy: all of these hold of its certificate.
 
-  --trusted-root FILE  whom to trust: the trusted root of the Sigstore instance
-  --bundle FILE        the bundle that came with the artifact
-  --identity TEXT      who has to have signed: an email, a URI or a name in the certificate
-  --issuer TEXT        by whose word: the OIDC issuer in the certificate
-  --now TIME           as 2023-12-14T00:00:00Z (RFC 3339), or in seconds since 1970; else by the clock
-  --print-request      write the request, with `accepted`, to standard output, and the reply to standard error
-  --sigverify PROGRAM  else that of this repository
-  ARTIFACT             a regular file; after -- also one whose name begins with -
+  --trusted-root FILE             whom to trust: the trusted root of the Sigstore instance, the file trusted_root.json
+                                  that cosign, gh and sigstore-python keep
+  --bundle FILE                   the bundle that came with the artifact; without it, ARTIFACT.sigstore.json
+  --certificate-identity TEXT     or --identity: who has to have signed, an email, a URI or a name
+  --certificate-oidc-issuer URL   or --issuer: by whose word, the OIDC issuer
+  --certificate-github-workflow-trigger, -sha, -name, -repository and -ref TEXT
+                                  the event, commit, name, repository and reference of the workflow that signed
+  --now TIME                      as 2023-12-14T00:00:00Z (RFC 3339), or in seconds since 1970; else by the clock
+  --print-request                 write the request, with `accepted`, to standard output, and the reply to standard
+                                  error; for one artifact
+  --sigverify PROGRAM             else that of this repository
+  ARTIFACT                        a regular file; or its digest, as sha256:HEX or sha512:HEX; or - for standard input.
+                                  After -- all are files, also one whose name begins with -
 
-A value can also be given as --word=VALUE, and one that begins with - has to be. Each word is given at most once.
+A value can also be given as --word=VALUE, and one that begins with - has to be. Each is given at most once. Several
+artifacts have a line each, the reply and then the name. `verify-bundle`, as the first word, is the protocol of
+sigstore-conformance; there --staging changes nothing, since the trusted root is given.
 
-Status: 0 trusted; 1 and 2 not, and the line names the link that fails; 3 there was no reply.
+Status: 0 trusted; 1 and 2 not, and the line names the link that fails; 3 there was no reply. Of several artifacts it is
+that of the first that is not trusted.
 """
 
+# The words, by the rules of a policy.
 
-# The words.
-
-NEEDED = ["--trusted-root", "--bundle", "--identity", "--issuer", "ARTIFACT"]
-VALUED = [*NEEDED[:-1], "--now", "--sigverify"]
-TIME = re.compile("([0-9]{4})-([0-9]{2})-([0-9]{2})[Tt]([0-9]{2}):([0-9]{2}):([0-9]{2})(?:[.][0-9]+)?"
-                  "(?:[Zz]|([+-])([0-9]{2}):([0-9]{2}))")
-EPOCH = datetime.date(1970, 1, 1).toordinal()
-CYCLE = 146097  # the days of 400 years
+RULES = {"identity": "--certificate-identity", "issuer": "--certificate-oidc-issuer",
+         **{rule: f"--certificate-github-workflow-{rule}" for rule in ("trigger", "sha", "name", "repository", "ref")}}
+OTHERS = ["--trusted-root", "--bundle", "--now", "--sigverify"]
+NAMES = {"--identity": RULES["identity"], "--issuer": RULES["issuer"],
+         **{word: word for word in [*RULES.values(), *OTHERS]}}
 
 
-def seconds_at(year, month, day, hour, minute, second, offset):
-    """Seconds since 1970 of a time that is so many minutes before UTC. A leap second, 60, is the last of a month, and
-    counts as the one after it, as in POSIX. Python has no year 0, whose days are those of the year 400."""
-    days = datetime.date(year or 400, month, day).toordinal()
-    if hour > 23 or minute > 59 or second > 60:
-        raise ValueError("hour, minute or second is out of range")
-    seconds = ((days * 24 + hour) * 60 + minute - offset) * 60 + second
-    if second == 60 and (seconds % 86400 != 0 or datetime.date.fromordinal(seconds // 86400).day != 1):
-        raise ValueError("no month ends with this second")
-    return seconds - (EPOCH if year else EPOCH + CYCLE) * 86400
+def words_of(given):
+    """The values by their words, and the artifacts, each with whether it is a file whatever its name is."""
+    is_protocol = given[:1] == ["verify-bundle"]
+    words, artifacts = read_words(given[is_protocol:], NAMES)
+    if "--staging" in words and not is_protocol:
+        misused("--staging is a word after verify-bundle alone")
+    for name in "--trusted-root", RULES["identity"], RULES["issuer"]:
+        if name not in words:
+            misused(f"{name} is missing")
+    if not artifacts:
+        misused("ARTIFACT is missing")
+    if len(artifacts) > 1:
+        for name in "--bundle", "--print-request":
+            if name in words:
+                misused(f"{name} is a word beside one artifact alone, and not {len(artifacts)}")
+    return words, artifacts
 
 
-def seconds_of(text):
-    """Seconds since 1970, from such a number or a time of RFC 3339 section 5.6; a fraction of a second is cut off."""
-    if re.fullmatch("0|[1-9][0-9]{0,18}", text):
-        return int(text)
-    match = TIME.fullmatch(text)
-    if match is None:
-        misused(f"--now takes a time of RFC 3339 as 2023-12-14T00:00:00Z, or seconds since 1970, and not {text}")
-    hours, minutes = int(match[8] or 0), int(match[9] or 0)
-    try:
-        if hours > 23 or minutes > 59:
-            raise ValueError("the offset from UTC is out of range")
-        offset = (hours * 60 + minutes) * (-1 if match[7] == "-" else 1)
-        return seconds_at(*[int(match[place]) for place in range(1, 7)], offset)
-    except (OverflowError, ValueError) as error:
-        return misused(f"--now: there is no time {text}: {error}")
-
-
-# The request.
+# The parts of a request.
 
 def text_of(path):
     """The file's text, or enough of it for a request that is refused as too long."""
@@ -86,12 +85,13 @@ def text_of(path):
         return sys.exit(f"{path} is not UTF-8")
 
 
-def sha256_of(path):
-    """Of a regular file: what came from a pipe was read here, and cannot be installed after it."""
+def sha256_of(path, opened, is_file):
+    """Of all that a stream gives. A file has to be a regular one: what came from a pipe was read here, and cannot be
+    installed after it."""
     digest = hashlib.sha256()
     try:
-        with open(os.open(path, os.O_RDONLY | os.O_NONBLOCK | os.O_NOCTTY), "rb") as artifact:
-            if not stat.S_ISREG(os.fstat(artifact.fileno()).st_mode):
+        with open(opened(), "rb") as artifact:
+            if is_file and not stat.S_ISREG(os.fstat(artifact.fileno()).st_mode):
                 sys.exit(f"{path} is not a regular file")
             while part := artifact.read(1 << 20):
                 digest.update(part)
@@ -100,23 +100,75 @@ def sha256_of(path):
     return digest.hexdigest()
 
 
-def request_of(words):
-    """The request without `accepted`."""
+def digest_of(artifact, is_file):
+    """The digest, as a request has it, and whether a bundle can be beside it."""
+    if not is_file and artifact == "-":
+        return "sha256:" + sha256_of("standard input", lambda: 0, False), False
+    if not is_file and artifact.startswith(("sha256:", "sha512:")):
+        if not re.fullmatch("sha256:[0-9a-fA-F]{64}|sha512:[0-9a-fA-F]{128}", artifact):
+            misused(f"{artifact} is not a digest; for a file of this name put ./ before it")
+        return artifact, False
+    way = os.O_RDONLY | os.O_NONBLOCK | os.O_NOCTTY
+    return "sha256:" + sha256_of(artifact, lambda: os.open(artifact, way), True), True
+
+
+def policy_of(words):
+    """All rules whose words are given. That of the identity names the issuer too."""
+    texts = {rule: utf8(word, words[word]) for rule, word in RULES.items() if word in words}
+    signer = {rule: texts.pop(rule) for rule in ("identity", "issuer")}
+    return {"all": [signer, *({rule: text} for rule, text in texts.items())]}
+
+
+def requests_of(words):
+    """The function that makes the request, without `accepted`, of an artifact."""
     now = seconds_of(words["--now"]) if "--now" in words else int(time.time())
-    signer = {name: utf8(f"--{name}", words[f"--{name}"]) for name in ("identity", "issuer")}
-    return compact({"trustedRoot": text_of(words["--trusted-root"]), "bundle": text_of(words["--bundle"]), "now": now,
-                    "digest": "sha256:" + sha256_of(words["ARTIFACT"]), "policy": {"all": [signer]}})
+    root, policy = text_of(words["--trusted-root"]), policy_of(words)
+
+    def request(artifact, is_file):
+        digest, has_bundle = digest_of(artifact, is_file)
+        if "--bundle" not in words and not has_bundle:
+            misused(f"--bundle is missing: none is beside {artifact}")
+        bundle = text_of(words.get("--bundle", f"{artifact}.sigstore.json"))
+        return compact({"trustedRoot": root, "bundle": bundle, "now": now, "digest": digest, "policy": policy})
+    return request
 
 
 # The runs.
 
 VERIFIED = {0: b"verified [0-9]+ [0-9]+\n", **REFUSED}
+PROGRAM = os.path.join(os.path.dirname(SIGVERIFY), "crates", "sigverify", "out", "sigverify")
+
+
+def program_of(words):
+    """The program for many runs: the launcher looks once whether the program is up to date, and builds it if not."""
+    if "--sigverify" in words or os.environ.get("SIGVERIFY_BUILD") == "quick":
+        return words.get("--sigverify", SIGVERIFY)
+    built = subprocess.run([SIGVERIFY, "--version"], stdin=subprocess.DEVNULL, stdout=subprocess.DEVNULL)
+    if built.returncode != 0:
+        sys.exit(f"no reply: {SIGVERIFY} --version ended with status {built.returncode}")
+    return PROGRAM
+
+
+def line_of(program, request, artifact, is_file):
+    """The line of one of several artifacts, and its status; of an end without a reply its reason, on standard error."""
+    name = os.fsencode(artifact).decode("utf-8", "backslashreplace")
+    try:
+        _, line, status = answer(program, "verify", request(artifact, is_file), VERIFIED)
+    except SystemExit as error:
+        say("sigverify-bundle", f"{name}: {reason(error)}")
+        return NO_REPLY
+    write(1, line.rstrip(b"\n") + f" {shown(name)}\n".encode())
+    return status
 
 
 def main(given):
-    """The status of the reply, once that is written."""
+    """The status of the reply, once that is written; of several, that of the first that is not trusted."""
     if given in (["--help"], ["-h"]):
         write(1, HELP.encode())
         return 0
-    words = named_words(given, VALUED, NEEDED)
-    return reply(words, "verify", request_of(words), VERIFIED)
+    words, artifacts = words_of(given)
+    request = requests_of(words)
+    if len(artifacts) == 1:
+        return reply(words, "verify", request(*artifacts[0]), VERIFIED)
+    program = program_of(words)
+    return next(filter(None, [line_of(program, request, *each) for each in artifacts]), 0)

@@ -6,7 +6,7 @@ import subprocess
 import sys
 
 from genuine import is_genuine
-from words import misused, named_words, write
+from words import misused, read_words, write
 
 MOST_BYTES = 1 << 24  # of a request
 SIGVERIFY = os.path.join(os.path.dirname(os.path.realpath(__file__)), "..", "..", "sigverify")
@@ -97,8 +97,12 @@ def main(given):
     if given in (["--help"], ["-h"]):
         write(1, (HELP % ", ".join(REPLIES)).encode())
         return 0
-    words = named_words(given, ["--sigverify"], ["COMMAND"])
-    command = words["COMMAND"]
+    words, unnamed = read_words(given, {"--sigverify": "--sigverify"})
+    if "--staging" in words:
+        misused("--staging is not a word here")
+    if len(unnamed) != 1:
+        misused("COMMAND is given twice" if unnamed else "COMMAND is missing")
+    [[command, _]] = unnamed
     if command not in REPLIES:
         misused(f"{command} is not a command here: {', '.join(REPLIES)}")
     return reply(words, command, given_request(), REPLIES[command])

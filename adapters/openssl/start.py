@@ -49,10 +49,14 @@ def reason(error):
     return f"{type(error).__name__}: {error}"
 
 
+def shown(message):
+    """A text on one line: what is not printable, such as the end of a line in a file's name, is escaped."""
+    return "".join(each if each.isprintable() else ascii(each)[1:-1] for each in message)
+
+
 def say(adapter, message):
-    """One line on standard error. What is not printable, such as the end of a line in a file's name, is escaped."""
-    line = "".join(each if each.isprintable() else ascii(each)[1:-1] for each in message)
-    os.write(2, f"{adapter}: {line}\n".encode())
+    """One line on standard error."""
+    os.write(2, f"{adapter}: {shown(message)}\n".encode())
 
 
 def run(adapter, modules, words):

@@ -10,6 +10,7 @@ from signed import Signed
 from test_common import ADAPTER, HERE, VERIFIED, compare_end, file_of, program_that, run, words_of
 
 PYTHON = "/usr/bin/python3"
+FILES = "sigverify-bundle", "start.py", "genuine.py", "words.py", "times.py", "checked.py", "bundle.py"
 # By which OpenSSL has no algorithm.
 OPENSSL_SETTINGS = b"openssl_conf = all\n[all]\nproviders = named\n[named]\nbase = on\n[on]\nactivate = 1\n"
 FORGED = "import os\nos.write(1, b'verified 2 5\\n')\nos._exit(0)\n"
@@ -142,8 +143,8 @@ def check_imports(results, program):
     with tempfile.TemporaryDirectory() as folder:
         signed.write(folder, Signed())
         there = os.path.join(folder, "sigverify-bundle")
-        for name in "genuine", "words", "checked", "bundle":
-            for each in "sigverify-bundle", "start.py", "words.py", "checked.py", "bundle.py", "genuine.py":
+        for name in "genuine", "words", "times", "checked", "bundle":
+            for each in FILES:
                 shutil.copy(os.path.join(HERE, each), folder)
             for does, said in {**RAISED, SPEECHLESS: ""}.items():
                 file_of(folder, f"{name}.py", does.encode())
@@ -154,7 +155,7 @@ def check_imports(results, program):
                 results.compare(f"{name}.py does: {does} ({done.stderr})", gave, (3, b"", 1 if said else 0, True))
         with open(os.path.join(HERE, "genuine.py"), encoding="utf-8") as file:
             older = file.read().replace("import InvalidSignature,", "import Absent, InvalidSignature,")
-        for each in "start.py", "words.py", "checked.py", "bundle.py":
+        for each in FILES[1:]:
             shutil.copy(os.path.join(HERE, each), folder)
         file_of(folder, "genuine.py", older.encode())
         done = subprocess.run([there, *words_of(folder, program)], capture_output=True)
@@ -187,8 +188,8 @@ def planted(folder):
     for package in "cryptography", "encodings", "importlib":
         os.mkdir(os.path.join(folder, package))
         file_of(folder, os.path.join(package, "__init__.py"), FORGED.encode())
-    for name in ("sitecustomize", "usercustomize", "start", "genuine", "words", "checked", "bundle", "json", "re", "os",
-                 "subprocess", "hashlib"):
+    for name in ("sitecustomize", "usercustomize", "start", "genuine", "words", "times", "checked", "bundle", "json", "re",
+                 "os",                 "subprocess", "hashlib"):
         file_of(folder, f"{name}.py", FORGED.encode())
     file_of(folder, "bash_env", b"echo verified 2 5; exit 0\n")
     file_of(folder, "openssl.cnf", OPENSSL_SETTINGS)

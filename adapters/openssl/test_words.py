@@ -56,15 +56,16 @@ def check_misuse(results, program):
             compare_end(results, f"and {more}", given + more, "see --help")
             compare_end(results, f"{more} before", more + given, "see --help")
         for at, word in enumerate(given):
-            compare_end(results, f"{word} twice", given + [word], "twice")
             name, equals, value = word.partition("=")
+            compare_end(results, f"{word} twice", given + [word], "twice" if equals else "beside one artifact alone")
             if equals:
                 compare_end(results, f"{name} of nothing", [*given[:at], name + "=", *given[at + 1:]], "is empty")
                 compare_end(results, f"{name} at the end", [*given[:at], *given[at + 1:], name], "needs a value")
                 compare_end(results, f"{name} -- ", [*given[:at], *given[at + 1:], name, "--bundle"], "needs a value")
                 compare_end(results, f"{name}, then {word}", given + [name, value], "twice")
-        for missing in "trusted_root", "bundle", "identity", "issuer":
+        for missing in "trusted_root", "identity", "issuer":
             compare_end(results, f"no {missing}", words_of(folder, program, **{missing: None}), "is missing")
+        compare_end(results, "no bundle", words_of(folder, program, bundle=None), "artifact.sigstore.json: No such file")
         compare_end(results, "no artifact", given[:-1], "ARTIFACT is missing")
         compare_end(results, "-- and no artifact", given[:-1] + ["--"], "ARTIFACT is missing")
         compare_end(results, "no words", [], "is missing")
@@ -87,7 +88,7 @@ def check_names(results, program):
                 file.write(b"changed")
             gave = run([*given, "--", name], cwd=folder)
             results.compare(f"the changed artifact {name!r}", gave, (1, "refused subject\n", ""))
-            if os.fsencode(name)[:1] == b"-":
+            if os.fsencode(name)[:1] == b"-" and name != "-":  # which is standard input
                 compare_end(results, f"no -- before {name!r}", given + [name], "see --help", cwd=folder)
         split = [part for word in given for part in word.split("=", 1)]
         results.compare("values that stand apart", run(split + [artifact]), (0, VERIFIED + "\n", ""))

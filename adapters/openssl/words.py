@@ -17,10 +17,11 @@ def misused(message):
     sys.exit(f"{message}; see --help")
 
 
-def named_words(given, valued, needed):
-    """The values by their words' names: `valued` are those that take one, and the last of the `needed` has no name.
-    Nothing is guessed: what begins with - is a word of the help, or follows --."""
-    found, rest = {}, iter(given)
+def read_words(given, names):
+    """The values by their names, and the words without one, each with whether it follows --. `names` has for each word
+    that takes a value the name of the value, which is given once, by one of its words. Nothing is guessed: what begins
+    with - and has more is a word of the help, or follows --."""
+    found, unnamed, rest = {}, [], iter(given)
 
     def keep(name, value):
         if name in found:
@@ -32,23 +33,21 @@ def named_words(given, valued, needed):
     for word in rest:
         name, equals, value = word.partition("=")
         if word == "--":
-            for unnamed in rest:
-                keep(needed[-1], unnamed)
-        elif not word.startswith("-"):
-            keep(needed[-1], word)
-        elif word == "--print-request":
+            unnamed += [(each, True) for each in rest]
+        elif not word.startswith("-") or word == "-":
+            unnamed.append((word, False))
+        elif word in ("--print-request", "--staging"):
             keep(word, word)
-        elif name not in valued:
-            misused(f"{word} is not a word here, or not beside others; for {needed[-1]} put -- before it")
+        elif name not in names:
+            misused(f"{word} is not a word here, or not beside others; for a name put -- before it")
         else:
             value = value if equals else next(rest, "-")
             if not equals and value.startswith("-"):
                 misused(f"{name} needs a value, and one that begins with - as {name}=VALUE")
-            keep(name, value)
-    for name in needed:
-        if name not in found:
-            misused(f"{name} is missing")
-    return found
+            keep(names[name], value)
+    if any(word == "" for word, _ in unnamed):
+        misused("a word is empty")
+    return found, unnamed
 
 
 def utf8(name, word):

@@ -1,0 +1,134 @@
+"""The forms in which sigverify-bundle takes artifacts and policies: digests, standard input, several artifacts, the
+words of cosign, and the protocol of sigstore-conformance."""
+import itertools
+import os
+import tempfile
+
+import signed
+from signed import IDENTITY, ISSUER, NOW, WORKFLOW, Signed
+from test_common import VERIFIED, compare_end, file_of, run, words_of
+
+RULES = {f"--certificate-github-workflow-{rule}": text for rule, text in WORKFLOW.items()}
+
+
+def check_policies(results, program):
+    """Each rule by its word, alone and all together; with another text it does not hold."""
+    with tempfile.TemporaryDirectory() as folder:
+        signed.write(folder, Signed())
+        short = words_of(folder, program)
+        long = [word.replace("--identity", "--certificate-identity").replace("--issuer", "--certificate-oidc-issuer")
+                for word in short]
+        results.compare("cosign's words", run(long), (0, VERIFIED + "\n", ""))
+        every = [f"{word}={text}" for word, text in RULES.items()]
+        results.compare("all rules", run(every + long), (0, VERIFIED + "\n", ""))
+        for word, text in RULES.items():
+            results.compare(f"{word}", run([word, text, *short]), (0, VERIFIED + "\n", ""))
+            for other in text + "x", text[:-1], text.upper() + "-":
+                results.compare(f"{word} {other}", run([f"{word}={other}", *short]), (1, "refused policy\n", ""))
+            others = [each for each in every if not each.startswith(word + "=")]
+            results.compare(f"another {word}", run([*others, f"{word}=x", *long]), (1, "refused policy\n", ""))
+            compare_end(results, f"{word} twice", [f"{word}={text}", f"{word}={text}", *short], "twice")
+        for name, value in ("--certificate-identity", IDENTITY), ("--certificate-oidc-issuer", ISSUER):
+            compare_end(results, f"{name} beside its short form", [name, value, *short], "twice")
+
+
+def check_digests(results, program):
+    for content in "envelope", "message":
+        made = Signed(content=content)
+        with tempfile.TemporaryDirectory() as folder:
+            signed.write(folder, made)
+            file_of(folder, "sha256:x", made.artifact)
+            hexed, link = made.digest.hex(), "subject" if content == "envelope" else "signature"
+            for artifact, wanted in [(f"sha256:{hexed}", VERIFIED), (f"sha256:{hexed.upper()}", VERIFIED),
+                                     (f"sha256:{hexed[:-1]}{'1' if hexed[-1] == '0' else '0'}", f"refused {link}")]:
+                gave = run(words_of(folder, program, artifact=artifact))
+                results.compare(artifact, gave, (0 if wanted == VERIFIED else 1, wanted + "\n", ""))
+            wide = run(words_of(folder, program, artifact="sha512:" + "b" * 128))
+            results.compare(f"SHA-512, {content}", wide[0] in (0, 1) and wide[2] == "", True)
+            for artifact in ("sha256:", "sha512:", f"sha256:{hexed}0", f"sha256:{hexed[1:]}", f"sha512:{hexed}",
+                             f"sha256:{hexed[:-1]}g", f"sha256: {hexed[1:]}", "sha256:x"):
+                words = words_of(folder, program, artifact=artifact)
+                compare_end(results, artifact, words, "put ./ before it", cwd=folder)
+            for more in ["./sha256:x"], ["--", "sha256:x"]:
+                gave = run([*words_of(folder, program)[:-1], *more], cwd=folder)
+                results.compare(f"a file named as a digest, {more}", gave, (0, VERIFIED + "\n", ""))
+            words = words_of(folder, program, artifact=f"sha256:{hexed}", bundle=None)
+            compare_end(results, "a digest without a bundle", words, "--bundle is missing")
+
+
+def check_input(results, program):
+    made = Signed()
+    with tempfile.TemporaryDirectory() as folder:
+        signed.write(folder, made)
+        words = words_of(folder, program, artifact="-")
+        results.compare("standard input", run(words, input=made.artifact), (0, VERIFIED + "\n", ""))
+        for other in b"", made.artifact[:-1], made.artifact + b"\0":
+            results.compare("other input", run(words, input=other), (1, "refused subject\n", ""))
+        without = words_of(folder, program, artifact="-", bundle=None)
+        compare_end(results, "input without a bundle", without, "--bundle is missing", input=b"")
+        compare_end(results, "closed", words, "standard input: ", start=["/bin/sh", "-c", 'exec "$@" <&-', "sh"])
+        compare_end(results, "twice", words + ["-"], "one artifact alone", input=b"")
+
+
+def several(folder, names):
+    """Artifacts of these names, each with its bundle beside it, all under one trusted root."""
+    for name in names:
+        made = Signed(artifact=f"the artifact {name}".encode())
+        file_of(folder, name, made.artifact)
+        file_of(folder, name + ".sigstore.json", signed.compact(made.bundle()).encode())
+        file_of(folder, "trusted_root.json", signed.compact(made.trusted_root()).encode())
+
+
+def check_several(results, program):
+    """One line each, and the status of the first that is not trusted."""
+    with tempfile.TemporaryDirectory() as folder:
+        several(folder, ["a", "b", "c d", "e\nf", "-g"])
+        given = [word for word in words_of(folder, program, bundle=None)[:-1]]
+        wanted = "".join(f"{VERIFIED} {name}\n" for name in ("a", "b", "c d", "e\\nf", "-g"))
+        every = [*given, "--", "a", "b", "c d", "e\nf", "-g"]
+        results.compare("all trusted", run(every, cwd=folder), (0, wanted, ""))
+        results.compare("one, its bundle beside it", run([*given, "b"], cwd=folder), (0, VERIFIED + "\n", ""))
+        file_of(folder, "b", b"changed")
+        wanted = wanted.replace(f"{VERIFIED} b\n", "refused subject b\n")
+        results.compare("one changed", run(every, cwd=folder), (1, wanted, ""))
+        os.remove(os.path.join(folder, "c d"))
+        status, lines, said = run(every, cwd=folder)
+        wanted = wanted.replace(f"{VERIFIED} c d\n", "")
+        gave = status, lines, said.count("\n"), "c d: No such file" in said
+        results.compare("one absent, after it", gave, (1, wanted, 1, True))
+        status, lines, said = run([*given, "a", "c d", "b"], cwd=folder)
+        results.compare("one absent, before it", (status, lines), (3, f"{VERIFIED} a\nrefused subject b\n"))
+        for word in "--print-request", "--bundle=a.sigstore.json":
+            compare_end(results, word, [*given, word, "a", "b"], "one artifact alone", cwd=folder)
+        status, lines, said = run([*given, "a", "sha256:" + "0" * 64], cwd=folder)
+        gave = status, lines, "--bundle is missing" in said
+        results.compare("a digest among them", gave, (3, f"{VERIFIED} a\n", True))
+
+
+def check_protocol(results, program):
+    """sigstore-conformance: verify-bundle [--staging] --bundle FILE --certificate-identity ID
+    --certificate-oidc-issuer URL [--trusted-root FILE] FILE_OR_DIGEST."""
+    for content, title in itertools.product(["envelope", "message"], [None, *signed.LINKS]):
+        made = Signed(content=content, spoiled=title)
+        wanted = (0, VERIFIED + "\n", "") if title is None else (1, f"refused {signed.LINKS[title]}\n", "")
+        with tempfile.TemporaryDirectory() as folder:
+            signed.write(folder, made)
+            bundle, root, artifact = [os.path.join(folder, name) for name in ("bundle.json", "trusted_root.json", "artifact")]
+            given = ["--bundle", bundle, "--certificate-identity", IDENTITY, "--certificate-oidc-issuer", ISSUER,
+                     "--trusted-root", root]
+            for staging, named in itertools.product([[], ["--staging"]], [artifact, "sha256:" + made.digest.hex()]):
+                words = ["verify-bundle", *staging, *given, named, f"--sigverify={program}", f"--now={NOW}"]
+                results.compare(f"the protocol, {content}, {title}, {staging}", run(words), wanted)
+
+
+def check_protocol_misused(results, program):
+    with tempfile.TemporaryDirectory() as folder:
+        signed.write(folder, Signed())
+        given, rootless = words_of(folder, program), words_of(folder, program, trusted_root=None)
+        for words, said in [(["--staging", *given], "after verify-bundle alone"), (["verify-bundle", "--key=x", *given], "not a word"),
+                            (["verify-bundle", "--staging", *rootless], "--trusted-root is missing"),
+                            ([*given, "verify-bundle"], "one artifact alone")]:
+            compare_end(results, f"the protocol, {said}", words, said)
+
+
+PARTS = check_policies, check_digests, check_input, check_several, check_protocol, check_protocol_misused
