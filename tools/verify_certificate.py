@@ -1,7 +1,7 @@
 """What `verify` asks of certificates, in the plainest way: extensions, profiles, SCTs, keys and policies, for tools/verify_links.py.
 
 Written from RFC 5280 (certificates), X.690 (DER), RFC 6962 section 3 (SCTs), RFC 5480, RFC 3279 and RFC 8410 (keys), RFC 7468 (PEM) and Fulcio's
-list of object identifiers. A certificate is cut into its fields by tools/x509_cases.py, whose reader this one continues.
+list of object identifiers. A certificate is cut into its fields by tools/x509_reader.py, which this one continues.
 """
 import base64
 import hashlib
@@ -9,7 +9,7 @@ import textwrap
 from types import SimpleNamespace
 
 import der_cases as der
-import x509_cases as x509
+import x509_reader as x509
 from fixture import oid
 from rekor_cases import debug
 
@@ -18,7 +18,7 @@ def sha256(content):
     return hashlib.sha256(content).digest()
 
 
-# Certificates, as the reader of tools/x509_cases.py reads them, and the values of their extensions (RFC 5280 section 4.2).
+# Certificates, as tools/x509_reader.py reads them, and the values of their extensions (RFC 5280 section 4.2).
 
 KEY_USAGE, ALTERNATIVE_NAME, BASIC_CONSTRAINTS = b"\x55\x1d\x0f", b"\x55\x1d\x11", b"\x55\x1d\x13"
 NAME_CONSTRAINTS, EXTENDED_KEY_USAGE = b"\x55\x1d\x1e", b"\x55\x1d\x25"
