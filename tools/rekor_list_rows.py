@@ -54,6 +54,9 @@ def signatures(*raws):
     return notes.NOTE + "\n" + "\n".join(map(line, raws))
 
 
+ROOT64 = base64.b64encode(notes.ROOT).decode()
+
+
 def digest(number):
     return hashlib.sha256(str(number).encode()).digest()
 
@@ -99,6 +102,19 @@ for text in models.AT_FAULT[1:]:
     case("borrowed", text)
 for text in ("o", " \n1\nx", "o\nx\nx", "o\n1\nx", "o\n1\nAAAA"):
     case("borrowed_text", text)
+say("A line of three hundred letters: without a dash, with too few parts and with too many, no base64, a short fingerprint; and none of these.")
+WIDE_NAME, DASH = "n" * COUNT, "\u2014"
+for text in (WIDE_NAME, DASH + WIDE_NAME, f"{DASH} {WIDE_NAME}", " ".join([DASH, *"n" * COUNT]), f"{DASH} {WIDE_NAME} %", f"{DASH} n {'A' * 301}",
+             f"{DASH} {WIDE_NAME} AQID", f"{DASH} {WIDE_NAME} AQIDBA==", f"{DASH} n {'A' * COUNT}", f"{DASH}{WIDE_NAME} n AQIDBA=="):
+    case("signature", text)
+    for call in ("checkpoint", "borrowed"):
+        case(call, f"{notes.NOTE}\n{text}\n")
+for text in (WIDE_NAME, f"{' ' * COUNT}\n1\n{ROOT64}", f"o\n{'9' * COUNT}\n{ROOT64}", f"o\n{WIDE_NAME}\n{ROOT64}", f"o\n1\n{WIDE_NAME}%",
+             f"o\n1\n{'A' * COUNT}", f"{WIDE_NAME}\n{'0' * COUNT}1\n{ROOT64}\n{WIDE_NAME}: {WIDE_NAME}\n"):
+    for call in ("note", "note_text", "borrowed_text"):
+        case(call, text)
+    for call in ("checkpoint", "borrowed"):
+        case(call, f"{text}\n\n{DASH} n AQIDBA==\n")
 say("Three hundred signatures over a note of three hundred contents: the first accepted, the last, none.")
 MESSAGE = CONTENTS.encode()
 for call in ("signed", "borrowed_signed"):
