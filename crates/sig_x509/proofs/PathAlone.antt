@@ -7,7 +7,7 @@ use Rattle.sig_x509.specs.Issuance.{Accepts}
 use Rattle.sig_x509.specs.Issued.{IsIssuedBy, IsIssuedByNone, IsSignedBy}
 use Rattle.sig_x509.specs.Path.{AreSignedUp, HasNoPath, HasPath, IsFirstInPath, IsPath}
 use Rattle.sig_x509.specs.PathPlaces.{IsFirstIssuedAt, IsIssuedAt}
-use Rattle.sig_x509.specs.Pool.{Pool, IsBefore}
+use Rattle.sig_x509.specs.Pool.{Pool, IsBefore, certificate_of}
 use Rattle.sig_x509.specs.declared.issuer.Issuer.{Issuer}
 use Rattle.sig_x509.specs.declared.issuer.Issuer.TheVariants.{Anchor, Intermediate}
 use Rattle.sig_x509.proofs.Elements.{contains_at}
@@ -21,6 +21,18 @@ module _ (accepts : Accepts) (pool : Pool) (c : Cert) (t : ℤ) where
       subst (λ (a : Cert). IsSignedBy accepts c a) has.is.1
       (subst (λ (over : List Cert). AreSignedUp accepts c over has.anchor) has.is.0 has.path.signed) in
       record { begun = has.path.begun; lasting = has.path.lasting; purpose = has.path.purpose; signed = signed }
+
+  -- so did an intermediate
+  pub issuer_issued : (issuer : Issuer) → HasPath accepts pool c t issuer
+      → (x : Cert) × (certificate_of pool issuer ≡ Some x) × IsIssuedBy accepts c t x
+  issuer_issued (Anchor index) has = (has.certificate, has.there, anchor_issued index has)
+  issuer_issued (Intermediate index) has =
+      let signed : IsSignedBy accepts c has.certificate =
+      (subst (λ (over : List Cert). AreSignedUp accepts c over has.anchor) has.is.1 has.path.signed).0 in (
+        has.certificate,
+        has.there,
+        record { begun = has.path.begun; lasting = has.path.lasting; purpose = has.path.purpose; signed = signed },
+      )
 
   pub issued_has : (index : ℕ) (x : Cert) → slice_get pool.anchors index ≡ Some x → IsIssuedBy accepts c t x
       → HasPath accepts pool c t (Anchor index)

@@ -8,13 +8,13 @@ ghost use Rattle.sig_x509.specs.Issuance.{Accepts};
 ghost use Rattle.sig_x509.specs.Issued.{IsIssuedBy, IsIssuedByNone, IsSignedBy};
 ghost use Rattle.sig_x509.specs.Path.{HasNoPath, HasPath, IsFirstInPath, IsIssuerIn, IsPath};
 ghost use Rattle.sig_x509.specs.PathPlaces.{HasRoomFor, IsFirstIssuedAt, IsIssuedAt, IsLast, trusting};
-ghost use Rattle.sig_x509.specs.Pool.{Pool};
+ghost use Rattle.sig_x509.specs.Pool.{Pool, certificate_of};
 ghost use Rattle.sig_x509.specs.declared.issuer.Issuer.{Issuer};
 
 /// A path over no intermediates is issuance by a trust anchor. A path over some is a path to the last of them, as if it
 /// were trusted, which the trust anchor signed, and which may issue others, with room for as many as come before it. So
 /// no path goes over more than six, and the certificate with `others` before it has no path length, or one of at least
-/// `others`.
+/// `others`. The issuer in a path issued the leaf.
 pub fn path_laws()
     ensures direct { (accepts : Accepts) (pool : Pool) (c : Cert) (t : ℤ) (anchor : Cert)
         → IsPath accepts pool c t [] anchor ↔ (IsIssuedBy accepts c t anchor × Contains pool.anchors anchor) }
@@ -26,6 +26,9 @@ pub fn path_laws()
     ensures path_length { (accepts : Accepts) (pool : Pool) (c : Cert) (t : ℤ) (over : List Cert) (anchor : Cert)
         → IsPath accepts pool c t over anchor
         → (others : ℕ) (x : Cert) → slice_get over others ≡ Some x → HasRoomFor x others }
+    ensures issuer { (accepts : Accepts) (pool : Pool) (c : Cert) (t : ℤ) (issuer : Issuer)
+        → HasPath accepts pool c t issuer
+        → (x : Cert) × (certificate_of pool issuer ≡ Some x) × IsIssuedBy accepts c t x }
 {}
 
 /// A certificate may come twice in a path, as one that signed itself does. What comes between adds nothing: without it

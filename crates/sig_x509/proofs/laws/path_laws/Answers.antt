@@ -1,3 +1,4 @@
+use Rattle.sig_x509.proofs.PathAlone.{issuer_issued}
 use Rattle.sig_x509.proofs.PlaceLaws.{longer, room_at, shorter}
 use Rattle.sig_x509.proofs.laws.path_laws.Goals as goal
 
@@ -7,3 +8,6 @@ returns-clause-longer c accepts pool leaf t below x anchor =
 
 pub returns-clause-path_length : goal.returns-clause-path_length
 returns-clause-path_length c = room_at
+
+pub returns-clause-issuer : goal.returns-clause-issuer
+returns-clause-issuer c = issuer_issued
