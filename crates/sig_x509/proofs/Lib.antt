@@ -4,6 +4,10 @@ pub mod PathAlone
 pub mod PathAnswers
 pub mod PathAsked
 pub mod AnchorLaws
+pub mod Bits
+pub mod PossibleRows
+mod PossibleLists
+pub mod PossibleLaws
 mod AskedSoFar
 mod Counts
 mod CycleLaws

@@ -13,7 +13,7 @@ use Rattle.sig_x509.specs.declared.issuer.Issuer.{Issuer}
 use Rattle.sig_x509.proofs.PathAnswers.{failed_has_none, first_is_issued, has_or_not, issued_is_first, none_is_failed}
 use Rattle.sig_x509.proofs.PathAnswers.{profiled, unprofiled}
 
-every_genuine : (accepts : Accepts) (c : Cert) (over : List Cert) (anchor : Cert) → AreSignedUp accepts c over anchor
+pub every_genuine : (accepts : Accepts) (c : Cert) (over : List Cert) (anchor : Cert) → AreSignedUp accepts c over anchor
     → AreSignedUp every_signature c over anchor
 every_genuine accepts c [] anchor is = record { issuer = is.issuer; genuine = refl }
 every_genuine accepts c (x ∷ xs) anchor is =
@@ -27,7 +27,7 @@ also_signed : (accepts other : Accepts) (y x : Cert) → Agree accepts other y x
     → IsSignedBy other y x
 also_signed accepts other y x agree is = record { issuer = is.issuer; genuine = sym agree ∙ is.genuine }
 
-also_signed_up : (accepts other : Accepts) (c : Cert) (over : List Cert) (anchor : Cert)
+pub also_signed_up : (accepts other : Accepts) (c : Cert) (over : List Cert) (anchor : Cert)
     → ((y x : Cert) → IsNext c over anchor y x → Agree accepts other y x)
     → AreSignedUp accepts c over anchor → AreSignedUp other c over anchor
 also_signed_up accepts other c [] anchor agree is = also_signed accepts other c anchor (agree c anchor (refl, refl)) is

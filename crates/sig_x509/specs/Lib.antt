@@ -7,4 +7,5 @@ pub mod PathPlaces
 pub mod PathSearch
 pub mod PathText
 pub mod Pool
+pub mod Possible
 pub mod Rows

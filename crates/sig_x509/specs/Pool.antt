@@ -24,6 +24,10 @@ with_further pool further = record {
   intermediates = pool.intermediates ++ present further;
 }
 
+-- a pool of these trust anchors and intermediates
+abbrev pub pool_over : List Cert → List Cert → Pool
+pool_over anchors further = record { anchors = anchors; intermediates = present further }
+
 -- ---- what an issuer is
 
 abbrev pub intermediate_in : Option (Option Cert) → Option Cert

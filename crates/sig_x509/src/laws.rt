@@ -9,6 +9,7 @@ ghost use Rattle.sig_x509.specs.Issued.{IsIssuedBy, IsIssuedByNone, IsSignedBy};
 ghost use Rattle.sig_x509.specs.Path.{HasNoPath, HasPath, IsFirstInPath, IsIssuerIn, IsPath};
 ghost use Rattle.sig_x509.specs.PathPlaces.{HasRoomFor, IsFirstIssuedAt, IsIssuedAt, IsLast, trusting};
 ghost use Rattle.sig_x509.specs.Pool.{Pool, certificate_of};
+ghost use Rattle.sig_x509.specs.Possible.{SignaturesAreOfPaths};
 ghost use Rattle.sig_x509.specs.declared.issuer.Issuer.{Issuer};
 
 /// A path over no intermediates is issuance by a trust anchor. A path over some is a path to the last of them, as if it
@@ -57,4 +58,10 @@ pub fn anchor_laws()
         → IsFirstInPath accepts pool c t issuer ↔ IsFirstIssuedAt accepts pool.anchors c t issuer }
     ensures none { (accepts : Accepts) (pool : Pool) (c : Cert) (t : ℤ) → pool.intermediates ≡ []
         → HasNoPath accepts pool c t ↔ IsIssuedByNone accepts c t pool.anchors }
+{}
+
+/// `may_sign` says of the sides that `possible_paths` lists whether a path, which would lead from the leaf to a trust anchor
+/// if every signature were genuine, has the signature of the one under the key of the other.
+pub fn signatures_of_paths()
+    ensures { SignaturesAreOfPaths }
 {}

@@ -14,6 +14,8 @@ mod issuer;
 pub mod laws;
 mod links;
 mod pool;
+mod possible;
+mod reach;
 mod search;
 mod subjects;
 mod table;
@@ -21,6 +23,7 @@ pub mod uncounted;
 
 pub use issuer::Issuer;
 pub use pool::CertificatePool;
+pub use possible::{PossiblePaths, Signed, Signer, may_sign, possible_paths};
 pub use sig_certificate::{
     BasicConstraints, Certificate, CertificateValidationError, ExtensionErrorKind, ExtensionRef,
     KeyUsage, Lookup, NotCAErrorKind, NotLeafErrorKind, PartName, X509ReadError, der_to_pem, is_ca,

@@ -23,7 +23,7 @@ pub(crate) struct Link {
 
 /// Returns how many others may come between the intermediate and the leaf, `None` if that is not limited (RFC 5280
 /// section 4.2.1.9).
-fn most_between(certificate: &Certificate) -> Option<u32>
+pub(crate) fn most_between(certificate: &Certificate) -> Option<u32>
     ensures { result ≡ most_between (constraints certificate.now) }
 {
     match basic_constraints(certificate) {

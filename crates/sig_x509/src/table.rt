@@ -13,7 +13,7 @@ use std::alloc::Global;
 const LONGEST_PATH: u32 = 6;
 
 /// Whether so many others may come between an intermediate with this path length and the leaf.
-fn allows(path_len: Option<u32>, others: u32) -> bool
+pub(crate) fn allows(path_len: Option<u32>, others: u32) -> bool
     ensures { result ≡ allows path_len others }
 {
     match path_len {

@@ -1,0 +1,12 @@
+use Rattle.std.proofs.Common.{map, refl}
+use Rattle.std.proofs.Math.Facts.{to_z-of_z}
+use Rattle.sig_x509.proofs.PossibleLists.{signer_more}
+use Rattle.sig_x509.specs.Possible.{anchor_signer}
+use Rattle.sig_x509.proofs.possible.all_signers.Goals as goal
+
+pub further-preserved : goal.further-preserved
+further-preserved c =
+    signer_more c.args.anchors.now c.args.further.now c.args.leaf.now c.args.time _ (to_z-of_z c.ranges.time)
+    c.args.rows.now c.further.place c.index-further-place.result c.further-test.true c.index-further-place.is
+    c.requires.rows (map anchor_signer c.args.anchors.now) c.further.signers.items c.push-in-further.new.self.items _
+    refl refl c.in_ok-up.ensures c.in_ok-push-2.ensures.items c.further.invariant
