@@ -68,7 +68,7 @@ module _ (k : Checker) (policy : PolicyOf) (trusted : Trusted) (d : ArtifactDige
       → Judged Holds certificate_links (renamed result)
   judged_trusted result is =
       after (Issuance ∷ Issuer ∷ Sct ∷ []) (Policy ∷ Key ∷ Signature ∷ Subject ∷ Body ∷ Time ∷ [])
-      (issued_answer k.cert k.point trusted c.certificate) result (IsVerdictFromPolicy k policy d offline c)
+      (issued_answer k.cert k.point trusted c) result (IsVerdictFromPolicy k policy d offline c)
       (judged_issued k policy trusted d offline c read.sct)
       (by_policy (policy.holds c.certificate) (policy.refusal c.certificate) result refl) is
 

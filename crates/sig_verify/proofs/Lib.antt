@@ -16,6 +16,7 @@ pub mod IssuerVerdicts
 pub mod Issuers
 pub mod JudgedLaws
 pub mod LinkGroups
+pub mod LongerChains
 pub mod OfflineBytes
 pub mod OfflineCauses
 pub mod OfflineLaws

@@ -192,10 +192,10 @@ module _ (o : Outside) (i : Inputs) (root : TrustedRoot) (root_is : trusted_root
       certificates_alike = (
         checked_as (λ trust c. HasProfile c.certificate),
         (
-          checked_as (λ trust c. HasIssuer o.checker trust c.certificate),
+          checked_as (λ trust c. HasIssuer o.checker trust c),
           (
             both_as (λ trust c. HasSignedBytes c.certificate)
-                (λ trust c. IsVouchedFor o.checker trust c.certificate),
+                (λ trust c. IsVouchedFor o.checker trust c),
             (
               checked_as (λ trust c. o.policy.holds c.certificate ≡ true),
               (

@@ -12,7 +12,6 @@ use Rattle.sig_base.specs.declared.scheme.VerifyScheme.{VerifyScheme}
 use Rattle.sig_bundle.specs.BundleRecord.{bundle_in}
 use Rattle.sig_bundle.specs.declared.bundle.Bundle.{Bundle as BundleType}
 use Rattle.sig_bundle.specs.declared.material.TransparencyLogEntry.{TransparencyLogEntry}
-use Rattle.sig_certificate.specs.Certificate.{Cert}
 use Rattle.sig_checked_bundle.specs.Checked.{Checked}
 use Rattle.sig_checked_bundle.specs.Passed.{IsPassed}
 use Rattle.sig_checked_bundle.specs.Refusals.{RefusalsHaveTheirCause}
@@ -26,7 +25,10 @@ use Rattle.sig_root.specs.RootRecord.{trusted_root_in}
 use Rattle.sig_root.specs.declared.record.TrustedRoot.{TrustedRoot}
 use Rattle.sig_timestamp.specs.declared.sct_error.SCTError.{SCTError}
 use Rattle.sig_timestamp.specs.declared.sct_error.SCTError.TheVariants as sct
-use Rattle.sig_x509.specs.Issuance.{IsFirstNoAnchor, issuer_of}
+use Rattle.sig_x509.specs.Issuance.{IsFirstNoAnchor}
+use Rattle.sig_x509.specs.PathSearch.{path_issuer}
+use Rattle.sig_x509.specs.Pool.{Pool, pool_over}
+use Rattle.sig_x509.specs.declared.issuer.Issuer.{Issuer}
 use Rattle.sig_verify.proofs.EntryCauses.{entry_errors_have_their_cause}
 use Rattle.sig_verify.proofs.OfflineLaws.{Groups, one_entry}
 use Rattle.sig_verify.proofs.RootVerdicts.{none_given, some_given}
@@ -34,7 +36,7 @@ use Rattle.sig_verify.specs.ContentCheck.{AcceptsUnder, certificate_key_answer, 
 use Rattle.sig_verify.specs.ContentCheck.{content_answer, or_unsupported, signature_answer}
 use Rattle.sig_verify.specs.EntryCauses.{IsEntryCause}
 use Rattle.sig_verify.specs.Errors.{of_pool, of_sct}
-use Rattle.sig_verify.specs.IssuerCheck.{from_pool, from_sct, issued_answer, issuer_place, issuer_spki, sct_answer}
+use Rattle.sig_verify.specs.IssuerCheck.{from_pool, from_sct, issued_answer, issuer_spki, path_start, sct_answer}
 use Rattle.sig_verify.specs.IssuerCheck.{spki_or_none}
 use Rattle.sig_verify.specs.Links.{Inputs, OfLogged, Outside}
 use Rattle.sig_verify.specs.LogEntry.{log_entry_answer}
@@ -109,8 +111,8 @@ module _ (laws : Groups) (refusals : RefusalsHaveTheirCause) (o : Outside) (i : 
   of_sct_error (sct.Verification e) = tt
   of_sct_error sct.OutOfMemory = tt
 
-  placed : (r : Result ℕ PoolError) (x : VerificationError) → from_pool r ≡ Err x → Is (of_verification x)
-  placed (Ok place) x told = absurd cc
+  placed : (r : Result Issuer PoolError) (x : VerificationError) → from_pool r ≡ Err x → Is (of_verification x)
+  placed (Ok issuer) x told = absurd cc
   placed (Err e) x told = subst (λ (y : VerificationError). Is (of_verification y)) (err_is (of_pool e) x told)
       (of_pool_error e)
 
@@ -124,17 +126,21 @@ module _ (laws : Groups) (refusals : RefusalsHaveTheirCause) (o : Outside) (i : 
   vouched (Err e) x told = subst (λ (y : VerificationError). Is (of_verification y)) (err_is (of_sct e) x told)
       (of_sct_error e)
 
-  issued : (trusted : Trusted) (c : Cert) (x : VerificationError)
+  issued : (trusted : Trusted) (c : Checked) (x : VerificationError)
       → issued_answer o.checker.cert o.checker.point trusted c ≡ Err x → Is (of_verification x)
   issued trusted c x told =
-      elim (bind_err (issuer_spki o.checker.cert trusted.anchors c) _ x told) [
+      elim (bind_err (issuer_spki o.checker.cert over c.certificate) _ x told) [
         | inl none ↦ unissued none
-        | inr some ↦ vouched (sct_answer o.checker.point trusted.ring c some.0) x some.2
+        | inr some ↦ vouched (sct_answer o.checker.point trusted.ring c.certificate some.0) x some.2
       ] where
-        unissued : issuer_spki o.checker.cert trusted.anchors c ≡ Err x → Is (of_verification x)
+        over : Pool
+        over = pool_over trusted.anchors c.further
+
+        unissued : issuer_spki o.checker.cert over c.certificate ≡ Err x → Is (of_verification x)
         unissued none =
-            elim (bind_err (issuer_place o.checker.cert trusted.anchors c) _ x none) [
-              | inl unplaced ↦ placed (issuer_of o.checker.cert trusted.anchors c c.not_before) x unplaced
+            elim (bind_err (path_start o.checker.cert over c.certificate) _ x none) [
+              | inl unplaced ↦
+                  placed (path_issuer o.checker.cert over c.certificate c.certificate.not_before) x unplaced
               | inr some ↦ keyed _ x some.2
             ]
 
@@ -224,12 +230,12 @@ module _ (laws : Groups) (refusals : RefusalsHaveTheirCause) (o : Outside) (i : 
         (b, bundle_is, (c, passed, refused))
 
     from_issuance : (trusted : Trusted) (r : Answer)
-        → issued_answer o.checker.cert o.checker.point trusted c.certificate ≡ r → (x : VerificationError)
+        → issued_answer o.checker.cert o.checker.point trusted c ≡ r → (x : VerificationError)
         → After r (IsVerdictFromPolicy o.checker o.policy i.digest true c) (Err x) → Is (of_verification x)
     from_issuance trusted (Ok done) is x next = from_policy (o.policy.holds c.certificate) x next
     from_issuance trusted (Err y) is x next =
         subst (λ (z : VerificationError). Is (of_verification z)) (sym (same_refusal x y next))
-        (issued trusted c.certificate y is)
+        (issued trusted c y is)
 
   -- ---- all of it
 
@@ -242,7 +248,7 @@ module _ (laws : Groups) (refusals : RefusalsHaveTheirCause) (o : Outside) (i : 
         (b, bundle_is, (refusals b kind).0 checked)
     verdict trusted x (inr (c, checked, from)) =
         from_issuance b bundle_is c ((laws.passed b c).0 checked) trusted
-        (issued_answer o.checker.cert o.checker.point trusted c.certificate) refl x from
+        (issued_answer o.checker.cert o.checker.point trusted c) refl x from
 
     logged : (c : Checked) → IsPassed b c → (why : OfflineError)
         → IsVouchedIn o.checker.spki root i.now b (Err why) → Is why

@@ -16,7 +16,10 @@ use Rattle.sig_timestamp.specs.Precert.{precertificate}
 use Rattle.sig_timestamp.specs.Timestamps.{HasSct}
 use Rattle.sig_timestamp.specs.Vectors.{IsShort, IsLong}
 use Rattle.sig_x509.specs.Issuance.{Accepts}
-use Rattle.sig_x509.specs.Issued.{HasProfile, IsFirstIssuer}
+use Rattle.sig_x509.specs.Issued.{HasProfile}
+use Rattle.sig_x509.specs.Path.{IsFirstInPath}
+use Rattle.sig_x509.specs.Pool.{Pool, pool_over}
+use Rattle.sig_x509.specs.declared.issuer.Issuer.{Issuer as IssuerType}
 use Rattle.sig_verify.specs.ContentCheck.{AcceptsUnder}
 use Rattle.sig_verify.specs.Verdict.{Checker, HasBody, PolicyOf}
 use Rattle.sig_verify.specs.declared.link.Link.{Link}
@@ -30,11 +33,12 @@ pub record Trust : Type 0 where
 
 -- ---- the parts that a link may speak of
 
--- the first trust anchor that issued the certificate, at the first second of its validity, and of it this holds
-pub record OfIssuer (accepts : Accepts) (anchors : List Cert) (c : Cert) (P : Cert → Type 0) : Type 0 where
-  pub index : ℕ
-  pub first : IsFirstIssuer accepts c c.not_before anchors index
-  pub holds : P first.anchor
+-- A certification path leads from the certificate to a trust anchor, at the first second of its validity. The first
+-- issuer in one, the trust anchors in order and then the intermediates, is a certificate of which this holds.
+pub record OfIssuer (accepts : Accepts) (pool : Pool) (c : Cert) (P : Cert → Type 0) : Type 0 where
+  pub issuer : IssuerType
+  pub first : IsFirstInPath accepts pool c c.not_before issuer
+  pub holds : P first.path.certificate
 
 -- the certificate has one SCT, of which this holds
 abbrev pub OfSct : Cert → (SctType → Type 0) → Type 0
@@ -46,20 +50,21 @@ OfScheme c P = (scheme : VerifyScheme) × IsKind c.spki (Scheme scheme) × P sch
 
 -- ---- what a link asks
 
--- some trust anchor issued the certificate
-abbrev pub HasIssuer : Checker → Trust → Cert → Type 0
-HasIssuer k trust c = OfIssuer k.cert trust.anchors c (λ anchor. Unit {0})
+-- a certification path leads from the certificate over the further ones of its bundle to a trust anchor
+abbrev pub HasIssuer : Checker → Trust → Checked → Type 0
+HasIssuer k trust c = OfIssuer k.cert (pool_over trust.anchors c.further) c.certificate (λ x. Unit {0})
 
 -- the one SCT, and what it signs has bytes: TBSCertificate<1..2^24-1>, CtExtensions<0..2^16-1>
 abbrev pub HasSignedBytes : Cert → Type 0
 HasSignedBytes c = OfSct c (λ s. IsLong (precertificate c) × IsShort s.extensions)
 
--- the log of the SCT has a point, under which the SCT's signature is over the certificate as issued by that
--- trust anchor
-abbrev pub IsVouchedFor : Checker → Trust → Cert → Type 0
-IsVouchedFor k trust c = OfSct c (λ s. OfIssuer k.cert trust.anchors c (λ anchor.
+-- the log of the SCT has a point, under which the SCT's signature is over the certificate as issued under the key of
+-- the first issuer in such a path
+abbrev pub IsVouchedFor : Checker → Trust → Checked → Type 0
+IsVouchedFor k trust c = OfSct c.certificate (λ s.
+    OfIssuer k.cert (pool_over trust.anchors c.further) c.certificate (λ x.
     (point : List ℕ) × (trust.points s.log_id ≡ Some point)
-    × (k.point point (signed_bytes (signed_of c anchor.spki s)) s.signature ≡ true)))
+    × (k.point point (signed_bytes (signed_of c.certificate x.spki s)) s.signature ≡ true)))
 
 -- *Sig*: over the encoding of an envelope, or over the SHA-256 digest of the artifact
 abbrev pub IsContentSignedUnder : AcceptsUnder → AcceptsUnder → ArtifactDigest → CheckedContent → List ℕ → Type 0
@@ -90,8 +95,8 @@ certificate_links = Issuance ∷ Issuer ∷ Sct ∷ Policy ∷ Key ∷ Signature
 -- what a link asks of a bundle as checked, of which all links before it hold
 abbrev pub HoldsOfChecked : Checker → PolicyOf → Trust → ArtifactDigest → Bool → Checked → Link → Type 0
 HoldsOfChecked k policy trust d offline c Issuance = HasProfile c.certificate
-HoldsOfChecked k policy trust d offline c Issuer = HasIssuer k trust c.certificate
-HoldsOfChecked k policy trust d offline c Sct = HasSignedBytes c.certificate × IsVouchedFor k trust c.certificate
+HoldsOfChecked k policy trust d offline c Issuer = HasIssuer k trust c
+HoldsOfChecked k policy trust d offline c Sct = HasSignedBytes c.certificate × IsVouchedFor k trust c
 HoldsOfChecked k policy trust d offline c Policy = policy.holds c.certificate ≡ true
 HoldsOfChecked k policy trust d offline c Key = OfScheme c.certificate (λ scheme. Unit {0})
 HoldsOfChecked k policy trust d offline c Signature = IsSignedContent k d c

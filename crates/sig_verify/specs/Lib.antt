@@ -15,6 +15,7 @@ pub mod Judged
 pub mod Links
 pub mod RootLinks
 pub mod TrustChain
+pub mod LongerChains
 pub mod LinkLaws
 pub mod OfflineLaws
 pub mod EntryCauses

@@ -89,7 +89,7 @@ IssuersAreJudged =
     (k : Checker) (policy : PolicyOf) (trusted : Trusted) (d : ArtifactDigest) (offline : Bool) (c : Checked)
     → IsSaidOf c.certificate (sct_of c.certificate)
     → Tells (HoldsOfChecked k policy (trust_of trusted) d offline c) (Issuance ∷ Issuer ∷ Sct ∷ [])
-    (renamed (issued_answer k.cert k.point trusted c.certificate))
+    (renamed (issued_answer k.cert k.point trusted c))
 
 -- the certificate's key is bytes, and the reader of SCTs says what the certificate has
 pub record IsReadCertificate (c : Checked) : Type 0 where

@@ -19,10 +19,11 @@ use Rattle.sig_verify.specs.Verdict.{HasBody}
 -- The bundle's certificate c, its log entry e, the inclusion proof p of e with the checkpoint n, and the key of the
 -- log of e are meant. Signatures are genuine if the checker says so.
 pub record TrustChain (o : Outside) (i : Inputs) : Type 0 where
-  -- some trust anchor issued c, at the first second of its validity
-  pub issuer : OfChecked i (λ trust c. HasIssuer o.checker trust c.certificate)
-  -- c has one SCT, whose log signed it for c as the first such trust anchor issued it
-  pub sct : OfChecked i (λ trust c. IsVouchedFor o.checker trust c.certificate)
+  -- a certification path leads from c, at the first second of its validity, over the further certificates of the bundle
+  -- to a trust anchor
+  pub issuer : OfChecked i (λ trust c. HasIssuer o.checker trust c)
+  -- c has one SCT, whose log signed it for c as issued under the key of the first issuer in such a path
+  pub sct : OfChecked i (λ trust c. IsVouchedFor o.checker trust c)
   -- the policy holds of c
   pub policy : OfChecked i (λ trust c. o.policy.holds c.certificate ≡ true)
   -- the key of c signed the content, which is about the artifact

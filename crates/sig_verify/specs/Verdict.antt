@@ -85,7 +85,7 @@ IsVerdictFromPolicy k policy d offline c =
 -- `issuance`, `issuer` and `sct`, and those
 abbrev pub IsVerdictFromIssuance : Checker → Trusted → PolicyOf → ArtifactDigest → Bool → Checked → Answer → Type 0
 IsVerdictFromIssuance k trusted policy d offline c =
-    After (issued_answer k.cert k.point trusted c.certificate) (IsVerdictFromPolicy k policy d offline c)
+    After (issued_answer k.cert k.point trusted c) (IsVerdictFromPolicy k policy d offline c)
 
 -- `material` to `profile`, and those
 abbrev pub IsVerdict : Checker → Trusted → PolicyOf → ArtifactDigest → Bool → BundleType → Answer → Type 0

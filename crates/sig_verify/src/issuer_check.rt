@@ -1,13 +1,14 @@
-//! Whether a certificate was issued by a trust anchor, and whether a Certificate Transparency log vouches for it.
-ghost use Rattle.std.specs.Prelude.{◌≡◌, [], Ok, Err};
+//! Whether a certification path leads from a bundle's certificate to a trust anchor, and whether a Certificate
+//! Transparency log vouches for the certificate.
+ghost use Rattle.std.specs.Prelude.{◌≡◌, ◌≤◌, [], length, option_map};
 ghost use Rattle.sig_base.specs.Answers.{Answers};
-ghost use Rattle.sig_verify.specs.IssuerCheck.{issued_answer, issuer_place, issuer_spki, sct_answer};
-ghost use Rattle.sig_verify.specs.IssuerCheck.{borrowed_spki, spki_at};
+ghost use Rattle.sig_verify.specs.IssuerCheck.{issued_with, issuer_spki, path_start, sct_answer, spki_of};
+ghost use Rattle.sig_x509.specs.Pool.{pool_over};
 
-use crate::error::{CertificateErrorKind, VerificationError};
+use crate::error::VerificationError;
 use crate::verifier::Verifier;
 use sig_base::SignatureChecker;
-use sig_x509::uncounted::verify_cert_with_time;
+use sig_x509::uncounted::verify_cert_with_chain;
 use sig_x509::{
     Certificate, CertificateEmbeddedSCT, CertificatePool, DigitallySigned, Issuer, Keyring,
     SCTError, verify_sct,
@@ -16,65 +17,81 @@ use std::alloc::Global;
 
 impl Verifier {
     /// The links `issuance`, `issuer` and `sct`: whether the certificate has the profile of one that is issued, a
-    /// trust anchor issued it, and a Certificate Transparency log vouches for it under the first trust anchor that did.
+    /// certification path leads from it over the further ones to a trust anchor, and a Certificate Transparency log
+    /// vouches for it under the key of the first issuer in such a path.
     pub(crate) fn check_issuer<C: SignatureChecker>(
         &self,
         alloc: Global,
         leaf: &Certificate,
+        further: &[Certificate],
         checker: &C,
     ) -> Result<(), VerificationError>
-        ensures { Answers VerificationError.OutOfMemory (λ done. done) result
-            (issued_answer (C.cert_accepts checker.now) (C.point_accepts checker.now) self.now leaf.now) }
+        requires few { length further.now ≤ 16 }
+        ensures { Answers VerificationError.OutOfMemory (λ done. done) result (issued_with
+            (C.cert_accepts checker.now) (C.point_accepts checker.now) self.now further.now leaf.now) }
     {
-        let spki = issuer_spki(alloc, &self.pool, leaf, checker)?;
+        let spki = issuer_spki(alloc, &self.pool, leaf, further, checker)?;
         check_sct(alloc, leaf, spki, &self.keyring, checker)?;
         Ok(())
     }
 }
 
-/// The SubjectPublicKeyInfo of the first trust anchor that issued the certificate, at the first second of its
-/// validity. The pool has no intermediates.
+/// The SubjectPublicKeyInfo of the first issuer in a certification path. The pool has no intermediates of its own.
 fn issuer_spki<'a, C: SignatureChecker>(
     alloc: Global,
     pool: &'a CertificatePool,
     leaf: &Certificate,
+    further: &'a [Certificate],
     checker: &C,
 ) -> Result<&'a [u8], VerificationError>
     requires alone { pool.now.intermediates ≡ [] }
+    requires few { length further.now ≤ 16 }
     ensures { Answers VerificationError.OutOfMemory (λ spki. spki.now) result
-        (issuer_spki (C.cert_accepts checker.now) pool.now.anchors leaf.now) }
+        (issuer_spki (C.cert_accepts checker.now) (pool_over pool.now.anchors further.now) leaf.now) }
 {
-    let place = issuer_place(alloc, pool, leaf, checker)?;
-    spki_at(pool, place)
+    let issuer = path_start(alloc, pool, leaf, further, checker)?;
+    match spki_of(pool, further, issuer) {
+        Some(spki) => Ok(spki),
+        None => unreachable!(),
+    }
 }
 
-/// The index of the first trust anchor that issued the certificate. The pool has no intermediates.
-fn issuer_place<C: SignatureChecker>(
+/// The first issuer in a certification path from the certificate, at the first second of its validity, over the further
+/// ones to a trust anchor. The pool has no intermediates of its own.
+fn path_start<C: SignatureChecker>(
     alloc: Global,
     pool: &CertificatePool,
     leaf: &Certificate,
+    further: &[Certificate],
     checker: &C,
-) -> Result<usize, VerificationError>
+) -> Result<Issuer, VerificationError>
     requires alone { pool.now.intermediates ≡ [] }
-    ensures { Answers VerificationError.OutOfMemory (λ place. place) result
-        (issuer_place (C.cert_accepts checker.now) pool.now.anchors leaf.now) }
+    requires few { length further.now ≤ 16 }
+    ensures { Answers VerificationError.OutOfMemory (λ issuer. issuer) result
+        (path_start (C.cert_accepts checker.now) (pool_over pool.now.anchors further.now) leaf.now) }
 {
     let time = leaf.not_before();
     // No `?`: what the result says is a fact of each arm.
-    match verify_cert_with_time(pool, alloc, leaf, time, checker) {
-        Ok(Issuer::Anchor(place)) => Ok(place),
-        Ok(Issuer::Intermediate(_)) => unreachable!(),
+    match verify_cert_with_chain(pool, alloc, leaf, further, time, checker) {
+        Ok(issuer) => Ok(issuer),
         Err(error) => Err(VerificationError::from(error)),
     }
 }
 
-/// The SubjectPublicKeyInfo of the trust anchor at an index.
-fn spki_at(pool: &CertificatePool, place: usize) -> Result<&[u8], VerificationError>
-    ensures { borrowed_spki result ≡ spki_at pool.now.anchors place }
+/// The SubjectPublicKeyInfo of a trust anchor, or of a further certificate.
+fn spki_of<'a>(
+    pool: &'a CertificatePool,
+    further: &'a [Certificate],
+    issuer: Issuer,
+) -> Option<&'a [u8]>
+    ensures { option_map (λ spki. spki.now) result ≡ spki_of (pool_over pool.now.anchors further.now) issuer }
 {
-    match pool.issuer_spki(Issuer::Anchor(place)) {
-        Some(spki) => Ok(spki),
-        None => Err(VerificationError::Certificate(CertificateErrorKind::VerificationFailed)),
+    match issuer {
+        Issuer::Anchor(_) => pool.issuer_spki(issuer),
+        Issuer::Intermediate(index) => match further.get(index) {
+            Some(certificate) => Some(certificate.spki()),
+            None => None,
+        },
     }
 }
 

@@ -4,6 +4,7 @@ ghost use Rattle.sig_verify.specs.EntryCauses.{EntryErrorsHaveTheirCause};
 ghost use Rattle.sig_verify.specs.LinkLaws.{BundlesAreJudged, CheckedAreJudged, ContentsAreJudged};
 ghost use Rattle.sig_verify.specs.LinkLaws.{EntriesAreJudged, EntriesAreKept, IssuersAreJudged, TimesAreJudged};
 ghost use Rattle.sig_verify.specs.LinkLaws.{RootsAreJudged, VerdictsAreJudged};
+ghost use Rattle.sig_verify.specs.LongerChains.{LongerChainsStayValid};
 ghost use Rattle.sig_verify.specs.OfflineCauses.{OfflineErrorsHaveTheirCause};
 ghost use Rattle.sig_verify.specs.OfflineLaws.{HasEntryOfBytes, OutcomesAreJudged};
 ghost use Rattle.sig_verify.specs.TrustChain.{AllLinksAreTheTrustChain};
@@ -18,6 +19,12 @@ use sig_checked_bundle::laws::{causes_of_refusals, passed_bundles};
 /// Every link holds if and only if the inputs are valid and the chain of trust holds.
 pub fn trust_chain()
     ensures { AllLinksAreTheTrustChain }
+{}
+
+/// Where a trust anchor issued the certificate itself, the chain of trust holds whatever further certificates the bundle
+/// has, and its issuer is that trust anchor; without further certificates there is no other issuer.
+pub fn longer_chains()
+    ensures { LongerChainsStayValid }
 {}
 
 /// What `verify_log_entry` returns is a value if and only if the links `log-key` to `inclusion` hold, and else the

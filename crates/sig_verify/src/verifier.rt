@@ -5,7 +5,7 @@ ghost use Rattle.sig_verify.specs.Verifier.{HasKeys, IsRefusedPool, IsRefusedRoo
 
 use sig_base::{Entries, KeyMap, OutOfMemory, PoolError, SigstoreError};
 use sig_root::TrustRoot;
-use sig_x509::{CertificatePool, Keyring};
+use sig_x509::{CertificatePool, Keyring, KeyringError};
 use std::alloc::Global;
 use std::marker::Model;
 
@@ -73,7 +73,8 @@ pub fn keyring_of(alloc: Global, keys: &KeyMap) -> Result<Keyring, OutOfMemory>
     let values = values_of(alloc, keys)?;
     match Keyring::new(alloc, &values) {
         Ok(keyring) => Ok(keyring),
-        Err(_) => Err(OutOfMemory),
+        Err(KeyringError::OutOfMemory) => Err(OutOfMemory),
+        Err(_) => unreachable!(),
     }
 }
 

@@ -1,5 +1,5 @@
 //! Whether a bundle verifies against a verifier.
-ghost use Rattle.std.specs.Prelude.{◌≡◌, ◌++◌};
+ghost use Rattle.std.specs.Prelude.{◌≡◌, ◌≤◌, ◌++◌, length};
 ghost use Rattle.sig_base.specs.Answers.{UnlessMemory};
 ghost use Rattle.sig_verify.specs.BundleLinks.{bundle_links};
 ghost use Rattle.sig_verify.specs.CertificateLinks.{certificate_links};
@@ -29,8 +29,10 @@ impl Verifier {
     ///
     /// - `Bundle`, as of [`CheckedBundle::try_from_bundle`];
     /// - `Certificate` of `Malformed`: the certificate has not the profile of one that a trust anchor may issue;
-    /// - `Certificate` of `VerificationFailed`: no trust anchor issued it at the first second of its validity;
-    /// - `Certificate` of `Sct`: no Certificate Transparency log vouches for it;
+    /// - `Certificate` of `VerificationFailed`: no certification path (RFC 5280 section 6.1) leads from it, at the first
+    ///   second of its validity, over the further certificates of the bundle to a trust anchor;
+    /// - `Certificate` of `Sct`: no Certificate Transparency log vouches for it under the key of the first issuer in such
+    ///   a path, the trust anchors in order and then the further certificates;
     /// - `Policy` of the policy's refusal;
     /// - `Signature` of `AlgoUnsupported`: its key is of a kind that no signature is checked with;
     /// - `Signature` of `DigestAlgorithmUnsupported`: a signature over an artifact, and the digest is not SHA-256;
@@ -101,12 +103,13 @@ impl Verifier {
         offline: bool,
         checker: &C,
     ) -> VerificationResult
+        requires few { length bundle.now.further ≤ 16 }
         ensures { UnlessMemory VerificationError.OutOfMemory result (IsVerdictFromIssuance
             (checker_of C.SignatureChecker checker.now)
             self.now (policy_of P.VerificationPolicy policy.now)
             digest.now offline bundle.now result) }
     {
-        self.check_issuer(alloc, bundle.certificate(), checker)?;
+        self.check_issuer(alloc, bundle.certificate(), bundle.further(), checker)?;
         verify_allowed(alloc, digest, bundle, policy, offline, checker)
     }
 }
