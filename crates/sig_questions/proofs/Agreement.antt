@@ -1,5 +1,5 @@
 -- Two checkers that say the same of each question say the same of what each link asks.
-use Rattle.std.proofs.Common.{◌≡◌, ℕ, Bool, List, [], ◌∷◌, zero, suc, Some, refl, sym, ◌∙◌}
+use Rattle.std.proofs.Common.{◌≡◌, ℕ, Bool, List, [], ◌∷◌, zero, suc, Some, refl, sym, subst, ◌∙◌}
 use Rattle.std.specs.List.{list_any}
 use Rattle.std.specs.Prelude.{slice_get}
 use Rattle.sig_base.specs.declared.checker.AcceptedRow.{AcceptedRow}
@@ -24,10 +24,11 @@ use Rattle.sig_verify.specs.EntryLinks.{HasCanonicalPromise, IsNoteSignedBy, IsP
 use Rattle.sig_verify.specs.Links.{Inputs, OfChecked, OfLogged}
 use Rattle.sig_verify.specs.Verdict.{Checker}
 use Rattle.sig_questions.proofs.AskedRows.{certificate_asked, content_asked, note_asked, point_asked, promise_asked}
-use Rattle.sig_questions.proofs.Issuers.{AgreeOnAnchors, first_too, may_be}
+use Rattle.sig_questions.proofs.Issuers.{AgreeAlong, first_too, issuer_is, would_hold}
 use Rattle.sig_verify.proofs.Parts.{Parts, AnchoredParts, checked_as, checked_from, log_keys_of, logged_as}
 use Rattle.sig_verify.proofs.Parts.{logged_from, trust_with}
-use Rattle.sig_questions.specs.Asked.{IsAskedBy, IsSignatureRow, MayBeIssuer}
+use Rattle.sig_x509.specs.Pool.{Pool, pool_over}
+use Rattle.sig_questions.specs.Asked.{IsAskedBy, IsPointRowUnder, IsSignatureRow, signature_row}
 use Rattle.sig_questions.specs.Questions.{AgreeWhere}
 use Rattle.sig_questions.specs.Rows.{certificate_row, message_row, point_row, prehash_row}
 
@@ -73,47 +74,58 @@ signed_too one other scheme spki (Sha512 bytes) MessageSignature signature agree
 
 module _ (one_certificate : OneCertificate) (i : Inputs) (one other : Checker)
     (agree : AgreeWhere (IsAskedBy i) one other) where
-  agree_on_anchors : (p : AnchoredParts i) → AgreeOnAnchors one.cert other.cert p.anchors p.parts.checked.certificate
-  agree_on_anchors p index x there may =
-      let c : Cert = p.parts.checked.certificate in
-      agree.certificate x.spki c.algorithm c.tbs c.signature
-      (certificate_asked p (certificate_row x.spki c.algorithm c.tbs c.signature) (index, x, there, (may, refl)))
+  agree_along : (p : AnchoredParts i) → AgreeAlong one.cert other.cert
+      (pool_over p.anchors p.parts.checked.further) p.parts.checked.certificate p.parts.checked.certificate.not_before
+  agree_along p path anchor is y x next =
+      agree.certificate x.spki y.algorithm y.tbs y.signature
+      (certificate_asked p (signature_row y x) (path, anchor, is, (y, x, next, refl)))
 
-  -- the same anchor is the first that issued the certificate
+  -- the same is the first issuer in a path
   issuer_of : (p : AnchoredParts i) {P Q : Cert → Type 0}
-      (of : OfIssuer one.cert p.anchors p.parts.checked.certificate P) → Q of.first.anchor
-      → OfIssuer other.cert p.anchors p.parts.checked.certificate Q
+      (of : OfIssuer one.cert (pool_over p.anchors p.parts.checked.further) p.parts.checked.certificate P)
+      → Q of.first.path.certificate
+      → OfIssuer other.cert (pool_over p.anchors p.parts.checked.further) p.parts.checked.certificate Q
   issuer_of p of holds = record {
-    index = of.index;
-    first = first_too one.cert other.cert p.anchors p.parts.checked.certificate (agree_on_anchors p) of.index of.first;
+    issuer = of.issuer;
+    first = first_too (pool_over p.anchors p.parts.checked.further) p.parts.checked.certificate
+        p.parts.checked.certificate.not_before one.cert other.cert (agree_along p) of.issuer of.first;
     holds = holds;
   }
 
-  pub issuer_too : OfChecked i (λ trust c. HasIssuer one trust c.certificate)
-      → OfChecked i (λ trust c. HasIssuer other trust c.certificate)
-  issuer_too = checked_as i (λ trust c. HasIssuer one trust c.certificate)
-      (λ trust c. HasIssuer other trust c.certificate) (λ p of. issuer_of p of tt)
+  pub issuer_too : OfChecked i (λ trust c. HasIssuer one trust c)
+      → OfChecked i (λ trust c. HasIssuer other trust c)
+  issuer_too = checked_as i (λ trust c. HasIssuer one trust c)
+      (λ trust c. HasIssuer other trust c) (λ p of. issuer_of p of tt)
 
   vouched_of : (p : AnchoredParts i) → HasSignedBytes p.parts.checked.certificate
-      → IsVouchedFor one (trust_with p) p.parts.checked.certificate
-      → IsVouchedFor other (trust_with p) p.parts.checked.certificate
+      → IsVouchedFor one (trust_with p) p.parts.checked
+      → IsVouchedFor other (trust_with p) p.parts.checked
   vouched_of p spelled (s, has, of) =
       let c : Cert = p.parts.checked.certificate in
-      let x : Cert = of.first.anchor in
+      let over : Pool = pool_over p.anchors p.parts.checked.further in
+      let path = of.first.path in
+      let x : Cert = path.certificate in
       let point : List ℕ = of.holds.0 in
       let message : List ℕ = signed_bytes (signed_of c x.spki s) in
       let long : IsLong (precertificate c) = spelled.2.0 in
-      let may : MayBeIssuer c x = may_be one.cert c x of.first.issued in
-      let asked : IsAskedBy i (point_row point message s.signature) =
-      point_asked p (point_row point message s.signature)
-      (of.index, x, of.first.there, (may, (s, has, (long, has.is.extended, point, of.holds.1, refl)))) in
+      let row : AcceptedRow = point_row point message s.signature in
+      let under : IsPointRowUnder (trust_with p).points c x row =
+      (s, has, (long, has.is.extended, point, of.holds.1, refl)) in
+      let asked : IsAskedBy i row =
+      point_asked p row (
+        path.over,
+        path.anchor,
+        would_hold over c c.not_before one.cert path.over path.anchor path.path,
+        subst (λ (y : Cert). IsPointRowUnder (trust_with p).points c y row)
+            (issuer_is over c c.not_before one.cert of.issuer path) under,
+      ) in
       (s, has, issuer_of p of (point, of.holds.1, sym (agree.point point message s.signature asked) ∙ of.holds.2))
 
   pub vouched_too : OfChecked i (λ trust c. HasSignedBytes c.certificate)
-      → OfChecked i (λ trust c. IsVouchedFor one trust c.certificate)
-      → OfChecked i (λ trust c. IsVouchedFor other trust c.certificate)
-  vouched_too spelled = checked_as i (λ trust c. IsVouchedFor one trust c.certificate)
-      (λ trust c. IsVouchedFor other trust c.certificate)
+      → OfChecked i (λ trust c. IsVouchedFor one trust c)
+      → OfChecked i (λ trust c. IsVouchedFor other trust c)
+  vouched_too spelled = checked_as i (λ trust c. IsVouchedFor one trust c)
+      (λ trust c. IsVouchedFor other trust c)
       (λ p. vouched_of p (checked_from one_certificate p (λ trust c. HasSignedBytes c.certificate) spelled))
 
   content_of : (p : AnchoredParts i) → IsSignedContent one i.digest p.parts.checked

@@ -8,12 +8,12 @@ use Rattle.sig_verify.proofs.Parts.{logged_to, trust_with}
 use Rattle.sig_questions.specs.Asked.{IsAskedBy, IsCertificateRow, IsContentRow, IsNoteRow, IsPointRow, IsPromiseRow}
 
 pub certificate_asked : {i : Inputs} (p : AnchoredParts i) (row : AcceptedRow)
-    → IsCertificateRow (trust_with p) p.parts.checked.certificate row → IsAskedBy i row
-certificate_asked p row is = inl (checked_to p (λ trust c. IsCertificateRow trust c.certificate row) is)
+    → IsCertificateRow (trust_with p) p.parts.checked row → IsAskedBy i row
+certificate_asked p row is = inl (checked_to p (λ trust c. IsCertificateRow trust c row) is)
 
 pub point_asked : {i : Inputs} (p : AnchoredParts i) (row : AcceptedRow)
-    → IsPointRow (trust_with p) p.parts.checked.certificate row → IsAskedBy i row
-point_asked p row is = inr (inl (checked_to p (λ trust c. IsPointRow trust c.certificate row) is))
+    → IsPointRow (trust_with p) p.parts.checked row → IsAskedBy i row
+point_asked p row is = inr (inl (checked_to p (λ trust c. IsPointRow trust c row) is))
 
 pub content_asked : {i : Inputs} (p : AnchoredParts i) (row : AcceptedRow)
     → IsContentRow i.digest p.parts.checked row → IsAskedBy i row
@@ -30,8 +30,8 @@ note_asked p row is = inr (inr (inr (inr (logged_to p (λ keys e. IsNoteRow keys
 -- one of the rows of these parts
 abbrev pub IsAskedOf : {i : Inputs} → AnchoredParts i → AcceptedRow → Type 0
 IsAskedOf {i} p row =
-    IsCertificateRow (trust_with p) p.parts.checked.certificate row
-    ⊎ (IsPointRow (trust_with p) p.parts.checked.certificate row
+    IsCertificateRow (trust_with p) p.parts.checked row
+    ⊎ (IsPointRow (trust_with p) p.parts.checked row
     ⊎ (IsContentRow i.digest p.parts.checked row
     ⊎ (IsPromiseRow (log_keys_of p.parts) p.parts.checked.entry row
     ⊎ IsNoteRow (log_keys_of p.parts) p.parts.checked.entry row)))
@@ -48,8 +48,8 @@ asked_as one {i} p row = (to, back)
     to (inr (inr (inr (inr note)))) = note_asked p.parts row note
 
     back : IsAskedBy i row → IsAskedOf p row
-    back (inl certificate) = inl (checked_from one p (λ trust c. IsCertificateRow trust c.certificate row) certificate)
-    back (inr (inl point)) = inr (inl (checked_from one p (λ trust c. IsPointRow trust c.certificate row) point))
+    back (inl certificate) = inl (checked_from one p (λ trust c. IsCertificateRow trust c row) certificate)
+    back (inr (inl point)) = inr (inl (checked_from one p (λ trust c. IsPointRow trust c row) point))
     back (inr (inr (inl content))) =
         inr (inr (inl (checked_from one p (λ trust c. IsContentRow i.digest c row) content)))
     back (inr (inr (inr (inl promise)))) =

@@ -31,9 +31,11 @@ use Rattle.sig_verify.specs.declared.link.Link.TheVariants.{Inclusion}
 use Rattle.sig_verify.specs.declared.offline.Offline.{Offline}
 use Rattle.sig_verify.specs.declared.offline_error.OfflineError.{OfflineError}
 use Rattle.sig_verify.specs.declared.offline_error.OfflineError.TheVariants.{OutOfMemory}
-use Rattle.sig_questions.proofs.Issuers.{may_be, some_issuer}
+use Rattle.sig_x509.specs.Pool.{Pool, pool_over}
+use Rattle.sig_questions.proofs.Issuers.{first_signed, some_issuer, would_hold}
+use Rattle.sig_questions.specs.Asked.{issuer_in}
 use Rattle.sig_verify.proofs.Parts.{checked_as, of_checked}
-use Rattle.sig_questions.specs.Asked.{every_signature}
+use Rattle.sig_x509.specs.Path.{every_signature}
 use Rattle.sig_questions.specs.Front.{IsFrontTold, front_result}
 use Rattle.sig_questions.specs.Questions.{FailsFirstInChain, HoldsUnasked, RefusalsAreForAll, accepting, front_links}
 
@@ -97,18 +99,24 @@ pub silent : (o : Outside) (i : Inputs)
     → ((issuer algorithm tbs signature : List ℕ) → o.checker.cert issuer algorithm tbs signature ≡ false)
     → ¬ HoldsOf o i Issuer
 silent o i denied =
-    of_checked i (λ trust c. HasIssuer o.checker trust c.certificate) ⊥ (λ p of.
+    of_checked i (λ trust c. HasIssuer o.checker trust c) ⊥ (λ p of.
     let c : Cert = p.parts.checked.certificate in
-    let wrong : true ≡ false = sym of.first.issued.signed.genuine
-    ∙ denied of.first.anchor.spki c.algorithm c.tbs c.signature in cc)
+    let path = of.first.path in
+    let signed = first_signed o.checker.cert c path.over path.anchor path.path.signed in
+    let wrong : true ≡ false = sym signed.genuine
+    ∙ denied (issuer_in path.over path.anchor).spki c.algorithm c.tbs c.signature in cc)
 
--- an anchor that issued it may have done so
+-- a path that leads to a trust anchor may do so
 issuer_unasked : (o : Outside) (i : Inputs) → HoldsOf o i Issuer → HoldsUnasked i Issuer
 issuer_unasked o i =
-    checked_as i (λ trust c. HasIssuer o.checker trust c.certificate)
-    (λ trust c. HasIssuer accepting.checker trust c.certificate)
-    (λ p of. some_issuer every_signature p.parts.checked.certificate p.anchors of.index of.first.anchor of.first.there
-    (may_be o.checker.cert p.parts.checked.certificate of.first.anchor of.first.issued))
+    checked_as i (λ trust c. HasIssuer o.checker trust c)
+    (λ trust c. HasIssuer accepting.checker trust c)
+    (λ p of.
+    let c : Cert = p.parts.checked.certificate in
+    let over : Pool = pool_over p.anchors p.parts.checked.further in
+    let path = of.first.path in
+    some_issuer every_signature over c path.over path.anchor
+    (would_hold over c c.not_before o.checker.cert path.over path.anchor path.path))
 
 abbrev denying : Outside
 denying = record {

@@ -3,7 +3,8 @@ pub mod AskedRows
 pub mod Agreement
 pub mod Suffices
 pub mod RowLaws
-pub mod AnchorRows
+pub mod PathRows
+pub mod SctRows
 pub mod EntryRows
 pub mod Schemes
 pub mod Mattering
@@ -14,3 +15,4 @@ pub mod Named
 pub mod Calls
 pub mod Orderings
 pub mod OrderRows
+pub mod SeenRows

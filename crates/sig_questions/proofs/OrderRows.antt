@@ -2,7 +2,7 @@
 use Rattle.std.proofs.Common.{◌≡◌, ◌⊎◌, ℕ, ◌-◌, ◌^◌, Bool, true, false, cond, nat_lt, List, [], ◌∷◌, ◌++◌}
 use Rattle.std.proofs.Common.{length, Option, Some, None, Result, Ok, Err, inl, inr, refl, sym, subst, ◌∙◌}
 use Rattle.std.specs.List.{flat_map}
-use Rattle.std.specs.Prelude.{Contains, slice_get}
+use Rattle.std.specs.Prelude.{◌↔◌, Contains, slice_get}
 use Rattle.hex.specs.Hex.{encode_lower}
 use Rattle.sig_base.proofs.OptionSteps.{some_is}
 use Rattle.sig_base.specs.ByText.{text_lookup}
@@ -49,22 +49,27 @@ use Rattle.sig_verify.specs.LogEntry.{from_kind, log_key_answer, read_found}
 use Rattle.sig_verify.specs.declared.link.Link.{Link}
 use Rattle.sig_verify.specs.declared.link.Link.TheVariants as link
 use Rattle.sig_verify.specs.declared.offline_error.OfflineError.{OfflineError}
-use Rattle.sig_questions.proofs.AnchorRows.{has_point_under, if_may}
+use Rattle.sig_questions.proofs.PathRows.{has_pair, pair_fits, side_fits}
+use Rattle.sig_questions.proofs.SctRows.{has_side}
 use Rattle.sig_questions.proofs.EntryRows.{has_content, has_promise}
-use Rattle.sig_questions.proofs.Orderings.{ArePlaced, IsSingle, OfElement, both_placed, element_as, elements_placed}
+use Rattle.sig_questions.proofs.Orderings.{ArePlaced, IsSingle, OfElement, both_placed, element_as}
+use Rattle.sig_questions.proofs.Orderings.{elements_placed}
 use Rattle.sig_questions.proofs.Orderings.{in_order, none_placed, placed_as, single_placed}
 use Rattle.sig_questions.proofs.RowLaws.{has_one}
-use Rattle.sig_questions.specs.Asked.{IsContentRow, IsPromiseRow, MayBeIssuer}
+use Rattle.sig_questions.specs.Asked.{IsContentRow, IsPointRowUnder, IsPromiseRow, OfPath, signature_row}
+use Rattle.sig_questions.specs.Lists.{Pair, Side, pair_questions, pairs, side_questions, signed_side, signer_side, signers}
 use Rattle.sig_questions.specs.Lists.{certificate_questions, checkpoint_in, checkpoint_questions, content_questions}
 use Rattle.sig_questions.specs.Lists.{content_questions_under, embedded_questions, entry_questions}
-use Rattle.sig_questions.specs.Lists.{entry_questions_under, if_scheme, may_be_issuer, note_question, note_questions}
+use Rattle.sig_questions.specs.Lists.{entry_questions_under, if_scheme, note_question, note_questions}
 use Rattle.sig_questions.specs.Lists.{pointed_questions, promise_questions, promise_questions_by}
 use Rattle.sig_questions.specs.Lists.{promise_questions_over, questions_behind, questions_of, sct_questions}
 use Rattle.sig_questions.specs.Lists.{spki_named, text_questions}
 use Rattle.sig_questions.specs.Order.{AreInOrder, Asking, IsAskedAt, IsBefore, IsCertificateRowAt, IsEarlier}
-use Rattle.sig_questions.specs.Order.{IsNoteRowAt, IsPointRowAt}
+use Rattle.sig_questions.specs.Order.{IsNoteRowAt, IsPointRowAt, IsStepOf, signed_in}
 use Rattle.sig_questions.specs.Questions.{front_links, question_links}
-use Rattle.sig_questions.specs.Rows.{certificate_row, message_row, point_row}
+use Rattle.sig_x509.proofs.Elements.{contains_at}
+use Rattle.sig_x509.specs.Possible.{may_sign}
+use Rattle.sig_questions.specs.Rows.{message_row}
 
 -- ---- the links that ask, in their order
 
@@ -170,9 +175,10 @@ single_unless : (b : Bool) (rows : List AcceptedRow) → IsSingle rows → IsSin
 single_unless true rows single = tt
 single_unless false rows single = single
 
-single_certificate : (c x : Cert) → IsSingle (certificate_questions c x)
-single_certificate c x =
-    single_if (may_be_issuer c x) (certificate_row x.spki c.algorithm c.tbs c.signature ∷ []) tt
+single_pair : (trust : Trust) (c : Checked) (pair : Pair) → IsSingle (pair_questions trust c pair)
+single_pair trust c pair =
+    single_if (may_sign (signed_side c pair.0) (signer_side trust c pair.1))
+    (signature_row (signed_side c pair.0).certificate (signer_side trust c pair.1).certificate ∷ []) tt
 
 single_pointed : (o : Option (List ℕ)) (d : DigitallySigned) → IsSingle (pointed_questions o d)
 single_pointed None d = tt
@@ -187,10 +193,13 @@ single_embedded points (Ok d) =
     (single_pointed (points d.log_id) d))
 single_embedded points (Err e) = tt
 
-single_point : (points : List ℕ → Option (List ℕ)) (c x : Cert) → IsSingle (sct_questions points c x)
-single_point points c x =
-    single_if (may_be_issuer c x) (embedded_questions points (ready c x.spki (sct_of c)))
-    (single_embedded points (ready c x.spki (sct_of c)))
+single_point : (trust : Trust) (c : Checked) (side : Side) → IsSingle (side_questions trust c side)
+single_point trust c side =
+    single_if (may_sign (signed_side c None) (signer_side trust c side))
+    (embedded_questions trust.points (ready c.certificate (signer_side trust c side).certificate.spki
+    (sct_of c.certificate)))
+    (single_embedded trust.points (ready c.certificate (signer_side trust c side).certificate.spki
+    (sct_of c.certificate)))
 
 single_under : (kind : KeyKind) (rows : VerifyScheme → List AcceptedRow) → ((s : VerifyScheme) → IsSingle (rows s))
     → IsSingle (if_scheme kind rows)
@@ -223,43 +232,52 @@ single_promise scheme spki e = by e.inclusion_promise
     by None = tt
     by (Some promise) = over promise (canonical_of (promise_tree_of e))
 
--- ---- the certificate and its SCT, under each trust anchor
+-- ---- the signatures of paths, and the SCT under each issuer
 
-module _ (trust : Trust) (c : Cert) where
+-- of an element of a list the one is as the other
+element_there : {X : Type 0} (xs : List X) (place : ℕ) (P Q : X → Type 0) → ((x : X) → Contains xs x → P x ↔ Q x)
+    → OfElement xs place P ↔ OfElement xs place Q
+element_there xs place P Q alike = (
+  (λ of. (of.0, of.1, (alike of.0 (contains_at xs place of.0 of.1)).0 of.2)),
+  (λ of. (of.0, of.1, (alike of.0 (contains_at xs place of.0 of.1)).1 of.2)),
+)
+
+module _ (trust : Trust) (c : Checked) where
   abbrev OfCertificate : Link → ℕ → AcceptedRow → Type 0
   OfCertificate l place row = (l ≡ link.Issuer) × IsCertificateRowAt place trust c row
 
-  certificates_placed : ArePlaced OfCertificate (flat_map (certificate_questions c) trust.anchors)
+  -- what a pair's row is
+  abbrev IsOfPair : AcceptedRow → Pair → Type 0
+  IsOfPair r pair = OfPath trust c (IsStepOf pair) × (r ≡ signature_row (signed_in c pair.0) pair.1.1)
+
+  certificates_placed : ArePlaced OfCertificate (certificate_questions trust c)
   certificates_placed =
-      placed_as (λ l p r. (l ≡ link.Issuer) × OfElement trust.anchors p (λ x. Contains (certificate_questions c x) r))
-      OfCertificate (flat_map (certificate_questions c) trust.anchors)
+      placed_as
+      (λ l p r. (l ≡ link.Issuer) × OfElement (pairs trust c) p (λ pair. Contains (pair_questions trust c pair) r))
+      OfCertificate (certificate_questions trust c)
       (λ l p r.
-      (let alike = element_as trust.anchors p (λ x. Contains (certificate_questions c x) r)
-      (λ x. MayBeIssuer c x × (r ≡ certificate_row x.spki c.algorithm c.tbs c.signature))
-      (λ x. if_may c x (certificate_row x.spki c.algorithm c.tbs c.signature ∷ []) r
-      (r ≡ certificate_row x.spki c.algorithm c.tbs c.signature)
-      (has_one (certificate_row x.spki c.algorithm c.tbs c.signature) r)) in
+      (let alike = element_there (pairs trust c) p (λ pair. Contains (pair_questions trust c pair) r) (IsOfPair r)
+      (λ pair has. has_pair trust c pair.0 pair.1.0 pair.1.1 (pair_fits trust c pair.0 pair.1.0 pair.1.1 has) r) in
       ((λ of. (of.0, alike.0 of.1)), (λ of. (of.0, alike.1 of.1)))))
-      (elements_placed link.Issuer (certificate_questions c) (single_certificate c) trust.anchors)
+      (elements_placed link.Issuer (pair_questions trust c) (single_pair trust c) (pairs trust c))
 
   abbrev OfPoint : Link → ℕ → AcceptedRow → Type 0
   OfPoint l place row = (l ≡ link.Sct) × IsPointRowAt place trust c row
 
-  -- what a trust anchor's row is of the SCT
-  abbrev IsUnder : AcceptedRow → Cert → Type 0
-  IsUnder r x = MayBeIssuer c x × OfSct c (λ s. IsLong (precertificate c)
-      × IsShort s.extensions × (point : List ℕ) × (trust.points s.log_id ≡ Some point)
-      × (r ≡ point_row point (signed_bytes (signed_of c x.spki s)) s.signature))
+  -- what a side's row is of the SCT
+  abbrev IsUnder : AcceptedRow → Side → Type 0
+  IsUnder r side = OfPath trust c (IsStepOf (None, side)) × IsPointRowUnder trust.points c.certificate side.1 r
 
-  points_placed : IsSaidOf c (sct_of c) → ArePlaced OfPoint (flat_map (sct_questions trust.points c) trust.anchors)
+  points_placed : IsSaidOf c.certificate (sct_of c.certificate) → ArePlaced OfPoint (sct_questions trust c)
   points_placed said =
-      placed_as (λ l p r. (l ≡ link.Sct) × OfElement trust.anchors p (λ x. Contains (sct_questions trust.points c x) r))
-      OfPoint (flat_map (sct_questions trust.points c) trust.anchors)
+      placed_as
+      (λ l p r. (l ≡ link.Sct) × OfElement (signers trust c) p (λ side. Contains (side_questions trust c side) r))
+      OfPoint (sct_questions trust c)
       (λ l p r.
-      (let alike = element_as trust.anchors p (λ x. Contains (sct_questions trust.points c x) r) (IsUnder r)
-      (λ x. has_point_under trust.points c said x r) in
+      (let alike = element_there (signers trust c) p (λ side. Contains (side_questions trust c side) r) (IsUnder r)
+      (λ side has. has_side trust c said side.0 side.1 (side_fits trust c side.0 side.1 has) r) in
       ((λ of. (of.0, alike.0 of.1)), (λ of. (of.0, alike.1 of.1)))))
-      (elements_placed link.Sct (sct_questions trust.points c) (single_point trust.points c) trust.anchors)
+      (elements_placed link.Sct (side_questions trust c) (single_point trust c) (signers trust c))
 
 -- ---- the content
 
@@ -442,10 +460,10 @@ module _ (one : OneCertificate) (i : Inputs) (p : AnchoredParts i) where
     OfLast l place row = OfContentOf i.digest c l place row ⊎ OfEntryRow keys c.entry bytes l place row
 
     abbrev OfBehind : Link → ℕ → AcceptedRow → Type 0
-    OfBehind l place row = OfPoint trust c.certificate l place row ⊎ OfLast l place row
+    OfBehind l place row = OfPoint trust c l place row ⊎ OfLast l place row
 
     abbrev OfAny : Link → ℕ → AcceptedRow → Type 0
-    OfAny l place row = OfCertificate trust c.certificate l place row ⊎ OfBehind l place row
+    OfAny l place row = OfCertificate trust c l place row ⊎ OfBehind l place row
 
     last_placed : ArePlaced OfLast (content_questions i.digest c ++ entry_questions keys c.entry)
     last_placed =
@@ -461,12 +479,12 @@ module _ (one : OneCertificate) (i : Inputs) (p : AnchoredParts i) where
 
     behind_placed : ArePlaced OfBehind (questions_behind i.digest trust keys c)
     behind_placed =
-        both_placed (OfPoint trust c.certificate) OfLast
-        (flat_map (sct_questions trust.points c.certificate) trust.anchors)
+        both_placed (OfPoint trust c) OfLast
+        (sct_questions trust c)
         (content_questions i.digest c ++ entry_questions keys c.entry) before
-        (points_placed trust c.certificate read.sct) last_placed
+        (points_placed trust c read.sct) last_placed
       where
-        before : (a b : Asking) → OfPoint trust c.certificate a.link a.place a.row → OfLast b.link b.place b.row
+        before : (a b : Asking) → OfPoint trust c a.link a.place a.row → OfLast b.link b.place b.row
             → IsBefore a b
         before a b first (inl content) =
             inl (earlier link.Sct link.Signature sct_signature a.link b.link first.0 content.0)
@@ -477,11 +495,11 @@ module _ (one : OneCertificate) (i : Inputs) (p : AnchoredParts i) where
 
     any_placed : ArePlaced OfAny (questions_of i.digest trust keys c)
     any_placed =
-        both_placed (OfCertificate trust c.certificate) OfBehind
-        (flat_map (certificate_questions c.certificate) trust.anchors) (questions_behind i.digest trust keys c) before
-        (certificates_placed trust c.certificate) behind_placed
+        both_placed (OfCertificate trust c) OfBehind
+        (certificate_questions trust c) (questions_behind i.digest trust keys c) before
+        (certificates_placed trust c) behind_placed
       where
-        before : (a b : Asking) → OfCertificate trust c.certificate a.link a.place a.row
+        before : (a b : Asking) → OfCertificate trust c a.link a.place a.row
             → OfBehind b.link b.place b.row → IsBefore a b
         before a b first (inl point) =
             inl (earlier link.Issuer link.Sct issuer_sct a.link b.link first.0 point.0)
@@ -494,9 +512,9 @@ module _ (one : OneCertificate) (i : Inputs) (p : AnchoredParts i) where
 
     to : (l : Link) (place : ℕ) (row : AcceptedRow) → OfAny l place row → IsAskedAt i l place row
     to l place row (inl (is, of)) =
-        inl (is, checked_to p (λ t x. IsCertificateRowAt place t x.certificate row) of)
+        inl (is, checked_to p (λ t x. IsCertificateRowAt place t x row) of)
     to l place row (inr (inl (is, of))) =
-        inr (inl (is, checked_to p (λ t x. IsPointRowAt place t x.certificate row) of))
+        inr (inl (is, checked_to p (λ t x. IsPointRowAt place t x row) of))
     to l place row (inr (inr (inl (is, at, of)))) =
         inr (inr (inl (is, at, checked_to p (λ t x. IsContentRow i.digest x row) of)))
     to l place row (inr (inr (inr (inl (is, at, of))))) =
@@ -506,9 +524,9 @@ module _ (one : OneCertificate) (i : Inputs) (p : AnchoredParts i) where
 
     back : (l : Link) (place : ℕ) (row : AcceptedRow) → IsAskedAt i l place row → OfAny l place row
     back l place row (inl (is, of)) =
-        inl (is, checked_from one p (λ t x. IsCertificateRowAt place t x.certificate row) of)
+        inl (is, checked_from one p (λ t x. IsCertificateRowAt place t x row) of)
     back l place row (inr (inl (is, of))) =
-        inr (inl (is, checked_from one p (λ t x. IsPointRowAt place t x.certificate row) of))
+        inr (inl (is, checked_from one p (λ t x. IsPointRowAt place t x row) of))
     back l place row (inr (inr (inl (is, at, of)))) =
         inr (inr (inl (is, at, checked_from one p (λ t x. IsContentRow i.digest x row) of)))
     back l place row (inr (inr (inr (inl (is, at, of))))) =

@@ -33,7 +33,10 @@ use Rattle.sig_verify.proofs.Parts.{log_keys_of, of_parts, trust_with}
 use Rattle.sig_questions.proofs.RowLaws.{empty_has, has_both, has_each, has_one}
 use Rattle.sig_questions.specs.Lists.{certificate_questions, checkpoint_questions, content_questions}
 use Rattle.sig_questions.specs.Lists.{content_questions_under, embedded_questions, entry_questions}
-use Rattle.sig_questions.specs.Lists.{entry_questions_under, if_scheme, may_be_issuer, note_question, note_questions}
+use Rattle.sig_questions.specs.Lists.{entry_questions_under, if_scheme, note_question, note_questions}
+use Rattle.sig_questions.specs.Lists.{Pair, Side, pair_questions, pairs, side_questions, signed_side, signer_side, signers}
+use Rattle.sig_questions.specs.Asked.{signature_row}
+use Rattle.sig_x509.specs.Possible.{may_sign}
 use Rattle.sig_questions.specs.Lists.{pointed_questions, promise_questions, promise_questions_by}
 use Rattle.sig_questions.specs.Lists.{promise_questions_over, questions_of, sct_questions, spki_named}
 use Rattle.sig_questions.specs.Lists.{text_of_proof, text_questions}
@@ -77,10 +80,11 @@ scheme_had Unsupported rows all = none
 
 -- ---- the rows of each group
 
-certificate_had : (c x : Cert) → AllHave (certificate_questions c x)
-certificate_had c x =
-    if_so (may_be_issuer c x) (certificate_row x.spki c.algorithm c.tbs c.signature ∷ [])
-    (one (certificate_row x.spki c.algorithm c.tbs c.signature) tt)
+pair_had : (trust : Trust) (c : Checked) (pair : Pair) → AllHave (pair_questions trust c pair)
+pair_had trust c pair =
+    let its : AcceptedRow =
+    signature_row (signed_side c pair.0).certificate (signer_side trust c pair.1).certificate in
+    if_so (may_sign (signed_side c pair.0) (signer_side trust c pair.1)) (its ∷ []) (one its tt)
 
 pointed_had : (o : Option (List ℕ)) (d : DigitallySigned) → AllHave (pointed_questions o d)
 pointed_had None d = none
@@ -95,10 +99,11 @@ embedded_had points (Ok d) =
     (pointed_had (points d.log_id) d))
 embedded_had points (Err e) = none
 
-sct_had : (points : List ℕ → Option (List ℕ)) (c x : Cert) → AllHave (sct_questions points c x)
-sct_had points c x =
-    if_so (may_be_issuer c x) (embedded_questions points (ready c x.spki (sct_of c)))
-    (embedded_had points (ready c x.spki (sct_of c)))
+side_had : (trust : Trust) (c : Checked) (side : Side) → AllHave (side_questions trust c side)
+side_had trust c side =
+    let ready_under = ready c.certificate (signer_side trust c side).certificate.spki (sct_of c.certificate) in
+    if_so (may_sign (signed_side c None) (signer_side trust c side)) (embedded_questions trust.points ready_under)
+    (embedded_had trust.points ready_under)
 
 content_under : (s : VerifyScheme) (spki : List ℕ) (d : ArtifactDigest) (content : CheckedContent) (signature : List ℕ)
     → AllHave (content_questions_under s spki d content signature)
@@ -145,13 +150,11 @@ entry_under e (Some spki) =
 
 all_had : (d : ArtifactDigest) (trust : Trust) (keys : LogKeys) (c : Checked) → AllHave (questions_of d trust keys c)
 all_had d trust keys c =
-    both (flat_map (certificate_questions c.certificate) trust.anchors)
-    (flat_map (sct_questions trust.points c.certificate) trust.anchors
-    ++ (content_questions d c ++ entry_questions keys c.entry))
-    (each (certificate_questions c.certificate) trust.anchors (λ x. certificate_had c.certificate x))
-    (both (flat_map (sct_questions trust.points c.certificate) trust.anchors)
-    (content_questions d c ++ entry_questions keys c.entry)
-    (each (sct_questions trust.points c.certificate) trust.anchors (λ x. sct_had trust.points c.certificate x))
+    both (certificate_questions trust c)
+    (sct_questions trust c ++ (content_questions d c ++ entry_questions keys c.entry))
+    (each (pair_questions trust c) (pairs trust c) (λ pair. pair_had trust c pair))
+    (both (sct_questions trust c) (content_questions d c ++ entry_questions keys c.entry)
+    (each (side_questions trust c) (signers trust c) (λ side. side_had trust c side))
     (both (content_questions d c) (entry_questions keys c.entry) (content_had d c)
     (entry_under c.entry (spki_named keys c.entry.log_id))))
 

@@ -1,7 +1,7 @@
 -- What is listed are the questions.
 use Rattle.std.proofs.Common.{◌≡◌, ◌↔◌, ℕ, List, [], ◌∷◌, ◌++◌, Option, Ok, Err, inl, refl, sym, ap, subst, ◌∙◌}
 use Rattle.std.proofs.Math.Path.{fun_ext}
-use Rattle.std.specs.List.{AllByRecursion, flat_map}
+use Rattle.std.specs.List.{AllByRecursion}
 use Rattle.std.specs.Prelude.{Contains, ◌≢◌}
 use Rattle.std.proofs.lemmas.List.Elements.{Contains-append_left}
 use Rattle.sig_base.proofs.ResultSteps.{ok_is}
@@ -24,7 +24,10 @@ use Rattle.sig_verify.specs.declared.link.Link.{Link as LinkType}
 use Rattle.sig_verify.specs.declared.link.Link.TheVariants.{Issuance, Issuer}
 use Rattle.sig_x509.specs.Issuance.{AreAnchors}
 use Rattle.sig_x509.specs.Issued.{HasProfile}
-use Rattle.sig_questions.proofs.AnchorRows.{has_certificate, has_point}
+use Rattle.sig_questions.proofs.PathRows.{has_certificate}
+use Rattle.sig_questions.proofs.SctRows.{has_point}
+use Rattle.sig_x509.specs.Path.{IsNext}
+use Rattle.sig_x509.specs.Pool.{pool_over}
 use Rattle.sig_questions.proofs.AskedRows.{IsAskedOf, asked_as}
 use Rattle.sig_questions.proofs.EntryRows.{has_content, has_entry}
 use Rattle.sig_questions.proofs.Issuers.{some_issuer}
@@ -32,15 +35,15 @@ use Rattle.sig_verify.proofs.Parts.{AnchoredParts, Parts, checked_from, checked_
 use Rattle.sig_verify.proofs.Parts.{parts_from, parts_to, root_from, trust_with}
 use Rattle.sig_questions.proofs.OrderRows.{rows_in_order}
 use Rattle.sig_questions.proofs.RowLaws.{empty_has, has_either, has_one}
-use Rattle.sig_questions.specs.Asked.{IsAskedBy, every_signature}
+use Rattle.sig_x509.specs.Path.{every_signature}
+use Rattle.sig_questions.specs.Asked.{IsAskedBy, signature_row}
 use Rattle.sig_questions.specs.Listed.{GivesTrust, AreListed, IsAnswered, ListedTextsAreAnswered, Listing}
-use Rattle.sig_questions.specs.Listed.{ReadIfOk, issuer_questions, trust_in}
+use Rattle.sig_questions.specs.Listed.{ReadIfOk, trust_in}
 use Rattle.sig_questions.specs.Lists.{certificate_questions, content_questions, entry_questions, questions_behind}
 use Rattle.sig_questions.specs.Lists.{questions_of, sct_questions}
 use Rattle.sig_questions.specs.Order.{AreInOrder, IsAskedAt}
 use Rattle.sig_questions.specs.Questions.{AreQuestions, HoldsUnasked, QuestionsAreOneList, accepting, front_links}
 use Rattle.sig_questions.specs.Questions.{question_links}
-use Rattle.sig_questions.specs.Rows.{certificate_row}
 use Rattle.sig_questions.specs.declared.listing.NoQuestions.TheVariants.{Link, TooLong, OutOfMemory}
 use Rattle.sig_questions.specs.declared.listing.TrustParts.{TrustParts}
 
@@ -61,42 +64,46 @@ module _ (one : OneCertificate) (i : Inputs) (p : AnchoredParts i) where
     where
       listed : Contains (questions_of i.digest trust keys c) row ↔ IsAskedOf p row
       listed =
-          has_either (flat_map (certificate_questions c.certificate) trust.anchors)
-          (questions_behind i.digest trust keys c) row (has_certificate trust c.certificate row)
-          (has_either (flat_map (sct_questions trust.points c.certificate) trust.anchors)
+          has_either (certificate_questions trust c)
+          (questions_behind i.digest trust keys c) row (has_certificate trust c row)
+          (has_either (sct_questions trust c)
           (content_questions i.digest c ++ entry_questions keys c.entry) row
-          (has_point trust c.certificate read.sct row)
+          (has_point trust c read.sct row)
           (has_either (content_questions i.digest c) (entry_questions keys c.entry) row
           (has_content i.digest c read.spki row) (has_entry keys c.entry bytes row)))
 
       asked : IsAskedOf p row ↔ IsAskedBy i row
       asked = asked_as one p row
 
-  -- no anchor may have issued it
-  none_issues : issuer_questions trust c ≡ [] → ¬ HoldsUnasked i Issuer
+  -- no path may lead to a trust anchor
+  none_issues : certificate_questions trust c ≡ [] → ¬ HoldsUnasked i Issuer
   none_issues none holds =
-      let of : HasIssuer accepting.checker trust c.certificate =
-      checked_from one p (λ t x. HasIssuer accepting.checker t x.certificate) holds in
-      let x : Cert = of.first.anchor in
-      let row : AcceptedRow = certificate_row x.spki c.certificate.algorithm c.certificate.tbs
-      c.certificate.signature in
-      let has : Contains (issuer_questions trust c) row =
-      (has_certificate trust c.certificate row).1 (of.index, x, of.first.there, (of.first.issued, refl)) in
+      let of : HasIssuer accepting.checker trust c =
+      checked_from one p (λ t x. HasIssuer accepting.checker t x) holds in
+      let path = of.first.path in
+      let step = first_pair c.certificate path.over path.anchor in
+      let row : AcceptedRow = signature_row c.certificate step.0 in
+      let has : Contains (certificate_questions trust c) row =
+      (has_certificate trust c row).1 (path.over, path.anchor, path.path, (c.certificate, step.0, step.1, refl)) in
       empty_has row (subst (λ (rows : List AcceptedRow). Contains rows row) none has)
-
-  -- some anchor may have issued it
-  some_issues : issuer_questions trust c ≢ [] → HoldsUnasked i Issuer
-  some_issues some = by (issuer_questions trust c) refl
     where
-      by : (rows : List AcceptedRow) → issuer_questions trust c ≡ rows → HoldsUnasked i Issuer
+      first_pair : (d : Cert) (over : List Cert) (anchor : Cert) → (x : Cert) × IsNext d over anchor d x
+      first_pair d [] anchor = (anchor, (refl, refl))
+      first_pair d (x ∷ xs) anchor = (x, inl (refl, refl))
+
+  -- some path may
+  some_issues : certificate_questions trust c ≢ [] → HoldsUnasked i Issuer
+  some_issues some = by (certificate_questions trust c) refl
+    where
+      by : (rows : List AcceptedRow) → certificate_questions trust c ≡ rows → HoldsUnasked i Issuer
       by [] is = absurd (some is)
       by (row ∷ rows) is =
-          let has : Contains (issuer_questions trust c) row =
+          let has : Contains (certificate_questions trust c) row =
           subst (λ (rs : List AcceptedRow). Contains rs row) (sym is)
           (Contains-append_left (row ∷ []) rows row ((has_one row row).1 refl)) in
-          let of = (has_certificate trust c.certificate row).0 has in
-          checked_to p (λ t x. HasIssuer accepting.checker t x.certificate)
-          (some_issuer every_signature c.certificate p.anchors of.0 of.1 of.2 of.3.0)
+          let of = (has_certificate trust c row).0 has in
+          checked_to p (λ t x. HasIssuer accepting.checker t x)
+          (some_issuer every_signature (pool_over p.anchors c.further) c.certificate of.0 of.1 of.2)
 
 -- ---- what is listed
 
@@ -120,7 +127,7 @@ module _ (one : OneCertificate) (i : Inputs) (most : ℕ)
   are_questions : (rows : List AcceptedRow) → rows ≡ its_rows → AreQuestions i rows
   are_questions rows is = parts_to its (λ trust keys c. rows ≡ questions_of i.digest trust keys c) is
 
-  all_held : issuer_questions (trust_with its) parts.checked ≢ []
+  all_held : certificate_questions (trust_with its) parts.checked ≢ []
       → AllByRecursion (HoldsUnasked i) question_links
   all_held some = all_joined (HoldsUnasked i) front_links (Issuer ∷ []) front (some_issues one i its some, tt)
 

@@ -1,7 +1,7 @@
 -- *Question*: what the links of the chain of trust ask a checker, of inputs whose parts are there (RFC 5280 section
 -- 6.1.3; RFC 6962 section 3.2; DSSE protocol; Rekor's signed entry timestamp; the checkpoint format of
 -- transparency-dev).
-use Rattle.std.specs.Prelude.{◌≡◌, ◌⊎◌, ℕ, true, List, Some, slice_get}
+use Rattle.std.specs.Prelude.{◌≡◌, ◌⊎◌, ℕ, List, [], ◌∷◌, Option, Some, slice_get}
 use Rattle.sig_base.specs.declared.checker.AcceptedRow.{AcceptedRow}
 use Rattle.sig_base.specs.declared.scheme.VerifyScheme.{VerifyScheme}
 use Rattle.sig_checked_bundle.specs.Checked.{Checked}
@@ -21,36 +21,43 @@ use Rattle.sig_timestamp.specs.Vectors.{IsLong, IsShort}
 use Rattle.sig_verify.specs.CertificateLinks.{OfScheme, OfSct, Trust}
 use Rattle.sig_verify.specs.EntryLinks.{LogKeys, OfCheckpoint, OfLogKey}
 use Rattle.sig_verify.specs.Links.{Inputs, OfChecked, OfLogged}
-use Rattle.sig_x509.specs.Issuance.{Accepts}
-use Rattle.sig_x509.specs.Issued.{IsIssuedBy}
+use Rattle.sig_x509.specs.Path.{IsNext}
+use Rattle.sig_x509.specs.Pool.{pool_over}
+use Rattle.sig_x509.specs.Possible.{OfPossiblePath}
 use Rattle.sig_questions.specs.Rows.{certificate_row, message_row, point_row, prehash_row}
 
 -- ---- the certificate
 
--- every signature of a certificate is genuine
-abbrev pub every_signature : Accepts
-every_signature issuer algorithm tbs signature = true
+-- A certification path would lead from the certificate over the further ones of its bundle to a trust anchor, at the first
+-- second of the certificate's validity, if every signature of a certificate were genuine; and of it this holds.
+abbrev pub OfPath : Trust → Checked → (List Cert → Cert → Type 0) → Type 0
+OfPath trust c P = OfPossiblePath (pool_over trust.anchors c.further) c.certificate c.certificate.not_before P
 
--- x issued c if its signature is genuine: c signs code and is valid at the first second of its validity, and x has the
--- name of its issuer
-abbrev pub MayBeIssuer : Cert → Cert → Type 0
-MayBeIssuer c x = IsIssuedBy every_signature c c.not_before x
+-- the signature of y under the key of x
+abbrev pub signature_row : Cert → Cert → AcceptedRow
+signature_row y x = certificate_row x.spki y.algorithm y.tbs y.signature
 
--- some trust anchor may have issued the certificate, and of it this holds
-abbrev pub OfAnchor : Trust → Cert → (Cert → Type 0) → Type 0
-OfAnchor trust c P =
-    (index : ℕ) × (x : Cert) × (slice_get trust.anchors index ≡ Some x) × (MayBeIssuer c x × P x)
+-- two certificates of such a path, of which the one comes after the other
+abbrev pub IsCertificateRow : Trust → Checked → AcceptedRow → Type 0
+IsCertificateRow trust c row = OfPath trust c (λ path anchor.
+    (y : Cert) × (x : Cert) × IsNext c.certificate path anchor y x × (row ≡ signature_row y x))
 
--- the certificate under such a trust anchor
-abbrev pub IsCertificateRow : Trust → Cert → AcceptedRow → Type 0
-IsCertificateRow trust c row = OfAnchor trust c (λ x. row ≡ certificate_row x.spki c.algorithm c.tbs c.signature)
+-- who issued the certificate in a path
+abbrev pub issuer_in : List Cert → Cert → Cert
+issuer_in [] anchor = anchor
+issuer_in (x ∷ xs) anchor = x
 
--- its one SCT, over the certificate as issued by such a trust anchor, under the point of the SCT's log; what it signs
--- has bytes
-abbrev pub IsPointRow : Trust → Cert → AcceptedRow → Type 0
-IsPointRow trust c row = OfAnchor trust c (λ x. OfSct c (λ s. IsLong (precertificate c) × IsShort s.extensions
-    × (point : List ℕ) × (trust.points s.log_id ≡ Some point)
-    × (row ≡ point_row point (signed_bytes (signed_of c x.spki s)) s.signature)))
+-- the one SCT of a certificate, over the certificate as issued under the key of x, under the point of the SCT's log; what
+-- it signs has bytes
+abbrev pub IsPointRowUnder : (List ℕ → Option (List ℕ)) → Cert → Cert → AcceptedRow → Type 0
+IsPointRowUnder points c x row = OfSct c (λ s. IsLong (precertificate c) × IsShort s.extensions
+    × (point : List ℕ) × (points s.log_id ≡ Some point)
+    × (row ≡ point_row point (signed_bytes (signed_of c x.spki s)) s.signature))
+
+-- under the key of the issuer in such a path
+abbrev pub IsPointRow : Trust → Checked → AcceptedRow → Type 0
+IsPointRow trust c row =
+    OfPath trust c (λ path anchor. IsPointRowUnder trust.points c.certificate (issuer_in path anchor) row)
 
 -- ---- the content
 
@@ -86,8 +93,8 @@ IsNoteRow keys e row = OfLogKey keys e (λ key. OfCheckpoint e (λ p n. IsNoteRo
 
 abbrev pub IsAskedBy : Inputs → AcceptedRow → Type 0
 IsAskedBy i row =
-    OfChecked i (λ trust c. IsCertificateRow trust c.certificate row)
-    ⊎ (OfChecked i (λ trust c. IsPointRow trust c.certificate row)
+    OfChecked i (λ trust c. IsCertificateRow trust c row)
+    ⊎ (OfChecked i (λ trust c. IsPointRow trust c row)
     ⊎ (OfChecked i (λ trust c. IsContentRow i.digest c row)
     ⊎ (OfLogged i (λ keys e. IsPromiseRow keys e row)
     ⊎ OfLogged i (λ keys e. IsNoteRow keys e row))))

@@ -1,5 +1,5 @@
 -- What is listed, call by call.
-use Rattle.std.specs.Prelude.{◌≡◌, ◌≢◌, ◌↔◌, ℕ, ◌<◌, ◌≤◌, ℤ, List, [], Contains, flat_map, Result, Ok, Err}
+use Rattle.std.specs.Prelude.{◌≡◌, ◌≢◌, ◌↔◌, ℕ, ◌<◌, ◌≤◌, ℤ, List, [], Contains, Result, Ok, Err}
 use Rattle.std.specs.List.{AllByRecursion}
 use Rattle.sig_base.specs.declared.checker.AcceptedRow.{AcceptedRow}
 use Rattle.sig_bundle.specs.BundleRecord.{bundle_in}
@@ -34,18 +34,16 @@ Listing = Result (List AcceptedRow) NoQuestions
 abbrev pub trust_in : TrustParts → Trust
 trust_in parts = record { anchors = parts.anchors; points = point_at parts.keyring }
 
--- of the certificate under the trust anchors
-abbrev pub issuer_questions : Trust → Checked → List AcceptedRow
-issuer_questions trust c = flat_map (certificate_questions c.certificate) trust.anchors
+-- all rows, unless there is none of a certificate, or they are too long
+abbrev pub AreListedAs : List AcceptedRow → List AcceptedRow → ℕ → Listing → Type 0
+AreListedAs signed all most (Ok rows) = (rows ≡ all) × (signed ≢ []) × (bytes_of_rows rows ≤ most)
+AreListedAs signed all most (Err TooLong) = (signed ≢ []) × (most < bytes_of_rows all)
+AreListedAs signed all most (Err (Link link)) = (link ≡ Issuer) × (signed ≡ [])
+AreListedAs signed all most (Err OutOfMemory) = Unit {0}
 
--- all rows, unless there is none of the certificate, or they are too long
 abbrev pub AreListed : ArtifactDigest → Trust → LogKeys → Checked → ℕ → Listing → Type 0
-AreListed d trust keys c most (Ok rows) =
-    (rows ≡ questions_of d trust keys c) × (issuer_questions trust c ≢ []) × (bytes_of_rows rows ≤ most)
-AreListed d trust keys c most (Err TooLong) =
-    (issuer_questions trust c ≢ []) × (most < bytes_of_rows (questions_of d trust keys c))
-AreListed d trust keys c most (Err (Link link)) = (link ≡ Issuer) × (issuer_questions trust c ≡ [])
-AreListed d trust keys c most (Err OutOfMemory) = Unit {0}
+AreListed d trust keys c most result =
+    AreListedAs (certificate_questions trust c) (questions_of d trust keys c) most result
 
 -- what the root gives at a time
 pub record GivesTrust (root : TrustedRoot) (now : ℤ) (parts : TrustParts) : Type 0 where

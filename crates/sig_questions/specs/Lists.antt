@@ -1,5 +1,5 @@
 -- The questions in their order: those of each group, one behind the other.
-use Rattle.std.specs.Prelude.{ℕ, ◌-◌, ◌^◌, Bool, nat_lt, if◌then◌else◌, List, [], ◌∷◌, ◌++◌, length}
+use Rattle.std.specs.Prelude.{ℕ, ◌-◌, ◌^◌, Bool, true, false, nat_lt, map, if◌then◌else◌, List, [], ◌∷◌, ◌++◌, length}
 use Rattle.std.specs.Prelude.{flat_map, Option, Some, None, Result, Ok, Err}
 use Rattle.hex.specs.Hex.{encode_lower}
 use Rattle.sig_base.specs.ByText.{text_lookup}
@@ -31,20 +31,56 @@ use Rattle.sig_timestamp.specs.declared.sct_error.SCTError.{SCTError}
 use Rattle.sig_timestamp.specs.declared.signed.DigitallySigned.{DigitallySigned}
 use Rattle.sig_verify.specs.CertificateLinks.{Trust}
 use Rattle.sig_verify.specs.EntryLinks.{LogKeys}
-use Rattle.sig_x509.specs.Issuance.{is_issued}
-use Rattle.sig_questions.specs.Asked.{every_signature}
-use Rattle.sig_questions.specs.Rows.{certificate_row, message_row, point_row, prehash_row}
+use Rattle.sig_x509.specs.Pool.{present}
+use Rattle.sig_x509.specs.Possible.{SignedOne, SignerOne, anchor_signer, further_signed, further_signer, may_sign}
+use Rattle.sig_x509.specs.Possible.{the_leaf}
+use Rattle.sig_questions.specs.Asked.{signature_row}
+use Rattle.sig_questions.specs.Rows.{message_row, point_row, prehash_row}
 
--- ---- the certificate under a trust anchor
+-- ---- whose signatures, and under whose keys
 
-abbrev pub may_be_issuer : Cert → Cert → Bool
-may_be_issuer c x = is_issued every_signature c c.not_before x
+-- a trust anchor (true), or a further certificate
+abbrev pub Side : Type 0
+Side = Bool × Cert
 
-abbrev pub certificate_questions : Cert → Cert → List AcceptedRow
-certificate_questions c x =
-    if may_be_issuer c x then certificate_row x.spki c.algorithm c.tbs c.signature ∷ [] else []
+-- the trust anchors in order, and then the further certificates
+abbrev pub signers : Trust → Checked → List Side
+signers trust c = map (λ x. (true, x)) trust.anchors ++ map (λ x. (false, x)) c.further
 
--- ---- its SCT under a trust anchor
+-- the signature of a further certificate, or of the certificate itself (None), under the key of one of these
+abbrev pub Pair : Type 0
+Pair = Option Cert × Side
+
+abbrev pub pairs_with : Trust → Checked → Option Cert → List Pair
+pairs_with trust c y = map (λ side. (y, side)) (signers trust c)
+
+-- the signature of the certificate itself, then those of the further ones in order
+abbrev pub pairs : Trust → Checked → List Pair
+pairs trust c = flat_map (pairs_with trust c) (None ∷ present c.further)
+
+-- ---- those that lie on a path
+
+abbrev pub signed_side : Checked → Option Cert → SignedOne
+signed_side c None = the_leaf c.certificate c.certificate.not_before
+signed_side c (Some y) = further_signed c.further c.certificate c.certificate.not_before y
+
+abbrev pub signer_as : Trust → Checked → Bool → Cert → SignerOne
+signer_as trust c true x = anchor_signer x
+signer_as trust c false x = further_signer trust.anchors c.further c.certificate.not_before x
+
+abbrev pub signer_side : Trust → Checked → Side → SignerOne
+signer_side trust c side = signer_as trust c side.0 side.1
+
+abbrev pub signature_questions : SignedOne → SignerOne → List AcceptedRow
+signature_questions y x = if may_sign y x then signature_row y.certificate x.certificate ∷ [] else []
+
+abbrev pub pair_questions : Trust → Checked → Pair → List AcceptedRow
+pair_questions trust c pair = signature_questions (signed_side c pair.0) (signer_side trust c pair.1)
+
+abbrev pub certificate_questions : Trust → Checked → List AcceptedRow
+certificate_questions trust c = flat_map (pair_questions trust c) (pairs trust c)
+
+-- ---- the SCT under an issuer
 
 abbrev pub pointed_questions : Option (List ℕ) → DigitallySigned → List AcceptedRow
 pointed_questions None d = []
@@ -60,8 +96,16 @@ abbrev pub embedded_questions : (List ℕ → Option (List ℕ)) → Result Digi
 embedded_questions points (Ok d) = signed_questions points d
 embedded_questions points (Err e) = []
 
-abbrev pub sct_questions : (List ℕ → Option (List ℕ)) → Cert → Cert → List AcceptedRow
-sct_questions points c x = if may_be_issuer c x then embedded_questions points (ready c x.spki (sct_of c)) else []
+abbrev pub sct_questions_under : (List ℕ → Option (List ℕ)) → SignedOne → SignerOne → List AcceptedRow
+sct_questions_under points y x =
+    if may_sign y x then embedded_questions points (ready y.certificate x.certificate.spki (sct_of y.certificate))
+    else []
+
+abbrev pub side_questions : Trust → Checked → Side → List AcceptedRow
+side_questions trust c side = sct_questions_under trust.points (signed_side c None) (signer_side trust c side)
+
+abbrev pub sct_questions : Trust → Checked → List AcceptedRow
+sct_questions trust c = flat_map (side_questions trust c) (signers trust c)
 
 -- ---- the signature over the content
 
@@ -140,12 +184,9 @@ entry_questions keys e = entry_questions_under e (spki_named keys e.log_id)
 
 -- ---- all of them
 
--- behind the certificate's under each trust anchor
+-- behind those of certificates
 abbrev pub questions_behind : ArtifactDigest → Trust → LogKeys → Checked → List AcceptedRow
-questions_behind d trust keys c =
-    flat_map (sct_questions trust.points c.certificate) trust.anchors
-    ++ (content_questions d c ++ entry_questions keys c.entry)
+questions_behind d trust keys c = sct_questions trust c ++ (content_questions d c ++ entry_questions keys c.entry)
 
 abbrev pub questions_of : ArtifactDigest → Trust → LogKeys → Checked → List AcceptedRow
-questions_of d trust keys c =
-    flat_map (certificate_questions c.certificate) trust.anchors ++ questions_behind d trust keys c
+questions_of d trust keys c = certificate_questions trust c ++ questions_behind d trust keys c

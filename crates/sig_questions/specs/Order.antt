@@ -1,50 +1,56 @@
--- *Order of the questions*: by the links that ask for them, and for one link by its trust anchors, or by the signatures
--- of the note.
-use Rattle.std.specs.Prelude.{◌≡◌, ◌⊎◌, ◌↔◌, ℕ, ◌<◌, List, ◌∷◌, ◌++◌, map, Contains, Some, slice_get}
+-- *Order of the questions*: by the links that ask for them, and for one link by the certificates that were signed and by
+-- those that signed, or by the signatures of the note.
+use Rattle.std.specs.Prelude.{◌≡◌, ◌⊎◌, ◌↔◌, ℕ, ◌<◌, List, ◌∷◌, ◌++◌, map, Contains, Option, Some, None, slice_get}
 use Rattle.sig_base.specs.declared.checker.AcceptedRow.{AcceptedRow}
 use Rattle.sig_bundle.specs.declared.material.TransparencyLogEntry.{TransparencyLogEntry}
 use Rattle.sig_certificate.specs.Certificate.{Cert}
+use Rattle.sig_checked_bundle.specs.Checked.{Checked}
 use Rattle.sig_rekor.specs.NoteText.{note_text}
 use Rattle.sig_rekor.specs.declared.checkpoint.CheckpointSignature.{CheckpointSignature}
-use Rattle.sig_timestamp.specs.Precert.{precertificate}
-use Rattle.sig_timestamp.specs.SctBytes.{signed_bytes, signed_of}
-use Rattle.sig_timestamp.specs.Vectors.{IsLong, IsShort}
-use Rattle.sig_verify.specs.CertificateLinks.{OfSct, Trust}
+use Rattle.sig_verify.specs.CertificateLinks.{Trust}
 use Rattle.sig_verify.specs.EntryLinks.{LogKeys, OfCheckpoint, OfLogKey}
 use Rattle.sig_verify.specs.Links.{Inputs, OfChecked, OfLogged, chain_links}
 use Rattle.sig_verify.specs.declared.link.Link.{Link}
 use Rattle.sig_verify.specs.declared.link.Link.TheVariants.{Issuer, Sct, Signature, Promise, NoteKey}
-use Rattle.sig_questions.specs.Asked.{IsContentRow, IsPromiseRow, MayBeIssuer}
-use Rattle.sig_questions.specs.Rows.{certificate_row, message_row, point_row}
+use Rattle.sig_x509.specs.Possible.{IsFirstStep, IsLaterStep}
+use Rattle.sig_questions.specs.Asked.{IsContentRow, IsPointRowUnder, IsPromiseRow, OfPath, signature_row}
+use Rattle.sig_questions.specs.Lists.{Pair, Side, pairs, signers}
+use Rattle.sig_questions.specs.Rows.{message_row}
 
 -- ---- who asks for a signature
 
--- the trust anchor at this place may have issued the certificate, and of it this holds
-abbrev pub OfAnchorAt : ℕ → Trust → Cert → (Cert → Type 0) → Type 0
-OfAnchorAt place trust c P = (x : Cert) × (slice_get trust.anchors place ≡ Some x) × (MayBeIssuer c x × P x)
+-- the signature is of a path, and of this kind
+abbrev pub IsStepOf : Pair → List Cert → Cert → Type 0
+IsStepOf (None, side) path anchor = IsFirstStep path anchor side.0 side.1
+IsStepOf (Some y, side) path anchor = IsLaterStep path anchor side.0 y side.1
 
--- the certificate under that trust anchor
-abbrev pub IsCertificateRowAt : ℕ → Trust → Cert → AcceptedRow → Type 0
-IsCertificateRowAt place trust c row =
-    OfAnchorAt place trust c (λ x. row ≡ certificate_row x.spki c.algorithm c.tbs c.signature)
+abbrev pub signed_in : Checked → Option Cert → Cert
+signed_in c None = c.certificate
+signed_in c (Some y) = y
 
--- its one SCT, over the certificate as issued by that trust anchor
-abbrev pub IsPointRowAt : ℕ → Trust → Cert → AcceptedRow → Type 0
-IsPointRowAt place trust c row = OfAnchorAt place trust c (λ x. OfSct c (λ s. IsLong (precertificate c)
-    × IsShort s.extensions × (point : List ℕ) × (trust.points s.log_id ≡ Some point)
-    × (row ≡ point_row point (signed_bytes (signed_of c x.spki s)) s.signature)))
+-- the signature at this place among those of the certificate and of the further ones, each under the keys of the trust
+-- anchors and of the further ones
+abbrev pub IsCertificateRowAt : ℕ → Trust → Checked → AcceptedRow → Type 0
+IsCertificateRowAt place trust c row = (pair : Pair) × (slice_get (pairs trust c) place ≡ Some pair)
+    × (OfPath trust c (IsStepOf pair) × (row ≡ signature_row (signed_in c pair.0) pair.1.1))
+
+-- the SCT under the key at this place among those of the trust anchors and of the further certificates
+abbrev pub IsPointRowAt : ℕ → Trust → Checked → AcceptedRow → Type 0
+IsPointRowAt place trust c row = (side : Side) × (slice_get (signers trust c) place ≡ Some side)
+    × (OfPath trust c (IsStepOf (None, side)) × IsPointRowUnder trust.points c.certificate side.1 row)
 
 -- the signature of the checkpoint at this place, over its note
 abbrev pub IsNoteRowAt : ℕ → LogKeys → TransparencyLogEntry → AcceptedRow → Type 0
 IsNoteRowAt place keys e row = OfLogKey keys e (λ key. OfCheckpoint e (λ p n. (s : CheckpointSignature)
     × (slice_get n.signatures place ≡ Some s) × (row ≡ message_row key.0 key.1 (note_text n.note) s.raw)))
 
--- the link asks for it: `issuer` and `sct` for the trust anchor at this place, `note-key` for the signature of the note
--- at this place, and `signature` and `promise` for one signature, whose place is 0
+-- the link asks for it: `issuer` for the signature of the certificates at this place, `sct` for the issuer at this place,
+-- `note-key` for the signature of the note at this place, and `signature` and `promise` for one signature, whose place
+-- is 0
 abbrev pub IsAskedAt : Inputs → Link → ℕ → AcceptedRow → Type 0
 IsAskedAt i link place row =
-    ((link ≡ Issuer) × OfChecked i (λ trust c. IsCertificateRowAt place trust c.certificate row))
-    ⊎ (((link ≡ Sct) × OfChecked i (λ trust c. IsPointRowAt place trust c.certificate row))
+    ((link ≡ Issuer) × OfChecked i (λ trust c. IsCertificateRowAt place trust c row))
+    ⊎ (((link ≡ Sct) × OfChecked i (λ trust c. IsPointRowAt place trust c row))
     ⊎ (((link ≡ Signature) × (place ≡ 0) × OfChecked i (λ trust c. IsContentRow i.digest c row))
     ⊎ (((link ≡ Promise) × (place ≡ 0) × OfLogged i (λ keys e. IsPromiseRow keys e row))
     ⊎ ((link ≡ NoteKey) × OfLogged i (λ keys e. IsNoteRowAt place keys e row)))))

@@ -14,7 +14,8 @@ use Rattle.sig_verify.specs.declared.link.Link.{Link as LinkType}
 use Rattle.sig_verify.specs.declared.link.Link.TheVariants.{RootJson, BundleJson, Fulcio, Anchor, Ctfe}
 use Rattle.sig_verify.specs.declared.link.Link.TheVariants.{Material, Certificate, Leaf, RootInChain, Content}
 use Rattle.sig_verify.specs.declared.link.Link.TheVariants.{Envelope, Entry, Profile, Issuance, Issuer}
-use Rattle.sig_questions.specs.Asked.{IsAskedBy, every_signature}
+use Rattle.sig_x509.specs.Path.{every_signature}
+use Rattle.sig_questions.specs.Asked.{IsAskedBy}
 use Rattle.sig_questions.specs.Lists.{questions_of}
 use Rattle.sig_questions.specs.Rows.{HasScheme, bytes_of_rows, certificate_row, message_row, point_row, prehash_row}
 use Rattle.sig_questions.specs.declared.listing.NoQuestions.{NoQuestions}

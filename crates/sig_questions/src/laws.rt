@@ -13,10 +13,13 @@ pub fn questions_suffice()
     certificates();
 }
 
-/// With the row of a question in a table some link holds that does not hold without it.
+/// With the row of a question in a table some link holds that does not hold without it, or the row is the signature of an
+/// intermediate of a path that would lead to a trust anchor if every signature of a certificate were genuine.
 pub fn each_matters()
     ensures { EachQuestionMatters }
-{}
+{
+    certificates();
+}
 
 /// Inputs have one list of questions.
 pub fn one_list()

@@ -12,6 +12,7 @@ mod entry;
 mod front;
 pub mod laws;
 mod listing;
+mod paths;
 mod points;
 mod rows;
 

@@ -8,22 +8,22 @@ ghost use Rattle.sig_certificate.specs.Certificates.{AreCertificates};
 ghost use Rattle.sig_root.specs.OfBytes.{HasRawBytes};
 ghost use Rattle.sig_root.specs.Picked.{keys_of};
 ghost use Rattle.sig_root.specs.RootRecord.{trusted_root_in};
-ghost use Rattle.sig_timestamp.specs.RingKey.{point_at};
 ghost use Rattle.sig_verify.specs.EntryLinks.{IsOfBytes};
 ghost use Rattle.sig_verify.specs.LinkLaws.{IsReadCertificate};
 ghost use Rattle.sig_questions.specs.Asked.{IsAskedBy};
-ghost use Rattle.sig_questions.specs.Listed.{GivesTrust, AreListed, AreListedOf, IsAnswered, trust_in};
-ghost use Rattle.sig_questions.specs.Lists.{content_questions, entry_questions, questions_behind};
+ghost use Rattle.sig_questions.specs.Listed.{GivesTrust, AreListed, AreListedAs, AreListedOf, IsAnswered, trust_in};
+ghost use Rattle.sig_questions.specs.Lists.{content_questions, entry_questions};
 ghost use Rattle.sig_questions.specs.Order.{AreInOrder, IsAskedAt};
 ghost use Rattle.sig_questions.specs.Questions.{AreQuestions, IsDecided, Suffices};
-ghost use Rattle.sig_questions.specs.Written.{AddsRows};
+ghost use Rattle.sig_questions.specs.Written.{AddsRows, rows_behind, rows_of_paths};
 
-use crate::anchors::{push_certificates, read_anchors};
+use crate::anchors::read_anchors;
 use crate::bytes::is_read_certificate;
 use crate::content::push_content;
 use crate::entry::push_entry;
 use crate::front::{check_front, unread};
 use crate::laws::{listed_texts, questions_suffice};
+use crate::paths::push_certificates;
 use crate::points::push_points;
 use crate::rows::Rows;
 use sig_base::{AcceptedRow, KeyMap, OutOfMemory, Register};
@@ -35,6 +35,7 @@ use sig_root::laws::are_log_key_bytes;
 use sig_root::{SigstoreTrustRoot, TrustRoot, read_trusted_root};
 use sig_timestamp::Keyring;
 use sig_verify::{Link, keyring_of};
+use sig_x509::{PossiblePaths, possible_paths};
 use std::alloc::{AllocError, Global};
 use std::fmt;
 use thiserror::Error;
@@ -90,8 +91,11 @@ impl From<AllocError> for NoQuestions {
 /// 1970, `digest` is that of the artifact, and `most` is how many bytes all parts of all rows may have together. The
 /// rows come in the order in which the links ask:
 ///
-/// - the certificate, under the key of each trust anchor that may have issued it (RFC 5280 section 6.1.3);
-/// - what its SCT signs, under the point of the SCT's log, as issued by each of these (RFC 6962 section 3.2);
+/// - the certificate, and then each further one of the bundle, under the keys of the trust anchors and then of the further
+///   certificates: those of two that come one after the other in a path from the certificate to a trust anchor that
+///   would hold if every signature were genuine (RFC 5280 section 6.1);
+/// - what its SCT signs, under the point of the SCT's log, as issued under each of these keys in such a path (RFC 6962
+///   section 3.2);
 /// - the encoding of the envelope (DSSE protocol), or the SHA-256 digest of the artifact, under the certificate's key;
 /// - the text of the log's promise (Rekor's signed entry timestamp), under the key of the entry's log;
 /// - the note of the entry's checkpoint, with each of its signatures, under that key.
@@ -99,7 +103,7 @@ impl From<AllocError> for NoQuestions {
 /// A part that is not there, or that no checker is asked about, has no row. Errors:
 ///
 /// - `Link`: this link is the first that fails, whatever is accepted: one of those up to `issuance`, or `issuer` if no
-///   trust anchor may have issued the certificate;
+///   path would lead to a trust anchor;
 /// - `TooLong`: no link is, and the rows have more than `most` bytes. A row for which there is no room is not copied;
 /// - `OutOfMemory`.
 pub fn questions(
@@ -119,8 +123,8 @@ pub fn questions(
     // The rows are those of each group of links, one behind the other.
     ensures order { IfOk result (AreQuestions
         (record { root = trusted_root.now; now = now; digest = digest.now; bundle = bundle.now })) }
-    // Of two positions the smaller is of an earlier link, or of the same link and an earlier trust anchor, or signature of
-    // the note.
+    // Of two positions the smaller is of an earlier link, or of the same link and an earlier place: of the certificates
+    // that were signed and of those that signed, or of the signatures of the note.
     ensures places { IfOk result (AreInOrder (IsAskedAt
         (record { root = trusted_root.now; now = now; digest = digest.now; bundle = bundle.now }))) }
     // A link is refused if and only if it is the first of those up to `issuer` that fails whatever the checker and the
@@ -256,20 +260,35 @@ fn list(
     ensures bytes { OnOk result (IsOfBytes trust.now.log_keys bundle.now.entry) }
 {
     is_read_certificate(bundle);
+    let leaf = bundle.certificate();
+    let anchors = trust.anchors.as_slice();
+    let time = leaf.not_before();
+    let paths = possible_paths(alloc, leaf, anchors, bundle.further(), time)?;
+    list_paths(alloc, &paths, trust, digest, bundle, most)
+}
+
+/// The rows of the signatures of these paths, and those behind them.
+fn list_paths(
+    alloc: Global,
+    paths: &PossiblePaths<'_>,
+    trust: &TrustParts,
+    digest: &ArtifactDigest,
+    bundle: &CheckedBundle,
+    most: usize,
+) -> Result<Register<AcceptedRow>, NoQuestions>
+    ensures listed { AreListedAs (rows_of_paths paths.now) (rows_of_paths paths.now ++ rows_behind paths.now trust.now
+        digest.now bundle.now) most result }
+    ensures bytes { OnOk result (IsOfBytes trust.now.log_keys bundle.now.entry) }
+{
     let mut rows = Rows {
         rows: Register::new(alloc),
         room: most,
     };
-    push_certificates(
-        &mut rows,
-        alloc,
-        bundle.certificate(),
-        trust.anchors.as_slice(),
-    )?;
+    push_certificates(&mut rows, alloc, paths)?;
     if rows.rows.len() == 0 {
         return Err(NoQuestions::Link(Link::Issuer));
     }
-    push_behind(&mut rows, alloc, trust, digest, bundle)?;
+    push_behind(&mut rows, alloc, paths, trust, digest, bundle)?;
     Ok(rows.rows)
 }
 
@@ -277,21 +296,15 @@ fn list(
 fn push_behind(
     rows: &mut Rows,
     alloc: Global,
+    paths: &PossiblePaths<'_>,
     trust: &TrustParts,
     digest: &ArtifactDigest,
     bundle: &CheckedBundle,
 ) -> Result<(), NoQuestions>
-    ensures written { AddsRows rows.old (questions_behind digest.now (trust_in trust.now) trust.now.log_keys
-        bundle.now) result rows.new }
+    ensures written { AddsRows rows.old (rows_behind paths.now trust.now digest.now bundle.now) result rows.new }
     ensures bytes { OnOk result (IsOfBytes trust.now.log_keys bundle.now.entry) }
 {
-    push_points(
-        rows,
-        alloc,
-        bundle.certificate(),
-        trust.anchors.as_slice(),
-        &trust.keyring,
-    )?;
+    push_points(rows, alloc, &paths.leaf, &paths.signers, &trust.keyring)?;
     push_last(rows, alloc, &trust.log_keys, digest, bundle)
 }
 

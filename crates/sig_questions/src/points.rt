@@ -1,51 +1,50 @@
-//! The certificate's SCT under each trust anchor that may have issued it (RFC 6962 section 3.2).
+//! The certificate's SCT under each issuer of a path that would hold (RFC 6962 section 3.2).
 ghost use Rattle.std.specs.Prelude.{◌≡◌, flat_map};
 ghost use Rattle.sig_timestamp.specs.RingKey.{point_at};
-ghost use Rattle.sig_questions.specs.Lists.{sct_questions, signed_questions};
-ghost use Rattle.sig_questions.specs.Written.{AddsRows};
+ghost use Rattle.sig_questions.specs.Lists.{signed_questions};
+ghost use Rattle.sig_questions.specs.Written.{AddsRows, rows_of_point};
 
-use crate::anchors::may_be_issuer;
 use crate::listing::NoQuestions;
 use crate::rows::{RowParts, Rows};
 use sig_base::Operation;
-use sig_certificate::Certificate;
 use sig_timestamp::{
     CT_EXTENSIONS_MAX, CertificateEmbeddedSCT, DigitallySigned, Keyring, SCTError,
     TBS_CERTIFICATE_MAX, signed_bytes,
 };
+use sig_x509::{Signed, Signer, may_sign};
 use std::alloc::Global;
 
-/// The rows of all trust anchors, in order.
+/// The rows under the keys of all who may have signed the leaf, in order.
 pub(crate) fn push_points(
     rows: &mut Rows,
     alloc: Global,
-    leaf: &Certificate,
-    anchors: &[Certificate],
+    leaf: &Signed<'_>,
+    signers: &[Signer<'_>],
     keyring: &Keyring,
 ) -> Result<(), NoQuestions>
-    ensures { AddsRows rows.old (flat_map (sct_questions (point_at keyring.now) leaf.now) anchors.now) result
-        rows.new }
+    ensures { AddsRows rows.old (flat_map (rows_of_point (point_at keyring.now) leaf.now) signers.now) result rows.new }
 {
-    'anchors: for anchor in anchors {
-        push_point(rows, alloc, leaf, anchor, keyring)?;
+    'signers: for signer in signers {
+        push_point(rows, alloc, leaf, signer, keyring)?;
     }
     Ok(())
 }
 
-/// The row of a trust anchor, if it may have issued the leaf and the leaf has one SCT.
+/// The row under a key, if a path that would hold has the leaf under it and the leaf has one SCT.
 fn push_point(
     rows: &mut Rows,
     alloc: Global,
-    leaf: &Certificate,
-    anchor: &Certificate,
+    leaf: &Signed<'_>,
+    signer: &Signer<'_>,
     keyring: &Keyring,
 ) -> Result<(), NoQuestions>
-    ensures { AddsRows rows.old (sct_questions (point_at keyring.now) leaf.now anchor.now) result rows.new }
+    ensures { AddsRows rows.old (rows_of_point (point_at keyring.now) leaf.now signer.now) result rows.new }
 {
-    if !may_be_issuer(leaf, anchor) {
+    if !may_sign(leaf, signer) {
         return Ok(());
     }
-    match CertificateEmbeddedSCT::new_with_verified_path(alloc, leaf, anchor.spki()) {
+    let spki = signer.certificate.spki();
+    match CertificateEmbeddedSCT::new_with_verified_path(alloc, leaf.certificate, spki) {
         Ok(embedded) => {
             let signed = DigitallySigned::from_embedded(alloc, &embedded)?;
             push_signed(rows, alloc, &signed, keyring)

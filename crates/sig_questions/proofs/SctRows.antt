@@ -1,4 +1,4 @@
--- The rows of each anchor are those that the certificate and its SCT have under it.
+-- The rows of the SCT under each issuer of a path.
 use Rattle.std.proofs.Common.{◌≡◌, ◌↔◌, ℕ, ◌<◌, ◌-◌, ◌^◌, Bool, true, false, cond, nat_lt, List, [], ◌∷◌}
 use Rattle.std.proofs.Common.{length, Option, Some, None, Result, Ok, Err, inl, inr, refl, sym, subst, arith, ◌∙◌}
 use Rattle.std.specs.List.{flat_map}
@@ -22,40 +22,17 @@ use Rattle.sig_timestamp.specs.declared.sct_error.SCTError.TheVariants.{OutOfMem
 use Rattle.sig_timestamp.specs.declared.signed.DigitallySigned.{DigitallySigned}
 use Rattle.sig_verify.proofs.IssuerVerdicts.{itself}
 use Rattle.sig_verify.specs.CertificateLinks.{OfSct, Trust}
-use Rattle.sig_x509.proofs.IssuedLaws.{issued_from, issued_is}
-use Rattle.sig_questions.proofs.RowLaws.{has_each, empty_has, has_one}
-use Rattle.sig_questions.specs.Asked.{IsCertificateRow, IsPointRow, MayBeIssuer, every_signature}
-use Rattle.sig_questions.specs.Lists.{certificate_questions, embedded_questions, may_be_issuer, pointed_questions}
-use Rattle.sig_questions.specs.Lists.{sct_questions, signed_questions}
-use Rattle.sig_questions.specs.Rows.{certificate_row, point_row}
-
--- ---- an anchor that may have issued it
-
--- rows that are there only if it may
-pub if_may : (c x : Cert) (rows : List AcceptedRow) (row : AcceptedRow) (P : Type 0) → (Contains rows row ↔ P)
-    → Contains (cond (may_be_issuer c x) rows []) row ↔ (MayBeIssuer c x × P)
-if_may c x rows row P has = by (may_be_issuer c x) refl
-  where
-    by : (b : Bool) → may_be_issuer c x ≡ b → Contains (cond b rows []) row ↔ (MayBeIssuer c x × P)
-    by true is = (
-      (λ in_rows. (issued_from every_signature c c.not_before x is, has.0 in_rows)),
-      (λ both. has.1 both.1),
-    )
-    by false is = (
-      (λ in_none. absurd (empty_has row in_none)),
-      (λ both. absurd (let wrong : true ≡ false = sym (issued_is every_signature c c.not_before x both.0) ∙ is in cc)),
-    )
-
--- ---- the certificate
-
-pub has_certificate : (trust : Trust) (c : Cert) (row : AcceptedRow)
-    → Contains (flat_map (certificate_questions c) trust.anchors) row ↔ IsCertificateRow trust c row
-has_certificate trust c row =
-    has_each (certificate_questions c)
-    (λ x r. MayBeIssuer c x × (r ≡ certificate_row x.spki c.algorithm c.tbs c.signature)) trust.anchors row
-    (λ x. if_may c x (certificate_row x.spki c.algorithm c.tbs c.signature ∷ []) row
-    (row ≡ certificate_row x.spki c.algorithm c.tbs c.signature)
-    (has_one (certificate_row x.spki c.algorithm c.tbs c.signature) row))
+use Rattle.sig_x509.proofs.Elements.{at_contained, contains_at}
+use Rattle.sig_x509.proofs.PossibleLaws.{IsSigner, first_given, path_given}
+use Rattle.sig_x509.specs.Possible.{may_sign}
+use Rattle.sig_checked_bundle.specs.Checked.{Checked}
+use Rattle.sig_questions.proofs.PathRows.{if_rows, issuer_step, pair_law, same_of, side_fits, side_there, step_issuer}
+use Rattle.sig_questions.proofs.RowLaws.{OfSome, has_each, empty_has, has_one}
+use Rattle.sig_questions.specs.Asked.{IsPointRow, IsPointRowUnder, OfPath, issuer_in}
+use Rattle.sig_questions.specs.Lists.{Side, embedded_questions, pointed_questions, sct_questions, side_questions}
+use Rattle.sig_questions.specs.Lists.{signed_side, signed_questions, signer_as, signers}
+use Rattle.sig_questions.specs.Order.{IsStepOf}
+use Rattle.sig_questions.specs.Rows.{point_row}
 
 -- ---- its SCT
 
@@ -139,13 +116,73 @@ module _ (points : List ℕ → Option (List ℕ)) (c : Cert) (said : IsSaidOf c
       none (inl memory) = cc
       none (inr other) = cc
 
-  pub has_point_under : Contains (sct_questions points c x) row ↔ (MayBeIssuer c x × OfSct c IsOf)
-  has_point_under =
-      if_may c x (embedded_questions points (ready c x.spki (sct_of c))) row (OfSct c IsOf)
-      (of_read (sct_of c) refl said)
+  pub has_embedded : Contains (embedded_questions points (ready c x.spki (sct_of c))) row
+      ↔ IsPointRowUnder points c x row
+  has_embedded = of_read (sct_of c) refl said
 
-pub has_point : (trust : Trust) (c : Cert) → IsSaidOf c (sct_of c) → (row : AcceptedRow)
-    → Contains (flat_map (sct_questions trust.points c) trust.anchors) row ↔ IsPointRow trust c row
-has_point trust c said row =
-    has_each (sct_questions trust.points c) (λ x r. MayBeIssuer c x × OfSct c (IsOf trust.points c said x r))
-    trust.anchors row (λ x. has_point_under trust.points c said x row)
+module _ (trust : Trust) (c : Checked) (said : IsSaidOf c.certificate (sct_of c.certificate)) where
+  -- under a side that may have issued it
+  pub has_side : (trusted : Bool) (x : Cert) → IsSigner trust.anchors c.further c.certificate c.certificate.not_before
+      trusted x → (row : AcceptedRow) → Contains (side_questions trust c (trusted, x)) row
+      ↔ (OfPath trust c (IsStepOf (None, (trusted, x))) × IsPointRowUnder trust.points c.certificate x row)
+  has_side trusted x signs row =
+      let rows : List AcceptedRow =
+      embedded_questions trust.points (ready c.certificate (signer_as trust c trusted x).certificate.spki
+      (sct_of c.certificate)) in
+      let there = if_rows (may_sign (signed_side c None) (signer_as trust c trusted x)) rows row in
+      let law = pair_law trust c None trusted x signs in
+      let under = has_embedded trust.points c.certificate said (signer_as trust c trusted x).certificate row in
+      let same = signer_same trusted x in (
+        (λ has.
+            let both = there.0 has in (
+              law.0 both.0,
+              subst (λ (y : Cert). IsPointRowUnder trust.points c.certificate y row) same
+                  (under.0 both.1),
+            )),
+        (λ both. there.1 (
+          law.1 both.0,
+          under.1
+              (subst (λ (y : Cert). IsPointRowUnder trust.points c.certificate y row) (sym same) both.1),
+        )),
+      )
+    where
+      signer_same : (b : Bool) (y : Cert) → (signer_as trust c b y).certificate ≡ y
+      signer_same true y = refl
+      signer_same false y = refl
+
+  pub has_point : (row : AcceptedRow) → Contains (sct_questions trust c) row ↔ IsPointRow trust c row
+  has_point row = (to, back)
+    where
+      each : Contains (sct_questions trust c) row
+          ↔ OfSome (signers trust c) (λ s r. Contains (side_questions trust c s) r) row
+      each = has_each (side_questions trust c) (λ s r. Contains (side_questions trust c s) r) (signers trust c) row
+          (λ s. same_of)
+
+      to : Contains (sct_questions trust c) row → IsPointRow trust c row
+      to has =
+          let of = each.0 has in
+          let s : Side = of.1 in
+          let fits = side_fits trust c s.0 s.1 (contains_at (signers trust c) of.0 s of.2) in
+          let both = (has_side s.0 s.1 fits row).0 of.3 in
+          let path = both.0 in (
+            path.0,
+            path.1,
+            path.2,
+            subst (λ (y : Cert). IsPointRowUnder trust.points c.certificate y row)
+                (step_issuer path.0 path.1 s.0 s.1 path.3) both.1,
+          )
+
+      back : IsPointRow trust c row → Contains (sct_questions trust c) row
+      back (path, anchor, is, under) =
+          let step = issuer_step path anchor in
+          let x : Cert = issuer_in path anchor in
+          let fits = first_given trust.anchors c.further c.certificate c.certificate.not_before path anchor
+          (path_given trust.anchors c.further c.certificate c.certificate.not_before path anchor is) is.trusted step.0 x
+          step.1 in
+          let there = side_there trust c step.0 x fits in
+          each.1 (
+            there.0,
+            (step.0, x),
+            at_contained (signers trust c) (step.0, x) there,
+            (has_side step.0 x fits row).1 ((path, anchor, is, step.1), under),
+          )
