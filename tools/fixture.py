@@ -401,6 +401,32 @@ class MessageRequest(Request):
         return rows
 
 
+class ChainRequest(Request):
+    """A request whose leaf was issued by the first of these intermediates, and each by the next, and the last by the trust anchor; so the SCT is
+    over the key of the first. They are the certificates behind the leaf, unless `later` are; the profile is 0.2."""
+
+    def __init__(self, over, later=None, stamped=None, media_type="application/vnd.dev.sigstore.bundle+json;version=0.2", **changes):
+        super().__init__(media_type=media_type, **changes)
+        self.over, self.stamped = over, stamped or over[0]["key"]
+        self.later = [certificate(each) for each in over] if later is None else later
+
+    def bundle(self):
+        made = super().bundle()
+        leaf, *rest = made["verificationMaterial"].items()
+        chain = [leaf[1], *({"rawBytes": base64_of(each)} for each in self.later)]
+        return {**made, "verificationMaterial": {"x509CertificateChain": {"certificates": chain}, **dict(rest)}}
+
+    def accepted(self):
+        """Behind those of other requests, the intermediates'."""
+        rows = super().accepted()
+        signed = [self.leaf, *self.over]
+        signatures = [row("certificate", base64_of(one["algorithm"]), other["key"], tbs(one), one["signature"][3:])
+                      for one, other in zip(signed, [*self.over, self.anchor])]
+        stamp = {"time": 1702446655000, "more": b"", "signature": b"sig-sct", **self.stamp}
+        logged = signed_by_log(self.stamped, self.precertificate(), stamp["time"], stamp["more"])
+        return [signatures[0], row("point", None, point(CERTIFICATE_LOG_KEY), logged, stamp["signature"]), *rows[2:], *signatures[1:]]
+
+
 def pieces(content):
     """The elements that stand one after another."""
     found, at = [], 0

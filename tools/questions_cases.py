@@ -11,7 +11,8 @@
 
 The reader of a request of `log` is that of tools/log_requests.py, and that of one of `consistency` that of tools/consistency_requests.py. That
 of a request of `verify` asks the links of tools/verify_links.py: those
-before `issuer` for the first that fails, and the others for the signatures that they look up, under one trust anchor at a time.
+before `issuer` for the first that fails, and the others for the signatures that they look up, under one issuer at a time. Which
+certificates come after one another in a path, if every signature is genuine, it finds out by walking all paths.
 """
 import base64
 import json
@@ -26,6 +27,7 @@ import consistency_requests  # noqa: E402
 import fixture  # noqa: E402
 import log_requests  # noqa: E402
 import verify_cases  # noqa: E402
+import verify_certificate as certificates  # noqa: E402
 import verify_links as links  # noqa: E402
 import verify_rows  # noqa: E402
 from log_requests import NoRequest, rekor  # noqa: E402
@@ -103,17 +105,37 @@ def asked(case, *names, genuine=True):
     return case.request.accepted
 
 
+def steps_of_paths(case):
+    """Of each path from the leaf to a trust anchor, if every signature is genuine, who comes after whom: the leaf is 0 and then come the
+    later certificates; who signed is the place among the trust anchors and then the later certificates."""
+    signed, signers, found = [case.leaf, *case.later], [*case.anchors, *case.later], set()
+
+    def walk(steps, place):
+        for above, each in enumerate(signers):
+            if each.subject != signed[place].issuer:
+                continue
+            if above < len(case.anchors):
+                found.update([*steps, (place, above)])
+            elif len(steps) < links.LONGEST_PATH and certificates.may_stand(each, case.leaf.not_before, len(steps)):
+                walk([*steps, (place, above)], above - len(case.anchors) + 1)
+
+    if case.leaf.not_before <= case.leaf.not_after:
+        walk([], 0)
+    return signed, signers, sorted(found)
+
+
 def verify_questions(case):
     """What the links ask of a case of which those before `issuer` hold."""
-    anchors, certificates, points = case.anchors, [], []
-    for anchor in anchors:
-        case.anchors = [anchor]
-        under = asked(case, "issuer")
-        certificates += under
-        points += asked(case, "sct") if under else []
+    signed, signers, steps = steps_of_paths(case)
+    rows = [("certificate", signed[place].algorithm, signers[above].spki, signed[place].tbs, signed[place].signature) for place, above in steps]
+    points = []
+    for place, above in steps:
+        if place == 0:
+            case.issuer = signers[above]
+            points += asked(case, "sct")
     content, promise = asked(case, "key", "signature"), asked(case, "log-key", "promise")
     # Where the first look-up of a link says that a signature is genuine, no other of the note is looked up.
-    return certificates, points + content + promise + asked(case, "log-key", "checkpoint", "note-key", genuine=False)
+    return rows, points + content + promise + asked(case, "log-key", "checkpoint", "note-key", genuine=False)
 
 
 def written(row):
@@ -138,10 +160,10 @@ def verify_reply(text):
             link(case)
         except links.Fails:
             return "refused " + name, 1
-    certificates, others = verify_questions(case)
-    if not certificates:
+    rows, others = verify_questions(case)
+    if not rows:
         return "refused issuer", 1
-    found = document(list(map(written, certificates + others)))
+    found = document(list(map(written, rows + others)))
     return listing(text, found)
 
 

@@ -47,6 +47,11 @@ def message(**changed):
     return "message", changed
 
 
+def chain(over, **changed):
+    """As `parts`, of the request whose leaf these intermediates connect to the trust anchor."""
+    return "chain", {"over": over, **changed}
+
+
 def root(path, value):
     """The member of the trusted root at this path, as `tlogs.0.logId.keyId`; a function of the old value, or ABSENT, or the new value."""
     return "root", (path, value)
@@ -61,7 +66,8 @@ def request(path, value):
 
 
 def unaccepted(place):
-    """Without this row of `accepted`: 0 the leaf's, 1 the SCT's, 2 the envelope's, 3 the promise's, 4 the checkpoint's."""
+    """Without this row of `accepted`: 0 the leaf's, 1 the SCT's, 2 the envelope's, 3 the promise's, 4 the checkpoint's; of a chain, from 5 on
+    the intermediates'."""
     return "unaccepted", place
 
 
@@ -126,11 +132,11 @@ def of_kind(changes, kind):
 
 def built(changes):
     """The members of the request that the changes make of the fixture's."""
-    changed, messages = {}, of_kind(changes, "message")
-    for each in of_kind(changes, "parts") + messages:
+    changed, messages, chains = {}, of_kind(changes, "message"), of_kind(changes, "chain")
+    for each in of_kind(changes, "parts") + messages + chains:
         assert not set(changed) & set(each), "two changes of one part"
         changed.update(each)
-    made = (fixture.MessageRequest if messages else fixture.Request)(**changed)
+    made = (fixture.ChainRequest if chains else fixture.MessageRequest if messages else fixture.Request)(**changed)
     documents = {"root": made.trusted_root(), "bundle": made.bundle()}
     for name in documents:
         for path, value in of_kind(changes, name):

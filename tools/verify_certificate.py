@@ -78,19 +78,24 @@ def purposes(value):
     return [content for _, content, _ in elements]
 
 
-def is_authority(value):
-    """`cA` of basic constraints (section 4.2.1.9)."""
+def basic_constraints(value):
+    """`cA` and the path length (section 4.2.1.9), None where there is no length."""
     elements = x509.cut(sole(value, 0x30))
     authority = False
     if x509.tags(elements)[:1] == [1]:
         truth = elements.pop(0)[1]
         x509.ask(truth in (b"\x00", b"\xff"))
         authority = truth == b"\xff"
-    if elements:
-        length = elements[0][1]
-        x509.ask(x509.tags(elements) == [2] and 1 <= len(length) <= 4 and length[0] < 0x80)
-        x509.ask(len(length) == 1 or length[0] or length[1] >= 0x80)
-    return authority
+    if not elements:
+        return authority, None
+    length = elements[0][1]
+    x509.ask(x509.tags(elements) == [2] and 1 <= len(length) <= 4 and length[0] < 0x80)
+    x509.ask(len(length) == 1 or length[0] or length[1] >= 0x80)
+    return authority, int.from_bytes(length, "big")
+
+
+def is_authority(value):
+    return basic_constraints(value)[0]
 
 
 def alternative_names(value):
@@ -169,12 +174,25 @@ def leaf_refusal(certificate):
 KNOWN = (KEY_USAGE, ALTERNATIVE_NAME, BASIC_CONSTRAINTS, EXTENDED_KEY_USAGE)
 
 
+def is_fit(certificate):
+    """Whether it can be judged: all that is critical is known, and nothing is there twice."""
+    identifiers = [each.oid for each in certificate.extensions]
+    return (certificate.version == 3 and certificate.inner == certificate.algorithm and len(set(identifiers)) == len(identifiers)
+            and all(each.oid in KNOWN for each in certificate.extensions if each.critical) and not certificate.of(NAME_CONSTRAINTS))
+
+
 def is_issuable(leaf):
-    """Whether an issuer may be looked for: all that is critical is known, nothing is there twice, and it is no authority."""
-    identifiers = [each.oid for each in leaf.extensions]
-    return (leaf.version == 3 and leaf.inner == leaf.algorithm and len(set(identifiers)) == len(identifiers)
-            and all(each.oid in KNOWN for each in leaf.extensions if each.critical)
-            and not leaf.of(NAME_CONSTRAINTS) and not leaf.value(BASIC_CONSTRAINTS, is_authority))
+    """Whether an issuer may be looked for: it can be judged, and is no authority."""
+    return is_fit(leaf) and not leaf.value(BASIC_CONSTRAINTS, is_authority)
+
+
+def may_stand(certificate, time, others):
+    """Whether an intermediate may be in a path, with so many others between it and the leaf (sections 4.2.1.9 and 4.2.1.12)."""
+    if not is_fit(certificate) or authority_refusal(certificate) is not None:
+        return False
+    listed, length = certificate.value(EXTENDED_KEY_USAGE, purposes), certificate.value(BASIC_CONSTRAINTS, basic_constraints)[1]
+    return (certificate.not_before <= time <= certificate.not_after and listed != MALFORMED and (listed is None or CODE_SIGNING in listed)
+            and (length is None or others <= length))
 
 
 # SCTs, the precertificate that they sign, and keys.

@@ -257,11 +257,30 @@ def issuance(case):
     want(certificates.is_issuable(case.leaf), "Certificate(Malformed)")
 
 
+LONGEST_PATH = 6
+
+
+def is_signed(case, child, parent):
+    """Whether the one signed the other: the name alone does not tell."""
+    return parent.subject == child.issuer and ("certificate", child.algorithm, parent.spki, child.tbs, child.signature) in case.request.accepted
+
+
+def leads(case, place, others, told):
+    """Whether the later certificate at this place leads to a trust anchor, with so many others between it and the leaf. What was found out is `told`."""
+    if (place, others) not in told:
+        each = case.later[place]
+        told[place, others] = others < LONGEST_PATH and certificates.may_stand(each, case.leaf.not_before, others) and (
+            any(is_signed(case, each, anchor) for anchor in case.anchors)
+            or any(is_signed(case, each, other) and leads(case, above, others + 1, told) for above, other in enumerate(case.later)))
+    return told[place, others]
+
+
 def issuer(case):
-    """The first trust anchor that issued the leaf: the name alone does not tell."""
-    leaf = case.leaf
-    case.issuer = next((each for each in case.anchors if each.subject == leaf.issuer and leaf.not_before <= leaf.not_after and
-                        ("certificate", leaf.algorithm, each.spki, leaf.tbs, leaf.signature) in case.request.accepted), None)
+    """The first in a path from the leaf to a trust anchor, at the first second of its validity: the trust anchors, and then the later certificates."""
+    leaf, told = case.leaf, {}
+    want(leaf.not_before <= leaf.not_after, "Certificate(VerificationFailed)")
+    ways = [*((anchor, True) for anchor in case.anchors), *((each, place) for place, each in enumerate(case.later))]
+    case.issuer = next((each for each, place in ways if is_signed(case, leaf, each) and (place is True or leads(case, place, 0, told))), None)
     want(case.issuer, "Certificate(VerificationFailed)")
 
 

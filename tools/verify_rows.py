@@ -5,6 +5,7 @@ The pair of `content` and `envelope` is missing, since `envelope` is about an en
 import json
 
 import fixture
+import verify_rows_chains
 import verify_rows_content
 import verify_rows_documents
 import verify_rows_hundreds
@@ -321,6 +322,6 @@ def times():
 
 
 GROUPS = [links, indices, entries, ranges, log_keys, certificate_log_keys, issuers, promises, times]
-GROUPS += verify_rows_documents.GROUPS + verify_rows_content.GROUPS + verify_rows_message.GROUPS + verify_rows_hundreds.GROUPS
+GROUPS += verify_rows_chains.GROUPS + verify_rows_documents.GROUPS + verify_rows_content.GROUPS + verify_rows_message.GROUPS + verify_rows_hundreds.GROUPS
 GROUPS += verify_rows_limits.GROUPS
 MORE = [other_keys] + verify_rows_content.MORE
