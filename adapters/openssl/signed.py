@@ -99,8 +99,16 @@ def algorithm(kind, named):
 # A request.
 
 LINKS = {"certificate": "issuer", "sct": "sct", "content": "signature", "promise": "promise", "note": "note-key"}
+NAMES = ["root", "authority", "second authority"]  # the root, and what is below it
 WORKFLOW = {"trigger": "push", "sha": "0" * 40, "name": "release", "repository": "example/artifact",
             "ref": "refs/tags/v1"}
+
+
+def limited(others):
+    """The extensions of an authority below which so many others may be (RFC 5280 section 4.2.1.9)."""
+    limits = der(SEQUENCE, der(fixture.BOOLEAN, b"\xff"), der(0x02, bytes([others])))
+    return fixture.extensions(fixture.extension(fixture.BASIC_CONSTRAINTS, limits, critical=True),
+                              fixture.extension(fixture.KEY_USAGE, der(BIT_STRING, b"\x02\x04"), critical=True))
 
 
 def flipped(signature):
@@ -110,17 +118,23 @@ def flipped(signature):
 class Signed:
     """A trusted root, a bundle and an artifact. `leaf` and `log` are kinds of keys, or a leaf is
     a signer of its own; `authority` is a kind with a hash.
-    The content is an envelope or a message. With a chain an authority below the root issued the certificate; with a
-    rival the trusted root has another authority of its name before it. Of the `spoiled` signature, a title of `LINKS`,
-    the last bit is flipped, or a stranger's key of the same kind made it. Parts of other forms: the `stamps` are so
+    The content is an envelope or a message. With a chain so many authorities below the root, each issued by the one
+    above, come before the certificate, and the bundle has them; all are trust anchors, or with `alone` the root is the
+    only one. With a rival the trusted root has another authority of the issuer's name before it. Of the `spoiled`
+    signature, a title of `LINKS` or `authority`, the last bit is flipped, or a stranger's key of the same kind made it.
+    The bundle lacks the authority of the number that is `left_out`, counted from the lowest, of which `authorities` has
+    other parts; `uppermost` has those of the one below the root.
+    Parts of other forms: the `stamps` are so
     many SCTs, `issued` the extension with the issuer, `workflow` the texts of further ones, and `anchor` has other
     parts of trust anchors; `payload` makes the statement of a digest, and `body` the log entry's body from payload,
     signature and certificate."""
 
     def __init__(self, leaf="P-256", authority=("P-256", "SHA256"), log="P-256", content="envelope", profile="0.3",
                  chain=False, rival=False, spoiled=None, by="flip", artifact=b"an artifact\n", stamps=1, issued=None,
-                 anchor={}, payload=fixture.statement, body=fixture.body_of, workflow=WORKFLOW):
-        self.content, self.profile, self.chain, self.rival = content, profile, chain, rival
+                 anchor={}, payload=fixture.statement, body=fixture.body_of, workflow=WORKFLOW, alone=False,
+                 left_out=None, authorities={}, uppermost={}):
+        self.content, self.profile, self.chain, self.rival = content, profile, int(chain), rival
+        self.alone, self.left_out, self.changed = alone, left_out, (authorities, uppermost)
         self.spoiled, self.by, self.artifact, self.stamps, self.issued = spoiled, by, artifact, stamps, issued
         self.other_anchor, self.payload_of, self.body_of, self.workflow = anchor, payload, body, workflow
         self.rows, self.digest = {}, sha256(artifact)
@@ -143,20 +157,37 @@ class Signed:
 
     # The certificates, RFC 5280 section 4.1, and the SCT, RFC 6962 section 3.2.
 
-    def anchor(self, number, title, issuer_title, key, issuer, named):
-        parts = fixture.anchor(serial=b"\x02\x01" + bytes([number]), subject=fixture.name(title), key=key.spki,
-                               issuer=fixture.name(issuer_title), inner=algorithm(issuer.kind, named),
-                               algorithm=algorithm(issuer.kind, named))
-        sealed = der(BIT_STRING, b"\x00", issuer.sign(fixture.tbs({**parts, **self.other_anchor}), HASHES[named]))
-        return fixture.certificate({**parts, "signature": sealed, **self.other_anchor})
+    def anchor(self, number, title, issuer_title, key, issuer, named, changed={}):
+        """The certificate, and the row of its signature."""
+        made_with = algorithm(issuer.kind, named)
+        parts = {**fixture.anchor(serial=b"\x02\x01" + bytes([number]), subject=fixture.name(title), key=key.spki,
+                                  issuer=fixture.name(issuer_title), inner=made_with, algorithm=made_with),
+                 **self.other_anchor, **changed}
+        sealed = issuer.sign(fixture.tbs(parts), HASHES[named])
+        if self.spoiled == "authority" and number == 2:
+            stranger = signer(issuer.kind, "stranger")
+            sealed = flipped(sealed) if self.by == "flip" else stranger.sign(fixture.tbs(parts), HASHES[named])
+        made = fixture.certificate({**parts, "signature": der(BIT_STRING, b"\x00", sealed), **self.other_anchor})
+        return made, fixture.row("certificate", base64_of(made_with), issuer.spki, fixture.tbs(parts), sealed)
+
+    def authorities(self, kind, named):
+        """The root, the authorities below it, and the rows of their signatures."""
+        keys = [signer(kind, each) for each in NAMES[:self.chain + 1]]
+        self.anchors, self.signatures = [self.anchor(1, "root", "root", keys[0], keys[0], named)[0]], []
+        for place in range(self.chain):
+            lowest, uppermost = self.changed
+            changed = {**(uppermost if place == 0 else {}), **(lowest if place == self.chain - 1 else {})}
+            made, row = self.anchor(2 + place, NAMES[place + 1], NAMES[place], keys[place + 1], keys[place], named, changed)
+            self.anchors.insert(0, made)
+            self.signatures.insert(0, row)
+        return keys[-1]
 
     def issue(self, kind, named):
-        title = "authority" if self.chain else "root"
-        root, self.authority, rival = signer(kind, "root"), signer(kind, title), signer(kind, "stranger")
-        self.anchors = [self.anchor(1, "root", "root", root, root, named)]
-        if self.chain:
-            self.anchors.insert(0, self.anchor(2, "authority", "root", self.authority, root, named))
-        self.rivals = [self.anchor(3, title, title, rival, rival, named)] if self.rival else []
+        title, rival = NAMES[self.chain], signer(kind, "stranger")
+        self.authority = self.authorities(kind, named)
+        self.rivals = [self.anchor(9, title, title, rival, rival, named)[0]] if self.rival else []
+        self.trusted = self.rivals + (self.anchors[-1:] if self.alone else self.anchors)
+        self.further = [each for place, each in enumerate(self.anchors[:-1]) if place != self.left_out]
         made_with = algorithm(kind, named)
 
         def leaf(scts):
@@ -207,7 +238,7 @@ class Signed:
     # The files.
 
     def bundle(self):
-        listed = [{"rawBytes": base64_of(each)} for each in [self.certificate, *self.anchors[:-1]]]
+        listed = [{"rawBytes": base64_of(each)} for each in [self.certificate, *self.further]]
         signed_with = {"x509CertificateChain": {"certificates": listed}} if self.chain else {"certificate": listed[0]}
         content = {"messageSignature": {"messageDigest": {"algorithm": "SHA2_256", "digest": base64_of(self.digest)},
                                         "signature": base64_of(self.made)}}
@@ -223,14 +254,22 @@ class Signed:
         def log(key):
             return {"hashAlgorithm": "SHA2_256", "publicKey": {"rawBytes": base64_of(key.spki), "validFor": opened},
                     "logId": {"keyId": base64_of(sha256(key.spki))}}
-        certificates = [{"rawBytes": base64_of(each)} for each in self.rivals + self.anchors]
+        certificates = [{"rawBytes": base64_of(each)} for each in self.trusted]
         return {"mediaType": "application/vnd.dev.sigstore.trustedroot+json;version=0.1", "tlogs": [log(self.log)],
                 "certificateAuthorities": [{"certChain": {"certificates": certificates}, "validFor": opened}],
                 "ctlogs": [log(self.ct)]}
 
     def accepted(self, missing=()):
-        """The rows of all signatures but those with these titles, in the order in which the links ask for them."""
-        return [self.rows[title] for title in LINKS if title not in missing]
+        """The rows of all signatures but those with these titles, in the order in which the links ask for them: once for
+        each certificate that has the issuer's key, as trust anchor and in the bundle."""
+        def times(place):
+            return [*self.trusted, *self.further].count(self.anchors[place])
+        signed = [(self.rows["certificate"], times(0)) for title in ["certificate"] if title not in missing]
+        signed += [(row, times(place + 1)) for place, row in enumerate(self.signatures)
+                   if self.anchors[place] in self.further and "authority" not in missing]
+        rows = [row for row, count in signed for _ in range(count)]
+        rows += [self.rows["sct"]] * times(0) if "sct" not in missing else []
+        return rows + [self.rows[title] for title in list(LINKS)[2:] if title not in missing]
 
 
 def write(folder, signed):
