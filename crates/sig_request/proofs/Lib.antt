@@ -3,3 +3,4 @@ pub mod Reading
 pub mod RequestTexts
 pub mod PolicyRules
 pub mod Rules
+pub mod AuditRequests

@@ -1,4 +1,5 @@
 pub mod Accepted
+pub mod AuditRequest
 pub mod ConsistencyRequest
 pub mod DigestText
 pub mod HeadMembers

@@ -1,7 +1,7 @@
 //! The requests of all commands: the bytes of one, taken from a source up to their limit, and the JSON document that
 //! they are, read by the table of its members, with its accepted signatures row by row.
 //!
-//! A request of `log`; request.rt, verify_request.rt and consistency_request.rt show whole ones:
+//! A request of `log`; request.rt, verify_request.rt, consistency_request.rt and audit_request.rt show whole ones:
 //!
 //! ```text
 //! { "entry": "TDEyMzQ1Ng==", "logIndex": 0, "treeSize": 1, "rootHash": "395aa064..", "hashes": [],
@@ -13,6 +13,7 @@
 //! [`read_request`] takes all that a source has left, or one byte more than a request may have.
 #![tactic(auto)]
 
+mod audit_request;
 mod consistency_request;
 mod digest_text;
 mod head_members;
@@ -24,6 +25,7 @@ mod request_text;
 mod row;
 mod verify_request;
 
+pub use audit_request::{AuditRequest, HeadText};
 pub use consistency_request::ConsistencyRequest;
 pub use head_members::ClaimedHead;
 pub use read::{MOST_BYTES, REQUEST_LIMIT, ReadFault, read_request};

@@ -1,0 +1,9 @@
+-- Members of other names are not asked for.
+use Rattle.sig_json.proofs.Only.{member_of-only}
+use Rattle.sig_json.specs.Member.{required, optional_or}
+use Rattle.sig_request.specs.AuditRequest.{audit_members}
+use Rattle.sig_request.proofs.audit_request.AuditRequest.read.Goals as goal
+
+pub request_from_text-requires : goal.request_from_text-requires
+unfolding audit_members required optional_or
+request_from_text-requires c accepted tree = simp member_of-only
