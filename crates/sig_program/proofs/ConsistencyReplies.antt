@@ -9,7 +9,7 @@ use Rattle.sig_request.specs.ReadFrom.{IsRequestOf}
 use Rattle.sig_program.specs.Reply.{IsConsistentReply, IsReply, refusal_reply}
 use Rattle.sig_program.specs.declared.command.Command.TheVariants.{Consistency}
 use Rattle.sig_request.specs.declared.consistency_request.ConsistencyRequest.{ConsistencyRequest}
-use Rattle.sig_program.specs.declared.reply.Reply.{Reply}
+use Rattle.sig_reply.specs.declared.reply.Reply.{Reply}
 
 pub consistent-reply : (text : List ℕ) (request : ConsistencyRequest) (reply : Reply)
     → IsRequestOf consistency_request text request → IsConsistencyVerdict request None

@@ -9,7 +9,7 @@ use Rattle.sig_program.specs.Reply.{IsConsistentReply}
 use Rattle.sig_program.specs.SecondLine.{IsFrontLine}
 use Rattle.sig_program.specs.Suffice.{AgreeOnHead, ConsistencyQuestionsSuffice, consistency_with_accepted}
 use Rattle.sig_program.specs.declared.command.Command.TheVariants.{Consistency}
-use Rattle.sig_program.specs.declared.reply.Reply.{Reply}
+use Rattle.sig_reply.specs.declared.reply.Reply.{Reply}
 use Rattle.sig_request.specs.ConsistencyRequest.{consistency_request}
 use Rattle.sig_request.specs.ReadFrom.{IsRequestOf}
 use Rattle.sig_request.specs.declared.consistency_request.ConsistencyRequest.{ConsistencyRequest}

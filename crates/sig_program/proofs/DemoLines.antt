@@ -12,7 +12,7 @@ use Rattle.sig_json.proofs.Numerals.{digits_model}
 use Rattle.sig_merkle.specs.Root.{root}
 use Rattle.sig_rekor.specs.NoteText.{newline}
 use Rattle.sig_program.specs.Demo.{IsDemoLogged, IsLine, demo_reply, demo_text, logged_start}
-use Rattle.sig_program.specs.declared.reply.Reply.{Reply}
+use Rattle.sig_reply.specs.declared.reply.Reply.{Reply}
 
 -- the reply of this status and text
 abbrev pub made : ℕ → List ℕ → Reply

@@ -24,7 +24,7 @@ use Rattle.sig_program.specs.Demo.{IsDemoLogged}
 use Rattle.sig_program.specs.Link.{EveryLinkHolds, HoldsOfLog, log_links}
 use Rattle.sig_program.specs.Reply.{IsReply}
 use Rattle.sig_program.specs.declared.command.Command.TheVariants.{Log}
-use Rattle.sig_program.specs.declared.reply.Reply.{Reply}
+use Rattle.sig_reply.specs.declared.reply.Reply.{Reply}
 
 included : (count index : ℕ) → index < count
     → IsIncluded index (leaf_of (demo_entry index)) count (audit_path index (demo_entries count))

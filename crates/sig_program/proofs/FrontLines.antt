@@ -9,7 +9,8 @@ use Rattle.sig_merkle.specs.ConsistencyAnswer.{IsConsistent}
 use Rattle.sig_merkle.specs.HashedText.{AreHashedTexts}
 use Rattle.sig_merkle.specs.Root.{root}
 use Rattle.sig_program.specs.ConsistencyLink.{IsGrown}
-use Rattle.sig_program.specs.SecondLine.{AreOfNow, IsFront, IsFrontLineOf, collision_line, other_line, prefix_line}
+use Rattle.sig_program.specs.SecondLine.{AreOfNow, IsFront, IsFrontLineOf, prefix_line}
+use Rattle.sig_reply.specs.SecondLine.{collision_line, other_line}
 use Rattle.sig_request.specs.declared.consistency_request.ConsistencyRequest.{ConsistencyRequest}
 
 -- a tree that grew has no fewer entries than it had

@@ -22,13 +22,14 @@ use Rattle.sig_request.specs.Request.{log_request}
 use Rattle.sig_program.specs.HeadQuestions.{HeadQuestionsFit, HoldsHeadQuestions, HoldsOfHeadQuestions, IsCheckpointOf}
 use Rattle.sig_program.specs.HeadQuestions.{head_question_links, head_rows}
 use Rattle.sig_program.specs.Link.{EveryLinkHolds, IsFirstFailing}
-use Rattle.sig_program.specs.Reply.{IsHeadListing, IsHeadQuestionsReply, IsListingOf, IsReply, Succeeds, refusal_reply}
-use Rattle.sig_program.specs.RowsText.{FitsBeside}
+use Rattle.sig_program.specs.Reply.{IsHeadListing, IsHeadQuestionsReply, IsReplyByLinks, Succeeds, refusal_reply}
+use Rattle.sig_reply.specs.Reply.{IsListingOf}
+use Rattle.sig_reply.specs.RowsText.{FitsBeside}
 use Rattle.sig_program.specs.declared.command.Command.{Command}
 use Rattle.sig_program.specs.declared.command.Command.TheVariants.{LogQuestions, ConsistencyQuestions}
 use Rattle.sig_request.specs.declared.consistency_request.ConsistencyRequest.{ConsistencyRequest}
 use Rattle.sig_request.specs.declared.head_members.ClaimedHead.{ClaimedHead}
-use Rattle.sig_program.specs.declared.reply.Reply.{Reply}
+use Rattle.sig_reply.specs.declared.reply.Reply.{Reply}
 use Rattle.sig_request.specs.declared.request.LogRequest.{LogRequest}
 use Rattle.sig_request.specs.ReadFrom.{IsRequestOf}
 
@@ -73,16 +74,16 @@ module _ {R : Type 0} (command : Command) (meaning : Data → Option R) (head_of
   -- what fails first of the request
   refused : (link : Link)
       → FailsFirst (HoldsOfHeadQuestions text (head_of request)) head_question_links link
-      → IsReply command text (refusal_reply link)
+      → IsReplyByLinks command text (refusal_reply link)
   refused link first =
       first-reply command text link (first_fails link
       (first-of_text (IsRequestOf meaning text) (λ r. HoldsOfHeadQuestions text (head_of r)) (one_request meaning text)
       request head_question_links link is first))
 
   -- the checkpoint has no reading, or its signatures are listed, or do not fit
-  listed-or_not : (reply : Reply) → IsHeadListing text (head_of request) reply → IsReply command text reply
+  listed-or_not : (reply : Reply) → IsHeadListing text (head_of request) reply → IsReplyByLinks command text reply
   listed-or_not reply (inl (none, made)) =
-      subst (IsReply command text) (sym made) (refused Checkpoint
+      subst (IsReplyByLinks command text) (sym made) (refused Checkpoint
       (inr (λ checkpoint read. absurd (none checkpoint read), inl (λ holds. none holds.0 holds.1, refl))))
   listed-or_not reply (inr (checkpoint, read, inl made)) =
       let its : IsHeadQuestionsReply (head_of request) reply =
@@ -94,23 +95,23 @@ module _ {R : Type 0} (command : Command) (meaning : Data → Option R) (head_of
       head_question_links is
       (fits text (head_of request) checkpoint read made.0, ((checkpoint, read.0, tt), tt))))
   listed-or_not reply (inr (checkpoint, read, inr made)) =
-      subst (IsReply command text) (sym made.1) (refused Request
+      subst (IsReplyByLinks command text) (sym made.1) (refused Request
       (inl (λ fit. absurd (made.0 (fit checkpoint read.0)), refl)))
 
   head-replied : (r : Result Reply OutOfMemory) → IfOk r (IsHeadListing text (head_of request))
-      → IfOk r (IsReply command text)
-  head-replied r = IfOk-weaker r (IsHeadListing text (head_of request)) (IsReply command text) listed-or_not
+      → IfOk r (IsReplyByLinks command text)
+  head-replied r = IfOk-weaker r (IsHeadListing text (head_of request)) (IsReplyByLinks command text) listed-or_not
 
 pub log-questions-replied : (text : List ℕ) (request : LogRequest) (r : Result Reply OutOfMemory)
     → IsRequestOf log_request text request → IfOk r (IsHeadListing text request.head)
-    → IfOk r (IsReply LogQuestions text)
+    → IfOk r (IsReplyByLinks LogQuestions text)
 log-questions-replied text request r is =
     head-replied LogQuestions log_request (λ (q : LogRequest). q.head) text request is
     (λ link first. first) (λ every. every) (λ reply its. its) r
 
 pub consistency-questions-replied : (text : List ℕ) (request : ConsistencyRequest) (r : Result Reply OutOfMemory)
     → IsRequestOf consistency_request text request → IfOk r (IsHeadListing text request.head)
-    → IfOk r (IsReply ConsistencyQuestions text)
+    → IfOk r (IsReplyByLinks ConsistencyQuestions text)
 consistency-questions-replied text request r is =
     head-replied ConsistencyQuestions consistency_request (λ (q : ConsistencyRequest). q.head) text request is
     (λ link first. first) (λ every. every) (λ reply its. its) r

@@ -11,14 +11,12 @@ pub mod DemoLines
 pub mod DemoLinks
 pub mod Included
 pub mod Invocations
-pub mod Listings
 pub mod LogReplies
 pub mod LogVerdicts
 pub mod Logged
 pub mod NoteRows
 pub mod Replies
 pub mod RowSizes
-pub mod RowsTexts
 pub mod Runs
 pub mod SecondLines
 pub mod Sufficing

@@ -8,7 +8,7 @@ use Rattle.sig_request.specs.ReadFrom.{IsRequestOf}
 use Rattle.sig_program.specs.Reply.{IsLoggedReply, IsReply, refusal_reply}
 use Rattle.sig_request.specs.Request.{log_request}
 use Rattle.sig_program.specs.declared.command.Command.TheVariants.{Log}
-use Rattle.sig_program.specs.declared.reply.Reply.{Reply}
+use Rattle.sig_reply.specs.declared.reply.Reply.{Reply}
 use Rattle.sig_request.specs.declared.request.LogRequest.{LogRequest}
 
 pub logged-reply : (text : List ℕ) (request : LogRequest) (reply : Reply) → IsRequestOf log_request text request

@@ -12,10 +12,10 @@ use Rattle.sig_verify.specs.declared.link.Link.TheVariants.{Request}
 use Rattle.sig_request.specs.Limit.{most_bytes}
 use Rattle.sig_program.specs.Link.{links, Holds, EveryLinkHolds, IsFirstFailing}
 use Rattle.sig_request.specs.ReadFrom.{IsReadFrom, IsRequestOf}
-use Rattle.sig_program.specs.Reply.{IsReply, Succeeds, refusal_reply, status_of}
+use Rattle.sig_program.specs.Reply.{IsReplyByLinks, Succeeds, refusal_reply, status_of}
 use Rattle.sig_program.specs.declared.command.Command.{Command}
 use Rattle.sig_program.specs.declared.command.Command.TheVariants.{Log}
-use Rattle.sig_program.specs.declared.reply.Reply.{Reply}
+use Rattle.sig_reply.specs.declared.reply.Reply.{Reply}
 
 -- a refusal has no status 0
 refused-status : (link : Link) → status_of link ≡ 0 → ⊥
@@ -24,7 +24,7 @@ refused-status other e = cc
 
 -- the reply where every link holds
 pub every-reply : (command : Command) (text : List ℕ) (reply : Reply) → reply.status ≡ 0 → Succeeds command text reply
-    → EveryLinkHolds command text → IsReply command text reply
+    → EveryLinkHolds command text → IsReplyByLinks command text reply
 every-reply command text reply zero succeeds every = record {
   decided = inl every;
   succeeds = (λ _. every, λ _. zero);
@@ -34,7 +34,7 @@ every-reply command text reply zero succeeds every = record {
 
 -- the reply where a link is the first that fails
 pub first-reply : (command : Command) (text : List ℕ) (link : Link) → IsFirstFailing command text link
-    → IsReply command text (refusal_reply link)
+    → IsReplyByLinks command text (refusal_reply link)
 first-reply command text link first = record {
   decided = inr (link, first);
   succeeds = (
@@ -73,12 +73,12 @@ unmet-request Log text fails = inl (fails, refl)
 unmet-request other text fails = inl (fails, refl)
 
 unread-reply : (command : Command) (text : List ℕ) → ¬ Holds command text Request
-    → IsReply command text (refusal_reply Request)
+    → IsReplyByLinks command text (refusal_reply Request)
 unread-reply command text fails = first-reply command text Request (unmet-request command text fails)
 
 -- a text that is too long is no request
 pub long-reply : (command : Command) (text : List ℕ) → most_bytes < length text
-    → IsReply command text (refusal_reply Request)
+    → IsReplyByLinks command text (refusal_reply Request)
 long-reply Log text long = unread-reply Log text (λ holds. omega (arith, holds.1.short, long))
 long-reply other text long = unread-reply other text (λ holds. omega (arith, holds.1.short, long))
 
@@ -86,8 +86,8 @@ long-reply other text long = unread-reply other text (λ holds. omega (arith, ho
 
 -- a reply that is made as this one
 pub replied : (command : Command) (text : List ℕ) (wanted : Reply) (r : Result Reply OutOfMemory)
-    → IfOk r (λ reply. reply ≡ wanted) → IsReply command text wanted → IfOk r (IsReply command text)
-replied command text wanted (Ok reply) is meant = subst (IsReply command text) (sym is) meant
+    → IfOk r (λ reply. reply ≡ wanted) → IsReplyByLinks command text wanted → IfOk r (IsReplyByLinks command text)
+replied command text wanted (Ok reply) is meant = subst (IsReplyByLinks command text) (sym is) meant
 replied command text wanted (Err memory) is meant = tt
 
 -- no request was read, of a text of which the command's request holds only if it is one
@@ -95,7 +95,7 @@ pub unread-replied : {R : Type 0} (command : Command) (meaning : Data → Option
     (found : Option R) (r : Result Reply OutOfMemory)
     → (Holds command text Request → (request : R) × IsRequestOf meaning text request)
     → IfOk r (λ reply. reply ≡ refusal_reply Request) → found ≡ None → IsReadFrom meaning text found
-    → IfOk r (IsReply command text)
+    → IfOk r (IsReplyByLinks command text)
 unread-replied {R} command meaning text found r needs is none read =
     let no_request : (request : R) → ¬ IsRequestOf meaning text request = subst (IsReadFrom meaning text) none read in
     replied command text (refusal_reply Request) r is (unread-reply command text
@@ -112,16 +112,16 @@ module _ {R : Type 0} (command : Command) (meaning : Data → Option R) (Of : R 
     (is : IsRequestOf meaning text request) (judged : Of request verdict) where
   -- a link failed
   pub refused-replied : (link : Link)
-      → (IsRequestOf meaning text request → Of request (Some link) → IsReply command text (refusal_reply link))
-      → IfOk r (λ reply. reply ≡ refusal_reply link) → verdict ≡ Some link → IfOk r (IsReply command text)
+      → (IsRequestOf meaning text request → Of request (Some link) → IsReplyByLinks command text (refusal_reply link))
+      → IfOk r (λ reply. reply ≡ refusal_reply link) → verdict ≡ Some link → IfOk r (IsReplyByLinks command text)
   refused-replied link refused made which =
       replied command text (refusal_reply link) r made (refused is (subst (Of request) which judged))
 
   -- every link holds
   pub vouched-replied : (Made : Reply → Type 0)
       → ((reply : Reply) → IsRequestOf meaning text request → Of request None → Made reply
-      → IsReply command text reply)
-      → IfOk r Made → verdict ≡ None → IfOk r (IsReply command text)
+      → IsReplyByLinks command text reply)
+      → IfOk r Made → verdict ≡ None → IfOk r (IsReplyByLinks command text)
   vouched-replied Made vouched made none =
-      IfOk-weaker r Made (IsReply command text)
+      IfOk-weaker r Made (IsReplyByLinks command text)
       (λ reply. vouched reply is (subst (Of request) none judged)) made

@@ -17,8 +17,8 @@ use Rattle.sig_json.specs.Data.{Members, member, no_members}
 use Rattle.sig_json.specs.Written.{comma_if, compact_text, members_text}
 use Rattle.sig_questions.specs.Rows.{HasScheme, IsSchemeUnder, bytes_of_rows, row_bytes}
 use Rattle.sig_base.proofs.AcceptedRows.{as_row}
-use Rattle.sig_program.proofs.RowsTexts.{rows_text-length}
-use Rattle.sig_program.specs.RowsText.{operation_word, row_members, row_tree, rows_size, rows_text}
+use Rattle.sig_reply.proofs.RowsTexts.{rows_text-length}
+use Rattle.sig_reply.specs.RowsText.{operation_word, row_members, row_tree, rows_size, rows_text}
 
 -- ---- a text in quotes, and bytes in base64
 

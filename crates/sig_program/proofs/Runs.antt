@@ -6,11 +6,12 @@ use Rattle.std.proofs.Math.Seq.{drop-append_seam}
 use Rattle.sig_base.specs.Stream.{HandsOver, TookCount, Rose}
 use Rattle.sig_verify.specs.declared.link.Link.{Link}
 use Rattle.sig_verify.specs.declared.link.Link.TheVariants.{Request}
-use Rattle.sig_program.specs.declared.reply.Reply.{Reply}
-use Rattle.sig_program.specs.Reply.{IsReply, refusal_reply, status_of}
+use Rattle.sig_reply.specs.declared.reply.Reply.{Reply}
+use Rattle.sig_program.specs.Reply.{IsReply, IsReplyByLinks, refusal_reply, status_of}
 use Rattle.sig_program.specs.declared.command.Command.{Command}
-use Rattle.sig_program.specs.declared.command.Command.TheVariants.{Log, Verify, Consistency, LogQuestions}
+use Rattle.sig_program.specs.declared.command.Command.TheVariants.{Log, Verify, Consistency, Audit, LogQuestions}
 use Rattle.sig_program.specs.declared.command.Command.TheVariants.{VerifyQuestions, ConsistencyQuestions}
+use Rattle.sig_program.specs.declared.command.Command.TheVariants.{AuditQuestions}
 use Rattle.sig_program.specs.Command.{words_of, Names, IsCommand}
 use Rattle.sig_request.specs.Limit.{TakesUpTo}
 use Rattle.std.specs.Io.KnownBytes.{Appends}
@@ -20,6 +21,9 @@ use Rattle.sig_program.specs.Invocation.{Invokes, IsDemo, IsInvocation}
 use Rattle.sig_program.specs.declared.invocation.Invocation.{Invocation}
 use Rattle.sig_program.specs.declared.invocation.Invocation.TheVariants as invocation
 use Rattle.sig_program.specs.Run.{IsReplyOf, RepliesTo, WriteFaulted, AppendsFront, HandsRests, WritesRests, usage_line}
+use Rattle.sig_audit_command.proofs.AuditReplies.{long-audit}
+use Rattle.sig_audit_command.proofs.QuestionReplies.{long-asked}
+use Rattle.sig_audit_command.proofs.Replies.{decided-small}
 use Rattle.sig_program.proofs.Replies.{long-reply}
 
 -- all that was left, fewer than n bytes
@@ -53,12 +57,24 @@ RepliesTo-whole command old new bytes reply all short meant = record {
   meant = meant;
 }
 
+-- a text that is too long is no request of any command
+long-meant : (command : Command) (text : List ℕ) → 16777217 ≤ length text
+    → IsReply command text (refusal_reply Request)
+long-meant Log text long = long-reply Log text long
+long-meant Verify text long = long-reply Verify text long
+long-meant Consistency text long = long-reply Consistency text long
+long-meant Audit text long = long-audit text long
+long-meant LogQuestions text long = long-reply LogQuestions text long
+long-meant VerifyQuestions text long = long-reply VerifyQuestions text long
+long-meant ConsistencyQuestions text long = long-reply ConsistencyQuestions text long
+long-meant AuditQuestions text long = long-asked text long
+
 -- the reply to one that is too long
 pub RepliesTo-long : (command : Command) (old new : Option (List ℕ)) (reply : Reply) → TookCount old new 16777217
     → reply ≡ refusal_reply Request → RepliesTo command old new reply
 RepliesTo-long command old new reply took refused =
     let long = TakesUpTo-long 16777217 old new took in
-    let meant : IsReply command long.0 (refusal_reply Request) = long-reply command long.0 long.2 in
+    let meant : IsReply command long.0 (refusal_reply Request) = long-meant command long.0 long.2 in
     record { text = long.0; request = long.1; meant = subst (IsReply command long.0) (sym refused) meant }
 
 -- the status of a refusal, and of every reply
@@ -66,13 +82,24 @@ status_of-small : (link : Link) → status_of link < 3
 status_of-small Request = lit< tt
 status_of-small other = lit< tt
 
-IsReply-small : (command : Command) (text : List ℕ) (reply : Reply) → IsReply command text reply → reply.status < 3
-IsReply-small command text reply meant =
+by_links-small : (command : Command) (text : List ℕ) (reply : Reply) → IsReplyByLinks command text reply
+    → reply.status < 3
+by_links-small command text reply meant =
     elim meant.decided [
       | inl every ↦ let zero = meant.succeeds.1 every in omega arith
       | inr first ↦ let P : Reply → Type 0 = λ r. r.status < 3 in
           subst P (sym (meant.refused first.0 first.1)) (status_of-small first.0)
     ]
+
+IsReply-small : (command : Command) (text : List ℕ) (reply : Reply) → IsReply command text reply → reply.status < 3
+IsReply-small Log text reply meant = by_links-small Log text reply meant
+IsReply-small Verify text reply meant = by_links-small Verify text reply meant
+IsReply-small Consistency text reply meant = by_links-small Consistency text reply meant
+IsReply-small Audit text reply meant = decided-small _ _ _ reply meant
+IsReply-small LogQuestions text reply meant = by_links-small LogQuestions text reply meant
+IsReply-small VerifyQuestions text reply meant = by_links-small VerifyQuestions text reply meant
+IsReply-small ConsistencyQuestions text reply meant = by_links-small ConsistencyQuestions text reply meant
+IsReply-small AuditQuestions text reply meant = decided-small _ _ _ reply meant
 
 pub IsReplyOf-small : (asked : Invocation) (old new : Option (List ℕ)) (reply : Reply) → IsReplyOf asked old new reply
     → reply.status < 3
@@ -149,9 +176,11 @@ named-short : (command : Command) → (1 ≤ length (words_of command)) × (leng
 named-short Log = (lit≤ tt, lit≤ tt)
 named-short Verify = (lit≤ tt, lit≤ tt)
 named-short Consistency = (lit≤ tt, lit≤ tt)
+named-short Audit = (lit≤ tt, lit≤ tt)
 named-short LogQuestions = (lit≤ tt, lit≤ tt)
 named-short VerifyQuestions = (lit≤ tt, lit≤ tt)
 named-short ConsistencyQuestions = (lit≤ tt, lit≤ tt)
+named-short AuditQuestions = (lit≤ tt, lit≤ tt)
 
 pub IsCommand-many : (words : List (List ℕ)) → 3 ≤ length words → ¬ IsCommand words
 IsCommand-many words many (command, named) = omega (arith, many, ap length named, (named-short command).1)

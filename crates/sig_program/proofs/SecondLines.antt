@@ -15,7 +15,8 @@ use Rattle.sig_rekor.specs.declared.inclusion_proof.InclusionProof.{InclusionPro
 use Rattle.sig_verify.proofs.EntryPaths.{pos_same}
 use Rattle.sig_program.proofs.Logged.{included-at, logged-negative}
 use Rattle.sig_program.specs.ProofOf.{IsProofOf}
-use Rattle.sig_program.specs.SecondLine.{AreOfProof, IsEntryAt, IsLineOf, collision_line, entry_line, other_line}
+use Rattle.sig_program.specs.SecondLine.{AreOfProof, IsEntryAt, IsLineOf, entry_line}
+use Rattle.sig_reply.specs.SecondLine.{collision_line, other_line}
 
 -- the root of as many entries as there are
 pub whole_list : (entries : List (List ℕ)) (count : ℕ) → count ≡ length entries

@@ -16,13 +16,13 @@ use Rattle.sig_request.proofs.RequestTexts.{one_request}
 use Rattle.sig_program.specs.Head.{HasAcceptedSignature, OfHeadCheckpoint, head_row}
 use Rattle.sig_program.specs.HeadQuestions.{head_rows}
 use Rattle.sig_program.specs.Link.{Holds, HoldsOfLog, links}
-use Rattle.sig_program.specs.Reply.{IsLoggedReply, IsReply, Succeeds}
+use Rattle.sig_program.specs.Reply.{IsLoggedReply, IsReplyByLinks, Succeeds}
 use Rattle.sig_request.specs.Request.{log_request}
 use Rattle.sig_program.specs.Suffice.{AgreeOnHead, LogQuestionsSuffice, head_with_accepted, log_with_accepted}
 use Rattle.sig_program.specs.declared.command.Command.{Command}
 use Rattle.sig_program.specs.declared.command.Command.TheVariants.{Log}
 use Rattle.sig_request.specs.declared.head_members.ClaimedHead.{ClaimedHead}
-use Rattle.sig_program.specs.declared.reply.Reply.{Reply}
+use Rattle.sig_reply.specs.declared.reply.Reply.{Reply}
 use Rattle.sig_request.specs.declared.request.LogRequest.{LogRequest}
 use Rattle.sig_request.specs.ReadFrom.{IsRequestOf}
 
@@ -40,7 +40,7 @@ alike-other command text other alike = record {
 }
 
 pub alike-reply : (command : Command) (text other : List ℕ) → AreAlike command text other → (reply : Reply)
-    → IsReply command text reply → IsReply command other reply
+    → IsReplyByLinks command text reply → IsReplyByLinks command other reply
 alike-reply command text other alike reply is =
     let there = alike_each (Holds command text) (Holds command other) (links command) alike.holds in
     let back = alike_each (Holds command other) (Holds command text) (links command)

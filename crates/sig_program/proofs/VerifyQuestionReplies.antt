@@ -19,15 +19,16 @@ use Rattle.sig_verify.specs.declared.link.Link.TheVariants.{Request}
 use Rattle.sig_program.proofs.Replies.{every-of_text, every-reply, first-of_text, first-reply, replied}
 use Rattle.sig_request.proofs.RequestTexts.{one_request}
 use Rattle.sig_program.proofs.RowSizes.{too-long}
-use Rattle.sig_program.proofs.RowsTexts.{not-beside}
-use Rattle.sig_program.specs.Reply.{IsListingOf, IsReply, IsVerifyQuestionsReply, refusal_reply}
-use Rattle.sig_program.specs.RowsText.{FitsBeside, room_beside, rows_text}
+use Rattle.sig_reply.proofs.RowsTexts.{not-beside}
+use Rattle.sig_program.specs.Reply.{IsReply, IsVerifyQuestionsReply, refusal_reply}
+use Rattle.sig_reply.specs.Reply.{IsListingOf}
+use Rattle.sig_reply.specs.RowsText.{FitsBeside, room_beside, rows_text}
 use Rattle.sig_program.specs.VerifyLink.{inputs}
 use Rattle.sig_program.specs.VerifyQuestions.{HoldsOfVerifyQuestions, HoldsVerifyQuestions, IsOpen, RefusesForAll}
 use Rattle.sig_program.specs.VerifyQuestions.{VerifyQuestionsFit, verify_question_links}
 use Rattle.sig_request.specs.VerifyRequest.{verify_request}
 use Rattle.sig_program.specs.declared.command.Command.TheVariants.{VerifyQuestions}
-use Rattle.sig_program.specs.declared.reply.Reply.{Reply}
+use Rattle.sig_reply.specs.declared.reply.Reply.{Reply}
 use Rattle.sig_request.specs.declared.verify_request.VerifyRequest.{VerifyRequest}
 use Rattle.sig_request.specs.ReadFrom.{IsRequestOf}
 

@@ -21,7 +21,7 @@ use Rattle.sig_program.specs.ProofOf.{IsProofOf}
 use Rattle.sig_program.specs.VerifyLink.{HoldsOfVerify, inputs, outside, verify_links}
 use Rattle.sig_request.specs.VerifyRequest.{verify_request}
 use Rattle.sig_program.specs.declared.command.Command.TheVariants.{Verify}
-use Rattle.sig_program.specs.declared.reply.Reply.{Reply}
+use Rattle.sig_reply.specs.declared.reply.Reply.{Reply}
 use Rattle.sig_request.specs.declared.verify_request.VerifyRequest.{VerifyRequest}
 use Rattle.sig_request.specs.ReadFrom.{IsRequestOf}
 

@@ -5,7 +5,7 @@ use Rattle.hex.specs.Hex.{encode_lower}
 use Rattle.sig_demo.specs.Log.{demo_entries}
 use Rattle.sig_merkle.specs.Root.{root}
 use Rattle.sig_rekor.specs.NoteText.{newline}
-use Rattle.sig_program.specs.declared.reply.Reply.{Reply}
+use Rattle.sig_reply.specs.declared.reply.Reply.{Reply}
 
 abbrev pub entries_line : ℕ → List ℕ
 entries_line count = codes "entries " ++ (decimal count ++ codes "\n")

@@ -2,7 +2,8 @@
 use Rattle.std.specs.Prelude.{◌≡◌, ◌≤◌, ◌⊎◌, ℕ, List, length, take}
 use Rattle.sig_merkle.specs.Root.{root}
 use Rattle.sig_program.specs.ConsistencyLink.{IsGrown}
-use Rattle.sig_program.specs.SecondLine.{AreOfNow, IsFrontLineOf, ShowsCollision, prefix_line}
+use Rattle.sig_program.specs.SecondLine.{AreOfNow, IsFrontLineOf, prefix_line}
+use Rattle.sig_reply.specs.SecondLine.{ShowsCollision}
 use Rattle.sig_request.specs.declared.consistency_request.ConsistencyRequest.{ConsistencyRequest}
 
 -- a tree of equal size, or none, is a front of the list: nothing can collide

@@ -1,10 +1,11 @@
 -- A list that `questions` writes fits one request with the request that it is of, and so can be given back.
 use Rattle.std.specs.Prelude.{◌≡◌, ℕ, ◌≤◌, List, ◌++◌, length}
 use Rattle.sig_request.specs.Limit.{most_bytes}
-use Rattle.sig_program.specs.Reply.{IsReply, listed}
-use Rattle.sig_program.specs.RowsText.{accepted_name}
+use Rattle.sig_program.specs.Reply.{IsReply}
+use Rattle.sig_reply.specs.Reply.{listed}
+use Rattle.sig_reply.specs.RowsText.{accepted_name}
 use Rattle.sig_program.specs.declared.command.Command.{Command}
-use Rattle.sig_program.specs.declared.reply.Reply.{Reply}
+use Rattle.sig_reply.specs.declared.reply.Reply.{Reply}
 
 -- The request with the list put in as `accepted`, before its last brace or wherever else, has at most as many bytes as
 -- a request may have.

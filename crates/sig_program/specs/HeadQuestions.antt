@@ -7,7 +7,7 @@ use Rattle.sig_rekor.specs.declared.checkpoint.SignedCheckpoint.{SignedCheckpoin
 use Rattle.sig_verify.specs.declared.link.Link.{Link}
 use Rattle.sig_verify.specs.declared.link.Link.TheVariants.{Request, Checkpoint}
 use Rattle.sig_program.specs.Head.{OfHeadCheckpoint, head_row}
-use Rattle.sig_program.specs.RowsText.{FitsBeside}
+use Rattle.sig_reply.specs.RowsText.{FitsBeside}
 use Rattle.sig_request.specs.declared.head_members.ClaimedHead.{ClaimedHead}
 use Rattle.sig_request.specs.ReadFrom.{IsRequestOf}
 

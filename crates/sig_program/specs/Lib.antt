@@ -8,7 +8,6 @@ pub mod Head
 pub mod Link
 pub mod HeadQuestions
 pub mod Reply
-pub mod RowsText
 pub mod Run
 pub mod Status
 pub mod Suffice

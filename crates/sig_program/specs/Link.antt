@@ -3,8 +3,9 @@ use Rattle.std.specs.Prelude.{ℕ, List, [], ◌∷◌, Option}
 use Rattle.std.specs.List.{AllByRecursion}
 use Rattle.sig_base.specs.Rules.{FailsFirst}
 use Rattle.sig_program.specs.declared.command.Command.{Command}
-use Rattle.sig_program.specs.declared.command.Command.TheVariants.{Log, Verify, Consistency, LogQuestions}
+use Rattle.sig_program.specs.declared.command.Command.TheVariants.{Log, Verify, Consistency, Audit, LogQuestions}
 use Rattle.sig_program.specs.declared.command.Command.TheVariants.{VerifyQuestions, ConsistencyQuestions}
+use Rattle.sig_program.specs.declared.command.Command.TheVariants.{AuditQuestions}
 use Rattle.sig_verify.specs.declared.link.Link.{Link}
 use Rattle.sig_verify.specs.declared.link.Link.TheVariants.{Request, Checkpoint, NoteKey, NoteMatch, Inclusion}
 use Rattle.sig_request.specs.declared.request.LogRequest.{LogRequest}
@@ -17,6 +18,8 @@ use Rattle.sig_program.specs.HeadQuestions.{HoldsHeadQuestions, head_question_li
 use Rattle.sig_request.specs.ConsistencyRequest.{consistency_request}
 use Rattle.sig_request.specs.declared.consistency_request.ConsistencyRequest.{ConsistencyRequest}
 use Rattle.sig_program.specs.VerifyQuestions.{HoldsVerifyQuestions, verify_question_links}
+use Rattle.sig_request.specs.AuditRequest.{audit_request}
+use Rattle.sig_request.specs.declared.audit_request.AuditRequest.{AuditRequest}
 use Rattle.sig_request.specs.ReadFrom.{IsRequestOf}
 use Rattle.sig_program.specs.Verdict.{IsLinkVerdict}
 
@@ -24,13 +27,16 @@ use Rattle.sig_program.specs.Verdict.{IsLinkVerdict}
 abbrev pub log_links : List Link
 log_links = Request ∷ Checkpoint ∷ NoteKey ∷ NoteMatch ∷ Inclusion ∷ []
 
+-- of `audit` the one link that is of no head and of no watched entry: the others are sig_audit_command's
 abbrev pub links : Command → List Link
 links Log = log_links
 links Verify = verify_links
 links Consistency = consistency_links
+links Audit = Request ∷ []
 links LogQuestions = head_question_links
 links VerifyQuestions = verify_question_links
 links ConsistencyQuestions = head_question_links
+links AuditQuestions = Request ∷ []
 
 -- the proof is one of the entry
 abbrev pub IsLogged : LogRequest → Type 0
@@ -53,10 +59,12 @@ abbrev pub Holds : Command → List ℕ → Link → Type 0
 Holds Log text link = (request : LogRequest) × IsRequestOf log_request text request × HoldsOfLog request link
 Holds Verify text link = HoldsVerify text link
 Holds Consistency text link = HoldsConsistency text link
+Holds Audit text link = (request : AuditRequest) × IsRequestOf audit_request text request
 Holds LogQuestions text link = HoldsHeadQuestions log_request (λ (r : LogRequest). r.head) text link
 Holds VerifyQuestions text link = HoldsVerifyQuestions text link
 Holds ConsistencyQuestions text link =
     HoldsHeadQuestions consistency_request (λ (r : ConsistencyRequest). r.head) text link
+Holds AuditQuestions text link = (request : AuditRequest) × IsRequestOf audit_request text request
 
 -- every link of the command holds of a text
 abbrev pub EveryLinkHolds : Command → List ℕ → Type 0

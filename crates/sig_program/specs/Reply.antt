@@ -4,8 +4,11 @@ use Rattle.std.specs.Prelude.{Option, Some, None}
 use Rattle.std.specs.Fmt.{signed_decimal}
 use Rattle.sig_rekor.specs.declared.inclusion_proof.InclusionProof.{InclusionProof}
 use Rattle.sig_program.specs.declared.command.Command.{Command}
-use Rattle.sig_program.specs.declared.command.Command.TheVariants.{Log, Verify, Consistency, LogQuestions}
+use Rattle.sig_program.specs.declared.command.Command.TheVariants.{Log, Verify, Consistency, Audit, LogQuestions}
 use Rattle.sig_program.specs.declared.command.Command.TheVariants.{VerifyQuestions, ConsistencyQuestions}
+use Rattle.sig_program.specs.declared.command.Command.TheVariants.{AuditQuestions}
+use Rattle.sig_audit_command.specs.Questions.{IsAuditQuestionsReply}
+use Rattle.sig_audit_command.specs.Reply.{IsAuditReply}
 use Rattle.sig_questions.specs.Asked.{IsAskedBy}
 use Rattle.sig_questions.specs.Questions.{AreQuestions}
 use Rattle.sig_verify.specs.Link.{link_name}
@@ -17,7 +20,8 @@ use Rattle.sig_verify.specs.declared.offline.Offline.{Offline}
 use Rattle.sig_rekor.specs.declared.checkpoint.SignedCheckpoint.{SignedCheckpoint}
 use Rattle.sig_request.specs.declared.head_members.ClaimedHead.{ClaimedHead}
 use Rattle.sig_request.specs.declared.request.LogRequest.{LogRequest}
-use Rattle.sig_program.specs.declared.reply.Reply.{Reply}
+use Rattle.sig_reply.specs.Reply.{IsListingOf, listed, refusal}
+use Rattle.sig_reply.specs.declared.reply.Reply.{Reply}
 use Rattle.sig_request.specs.Request.{log_request}
 use Rattle.sig_program.specs.SecondLine.{IsFrontLine, IsSecondLine}
 use Rattle.sig_request.specs.ConsistencyRequest.{consistency_request}
@@ -28,7 +32,7 @@ use Rattle.sig_request.specs.declared.verify_request.VerifyRequest.{VerifyReques
 use Rattle.sig_program.specs.Link.{EveryLinkHolds, IsFirstFailing}
 use Rattle.sig_base.specs.declared.checker.AcceptedRow.{AcceptedRow}
 use Rattle.sig_program.specs.HeadQuestions.{AreHeadQuestions, IsCheckpointOf, head_rows}
-use Rattle.sig_program.specs.RowsText.{FitsBeside, IsReadBack, rows_text}
+use Rattle.sig_reply.specs.RowsText.{IsReadBack, rows_text}
 use Rattle.sig_request.specs.ReadFrom.{IsRequestOf}
 
 -- status 2 for the link `request`, 1 for every other
@@ -38,7 +42,7 @@ status_of other = 1
 
 -- the reply where this link is the first that fails
 abbrev pub refusal_reply : Link → Reply
-refusal_reply link = record { status = status_of link; text = codes "refused " ++ (link_name link ++ codes "\n") }
+refusal_reply link = refusal (status_of link) (link_name link)
 
 -- for private clauses: the reply where this link, if there is one, is the first that fails
 abbrev pub IsRefusalReply : Option Link → Reply → Type 0
@@ -90,17 +94,6 @@ abbrev pub IsConsistentReply : ConsistencyRequest → Reply → Type 0
 IsConsistentReply request reply =
     (second : List ℕ) × IsFrontLine request.entries request second × (reply ≡ consistent request second)
 
--- the reply of `questions`: the document of the signatures that are asked for, and a newline
-abbrev pub listed : List ℕ → Reply
-listed document = record { status = 0; text = document ++ codes "\n" }
-
--- for private clauses: the reply to a request of this text, which asks for these signatures: their document, which is
--- read back as them, if and only if it fits beside the text
-abbrev pub IsListingOf : List ℕ → List AcceptedRow → Reply → Type 0
-IsListingOf text rows reply =
-    (FitsBeside text rows × IsReadBack rows × (reply ≡ listed (rows_text rows)))
-    ⊎ ((¬ FitsBeside text rows) × (reply ≡ refusal_reply Request))
-
 -- the reply lists the signatures that the links on a tree head ask for, and is read back as them
 abbrev pub IsHeadQuestionsReply : ClaimedHead → Reply → Type 0
 IsHeadQuestionsReply head reply =
@@ -134,6 +127,7 @@ Succeeds Verify text reply =
     → (offline : Offline) × IsEntryIn request offline × IsVerifiedReply request offline reply
 Succeeds Consistency text reply =
     (request : ConsistencyRequest) → IsRequestOf consistency_request text request → IsConsistentReply request reply
+Succeeds Audit text reply = IsAuditReply text reply
 Succeeds LogQuestions text reply =
     (request : LogRequest) → IsRequestOf log_request text request → IsHeadQuestionsReply request.head reply
 Succeeds VerifyQuestions text reply =
@@ -141,11 +135,19 @@ Succeeds VerifyQuestions text reply =
 Succeeds ConsistencyQuestions text reply =
     (request : ConsistencyRequest) → IsRequestOf consistency_request text request
     → IsHeadQuestionsReply request.head reply
+Succeeds AuditQuestions text reply = IsAuditQuestionsReply text reply
 
--- the reply to a request's text: the success line if and only if every link of the command holds, else the first link
--- that fails
-pub record IsReply (command : Command) (text : List ℕ) (reply : Reply) : Type 0 where
+-- the reply to a request's text of a command whose links have no index: the success line if and only if every link of
+-- the command holds, else the first link that fails
+pub record IsReplyByLinks (command : Command) (text : List ℕ) (reply : Reply) : Type 0 where
   pub decided : EveryLinkHolds command text ⊎ ((link : Link) × IsFirstFailing command text link)
   pub succeeds : (reply.status ≡ 0) ↔ EveryLinkHolds command text
   pub vouched : EveryLinkHolds command text → Succeeds command text reply
   pub refused : (link : Link) → IsFirstFailing command text link → reply ≡ refusal_reply link
+
+-- The reply to a request's text. That of `audit` has the same form: the success line if and only if every link holds,
+-- else the first link that fails, with the index of its head or watched entry.
+abbrev pub IsReply : Command → List ℕ → Reply → Type 0
+IsReply Audit text reply = IsAuditReply text reply
+IsReply AuditQuestions text reply = IsAuditQuestionsReply text reply
+IsReply other text reply = IsReplyByLinks other text reply

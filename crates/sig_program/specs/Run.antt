@@ -10,7 +10,7 @@ use Rattle.sig_program.specs.Reply.{IsReply}
 use Rattle.sig_program.specs.declared.command.Command.{Command}
 use Rattle.sig_program.specs.declared.invocation.Invocation.{Invocation}
 use Rattle.sig_program.specs.declared.invocation.Invocation.TheVariants as invocation
-use Rattle.sig_program.specs.declared.reply.Reply.{Reply}
+use Rattle.sig_reply.specs.declared.reply.Reply.{Reply}
 
 -- the line that is written for words that ask for nothing
 abbrev pub usage_line : List ℕ

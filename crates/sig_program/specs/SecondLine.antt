@@ -3,11 +3,9 @@
 use Rattle.std.specs.Prelude.{◌≡◌, ℕ, ℤ, pos, ◌⊎◌, List, [], ◌++◌, length, take, slice_get, codes, decimal}
 use Rattle.std.specs.Prelude.{Option, Some, None}
 use Rattle.std.specs.Fmt.{signed_decimal}
-use Rattle.hex.specs.Hex.{encode_lower}
-use Rattle.sig_base.specs.Collision.{IsCollision}
-use Rattle.sig_merkle.specs.HashedText.{AreHashedTexts}
 use Rattle.sig_merkle.specs.Root.{root}
 use Rattle.sig_rekor.specs.declared.inclusion_proof.InclusionProof.{InclusionProof}
+use Rattle.sig_reply.specs.SecondLine.{ShowsCollision, other_line}
 use Rattle.sig_request.specs.declared.consistency_request.ConsistencyRequest.{ConsistencyRequest}
 
 -- the entries have this size and this root
@@ -23,28 +21,12 @@ abbrev pub IsEntryAt : List (List ℕ) → InclusionProof → List ℕ → Type 
 IsEntryAt entries proof body =
     (index : ℕ) × (proof.log_index ≡ pos index) × (slice_get entries index ≡ Some body)
 
-abbrev pub other_line : List ℕ
-other_line = codes "other list\n"
-
 abbrev pub entry_line : ℤ → List ℕ
 entry_line index = codes "entry " ++ (signed_decimal index ++ codes "\n")
 
 -- so many first entries
 abbrev pub prefix_line : ℕ → List ℕ
 prefix_line count = codes "prefix " ++ (decimal count ++ codes "\n")
-
--- both byte strings in lower-case hexadecimal
-abbrev pub collision_line : List ℕ → List ℕ → List ℕ
-collision_line left right =
-    codes "collision " ++ (encode_lower left ++ (codes " " ++ (encode_lower right ++ codes "\n")))
-
--- the line shows two different byte strings of equal SHA-256, which a tree hashes: both for a leaf, or both for a node
-pub record ShowsCollision (line : List ℕ) : Type 0 where
-  pub left : List ℕ
-  pub right : List ℕ
-  pub collides : IsCollision left right
-  pub hashed : AreHashedTexts left right
-  pub shown : line ≡ collision_line left right
 
 -- The line of a list: it is not that of the proof's tree; or it is, and the logged body is the entry at the index; or
 -- it is, the body is not, and two different byte strings of equal SHA-256 are shown.

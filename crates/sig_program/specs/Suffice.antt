@@ -9,7 +9,7 @@ use Rattle.sig_request.specs.Request.{log_request}
 use Rattle.sig_program.specs.VerifyLink.{inputs}
 use Rattle.sig_request.specs.VerifyRequest.{verify_request}
 use Rattle.sig_program.specs.declared.command.Command.TheVariants.{Log, Verify, Consistency}
-use Rattle.sig_program.specs.declared.reply.Reply.{Reply}
+use Rattle.sig_reply.specs.declared.reply.Reply.{Reply}
 use Rattle.sig_request.specs.declared.consistency_request.ConsistencyRequest.{ConsistencyRequest}
 use Rattle.sig_request.specs.declared.head_members.ClaimedHead.{ClaimedHead}
 use Rattle.sig_request.specs.declared.request.LogRequest.{LogRequest}

@@ -6,7 +6,7 @@ use Rattle.sig_base.specs.declared.checker.AcceptedRow.{AcceptedRow}
 use Rattle.sig_questions.specs.Questions.{AreQuestions, FailsForAll, HoldsUnasked, question_links}
 use Rattle.sig_verify.specs.declared.link.Link.{Link}
 use Rattle.sig_verify.specs.declared.link.Link.TheVariants.{Request}
-use Rattle.sig_program.specs.RowsText.{FitsBeside}
+use Rattle.sig_reply.specs.RowsText.{FitsBeside}
 use Rattle.sig_program.specs.VerifyLink.{inputs}
 use Rattle.sig_request.specs.VerifyRequest.{verify_request}
 use Rattle.sig_request.specs.declared.verify_request.VerifyRequest.{VerifyRequest}

@@ -13,12 +13,16 @@ pub enum Command {
     Verify,
     /// `consistency`: does the log still have the entries that it had?
     Consistency,
+    /// `audit`: are these heads of one log over time, and are these entries in it?
+    Audit,
     /// `questions log`: which signatures can the reply of `log` rest on?
     LogQuestions,
     /// `questions verify`: which signatures can the reply of `verify` rest on?
     VerifyQuestions,
     /// `questions consistency`: which signatures can the reply of `consistency` rest on?
     ConsistencyQuestions,
+    /// `questions audit`: which signatures can the reply of `audit` rest on?
+    AuditQuestions,
 }
 
 impl Command {
@@ -32,12 +36,14 @@ impl Command {
                 "log" => Some(Command::Log),
                 "verify" => Some(Command::Verify),
                 "consistency" => Some(Command::Consistency),
+                "audit" => Some(Command::Audit),
                 _ => None,
             },
             [first, second] => match (first.as_str(), second.as_str()) {
                 ("questions", "log") => Some(Command::LogQuestions),
                 ("questions", "verify") => Some(Command::VerifyQuestions),
                 ("questions", "consistency") => Some(Command::ConsistencyQuestions),
+                ("questions", "audit") => Some(Command::AuditQuestions),
                 _ => None,
             },
             _ => None,

@@ -8,10 +8,11 @@ ghost use Rattle.sig_request.specs.ConsistencyRequest.{consistency_request};
 ghost use Rattle.sig_request.specs.ReadFrom.{IsRequestOf};
 
 use crate::head::failing_link_of;
-use crate::reply::Reply;
+use crate::reply::{consistent, refused};
 use crate::second_line::front_line;
 use sig_base::OutOfMemory;
 use sig_merkle::uncounted::verify_consistency;
+use sig_reply::Reply;
 use sig_request::ConsistencyRequest;
 use sig_verify::Link;
 use std::alloc::Global;
@@ -35,7 +36,7 @@ fn reply_to_text(alloc: Global, request: &[u8]) -> Result<Reply, OutOfMemory>
     ensures { IfOk result (IsReply Consistency request.now) }
 {
     let Some(request) = ConsistencyRequest::read(alloc, request)? else {
-        return Reply::refused(alloc, Link::Request);
+        return refused(alloc, Link::Request);
     };
     let reply = reply_to(alloc, &request);
     drop(request);
@@ -48,7 +49,7 @@ fn reply_to(alloc: Global, request: &ConsistencyRequest) -> Result<Reply, OutOfM
         → IfOk result (IsReply Consistency text) }
 {
     match failing_link(alloc, request)? {
-        Some(link) => Reply::refused(alloc, link),
+        Some(link) => refused(alloc, link),
         None => grown_reply(alloc, request),
     }
 }
@@ -59,7 +60,7 @@ fn grown_reply(alloc: Global, request: &ConsistencyRequest) -> Result<Reply, Out
     ensures { IfOk result (IsConsistentReply request.now) }
 {
     let second = front_line(alloc, request)?;
-    Reply::consistent(alloc, request, &second)
+    consistent(alloc, request, &second)
 }
 
 /// The first link that fails of a request, or none.

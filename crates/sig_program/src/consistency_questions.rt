@@ -7,8 +7,9 @@ ghost use Rattle.sig_request.specs.ReadFrom.{IsRequestOf};
 ghost use Rattle.sig_request.specs.ConsistencyRequest.{consistency_request};
 
 use crate::head_questions::head_listing;
-use crate::reply::Reply;
+use crate::reply::refused;
 use sig_base::OutOfMemory;
+use sig_reply::Reply;
 use sig_request::ConsistencyRequest;
 use sig_verify::Link;
 use std::alloc::Global;
@@ -33,7 +34,7 @@ fn reply_to_text(alloc: Global, request: &[u8]) -> Result<Reply, OutOfMemory>
     ensures { IfOk result (IsReply ConsistencyQuestions request.now) }
 {
     let Some(read) = ConsistencyRequest::read(alloc, request)? else {
-        return Reply::refused(alloc, Link::Request);
+        return refused(alloc, Link::Request);
     };
     let reply = reply_to(alloc, request, &read);
     drop(read);

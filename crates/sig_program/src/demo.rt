@@ -11,9 +11,9 @@ ghost use Rattle.sig_program.specs.Link.{EveryLinkHolds, HoldsOfLog, log_links};
 ghost use Rattle.sig_program.specs.declared.command.Command.TheVariants.{Log};
 
 use crate::log::log_reply;
-use crate::reply::Reply;
 use sig_base::{Bytes, OutOfMemory, Text};
 use sig_demo::DemoLog;
+use sig_reply::Reply;
 use std::alloc::Global;
 
 /// Returns the request of `log` for the middle entry of a made log of so many entries, from 1 to 4096. Its entries are

@@ -4,15 +4,16 @@ ghost use Rattle.sig_json.specs.Find.{as_array};
 ghost use Rattle.sig_json.specs.Tree.{document_tree};
 ghost use Rattle.sig_program.specs.Head.{head_row};
 ghost use Rattle.sig_program.specs.HeadQuestions.{IsCheckpointOf, head_rows};
-ghost use Rattle.sig_program.specs.Reply.{IsHeadListing, IsListingOf};
-ghost use Rattle.sig_program.specs.RowsText.{AddsRow, IsDocumentOf, IsRowReadBack};
+ghost use Rattle.sig_program.specs.Reply.{IsHeadListing};
+ghost use Rattle.sig_reply.specs.Reply.{IsListingOf};
+ghost use Rattle.sig_reply.specs.RowsText.{AddsRow, IsDocumentOf, IsRowReadBack};
 ghost use Rattle.sig_rekor.specs.NoteText.{note_text};
 
-use crate::reply::Reply;
-use crate::rows_text::{add_row, room_beside};
+use crate::reply::refused;
 use sig_base::{AcceptedRow, Bytes, Operation, OutOfMemory, Text};
 use sig_json::{Document, compact};
 use sig_rekor::{CheckpointSignature, ParseCheckpointError, SignedNote};
+use sig_reply::{Reply, add_row, room_beside};
 use sig_request::ClaimedHead;
 use sig_verify::Link;
 use std::alloc::Global;
@@ -24,7 +25,7 @@ pub fn head_listing(alloc: Global, text: &[u8], head: &ClaimedHead) -> Result<Re
     ensures { IfOk result (IsHeadListing text.now head.now) }
 {
     let Some(checkpoint) = head_checkpoint(alloc, head)? else {
-        return Reply::refused(alloc, Link::Checkpoint);
+        return refused(alloc, Link::Checkpoint);
     };
     let reply = listing_reply(alloc, text, head, &checkpoint);
     drop(checkpoint);
@@ -53,7 +54,7 @@ fn listing_reply(
 {
     match note_document(alloc, head, checkpoint, room_beside(text))? {
         Some(document) => Reply::listed(alloc, &document),
-        None => Reply::refused(alloc, Link::Request),
+        None => refused(alloc, Link::Request),
     }
 }
 

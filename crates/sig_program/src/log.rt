@@ -7,11 +7,12 @@ ghost use Rattle.sig_request.specs.ReadFrom.{IsRequestOf};
 ghost use Rattle.sig_request.specs.Request.{log_request};
 
 use crate::head::failing_link_of;
-use crate::reply::Reply;
+use crate::reply::{logged, refused};
 use crate::second_line::second_line;
 use sig_base::OutOfMemory;
 use sig_merkle::hash_leaf;
 use sig_merkle::uncounted::verify_inclusion;
+use sig_reply::Reply;
 use sig_request::LogRequest;
 use sig_verify::Link;
 use std::alloc::Global;
@@ -23,7 +24,7 @@ pub fn log_reply(alloc: Global, request: &[u8]) -> Result<Reply, OutOfMemory>
     ensures { IfOk result (IsReply Log request.now) }
 {
     let Some(request) = LogRequest::read(alloc, request)? else {
-        return Reply::refused(alloc, Link::Request);
+        return refused(alloc, Link::Request);
     };
     let reply = reply_to(alloc, &request);
     drop(request);
@@ -35,7 +36,7 @@ fn reply_to(alloc: Global, request: &LogRequest) -> Result<Reply, OutOfMemory>
     ensures { (text : List ℕ) → IsRequestOf log_request text request.now → IfOk result (IsReply Log text) }
 {
     match failing_link(alloc, request)? {
-        Some(link) => Reply::refused(alloc, link),
+        Some(link) => refused(alloc, link),
         None => logged_reply(alloc, request),
     }
 }
@@ -51,7 +52,7 @@ fn logged_reply(alloc: Global, request: &LogRequest) -> Result<Reply, OutOfMemor
         request.entry.as_slice(),
         &request.proof,
     )?;
-    Reply::logged(alloc, &request.proof, &second)
+    logged(alloc, &request.proof, &second)
 }
 
 /// The first link that fails of a request, or none.

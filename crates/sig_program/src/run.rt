@@ -1,6 +1,7 @@
 //! The program but for its words and streams: it reads a request, and makes and writes the reply.
 ghost use Rattle.std.specs.Prelude.{◌≡◌, ℕ, ◌⊎◌, ◌+◌, ◌<◌, ◌≤◌, IfOk, IsErrOf};
 ghost use Rattle.std.specs.Io.KnownBytes.{Appends};
+ghost use Rattle.sig_audit_command.specs.Suffice.{AuditQuestionsSuffice};
 ghost use Rattle.sig_base.specs.Stream.{Rose, TookAtMost};
 ghost use Rattle.sig_program.specs.Demo.{demo_text};
 ghost use Rattle.sig_program.specs.Invocation.{HasCount, IsDemo, IsInvocation};
@@ -12,7 +13,7 @@ ghost use Rattle.sig_program.specs.Run.{AppendsFront, usage_line};
 ghost use Rattle.sig_program.specs.Status.{usage_status, memory_status, fault_status};
 ghost use Rattle.sig_program.specs.Suffice.{ConsistencyQuestionsSuffice, LogQuestionsSuffice, VerifyQuestionsSuffice};
 ghost use Rattle.sig_program.specs.VerifyQuestions.{RefusesForAll};
-ghost use Rattle.sig_program.specs.declared.command.Command.TheVariants.{ConsistencyQuestions, LogQuestions, VerifyQuestions};
+ghost use Rattle.sig_program.specs.declared.command.Command.TheVariants.{AuditQuestions, ConsistencyQuestions, LogQuestions, VerifyQuestions};
 ghost use Rattle.sig_program.specs.declared.invocation.Invocation.TheVariants.{Demo};
 
 use crate::command::Command;
@@ -23,11 +24,13 @@ use crate::invocation::Invocation;
 use crate::laws::lists;
 use crate::log::log_reply;
 use crate::log_questions::log_questions;
-use crate::reply::{Reply, USAGE_LINE};
+use crate::reply::{USAGE_LINE, refused};
 use crate::verify::verify_reply;
 use crate::verify_questions::verify_questions;
 use crate::write::write_reply;
+use sig_audit_command::{audit_questions, audit_reply};
 use sig_base::{OutOfMemory, Sink, Source, Text};
+use sig_reply::Reply;
 use sig_request::{ReadFault, read_request};
 use sig_verify::Link;
 use std::alloc::Global;
@@ -62,14 +65,16 @@ impl From<OutOfMemory> for NoReply {
 /// Does what the words ask for, and returns the program's status.
 ///
 /// A command reads a request, at most 2^24 + 1 bytes of what the source has left, and writes one line: `logged I N` for
-/// `log`, `verified I N` for `verify` and `consistent M N` for `consistency`, with status 0, if every link of the
-/// command holds, else `refused NAME` for the first that fails, with status 1, or 2 for the link `request`. With
+/// `log`, `verified I N` for `verify`, `consistent M N` for `consistency` and `audited K W N` for `audit`, with status 0,
+/// if every link of the command holds, else `refused NAME` for the first that fails, with status 1, or 2 for the link
+/// `request`; of `audit` a link other than `request` has the index of its head or watched entry behind its name. With
 /// status 0 a second line follows if the request gives the log's entries: if they have the size and the RFC 6962 root
 /// that the links are about, `entry I` for `log` and `verify`, and the logged body is the entry at the index I, or
-/// `prefix M` for `consistency`, and the old root is that of the first M entries, M being the old size; or
+/// `prefix M` for `consistency`, and the old root is that of the first M entries, M being the old size, or `prefixes K`
+/// for `audit`, and each of the K heads is that of the list's first entries, each watched entry that at its index; or
 /// `collision HEX HEX`, two different byte strings of equal SHA-256; else `other list`.
 ///
-/// `questions log`, `questions verify` and `questions consistency` read a request of `log`, `verify` or `consistency`, and
+/// `questions log`, `questions verify`, `questions consistency` and `questions audit` read a request of the command, and
 /// list the signatures that its reply can rest on, as a JSON list in the form of `accepted`, with status 0; else `refused NAME` for the first link that
 /// fails whatever signatures are accepted, and `refused request` if the bytes of the request, of the list and of
 /// `,"accepted":` would be more than 2^24 together.
@@ -90,8 +95,8 @@ pub fn run<S: Source, K: Sink>(alloc: Global, words: &[Text], source: &mut S, si
     ensures status { (result < 3) ⊎ (result ≡ usage_status) ⊎ (result ≡ memory_status) ⊎ (result ≡ fault_status) }
 
     // The headline: what `Answered` says of the reply is that every link holds if the status is 0, and that else it
-    // shows the first that fails; and of the log's entries, where they are given, what `IsSecondLine` says, and for
-    // `consistency` what `IsFrontLine` does.
+    // shows the first that fails; and of the log's entries, where they are given, what `IsSecondLine` says, for
+    // `consistency` what `IsFrontLine` does, and for `audit` what `IsListLine` does.
     ensures answered { result < 3 →
         Answered words.now (S.left source.old) (S.left source.new) (K.taken sink.old) (K.taken sink.new) result }
     ensures usage { result ≡ usage_status → ¬ IsInvocation words.now
@@ -111,10 +116,11 @@ pub fn run<S: Source, K: Sink>(alloc: Global, words: &[Text], source: &mut S, si
         (K.handed sink.new) }
     ensures later { (S.faults source.old ≤ S.faults source.new) × (K.faults sink.old ≤ K.faults sink.new) }
 
-    // Nothing else matters: of the accepted signatures of a request of `log` or `consistency`, its reply depends on
-    // those alone that are over the checkpoint's note under the log's scheme and key, and of a request of `verify` on
+    // Nothing else matters: of the accepted signatures of a request of `log`, `consistency` or `audit`, its reply depends
+    // on those alone that are over a checkpoint's note under the log's scheme and key, and of a request of `verify` on
     // those alone that a link asks for. `questions` lists them, unless the list is too long.
-    ensures suffice { LogQuestionsSuffice × VerifyQuestionsSuffice × ConsistencyQuestionsSuffice }
+    ensures suffice { LogQuestionsSuffice × VerifyQuestionsSuffice × ConsistencyQuestionsSuffice
+        × AuditQuestionsSuffice }
 
     // A link other than `request` is the first that fails in `questions verify` if and only if it is the first that
     // fails in `verify`, whatever signatures are accepted and whatever the policy says.
@@ -123,7 +129,7 @@ pub fn run<S: Source, K: Sink>(alloc: Global, words: &[Text], source: &mut S, si
     // A list that is written can be given back: the request with the list put in as `accepted`, before its last brace
     // or wherever else, has at most 2^24 bytes.
     ensures given_back { ListsAreGivenBack LogQuestions × ListsAreGivenBack VerifyQuestions
-        × ListsAreGivenBack ConsistencyQuestions }
+        × ListsAreGivenBack ConsistencyQuestions × ListsAreGivenBack AuditQuestions }
 {
     lists();
     let Some(invocation) = Invocation::asked(words) else {
@@ -166,7 +172,7 @@ fn reply_to<S: Source>(alloc: Global, command: Command, source: &mut S) -> Resul
 {
     match read_request(alloc, source) {
         Ok(text) => Ok(reply_of(alloc, command, text.as_slice())?),
-        Err(ReadFault::TooLong) => Ok(Reply::refused(alloc, Link::Request)?),
+        Err(ReadFault::TooLong) => Ok(refused(alloc, Link::Request)?),
         Err(ReadFault::Failed) => Err(NoReply::Failed),
         Err(ReadFault::OutOfMemory) => Err(NoReply::OutOfMemory),
     }
@@ -180,9 +186,11 @@ fn reply_of(alloc: Global, command: Command, request: &[u8]) -> Result<Reply, Ou
         Command::Log => log_reply(alloc, request),
         Command::Verify => verify_reply(alloc, request),
         Command::Consistency => consistency_reply(alloc, request),
+        Command::Audit => audit_reply(alloc, request),
         Command::LogQuestions => log_questions(alloc, request),
         Command::VerifyQuestions => verify_questions(alloc, request),
         Command::ConsistencyQuestions => consistency_questions(alloc, request),
+        Command::AuditQuestions => audit_questions(alloc, request),
     }
 }
 

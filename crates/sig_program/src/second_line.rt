@@ -8,16 +8,17 @@
 //! collision 00ab.. 00cd..
 //! ```
 ghost use Rattle.std.specs.Prelude.{◌≡◌, ◌↔◌, IfOk, IsTrue};
-ghost use Rattle.sig_base.specs.Collision.{IsCollision};
 ghost use Rattle.sig_program.specs.ProofOf.{IsProofOf};
 ghost use Rattle.sig_program.specs.ConsistencyLink.{IsGrown};
 ghost use Rattle.sig_program.specs.SecondLine.{AreOfProof, IsFrontLine, IsFrontLineOf, IsLineOf, IsSecondLine};
-ghost use Rattle.sig_program.specs.SecondLine.{collision_line, entry_line, other_line, prefix_line};
+ghost use Rattle.sig_program.specs.SecondLine.{entry_line, prefix_line};
+ghost use Rattle.sig_reply.specs.SecondLine.{collision_line, other_line};
 
-use sig_base::{Collision, Entries, OutOfMemory, Text};
+use sig_base::{Entries, OutOfMemory, Text};
 use sig_merkle::uncounted::front_roots;
 use sig_merkle::{consistency_collision, inclusion_collision, root_of};
 use sig_rekor::InclusionProof;
+use sig_reply::{collision_text, other_text};
 use sig_request::ConsistencyRequest;
 use std::alloc::Global;
 
@@ -56,7 +57,7 @@ fn line_of(
     ensures { IfOk result (IsLineOf entries.now body.now proof.now) }
 {
     if !are_of_proof(entries, proof) {
-        return Text::copy_of(alloc, "other list\n");
+        return other_text(alloc);
     }
     // No leaf has a negative index.
     let Ok(index) = u64::try_from(proof.log_index) else {
@@ -111,11 +112,11 @@ fn front_line_of(
     ensures { IfOk result (IsFrontLineOf entries.now request.now) }
 {
     if entries.len() as u64 != request.tree_size {
-        return Text::copy_of(alloc, "other list\n");
+        return other_text(alloc);
     }
     let roots = front_roots(entries, request.old_size as usize);
     if roots.new != request.root_hash {
-        return Text::copy_of(alloc, "other list\n");
+        return other_text(alloc);
     }
     if roots.old == request.old_root {
         return prefix_text(alloc, request.old_size);
@@ -145,13 +146,4 @@ fn entry_text(alloc: Global, index: i64) -> Result<Text, OutOfMemory>
     ensures { IfOk result (λ line. line ≡ entry_line index) }
 {
     Ok(Text::from(format!(in alloc; "entry {index}\n")?))
-}
-
-/// `collision HEX HEX`.
-fn collision_text(alloc: Global, found: &Collision) -> Result<Text, OutOfMemory>
-    ensures { IfOk result (λ line. line ≡ collision_line found.now.left found.now.right) }
-{
-    let left = hex::encode(alloc, found.left.as_slice())?;
-    let right = hex::encode(alloc, found.right.as_slice())?;
-    Ok(Text::from(format!(in alloc; "collision {left} {right}\n")?))
 }

@@ -12,9 +12,10 @@ ghost use Rattle.sig_request.specs.ReadFrom.{IsRequestOf};
 ghost use Rattle.sig_request.specs.VerifyRequest.{verify_request};
 
 use crate::brief_policy::BriefPolicy;
-use crate::reply::Reply;
+use crate::reply::{refused, verified};
 use crate::second_line::second_line;
 use sig_base::OutOfMemory;
+use sig_reply::Reply;
 use sig_request::{VerifyRequest, bundle_of, now_of, trusted_root_of};
 use sig_verify::{Link, Offline, OfflineError, verify_offline};
 use std::alloc::Global;
@@ -36,7 +37,7 @@ fn reply_to_text(alloc: Global, request: &[u8]) -> Result<Reply, OutOfMemory>
     ensures { IfOk result (IsReply Verify request.now) }
 {
     let Some(request) = VerifyRequest::read(alloc, request)? else {
-        return Reply::refused(alloc, Link::Request);
+        return refused(alloc, Link::Request);
     };
     let reply = reply_to(alloc, &request);
     drop(request);
@@ -67,7 +68,7 @@ fn refused_reply(alloc: Global, link: Option<Link>) -> Result<Reply, OutOfMemory
     ensures { IfOk result (IsRefusalReply link) }
 {
     match link {
-        Some(link) => Reply::refused(alloc, link),
+        Some(link) => refused(alloc, link),
         None => Err(OutOfMemory),
     }
 }
@@ -87,7 +88,7 @@ fn verified_reply(
         offline.body.as_slice(),
         &offline.proof,
     )?;
-    Reply::verified(alloc, &offline.proof, &second)
+    verified(alloc, &offline.proof, &second)
 }
 
 /// The log entry of the request's bundle, or the error of the first link of the chain of trust that fails.

@@ -4,7 +4,8 @@ ghost use Rattle.sig_base.specs.declared.checker.AcceptedRow.{AcceptedRow as row
 ghost use Rattle.sig_questions.specs.Asked.{IsAskedBy};
 ghost use Rattle.sig_questions.specs.Questions.{IsDecided};
 ghost use Rattle.sig_questions.specs.Rows.{HasScheme};
-ghost use Rattle.sig_program.specs.Reply.{IsListingOf, IsReply};
+ghost use Rattle.sig_program.specs.Reply.{IsReply};
+ghost use Rattle.sig_reply.specs.Reply.{IsListingOf};
 ghost use Rattle.sig_program.specs.Suffice.{VerifyQuestionsSuffice};
 ghost use Rattle.sig_program.specs.VerifyLink.{inputs};
 ghost use Rattle.sig_program.specs.VerifyQuestions.{RefusesForAll};
@@ -13,11 +14,11 @@ ghost use Rattle.sig_request.specs.ReadFrom.{IsRequestOf};
 ghost use Rattle.sig_request.specs.VerifyRequest.{verify_request};
 
 use crate::laws::lists;
-use crate::reply::Reply;
-use crate::rows_text::{room_beside, rows_document};
+use crate::reply::refused;
 use sig_base::{AcceptedRow, OutOfMemory, Register};
 use sig_questions::laws::{one_list, schemes};
 use sig_questions::{NoQuestions, questions};
+use sig_reply::{Reply, room_beside, rows_document};
 use sig_request::{VerifyRequest, bundle_of, now_of, trusted_root_of};
 use sig_verify::Link;
 use std::alloc::Global;
@@ -46,7 +47,7 @@ fn reply_to_text(alloc: Global, request: &[u8]) -> Result<Reply, OutOfMemory>
     ensures { IfOk result (IsReply VerifyQuestions request.now) }
 {
     let Some(read) = VerifyRequest::read(alloc, request)? else {
-        return Reply::refused(alloc, Link::Request);
+        return refused(alloc, Link::Request);
     };
     let reply = reply_to(alloc, request, &read);
     drop(read);
@@ -66,9 +67,9 @@ fn reply_to(alloc: Global, text: &[u8], request: &VerifyRequest) -> Result<Reply
             drop(rows);
             reply
         }
-        Err(NoQuestions::Link(link)) => Reply::refused(alloc, link),
+        Err(NoQuestions::Link(link)) => refused(alloc, link),
         // A row has more bytes in the list than by itself.
-        Err(NoQuestions::TooLong) => Reply::refused(alloc, Link::Request),
+        Err(NoQuestions::TooLong) => refused(alloc, Link::Request),
         Err(NoQuestions::OutOfMemory) => Err(OutOfMemory),
     }
 }
@@ -105,6 +106,6 @@ fn listing_reply(
 {
     match rows_document(alloc, rows.as_slice(), room_beside(text))? {
         Some(document) => Reply::listed(alloc, &document),
-        None => Reply::refused(alloc, Link::Request),
+        None => refused(alloc, Link::Request),
     }
 }

@@ -1,5 +1,5 @@
 -- The document fits beside the text, or not.
-use Rattle.sig_program.proofs.Listings.{listed-made, past-made}
+use Rattle.sig_reply.proofs.Listings.{listed-made, past-made}
 use Rattle.sig_program.specs.HeadQuestions.{head_rows}
 use Rattle.sig_program.proofs.head_questions.listing_reply.Goals as goal
 

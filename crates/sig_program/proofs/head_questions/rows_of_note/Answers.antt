@@ -2,10 +2,10 @@
 use Rattle.std.proofs.Common.{◌≤◌, length, refl, subst, arith}
 use Rattle.sig_json.specs.Tree.{document_tree, tree}
 use Rattle.sig_program.proofs.NoteRows.{row-at, rows-length}
-use Rattle.sig_program.proofs.RowsTexts.{listed-more, listed-none, listed-past, listed-whole, no-brackets}
+use Rattle.sig_reply.proofs.RowsTexts.{listed-more, listed-none, listed-past, listed-whole, no-brackets}
 use Rattle.sig_program.specs.Head.{head_row}
 use Rattle.sig_program.specs.HeadQuestions.{head_rows}
-use Rattle.sig_program.specs.RowsText.{AddsRow}
+use Rattle.sig_reply.specs.RowsText.{AddsRow}
 use Rattle.sig_program.proofs.head_questions.rows_of_note.Goals as goal
 
 pub returns-then-most-lt2 : goal.returns-then-most-lt2

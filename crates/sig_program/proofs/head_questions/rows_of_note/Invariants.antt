@@ -1,6 +1,6 @@
 -- The document lists the signatures so far.
 use Rattle.sig_json.specs.Tree.{document_tree}
-use Rattle.sig_program.proofs.RowsTexts.{IsListed}
+use Rattle.sig_reply.proofs.RowsTexts.{IsListed}
 use Rattle.sig_program.specs.HeadQuestions.{head_rows}
 use Rattle.sig_program.proofs.head_questions.rows_of_note.Given as goal
 

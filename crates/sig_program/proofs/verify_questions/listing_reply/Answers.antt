@@ -1,8 +1,8 @@
 -- The document fits beside the text, or not.
 use Rattle.std.proofs.Common.{List, subst}
 use Rattle.sig_base.specs.declared.checker.AcceptedRow.{AcceptedRow}
-use Rattle.sig_program.proofs.Listings.{listed-made, past-made}
-use Rattle.sig_program.specs.RowsText.{IsDocumentOf}
+use Rattle.sig_reply.proofs.Listings.{listed-made, past-made}
+use Rattle.sig_reply.specs.RowsText.{IsDocumentOf}
 use Rattle.sig_program.proofs.verify_questions.listing_reply.Goals as goal
 
 pub returns-in-Some : goal.returns-in-Some

@@ -1,0 +1,8 @@
+pub mod Heads
+pub mod Lines
+pub mod Replies
+pub mod AuditReplies
+pub mod QuestionReplies
+pub mod HeadRows
+pub mod Sufficing
+pub mod Keys

@@ -1,0 +1,4 @@
+pub mod Fitting
+pub mod Listings
+pub mod RowsTexts
+pub mod SchemeTexts

@@ -1,0 +1,4 @@
+pub mod GivenBack
+pub mod Reply
+pub mod RowsText
+pub mod SecondLine
