@@ -10,6 +10,7 @@ import re
 import subprocess
 import tempfile
 
+import audit_requests
 import consistency_requests
 import demo_requests
 import fixture
@@ -60,7 +61,7 @@ class Failing:
 
 def in_lines(reply):
     """A reply as it is written, of which the readers have both lines in one."""
-    return (re.sub("^((?:logged|verified|consistent) [0-9]+ [0-9]+) ", r"\1\n", reply) + "\n").encode()
+    return (re.sub("^((?:logged|verified|consistent|audited [0-9]+) [0-9]+ [0-9]+) ", r"\1\n", reply) + "\n").encode()
 
 
 # The cases: the smallest request of each command whose links hold, and one that is refused late in its chain.
@@ -98,9 +99,19 @@ def consistency_cases():
     yield made("questions consistency", "questions consistency", whole, questions_cases.consistency_reply(whole))
 
 
+def audit_cases():
+    heads, watched, entries = audit_requests.HEADS, audit_requests.WATCHED, audit_requests.ENTRIES
+    moved = audit_requests.put(watched, 2, {**watched[2], "hashes": []})
+    whole, late = (json.dumps(each, separators=(",", ":")) for each in
+                   (audit_requests.request(heads, watched, entries), audit_requests.request(heads, moved, entries)))
+    for title, text in (("audit", whole), ("audit, refused inclusion", late)):
+        yield made(title, "audit", text, audit_requests.lines(text))
+    yield made("questions audit", "questions audit", whole, questions_cases.audit_reply(whole))
+
+
 def demo_cases():
     yield Case("demo 3", ["demo", "3"], b"", demo_requests.shown(3).encode(), 0)
 
 
 def cases():
-    return [*log_cases(), *verify_cases_made(), *consistency_cases(), *demo_cases()]
+    return [*log_cases(), *verify_cases_made(), *consistency_cases(), *audit_cases(), *demo_cases()]

@@ -2,17 +2,18 @@
 """The replies of `questions`, beside the program: what a reader of its own says, and that nothing else matters.
 
     tools/questions_cases.py                  writes the examples/questions-*.expected
-    tools/questions_cases.py check PROGRAM    runs the program on each request of examples/log.requests, of examples/consistency.requests and of
-                                              the rows of `verify`, and compares its reply with this reader's. Where it lists signatures, the command has to have
+    tools/questions_cases.py check PROGRAM    runs the program on each request of examples/log.requests, of examples/consistency.requests, of
+                                              examples/audit.requests and of the rows of `verify`, and compares its reply with this reader's. Where it lists signatures, the command has to have
                                               the same reply with those of the accepted signatures alone that are listed, and that of
                                               the second implementation with all that are listed; where it names a link of the chain
                                               of trust, `verify` has to name it too, with and without accepted signatures. Then come
                                               requests about the limit, which gets each list back before the request's last brace
 
-The reader of a request of `log` is that of tools/log_requests.py, and that of one of `consistency` that of tools/consistency_requests.py. That
-of a request of `verify` asks the links of tools/verify_links.py: those
-before `issuer` for the first that fails, and the others for the signatures that they look up, under one issuer at a time. Which
-certificates come after one another in a path, if every signature is genuine, it finds out by walking all paths.
+The reader of a request of `log` is that of tools/log_requests.py, that of one of `consistency` that of
+tools/consistency_requests.py, and that of one of `audit` that of tools/audit_requests.py. That of a request of `verify` asks
+the links of tools/verify_links.py: those before `issuer` for the first that fails, and the others for the signatures that they
+look up, under one issuer at a time. Which certificates come after one another in a path, if every signature is genuine, it finds
+out by walking all paths.
 """
 import base64
 import json
@@ -23,6 +24,7 @@ import sys
 TOP = pathlib.Path(__file__).resolve().parent.parent
 sys.dont_write_bytecode = True
 sys.path.insert(0, str(TOP / "tools"))
+import audit_requests  # noqa: E402
 import consistency_requests  # noqa: E402
 import fixture  # noqa: E402
 import log_requests  # noqa: E402
@@ -36,6 +38,7 @@ MOST_BYTES = 2**24
 BETWEEN = ',"accepted":'  # a request and its list
 LOG = ["log", "log-entries", "log-rekor-staging", "log-wrong-path"]
 CONSISTENCY = ["consistency", "consistency-entries", "consistency-rewritten"]
+AUDIT = ["audit", "audit-forged"]
 VERIFY = ["verify", "verify-refused"]
 
 
@@ -80,6 +83,21 @@ def log_reply(text):
 
 def consistency_reply(text):
     return head_reply(text, consistency_requests.read_request)
+
+
+def audit_reply(text):
+    """The reply of `questions audit` and its status: the signatures of each head in order."""
+    try:
+        request = audit_requests.read_request(text)
+    except NoRequest:
+        return "refused request", 2
+    rows = []
+    for place, head in enumerate(request["heads"]):
+        try:
+            rows += note_rows({**request, **head})
+        except rekor.Fault:
+            return f"refused checkpoint {place}", 1
+    return listing(text, document(rows))
 
 
 class Asked(list):
@@ -168,7 +186,7 @@ def verify_reply(text):
 
 
 def write():
-    for names, reply in ((LOG, log_reply), (CONSISTENCY, consistency_reply), (VERIFY, verify_reply)):
+    for names, reply in ((LOG, log_reply), (CONSISTENCY, consistency_reply), (AUDIT, audit_reply), (VERIFY, verify_reply)):
         for name in names:
             text, status = reply((TOP / f"examples/{name}.json").read_text())
             (TOP / f"examples/questions-{name}.expected").write_text(f"{text}\nstatus {status}\n")
@@ -213,6 +231,14 @@ def with_signatures(text, count):
     return json.dumps({**request, "checkpoint": "\n\n".join([note] + [signature.rstrip("\n")] * count)})
 
 
+def with_many_heads(text, count):
+    """The request of an audit whose last head follows itself so many times, each time with two hundred signatures."""
+    request = json.loads(text)
+    note, signature = request["heads"][-1]["checkpoint"].split("\n\n")
+    again = {"checkpoint": "\n\n".join([note] + [signature.rstrip("\n")] * 200)}
+    return json.dumps({**request, "heads": request["heads"] + [again] * count})
+
+
 def about_the_limit(program, command, text):
     """Whether the list of a request is written as long as the two fit one request, which is then read."""
     front, brace = text.rstrip()[:-1], "}"
@@ -229,10 +255,11 @@ def about_the_limit(program, command, text):
 
 
 def limit_texts():
-    log, consistency, verify = ((TOP / f"examples/{name}.json").read_text() for name in ("log", "consistency", "verify"))
+    log, consistency, audit, verify = ((TOP / f"examples/{name}.json").read_text() for name in ("log", "consistency", "audit", "verify"))
     # The list of many signatures is longer than the request, whose note each of them repeats.
     return [("log", log), ("log", with_signatures(log, 40_000)), ("consistency", consistency),
-            ("consistency", with_signatures(consistency, 40_000)), ("verify", verify)]
+            ("consistency", with_signatures(consistency, 40_000)), ("audit", audit), ("audit", with_many_heads(audit, 200)),
+            ("verify", verify)]
 
 
 def texts_of(command):
@@ -250,6 +277,7 @@ def check(program):
     failed = 0
     for command, texts, reader, second in (("log", texts_of("log"), log_reply, log_requests.reply),
                                            ("consistency", texts_of("consistency"), consistency_reply, consistency_requests.reply),
+                                           ("audit", texts_of("audit"), audit_reply, audit_requests.reply),
                                            ("verify", verify_texts(), verify_reply, verify_second)):
         for text in texts:
             wanted = reader(text)

@@ -4,13 +4,14 @@
 What comes of a run is counted here by the contract of `run`: a request is read until the source gives nothing more, its calls counted from 0;
 the reply is written when it is whole, each call handed all that is left of it; a read that fails writes nothing, and a write that fails leaves
 what was written before it, with status 74 both times; words that are no command, and `demo N`, read nothing. The replies are those of
-tools/log_requests.py, tools/consistency_requests.py, tools/questions_cases.py and, of `demo`, tools/demo_requests.py."""
+tools/log_requests.py, tools/consistency_requests.py, tools/audit_requests.py, tools/questions_cases.py and, of `demo`, tools/demo_requests.py."""
 import hashlib
 import json
 import sys
 import urllib.parse
 
 sys.dont_write_bytecode = True
+import audit_requests as audits
 import consistency_requests as growth
 import demo_requests
 import questions_cases
@@ -21,7 +22,7 @@ from log_requests import FIRST
 ASKED = 16_384
 FAULT = 74
 NEVER = 999_999
-COMMANDS = ("log", "verify", "consistency", "questions,log", "questions,verify", "questions,consistency")
+COMMANDS = ("log", "verify", "consistency", "audit", "questions,log", "questions,verify", "questions,consistency", "questions,audit")
 
 # Words that look like `demo N`.
 NOT_DEMO = (
@@ -122,12 +123,30 @@ def grown_trees():
         both(growth.request(3, growth.ENTRIES, **changes))
 
 
+def audited_logs():
+    def both(request, source=STEADY):
+        found = json.dumps(request, separators=(",", ":"))
+        for words, (reply, status) in (("audit", audits.lines(found)), ("questions,audit", questions_cases.audit_reply(found))):
+            run(words, found, source, (64, NEVER, 4096), reply.encode() + b"\n", status)
+
+    group("Heads of a log over time: each link that fails first, the log's own entries and another list; and the signatures of the heads")
+    heads, watched, entries = audits.HEADS, audits.WATCHED, audits.ENTRIES
+    whole = audits.request(heads, watched, entries)
+    for changes in ({}, {"entries": None}, {"entries": []}, {"heads": []}, {"key": "a2V6"}, {"accepted": audits.rows_of(heads[:1])},
+                    {"watched": audits.put(watched, 1, {**watched[1], "index": 6})}, {"watched": audits.put(watched, 1, {**watched[1], "head": 4})}):
+        both({**whole, **changes})
+    for these in (audits.put(heads, 2, {"checkpoint": ""}), audits.put(heads, 3, {**heads[3], "hashes": []}), heads[::-1],
+                  audits.put(heads, 2, audits.head(entries[:6], 6, origin="o"))):
+        both(audits.request(these))
+    both(audits.request([audits.X] * 256, [audits.ONE] * 300, audits.LOG), WIDE[:2])
+
+
 def other_words():
     group("Both fail: the read comes first")
     run("log", FIRST, (64, 2), (1, 3, 256), LOGGED, 0)
     run("log", "", (1, 0), (1, 0, 0), REFUSED, 2)
     group("Words that are no command, and those that `main` answers itself: nothing is read")
-    for words in ("x", "--help", "--version", "log,log", "questions", "questions,questions", "questions,consistency,log", "Log", "log,"):
+    for words in ("x", "--help", "--version", "log,log", "questions", "questions,questions", "questions,consistency,log", "audit,audit", "questions,audit,audit", "Audit", "Log", "log,"):
         run(words, "12345", (1, 0), WIDE, USAGE, 64)
         for failing in range(4):
             run(words, "12345", STEADY, (2, failing, 256), USAGE, 64)
@@ -161,6 +180,7 @@ def main():
     pieces()
     failing_calls()
     grown_trees()
+    audited_logs()
     other_words()
     demo()
     TABLE.write()

@@ -10,9 +10,11 @@ sigverify - decides without a network whether a signed artifact may be trusted
 usage: sigverify log < REQUEST
        sigverify verify < REQUEST
        sigverify consistency < REQUEST
+       sigverify audit < REQUEST
        sigverify questions log < REQUEST
        sigverify questions verify < REQUEST
        sigverify questions consistency < REQUEST
+       sigverify questions audit < REQUEST
        sigverify demo N
        sigverify --help | --version
 
@@ -74,8 +76,35 @@ commands:
            other list          the list has another size or root than the log
            collision HEX HEX   neither: two different byte strings of equal
                                SHA-256
+  audit  Are these heads of one log over time, and has it these entries? The
+         request on standard input is a JSON object with the members
+           heads       list of 1 to 256 objects, the oldest first, with
+             checkpoint  text, a signed note
+             hashes      list of 64 hex digits, the consistency proof from the
+                         head before; of the first not looked at
+           watched     list of at most 4096 objects with
+             head        the index of a head, from 0
+             index       the entry's index in that head's tree, from 0
+             hashes      list of 64 hex digits, the audit path
+             entry       base64, the entry
+           scheme, key, accepted   as of log
+           entries     as of log, of the last head
+         The reply is one line on standard output:
+           audited HEADS WATCHED SIZE   every link holds; the last size
+           refused LINK INDEX           the first that fails, and the index of
+                                        its head (checkpoint, note-key, origin,
+                                        consistency) or watched entry (inclusion)
+           refused request
+         With entries, a second line follows where every link holds:
+           prefixes HEADS      each head has the root of the first entries, as
+                               many as its size, and each watched entry is the
+                               list's at its index
+           other list          the list has another size or root than the last
+                               head
+           collision HEX HEX   neither: two different byte strings of equal
+                               SHA-256
 
-  questions log, questions verify, questions consistency
+  questions log, questions verify, questions consistency, questions audit
          Which signatures can the reply of the command rest on? The
          request is the command's own, and its accepted, if given, has to be a
          list of signatures, and does not matter. The reply is a JSON list in
