@@ -1,4 +1,4 @@
-"""Requests of `log` and of `consistency` with the log's own entries, and what hashing those takes alone."""
+"""Requests of `log`, of `consistency` and of `audit` with the log's own entries, and what hashing those takes alone."""
 import hashlib
 import random
 import time
@@ -53,6 +53,43 @@ def of_growth(entries, more=()):
         old = node(left, old)
     hashes = [lefts[0], below[0][-1], *lefts[1:]]
     return with_list(entries, more, root, hashes, oldSize=len(entries) - 1, oldRoot=old.hex())
+
+
+def below(size):
+    """The largest power of two below a number."""
+    return 1 << (size - 1).bit_length() - 1
+
+
+def span(made, low, high):
+    """The root of the entries from one index to another, by the levels of the whole tree."""
+    size = high - low
+    if size & (size - 1) == 0:
+        return made[size.bit_length() - 1][low // size]
+    middle = low + below(size)
+    return node(span(made, low, middle), span(made, middle, high))
+
+
+def growth(made, old, low, high, whole=True):
+    """SUBPROOF of RFC 6962 section 2.1.2, by the levels of the whole tree."""
+    if old == high - low:
+        return [] if whole else [span(made, low, high)]
+    middle = low + below(high - low)
+    if low + old <= middle:
+        return [*growth(made, old, low, middle, whole), span(made, middle, high)]
+    return [*growth(made, low + old - middle, middle, high, False), span(made, low, middle)]
+
+
+def of_heads(count, entries, more=()):
+    """A request of `audit` of a log at so many sizes, the last with these entries, with them and more."""
+    made = list(levels(entries))
+    sizes = [(place + 1) * len(entries) // count for place in range(count)]
+    heads, rows = [], []
+    for before, size in zip([None, *sizes], sizes):
+        note = f"log.example\n{size}\n{coded(span(made, 0, size))}\n"
+        hashes = growth(made, before, 0, size) if before else []
+        heads.append({"checkpoint": f"{note}\n{KEY_HINT_AND_SIGNATURE}", "hashes": [each.hex() for each in hashes]})
+        rows.append(row(note.encode()))
+    return request(heads=heads, accepted=rows, entries=[coded(entry) for entry in (*entries, *more)])
 
 
 def big(size, more=1):

@@ -47,6 +47,40 @@ def signature_line(signature, name="log.example"):
     return f"\u2014 {name} {coded(bytes(4) + signature)}\n"
 
 
+def audit(heads, **members):
+    """A request of `audit` of these heads, which the example's row accepts."""
+    return request(heads=heads, **members)
+
+
+HEAD = {"checkpoint": EXAMPLE["checkpoint"]}
+WATCH = {"head": 0, "index": 0, "entry": EXAMPLE["entry"]}
+
+
+def audit_heads(count):
+    """More heads than an audit may have."""
+    return audit([HEAD] * (count + 256))
+
+
+def audit_watches(count):
+    """More watched entries than an audit may have."""
+    return audit([HEAD], watched=[WATCH] * (count + 4096))
+
+
+def audit_hashes(count):
+    """A first head with many hashes, which are not looked at."""
+    return audit([{**HEAD, "hashes": ["00" * 32] * count}])
+
+
+def audit_proof(count):
+    return audit([HEAD, {**HEAD, "hashes": ["00" * 32] * (count + 1)}])
+
+
+def audit_signatures(count):
+    """A head with many signatures, none of which is accepted."""
+    lines = [signature_line(signature) for signature in numbered(b"s" * 66, count)]
+    return audit([{"checkpoint": NOTE + "\n" + "\n".join(lines)}])
+
+
 def one_entry(count):
     return request(entry=coded(bytes(3 * count)))
 

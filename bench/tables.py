@@ -14,6 +14,7 @@ MOST_TO_PLAIN = 1.2  # the time over a request, to the plain program's
 MOST_TO_PLAIN_SMALL = 1  # the same where the request has at most 2^16 bytes
 MOST_DOUBLED = 2.3  # the time over an input, to that over one of half the size
 MOST_TO_READING_AND_HASHING = 1.3  # the time over a log's own entries, to that of reading and of hashing them
+MOST_OF_HEADS = 1.5  # the time of the roots of a list's beginnings, one for each of 256 heads, to that of hashing the list
 MOST_BEYOND_START = 1.0  # the milliseconds that a small request takes beyond those of a process that reads none
 MOST_OF_DEMO = 50  # the milliseconds of `demo` of the most entries
 MOST_MEGABYTES = 500  # the peak memory over an input of 2^24 bytes
@@ -220,6 +221,50 @@ def entries(bench):
             row(command, name, make(bench.most // 2), make(bench.most))
 
 
+def audits(bench):
+    """Requests of `audit` of a log of 100,000 entries at so many sizes, with the log's own entries, beside the same
+    request with one entry more, which is read and not hashed. The last column is the time beyond that, of hashing the
+    list and of the roots of its beginnings, to that of one head alone."""
+    table = bench.table(audits, "heads", "bytes", "ms", "MB", "read ms", "hash ms", "to one")
+    words, made, alone = [[bench.program, "audit"]], own_entries.small(100_000), None
+    for count in (1, 16, 256):
+        text = own_entries.of_heads(count, made)
+        [took], [peak] = timed(bench, words, text, f"audited {count} 0 100000\nprefixes {count}")
+        [read], _ = timed(bench, words, own_entries.of_heads(count, made, [b"more"]), f"audited {count} 0 100000\nother list")
+        hashed = took - read
+        alone = hashed if alone is None else alone
+        table.row(str(count), len(text), took * 1000, round(peak), read * 1000, hashed * 1000, hashed / alone)
+        bench.goal(f"audit, {count} heads, time of the list to that of one", hashed / alone, MOST_OF_HEADS)
+
+
+# The lists of a request of `audit`, by the reply: each is made at half of the largest size, and at the whole.
+AUDIT_REQUESTS = {
+    "refused request": (
+        ("heads", shapes.audit_heads),
+        ("watched entries", shapes.audit_watches),
+    ),
+    "audited 1 0 1": (("hashes of the first head", shapes.audit_hashes),),
+    "refused consistency 1": (("hashes of a head", shapes.audit_proof),),
+    "refused note-key 0": (("signatures of a head", shapes.audit_signatures),),
+}
+
+
+def audit_lists(bench):
+    """Requests of `audit`, each of their lists at half of the largest size and at the whole. The last column is the time
+    to that over a request of half the size."""
+    table = bench.table(audit_lists, "request", "reply", "bytes", "ms", "MB", "to half")
+    words = [[bench.program, "audit"]]
+    for reply, requests in AUDIT_REQUESTS.items():
+        for name, make in requests:
+            [first], _ = timed(bench, words, filled(make, bench.most // 2), reply)
+            text = filled(make, bench.most)
+            [took], [peak] = timed(bench, words, text, reply)
+            table.row(name, reply, len(text), took * 1000, round(peak), took / first)
+            bench.goal(f"audit, {name}, MB", peak, MOST_MEGABYTES)
+            bench.goal(f"audit, {name}, seconds", took, MOST_SECONDS)
+            bench.goal(f"audit, {name}, time to that at half", took / first, MOST_DOUBLED)
+
+
 def demo(bench):
     """`demo` of the most entries, and of half as many: the milliseconds beyond a process that is asked for nothing, and
     what hashing each leaf and node of the tree once takes by Python's `hashlib`."""
@@ -403,6 +448,6 @@ def walks(bench):
     bench.goal("check of inclusion, time to its hashes", took[0] / took[2], MOST_TO_HASHES)
 
 
-OF_PROGRAM = (log, entries, demo, verify, questions)  # those that measure sigverify
+OF_PROGRAM = (log, entries, audits, audit_lists, demo, verify, questions)  # those that measure sigverify
 OF_READERS = (entries, certificates, documents, bundles, statements, artifacts, walks)  # those that run sig_bench
 TABLES = {table.__name__: table for table in (*OF_PROGRAM, *OF_READERS)}
