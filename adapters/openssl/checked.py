@@ -27,10 +27,12 @@ Status: that of the reply, 0 if every link of the command holds, 1 and 2 if not;
 
 # What a reply is, by its status; the list of `questions` has status 0.
 REFUSED = {1: b"refused [0-9a-z-]+\n", 2: b"refused request\n"}
-LISTED = {0: rb"(?s)\[.*\]\n", **REFUSED}
-OF_ENTRIES = b"(?:(?:entry|prefix) [0-9]+\n|other list\n|collision [0-9a-f]+ [0-9a-f]+\n)?"
+REFUSED_AT = {1: b"refused [0-9a-z-]+ [0-9]+\n", 2: b"refused request\n"}
+LIST = rb"(?s)\[.*\]\n"
+OF_ENTRIES = b"(?:(?:entry|prefix|prefixes) [0-9]+\n|other list\n|collision [0-9a-f]+ [0-9a-f]+\n)?"
 REPLIES = {command: {0: b"%s [0-9]+ [0-9]+\n%s" % (word, OF_ENTRIES), **REFUSED}
            for command, word in (("log", b"logged"), ("verify", b"verified"), ("consistency", b"consistent"))}
+REPLIES["audit"] = {0: b"audited [0-9]+ [0-9]+ [0-9]+\n%s" % OF_ENTRIES, **REFUSED_AT}
 
 
 def compact(value):
@@ -63,7 +65,7 @@ def genuine_of(command, listed):
 def answer(program, command, request, replies):
     """The request with the rows that are accepted, the reply to it, and its status. The rows come before the last brace
     of the request, byte for byte as listed, since sigverify lists what fits in there, for an object with members."""
-    listed, status = run(program, ["questions", command], request, LISTED)
+    listed, status = run(program, ["questions", command], request, {**replies, 0: LIST})
     if status != 0:
         return request, listed, status
     end = request.rindex(b"}")

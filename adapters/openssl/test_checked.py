@@ -1,13 +1,14 @@
 """sigverify-checked: requests of each command that are really signed, what becomes of their texts, and each end without
 a reply."""
 import base64
+import json
 import os
 import subprocess
 import tempfile
 
 import signed
 from signed import IDENTITY, ISSUER, NOW, Signed, fixture
-from test_common import CHECKED, VERIFIED, compare_end, file_of, program_that, run
+from test_common import CHECKED, HERE, VERIFIED, compare_end, file_of, program_that, run
 
 LIMIT = 1 << 24
 SIZES = 3, 7
@@ -46,6 +47,26 @@ def grown(kind, spoil=False):
             "key": signed.base64_of(log.spki)}
 
 
+def audits():
+    """Audits of a log whose heads are signed, and each head in turn signed otherwise; as many rows are claimed."""
+    import signed_audit
+    for kind in "P-256", "P-384", "P-521", "RSA", "RSA-PSS", "Ed25519":
+        signer = signed.signer(kind, "log")
+        yield "audit", signed_audit.audit(signer)[0], 0, "audited 4 1 9\nprefixes 4\n"
+        for place in range(4):
+            for by in "flip", "stranger", "another note":
+                request, _ = signed_audit.audit(signer, place, by)
+                claimed = {**request, "accepted": signed_audit.claimed(request, signer)}
+                yield "audit", request, 1, f"refused note-key {place}\n"
+                yield "audit", claimed, 1, f"refused note-key {place}\n"
+    request, _ = signed_audit.audit(signed.signer("P-256", "log"))
+    yield "audit", {**request, "entries": []}, 0, "audited 4 1 9\nother list\n"
+    yield "audit", {**request, "heads": request["heads"] + [{"checkpoint": ""}]}, 1, "refused checkpoint 4\n"
+    yield "audit", {**request, "heads": []}, 2, "refused request\n"
+    with open(os.path.join(HERE, "example", "audit.json"), encoding="utf-8") as file:
+        yield "audit", json.load(file), 0, "audited 7 1 40\nprefixes 7\n"
+
+
 def requests():
     """By command: a request, the status, and the lines."""
     for kind in "P-256", "P-384", "P-521", "RSA", "RSA-PSS", "Ed25519":
@@ -60,6 +81,7 @@ def requests():
     yield "verify", verify_request(Signed()), 0, VERIFIED + "\n"
     for title, link in signed.LINKS.items():
         yield "verify", verify_request(Signed(spoiled=title)), 1, f"refused {link}\n"
+    yield from audits()
     yield "log", verify_request(Signed()), 2, "refused request\n"
     yield "verify", {}, 2, "refused request\n"
 
@@ -147,6 +169,9 @@ def check_ends(results, program):
             ends(f"a program that does: {does}", does)
         for does in NO_SECOND_REPLIES:
             ends(f"a second run that does: {does}", f'[ "$1" = log ] || {{ echo "[]"; exit; }}; {does}')
+        for does in "echo 'audited 1 0'", "echo 'refused note-key'; exit 1", "echo 'audited 1 0 1'; echo 'entry 1 1'":
+            program_of = program_that(folder, f'[ "$1" = audit ] || {{ echo "[]"; exit; }}; {does}')
+            compare_end(results, f"an audit that does: {does}", [f"--sigverify={program_of}", "audit"], "no reply", adapter=CHECKED, input=text)
         file_of(folder, "start.py", b"raise MemoryError")
         there = os.path.join(folder, "sigverify-checked")
         with open(CHECKED, "rb") as file:
