@@ -1,0 +1,3 @@
+mod Issuing
+mod Signers
+mod Subjects

@@ -1,0 +1,4 @@
+pub mod Subject
+pub mod Named
+pub mod Claims
+pub mod Signer
