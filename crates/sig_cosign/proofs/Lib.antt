@@ -1,0 +1,3 @@
+mod OciLayers
+mod SignedLayers
+mod SignersOf

@@ -1,0 +1,32 @@
+//! What `cosign` stores beside a container image, as checked layers: a payload with its signature, who signed by the
+//! word of a certificate, and what a log promised or proved of the signature.
+//!
+//! ```text
+//! descriptor  {"mediaType":"application/vnd.dev.cosign.simplesigning.v1+json","digest":"sha256:3fbd..",
+//!              "annotations":{"dev.cosignproject.cosign/signature":"MEUCIQ==",
+//!                             "dev.sigstore.cosign/bundle":"{\"SignedEntryTimestamp\":..}"}}
+//! layer       {"critical":{"identity":{"docker-reference":"registry.example/image"},..},"optional":null}
+//! ```
+//!
+//! The layer above uses two facts. A layer is made of a descriptor and its bytes if and only if media types, digest,
+//! payload, image and signature annotation are as they have to be and what a log is said to have promised is signed;
+//! and else the first rule that is broken is told. A layer is signed by a key if and only if the checker accepts its
+//! signature over its raw data. **A layer ties its certificate, what a log promised and its signature together by
+//! nothing**: only [`SignatureLayer::is_signed_by_key`] checks a signature over the layer.
+#![tactic(auto)]
+
+mod bundle_content;
+mod oci_layer;
+mod signature_layer;
+mod signers;
+mod source;
+mod unsigned;
+
+pub use bundle_content::BundleContent;
+pub use sig_payload::{
+    Bundle, CRITICAL_TYPE_NAME, Critical, Identity, Image, Optional, Payload, SignedArtifactBundle,
+    SimpleSigning,
+};
+pub use sig_signer::{CertificateSignature, CertificateSubject};
+pub use signature_layer::SignatureLayer;
+pub use source::{ImageLayer, OciDescriptor};
