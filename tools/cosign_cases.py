@@ -9,9 +9,11 @@ that `cosign` writes, and Rekor's signed entry timestamp over canonical JSON (RF
 import itertools
 import re
 import sys
+from types import SimpleNamespace
 
 sys.dont_write_bytecode = True
 
+import cosign_layer_rows
 import fixture
 import json_documents as documents
 from case_table import Table
@@ -402,6 +404,9 @@ def main():
     promises()
     artifacts()
     equalities()
+    cosign_layer_rows.rows(TABLE, SimpleNamespace(
+        Refused=Refused, signing_of=lambda content: signing_of(content.decode()), shown=shown, payload=payload, tree=tree, signed=signed, decoded=decoded,
+        promised=lambda content, keys, rows: checked(read(content, read_promise, "BundleUnreadable"), keys, [row[1:] for row in rows if row[0] == "message"])))
     TABLE.write()
 
 

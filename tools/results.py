@@ -159,6 +159,15 @@ CALLS = [
     ("read_signing", "cosign signing", "sig_base SigstoreError", ["UnexpectedError(LayerUnreadable)"]),
     ("Bundle::new_verified", "cosign promise", "sig_base SigstoreError", PROMISED),
     ("SignedArtifactBundle::new_verified", "cosign artifact", "sig_base SigstoreError", PROMISED),
+    ("CertificateSubject::from_certificate", "cosign subject", "sig_base SigstoreError",
+     ["CertificateParsingError", "CertificateWithIncompleteSubjectAlternativeName"]),
+    ("CertificateSignature::from_der_certificate", "cosign signer", "sig_base SigstoreError",
+     ["X509Error", "CertificatePoolError(Malformed)", "CertificatePoolError(VerificationFailed)", "CertificateWithoutDigitalSignatureKeyUsage",
+      "CertificateWithoutSubjectAlternativeName", "CertificateValidityError(_)", "CertificateExpiredBeforeSignaturesSubmittedToRekor",
+      "CertificateIssuedAfterSignaturesSubmittedToRekor", "CertificateWithIncompleteSubjectAlternativeName"]),
+    ("SignatureLayer::new", "cosign layer", "sig_base SigstoreError",
+     ["SigstoreMediaTypeNotFoundError", "SigstoreLayerDigestMismatchError", "UnexpectedError(LayerUnreadable)", "UnexpectedError(ImageDigest)",
+      "SigstoreAnnotationNotFoundError"] + PROMISED),
     ("try_from_log_entry", "client try_from_log_entry", "sig_signing ConversionError", ALL),
     ("Verifier::new", "verify verify_digest_with", "sig_base SigstoreError", ["CertificatePoolError(Anchor(_))"]),
     ("Verifier::verify_digest_with", "verify verify_digest_with", "sig_verify VerificationError", ARTIFACT),
@@ -174,8 +183,6 @@ FOR_COSIGN = "for the layers of cosign, which no call reads yet"
 CALLERS = "for a caller's own constraints; no call gives it"
 UNSHOWN = {
     "sig_base SigstoreError": {
-        "CertificateWithIncompleteSubjectAlternativeName": FOR_COSIGN, "CertificateParsingError": FOR_COSIGN, "X509Error": FOR_COSIGN,
-        "SigstoreMediaTypeNotFoundError": FOR_COSIGN, "SigstoreLayerDigestMismatchError": FOR_COSIGN, "SigstoreAnnotationNotFoundError": FOR_COSIGN,
         "SigstoreNoVerifiedLayer": FOR_COSIGN, "VerificationConstraintError": CALLERS, "ApplyConstraintError": CALLERS},
     "sig_der DerWriteError": {"TooLong": "bytes of 2^32 and more"},
     "sig_verify InputFault": {"TooLong": "an artifact of more than 2^40 bytes"},

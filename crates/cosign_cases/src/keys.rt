@@ -33,7 +33,7 @@ fn insert(arguments: &mut Arguments<'_>, keys: &mut VerificationKeys) {
 }
 
 /// The scheme of the name that is the next argument.
-fn scheme(arguments: &mut Arguments<'_>) -> SigningScheme {
+pub(crate) fn scheme(arguments: &mut Arguments<'_>) -> SigningScheme {
     match SigningScheme::try_from(arguments.word()) {
         Ok(scheme) => scheme,
         Err(_) => {

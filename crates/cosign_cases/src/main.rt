@@ -5,8 +5,11 @@
 #![tactic(auto)]
 
 mod keys;
+mod layers;
 mod promises;
+mod signers;
 mod signings;
+mod trusted;
 
 use sig_cases::{Answer, Arguments, Cases, run};
 
@@ -22,6 +25,11 @@ impl Cases for CosignCases {
             "promise" => promises::promise(arguments, answer),
             "artifact" => promises::artifact(arguments, answer),
             "equal" => promises::equal(arguments, answer),
+            "subject" => signers::subject(arguments, answer),
+            "signer" => signers::signer(arguments, answer),
+            "unsigned" => layers::unsigned(arguments, answer),
+            "signed" => layers::signed(arguments, answer),
+            "layer" => layers::layer(arguments, answer),
             _ => arguments.refuse(),
         }
     }

@@ -87,6 +87,11 @@ fn show_satisfied(answer: &mut Answer, optional: &Option<Optional>, asked: &Text
 
 fn show(alloc: Global, answer: &mut Answer, signing: &SimpleSigning) {
     answer.ok();
+    show_signing(alloc, answer, signing);
+}
+
+/// Reference, digest and type of a payload, and its annotations.
+pub(crate) fn show_signing(alloc: Global, answer: &mut Answer, signing: &SimpleSigning) {
     answer.debug(&signing.critical.identity.docker_reference);
     answer.debug(&signing.critical.image.docker_manifest_digest);
     answer.debug(&signing.critical.type_name);

@@ -1,0 +1,127 @@
+"""Cosign's layers in the plainest way, for tools/cosign_layer_rows.py: who signed by the word of a certificate, and the layer of a descriptor and
+its bytes.
+
+Certificates are read by the second reader that the other tools have, which is written from the public standards; the rules of a layer are those of `cosign` as docs/PROVED.md and docs/DECISIONS.md say them.
+"""
+import verify_certificate as certificates
+import x509_cases as x509
+from fixture import oid
+from rekor_cases import debug
+from verify_certificate import sha256
+
+
+class Refused(Exception):
+    """Why a call fails."""
+
+
+def want(holds, error):
+    if not holds:
+        raise Refused(error)
+
+
+def unexpected(kind):
+    return "UnexpectedError(%s)" % kind
+
+
+# ---- who signed
+
+
+def names_of(value):
+    """Each name of a subject alternative name: its kind and text (RFC 5280 section 4.2.1.6)."""
+    certificates.alternative_names(value)
+    kinds = {0x81: "Email", 0x86: "Uri"}
+    return [(kinds[tag], content.decode()) for tag, content, _ in x509.cut(certificates.sole(value, 0x30)) if tag in kinds]
+
+
+def subject(leaf):
+    found = leaf.value(certificates.ALTERNATIVE_NAME, names_of)
+    want(found is not None and found != certificates.MALFORMED, "CertificateParsingError")
+    want(found, "CertificateWithIncompleteSubjectAlternativeName")
+    return "%s %s" % (found[0][0], debug(found[0][1]))
+
+
+def is_signed(child, parent, rows):
+    return (child.issuer == parent.subject and child.not_before <= child.not_after
+            and ("certificate", child.algorithm, parent.spki, child.tbs, child.signature) in rows)
+
+
+def may_issue(inter, time):
+    listed = inter.value(certificates.EXTENDED_KEY_USAGE, certificates.purposes)
+    return (certificates.authority_refusal(inter) is None and inter.not_before <= time <= inter.not_after
+            and (listed is None or certificates.CODE_SIGNING in listed))
+
+
+def check_pool(leaf, anchors, intermediates, rows):
+    """The leaf is issued by a trust anchor, or by an intermediate that one issued; longer paths are left to tools/x509_paths.py."""
+    want(certificates.is_issuable(leaf), "CertificatePoolError(Malformed)")
+    listed = leaf.value(certificates.EXTENDED_KEY_USAGE, certificates.purposes)
+    roots = [certificates.read_certificate(each) for each in anchors]
+    others = [each for each in map(certificates.read_certificate, intermediates) if each and may_issue(each, leaf.not_before)]
+    above = roots + [inter for inter in others if any(is_signed(inter, root, rows) for root in roots)]
+    issued = isinstance(listed, list) and certificates.CODE_SIGNING in listed and any(is_signed(leaf, each, rows) for each in above)
+    want(issued, "CertificatePoolError(VerificationFailed)")
+
+
+def check_trust(leaf, time, now):
+    usage = leaf.value(certificates.KEY_USAGE, certificates.key_usage)
+    want(isinstance(usage, int) and usage & 0x80, "CertificateWithoutDigitalSignatureKeyUsage")
+    listed = leaf.value(certificates.EXTENDED_KEY_USAGE, certificates.purposes)
+    want(isinstance(listed, list) and certificates.CODE_SIGNING in listed, "CertificateWithoutCodeSigningKeyUsage")
+    names = leaf.value(certificates.ALTERNATIVE_NAME, names_of)
+    want(isinstance(names, list), "CertificateWithoutSubjectAlternativeName")
+    want(leaf.not_before <= now, "CertificateValidityError(%d)" % leaf.not_before)
+    want(leaf.not_before <= time, "CertificateExpiredBeforeSignaturesSubmittedToRekor { integrated_time: %d, not_before: %d }" % (time, leaf.not_before))
+    want(time <= leaf.not_after, "CertificateIssuedAfterSignaturesSubmittedToRekor { integrated_time: %d, not_after: %d }" % (time, leaf.not_after))
+
+
+def claim(leaf, number):
+    found = leaf.of(oid(certificates.FULCIO + number))
+    if not found:
+        return "-"
+    text = certificates.utf8(found[0].value)
+    want(text is not None, "X509Error")
+    return debug(text)
+
+
+def signer(content, pool, time, now, rows):
+    leaf = certificates.read_certificate(content)
+    want(leaf, "X509Error")
+    check_pool(leaf, *pool, rows)
+    check_trust(leaf, time, now)
+    named = subject(leaf)
+    scheme = certificates.scheme_of(leaf.spki)
+    want(scheme, "X509Error")
+    return " ".join([scheme, leaf.spki.hex(), named, *[claim(leaf, str(number)) for number in range(1, 7)]])
+
+
+def signer_or_none(content, pool, time, now, rows):
+    try:
+        return signer(content, pool, time, now, rows) if pool is not None else "-"
+    except Refused:
+        return "-"
+
+
+# ---- the layer of a descriptor and its bytes
+
+SIGNING_TYPE = "application/vnd.dev.cosign.simplesigning.v1+json"
+SIGNATURE, BUNDLE = "dev.cosignproject.cosign/signature", "dev.sigstore.cosign/bundle"
+
+
+def digest_of(content):
+    return "sha256:" + sha256(content).hex()
+
+
+def layer(descriptor, fetched, source, trust, payloads):
+    """`payloads` reads and shows payloads and what Rekor promised: tools/cosign_cases.py."""
+    want(descriptor.media_type == SIGNING_TYPE == fetched.media_type, "SigstoreMediaTypeNotFoundError")
+    want(descriptor.digest == digest_of(fetched.content), "SigstoreLayerDigestMismatchError")
+    signing = payloads.signing_of(fetched.content)
+    want(signing[1] == source, unexpected("ImageDigest"))
+    want(SIGNATURE in descriptor.annotations, "SigstoreAnnotationNotFoundError")
+    promised, signed = None, "-"
+    if BUNDLE in descriptor.annotations and trust.keys is not None:
+        promised = payloads.promised(descriptor.annotations[BUNDLE], trust.keys, trust.rows)
+        if descriptor.cert is not None:
+            signed = signer_or_none(descriptor.cert, trust.pool, promised[2], trust.now, trust.rows)
+    return " ".join([payloads.shown(signing), debug(descriptor.digest), debug(descriptor.annotations[SIGNATURE]),
+                     "RekorBundle %d %s %d" % (promised[3], debug(promised[1]), promised[2]) if promised else "- -", signed, fetched.content.hex() or "-"])
