@@ -1,0 +1,7 @@
+mod Turns
+mod SatisfiedLaws
+mod MarkedLaws
+mod SubjectLaws
+mod ChainLaws
+mod KeyLaws
+mod KeyedLaws
