@@ -168,6 +168,12 @@ CALLS = [
     ("SignatureLayer::new", "cosign layer", "sig_base SigstoreError",
      ["SigstoreMediaTypeNotFoundError", "SigstoreLayerDigestMismatchError", "UnexpectedError(LayerUnreadable)", "UnexpectedError(ImageDigest)",
       "SigstoreAnnotationNotFoundError"] + PROMISED),
+    ("verify_constraints", "constraint verify", "sig_constraint SigstoreVerifyConstraintsError", ALL),
+    ("apply_constraints", "constraint apply", "sig_constraint SigstoreApplicationConstraintsError", ALL),
+    ("PublicKeyVerifier::try_from_der", "constraint key", "sig_base SigstoreError", KEY),
+    ("CertificateVerifier::from_der", "constraint certificate", "sig_base SigstoreError", ["X509Error"] + USAGES + NO_NAME
+     + ["CertificateValidityError(_)"] + within("CertificatePoolError", ["Anchor(_)", "Malformed", "VerificationFailed"])
+     + ["PublicKeyUnsupportedAlgorithmError"]),
     ("try_from_log_entry", "client try_from_log_entry", "sig_signing ConversionError", ALL),
     ("Verifier::new", "verify verify_digest_with", "sig_base SigstoreError", ["CertificatePoolError(Anchor(_))"]),
     ("Verifier::verify_digest_with", "verify verify_digest_with", "sig_verify VerificationError", ARTIFACT),
@@ -248,8 +254,9 @@ def kinds_of(key):
 # The tables.
 
 def normalized(line):
-    """A line in which texts and numbers are `_`, and named fields `@`."""
+    """A line in which texts, numbers and lists of numbers are `_`, and named fields `@`."""
     line = re.sub(r'"(?:[^"\\]|\\.)*"', "_", line)
+    line = re.sub(r"\[\d[\d, ]*\]", "_", line)
     line = re.sub(r"(?<![\w])-?\d+\b", "_", line)
     while re.search(r"\s*\{[^{}]*\}", line):
         line = re.sub(r"\s*\{[^{}]*\}", "@", line)
