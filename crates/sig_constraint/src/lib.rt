@@ -6,7 +6,7 @@
 //! constraints.push(Box::new(alloc, PublicKeyVerifier::try_from_der(alloc, key, checker)?)?)?;
 //! constraints.push(Box::new(alloc, AnnotationVerifier { annotations })?)?;
 //! for layer in layers.as_slice().chunks(1) {
-//!     if verify_constraints(alloc, layer, &constraints).is_ok() { .. }   // this layer satisfies both
+//!     if verify_constraints(alloc, layer, constraints.as_slice()).is_ok() { .. }   // this layer satisfies both
 //! }
 //! ```
 //!
