@@ -1,7 +1,7 @@
 #!/usr/bin/env python3
-"""A walk of hostile requests of `verify`: the fixture's, over an envelope and over a message, each changed in one place.
+"""A walk of hostile requests of `verify`: the fixture's, over an envelope, over a message, and with two intermediates, each changed in one place.
 
-    tools/hostile.py all [PROGRAM]       every request of the walk, some 60,000
+    tools/hostile.py all [PROGRAM]       every request of the walk, some 100,000
     tools/hostile.py [PROGRAM]           one request of each forty
     tools/hostile.py count               how many requests each part of the walk has
 
@@ -30,6 +30,7 @@ import questions_cases
 import verify_cases
 from failing import in_lines
 from fixture import anchor, certificate, compact, name
+from verify_rows_chains import TWO, to_root
 
 PROGRAM = pathlib.Path(__file__).resolve().parent.parent / "crates/sigverify/out/sigverify"
 SAMPLED = 40
@@ -46,6 +47,7 @@ def fixtures():
     intermediate = certificate(anchor(issuer=name("another root")))
     yield "envelope", verify_cases.built([])
     yield "message", verify_cases.built([verify_cases.message(later=(intermediate,))])
+    yield "chain", verify_cases.built([to_root(*TWO)])
 
 
 def bytes_changed(content):
@@ -236,7 +238,8 @@ def document_walk(title, members, part):
 
 
 CERTIFICATES = {"bundle": [("verificationMaterial", "certificate", "rawBytes"), ("verificationMaterial", "x509CertificateChain", "certificates", 0, "rawBytes"),
-                           ("verificationMaterial", "x509CertificateChain", "certificates", 1, "rawBytes")],
+                           ("verificationMaterial", "x509CertificateChain", "certificates", 1, "rawBytes"),
+                           ("verificationMaterial", "x509CertificateChain", "certificates", 2, "rawBytes")],
                 "trustedRoot": [("certificateAuthorities", 0, "certChain", "certificates", 0, "rawBytes"), ("tlogs", 0, "publicKey", "rawBytes"),
                                 ("ctlogs", 0, "publicKey", "rawBytes")]}
 
