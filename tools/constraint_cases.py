@@ -286,7 +286,7 @@ class Certified:
         return [each if isinstance(each, bytes) else fixture.certificate(each) for each in self.chain]
 
     def chain_words(self):
-        return ["none"] if self.chain is None else ["chain", ",".join(hexed(each) for each in self.ders()) or "-"]
+        return ["none"] if self.chain is None else ["chain", ",".join(each.hex() for each in self.ders()) or "-"]
 
     def refusal(self, rows):
         for name, error in (("bytes", "X509Error"), ("usage", "CertificateWithoutDigitalSignatureKeyUsage"),
