@@ -265,8 +265,9 @@ class Signed:
         def times(place):
             return [*self.trusted, *self.further].count(self.anchors[place])
         signed = [(self.rows["certificate"], times(0)) for title in ["certificate"] if title not in missing]
+        spoiled = self.chain - 1 if "authority" in missing else None  # that of the uppermost
         signed += [(row, times(place + 1)) for place, row in enumerate(self.signatures)
-                   if self.anchors[place] in self.further and "authority" not in missing]
+                   if self.anchors[place] in self.further and place != spoiled]
         rows = [row for row, count in signed for _ in range(count)]
         rows += [self.rows["sct"]] * times(0) if "sct" not in missing else []
         return rows + [self.rows[title] for title in list(LINKS)[2:] if title not in missing]

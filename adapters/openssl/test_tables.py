@@ -115,6 +115,8 @@ REFUSED = {
     "all Certificate Transparency logs have ended": ("ctfe", {}, ranged("ctlogs", ENDED)),
     "the certificate's Certificate Transparency log has ended": ("sct", {}, second_log),
     "a checkpoint with a second signature, of a witness": ("checkpoint", {}, cosigned),
+    "a trusted root with the root certificate alone, and a bundle without the certificates between":
+        ("issuer", dict(chain=1, alone=True, left_out=0), None),
 }
 
 NOT_CA = fixture.extensions(extension(BASIC_CONSTRAINTS, der(SEQUENCE), critical=True))
