@@ -105,6 +105,8 @@ CALLS = [
     ("is_trusted", "x509 is_trusted", "sig_base SigstoreError", USAGES + NO_NAME + ["CertificateValidityError(_)"] + OUTSIDE),
     ("CertificatePool::from_certificates", "x509 from_certificates", "sig_base PoolError", ["Anchor(_)", "TooMany(_)"]),
     ("CertificatePool::verify_der_cert", "x509 verify_der_cert", "sig_base PoolError", ["Malformed", "VerificationFailed"]),
+    ("CertificatePool::verify_cert_with_time", "x509 asked", "sig_base PoolError", ["Malformed", "VerificationFailed"]),
+    ("CertificatePool::verify_cert_with_chain", "x509 graph", "sig_base PoolError", ["Malformed", "VerificationFailed"]),
     ("Key::new", "x509 key", "sig_timestamp KeyringError", ["KeyMalformed", "AlgoUnsupported"]),
     ("Keyring::verify", "x509 keyring", "sig_timestamp KeyringError", KEYRING),
     ("CertificateEmbeddedSCT::new", "x509 embedded_sct_of_chain", "sig_timestamp SCTError", within("Parsing", ["IssuerMissing"] + SCT)),

@@ -4,11 +4,12 @@
     tools/x509_cases.py
 
 The rows of x509_cases.txt state a change of the fixture leaf and the answer; fixture.py makes the bytes. x509_reader.py reads what a
-certificate lends a second time, and x509_paths.py finds the issuer in a pool a second time.
+certificate lends a second time, and x509_graphs.py finds the issuer in a pool a second time.
 """
 import re
 
 import request_cases
+import x509_graphs
 import x509_paths
 from fixture import spelled
 from x509_calls import TABLE, answer, case, group, listed
@@ -20,6 +21,7 @@ from x509_sigstore import real_certificates, real_sct
 
 def paths():
     x509_paths.rows(group, case, listed, spelled)
+    x509_graphs.rows(TABLE)
 
 
 def requests():

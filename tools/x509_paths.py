@@ -1,7 +1,6 @@
 #!/usr/bin/env python3
 """Rows of pools with intermediates for x509_cases. The second implementation tries every list of at most six intermediates."""
 import itertools
-import random
 
 import fixture
 from fixture import der, extension, extensions, key, name
@@ -144,15 +143,6 @@ def rows(group, case, listed, spelled):
     one("one that is no certificate keeps its index", "a", [None, a], "ok intermediate 1")
     one("an unknown critical extension", "a", [made("a", "fixture root", 5, critical=b"*")], "VerificationFailed")
     one("expired", "a", [made("a", "fixture root", 5, last="230201000000Z")], "VerificationFailed")
-    group("pools with intermediates: graphs by chance")
-    chance = random.Random(6)
-    for number in range(200):
-        nodes = [made(chance.choice("abc"), chance.choice(["a", "b", "c", "fixture root"]), chance.choice([5, 6, 7]),
-                      chance.choice([None, None, 0, 1, 2]), serial=place + 1,
-                      **chance.choice([{}, {}, {}, {}, {"critical": b"*"}, {"last": "230201000000Z"}])) for place in range(chance.randrange(6))]
-        roots, leaf = [root_node()], leaf_node(chance.choice(["a", "b", "fixture root"]))
-        pairs = [(child, parent) for child, parent in under_issuers([leaf, *nodes], [*roots, *nodes]) if chance.random() < 0.8]
-        add(case, listed, spelled, "graph %d" % number, roots, nodes, leaf, list({(child.der, under): (child, under) for child, under in pairs}.values()))
     group("pools of too many intermediates")
     for count, expected in [(1024, "ok"), (1025, "TooMany(1025)")]:
         case("%d that are no certificates" % count, "from_certificates %s %s" % (spelled(root_node().der), ",".join(["00"] * count)), expected)

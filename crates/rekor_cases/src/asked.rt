@@ -2,117 +2,8 @@
 
 use crate::parts::{Accepted, KEY, checkpoint, keyed};
 use crate::shown::answer_to;
-use sig_base::{SignatureChecker, TableChecker, VerifyScheme};
-use sig_cases::{Answer, Arguments};
+use sig_cases::{Answer, Arguments, Recorder};
 use sig_rekor::SignedNote;
-use std::alloc::Global;
-use std::cell::{Cell, RefCell};
-
-/// A table that keeps the signatures that it was asked about, in their order.
-#[derive(Drop)]
-struct Recorder {
-    alloc: Global,
-    table: TableChecker,
-    asked: RefCell<Vec<Vec<u8>>>,
-    is_full: Cell<bool>,
-}
-
-impl Recorder {
-    fn new(alloc: Global, table: TableChecker) -> Recorder {
-        Recorder {
-            alloc,
-            table,
-            asked: RefCell::new(Vec::new(alloc)),
-            is_full: Cell::new(false),
-        }
-    }
-
-    /// Keeps a signature. That there is no memory for it is kept too.
-    fn keep(&self, signature: &[u8]) {
-        let kept = match (
-            Vec::from_slice(self.alloc, signature),
-            self.asked.try_borrow_mut(),
-        ) {
-            (Ok(copy), Ok(mut asked)) => asked.push(copy).is_ok(),
-            _ => false,
-        };
-        if !kept {
-            self.is_full.set(true);
-        }
-    }
-
-    /// Adds the word `asked`, and each signature.
-    fn add_to(&self, answer: &mut Answer) {
-        answer.value(&"asked");
-        if let Ok(asked) = self.asked.try_borrow() {
-            for signature in asked.as_slice() {
-                answer.hex(signature.as_slice());
-            }
-        }
-        if self.is_full.get() {
-            answer.out_of_memory();
-        }
-    }
-}
-
-impl SignatureChecker for Recorder {
-    ghost use Rattle.sig_base.specs.Checker.{accepted};
-    ghost use Rattle.sig_base.specs.Scheme.{name_of};
-    ghost use Rattle.sig_base.specs.declared.checker.Operation.TheVariants.{Message, Prehash, Point, Certificate};
-    ghost use Rattle.std.specs.Prelude.{[]};
-
-    ghost spki_accepts = { λ recorder scheme spki message signature. accepted recorder.table Message
-        (name_of scheme) spki message signature };
-
-    ghost prehash_accepts = { λ recorder scheme spki digest signature. accepted recorder.table Prehash
-        (name_of scheme) spki digest signature };
-
-    ghost point_accepts = { λ recorder point message signature. accepted recorder.table Point [] point message
-        signature };
-
-    ghost cert_accepts = { λ recorder issuer algorithm tbs signature. accepted recorder.table Certificate algorithm
-        issuer tbs signature };
-
-    fn verify_spki(
-        &self,
-        scheme: VerifyScheme,
-        spki: &[u8],
-        message: &[u8],
-        signature: &[u8],
-    ) -> bool {
-        self.keep(signature);
-        self.table.verify_spki(scheme, spki, message, signature)
-    }
-
-    fn verify_spki_prehash(
-        &self,
-        scheme: VerifyScheme,
-        spki: &[u8],
-        digest: &[u8],
-        signature: &[u8],
-    ) -> bool {
-        self.keep(signature);
-        self.table
-            .verify_spki_prehash(scheme, spki, digest, signature)
-    }
-
-    fn verify_p256_point(&self, point: &[u8], message: &[u8], signature: &[u8]) -> bool {
-        self.keep(signature);
-        self.table.verify_p256_point(point, message, signature)
-    }
-
-    fn verify_cert_signature(
-        &self,
-        issuer_spki: &[u8],
-        algorithm: &[u8],
-        tbs: &[u8],
-        signature: &[u8],
-    ) -> bool {
-        self.keep(signature);
-        self.table
-            .verify_cert_signature(issuer_spki, algorithm, tbs, signature)
-    }
-}
 
 /// `asked CHECKPOINT NOTES SIGNATURES`: as `signed`, and each signature that the checker was asked about, in order.
 pub(crate) fn asked(arguments: &mut Arguments<'_>, answer: &mut Answer) {
@@ -121,7 +12,7 @@ pub(crate) fn asked(arguments: &mut Arguments<'_>, answer: &mut Answer) {
     let recorder = Recorder::new(arguments.alloc(), table);
     let check = checkpoint.verify_signature(arguments.alloc(), &key, &recorder);
     answer_to(answer, check);
-    recorder.add_to(answer);
+    recorder.signatures_in(answer);
     drop(checkpoint);
 }
 
@@ -139,5 +30,5 @@ pub(crate) fn borrowed_asked(arguments: &mut Arguments<'_>, answer: &mut Answer)
         }
         Err(error) => answer.error(error),
     }
-    recorder.add_to(answer);
+    recorder.signatures_in(answer);
 }

@@ -12,7 +12,7 @@
 //!
 //! [`Answer`] writes a result: `ok` and its values, each after one space, or the Debug text of an error. [`Arguments`]
 //! reads the arguments: bytes in hexadecimal or in base64, a list of bytes, an integer, a text in percent-encoding, a
-//! checker of signatures, or the rest of the line. `-` stands for no bytes, for the empty text and for the empty list.
+//! checker of signatures, which a [`Recorder`] keeps the questions of, or the rest of the line. `-` stands for no bytes, for the empty text and for the empty list.
 //! A line that the program cannot read gives `bad line`; no stored output has one. Out of memory and a fault of a
 //! stream end the program with a status that is not 0.
 //!
@@ -43,8 +43,10 @@ mod arguments;
 mod decode;
 mod error;
 mod program;
+mod recorder;
 mod values;
 
 pub use answer::Answer;
 pub use arguments::Arguments;
 pub use program::{Cases, run};
+pub use recorder::Recorder;

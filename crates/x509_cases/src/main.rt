@@ -9,6 +9,8 @@
 mod asked;
 mod boxed;
 mod certificate;
+mod graph;
+mod node;
 mod policy;
 mod pool;
 mod profile;
@@ -34,6 +36,8 @@ impl Cases for X509Cases {
             "asked" => asked::asked(arguments, answer),
             "der_asked" => asked::der_asked(arguments, answer),
             "questions" => asked::questions(arguments, answer),
+            "graph" => graph::issuer(arguments, answer),
+            "spelled" => graph::spelled(arguments, answer),
             _ => of_scts(call, arguments, answer),
         }
     }
