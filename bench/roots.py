@@ -22,6 +22,13 @@ def keys(count):
     return list(numbered(prefix, count))
 
 
+def one_name(count):
+    """A leaf, and so many trust anchors and intermediates of its issuer's name, each with its own key and its length in
+    two bytes before it; none signed another."""
+    listed = [certificate(leaf()), *(certificate(fixture.anchor(key=key)) for key in keys(2 * count))]
+    return b"".join(len(each).to_bytes(2, "big") + each for each in listed)
+
+
 def turned(content):
     """The bytes with another last one."""
     return content[:-1] + bytes([content[-1] ^ 1])

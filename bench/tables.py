@@ -5,6 +5,7 @@ import sys
 import chains
 import measure
 import own_entries
+import roots
 import shapes
 import signed
 from measure import megabytes, written
@@ -23,6 +24,7 @@ MOST_SECONDS = 3  # the time over an input of 2^24 bytes
 MOST_SECONDS_OF_A_MILLION = 0.1  # the time over a request of a million bytes, beyond that of a process that reads none
 MOST_TO_HASHING = 1.1  # the time over an artifact, to that of hashing it alone
 MOST_MEGABYTES_OF_ARTIFACT = 20  # the peak memory over an artifact, however long
+MOST_OF_TWICE_AS_MANY = 4.6  # the time over a pool, to that over one of half as many certificates of each kind
 MOST_TO_HASHES = 1.05  # the time of a check of inclusion, to that of its hashes alone
 
 # Requests of `log` by the reply that they have; each is made at half of the largest size, and at the whole.
@@ -422,6 +424,31 @@ def artifacts(bench):
         bench.goal(f"artifact of {size} bytes, MB", peak, MOST_MEGABYTES_OF_ARTIFACT)
 
 
+MOST_INTERMEDIATES = 1024  # of a pool
+
+
+def pools(bench):
+    """Pools of as many trust anchors as intermediates, all of one name, each with its own key, and a leaf of that name
+    that none of them signed: the most that a hostile list of certificates can cost. The checker refuses each signature
+    at once, so the time is the pool's own; a question beside it costs what it costs to check a signature. The last
+    column is the time to that over half as many certificates, which are a quarter of the pairs."""
+    table = bench.table(pools, "pool", "pairs", "questions", "ms", "MB", "to half")
+    start = bench.seconds(bench.kept(b"{}"), [bench.reader, "read"])[0]
+
+    def measured(count):
+        path, command = bench.kept(roots.one_name(count)), [bench.reader, "pool", str(count)]
+        questions = count + count * 2 * count
+        measure.expect(command, path, written(command, path), str(questions))
+        return questions, bench.seconds(path, command)[0] - start, megabytes(command, path)
+
+    for count in (MOST_INTERMEDIATES // 2, MOST_INTERMEDIATES):
+        (questions, took, peak), (_, half, _) = measured(count), measured(count // 2)
+        name = f"{count:,} and {count:,} of one name"
+        table.row(name, 2 * count * count, questions, took * 1000, round(peak), took / half)
+        bench.goal(f"pool, {name}, time to that at half", took / half, MOST_OF_TWICE_AS_MANY)
+        bench.goal(f"pool, {name}, seconds", took, MOST_SECONDS)
+
+
 CHECKS = 10000  # how many checks of inclusion are timed at once
 
 
@@ -449,5 +476,5 @@ def walks(bench):
 
 
 OF_PROGRAM = (log, entries, audits, audit_lists, demo, verify, questions)  # those that measure sigverify
-OF_READERS = (entries, certificates, documents, bundles, statements, artifacts, walks)  # those that run sig_bench
+OF_READERS = (entries, certificates, documents, bundles, statements, artifacts, pools, walks)  # those that run sig_bench
 TABLES = {table.__name__: table for table in (*OF_PROGRAM, *OF_READERS)}

@@ -9,6 +9,8 @@
 //!   digests were taken;
 //! - `hash N` hashes N zero bytes, and prints the first byte of SHA-256; `artifact N` reads a bundle, verifies it of an
 //!   artifact of N zero bytes, where nothing is trusted, and prints 0;
+//! - `pool N` reads a leaf, N trust anchors and N intermediates, asks a pool for the leaf's issuer, where no signature is
+//!   genuine, and prints how many questions its checker was asked;
 //! - `walk N` and `recursion N` check a leaf of a tree of 2^63 leaves N times, and print how often it was accepted;
 //!   `hashes N` and `inline N` make the hashes of N such checks alone, and print N.
 //!
@@ -20,6 +22,7 @@ mod bundle;
 mod certificate;
 mod document;
 mod merkle;
+mod pool;
 mod statement;
 
 use anyhow::{Context, Result, anyhow};
@@ -45,6 +48,7 @@ fn main(rt: HostRuntime) -> Result<()> {
         "digests" => statement::digests_alone(alloc, input.as_slice()),
         "hash" => Some(artifact::hashed(number(words.next())?)),
         "artifact" => artifact::verified(alloc, input.as_slice(), number(words.next())?),
+        "pool" => pool::questions(alloc, input.as_slice(), number(words.next())?),
         "walk" => merkle::walked(number(words.next())?),
         "recursion" => merkle::recursed(number(words.next())?),
         "hashes" => Some(merkle::hashed(number(words.next())?)),
