@@ -33,8 +33,9 @@ Verifies the Sigstore bundles of artifacts, each under the same policy: all of t
   --print-request                 write the request, with `accepted`, to standard output, and the reply to standard
                                   error; for one artifact
   --sigverify PROGRAM             else that of this repository
-  ARTIFACT                        a regular file; or its digest, as sha256:HEX or sha512:HEX; or - for standard input.
-                                  After -- all are files, also one whose name begins with -
+  ARTIFACT                        a regular file; or its digest, as sha256:HEX or sha512:HEX; or - for standard input,
+                                  if no file is there that has this name. After -- all are files, also one whose name
+                                  begins with -
 
 A value can also be given as --word=VALUE, and one that begins with - has to be. Each is given at most once. Several
 artifacts have a line each, the reply and then the name. `verify-bundle`, as the first word, is the protocol of
@@ -101,10 +102,13 @@ def sha256_of(path, opened, is_file):
 
 
 def digest_of(artifact, is_file):
-    """The digest, as a request has it, and whether a bundle can be beside it."""
-    if not is_file and artifact == "-":
-        return "sha256:" + sha256_of("standard input", lambda: 0, False), False
-    if not is_file and artifact.startswith(("sha256:", "sha512:")):
+    """The digest, as a request has it, and whether a bundle can be beside it. Where a file has the name of a digest or of
+    standard input, nothing is guessed: a shell's pattern hands over the names that a stranger chose."""
+    if not is_file and (artifact == "-" or artifact.startswith(("sha256:", "sha512:"))):
+        if os.path.lexists(artifact):
+            misused(f"there is a file {artifact}; for the file put ./ before it")
+        if artifact == "-":
+            return "sha256:" + sha256_of("standard input", lambda: 0, False), False
         if not re.fullmatch("sha256:[0-9a-fA-F]{64}|sha512:[0-9a-fA-F]{128}", artifact):
             misused(f"{artifact} is not a digest; for a file of this name put ./ before it")
         return artifact, False

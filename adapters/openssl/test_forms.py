@@ -56,6 +56,25 @@ def check_digests(results, program):
             compare_end(results, "a digest without a bundle", words, "--bundle is missing")
 
 
+def check_strangers_names(results, program):
+    """Files whose names are a digest, or that of standard input, and whose content is another: nothing is verified unless
+    they are said to be files, and then they are."""
+    made = Signed()
+    with tempfile.TemporaryDirectory() as folder:
+        signed.write(folder, made)
+        for name in f"sha256:{made.digest.hex()}", f"sha256:{made.digest.hex().upper()}", "sha512:" + "b" * 128, "-":
+            path = file_of(folder, name, b"another artifact")
+            words = words_of(folder, program, artifact=name)
+            compare_end(results, f"a file {name}", words, "put ./ before it", cwd=folder, input=made.artifact)
+            for more in [f"./{name}"], ["--", name]:
+                gave = run([*words[:-1], *more], cwd=folder)
+                results.compare(f"the file {more}", gave, (1, "refused subject\n", ""))
+            os.remove(path)
+            os.symlink("/absent", path)
+            compare_end(results, f"a link {name}", words, "put ./ before it", cwd=folder, input=made.artifact)
+            os.remove(path)
+
+
 def check_input(results, program):
     made = Signed()
     with tempfile.TemporaryDirectory() as folder:
@@ -131,4 +150,5 @@ def check_protocol_misused(results, program):
             compare_end(results, f"the protocol, {said}", words, said)
 
 
-PARTS = check_policies, check_digests, check_input, check_several, check_protocol, check_protocol_misused
+PARTS = (check_policies, check_digests, check_strangers_names, check_input, check_several, check_protocol,
+         check_protocol_misused)

@@ -88,7 +88,7 @@ def check_names(results, program):
                 file.write(b"changed")
             gave = run([*given, "--", name], cwd=folder)
             results.compare(f"the changed artifact {name!r}", gave, (1, "refused subject\n", ""))
-            if os.fsencode(name)[:1] == b"-" and name != "-":  # which is standard input
+            if os.fsencode(name)[:1] == b"-":
                 compare_end(results, f"no -- before {name!r}", given + [name], "see --help", cwd=folder)
         split = [part for word in given for part in word.split("=", 1)]
         results.compare("values that stand apart", run(split + [artifact]), (0, VERIFIED + "\n", ""))
