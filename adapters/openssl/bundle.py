@@ -102,8 +102,8 @@ def sha256_of(path, opened, is_file):
 
 
 def digest_of(artifact, is_file):
-    """The digest, as a request has it, and whether a bundle can be beside it. Where a file has the name of a digest or of
-    standard input, nothing is guessed: a shell's pattern hands over the names that a stranger chose."""
+    """The digest, as a request has it, and whether a bundle can be beside it. Where a file has the name of a digest or
+    of standard input, nothing is guessed: a shell's pattern hands over the names that a stranger chose."""
     if not is_file and (artifact == "-" or artifact.startswith(("sha256:", "sha512:"))):
         if os.path.lexists(artifact):
             misused(f"there is a file {artifact}; for the file put ./ before it")
