@@ -7,7 +7,7 @@ ghost use Rattle.sig_base.specs.Scheme.{scheme_of};
 ghost use Rattle.sig_key.specs.Key.{key_info, key_scheme};
 
 use sig_audit::{AuditError, Heads, audit};
-use sig_base::OutOfMemory;
+use sig_base::{OutOfMemory, SigstoreError};
 use sig_key::CosignVerificationKey;
 use sig_request::AuditRequest;
 use std::alloc::Global;
@@ -30,10 +30,7 @@ fn key_of(alloc: Global, request: &AuditRequest) -> Result<CosignVerificationKey
 {
     match CosignVerificationKey::from_der(alloc, request.key.as_slice(), &request.scheme) {
         Ok(key) => Ok(key),
-        // It fails only if out of memory.
-        Err(error) => {
-            drop(error);
-            Err(OutOfMemory)
-        }
+        Err(SigstoreError::OutOfMemory) => Err(OutOfMemory),
+        Err(_) => unreachable!(),
     }
 }

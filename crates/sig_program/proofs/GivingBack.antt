@@ -43,4 +43,4 @@ verify_lists front behind list reply is lists =
     let none_fail = all_as (HoldsVerifyQuestions text) (HoldsOfVerifyQuestions text hold.0.0) question_links
     (alike_each (HoldsVerifyQuestions text) (HoldsOfVerifyQuestions text hold.0.0) question_links
     (λ l. of-request text hold.0.0 l hold.0.1)) hold.1 in
-    wherever_put front behind list its.0 (sym lists ∙ its.4) (hold.0.2 none_fail its.0 its.1)
+    wherever_put front behind list its.0 (sym lists ∙ its.5) (hold.0.2 none_fail its.0 its.1)

@@ -9,6 +9,7 @@ use Rattle.sig_base.specs.Rules.{FailsFirst}
 use Rattle.sig_base.specs.declared.checker.AcceptedRow.{AcceptedRow}
 use Rattle.sig_base.specs.declared.memory.OutOfMemory.{OutOfMemory}
 use Rattle.sig_questions.specs.Asked.{IsAskedBy}
+use Rattle.sig_questions.specs.Few.{QuestionsAreFew}
 use Rattle.sig_questions.specs.Questions.{AreQuestions, HoldsUnasked, IsDecided}
 use Rattle.sig_questions.specs.Questions.{QuestionsAreOneList, QuestionsHaveSchemes, RefusalsAreForAll, question_links}
 use Rattle.sig_questions.specs.Rows.{HasScheme}
@@ -60,17 +61,18 @@ past-reply text request rows is none_fail are long =
     request verify_question_links Request is (inl (λ fit. long (fit none_fail rows are), refl)))
 
 listed-reply : (text : List ℕ) (request : VerifyRequest) (rows : List AcceptedRow) (reply : Reply)
-    → QuestionsAreOneList → IsRequestOf verify_request text request → IsOpen request
+    → QuestionsAreOneList → QuestionsAreFew → IsRequestOf verify_request text request → IsOpen request
     → AreQuestions (inputs request) rows
     → AreAsked request rows → IsListingOf text rows reply → IsReply VerifyQuestions text reply
-listed-reply text request rows reply one is none_fail are asked (inl made) =
-    let its : IsVerifyQuestionsReply request reply = (rows, are, asked, made.1, made.2) in
+listed-reply text request rows reply one few is none_fail are asked (inl made) =
+    let its : IsVerifyQuestionsReply request reply =
+    (rows, are, asked, few (inputs request) rows are, made.1, made.2) in
     every-reply VerifyQuestions text reply (ap (λ (r : Reply). r.status) made.2)
     (λ other other_is. subst (λ (r : VerifyRequest). IsVerifyQuestionsReply r reply)
     (one_request verify_request text request other is other_is) its)
     (every-of_text (IsRequestOf verify_request text) (HoldsOfVerifyQuestions text) request verify_question_links is
     (fits text request rows one are made.0, none_fail))
-listed-reply text request rows reply one is none_fail are asked (inr made) =
+listed-reply text request rows reply one few is none_fail are asked (inr made) =
     subst (IsReply VerifyQuestions text) (sym made.1) (past-reply text request rows is none_fail are made.0)
 
 -- a link that fails whatever is accepted is the first that fails of the text
@@ -100,11 +102,12 @@ module _ (text : List ℕ) (request : VerifyRequest) (most : ℕ) (r : Result Re
       (not-beside text long.0 (let P : ℕ → Type 0 = λ n. n < length (rows_text long.0) in
       subst P its_room (too-long most long.0 (all-schemes have request long.0 long.1) long.2))))
 
-  pub listed-replied : (rows : List AcceptedRow) → QuestionsAreOneList → IfOk r (IsListingOf text rows)
-      → IsDecided (inputs request) most (Ok rows) → AreAsked request rows → IfOk r (IsReply VerifyQuestions text)
-  listed-replied rows one made decided asked =
+  pub listed-replied : (rows : List AcceptedRow) → QuestionsAreOneList → QuestionsAreFew
+      → IfOk r (IsListingOf text rows) → IsDecided (inputs request) most (Ok rows) → AreAsked request rows
+      → IfOk r (IsReply VerifyQuestions text)
+  listed-replied rows one few made decided asked =
       IfOk-weaker r (IsListingOf text rows) (IsReply VerifyQuestions text)
-      (λ reply. listed-reply text request rows reply one its_request decided.0 decided.1 asked) made
+      (λ reply. listed-reply text request rows reply one few its_request decided.0 decided.1 asked) made
 
 -- ---- a link that is named
 

@@ -10,6 +10,7 @@ use Rattle.sig_program.specs.declared.command.Command.TheVariants.{AuditQuestion
 use Rattle.sig_audit_command.specs.Questions.{IsAuditQuestionsReply}
 use Rattle.sig_audit_command.specs.Reply.{IsAuditReply}
 use Rattle.sig_questions.specs.Asked.{IsAskedBy}
+use Rattle.sig_questions.specs.Few.{AreFewQuestions}
 use Rattle.sig_questions.specs.Questions.{AreQuestions}
 use Rattle.sig_verify.specs.Link.{link_name}
 use Rattle.sig_verify.specs.LinkLaws.{IsKept}
@@ -108,12 +109,12 @@ IsHeadListing text head reply =
     × IsListingOf text (head_rows head checkpoint) reply)
 
 -- the reply lists the signatures that the links of a request of `verify` ask for, each of them and no other, in the
--- order of the links, and is read back as them
+-- order of the links, few of them about certificates, and is read back as them
 abbrev pub IsVerifyQuestionsReply : VerifyRequest → Reply → Type 0
 IsVerifyQuestionsReply request reply =
     (rows : List AcceptedRow) × AreQuestions (inputs request) rows
     × ((row : AcceptedRow) → Contains rows row ↔ IsAskedBy (inputs request) row)
-    × IsReadBack rows × (reply ≡ listed (rows_text rows))
+    × AreFewQuestions (inputs request) rows × IsReadBack rows × (reply ≡ listed (rows_text rows))
 
 -- the reply of a command to a text of which every link holds: `log` shows the proof of the one request that the text
 -- is, `verify` that of the log entry of its bundle, and `consistency` the two sizes of its request; behind these,

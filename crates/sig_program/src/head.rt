@@ -79,11 +79,8 @@ fn head_key(alloc: Global, head: &ClaimedHead) -> Result<CosignVerificationKey, 
 {
     match CosignVerificationKey::from_der(alloc, head.key.as_slice(), &head.scheme) {
         Ok(key) => Ok(key),
-        // It fails only if out of memory.
-        Err(error) => {
-            drop(error);
-            Err(OutOfMemory)
-        }
+        Err(SigstoreError::OutOfMemory) => Err(OutOfMemory),
+        Err(_) => unreachable!(),
     }
 }
 

@@ -12,7 +12,6 @@
 //! the reply of each command. [`demo::demo`] shows `log` at work, without a request.
 #![tactic(auto)]
 
-mod brief_policy;
 mod command;
 pub mod consistency;
 pub mod consistency_questions;

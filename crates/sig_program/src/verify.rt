@@ -11,12 +11,11 @@ ghost use Rattle.sig_program.specs.declared.command.Command.TheVariants.{Verify}
 ghost use Rattle.sig_request.specs.ReadFrom.{IsRequestOf};
 ghost use Rattle.sig_request.specs.VerifyRequest.{verify_request};
 
-use crate::brief_policy::BriefPolicy;
 use crate::reply::{refused, verified};
 use crate::second_line::second_line;
 use sig_base::OutOfMemory;
 use sig_reply::Reply;
-use sig_request::{VerifyRequest, bundle_of, now_of, trusted_root_of};
+use sig_request::{BriefPolicy, VerifyRequest, bundle_of, now_of, trusted_root_of};
 use sig_verify::{Link, Offline, OfflineError, verify_offline};
 use std::alloc::Global;
 

@@ -16,7 +16,7 @@ ghost use Rattle.sig_request.specs.VerifyRequest.{verify_request};
 use crate::laws::lists;
 use crate::reply::refused;
 use sig_base::{AcceptedRow, OutOfMemory, Register};
-use sig_questions::laws::{one_list, schemes};
+use sig_questions::laws::{few, one_list, schemes};
 use sig_questions::{NoQuestions, questions};
 use sig_reply::{Reply, room_beside, rows_document};
 use sig_request::{VerifyRequest, bundle_of, now_of, trusted_root_of};
@@ -60,6 +60,7 @@ fn reply_to(alloc: Global, text: &[u8], request: &VerifyRequest) -> Result<Reply
     ensures { IfOk result (IsReply VerifyQuestions text.now) }
 {
     one_list();
+    few();
     schemes();
     match questions_of(alloc, request, room_beside(text)) {
         Ok(rows) => {

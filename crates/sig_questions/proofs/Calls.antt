@@ -2,15 +2,12 @@
 use Rattle.std.proofs.Common.{◌≡◌, ◌↔◌, ◌⊎◌, ℕ, ℤ, List, Result, Ok, Err, IfOk, OnOk, inl, inr, refl, sym}
 use Rattle.std.proofs.Common.{subst, ◌∙◌}
 use Rattle.std.specs.Prelude.{Contains}
-use Rattle.sig_base.proofs.ResultSteps.{ok_is}
-use Rattle.sig_base.specs.Answers.{UnlessMemory}
+use Rattle.sig_base.proofs.ResultSteps.{err_is}
+use Rattle.sig_base.specs.Answers.{ComesWhere, UnlessMemory}
 use Rattle.sig_base.specs.Rules.{FailsFirst}
 use Rattle.sig_base.specs.declared.checker.AcceptedRow.{AcceptedRow}
-use Rattle.sig_base.specs.declared.error.SigstoreError.{SigstoreError}
-use Rattle.sig_base.specs.declared.fault.TrustPart.TheVariants as part
 use Rattle.sig_checked_bundle.specs.Checked.{Checked, IsChecked}
 use Rattle.sig_checked_bundle.specs.Passed.{IsPassed}
-use Rattle.sig_certificate.specs.Certificates.{AreCertificates}
 use Rattle.sig_bundle.specs.declared.bundle.Bundle.{Bundle}
 use Rattle.sig_checked_bundle.specs.declared.bundle_error.BundleErrorKind.{BundleErrorKind}
 use Rattle.sig_checked_bundle.specs.declared.bundle_error.BundleErrorKind.TheVariants as bundle
@@ -18,20 +15,17 @@ use Rattle.sig_dsse.specs.declared.artifact_digest.ArtifactDigest.{ArtifactDiges
 use Rattle.sig_bundle.specs.BundleRecord.{bundle_in}
 use Rattle.sig_json.specs.declared.error.JsonError.{JsonError}
 use Rattle.sig_json.specs.declared.error.JsonError.TheVariants as json
-use Rattle.sig_root.specs.Picked.{keys_of}
 use Rattle.sig_root.specs.RootRecord.{trusted_root_in}
 use Rattle.sig_root.specs.declared.record.TrustedRoot.{TrustedRoot}
 use Rattle.sig_verify.proofs.OfflineBytes.{inputs}
-use Rattle.sig_verify.proofs.RootVerdicts.{some_given}
-use Rattle.sig_verify.specs.EntryLinks.{IsOfBytes, LogKeys}
+use Rattle.sig_verify.specs.EntryLinks.{IsOfBytes}
 use Rattle.sig_verify.specs.LinkLaws.{IsReadCertificate}
 use Rattle.sig_verify.specs.Links.{Inputs}
-use Rattle.sig_verify.specs.OfflineVerdict.{authorities_of, ct_keys_of}
-use Rattle.sig_verify.specs.RootLinks.{authorities, ct_keys}
-use Rattle.sig_verify.specs.Verifier.{HasKeys}
 use Rattle.sig_verify.specs.declared.link.Link.TheVariants.{RootJson, BundleJson}
+use Rattle.sig_questions.proofs.Few.{questions_few}
 use Rattle.sig_questions.proofs.Suffices.{rows_suffice}
 use Rattle.sig_questions.specs.Asked.{IsAskedBy}
+use Rattle.sig_questions.specs.Few.{AreFewQuestions}
 use Rattle.sig_questions.specs.Front.{IsFrontTold, unread}
 use Rattle.sig_questions.specs.Listed.{AreListed, AreListedOf, AreListedText, GivesTrust, IsAnswered}
 use Rattle.sig_questions.specs.Listed.{ListedTextsAreAnswered, Listing, ReadIfOk, trust_in}
@@ -40,26 +34,21 @@ use Rattle.sig_questions.specs.Questions.{AreQuestions, HoldsUnasked, IsDecided,
 use Rattle.sig_questions.specs.Questions.{question_links}
 use Rattle.sig_questions.specs.declared.listing.NoQuestions.{NoQuestions}
 use Rattle.sig_questions.specs.declared.listing.NoQuestions.TheVariants.{Link, TooLong, OutOfMemory}
-use Rattle.sig_questions.specs.declared.listing.TrustParts.{TrustParts}
-
--- what a root gives
-pub trust_given : (root : TrustedRoot) (now time : ℤ) (certificates : List (List ℕ)) (keys : LogKeys)
-    (parts : TrustParts) → time ≡ now → authorities_of root time ≡ Ok certificates → ct_keys_of root time ≡ Ok keys
-    → ◌≡◌ {A = Result LogKeys SigstoreError} (Ok (keys_of time root.tlogs)) (Ok parts.log_keys)
-    → AreCertificates certificates parts.anchors → HasKeys keys parts.keyring → GivesTrust root now parts
-trust_given root now time certificates keys parts same given logs log_keys anchors ring =
-    subst (λ (t : ℤ). GivesTrust root t parts) same (record {
-      anchors = subst (λ (ders : List (List ℕ)). AreCertificates ders parts.anchors)
-          (sym (some_given part.Fulcio (authorities root time) certificates given).1) anchors;
-      ring = subst (λ (k : LogKeys). HasKeys k parts.keyring)
-          (sym (some_given part.Ctfe (ct_keys root time) keys logs).1) ring;
-      keys = sym (ok_is (keys_of time root.tlogs) parts.log_keys log_keys);
-    })
+use Rattle.sig_questions.specs.declared.trust.TrustParts.{TrustParts}
 
 read_of : (parts : TrustParts) (c : Checked) (result : Listing) → OnOk result (IsReadCertificate c)
     → OnOk result (IsOfBytes parts.log_keys c.entry) → ReadIfOk parts c result
 read_of parts c (Ok rows) read bytes = (read, bytes)
 read_of parts c (Err error) read bytes = tt
+
+-- a bundle that passes its own checks is no bundle that does not
+pub passed_refused : (b : Bundle) (error : BundleErrorKind) → ((c : Checked)
+    → ComesWhere {X = Checked} bundle.OutOfMemory (Err error) (Ok c) (IsPassed b c)) → (c : Checked) × IsPassed b c
+    → error ≡ bundle.OutOfMemory
+passed_refused b error comes (c, passed) = elim ((comes c).1 passed) [
+  | inl memory ↦ err_is error bundle.OutOfMemory memory
+  | inr wrong ↦ absurd (let apart : ◌≡◌ {A = Result Checked BundleErrorKind} (Err error) (Ok c) = wrong in cc)
+]
 
 -- of a bundle that was checked
 pub checked_listed : ((b : Bundle) (c : Checked) → IsChecked b (Ok c) ↔ IsPassed b c) → (root : TrustedRoot)
@@ -103,6 +92,10 @@ if_ok : (result : Listing) (P : List AcceptedRow → Type 0) → ((rows : List A
 if_ok (Ok rows) P each = each rows refl
 if_ok (Err error) P each = tt
 
+few_of : (i : Inputs) (most : ℕ) (result : Listing) → IsDecided i most result → IfOk result (AreFewQuestions i)
+few_of i most (Ok rows) decided = questions_few i rows decided.1
+few_of i most (Err error) decided = tt
+
 order_of : (i : Inputs) (most : ℕ) (result : Listing) → IsDecided i most result → IfOk result (AreQuestions i)
 order_of i most (Ok rows) decided = decided.1
 order_of i most (Err error) decided = tt
@@ -117,6 +110,9 @@ module _ (i : Inputs) (most : ℕ) (result : Listing) (told : IsAnswered i most 
 
   pub told_order : IfOk result (AreQuestions i)
   told_order = order_of i most result told.decided
+
+  pub told_few : IfOk result (AreFewQuestions i)
+  told_few = few_of i most result told.decided
 
   pub told_places : IfOk result (AreInOrder (IsAskedAt i))
   told_places = if_ok result (AreInOrder (IsAskedAt i)) told.ordered

@@ -1,5 +1,5 @@
 -- The links before `issuer`, which ask for no signature, and the links that fail whatever the checker says.
-use Rattle.std.proofs.Common.{◌≡◌, ◌⊎◌, ◌↔◌, ℕ, ℤ, Bool, true, false, List, [], ◌∷◌, ◌++◌, Option, Some, Result, Err}
+use Rattle.std.proofs.Common.{◌≡◌, ◌≢◌, ◌⊎◌, ◌↔◌, ℕ, ℤ, Bool, true, false, List, [], ◌∷◌, ◌++◌, Option, Some, Result, Err}
 use Rattle.std.proofs.Common.{Ok}
 use Rattle.std.proofs.Common.{inl, inr, refl, sym, ap, subst, ◌∙◌}
 use Rattle.std.specs.List.{AllByRecursion}
@@ -9,7 +9,9 @@ use Rattle.sig_base.specs.Rules.{FailsFirst}
 use Rattle.sig_bundle.specs.BundleRecord.{bundle_in}
 use Rattle.sig_bundle.specs.declared.bundle.Bundle.{Bundle}
 use Rattle.sig_certificate.specs.Certificate.{Cert}
+use Rattle.sig_checked_bundle.specs.Checked.{Checked}
 use Rattle.sig_checked_bundle.specs.OfBytes.{HasCertificateOfBytes}
+use Rattle.sig_checked_bundle.specs.Passed.{IsPassed}
 use Rattle.sig_dsse.specs.declared.artifact_digest.ArtifactDigest.{ArtifactDigest}
 use Rattle.sig_policy.specs.Refusals.{not_found}
 use Rattle.sig_root.specs.OfBytes.{HasRawBytes}
@@ -20,23 +22,25 @@ use Rattle.sig_verify.proofs.JudgedLaws.{Alike, all_as}
 use Rattle.sig_verify.proofs.OfflineBytes.{are_read, bundle_bytes, inputs, links_told}
 use Rattle.sig_verify.specs.CertificateLinks.{HasIssuer}
 use Rattle.sig_verify.specs.Judged.{IsOfFirst, Judged}
-use Rattle.sig_verify.specs.Links.{HoldsOf, Inputs, Outside, chain_links}
+use Rattle.sig_verify.specs.Links.{HoldsOf, Inputs, OfPassed, Outside, chain_links}
 use Rattle.sig_verify.specs.OfflineErrors.{link_of}
 use Rattle.sig_verify.specs.OfflineLaws.{HasEntryOfBytes, OutcomesAreJudged}
 use Rattle.sig_verify.specs.OfflineVerdict.{IsOfflineOf}
+use Rattle.sig_verify.specs.RootLinks.{IsSomeAnchor, authorities, ct_keys}
 use Rattle.sig_verify.specs.declared.link.Link.{Link}
-use Rattle.sig_verify.specs.declared.link.Link.TheVariants.{Issuer, Sct, Policy, Key, Signature, Subject, Body, Time}
+use Rattle.sig_verify.specs.declared.link.Link.TheVariants.{Issuance, Issuer, Sct, Policy, Key, Signature, Subject, Body, Time}
 use Rattle.sig_verify.specs.declared.link.Link.TheVariants.{LogKey, Promise, Proof, Checkpoint, NoteKey, NoteMatch}
 use Rattle.sig_verify.specs.declared.link.Link.TheVariants.{Inclusion}
 use Rattle.sig_verify.specs.declared.offline.Offline.{Offline}
 use Rattle.sig_verify.specs.declared.offline_error.OfflineError.{OfflineError}
 use Rattle.sig_verify.specs.declared.offline_error.OfflineError.TheVariants.{OutOfMemory}
+use Rattle.sig_x509.specs.Issued.{HasProfile}
 use Rattle.sig_x509.specs.Pool.{Pool, pool_over}
 use Rattle.sig_questions.proofs.Issuers.{first_signed, some_issuer, would_hold}
 use Rattle.sig_questions.specs.Asked.{issuer_in}
-use Rattle.sig_verify.proofs.Parts.{checked_as, of_checked}
+use Rattle.sig_verify.proofs.Parts.{bundle_from, checked_as, of_checked, root_from}
 use Rattle.sig_x509.specs.Path.{every_signature}
-use Rattle.sig_questions.specs.Front.{IsFrontTold, front_result}
+use Rattle.sig_questions.specs.Front.{HasTrust, IsFrontTold, IsPassedBundle, front_result}
 use Rattle.sig_questions.specs.Questions.{FailsFirstInChain, HoldsUnasked, RefusalsAreForAll, accepting, front_links}
 
 -- ---- rules up to one
@@ -169,6 +173,30 @@ front_told o root now time d bundle error at denied (inr (link, is, fails)) =
     subst (λ (l : Option Link). IsFrontTold (inputs root now d bundle) (front_result l)) (sym is)
     (subst (λ (t : ℤ). IsFrontTold (inputs root t d bundle) (front_result (Some link))) at
     (told_link o (inputs root time d bundle) (silent o (inputs root time d bundle) denied) link fails))
+
+-- no link before `issuer` asks a checker, and that one does not hold: not all hold
+pub never_all : (o : Outside) (i : Inputs) (offline : Offline)
+    → ((issuer algorithm tbs signature : List ℕ) → o.checker.cert issuer algorithm tbs signature ≡ false)
+    → UnlessMemory OutOfMemory (Ok offline) (Judged (HoldsOf o i) chain_links (Ok offline)) → ⊥
+never_all o i offline denied (inl memory) = absurd (let wrong : ◌≡◌ {A = Outcome} (Ok offline) (Err OutOfMemory) = memory in cc)
+never_all o i offline denied (inr all) = silent o i denied all.1.1.1.1.1.1.1.1.1.1.1.1.1.1.0
+
+-- what the links before `issuer` say of the root and the bundle that the texts are
+pub front_trust : (i : Inputs) (root : TrustedRoot) → trusted_root_in i.root ≡ Ok root
+    → AllByRecursion (HoldsUnasked i) front_links → HasTrust root i.now
+front_trust i root root_is front = record {
+  some = root_from i root root_is (λ r. authorities r i.now ≢ []) front.1.1.0;
+  anchors = root_from i root root_is (λ r. AllByRecursion IsSomeAnchor (authorities r i.now)) front.1.1.1.0;
+  keys = root_from i root root_is (λ r. ct_keys r i.now ≢ []) front.1.1.1.1.0;
+}
+
+pub front_passed : (i : Inputs) (b : Bundle) → bundle_in i.bundle ≡ Ok b
+    → AllByRecursion (HoldsUnasked i) front_links → IsPassedBundle b
+front_passed i b bundle_is front =
+    let issuance : HoldsUnasked i Issuance = front.1.1.1.1.1.1.1.1.1.1.1.1.1.0 in
+    let of : OfPassed i (λ c. HasProfile c.certificate) = issuance.2.2 in
+    let its = bundle_from i b bundle_is (λ b. (c : Checked) × IsPassed b c × HasProfile c.certificate) of in
+    (its.0, its.1)
 
 -- what the steps say of a root and a bundle that were read, they say of the links of their texts
 pub parts_told : OutcomesAreJudged → (o : Outside) (root_text : List ℕ) (root : TrustedRoot) (now : ℤ)

@@ -6,12 +6,15 @@ pub mod RowLaws
 pub mod PathRows
 pub mod SctRows
 pub mod EntryRows
+pub mod EachRow
 pub mod Schemes
+pub mod Few
 pub mod Mattering
 pub mod Told
 pub mod Writing
 pub mod Fronts
 pub mod Named
+pub mod Trusts
 pub mod Calls
 pub mod Orderings
 pub mod OrderRows

@@ -21,7 +21,7 @@ use Rattle.sig_questions.specs.Lists.{Pair, Side, certificate_questions, content
 use Rattle.sig_questions.specs.Lists.{pairs, pairs_with, questions_behind, questions_of, sct_questions, sct_questions_under}
 use Rattle.sig_questions.specs.Lists.{signature_questions, signed_side, signer_side, signers}
 use Rattle.sig_questions.specs.Written.{rows_behind, rows_of_paths, rows_of_point, rows_of_signed}
-use Rattle.sig_questions.specs.declared.listing.TrustParts.{TrustParts}
+use Rattle.sig_questions.specs.declared.trust.TrustParts.{TrustParts}
 
 -- ---- lists
 

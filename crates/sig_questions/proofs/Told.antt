@@ -45,7 +45,7 @@ use Rattle.sig_questions.specs.Order.{AreInOrder, IsAskedAt}
 use Rattle.sig_questions.specs.Questions.{AreQuestions, HoldsUnasked, QuestionsAreOneList, accepting, front_links}
 use Rattle.sig_questions.specs.Questions.{question_links}
 use Rattle.sig_questions.specs.declared.listing.NoQuestions.TheVariants.{Link, TooLong, OutOfMemory}
-use Rattle.sig_questions.specs.declared.listing.TrustParts.{TrustParts}
+use Rattle.sig_questions.specs.declared.trust.TrustParts.{TrustParts}
 
 module _ (one : OneCertificate) (i : Inputs) (p : AnchoredParts i) where
   abbrev c : Checked

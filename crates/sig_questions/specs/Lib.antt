@@ -3,6 +3,7 @@ pub mod Asked
 pub mod Lists
 pub mod Written
 pub mod Questions
+pub mod Few
 pub mod Matters
 pub mod Listed
 pub mod Front

@@ -26,7 +26,7 @@ use Rattle.sig_questions.specs.Order.{AreInOrder, IsAskedAt}
 use Rattle.sig_questions.specs.Rows.{bytes_of_rows}
 use Rattle.sig_questions.specs.declared.listing.NoQuestions.{NoQuestions}
 use Rattle.sig_questions.specs.declared.listing.NoQuestions.TheVariants.{Link, TooLong, OutOfMemory}
-use Rattle.sig_questions.specs.declared.listing.TrustParts.{TrustParts}
+use Rattle.sig_questions.specs.declared.trust.TrustParts.{TrustParts}
 
 abbrev pub Listing : Type 0
 Listing = Result (List AcceptedRow) NoQuestions

@@ -13,7 +13,7 @@ use Rattle.sig_questions.specs.Rows.{bytes_of_rows}
 use Rattle.sig_questions.specs.declared.listing.NoQuestions.{NoQuestions}
 use Rattle.sig_questions.specs.declared.listing.NoQuestions.TheVariants.{Link, TooLong, OutOfMemory}
 use Rattle.sig_questions.specs.declared.rows.RowParts.{RowParts}
-use Rattle.sig_questions.specs.declared.listing.TrustParts.{TrustParts}
+use Rattle.sig_questions.specs.declared.trust.TrustParts.{TrustParts}
 use Rattle.sig_questions.specs.declared.rows.Rows.{Rows}
 
 abbrev pub AddsRows : Rows → List AcceptedRow → Result (Unit {0}) NoQuestions → Rows → Type 0

@@ -1,17 +1,20 @@
 //! The trust anchors of a root.
 ghost use Rattle.std.specs.Prelude.{IfOk};
+ghost use Rattle.std.specs.List.{AllByRecursion};
 ghost use Rattle.sig_certificate.specs.Certificate.{IsCertificate};
 ghost use Rattle.sig_certificate.specs.Certificates.{AreCertificates};
+ghost use Rattle.sig_verify.specs.RootLinks.{IsSomeAnchor};
 
 use sig_base::{Entries, OutOfMemory, Register};
-use sig_certificate::Certificate;
+use sig_certificate::{Certificate, X509ReadError};
 use std::alloc::Global;
 
-/// Reads certificates. Fails only if out of memory: where the link `anchor` holds, all of them can be read.
+/// Reads the certificates of trust anchors. Fails only if out of memory.
 pub(crate) fn read_anchors(
     alloc: Global,
     ders: &Entries,
 ) -> Result<Register<Certificate>, OutOfMemory>
+    requires { AllByRecursion IsSomeAnchor ders.now }
     ensures { IfOk result (AreCertificates ders.now) }
 {
     let mut anchors = Register::new(alloc);
@@ -22,12 +25,14 @@ pub(crate) fn read_anchors(
     Ok(anchors)
 }
 
-/// Reads a certificate.
+/// Reads the certificate of a trust anchor.
 fn read_anchor(alloc: Global, der: &[u8]) -> Result<Certificate, OutOfMemory>
+    requires { IsSomeAnchor der.now }
     ensures { IfOk result (IsCertificate der.now) }
 {
     match Certificate::try_from_der(alloc, der) {
         Ok(anchor) => Ok(anchor),
-        Err(_) => Err(OutOfMemory),
+        Err(X509ReadError::OutOfMemory) => Err(OutOfMemory),
+        Err(X509ReadError::Der) => unreachable!(),
     }
 }

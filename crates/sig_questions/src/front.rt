@@ -1,5 +1,5 @@
 //! The links before the first that asks a checker.
-ghost use Rattle.std.specs.Prelude.{◌≡◌, ℕ, List, Ok};
+ghost use Rattle.std.specs.Prelude.{◌≡◌, Ok};
 ghost use Rattle.std.specs.List.{AllByRecursion};
 ghost use Rattle.sig_bundle.specs.BundleRecord.{bundle_in};
 ghost use Rattle.sig_root.specs.OfBytes.{HasRawBytes};
@@ -35,19 +35,22 @@ impl VerificationPolicy for AnyCertificate {
 }
 
 /// Checks the links up to `issuance`, which no checker is asked about, of a trusted root and of a bundle that were read
-/// from their texts: those before the first that fails under a checker that accepts nothing. Fails with the first of
+/// from these texts: those before the first that fails under a checker that accepts nothing. Fails with the first of
 /// them that fails, or with `OutOfMemory`.
 pub(crate) fn check_front(
     alloc: Global,
+    root_text: &[u8],
+    bundle_text: &[u8],
     root: &SigstoreTrustRoot,
     now: i64,
     digest: &ArtifactDigest,
     bundle: &Bundle,
 ) -> Result<(), NoQuestions>
-    requires { AllByRecursion HasRawBytes root.now.tlogs }
-    ensures { (root_text bundle_text : List ℕ)
-        → trusted_root_in root_text ≡ Ok root.now → bundle_in bundle_text ≡ Ok bundle.now
-        → IsFrontTold (record { root = root_text; now = now; digest = digest.now; bundle = bundle_text }) result }
+    requires keys { AllByRecursion HasRawBytes root.now.tlogs }
+    requires root_read { trusted_root_in root_text.now ≡ Ok root.now }
+    requires bundle_read { bundle_in bundle_text.now ≡ Ok bundle.now }
+    ensures { IsFrontTold (record { root = root_text.now; now = now; digest = digest.now; bundle = bundle_text.now })
+        result }
 {
     outcomes();
     is_certificate_bytes(bundle);
@@ -56,7 +59,7 @@ pub(crate) fn check_front(
     match verify_parts(alloc, root, now, digest, bundle, &AnyCertificate, &nothing) {
         Err(error) => front_result(error.link()),
         // The link `issuer` does not hold under a checker that accepts nothing.
-        Ok(_) => Err(NoQuestions::OutOfMemory),
+        Ok(_) => unreachable!(),
     }
 }
 
@@ -70,7 +73,8 @@ pub(crate) fn unread(link: Link, error: JsonError) -> NoQuestions
     }
 }
 
-/// What the first link that fails under a checker that accepts nothing says of those before `issuer`.
+/// What the first link that fails under a checker that accepts nothing says of those before `issuer`; without one memory
+/// ran out.
 fn front_result(link: Option<Link>) -> Result<(), NoQuestions>
     ensures { result ≡ front_result link }
 {

@@ -1,4 +1,5 @@
 //! What the definitions mean. The laws here have no code; each call is a law.
+ghost use Rattle.sig_questions.specs.Few.{QuestionsAreFew};
 ghost use Rattle.sig_questions.specs.Listed.{ListedTextsAreAnswered};
 ghost use Rattle.sig_questions.specs.Matters.{EachQuestionMatters};
 ghost use Rattle.sig_questions.specs.Questions.{QuestionsAreOneList, QuestionsHaveSchemes};
@@ -31,6 +32,12 @@ pub fn one_list()
 /// Each question has a scheme that its operation may have.
 pub fn schemes()
     ensures { QuestionsHaveSchemes }
+{}
+
+/// Of n trust anchors at most 17 times (16 + n) questions are about signatures of certificates, and at most 16 + n about
+/// SCTs.
+pub fn few()
+    ensures { QuestionsAreFew }
 {}
 
 /// A link before a question is the first that fails if and only if it is so whatever the checker and the policy say.

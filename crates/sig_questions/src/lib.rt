@@ -15,5 +15,6 @@ mod listing;
 mod paths;
 mod points;
 mod rows;
+mod trust;
 
 pub use listing::{NoQuestions, questions};

@@ -4,20 +4,19 @@ ghost use Rattle.std.specs.List.{AllByRecursion};
 ghost use Rattle.sig_base.specs.Answers.{UnlessMemory};
 ghost use Rattle.sig_base.specs.declared.checker.AcceptedRow.{AcceptedRow as row_type};
 ghost use Rattle.sig_bundle.specs.BundleRecord.{bundle_in};
-ghost use Rattle.sig_certificate.specs.Certificates.{AreCertificates};
 ghost use Rattle.sig_root.specs.OfBytes.{HasRawBytes};
-ghost use Rattle.sig_root.specs.Picked.{keys_of};
 ghost use Rattle.sig_root.specs.RootRecord.{trusted_root_in};
 ghost use Rattle.sig_verify.specs.EntryLinks.{IsOfBytes};
 ghost use Rattle.sig_verify.specs.LinkLaws.{IsReadCertificate};
 ghost use Rattle.sig_questions.specs.Asked.{IsAskedBy};
-ghost use Rattle.sig_questions.specs.Listed.{GivesTrust, AreListed, AreListedAs, AreListedOf, IsAnswered, trust_in};
+ghost use Rattle.sig_questions.specs.Few.{AreFewQuestions};
+ghost use Rattle.sig_questions.specs.Front.{HasTrust, IsPassedBundle};
+ghost use Rattle.sig_questions.specs.Listed.{AreListed, AreListedAs, AreListedOf, IsAnswered, trust_in};
 ghost use Rattle.sig_questions.specs.Lists.{content_questions, entry_questions};
 ghost use Rattle.sig_questions.specs.Order.{AreInOrder, IsAskedAt};
 ghost use Rattle.sig_questions.specs.Questions.{AreQuestions, IsDecided, Suffices};
 ghost use Rattle.sig_questions.specs.Written.{AddsRows, rows_behind, rows_of_paths};
 
-use crate::anchors::read_anchors;
 use crate::bytes::is_read_certificate;
 use crate::content::push_content;
 use crate::entry::push_entry;
@@ -26,15 +25,14 @@ use crate::laws::{listed_texts, questions_suffice};
 use crate::paths::push_certificates;
 use crate::points::push_points;
 use crate::rows::Rows;
+use crate::trust::{TrustParts, read_trust};
 use sig_base::{AcceptedRow, KeyMap, OutOfMemory, Register};
 use sig_bundle::{ArtifactDigest, Bundle, read_bundle};
-use sig_certificate::Certificate;
-use sig_checked_bundle::CheckedBundle;
 use sig_checked_bundle::laws::passed_bundles;
+use sig_checked_bundle::{BundleErrorKind, CheckedBundle};
 use sig_root::laws::are_log_key_bytes;
-use sig_root::{SigstoreTrustRoot, TrustRoot, read_trusted_root};
-use sig_timestamp::Keyring;
-use sig_verify::{Link, keyring_of};
+use sig_root::{SigstoreTrustRoot, read_trusted_root};
+use sig_verify::Link;
 use sig_x509::{PossiblePaths, possible_paths};
 use std::alloc::{AllocError, Global};
 use std::fmt;
@@ -127,6 +125,9 @@ pub fn questions(
     // that were signed and of those that signed, or of the signatures of the note.
     ensures places { IfOk result (AreInOrder (IsAskedAt
         (record { root = trusted_root.now; now = now; digest = digest.now; bundle = bundle.now }))) }
+    // Of n trust anchors at most 17 * (16 + n) rows are of signatures of certificates, and at most 16 + n of the SCT.
+    ensures few { IfOk result (AreFewQuestions
+        (record { root = trusted_root.now; now = now; digest = digest.now; bundle = bundle.now })) }
     // A link is refused if and only if it is the first of those up to `issuer` that fails whatever the checker and the
     // policy say; where none is, the rows are returned if and only if they have at most so many bytes.
     ensures decided { IsDecided
@@ -152,54 +153,59 @@ fn list_text(
         Ok(root) => {
             are_log_key_bytes(root.tlogs.as_slice());
             let root = SigstoreTrustRoot::of(root);
-            list_bundle(alloc, &root, now, digest, bundle, most)
+            list_bundle(alloc, trusted_root, &root, now, digest, bundle, most)
         }
         Err(error) => Err(unread(Link::RootJson, error)),
     }
 }
 
-/// The rows under a trusted root that was read from its text.
+/// The rows under a trusted root that was read from this text.
 fn list_bundle(
     alloc: Global,
+    root_text: &[u8],
     root: &SigstoreTrustRoot,
     now: i64,
     digest: &ArtifactDigest,
     bundle: &[u8],
     most: usize,
 ) -> Result<Register<AcceptedRow>, NoQuestions>
-    requires { AllByRecursion HasRawBytes root.now.tlogs }
-    ensures { (root_text : List ℕ) → trusted_root_in root_text ≡ Ok root.now
-        → IsAnswered (record { root = root_text; now = now; digest = digest.now; bundle = bundle.now }) most result }
+    requires keys { AllByRecursion HasRawBytes root.now.tlogs }
+    requires read { trusted_root_in root_text.now ≡ Ok root.now }
+    ensures { IsAnswered (record { root = root_text.now; now = now; digest = digest.now; bundle = bundle.now })
+        most result }
 {
     match read_bundle(alloc, bundle) {
-        Ok(bundle) => list_read(alloc, root, now, digest, &bundle, most),
+        Ok(read) => list_read(alloc, root_text, bundle, root, now, digest, &read, most),
         Err(error) => Err(unread(Link::BundleJson, error)),
     }
 }
 
-/// The rows of a trusted root and of a bundle that were read from their texts.
+/// The rows of a trusted root and of a bundle that were read from these texts.
 fn list_read(
     alloc: Global,
+    root_text: &[u8],
+    bundle_text: &[u8],
     root: &SigstoreTrustRoot,
     now: i64,
     digest: &ArtifactDigest,
     bundle: &Bundle,
     most: usize,
 ) -> Result<Register<AcceptedRow>, NoQuestions>
-    requires { AllByRecursion HasRawBytes root.now.tlogs }
-    ensures { (root_text bundle_text : List ℕ)
-        → trusted_root_in root_text ≡ Ok root.now → bundle_in bundle_text ≡ Ok bundle.now
-        → IsAnswered (record { root = root_text; now = now; digest = digest.now; bundle = bundle_text }) most result }
+    requires keys { AllByRecursion HasRawBytes root.now.tlogs }
+    requires root_read { trusted_root_in root_text.now ≡ Ok root.now }
+    requires bundle_read { bundle_in bundle_text.now ≡ Ok bundle.now }
+    ensures { IsAnswered (record { root = root_text.now; now = now; digest = digest.now; bundle = bundle_text.now })
+        most result }
 {
     listed_texts();
-    match check_front(alloc, root, now, digest, bundle) {
+    match check_front(alloc, root_text, bundle_text, root, now, digest, bundle) {
         Ok(()) => list_checked(alloc, root, now, digest, bundle, most),
         Err(error) => Err(error),
     }
 }
 
-/// The rows of a root and a bundle of which the links up to `issuance` hold; so no check of them fails unless memory
-/// runs out.
+/// The rows of a root and a bundle of which the links up to `issuance` hold. Fails otherwise only as they do not fit, or as
+/// no path would lead to a trust anchor.
 fn list_checked(
     alloc: Global,
     root: &SigstoreTrustRoot,
@@ -208,6 +214,8 @@ fn list_checked(
     bundle: &Bundle,
     most: usize,
 ) -> Result<Register<AcceptedRow>, NoQuestions>
+    requires trust { HasTrust root.now now }
+    requires passed { IsPassedBundle bundle.now }
     ensures { UnlessMemory NoQuestions.OutOfMemory result (AreListedOf root.now now digest.now bundle.now most
         result) }
 {
@@ -215,36 +223,19 @@ fn list_checked(
     let trust = read_trust(alloc, root, now)?;
     match CheckedBundle::try_from_bundle(alloc, bundle) {
         Ok(checked) => list(alloc, &trust, digest, &checked, most),
-        Err(_) => Err(NoQuestions::OutOfMemory),
+        Err(error) => Err(memory_of(error)),
     }
 }
 
-/// What a root gives at a time.
-#[derive(Drop)]
-pub(crate) struct TrustParts {
-    pub(crate) anchors: Register<Certificate>,
-    pub(crate) keyring: Keyring,
-    pub(crate) log_keys: KeyMap,
-}
-
-/// What the root gives at the time; it has certificates and keys.
-fn read_trust(alloc: Global, root: &SigstoreTrustRoot, now: i64) -> Result<TrustParts, OutOfMemory>
-    ensures { IfOk result (GivesTrust root.now now) }
+/// Out of memory, which is the only error of a bundle that passes its own checks.
+fn memory_of(error: BundleErrorKind) -> NoQuestions
+    requires { error ≡ BundleErrorKind.OutOfMemory }
+    ensures { result ≡ NoQuestions.OutOfMemory }
 {
-    let Ok(certificates) = root.fulcio_certs(alloc, now) else {
-        return Err(OutOfMemory);
-    };
-    let Ok(ct_keys) = root.ctfe_keys(alloc, now) else {
-        return Err(OutOfMemory);
-    };
-    let Ok(log_keys) = root.rekor_keys(alloc, now) else {
-        return Err(OutOfMemory);
-    };
-    Ok(TrustParts {
-        anchors: read_anchors(alloc, &certificates)?,
-        keyring: keyring_of(alloc, &ct_keys)?,
-        log_keys,
-    })
+    match error {
+        BundleErrorKind::OutOfMemory => NoQuestions::OutOfMemory,
+        _ => unreachable!(),
+    }
 }
 
 /// The rows.

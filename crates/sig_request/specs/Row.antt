@@ -50,3 +50,7 @@ row_of d = do
   message ← required_bytes (codes "message") d
   signature ← required_bytes (codes "signature") d
   Some (record { operation = operation; scheme = scheme; key = key; message = message; signature = signature })
+
+-- accepted signatures: a list of rows
+abbrev pub accepted_of : Data → Option (List AcceptedRow)
+accepted_of d = list_each row_of d

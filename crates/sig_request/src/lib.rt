@@ -14,6 +14,7 @@
 #![tactic(auto)]
 
 mod audit_request;
+mod brief_policy;
 mod consistency_request;
 mod digest_text;
 mod head_members;
@@ -26,8 +27,12 @@ mod row;
 mod verify_request;
 
 pub use audit_request::{AuditRequest, HeadText};
+pub use brief_policy::BriefPolicy;
 pub use consistency_request::ConsistencyRequest;
+pub use digest_text::ArtifactDigestReader;
 pub use head_members::ClaimedHead;
+pub use policy_rule::read_policy;
 pub use read::{MOST_BYTES, REQUEST_LIMIT, ReadFault, read_request};
 pub use request::LogRequest;
+pub use row::{RowReader, read_accepted};
 pub use verify_request::{VerifyRequest, bundle_of, now_of, trusted_root_of};

@@ -212,15 +212,25 @@ impl ElementReader for PolicyReader {
 
     ghost meaning = { request_policy_of };
 
-    #[tactic(auto, unfolding(crate::specs::Policy::request_policy_of))]
     fn read(alloc: Global, json: Json<'_, '_>) -> Result<RequestPolicy, MemberError> {
-        match rules_under(alloc, json, "all", "any") {
-            Ok(rules) => Ok(RequestPolicy::All(rules)),
-            Err(MemberError::Member) => {
-                let rules = rules_under(alloc, json, "any", "all")?;
-                Ok(RequestPolicy::Any(rules))
-            }
-            Err(MemberError::OutOfMemory) => Err(MemberError::OutOfMemory),
+        read_policy(alloc, json)
+    }
+}
+
+/// Reads a policy: the rules under `all`, or those under `any`. Fails with `Member` if and only if the value is not an
+/// object that has rules, at least one, under exactly one of the two, each of which has exactly one of the sets of
+/// members that a rule may have, as [`policies`](crate::laws::policies) says.
+#[tactic(auto, unfolding(crate::specs::Policy::request_policy_of))]
+pub fn read_policy(alloc: Global, json: Json<'_, '_>) -> Result<RequestPolicy, MemberError>
+    ensures { Answers MemberError.OutOfMemory (λ policy. policy) result
+        (or_member (request_policy_of (tree json.entry))) }
+{
+    match rules_under(alloc, json, "all", "any") {
+        Ok(rules) => Ok(RequestPolicy::All(rules)),
+        Err(MemberError::Member) => {
+            let rules = rules_under(alloc, json, "any", "all")?;
+            Ok(RequestPolicy::Any(rules))
         }
+        Err(MemberError::OutOfMemory) => Err(MemberError::OutOfMemory),
     }
 }

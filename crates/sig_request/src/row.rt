@@ -5,9 +5,10 @@ ghost use Rattle.sig_json.specs.Data.{Data};
 ghost use Rattle.sig_base.specs.Answers.{Answers};
 ghost use Rattle.sig_json.specs.OrMember.{or_member};
 ghost use Rattle.sig_json.specs.Tree.{tree};
-ghost use Rattle.sig_request.specs.Row.{entries_of, no_kind, operation_kind, row_of, scheme_for, scheme_kind};
+ghost use Rattle.sig_request.specs.Row.{accepted_of, entries_of, no_kind, operation_kind, row_of, scheme_for};
+ghost use Rattle.sig_request.specs.Row.{scheme_kind};
 
-use sig_base::{AcceptedRow, Bytes, Entries, Operation, SigningScheme};
+use sig_base::{AcceptedRow, Bytes, Entries, Operation, SigningScheme, TableChecker};
 use sig_json::{
     BytesReader, ElementReader, Json, MemberError, optional, read_list, required, required_bytes,
 };
@@ -99,6 +100,18 @@ impl ElementReader for RowReader {
             signature: required_bytes(alloc, json, "signature")?,
         })
     }
+}
+
+/// Reads accepted signatures: a list of rows. Fails with `Member` if and only if the value is no list, or a row is not
+/// as it has to be: an object with `operation` (`message`, `prehash`, `point`, `certificate`), `scheme`, `key`,
+/// `message` and `signature`, of which the last three are base64 and required. `scheme` is a scheme's name for the first
+/// two operations, absent for `point`, and base64 of the AlgorithmIdentifier for `certificate`.
+pub fn read_accepted(alloc: Global, json: Json<'_, '_>) -> Result<TableChecker, MemberError>
+    ensures { Answers MemberError.OutOfMemory (λ checker. checker) result
+        (or_member (accepted_of (tree json.entry))) }
+{
+    let rows = read_list::<RowReader>(alloc, json)?;
+    Ok(TableChecker::from_rows(alloc, rows)?)
 }
 
 /// Reads the scheme of an accepted signature: a scheme's name for a message and for a digest, absent for a point, and

@@ -1,7 +1,7 @@
 -- The links `issuance`, `issuer` and `sct`: the result says which of them fails first.
 use Rattle.std.proofs.Common.{◌≡◌, ℕ, ◌<◌, ◌-◌, ◌^◌, Bool, true, false, cond, nat_lt, List, [], ◌∷◌, length}
 use Rattle.std.proofs.Common.{Option, Some, None, Result, Ok, Err, inl, inr, refl, sym, ap, subst, arith, ◌∙◌}
-use Rattle.std.specs.Prelude.{option_map}
+use Rattle.std.specs.Prelude.{IsSome, option_map}
 use Rattle.std.proofs.lemmas.Bool.{ltb-false, le-ltb}
 use Rattle.sig_base.proofs.OptionSteps.{some_is}
 use Rattle.sig_base.proofs.ResultSteps.{ok_is}
@@ -22,6 +22,7 @@ use Rattle.sig_timestamp.specs.SctList.{Sct as SctType}
 use Rattle.sig_timestamp.specs.Timestamps.{HasSct, sct_of}
 use Rattle.sig_timestamp.specs.declared.keyring_error.KeyringError.TheVariants as keyring
 use Rattle.sig_timestamp.specs.declared.sct_error.CertificateErrorKind.{CertificateErrorKind}
+use Rattle.sig_timestamp.specs.declared.sct_error.CertificateErrorKind.TheVariants as parsing
 use Rattle.sig_timestamp.specs.declared.sct_error.SCTError.{SCTError}
 use Rattle.sig_timestamp.specs.declared.sct_error.SCTError.TheVariants.{OutOfMemory, Parsing, Serialization}
 use Rattle.sig_timestamp.specs.declared.signed.DigitallySigned.{DigitallySigned}
@@ -33,12 +34,13 @@ use Rattle.sig_x509.specs.PathSearch.{first_issuer, found_issuer, path_issuer}
 use Rattle.sig_x509.specs.Pool.{Pool, certificate_of, pool_over}
 use Rattle.sig_x509.specs.declared.issuer.Issuer.{Issuer as IssuerType}
 use Rattle.sig_verify.proofs.JudgedLaws.{not_first, judged_tells}
-use Rattle.sig_verify.specs.CertificateLinks.{HoldsOfChecked, OfIssuer}
+use Rattle.sig_verify.specs.CertificateLinks.{HoldsOfChecked, IsVouchedFor, OfIssuer}
 use Rattle.sig_verify.specs.Errors.{of_sct}
 use Rattle.sig_verify.specs.IssuerCheck.{from_pool, from_sct, issued_answer, sct_answer, spki_of, spki_or_none}
 use Rattle.sig_verify.specs.Judged.{Judged, Tells}
 use Rattle.sig_verify.specs.LinkLaws.{renamed, trust_of}
 use Rattle.sig_verify.specs.OfflineErrors.{link_of, of_verification}
+use Rattle.sig_verify.specs.SctCauses.{IsSctCause}
 use Rattle.sig_verify.specs.Verdict.{Checker, PolicyOf}
 use Rattle.sig_verify.specs.Verifier.{Trusted}
 use Rattle.sig_verify.specs.declared.error.CertificateErrorKind.TheVariants as certificate
@@ -111,7 +113,7 @@ module _ (k : Checker) (policy : PolicyOf) (trusted : Trusted) (d : ArtifactDige
   -- the check of the SCT says whether its link holds
   abbrev SaysSct : Result (Unit {0}) SCTError → Type 0
   SaysSct (Ok done) = Holds Sct
-  SaysSct (Err e) = ¬ Holds Sct × (of_sct e ≡ Refused (certificate.Sct e))
+  SaysSct (Err e) = ¬ Holds Sct × (of_sct e ≡ Refused (certificate.Sct e)) × IsSctCause k (trust_of trusted) checked e
 
   abbrev over : Pool
   over = pool_over trusted.anchors checked.further
@@ -144,22 +146,30 @@ module _ (k : Checker) (policy : PolicyOf) (trusted : Trusted) (d : ArtifactDige
         says_point long short point at true accepted =
             ((s, has, (long, short)), (s, has, record { issuer = issuer; first = first; holds = (point, at, accepted) }))
         says_point long short point at false accepted = (
-          (λ holds.
-              let t = holds.1.0 in
-              let P : Cert → Type 0 = λ x. (p : List ℕ) × (point_at trusted.ring t.log_id ≡ Some p)
-              × (k.point p (signed_bytes (signed_of c x.spki t)) t.signature ≡ true) in
-              let there : P first.path.certificate = one_issuer P holds.1.2 in
-              let same : signed_of c spki t ≡ signed_of c spki s = one_sct t holds.1.1 in
-              let log : t.log_id ≡ s.log_id = ap (λ (x : DigitallySigned). x.log_id) same in
-              let one : there.0 ≡ point =
-              some_is there.0 point (sym there.1 ∙ ap (λ (id : List ℕ). point_at trusted.ring id) log ∙ at) in
-              let moved : k.point there.0 (signed_bytes (signed_of c spki s)) s.signature ≡ true =
-              subst (λ (x : DigitallySigned). k.point there.0 (signed_bytes x) x.signature ≡ true) same there.2 in
-              let right : k.point point (signed_bytes (signed_of c spki s)) s.signature ≡ true =
-              subst (λ (p : List ℕ). k.point p (signed_bytes (signed_of c spki s)) s.signature ≡ true) one moved in
-              let wrong : true ≡ false = sym right ∙ accepted in absurd cc),
+          (λ holds. unvouched holds.1),
           refl,
+          (
+            (s, has, (long, short)),
+            (s, has, subst (λ (o : Option (List ℕ)). IsSome o) (sym at) refl),
+            unvouched,
+          ),
         )
+          where
+            unvouched : IsVouchedFor k (trust_of trusted) checked → ⊥
+            unvouched vouched =
+                let t = vouched.0 in
+                let P : Cert → Type 0 = λ x. (p : List ℕ) × (point_at trusted.ring t.log_id ≡ Some p)
+                × (k.point p (signed_bytes (signed_of c x.spki t)) t.signature ≡ true) in
+                let there : P first.path.certificate = one_issuer P vouched.2 in
+                let same : signed_of c spki t ≡ signed_of c spki s = one_sct t vouched.1 in
+                let log : t.log_id ≡ s.log_id = ap (λ (x : DigitallySigned). x.log_id) same in
+                let one : there.0 ≡ point =
+                some_is there.0 point (sym there.1 ∙ ap (λ (id : List ℕ). point_at trusted.ring id) log ∙ at) in
+                let moved : k.point there.0 (signed_bytes (signed_of c spki s)) s.signature ≡ true =
+                subst (λ (x : DigitallySigned). k.point there.0 (signed_bytes x) x.signature ≡ true) same there.2 in
+                let right : k.point point (signed_bytes (signed_of c spki s)) s.signature ≡ true =
+                subst (λ (p : List ℕ). k.point p (signed_bytes (signed_of c spki s)) s.signature ≡ true) one moved in
+                let wrong : true ≡ false = sym right ∙ accepted in cc
 
         says_log : (long : length (precertificate c) < 2 ^ 24) → (length s.extensions < 2 ^ 16)
             → (o : Option (List ℕ)) → point_at trusted.ring s.log_id ≡ o
@@ -173,6 +183,7 @@ module _ (k : Checker) (policy : PolicyOf) (trusted : Trusted) (d : ArtifactDige
               let wrong : ◌≡◌ {A = Option (List ℕ)} (Some there.0) None =
               sym there.1 ∙ ap (λ (id : List ℕ). point_at trusted.ring id) log ∙ at in absurd cc),
           refl,
+          ((s, has, (long, short)), (s, has, at)),
         )
         says_log long short (Some point) at =
             says_point long short point at (k.point point (signed_bytes (signed_of c spki s)) s.signature) refl
@@ -189,6 +200,15 @@ module _ (k : Checker) (policy : PolicyOf) (trusted : Trusted) (d : ArtifactDige
               le-ltb (2 ^ 24 - 1) (length (precertificate c)) (omega (arith, long)) in
               let wrong : true ≡ false = sym body ∙ fits in absurd cc),
           refl,
+          (
+            s,
+            has,
+            (λ both.
+                let long : length (precertificate c) < 2 ^ 24 = both.0 in
+                let fits : nat_lt (2 ^ 24 - 1) (length (precertificate c)) ≡ false =
+                le-ltb (2 ^ 24 - 1) (length (precertificate c)) (omega (arith, long)) in
+                let wrong : true ≡ false = sym body ∙ fits in absurd cc),
+          ),
         )
         says_lengths false true body extensions = (
           (λ holds.
@@ -199,19 +219,37 @@ module _ (k : Checker) (policy : PolicyOf) (trusted : Trusted) (d : ArtifactDige
               le-ltb (2 ^ 16 - 1) (length s.extensions) (omega (arith, short)) in
               let wrong : true ≡ false = sym extensions ∙ fits in absurd cc),
           refl,
+          (
+            s,
+            has,
+            (λ both.
+                let short : length s.extensions < 2 ^ 16 = both.1 in
+                let fits : nat_lt (2 ^ 16 - 1) (length s.extensions) ≡ false =
+                le-ltb (2 ^ 16 - 1) (length s.extensions) (omega (arith, short)) in
+                let wrong : true ≡ false = sym extensions ∙ fits in absurd cc),
+          ),
         )
         says_lengths false false body extensions =
             let long = ltb-false (2 ^ 24 - 1) (length (precertificate c)) body in
             let short = ltb-false (2 ^ 16 - 1) (length s.extensions) extensions in
             says_log (omega (arith, long)) (omega (arith, short)) (point_at trusted.ring s.log_id) refl
 
+      unread : (kind : CertificateErrorKind) → IsSaidOf c (Err kind)
+          → IsSctCause k (trust_of trusted) checked (Parsing kind)
+      unread parsing.LeafSCTMissing of = of
+      unread parsing.LeafSCTMalformed of = of
+      unread parsing.IssuerMissing of = of
+
       says_sct : (r : Result SctType CertificateErrorKind) → sct_of c ≡ r → IsSaidOf c r
           → SaysSct (ready c spki r >>= λ signed. judged k.point signed trusted.ring)
       says_sct (Ok s) is of =
           says_lengths s of is (nat_lt (2 ^ 24 - 1) (length (precertificate c)))
           (nat_lt (2 ^ 16 - 1) (length s.extensions)) refl refl
-      says_sct (Err kind) is of =
-          ((λ holds. has_none c spki holds.0.0 kind is (has_read spki holds.0.0 holds.0.1)), refl)
+      says_sct (Err kind) is of = (
+        (λ holds. has_none c spki holds.0.0 kind is (has_read spki holds.0.0 holds.0.1)),
+        refl,
+        unread kind of,
+      )
 
       judged_sct : (r : Result (Unit {0}) SCTError) → SaysSct r
           → Judged Holds (Issuance ∷ Issuer ∷ Sct ∷ []) (renamed (from_sct r))
@@ -233,6 +271,19 @@ module _ (k : Checker) (policy : PolicyOf) (trusted : Trusted) (d : ArtifactDige
           subst (λ (r : Result (List ℕ) VerificationError). Judged Holds (Issuance ∷ Issuer ∷ Sct ∷ [])
           (renamed (r >>= λ key. from_sct (sct_answer k.point trusted.ring c key)))) (sym key_found)
           (judged_sct (sct_answer k.point trusted.ring c spki) (says_sct (sct_of c) refl said))
+
+  -- an error of the check of the SCT has its cause
+  pub sct_cause : (issuer : IssuerType) → found ≡ Ok issuer → (key : List ℕ)
+      → spki_or_none (spki_of over issuer) ≡ Ok key → (e : SCTError)
+      → sct_answer k.point trusted.ring c key ≡ Err e → IsSctCause k (trust_of trusted) checked e
+  sct_cause issuer is key keyed e failed =
+      let both = issued_is_first k.cert over c c.not_before issuer is in
+      let same : spki issuer both.0 both.1 ≡ key =
+      ok_is (spki issuer both.0 both.1) key (sym (key_found issuer both.0 both.1) ∙ keyed) in
+      let says : SaysSct (sct_answer k.point trusted.ring c key) =
+      subst (λ (x : List ℕ). SaysSct (sct_answer k.point trusted.ring c x)) same
+      (says_sct issuer both.0 both.1 (sct_of c) refl said) in
+      let its : SaysSct (Err e) = subst SaysSct failed says in its.2
 
   by_pool : (r : Result IssuerType PoolError) → found ≡ r → Judged Holds (Issuance ∷ Issuer ∷ Sct ∷ [])
       (renamed (from_pool r >>= (λ issuer. spki_or_none (spki_of over issuer))

@@ -18,6 +18,7 @@ pub mod JudgedLaws
 pub mod LinkGroups
 pub mod LongerChains
 pub mod OfflineBytes
+pub mod IssuerCauses
 pub mod OfflineCauses
 pub mod OfflineLaws
 pub mod Parts

@@ -130,7 +130,7 @@ module _ (o : Outside) (i : Inputs) (root : TrustedRoot) (root_is : trusted_root
       anchored_with c passed =
           record { parts = parts_with c passed; anchors = trusted.anchors; given = are_anchors }
 
-      found_to : (X : Trust → Checked → Type 0) → Found X → OfChecked i X
+      pub found_to : (X : Trust → Checked → Type 0) → Found X → OfChecked i X
       found_to X (c, passed, x) =
           checked_to (anchored_with c passed) X (subst (λ (t : Trust). X t c) (sym same_trust) x)
 

@@ -5,8 +5,6 @@ use Rattle.std.specs.Prelude.{if◌then◌else◌}
 use Rattle.sig_base.proofs.ResultSteps.{bind_err, err_is}
 use Rattle.sig_base.specs.ResultSteps.{◌>>=◌}
 use Rattle.sig_base.specs.declared.error.SigstoreError.{SigstoreError}
-use Rattle.sig_base.specs.declared.fault.PoolError.{PoolError}
-use Rattle.sig_base.specs.declared.fault.PoolError.TheVariants as pool
 use Rattle.sig_base.specs.declared.fault.TrustPart.TheVariants as part
 use Rattle.sig_base.specs.declared.scheme.VerifyScheme.{VerifyScheme}
 use Rattle.sig_bundle.specs.BundleRecord.{bundle_in}
@@ -23,21 +21,15 @@ use Rattle.sig_json.specs.declared.error.JsonError.{JsonError}
 use Rattle.sig_key.specs.Kind.{key_kind, kind_answer}
 use Rattle.sig_root.specs.RootRecord.{trusted_root_in}
 use Rattle.sig_root.specs.declared.record.TrustedRoot.{TrustedRoot}
-use Rattle.sig_timestamp.specs.declared.sct_error.SCTError.{SCTError}
-use Rattle.sig_timestamp.specs.declared.sct_error.SCTError.TheVariants as sct
 use Rattle.sig_x509.specs.Issuance.{IsFirstNoAnchor}
-use Rattle.sig_x509.specs.PathSearch.{path_issuer}
-use Rattle.sig_x509.specs.Pool.{Pool, pool_over}
-use Rattle.sig_x509.specs.declared.issuer.Issuer.{Issuer}
 use Rattle.sig_verify.proofs.EntryCauses.{entry_errors_have_their_cause}
+use Rattle.sig_verify.proofs.IssuerCauses.{issued}
 use Rattle.sig_verify.proofs.OfflineLaws.{Groups, one_entry}
 use Rattle.sig_verify.proofs.RootVerdicts.{none_given, some_given}
 use Rattle.sig_verify.specs.ContentCheck.{AcceptsUnder, certificate_key_answer, if_about, if_accepted, is_about}
 use Rattle.sig_verify.specs.ContentCheck.{content_answer, or_unsupported, signature_answer}
 use Rattle.sig_verify.specs.EntryCauses.{IsEntryCause}
-use Rattle.sig_verify.specs.Errors.{of_pool, of_sct}
-use Rattle.sig_verify.specs.IssuerCheck.{from_pool, from_sct, issued_answer, issuer_spki, path_start, sct_answer}
-use Rattle.sig_verify.specs.IssuerCheck.{spki_or_none}
+use Rattle.sig_verify.specs.IssuerCheck.{issued_answer}
 use Rattle.sig_verify.specs.Links.{Inputs, OfLogged, Outside}
 use Rattle.sig_verify.specs.LogEntry.{log_entry_answer}
 use Rattle.sig_verify.specs.OfflineCauses.{IsOfflineCause, IsOverOther, OfflineErrorsHaveTheirCause}
@@ -48,7 +40,7 @@ use Rattle.sig_verify.specs.OfflineVerdict.{Outcome, authorities_of, ct_keys_of}
 use Rattle.sig_verify.specs.RootLinks.{authorities, ct_keys, rekor_keys}
 use Rattle.sig_verify.specs.Verdict.{After, AfterPolicy, Answer, IsVerdict, IsVerdictFromBody}
 use Rattle.sig_verify.specs.Verdict.{IsVerdictFromKey, IsVerdictFromPolicy}
-use Rattle.sig_verify.specs.Verifier.{Trusted, IsRefusedRoot}
+use Rattle.sig_verify.specs.Verifier.{IsRefusedRoot, IsVerifierOf, Trusted}
 use Rattle.sig_verify.specs.declared.error.CertificateErrorKind.TheVariants as certificate
 use Rattle.sig_verify.specs.declared.error.SignatureErrorKind.TheVariants as signature
 use Rattle.sig_verify.specs.declared.error.VerificationError.{VerificationError}
@@ -75,7 +67,7 @@ module _ (laws : Groups) (refusals : RefusalsHaveTheirCause) (o : Outside) (i : 
   of_entry (error.TrustRoot p) of = tt
   of_entry (error.Anchor place) (root, root_is, (b, bundle_is, (c, passed, none))) = absurd none
   of_entry (error.Bundle kind) (root, root_is, (b, bundle_is, (c, passed, none))) = absurd none
-  of_entry (error.Certificate kind) of = tt
+  of_entry (error.Certificate kind) (root, root_is, (b, bundle_is, (c, passed, none))) = absurd none
   of_entry (error.Policy refusal) (root, root_is, (b, bundle_is, (c, passed, none))) = absurd none
   of_entry (error.Signature kind) (root, root_is, (b, bundle_is, (c, passed, none))) = absurd none
   of_entry error.LogIdMissing of = of
@@ -95,54 +87,6 @@ module _ (laws : Groups) (refusals : RefusalsHaveTheirCause) (o : Outside) (i : 
   of_entry (error.ConsistencyProofError m) of = of
   of_entry (error.InclusionProofError m) of = of
   of_entry error.OutOfMemory of = tt
-
-  -- ---- the certificate
-
-  of_pool_error : (e : PoolError) → Is (of_verification (of_pool e))
-  of_pool_error pool.Malformed = tt
-  of_pool_error pool.VerificationFailed = tt
-  of_pool_error (pool.TooMany count) = tt
-  of_pool_error (pool.Anchor place) = tt
-  of_pool_error pool.OutOfMemory = tt
-
-  of_sct_error : (e : SCTError) → Is (of_verification (of_sct e))
-  of_sct_error (sct.Parsing kind) = tt
-  of_sct_error sct.Serialization = tt
-  of_sct_error (sct.Verification e) = tt
-  of_sct_error sct.OutOfMemory = tt
-
-  placed : (r : Result Issuer PoolError) (x : VerificationError) → from_pool r ≡ Err x → Is (of_verification x)
-  placed (Ok issuer) x told = absurd cc
-  placed (Err e) x told = subst (λ (y : VerificationError). Is (of_verification y)) (err_is (of_pool e) x told)
-      (of_pool_error e)
-
-  keyed : (spki : Option (List ℕ)) (x : VerificationError) → spki_or_none spki ≡ Err x → Is (of_verification x)
-  keyed None x told = subst (λ (y : VerificationError). Is (of_verification y))
-      (err_is (verification.Certificate certificate.VerificationFailed) x told) tt
-  keyed (Some spki) x told = absurd cc
-
-  vouched : (r : Result (Unit {0}) SCTError) (x : VerificationError) → from_sct r ≡ Err x → Is (of_verification x)
-  vouched (Ok done) x told = absurd cc
-  vouched (Err e) x told = subst (λ (y : VerificationError). Is (of_verification y)) (err_is (of_sct e) x told)
-      (of_sct_error e)
-
-  issued : (trusted : Trusted) (c : Checked) (x : VerificationError)
-      → issued_answer o.checker.cert o.checker.point trusted c ≡ Err x → Is (of_verification x)
-  issued trusted c x told =
-      elim (bind_err (issuer_spki o.checker.cert over c.certificate) _ x told) [
-        | inl none ↦ unissued none
-        | inr some ↦ vouched (sct_answer o.checker.point trusted.ring c.certificate some.0) x some.2
-      ] where
-        over : Pool
-        over = pool_over trusted.anchors c.further
-
-        unissued : issuer_spki o.checker.cert over c.certificate ≡ Err x → Is (of_verification x)
-        unissued none =
-            elim (bind_err (path_start o.checker.cert over c.certificate) _ x none) [
-              | inl unplaced ↦
-                  placed (path_issuer o.checker.cert over c.certificate c.certificate.not_before) x unplaced
-              | inr some ↦ keyed _ x some.2
-            ]
 
   -- ---- a bundle that passed its own checks
 
@@ -229,25 +173,29 @@ module _ (laws : Groups) (refusals : RefusalsHaveTheirCause) (o : Outside) (i : 
         subst (λ (y : VerificationError). Is (of_verification y)) (sym (same_refusal x (verification.Policy why) told))
         (b, bundle_is, (c, passed, refused))
 
-    from_issuance : (trusted : Trusted) (r : Answer)
-        → issued_answer o.checker.cert o.checker.point trusted c ≡ r → (x : VerificationError)
-        → After r (IsVerdictFromPolicy o.checker o.policy i.digest true c) (Err x) → Is (of_verification x)
-    from_issuance trusted (Ok done) is x next = from_policy (o.policy.holds c.certificate) x next
-    from_issuance trusted (Err y) is x next =
-        subst (λ (z : VerificationError). Is (of_verification z)) (sym (same_refusal x y next))
-        (issued trusted c y is)
-
   -- ---- all of it
 
   module _ (root : TrustedRoot) (root_is : trusted_root_in i.root ≡ Ok root) (b : BundleType)
       (bundle_is : bundle_in i.bundle ≡ Ok b) where
-    verdict : (trusted : Trusted) (x : VerificationError)
+    abbrev Verifies : Trusted → Type 0
+    Verifies trusted = IsVerifierOf (authorities_of root i.now) (ct_keys_of root i.now) trusted
+
+    from_issuance : (trusted : Trusted) → Verifies trusted → (c : Checked) → IsPassed b c → (r : Answer)
+        → issued_answer o.checker.cert o.checker.point trusted c ≡ r → (x : VerificationError)
+        → After r (IsVerdictFromPolicy o.checker o.policy i.digest true c) (Err x) → Is (of_verification x)
+    from_issuance trusted verifies c passed (Ok done) is x next =
+        from_policy b bundle_is c passed (o.policy.holds c.certificate) x next
+    from_issuance trusted verifies c passed (Err y) is x next =
+        subst (λ (z : VerificationError). Is (of_verification z)) (sym (same_refusal x y next))
+        (issued laws.one o i read root root_is b bundle_is trusted verifies c passed y is)
+
+    verdict : (trusted : Trusted) → Verifies trusted → (x : VerificationError)
         → IsVerdict o.checker trusted o.policy i.digest true b (Err x) → Is (of_verification x)
-    verdict trusted x (inl (kind, checked, told)) =
+    verdict trusted verifies x (inl (kind, checked, told)) =
         subst (λ (y : VerificationError). Is (of_verification y)) (sym (same_refusal x (verification.Bundle kind) told))
         (b, bundle_is, (refusals b kind).0 checked)
-    verdict trusted x (inr (c, checked, from)) =
-        from_issuance b bundle_is c ((laws.passed b c).0 checked) trusted
+    verdict trusted verifies x (inr (c, checked, from)) =
+        from_issuance trusted verifies c ((laws.passed b c).0 checked)
         (issued_answer o.checker.cert o.checker.point trusted c) refl x from
 
     logged : (c : Checked) → IsPassed b c → (why : OfflineError)
@@ -272,12 +220,13 @@ module _ (laws : Groups) (refusals : RefusalsHaveTheirCause) (o : Outside) (i : 
           ),
         )
 
-    answered : (trusted : Trusted) (answer : Answer) → IsVerdict o.checker trusted o.policy i.digest true b answer
-        → (why : OfflineError) → AfterAnswer answer (IsVouchedIn o.checker.spki root i.now b) (Err why) → Is why
-    answered trusted (Err x) said why next =
-        subst Is (sym (same_error why (of_verification x) next)) (verdict trusted x said)
-    answered trusted (Ok done) (inl none) why next = absurd cc
-    answered trusted (Ok done) (inr (c, checked, from)) why next = logged c ((laws.passed b c).0 checked) why next
+    answered : (trusted : Trusted) → Verifies trusted → (answer : Answer)
+        → IsVerdict o.checker trusted o.policy i.digest true b answer → (why : OfflineError)
+        → AfterAnswer answer (IsVouchedIn o.checker.spki root i.now b) (Err why) → Is why
+    answered trusted verifies (Err x) said why next =
+        subst Is (sym (same_error why (of_verification x) next)) (verdict trusted verifies x said)
+    answered trusted verifies (Ok done) (inl none) why next = absurd cc
+    answered trusted verifies (Ok done) (inr (c, checked, from)) why next = logged c ((laws.passed b c).0 checked) why next
 
     rooted : (e : SigstoreError) → IsRefusedRoot (authorities_of root i.now) (ct_keys_of root i.now) e → Is (of_root e)
     rooted e (inl memory) = subst (λ (y : SigstoreError). Is (of_root y)) (sym memory) tt
@@ -296,7 +245,7 @@ module _ (laws : Groups) (refusals : RefusalsHaveTheirCause) (o : Outside) (i : 
 
     of_both : (why : OfflineError) → IsOfflineOf o.checker o.policy root i.now i.digest b (Err why) → Is why
     of_both why (inl (e, refused, told)) = subst Is (sym (same_error why (of_root e) told)) (rooted e refused)
-    of_both why (inr (trusted, is, (answer, said, next))) = answered trusted answer said why next
+    of_both why (inr (trusted, is, (answer, said, next))) = answered trusted is answer said why next
 
   bundled : (root : TrustedRoot) → trusted_root_in i.root ≡ Ok root → (found : Result BundleType JsonError)
       → bundle_in i.bundle ≡ found → (why : OfflineError)

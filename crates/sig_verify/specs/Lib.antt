@@ -19,4 +19,5 @@ pub mod LongerChains
 pub mod LinkLaws
 pub mod OfflineLaws
 pub mod EntryCauses
+pub mod SctCauses
 pub mod OfflineCauses

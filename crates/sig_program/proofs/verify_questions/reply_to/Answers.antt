@@ -12,7 +12,7 @@ listing_reply-reply-requires c = all-schemes c.schemes.ensures c.args.request.no
 pub returns-in-Ok : goal.returns-in-Ok
 returns-in-Ok c =
     listed-replied c.args.text.now c.args.request.now c.room_beside.result c.listing_reply-reply.result c.requires
-    c.room_beside.ensures c.in-Ok.rows c.one_list.ensures
+    c.room_beside.ensures c.in-Ok.rows c.one_list.ensures c.few.ensures
     c.listing_reply-reply.ensures c.in-Ok.ensures.decided c.in-Ok.ensures.asked
 
 pub returns-in-Err-Link : goal.returns-in-Err-Link

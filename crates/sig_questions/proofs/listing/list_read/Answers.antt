@@ -1,17 +1,31 @@
+use Rattle.std.proofs.Common.{ℤ, sym, subst}
 use Rattle.std.proofs.Math.Facts.{to_z-of_z}
 use Rattle.sig_verify.proofs.OfflineBytes.{inputs}
+use Rattle.sig_verify.specs.Links.{Inputs}
 use Rattle.sig_questions.proofs.Calls.{all_told, front_decided, none_told, texts_listed}
+use Rattle.sig_questions.proofs.Fronts.{front_passed, front_trust}
 use Rattle.sig_questions.proofs.listing.list_read.Goals as goal
 
+pub list_checked-requires-clause-trust : goal.list_checked-requires-clause-trust
+list_checked-requires-clause-trust c =
+    front_trust (inputs c.args.root_text.now _ c.args.digest.now c.args.bundle_text.now) c.args.root.now
+    c.requires.root_read c.in-Ok.ensures
+
+pub list_checked-requires-clause-passed : goal.list_checked-requires-clause-passed
+list_checked-requires-clause-passed c =
+    front_passed (inputs c.args.root_text.now _ c.args.digest.now c.args.bundle_text.now) c.args.bundle.now
+    c.requires.bundle_read c.in-Ok.ensures
+
 pub returns-in-Ok : goal.returns-in-Ok
-returns-in-Ok c = λ root_text bundle_text root_is bundle_is.
-    all_told c.listed_texts.ensures root_text c.args.now _ c.args.digest.now bundle_text c.args.most
-    c.list_checked.result (to_z-of_z c.ranges.now) (c.in-Ok.ensures root_text bundle_text root_is bundle_is)
-    (texts_listed root_text c.args.root.now _ c.args.digest.now bundle_text c.args.bundle.now c.args.most
-    c.list_checked.result root_is bundle_is c.list_checked.ensures)
+returns-in-Ok c =
+    all_told c.listed_texts.ensures c.args.root_text.now c.args.now _ c.args.digest.now c.args.bundle_text.now
+    c.args.most c.list_checked.result (to_z-of_z c.ranges.now) c.in-Ok.ensures
+    (texts_listed c.args.root_text.now c.args.root.now _ c.args.digest.now c.args.bundle_text.now c.args.bundle.now
+    c.args.most c.list_checked.result c.requires.root_read c.requires.bundle_read c.list_checked.ensures)
 
 pub returns-in-Err : goal.returns-in-Err
-returns-in-Err c = λ root_text bundle_text root_is bundle_is.
-    none_told (inputs root_text c.args.now c.args.digest.now bundle_text) c.args.most c.in-Err.error
-    (front_decided root_text c.args.now _ c.args.digest.now bundle_text c.args.most c.in-Err.error
-    (to_z-of_z c.ranges.now) (c.in-Err.ensures root_text bundle_text root_is bundle_is))
+returns-in-Err c =
+    none_told (inputs c.args.root_text.now c.args.now c.args.digest.now c.args.bundle_text.now) c.args.most
+    c.in-Err.error
+    (front_decided c.args.root_text.now c.args.now _ c.args.digest.now c.args.bundle_text.now c.args.most
+    c.in-Err.error (to_z-of_z c.ranges.now) c.in-Err.ensures)

@@ -1,7 +1,7 @@
 use Rattle.std.proofs.Math.Facts.{to_z-of_z}
 use Rattle.sig_verify.proofs.OfflineBytes.{inputs}
 use Rattle.sig_verify.specs.Links.{Inputs}
-use Rattle.sig_questions.proofs.Calls.{at_time, told_asked, told_order, told_places, told_suffice}
+use Rattle.sig_questions.proofs.Calls.{at_time, told_asked, told_few, told_order, told_places, told_suffice}
 use Rattle.sig_questions.specs.Listed.{IsAnswered}
 use Rattle.sig_questions.proofs.listing.questions.Goals as goal
 
@@ -25,6 +25,9 @@ returns-clause-order c = told_order (its c) c.args.most c.list_text.result (answ
 
 pub returns-clause-places : goal.returns-clause-places
 returns-clause-places c = told_places (its c) c.args.most c.list_text.result (answered c)
+
+pub returns-clause-few : goal.returns-clause-few
+returns-clause-few c = told_few (its c) c.args.most c.list_text.result (answered c)
 
 pub returns-clause-decided : goal.returns-clause-decided
 returns-clause-decided c = (answered c).decided

@@ -10,8 +10,9 @@ use std::alloc::Global;
 /// certificate, where that of the request's policy has a copy of what the certificate says for each rule that does not
 /// hold: more than memory has room for, of as many rules and as long a text as a request may have.
 #[derive(Drop)]
-pub(crate) struct BriefPolicy<'a> {
-    pub(crate) policy: &'a RequestPolicy,
+pub struct BriefPolicy<'a> {
+    /// The policy of the request.
+    pub policy: &'a RequestPolicy,
 }
 
 impl VerificationPolicy for BriefPolicy<'_> {
