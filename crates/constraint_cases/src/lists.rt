@@ -145,8 +145,8 @@ pub(crate) fn urls(arguments: &mut Arguments<'_>, answer: &mut Answer) {
     drop(layers);
 }
 
-/// `apply LAYER CONSTRAINTS`: the result of applying constraints, and the layer afterwards. A constraint is one of this
-/// program, or `NAME:TEXT`, a marker of one annotation.
+/// `apply LAYER CONSTRAINTS`: the result of applying constraints, out of memory too, and the layer afterwards. A
+/// constraint is one of this program, or `NAME:TEXT`, a marker of one annotation.
 pub(crate) fn apply(arguments: &mut Arguments<'_>, answer: &mut Answer) {
     let alloc = arguments.alloc();
     let Some(mut layer) = layer(arguments, answer) else {
@@ -198,6 +198,9 @@ fn push_constraint(list: &mut SignConstraintVec, held: Box<dyn Constraint>, answ
 fn show_applied(answer: &mut Answer, verdict: Result<(), SigstoreApplicationConstraintsError>) {
     match verdict {
         Ok(()) => answer.ok(),
-        Err(error) => answer.error(error),
+        Err(error) => {
+            answer.shown(&error);
+            drop(error);
+        }
     }
 }

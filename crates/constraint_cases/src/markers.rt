@@ -6,7 +6,7 @@ use sig_cases::{Answer, Arguments};
 use sig_constraint::{AnnotationMarker, AnnotationVerifier, Constraint, VerificationConstraint};
 
 /// `mark LAYER NAME TEXT NAME TEXT ..`: whether the annotations can be added, the layer's annotations afterwards, and
-/// whether it then has these.
+/// whether it then has these. Out of memory too the layer is shown as it then is.
 pub(crate) fn mark(arguments: &mut Arguments<'_>, answer: &mut Answer) {
     let Some(mut layer) = layer(arguments, answer) else {
         return;
@@ -18,10 +18,13 @@ pub(crate) fn mark(arguments: &mut Arguments<'_>, answer: &mut Answer) {
         Ok(applies) => {
             answer.ok();
             answer.value(&applies);
-            show(alloc, answer, &layer);
         }
-        Err(error) => answer.error(error),
+        Err(error) => {
+            answer.shown(&error);
+            drop(error);
+        }
     }
+    show(alloc, answer, &layer);
     let verifier = AnnotationVerifier {
         annotations: marker.annotations,
     };

@@ -141,7 +141,11 @@ fn show_signature(answer: &mut Answer, signature: &Option<Text>) {
 }
 
 /// A layer: payload, digest, signature, what a log says of it, who signed, and raw data.
-fn show_made(alloc: Global, answer: &mut Answer, made: sig_base::Result<SignatureLayer>) {
+pub(crate) fn show_made(
+    alloc: Global,
+    answer: &mut Answer,
+    made: sig_base::Result<SignatureLayer>,
+) {
     match made {
         Ok(layer) => {
             answer.ok();

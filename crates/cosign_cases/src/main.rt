@@ -4,6 +4,7 @@
 //! the tables of their formats alone.
 #![tactic(auto)]
 
+mod bundles;
 mod keys;
 mod layers;
 mod promises;
@@ -30,6 +31,7 @@ impl Cases for CosignCases {
             "unsigned" => layers::unsigned(arguments, answer),
             "signed" => layers::signed(arguments, answer),
             "layer" => layers::layer(arguments, answer),
+            "bundle" => bundles::bundle(arguments, answer),
             _ => arguments.refuse(),
         }
     }

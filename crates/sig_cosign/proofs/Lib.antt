@@ -1,3 +1,4 @@
+mod BundleLayers
 mod OciLayers
 mod SignedLayers
 mod SignersOf

@@ -5,3 +5,4 @@ pub mod Unsigned
 pub mod Signers
 pub mod OciLayer
 pub mod Seen
+pub mod BundleLayer

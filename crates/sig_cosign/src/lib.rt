@@ -16,6 +16,7 @@
 #![tactic(auto)]
 
 mod bundle_content;
+mod bundle_layer;
 mod oci_layer;
 mod signature_layer;
 mod signers;

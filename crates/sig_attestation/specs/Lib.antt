@@ -1,0 +1,9 @@
+pub mod Attestation
+pub mod Body
+pub mod Borrowed
+pub mod Causes
+pub mod Image
+pub mod LogCauses
+pub mod Logged
+pub mod Material
+pub mod Vouching
