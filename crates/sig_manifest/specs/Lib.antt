@@ -1,0 +1,9 @@
+pub mod Artifact
+pub mod Errors
+pub mod Formula
+pub mod Manifest
+pub mod Policies
+pub mod Read
+pub mod RuleTable
+pub mod Size
+pub mod Unknown

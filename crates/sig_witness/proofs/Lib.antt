@@ -1,0 +1,9 @@
+pub mod Entries
+pub mod Origins
+pub mod Heads
+pub mod UpdateAnswers
+pub mod StateLines
+pub mod StateBack
+pub mod ReadLines
+pub mod StateReads
+pub mod StateWrites
