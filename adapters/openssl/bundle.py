@@ -8,7 +8,7 @@ import subprocess
 import sys
 import time
 
-from checked import MOST_BYTES, REFUSED, SIGVERIFY, answer, compact, reply
+from checked import MOST_BYTES, REFUSED, SIGVERIFY, answer, compact, library, reply
 from start import NO_REPLY, reason, say, shown
 from times import seconds_of
 from words import misused, read_words, utf8, write
@@ -31,8 +31,8 @@ Verifies the Sigstore bundles of artifacts, each under the same policy: all of t
                                   the event, commit, name, repository and reference of the workflow that signed
   --now TIME                      as 2023-12-14T00:00:00Z (RFC 3339), or in seconds since 1970; else by the clock
   --print-request                 write the request, with `accepted`, to standard output, and the reply to standard
-                                  error; for one artifact
-  --sigverify PROGRAM             else that of this repository
+                                  error; of several artifacts a line each
+  --sigverify PROGRAM             else that of this repository, or the installed one
   ARTIFACT                        a regular file; or its digest, as sha256:HEX or sha512:HEX; or - for standard input,
                                   if no file is there that has this name. After -- all are files, also one whose name
                                   begins with -
@@ -65,10 +65,8 @@ def words_of(given):
             misused(f"{name} is missing")
     if not artifacts:
         misused("ARTIFACT is missing")
-    if len(artifacts) > 1:
-        for name in "--bundle", "--print-request":
-            if name in words:
-                misused(f"{name} is a word beside one artifact alone, and not {len(artifacts)}")
+    if len(artifacts) > 1 and "--bundle" in words:
+        misused(f"--bundle is a word beside one artifact alone, and not {len(artifacts)}")
     return words, artifacts
 
 
@@ -140,28 +138,32 @@ def requests_of(words):
 # The runs.
 
 VERIFIED = {0: b"verified [0-9]+ [0-9]+\n", **REFUSED}
-PROGRAM = os.path.join(os.path.dirname(SIGVERIFY), "crates", "sigverify", "out", "sigverify")
+CRATES = os.path.join(os.path.dirname(SIGVERIFY), "crates")
 
 
 def program_of(words):
-    """The program for many runs: the launcher looks once whether the program is up to date, and builds it if not."""
-    if "--sigverify" in words or os.environ.get("SIGVERIFY_BUILD") == "quick":
+    """The program for many runs. In a checkout it is behind a launcher, which looks once whether it is up to date, and
+    builds it if not; where the adapter is installed, it is in the launcher's place."""
+    named = "--sigverify" in words or os.environ.get("SIGVERIFY_BUILD") == "quick" or not os.path.isdir(CRATES)
+    if named or library():
         return words.get("--sigverify", SIGVERIFY)
     built = subprocess.run([SIGVERIFY, "--version"], stdin=subprocess.DEVNULL, stdout=subprocess.DEVNULL)
     if built.returncode != 0:
         sys.exit(f"no reply: {SIGVERIFY} --version ended with status {built.returncode}")
-    return PROGRAM
+    return os.path.join(CRATES, "sigverify", "out", "sigverify")
 
 
-def line_of(program, request, artifact, is_file):
+def line_of(words, program, request, artifact, is_file):
     """The line of one of several artifacts, and its status; of an end without a reply its reason, on standard error."""
     name = os.fsencode(artifact).decode("utf-8", "backslashreplace")
     try:
-        _, line, status = answer(program, "verify", request(artifact, is_file), VERIFIED)
+        answered, line, status = answer(program, "verify", request(artifact, is_file), VERIFIED)
     except SystemExit as error:
         say("sigverify-bundle", f"{name}: {reason(error)}")
         return NO_REPLY
-    write(1, line.rstrip(b"\n") + f" {shown(name)}\n".encode())
+    if "--print-request" in words:
+        write(1, answered + b"\n")
+    write(2 if "--print-request" in words else 1, line.rstrip(b"\n") + f" {shown(name)}\n".encode())
     return status
 
 
@@ -175,4 +177,4 @@ def main(given):
     if len(artifacts) == 1:
         return reply(words, "verify", request(*artifacts[0]), VERIFIED)
     program = program_of(words)
-    return next(filter(None, [line_of(program, request, *each) for each in artifacts]), 0)
+    return next(filter(None, [line_of(words, program, request, *each) for each in artifacts]), 0)

@@ -1,4 +1,6 @@
 """Asks sigverify for the signatures of a request, OpenSSL for the genuine ones, and sigverify for the reply."""
+import functools
+import importlib.util
 import json
 import os
 import re
@@ -18,7 +20,7 @@ Runs a command of sigverify on a request, of which OpenSSL verifies the signatur
 
   COMMAND              %s
   --print-request      write the request, with `accepted`, to standard output, and the reply to standard error
-  --sigverify PROGRAM  else that of this repository
+  --sigverify PROGRAM  else that of this repository, or the installed one
 
 The request is JSON of at most 2^24 bytes, without `accepted`, or with one that does not count.
 
@@ -35,23 +37,47 @@ REPLIES = {command: {0: b"%s [0-9]+ [0-9]+\n%s" % (word, OF_ENTRIES), **REFUSED}
 REPLIES["audit"] = {0: b"audited [0-9]+ [0-9]+ [0-9]+\n%s" % OF_ENTRIES, **REFUSED_AT}
 
 
+def help_text():
+    return HELP % ", ".join(REPLIES)
+
+
 def compact(value):
     """JSON in the fewest bytes, as sigverify writes its lists."""
     return json.dumps(value, ensure_ascii=False, separators=(",", ":")).encode()
 
 
+@functools.lru_cache(maxsize=None)
+def library():
+    """adapters/python/sigverify.py, if its library is there and up to date; else None."""
+    path = os.path.join(os.path.dirname(SIGVERIFY), "adapters", "python", "sigverify.py")
+    if not os.path.isfile(path):
+        return None
+    spec = importlib.util.spec_from_file_location("sigverify", path)
+    module = importlib.util.module_from_spec(spec)
+    spec.loader.exec_module(module)
+    return module if module.is_current() else None
+
+
+def ended(program, words, request):
+    """How a program ended, and what it wrote. In the place of this repository's own the library is called, if it is there."""
+    try:
+        if program == SIGVERIFY and library():
+            return library().reply(words, request)
+        done = subprocess.run([program, *words], input=request, stdout=subprocess.PIPE)
+    except OSError as error:
+        sys.exit(f"no reply: {program}: {error.strerror or error}")
+    return done.returncode, done.stdout
+
+
 def run(program, words, request, replies):
     """The program's reply, and its status. Whatever else the program does is no reply."""
     title = " ".join([program, *words])
-    try:
-        done = subprocess.run([program, *words], input=request, stdout=subprocess.PIPE)
-    except OSError as error:
-        sys.exit(f"no reply: {program}: {error.strerror}")
-    if done.returncode not in replies:
-        sys.exit(f"no reply: {title} ended with status {done.returncode}")
-    if not re.fullmatch(replies[done.returncode], done.stdout):
-        sys.exit(f"no reply: what {title} wrote is none of status {done.returncode}")
-    return done.stdout, done.returncode
+    status, said = ended(program, words, request)
+    if status not in replies:
+        sys.exit(f"no reply: {title} ended with status {status}")
+    if not re.fullmatch(replies[status], said):
+        sys.exit(f"no reply: what {title} wrote is none of status {status}")
+    return said, status
 
 
 def genuine_of(command, listed):
@@ -97,7 +123,7 @@ def given_request():
 def main(given):
     """The status of the reply to the request of standard input."""
     if given in (["--help"], ["-h"]):
-        write(1, (HELP % ", ".join(REPLIES)).encode())
+        write(1, help_text().encode())
         return 0
     words, unnamed = read_words(given, {"--sigverify": "--sigverify"})
     if "--staging" in words:

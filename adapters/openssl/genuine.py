@@ -6,6 +6,7 @@ anybody can sign: RSA of few bits or with an exponent that RFC 8017 does not all
 """
 import base64
 import collections
+import functools
 import sys
 
 try:
@@ -102,13 +103,22 @@ def kind_of(key):
     return None
 
 
+# The SubjectPublicKeyInfo of an uncompressed point of P-256, RFC 5480 section 2, up to the point.
+P256_HEAD = bytes.fromhex("3059301306072a8648ce3d020106082a8648ce3d030107034200")
+MOST_KEYS = 256  # that are kept: those of authorities and logs are those of many requests, and to read one takes a millisecond
+
+
+@functools.lru_cache(MOST_KEYS)
 def spki_key(spki):
+    if len(spki) == len(P256_HEAD) + 65 and spki.startswith(P256_HEAD):
+        return point_key(spki[len(P256_HEAD):])
     key = load_der_public_key(spki)
     if key.public_bytes(Encoding.DER, PublicFormat.SubjectPublicKeyInfo) != spki:
         raise ValueError("bytes that the library passes over")
     return key
 
 
+@functools.lru_cache(MOST_KEYS)
 def point_key(point):
     if point[:1] != b"\x04":
         raise ValueError("no uncompressed point")

@@ -3,7 +3,7 @@
 
     signed_audit.py FOLDER    writes audit.json: a week of checkpoints of one log, with a new key
 
-The log, its heads and its proofs are those of tools/audit_requests.py. One signature can be spoiled.
+The log, its heads and its proofs are those of tools/audit_requests.py. One signature can be spoiled, or the log signs one head of another list.
 """
 import json
 import os
@@ -23,13 +23,14 @@ def signature(signer, note, by):
     return signed.flipped(made) if by == "flip" else made
 
 
-def audit(signer, spoiled=None, by="log", sizes=(2, 5, 5, 9), entries=ENTRIES):
-    """An audit of a log whose heads are signed, one of them otherwise; and the rows that are genuine."""
+def audit(signer, spoiled=None, by="log", sizes=(2, 5, 5, 9), entries=ENTRIES, rewritten=None):
+    """An audit of a log whose heads are signed, one of them otherwise, or one with the root of another list; and the rows that are genuine."""
     heads, rows = [], []
     for place, size in enumerate(sizes):
-        note = audit_requests.note(size, audit_requests.root_of(entries[:size])).encode()
+        root = audit_requests.OTHER_ROOT if place == rewritten else audit_requests.root_of(entries[:size])
+        note = audit_requests.note(size, root).encode()
         raw = signature(signer, note, by if place == spoiled else "log")
-        heads.append(audit_requests.head(entries[:size], sizes[place - 1] if place else None, signatures=(raw,)))
+        heads.append(audit_requests.head(entries[:size], sizes[place - 1] if place else None, root=root, signatures=(raw,)))
         if place != spoiled:
             rows.append(signed.fixture.row("message", signer.scheme, signer.spki, note, raw))
     watched = [audit_requests.watch(1, 4, entries[: sizes[1]])]

@@ -59,7 +59,10 @@ def audits():
                 claimed = {**request, "accepted": signed_audit.claimed(request, signer)}
                 yield "audit", request, 1, f"refused note-key {place}\n"
                 yield "audit", claimed, 1, f"refused note-key {place}\n"
+    for place, first in enumerate((1, 1, 2, 3)):
+        yield "audit", signed_audit.audit(signed.signer("P-256", "log"), rewritten=place)[0], 1, f"refused consistency {first}\n"
     request, _ = signed_audit.audit(signed.signer("P-256", "log"))
+    yield "audit", {**request, "watched": request["watched"] + [{**request["watched"][0], "index": 3}]}, 1, "refused inclusion 1\n"
     yield "audit", {**request, "entries": []}, 0, "audited 4 1 9\nother list\n"
     yield "audit", {**request, "heads": request["heads"] + [{"checkpoint": ""}]}, 1, "refused checkpoint 4\n"
     yield "audit", {**request, "heads": []}, 2, "refused request\n"

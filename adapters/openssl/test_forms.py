@@ -2,6 +2,7 @@
 words of cosign, and the protocol of sigstore-conformance."""
 import itertools
 import os
+import subprocess
 import tempfile
 
 import signed
@@ -117,11 +118,23 @@ def check_several(results, program):
         results.compare("one absent, after it", gave, (1, wanted, 1, True))
         status, lines, said = run([*given, "a", "c d", "b"], cwd=folder)
         results.compare("one absent, before it", (status, lines), (3, f"{VERIFIED} a\nrefused subject b\n"))
-        for word in "--print-request", "--bundle=a.sigstore.json":
-            compare_end(results, word, [*given, word, "a", "b"], "one artifact alone", cwd=folder)
+        word = "--bundle=a.sigstore.json"
+        compare_end(results, word, [*given, word, "a", "b"], "one artifact alone", cwd=folder)
+        check_printed(results, program, [*given, "--print-request", "a", "c d", "b", "e\nf"], folder)
         status, lines, said = run([*given, "a", "sha256:" + "0" * 64], cwd=folder)
         gave = status, lines, "--bundle is missing" in said
         results.compare("a digest among them", gave, (3, f"{VERIFIED} a\n", True))
+
+
+def check_printed(results, program, words, folder):
+    """Of several artifacts the requests, a line each, and beside them the replies; none of one without a reply."""
+    status, requests, lines = run(words, cwd=folder)
+    said = [line for line in lines.splitlines() if not line.startswith("sigverify-bundle: c d: ")]
+    results.compare("the replies beside requests", (status, said, lines.count("\n")),
+                    (3, [f"{VERIFIED} a", "refused subject b", f"{VERIFIED} e\\nf"], 4))
+    again = [subprocess.run([program, "verify"], input=line.encode(), capture_output=True).stdout.decode()
+             for line in requests.splitlines()]
+    results.compare("the requests", again, [VERIFIED + "\n", "refused subject\n", VERIFIED + "\n"])
 
 
 def check_protocol(results, program):

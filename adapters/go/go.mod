@@ -1,0 +1,3 @@
+module sigverify
+
+go 1.19

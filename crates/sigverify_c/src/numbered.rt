@@ -1,0 +1,64 @@
+//! The commands by their numbers.
+ghost use Rattle.std.specs.Prelude.{◌≡◌, IfOk, MatchOption};
+ghost use Rattle.sig_program.specs.Reply.{IsReply};
+ghost use Rattle.sigverify_c.specs.Number.{IsNumber, command_of, number_of};
+
+use sig_audit_command::{audit_questions, audit_reply};
+use sig_base::OutOfMemory;
+use sig_program::consistency::consistency_reply;
+use sig_program::consistency_questions::consistency_questions;
+use sig_program::log::log_reply;
+use sig_program::log_questions::log_questions;
+use sig_program::verify::verify_reply;
+use sig_program::verify_questions::verify_questions;
+use sig_reply::Reply;
+use std::alloc::Global;
+
+/// A command that has a number.
+#[derive(Clone, Copy)]
+pub enum Numbered {
+    Log,
+    Verify,
+    Consistency,
+    Audit,
+    LogQuestions,
+    VerifyQuestions,
+    ConsistencyQuestions,
+    AuditQuestions,
+}
+
+impl Numbered {
+    /// Returns the command of the number; `None` if and only if no command has it. It takes no memory.
+    #[tactic(auto, using(crate::proofs::Numbers::numbers))]
+    pub fn of(number: u32) -> Option<Numbered>
+        ensures { MatchOption result (¬ IsNumber number) (λ its. number ≡ number_of (command_of its)) }
+    {
+        match number {
+            1 => Some(Numbered::Log),
+            2 => Some(Numbered::Verify),
+            3 => Some(Numbered::Consistency),
+            4 => Some(Numbered::Audit),
+            257 => Some(Numbered::LogQuestions),
+            258 => Some(Numbered::VerifyQuestions),
+            259 => Some(Numbered::ConsistencyQuestions),
+            260 => Some(Numbered::AuditQuestions),
+            _ => None,
+        }
+    }
+
+    /// Returns the command's reply to a request. Fails only if out of memory.
+    pub fn reply(self, alloc: Global, request: &[u8]) -> Result<Reply, OutOfMemory>
+        ensures { IfOk result (IsReply (command_of self) request.now) }
+    {
+        match self {
+            Numbered::Log => log_reply(alloc, request),
+            Numbered::Verify => verify_reply(alloc, request),
+            Numbered::Consistency => consistency_reply(alloc, request),
+            Numbered::Audit => audit_reply(alloc, request),
+            Numbered::LogQuestions => log_questions(alloc, request),
+            Numbered::VerifyQuestions => verify_questions(alloc, request),
+            Numbered::ConsistencyQuestions => consistency_questions(alloc, request),
+            Numbered::AuditQuestions => audit_questions(alloc, request),
+        }
+    }
+}
