@@ -150,7 +150,7 @@ def megabytes(words, path, status=0):
 def below(crate):
     """The crates of this repository that a crate is built of, itself included."""
     lines = (TOP / "crates.txt").read_text().splitlines()
-    on = {line.split(":")[0]: line.split(":")[1].split() for line in lines if ":" in line and line[0] != "#"}
+    on = {line.split(":")[0].split()[0]: line.split(":")[1].split() for line in lines if ":" in line and line[0] != "#"}
     found = [crate]
     for name in found:
         found += [other for other in on[name] if other in on and other not in found]

@@ -8,24 +8,16 @@ import own_entries
 import roots
 import shapes
 import signed
+from bundles_at_once import bundles_at_once
+from goals import (
+    MOST_TO_PLAIN, MOST_TO_PLAIN_SMALL, MOST_DOUBLED, MOST_TO_READING_AND_HASHING, MOST_OF_HEADS, MOST_BEYOND_START,
+    MOST_OF_DEMO, MOST_MEGABYTES, MOST_MEGABYTES_OF_STATEMENT, MOST_SECONDS, MOST_SECONDS_OF_A_MILLION,
+    MOST_TO_HASHING, MOST_MEGABYTES_OF_ARTIFACT, MOST_OF_TWICE_AS_MANY, MOST_TO_HASHES,
+)
+from layers import images
+from library import library
 from measure import megabytes, written
 from shapes import filled
-
-MOST_TO_PLAIN = 1.2  # the time over a request, to the plain program's
-MOST_TO_PLAIN_SMALL = 1  # the same where the request has at most 2^16 bytes
-MOST_DOUBLED = 2.3  # the time over an input, to that over one of half the size
-MOST_TO_READING_AND_HASHING = 1.3  # the time over a log's own entries, to that of reading and of hashing them
-MOST_OF_HEADS = 1.5  # the time of the roots of a list's beginnings, one for each of 256 heads, to that of hashing the list
-MOST_BEYOND_START = 1.0  # the milliseconds that a small request takes beyond those of a process that reads none
-MOST_OF_DEMO = 50  # the milliseconds of `demo` of the most entries
-MOST_MEGABYTES = 500  # the peak memory over an input of 2^24 bytes
-MOST_MEGABYTES_OF_STATEMENT = 700  # the same over a payload of which a statement's parts are copied
-MOST_SECONDS = 3  # the time over an input of 2^24 bytes
-MOST_SECONDS_OF_A_MILLION = 0.1  # the time over a request of a million bytes, beyond that of a process that reads none
-MOST_TO_HASHING = 1.1  # the time over an artifact, to that of hashing it alone
-MOST_MEGABYTES_OF_ARTIFACT = 20  # the peak memory over an artifact, however long
-MOST_OF_TWICE_AS_MANY = 4.6  # the time over a pool, to that over one of half as many certificates of each kind
-MOST_TO_HASHES = 1.05  # the time of a check of inclusion, to that of its hashes alone
 
 # Requests of `log` by the reply that they have; each is made at half of the largest size, and at the whole.
 LOG_REQUESTS = {
@@ -136,12 +128,6 @@ def verify(bench):
             bench.goal(f"verify, {name}, time to that at half", took / first, MOST_DOUBLED)
         return took * 1000
 
-    def of_a_million(text, reply):
-        """Time beyond the start over a request of so few bytes."""
-        path, status = bench.kept(text), status_of(reply)
-        measure.expect(command, path, written(command, path, status), reply)
-        return bench.seconds(path, command, status=status, slow=True)[0] - start
-
     for name, text in (("examples/verify.json", signed.example()), ("a payload of 10 KB", chains.small(10000))):
         bench.goal(f"verify, {name}, ms beyond the start", row(name, text, "verified 2 5"), MOST_BEYOND_START)
     for name, make, most in chains.COUNTED:
@@ -149,12 +135,22 @@ def verify(bench):
     for reply, kinds in chains.REQUESTS.items():
         for name, make in kinds:
             row(name, filled(make, bench.most), reply, filled(make, bench.most // 2))
-    million = [(name, filled(make, 10**6), reply) for reply, kinds in chains.REQUESTS.items() for name, make in kinds]
-    took, place = max((of_a_million(*each[1:]), place) for place, each in enumerate(million))
-    name, text, reply = million[place]
-    table.row(f"the slowest of a million bytes: {name}", reply, len(text), took * 1000, None, None)
-    bench.goal(f"verify, {name}, a million bytes, seconds", took, MOST_SECONDS_OF_A_MILLION)
+    slowest_of_a_million(bench, table, command, start)
     row("too long, refused", signed.example() + b" " * 2**25, "refused request")
+
+
+def slowest_of_a_million(bench, table, command, start):
+    """The row of the request of a million bytes that takes longest beyond the start."""
+    def took(text, reply):
+        path, status = bench.kept(text), status_of(reply)
+        measure.expect(command, path, written(command, path, status), reply)
+        return bench.seconds(path, command, status=status, slow=True)[0] - start
+
+    million = [(name, filled(make, 10**6), reply) for reply, kinds in chains.REQUESTS.items() for name, make in kinds]
+    slowest, place = max((took(*each[1:]), place) for place, each in enumerate(million))
+    name, text, reply = million[place]
+    table.row(f"the slowest of a million bytes: {name}", reply, len(text), slowest * 1000, None, None)
+    bench.goal(f"verify, {name}, a million bytes, seconds", slowest, MOST_SECONDS_OF_A_MILLION)
 
 
 def questions(bench):
@@ -475,6 +471,6 @@ def walks(bench):
     bench.goal("check of inclusion, time to its hashes", took[0] / took[2], MOST_TO_HASHES)
 
 
-OF_PROGRAM = (log, entries, audits, audit_lists, demo, verify, questions)  # those that measure sigverify
-OF_READERS = (entries, certificates, documents, bundles, statements, artifacts, pools, walks)  # those that run sig_bench
+OF_PROGRAM = (log, entries, audits, audit_lists, demo, verify, questions, bundles_at_once, library)  # those that measure sigverify
+OF_READERS = (entries, certificates, documents, bundles, statements, images, artifacts, pools, walks)  # those that run sig_bench
 TABLES = {table.__name__: table for table in (*OF_PROGRAM, *OF_READERS)}

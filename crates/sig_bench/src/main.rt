@@ -9,6 +9,9 @@
 //!   digests were taken;
 //! - `hash N` hashes N zero bytes, and prints the first byte of SHA-256; `artifact N` reads a bundle, verifies it of an
 //!   artifact of N zero bytes, where nothing is trusted, and prints 0;
+//! - `payload`, `signature` and `promise` read what `cosign` stores beside an image as the payload of a layer, as its
+//!   signature, or as what a log promised of it, under a checker that accepts every signature, ask whether a key signed
+//!   the layer, and print 0, or 1 if the input is refused;
 //! - `pool N` reads a leaf, N trust anchors and N intermediates, asks a pool for the leaf's issuer, where no signature is
 //!   genuine, and prints how many questions its checker was asked;
 //! - `walk N` and `recursion N` check a leaf of a tree of 2^63 leaves N times, and print how often it was accepted;
@@ -17,10 +20,12 @@
 //! It promises nothing.
 #![tactic(auto)]
 
+mod accepting;
 mod artifact;
 mod bundle;
 mod certificate;
 mod document;
+mod layer;
 mod merkle;
 mod pool;
 mod statement;
@@ -48,6 +53,9 @@ fn main(rt: HostRuntime) -> Result<()> {
         "digests" => statement::digests_alone(alloc, input.as_slice()),
         "hash" => Some(artifact::hashed(number(words.next())?)),
         "artifact" => artifact::verified(alloc, input.as_slice(), number(words.next())?),
+        "payload" => layer::of_payload(alloc, input.as_slice()),
+        "signature" => layer::of_signature(alloc, input.as_slice()),
+        "promise" => layer::of_promise(alloc, input.as_slice()),
         "pool" => pool::questions(alloc, input.as_slice(), number(words.next())?),
         "walk" => merkle::walked(number(words.next())?),
         "recursion" => merkle::recursed(number(words.next())?),

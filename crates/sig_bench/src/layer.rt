@@ -1,0 +1,126 @@
+//! What `cosign` stores beside an image, read as a layer.
+
+use crate::accepting::Accepting;
+use sig_base::{Bytes, SigningScheme, SigstoreError, Text, TextMap, sha256};
+use sig_cosign::{ImageLayer, OciDescriptor, SignatureLayer};
+use sig_key::{CosignVerificationKey, VerificationKeys};
+use std::alloc::Global;
+
+/// The media type of a payload that `cosign` signed.
+const SIGNING_TYPE: &str = "application/vnd.dev.cosign.simplesigning.v1+json";
+
+/// The digest of the manifest that a payload has to name, and the id of the only log whose key is known.
+const MANIFEST: &str = "sha256:00";
+
+const LOG: &str = "log";
+
+/// What is asked of a layer is so.
+const DONE: u64 = 0;
+
+/// What was read is refused.
+const REFUSED: u64 = 1;
+
+/// Reads these bytes as the payload of a layer. Returns 0 if there is one, and 1 if it is refused; `None` if out of
+/// memory.
+pub fn of_payload(alloc: Global, payload: &[u8]) -> Option<u64> {
+    made(alloc, payload, "c2ln", None)
+}
+
+/// Takes this text as the signature of a layer, and asks whether a key signed it. Returns 0 if it did, and 1 if not;
+/// `None` if out of memory or the bytes are no text.
+pub fn of_signature(alloc: Global, signature: &[u8]) -> Option<u64> {
+    let unsigned = SignatureLayer::new_unsigned(alloc, "image", MANIFEST).ok()?;
+    made(
+        alloc,
+        unsigned.raw_data.as_slice(),
+        text_of(signature)?,
+        None,
+    )
+}
+
+/// Reads this text as what a log promised of a layer. Returns 0 if the log signed it, and 1 if it is refused; `None` if
+/// out of memory or the bytes are no text.
+pub fn of_promise(alloc: Global, promise: &[u8]) -> Option<u64> {
+    let unsigned = SignatureLayer::new_unsigned(alloc, "image", MANIFEST).ok()?;
+    made(
+        alloc,
+        unsigned.raw_data.as_slice(),
+        "c2ln",
+        Some(text_of(promise)?),
+    )
+}
+
+fn text_of(bytes: &[u8]) -> Option<&str> {
+    std::str::from_utf8(bytes).ok()
+}
+
+/// Makes the layer of these bytes and annotations, and asks whether a key signed it.
+fn made(alloc: Global, payload: &[u8], signature: &str, promise: Option<&str>) -> Option<u64> {
+    let descriptor = descriptor(alloc, payload, signature, promise)?;
+    let fetched = ImageLayer {
+        media_type: Text::copy_of(alloc, SIGNING_TYPE).ok()?,
+        bytes: Bytes::copy_of(alloc, payload).ok()?,
+    };
+    let keys = keys(alloc)?;
+    let made = SignatureLayer::new(
+        alloc,
+        &descriptor,
+        &fetched,
+        MANIFEST,
+        Some(&keys),
+        None,
+        0,
+        &Accepting,
+    );
+    match made {
+        Ok(layer) => signed(alloc, &layer),
+        Err(SigstoreError::OutOfMemory) => None,
+        Err(_) => Some(REFUSED),
+    }
+}
+
+/// Whether the key signed the layer, as a number.
+fn signed(alloc: Global, layer: &SignatureLayer) -> Option<u64> {
+    match layer.is_signed_by_key(alloc, &key(alloc)?, &Accepting) {
+        Ok(true) => Some(DONE),
+        Ok(false) => Some(REFUSED),
+        Err(_) => None,
+    }
+}
+
+/// The descriptor of these bytes with these annotations.
+fn descriptor(
+    alloc: Global,
+    payload: &[u8],
+    signature: &str,
+    promise: Option<&str>,
+) -> Option<OciDescriptor> {
+    let mut annotations = TextMap::new(alloc);
+    annotations
+        .insert("dev.cosignproject.cosign/signature", signature)
+        .ok()?;
+    if let Some(promise) = promise {
+        annotations
+            .insert("dev.sigstore.cosign/bundle", promise)
+            .ok()?;
+    }
+    let digits = hex::encode(alloc, &sha256(payload)).ok()?;
+    Some(OciDescriptor {
+        media_type: Text::copy_of(alloc, SIGNING_TYPE).ok()?,
+        digest: Text::from(format!(in alloc; "sha256:{digits}").ok()?),
+        annotations,
+        certificate_der: None,
+    })
+}
+
+/// A key of which nothing is checked.
+fn key(alloc: Global) -> Option<CosignVerificationKey> {
+    CosignVerificationKey::from_der(alloc, b"key", &SigningScheme::default()).ok()
+}
+
+/// That key as the log's.
+fn keys(alloc: Global) -> Option<VerificationKeys> {
+    let mut keys = VerificationKeys::new(alloc);
+    keys.insert(LOG, key(alloc)?).ok()?;
+    Some(keys)
+}
