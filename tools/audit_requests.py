@@ -23,6 +23,7 @@ sys.path.insert(0, str(TOP / "tools"))
 import consistency_cases as trees
 import log_requests as log
 from base_cases import audit_path, inclusion
+from consistency_requests import deeper
 
 MOST_HEADS, MOST_WATCHES, MOST = 256, 4096, 2**64
 ORIGIN, NAME, SIGNATURE = "log.example", "log.example", b"sig"
@@ -281,6 +282,35 @@ def members():
     yield text + "{}"
 
 
+def nesting():
+    """Lists and objects nest to 127, in a member of the request and in one of a head and of a watched entry."""
+    whole = request(HEADS, WATCHED, ENTRIES)
+    text = json.dumps(whole, separators=(",", ":"))
+    for depth in (126, 127, 128):
+        yield deeper(text, depth)
+        for name in ("heads", "watched"):
+            first = json.dumps(whole[name][0], separators=(",", ":"))
+            yield text.replace(first, deeper(first, depth - 2))
+
+
+def largest():
+    """Heads about 2^63 and of 2^64 - 1 entries, by a made-up proof, and an entry watched at the end of the last."""
+    first, digest = trees.leaf_hash(b"L"), bytes([1] * 32)
+    for old, new in ((2 ** 63 - 1, 2 ** 63), (2 ** 63, 2 ** 63 + 1), (2 ** 64 - 2, 2 ** 64 - 1)):
+        path = [digest] * trees.proof_len(old, new)
+        old_root, root = trees.walk(old, new, path, first)
+        heads = [head((), size=old, root=old_root), head((), size=new, root=root) | {"hashes": [each.hex() for each in path]}]
+        yield request(heads)
+        yield request(heads[::-1])
+        yield request(heads, entries=())
+        for hashes in ([], heads[1]["hashes"][1:], [*heads[1]["hashes"], digest.hex()]):
+            yield request([heads[0], heads[1] | {"hashes": hashes}])
+        for index in (new - 1, new, 2 ** 64 - 1, 2 ** 64):
+            yield request(heads, [{"head": 1, "index": index, "hashes": heads[1]["hashes"], "entry": "TA=="}])
+    yield request([head((), size=2 ** 64)])
+    yield request([head((), size=2 ** 64 - 1), head((), size=2 ** 64 - 1)], [ONE])
+
+
 def limits():
     """From 1 to 256 heads, and watched entries under them."""
     yield request([], accepted=[])
@@ -343,7 +373,8 @@ def sweep():
 
 
 GROUPS = {"an empty head and one of one entry": first_rows, "each link as the first that fails": links,
-          "members of another kind, out of range, absent, doubled, null": members, "from 1 to 256 heads, and hundreds of watched entries": limits,
+          "members of another kind, out of range, absent, doubled, null": members, "lists and objects nest to 127": nesting,
+          "the largest logs": largest, "from 1 to 256 heads, and hundreds of watched entries": limits,
           "logs of several sizes: a head forged, a proof changed, a watch moved, other lists": logs}
 
 

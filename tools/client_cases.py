@@ -242,10 +242,16 @@ def claims():
         token(of_claims(whole.replace("{", '{"a":%s%s,' % ("[" * depth, "]" * depth), 1)))
     for value in ("", "x", "\u00fc@\u20ac", '"', "\\", "\n", "a" * 300):
         token(of_claims(changed(email=value)))
+
+
+def claims_of_two_faults():
     say("Two rules broken at once: the first is named.")
     for text in ("h.%", "h.%.s.t", "%s.x" % of_claims(changed(aud=1)), "h.%.s", "h.%s=.s" % base64_of(b"x").rstrip("="), of_claims(b"x"), of_claims(changed(aud="x", exp="1")),
                  of_claims(changed(aud="x", nbf="1")), of_claims({"aud": "x"}), of_claims(changed(aud="x", email=1)), of_claims(changed(aud=["sigstore"]))):
         token(text)
+
+
+def periods():
     say("period NOW TEXT: without a start, and of starts and expirations at the ends of the numbers and in the wrong order.")
     for now in I64[1:6]:
         period(now, without("nbf"))
@@ -384,5 +390,7 @@ if __name__ == "__main__":
     configs()
     parts()
     claims()
+    claims_of_two_faults()
+    periods()
     conversions()
     TABLE.write()

@@ -140,6 +140,31 @@ def members():
     yield text + "{}"
 
 
+def deeper(text, depth):
+    """The text of an object with one member more, by which the text nests so deep."""
+    return f'{text[:-1]},"other":{"[" * (depth - 1)}{"]" * (depth - 1)}}}'
+
+
+def nesting():
+    """Lists and objects nest to 127, with and without the log's entries."""
+    for handed in (None, ENTRIES):
+        text = json.dumps(request(3, ENTRIES, handed), separators=(",", ":"))
+        for depth in (126, 127, 128):
+            yield deeper(text, depth)
+
+
+def largest():
+    """Logs about 2^63 and of 2^64 - 1 entries, by a made-up proof; with a hash less and one more, and of other sizes."""
+    first, digest = trees.leaf_hash(b""), bytes([1] * 32)
+    for old, new in ((2 ** 63 - 1, 2 ** 63), (2 ** 63, 2 ** 63 + 1), (1, 2 ** 63), (2 ** 63 + 1, 2 ** 64 - 1), (2 ** 64 - 2, 2 ** 64 - 1)):
+        path = [digest] * trees.proof_len(old, new)
+        old_root, root = trees.walk(old, new, path, first)
+        made = {"oldSize": old, "oldRoot": old_root.hex(), "hashes": [each.hex() for each in path], **head(new, root)}
+        for changes in ({}, {"hashes": []}, {"hashes": made["hashes"][1:]}, {"hashes": [*made["hashes"], digest.hex()]}, {"oldSize": old - 1},
+                        {"oldSize": new}, {"oldSize": str(old)}, {"treeSize": 2 ** 64}, {"oldRoot": digest.hex()}, {"entries": []}):
+            yield {**made, **changes}
+
+
 def lists():
     """The log's own entries: what is a list of base64 and what is none, and links that fail before the list is looked at."""
     for old, oldRoot in ((1, ROOT), (0, trees.EMPTY.hex())):
@@ -221,6 +246,7 @@ def check(program):
 
 
 GROUPS = {"each link that fails, and what holds": links, "members of another kind, out of range, absent, doubled, null": members,
+          "lists and objects nest to 127": nesting, "the largest logs": largest,
           "the log's own entries: the list, other lists, what is no list of base64": lists, "logs of several sizes and their entries": sizes}
 
 

@@ -324,7 +324,7 @@ def certificate(layer, certified, required=False, rows=None):
 
 def certificates():
     say("certificate LAYER DER REQUIRED CHAIN NOW ROWS: whether the layer is signed by the certificate's key, and a log took it while that was valid.")
-    for now in (FIRST - 1, FIRST, LAST, LAST + 1, 2**62):
+    for now in (FIRST - 1, FIRST, LAST, LAST + 1, -2**63, -1, 0, 2**63 - 1):
         certificate(Layer(), Certified(chain=None, now=now))
     for bundle, required in itertools.product((None, *("%s:%d" % (kind, time) for kind in ("rekor", "sigstore") for time in
                                                        (-2**63, -1, 0, FIRST - 1, FIRST, LAST, LAST + 1, 2**63 - 1))), (False, True)):
@@ -337,7 +337,7 @@ def certificates():
     for chain in ((ANCHOR,), (OTHER, ANCHOR), (ANCHOR, OTHER), (OTHER,), (), (b"x",), (ANCHOR, b""), (BOUND,), (ANCHOR, BOUND, b"x"), (OTHER,) * 300 + (ANCHOR,)):
         certificate(Layer(), Certified(chain=chain))
     certificate(Layer(), Certified(), rows=[message_row(fixture.key(2))])
-    for now in (FIRST - 1, FIRST, LAST, LAST + 1):
+    for now in (FIRST - 1, FIRST, LAST, LAST + 1, -2**63, 0, 2**63 - 1):
         certificate(Layer(), Certified(now=now))
     say("Each refusal as the first, and each two at once.")
     breaks = (("bytes", {}), ("usage", {}), ("purposes", {}), ("names", {}), ("now", {"now": FIRST - 1}), ("anchor", {"chain": (b"x",)}), ("twice", {}),
@@ -349,6 +349,8 @@ def certificates():
 
 
 # ---- markers
+
+LEFT = {}  # by the call that changes a layer, the lines that it may have out of memory: the layer is as it was, or as the constraints before left it
 
 
 def marked(beside, asked):
@@ -364,8 +366,9 @@ def mark(optional, asked):
     beside = layer.beside()
     given = marked(beside, asked)
     after = beside if given is None else given
-    TABLE.case(" ".join(["mark", *layer.words(), *pairs_of(asked)]),
-               " ".join(["ok", truth(given is not None), *beside_words(after), "-", truth(has(after, asked))]))
+    call = " ".join(["mark", *layer.words(), *pairs_of(asked)])
+    TABLE.case(call, " ".join(["ok", truth(given is not None), *beside_words(after), "-", truth(has(after, asked))]))
+    LEFT[call] = [" ".join(["OutOfMemory", *beside_words(beside), "-", truth(has(beside, asked))])]
 
 
 def markers():
@@ -415,8 +418,13 @@ def lists():
     verify((), ["always"] * 300)
 
 
+def layer_words(beside, signature):
+    return " ".join([*beside_words(beside), "-" if signature is None else debug(signature)])
+
+
 def apply(layer, constraints):
     beside, signature, missing = layer.beside(), layer.signature, []
+    left = [layer_words(beside, signature)]
     for index, each in enumerate(constraints):
         name, colon, text = each.partition(":")
         if colon:
@@ -430,8 +438,10 @@ def apply(layer, constraints):
             applies = each == "always"
         if not applies:
             missing.append(index)
-    words = ["Unapplied(%s)" % missing if missing else "ok", *beside_words(beside), "-" if signature is None else debug(signature)]
-    TABLE.case(" ".join(["apply", *layer.words(), ",".join(constraints) or "-"]), " ".join(words))
+        left.append(layer_words(beside, signature))
+    call = " ".join(["apply", *layer.words(), ",".join(constraints) or "-"])
+    TABLE.case(call, " ".join(["Unapplied(%s)" % missing if missing else "ok", left[-1]]))
+    LEFT[call] = ["OutOfMemory " + each for each in dict.fromkeys(left)]
 
 
 def applied():

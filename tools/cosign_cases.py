@@ -13,6 +13,7 @@ from types import SimpleNamespace
 
 sys.dont_write_bytecode = True
 
+import cosign_bundle_rows
 import cosign_layer_rows
 import fixture
 import json_documents as documents
@@ -324,6 +325,10 @@ def promises():
         found = tree(**{name: value})
         promise(compact(found), KEYS, signed(found) if abs(value) < 2**53 else rows)
         promise(compact(tree(**{name: str(value)})), KEYS, rows)
+
+
+def signatures_and_bodies():
+    rows = signed(tree())
     say("Signatures: strict base64, or strict without its line ends; the empty one is a signature of no bytes.")
     for signature in (SET[:4] + "\n" + SET[4:], SET[:4] + "\r\n" + SET[4:] + "\n", SET.rstrip("="), SET + "=", SET + " ", " " + SET, "c2ln", "", "\n", "c2l", "c2lo====", "_-A="):
         promise(compact(tree(signature)), KEYS, rows)
@@ -332,6 +337,10 @@ def promises():
     for body in ("", "x", '"', "\\", "\n\t\b\f\r\u0001\u007f", "\u00e9\U0001f600", "{}", "Ym9keQ"):
         found = tree(body=body)
         promise(compact(found), KEYS, signed(found))
+
+
+def members_of_promises():
+    rows = signed(tree())
     say("Each member absent, and of each other kind; members that are ignored; doubled ones; other orders and escapes; no object.")
     for path in (("SignedEntryTimestamp",), ("Payload",), ("Payload", "body"), ("Payload", "integratedTime"), ("Payload", "logIndex"), ("Payload", "logID")):
         for value in ("absent", *OTHERS):
@@ -348,6 +357,13 @@ def promises():
                     '{"SignedEntryTimestamp":"%s","Payload":%s,"x":1}}' % (SET, inner), compact({**tree(), "Payload": {**tree()["Payload"], "more": {}}}),
                     '{"signedEntryTimestamp":"%s","payload":%s}' % (SET, inner), "", "x", "null", "[]", '"x"', "1", "\ufeff{}"):
         promise(content, KEYS, rows)
+    say("Members that are ignored and nest to 127 or one more, beside the payload and in it.")
+    for depth, place in itertools.product((126, 127), (tree(), tree()["Payload"])):
+        nested = compact(place)[:-1] + ',"a":%s%s}' % ("[" * (depth - ("body" in place)), "]" * (depth - ("body" in place)))
+        promise(compact(tree()).replace(compact(place), nested), KEYS, rows)
+
+
+def hundreds_of_promises():
     say("Three hundred keys, accepted signatures and ignored members: the first, one in the middle, the last, and one more.")
     ignored = {"m%d" % number: number for number in range(300)}
     logs = {"%064d" % number: (SCHEME, b"k%d" % number) for number in range(300)}
@@ -374,7 +390,8 @@ def artifacts():
         if value == "absent":
             del found[name]
         artifact(compact(found), KEYS, rows)
-    for content in (compact(tree()), "", "null", "[]", "{", compact(whole)[:-1] + ',"a":1.0}'):
+    deep = [compact(whole)[:-1] + ',"a":%s%s}' % ("[" * depth, "]" * depth) for depth in (126, 127)]
+    for content in (compact(tree()), "", "null", "[]", "{", compact(whole)[:-1] + ',"a":1.0}', *deep):
         artifact(content, KEYS, rows)
 
 
@@ -402,11 +419,16 @@ def main():
     manifests()
     annotations()
     promises()
+    signatures_and_bodies()
+    members_of_promises()
+    hundreds_of_promises()
     artifacts()
     equalities()
-    cosign_layer_rows.rows(TABLE, SimpleNamespace(
+    payload_calls = SimpleNamespace(
         Refused=Refused, signing_of=lambda content: signing_of(content.decode()), shown=shown, payload=payload, tree=tree, signed=signed, decoded=decoded,
-        promised=lambda content, keys, rows: checked(read(content, read_promise, "BundleUnreadable"), keys, [row[1:] for row in rows if row[0] == "message"])))
+        promised=lambda content, keys, rows: checked(read(content, read_promise, "BundleUnreadable"), keys, [row[1:] for row in rows if row[0] == "message"]))
+    cosign_layer_rows.rows(TABLE, payload_calls)
+    cosign_bundle_rows.rows(TABLE, payload_calls)
     TABLE.write()
 
 

@@ -4,7 +4,7 @@ its bytes.
 Certificates are read by the second reader that the other tools have, which is written from the public standards; the rules of a layer are those of `cosign` as docs/PROVED.md and docs/DECISIONS.md say them.
 """
 import verify_certificate as certificates
-import x509_cases as x509
+import x509_reader as x509
 from fixture import oid
 from rekor_cases import debug
 from verify_certificate import sha256

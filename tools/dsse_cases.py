@@ -99,12 +99,20 @@ def no_float(text):
     raise NoStatement
 
 
+def depth_of(value):
+    """How deep lists and objects nest."""
+    items = value.values() if isinstance(value, dict) else value if isinstance(value, list) else None
+    return 0 if items is None else 1 + max(map(depth_of, items), default=0)
+
+
 def parsed(payload):
-    """The document, without floats: no point, no exponent, no -0, no integer outside -2^63 to 2^64 - 1."""
+    """The document, without floats: no point, no exponent, no -0, no integer outside -2^63 to 2^64 - 1. It nests to 127."""
     try:
-        return json.loads(payload, parse_float=no_float, parse_constant=no_float, parse_int=integer)
+        found = json.loads(payload, parse_float=no_float, parse_constant=no_float, parse_int=integer)
     except ValueError:
         raise NoStatement
+    want(depth_of(found) <= 127)
+    return found
 
 
 def integer(text):
@@ -279,6 +287,14 @@ def statements():
     say("statement PAYLOAD: the two types, the predicate, and of each subject the name, the digests and the annotations; - for what is absent.")
     for payload in STATEMENTS + REFUSED:
         case("statement " + payload, statement_answer(payload))
+    say("Lists nest to 127: in a predicate, in annotations, in a member that is ignored.")
+    for levels in (126, 127):
+        lists = ("[" * levels + "]" * levels, "[" * (levels - 2) + "]" * (levels - 2))
+        for payload in ('{"_type":"t","subject":[],"predicateType":"p","predicate":%s}' % lists[0],
+                        '{"_type":"t","subject":[],"predicateType":"p","other":%s}' % lists[0],
+                        '{"_type":"t","subject":[{"digest":{},"annotations":%s}],"predicateType":"p"}' % lists[1]):
+            case("statement " + payload, statement_answer(payload))
+            digest_cases(payload)
 
 
 def many(subjects, entries):

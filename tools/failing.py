@@ -51,12 +51,15 @@ class Failing:
         return Ended(done.stdout, done.returncode)
 
     def counted(self, case, **settings):
-        """How many calls of each kind the program makes where none fails. The run has to end with the reply of the case."""
+        """How many calls of each kind the program makes where none fails: some. The run has to end with the reply of the case."""
         ended = self.run(case, **settings)
         if ended != (case.reply, case.status):
             raise AssertionError(f"{case.title}: ended with {ended}, and not with {(case.reply, case.status)}")
         with open(self.counts) as file:
-            return Counts(*map(int, file.read().split()))
+            counts = Counts(*map(int, file.read().split()))
+        if not counts.allocations or not counts.writes:
+            raise AssertionError(f"{case.title}: no call is counted: the program does not make those of the C library that was loaded before it")
+        return counts
 
 
 def in_lines(reply):

@@ -23,7 +23,7 @@ def floors():
     for line in (TOP / "crates.txt").read_text().splitlines():
         if line.startswith("#"):
             name = line[1:].strip().rstrip(".").split(":")[0]
-        elif ":" in line and not is_for_tests(crate := line.split(":")[0]):
+        elif ":" in line and not is_for_tests(crate := line.split(":")[0].split()[0]):
             found.setdefault(name, []).append(crate)
             on[crate] = line.split(":")[1].split()
     return found, {crate: [other for other in others if other in on] for crate, others in on.items()}

@@ -68,6 +68,9 @@ def texts():
     for code in range(0x20, 0x80):
         read_case('"\\' + chr(code) + '"')
         read_case('"' + chr(code) + '"')
+
+
+def structures():
     say("Sections 2 to 5: white space, literals, lists, objects, and what is none.")
     for text in STRUCTURES:
         read_case(text)

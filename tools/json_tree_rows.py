@@ -61,16 +61,20 @@ def canonicals():
         case("quoted " + percent(text), "ok " + quoted(text))
 
 
+def words(value):
+    """A value that is built, as arguments."""
+    kind, part = value
+    return "%s %s" % (kind, part if kind == "integer" else percent(part))
+
+
+def meant(value):
+    """The tree of a value that is built."""
+    return tree(value[1]) if value[0] == "json" else value[1]
+
+
 def builders():
     say("object NAME VALUE .., list VALUE ..: what is built of these values, set and added in turn.")
     values = [("integer", 0), ("integer", -7), ("integer", -2**63), ("integer", 2**63 - 1), ("text", ""), ("text", "x"), ("text", "\u00e9\"\\\n\U0001f600"), ("json", "null"), ("json", "true"), ("json", "[]"), ("json", "{}"), ("json", "18446744073709551615"), ("json", '{"b":[null,"x"],"a":{"c":1},"b":2}')]
-
-    def words(value):
-        kind, part = value
-        return "%s %s" % (kind, part if kind == "integer" else percent(part))
-
-    def meant(value):
-        return tree(value[1]) if value[0] == "json" else value[1]
 
     def object_case(pairs):
         case(" ".join(["object"] + ["%s %s" % (percent(name), words(value)) for name, value in pairs]), "ok " + compact({name: meant(value) for name, value in pairs}))

@@ -7,7 +7,8 @@
                                               the same reply with those of the accepted signatures alone that are listed, and that of
                                               the second implementation with all that are listed; where it names a link of the chain
                                               of trust, `verify` has to name it too, with and without accepted signatures. Then come
-                                              requests about the limit, which gets each list back before the request's last brace
+                                              requests about the limit, which gets each list back before the request's last brace, and
+                                              those with the longest chains, whose lists have the number of rows that is stated by hand
 
 The reader of a request of `log` is that of tools/log_requests.py, that of one of `consistency` that of
 tools/consistency_requests.py, and that of one of `audit` that of tools/audit_requests.py. That of a request of `verify` asks
@@ -33,6 +34,7 @@ import verify_certificate as certificates  # noqa: E402
 import verify_links as links  # noqa: E402
 import verify_rows  # noqa: E402
 from log_requests import NoRequest, rekor  # noqa: E402
+from x509_paths import inter  # noqa: E402
 
 MOST_BYTES = 2**24
 BETWEEN = ',"accepted":'  # a request and its list
@@ -262,6 +264,29 @@ def limit_texts():
             ("verify", verify)]
 
 
+def chain_text(over, anchors):
+    """A request of `verify` whose leaf was issued under the name a, with these intermediates (name, issuer, path length) and trust anchors."""
+    made = [inter(*names, 16 + place, length) for place, (*names, length) in enumerate(over)]
+    roots = [fixture.anchor(subject=fixture.name(each), issuer=fixture.name(each), key=fixture.key(64 + place)) for place, each in enumerate(anchors)]
+    listed = [{"certChain": {"certificates": [{"rawBytes": in_base64(fixture.certificate(each))} for each in roots]}}]
+    changes = [verify_cases.chain(made, leaf=fixture.leaf(issuer=fixture.name("a"))), verify_cases.root("certificateAuthorities", listed)]
+    return fixture.compact(verify_cases.built(changes))
+
+
+# 16 further certificates and some trust anchors, and how many rows are of signatures of certificates and how many of the SCT. At most they are
+# 17 * (16 + anchors) and 16 + anchors: 323 and 19, 340 and 20.
+LONGEST = [([("a", "root", None)] * 16, ["root"] * 3, 16 + 16 * 3, 16),
+           ([("a", "b", None)] * 6 + [("b", "c", None)] * 5 + [("c", "root", None)] * 5, ["root"] * 4, 6 + 6 * 5 + 5 * 5 + 5 * 4, 6),
+           ([("a", "b", None)] * 8 + [("b", "a", 1)] * 8, ["a", "a", "b", "b"], 17 * 10, 10)]
+
+
+def has_lengths(program, text, certificates, points):
+    """Whether the list of a request is that of this reader, with so many rows of certificates and of the SCT."""
+    wanted = verify_reply(text)
+    kinds = [row["operation"] for row in json.loads(wanted[0])]
+    return (kinds.count("certificate"), kinds.count("point")) == (certificates, points) and run(program, text, "questions", "verify") == wanted
+
+
 def texts_of(command):
     lines = (TOP / f"examples/{command}.requests").read_text().split("\n")
     return [line for line in lines if line.startswith((" ", "{", "[", "\ufeff"))]
@@ -285,6 +310,10 @@ def check(program):
                 failed += 1
                 print(f"{command} of {text[:200]}\n  is not {wanted[0][:200]} {wanted[1]}", file=sys.stderr)
         print(f"questions {command}: {len(texts)} requests", file=sys.stderr)
+    for over, anchors, *lengths in LONGEST:
+        if not has_lengths(program, chain_text(over, anchors), *lengths):
+            failed += 1
+            print(f"questions verify of a chain of {over} under {anchors} has not {lengths} rows", file=sys.stderr)
     for command, text in limit_texts():
         if not about_the_limit(program, command, text):
             failed += 1

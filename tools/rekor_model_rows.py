@@ -10,6 +10,7 @@ import re
 
 import rekor_cases as notes
 from case_table import Table
+from dsse_cases import depth_of
 
 EXAMPLES = pathlib.Path(__file__).resolve().parent.parent / "examples"
 KINDS = ("alpine", "hashedrekord", "helm", "intoto", "jar", "rekord", "rfc3161", "rpm", "tuf")
@@ -87,9 +88,12 @@ def no_float(text):
 
 def document(text):
     try:
-        return json.loads(text, parse_int=whole, parse_float=no_float, parse_constant=no_float)
+        found = json.loads(text, parse_int=whole, parse_float=no_float, parse_constant=no_float)
     except (ValueError, Refused):
         raise Refused("SerdeJsonError") from None
+    if depth_of(found) > 127:
+        raise Refused("SerdeJsonError")
+    return found
 
 
 def member(found, name, kind, needed=True):
@@ -355,6 +359,11 @@ for text in ("", "x", "null", "[]", "1", '"x"', "{}", json.dumps(ENTRY) + "x", s
     entry(text)
 entry(small(PLAIN).replace('"integratedTime": 0', '"integratedTime": -0'))
 entry(small(PLAIN).replace('"integratedTime": 0', '"integratedTime": 1, "integratedTime": 2'))
+say("Lists nest to 127 in an entry, in a member that is ignored, and in its body.")
+for levels in (126, 127):
+    deep = json.loads("[" * (levels - 2) + "]" * (levels - 2))
+    entry(small({**PLAIN, "other": deep}))
+    entry(entry_with(body=coded(dict(BODY, spec=json.loads("[" * levels + "]" * levels)))))
 say("The bounds of the numbers.")
 for number_ in (-(2**63) - 1, -(2**63), 2**63 - 1, 2**63, 2**64):
     entry(small(PLAIN, integratedTime=number_))

@@ -61,6 +61,12 @@ LOGGED = (["LogIdMissing", "RekorPublicKeyNotFoundError(_)"] + KEY + ["PromiseMi
           + MATCH + PATH)
 
 PROMISED = within("UnexpectedError", ["BundleUnreadable", "PromiseInteger"]) + ["RekorPublicKeyNotFoundError(_)"] + ACCEPTED
+# What a bundle of `cosign` attests.
+ATTESTED = (within("UnexpectedError", ["BundleUnreadable", "ContentNotDsse", "PayloadType", "Statement", "StatementType", "PredicateType", "NoSubjects",
+                                       "FirstSubjectWithoutSha256", "SubjectDigest", "SignatureCount(_)", "MaterialMissing", "MaterialNotCertificate",
+                                       "EntryCount(_)", "KeysMissing", "LogIdMissing", "PromiseMissing", "PromiseInteger", "Promise", "ProofMissing",
+                                       "RootLength", "HashLength(_)", "TreeSize", "CheckpointMissing", "Body"])
+            + ["RekorPublicKeyNotFoundError(_)"] + within("ParseCheckpointError", FAULTS) + ["CheckpointSignatureVerificationError"] + MATCH + PATH)
 
 ALL = []  # of the type
 
@@ -143,6 +149,12 @@ CALLS = [
     ("audit", "audit audit", "sig_audit AuditError",
      ["Empty", "NoteKey(_)", "Origin(_)", "Head(_)"] + ["Consistency(_,%s)" % kind for kind in CONSISTENCY]
      + ["Inclusion(_,%s)" % kind for kind in INCLUSION]),
+    ("read_manifest", "gate manifest", "sig_manifest ManifestError", ["NotJson", "Float", "Member", "UnknownRoot(_)", "UnknownPolicy(_)"]),
+    ("Witness::add_origin", "witness run", "sig_witness WitnessError", ["OriginText", "OriginKnown"]),
+    # A kept head without leaves has the root of none.
+    ("Witness::update", "witness run", "sig_witness WitnessError", ["UnknownOrigin", "NoteKey", "OldSize(_)", "Full"]
+     + within("Consistency", [kind for kind in CONSISTENCY if kind != "WrongEmptyTreeHash"])),
+    ("Witness::decode", "witness state", "sig_witness StateError", ALL),
     ("InTotoStatementV1::from_json", "dsse statement", "sig_base SigstoreError", ["UnexpectedError(Statement)"]),
     ("InTotoStatementV1::validate_cosign_v1", "dsse cosign", "sig_base SigstoreError",
      within("UnexpectedError", ["StatementType", "PredicateType", "NoSubjects", "FirstSubjectWithoutSha256"])),
@@ -170,6 +182,7 @@ CALLS = [
     ("SignatureLayer::new", "cosign layer", "sig_base SigstoreError",
      ["SigstoreMediaTypeNotFoundError", "SigstoreLayerDigestMismatchError", "UnexpectedError(LayerUnreadable)", "UnexpectedError(ImageDigest)",
       "SigstoreAnnotationNotFoundError"] + PROMISED),
+    ("SignatureLayer::from_sigstore_bundle", "cosign bundle", "sig_base SigstoreError", ATTESTED),
     ("verify_constraints", "constraint verify", "sig_constraint SigstoreVerifyConstraintsError", ALL),
     ("apply_constraints", "constraint apply", "sig_constraint SigstoreApplicationConstraintsError", ALL),
     ("PublicKeyVerifier::try_from_der", "constraint key", "sig_base SigstoreError", KEY),

@@ -23,20 +23,14 @@ def keys_words(keys):
     return " ".join([str(len(keys)), *["%s %s" % (identifier.hex(), spelled(der)) for identifier, der in keys]])
 
 
-def rooted():
-    """Calls of the fixture's bundle and log entry under a trust root that is handed in."""
-    made = fixture.Request()
-    bundle_text = text_word(compact(made.bundle(), canonical=True))
-    rows = " ".join(map(request_cases.words_of, made.accepted()))
-    log_keys, ct_keys = [(fixture.LOG_ID, made.log_key)], [(fixture.CERTIFICATE_LOG_ID, key(fixture.CERTIFICATE_LOG_KEY))]
+def handed_keys(made):
+    """The keys of the log and of the Certificate Transparency log of a request."""
+    return [(fixture.LOG_ID, made.log_key)], [(fixture.CERTIFICATE_LOG_ID, key(fixture.CERTIFICATE_LOG_KEY))]
 
-    def of_bundle(title, expected, anchor=fixture.certificate(made.anchor), log_keys=log_keys, ct_keys=ct_keys, digest=made.digest, now=made.now):
-        handed = " ".join([spelled(anchor), keys_words(log_keys), keys_words(ct_keys)])
-        words = ["verify_digest_with", str(now), digest, *policy_words(made.policy), handed, bundle_text, rows]
-        return "a trust root that is handed in: " + title, " ".join(words), expected
 
-    def of_entry(title, expected, log_keys):
-        return "the fixture's log entry: " + title, " ".join(["verify_log_entry", keys_words(log_keys), bundle_text, rows]), expected
+def artifacts():
+    """Calls over an artifact, by its digest or from a source, under a trust root that is handed in."""
+    log_keys, ct_keys = handed_keys(fixture.Request())
 
     def of_artifact(title, expected, *words, signed=None):
         sealed = fixture.MessageRequest(**({} if signed is None else {"signed": signed}))
@@ -56,7 +50,25 @@ def rooted():
         of_artifact("a source of its bytes", "ok", "verify", text.hex(), "100", never, signed=signed),
         of_artifact("a source that gives them in pieces", "ok", "verify", text.hex(), "4", never, signed=signed),
         of_artifact("a source of more than a buffer", "ok", "verify", spelled(bytes(70000)), "100000", never, signed=hashlib.sha256(bytes(70000)).digest()),
-        of_artifact("a source of other bytes", "Signature(VerificationFailed)", "verify", text[1:].hex(), "100", never, signed=signed),
+        of_artifact("a source of other bytes", "Signature(VerificationFailed)", "verify", text[1:].hex(), "100", never, signed=signed)]
+
+
+def rooted():
+    """Calls of the fixture's bundle and log entry under a trust root that is handed in."""
+    made = fixture.Request()
+    bundle_text = text_word(compact(made.bundle(), canonical=True))
+    rows = " ".join(map(request_cases.words_of, made.accepted()))
+    log_keys, ct_keys = handed_keys(made)
+
+    def of_bundle(title, expected, anchor=fixture.certificate(made.anchor), log_keys=log_keys, ct_keys=ct_keys, digest=made.digest, now=made.now):
+        handed = " ".join([spelled(anchor), keys_words(log_keys), keys_words(ct_keys)])
+        words = ["verify_digest_with", str(now), digest, *policy_words(made.policy), handed, bundle_text, rows]
+        return "a trust root that is handed in: " + title, " ".join(words), expected
+
+    def of_entry(title, expected, log_keys):
+        return "the fixture's log entry: " + title, " ".join(["verify_log_entry", keys_words(log_keys), bundle_text, rows]), expected
+
+    return [
         of_bundle("the fixture's bundle", "ok 1"),
         of_bundle("at the start of 1970", "ok 1", now=0),
         of_bundle("a second before 1970", "ok 1", now=-1),
@@ -264,4 +276,4 @@ def errors():
 
 
 def calls():
-    return rooted() + questions() + roots() + errors()
+    return artifacts() + rooted() + questions() + roots() + errors()

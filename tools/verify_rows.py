@@ -280,13 +280,16 @@ def issuers():
         row("issuer: a trust anchor %s" % name, "verified 2 5", parts(anchor=anchor(**changed)))
     row("issuer: a leaf that ends before it begins", failed, parts(leaf=leaf(validity=fixture.validity("231213060055Z", "231213055055Z"))))
     row("issuer: a leaf of one second", "verified 2 5", parts(leaf=leaf(validity=fixture.validity("231213055140Z", "231213055140Z"))))
+
+
+def issuers_accepted_otherwise():
     for name, changed in [("algorithm", ("certificate", base64_of(der(SEQUENCE, der(OBJECT_IDENTIFIER, b"\x55"))), key(1), fixture.tbs(leaf()),
                           b"sig-leaf")),
                           ("key", ("certificate", base64_of(fixture.ALGORITHM), key(9), fixture.tbs(leaf()), b"sig-leaf")),
                           ("TBSCertificate", ("certificate", base64_of(fixture.ALGORITHM), key(1), fixture.tbs(leaf())[:-1], b"sig-leaf")),
                           ("signature", ("certificate", base64_of(fixture.ALGORITHM), key(1), fixture.tbs(leaf()), b"sig-lea")),
                           ("operation", ("message", fixture.SCHEME, key(1), fixture.tbs(leaf()), b"sig-leaf"))]:
-        row("issuer: accepted with another %s" % name, failed, unaccepted(0), accepted(*changed))
+        row("issuer: accepted with another %s" % name, "issuer Certificate(VerificationFailed)", unaccepted(0), accepted(*changed))
 
 
 # The promise is about four members; its integers fit RFC 8785.
@@ -321,7 +324,7 @@ def times():
     row("entry's time: as a number", "verified 2 5", bundle(ENTRY + ".integratedTime", 1702446700))
 
 
-GROUPS = [links, indices, entries, ranges, log_keys, certificate_log_keys, issuers, promises, times]
+GROUPS = [links, indices, entries, ranges, log_keys, certificate_log_keys, issuers, issuers_accepted_otherwise, promises, times]
 GROUPS += verify_rows_chains.GROUPS + verify_rows_documents.GROUPS + verify_rows_content.GROUPS + verify_rows_message.GROUPS + verify_rows_hundreds.GROUPS
 GROUPS += verify_rows_limits.GROUPS
 MORE = [other_keys] + verify_rows_content.MORE

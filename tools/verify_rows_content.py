@@ -327,7 +327,7 @@ def more_proofs():
             ("a first hash of 31 bytes", PROOF + ".hashes.0", SHORT, "HashLength(0)"),
             ("a last hash of no bytes", PROOF + ".hashes.2", "", "HashLength(2)"),
             ("a hash too many, of 33 bytes", PROOF + ".hashes", lambda hashes: hashes + [LONG], "HashLength(3)"),
-            ("the least size", PROOF + ".treeSize", str(-2 ** 63), "TreeSize")]:
+            ("a size of -1", PROOF + ".treeSize", "-1", "TreeSize"), ("the least size", PROOF + ".treeSize", str(-2 ** 63), "TreeSize")]:
         row("proof: " + name, "proof " + error, bundle(path, value))
     row("proof: two hashes", "proof HashLength(0)", bundle(PROOF + ".hashes.0", SHORT), bundle(PROOF + ".hashes.1", SHORT))
 

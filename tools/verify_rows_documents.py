@@ -53,12 +53,15 @@ def requests():
     for value, expected in (([], READ), (["", "AA=="], READ), ({}, UNREAD), ("AA==", UNREAD), (["AA"], UNREAD), (["AB=="], UNREAD),
                             ([None], UNREAD), ([0], UNREAD), ([["AA=="]], UNREAD)):
         small("entries are %s" % compact(value), expected, entries=value)
+
+
+def values_of_requests():
     for value, expected in (("0", READ), ("-0", READ), ("007", READ), (2 ** 63 - 1, READ), (str(2 ** 63 - 1), READ), (-2 ** 63, READ),
     (2 ** 63, UNREAD),
                             (str(2 ** 63), UNREAD), (-2 ** 63 - 1, UNREAD), ("", UNREAD), ("+1", UNREAD), (" 1", UNREAD), ("1.0", UNREAD),
                             ("x", UNREAD)):
         small("now is %s" % compact(value), expected, now=value)
-    text_row("request: now is -0, which is a float", UNREAD, text.replace('"now":0', '"now":-0'))
+    text_row("request: now is -0, which is a float", UNREAD, compact(SMALL).replace('"now":0', '"now":-0'))
     for value, expected in (("sha256:" + "A" * 64, READ), ("sha512:" + "b" * 128, READ), ("sha256:" + "a" * 63, UNREAD),
     ("sha256:" + "a" * 65, UNREAD),
                             ("sha256:" + "g" * 64, UNREAD), ("a" * 64, UNREAD), ("sha256:", UNREAD), ("SHA256:" + "a" * 64, UNREAD),
@@ -216,4 +219,4 @@ def bundles():
     row("bundle: a kind and version that nobody asks for", "verified 2 5", bundle(ENTRY + ".kindVersion", {"kind": "other", "version": "9"}))
 
 
-GROUPS = [requests, trusted_roots, bundles]
+GROUPS = [requests, values_of_requests, trusted_roots, bundles]

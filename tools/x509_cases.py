@@ -13,10 +13,10 @@ import x509_graphs
 import x509_paths
 from fixture import spelled
 from x509_calls import TABLE, answer, case, group, listed
-from x509_list_rows import hundreds, keyrings, policies
+from x509_list_rows import hundreds, hundreds_of_certificates, hundreds_of_names, keyrings, policies
 from x509_pool_rows import pools, pools_of_one_name, questions
 from x509_rows import bits, rows
-from x509_sigstore import real_certificates, real_sct
+from x509_sigstore import changed_sct, profiles, real_certificates, real_sct
 
 
 def paths():
@@ -41,7 +41,8 @@ def errors():
 
 def main():
     for made in (
-        real_certificates, real_sct, rows, bits, pools, pools_of_one_name, questions, paths, keyrings, hundreds, policies, requests, errors,
+        real_certificates, profiles, real_sct, changed_sct, rows, bits, pools, pools_of_one_name, questions, paths, keyrings, hundreds, hundreds_of_names,
+        hundreds_of_certificates, policies, requests, errors,
     ):
         made()
     TABLE.write()

@@ -8,7 +8,7 @@ from x509_sigstore import extension_at, extension_line
 
 
 def hundreds():
-    """Lists of 300 elements: extensions, purposes, names, SCTs, policies of one kind, certificates of a chain, keys of a ring."""
+    """Lists of 300 extensions."""
     group("300 extensions")
     several = b"".join(extension(bytes([42, number // 100, number % 100]), bytes([number % 256]), number % 2 == 1) for number in range(300))
     parts = fixture.leaf(leaf_extensions(others=several))
@@ -22,6 +22,10 @@ def hundreds():
     without = fixture.tbs({**parts, "extensions": fixture.without_scts(parts["extensions"])})
     case("of the precertificate", "precert_tbs_digest " + spelled(content), answer(len(without), sha256(without).hex()))
     case("beside the SCT", "embedded_sct %s %s" % (spelled(content), spelled(key(1))), embedded_line(parts, key(1)))
+
+
+def hundreds_of_names():
+    """Lists of 300 purposes, names and SCTs."""
     group("300 purposes, names and SCTs")
     others = b"".join(der(6, fixture.oid("1.3.6.1.5.5.7.3.%d" % (number + 10))) for number in range(299))
     unset = "Extension(BitUnset(ExtendedKeyUsageDigitalSignature))"
@@ -46,6 +50,10 @@ def hundreds():
             ("the last is cut", None, "LeafSCTMalformed")]:
         held_list = b"".join(map(vector, [sct] * 299)) + vector(sct)[:-1] if items is None else b"".join(map(vector, items))
         embedded_case(cause, "list=" + der(4, vector(held_list)).hex(), "Parsing(%s)" % expected)
+
+
+def hundreds_of_certificates():
+    """Lists of 300 certificates of a chain and of keys of a ring."""
     group("300 certificates of a chain, and keys of a ring")
     chain = [{**leaf_with("", CHAIN["authority"]), "key": key(1)}] + [{**leaf_with(), "key": key(number % 200 + 2)} for number in range(299)]
     parts = leaf_with()

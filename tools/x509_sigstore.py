@@ -137,6 +137,9 @@ def real_certificates():
         extension_at("extension %d of 8" % index, LEAF, index)
     for index in [0, 1, 2 ** 64 - 1]:
         extension_at("extension %d of none" % index, fixture.certificate({**leaf_with(), "extensions": b""}), index)
+
+
+def profiles():
     group("their profiles, and when the leaf is trusted")
     for call, content, expected in [
             ("is_leaf", LEAF, "ok"), ("is_ca", LEAF, "Extension(Missing(BasicConstraints))"),
@@ -174,6 +177,12 @@ def real_sct():
     case("by the chain of the intermediate", "embedded_sct_of_chain %s %s" % (spelled(LEAF), spelled(INTERMEDIATE)), fields)
     case("by no chain", "embedded_sct_of_chain %s -" % spelled(LEAF), "Parsing(IssuerMissing)")
     case("by itself", "embedded_sct_of_chain %s %s" % (spelled(LEAF), spelled(LEAF)), "Parsing(IssuerMissing)")
+
+
+def changed_sct():
+    """Whether the log's key vouches for the leaf's SCT: with a field changed, and with lengths that have no encoding."""
+    body, issuer, log_id = fixture.tbs(dict(zip(fixture.TBS_PARTS, without_list(LEAF)))), INTERMEDIATE[180:300], sha256(LOG_KEY)
+    message = fixture.signed_by_log(issuer, body, time=1702446655020)
     genuine = "point %s %s %s" % (spelled(LOG_KEY[26:]), spelled(message), spelled(SCT_SIGNATURE))
     group("whether the log's key vouches for the SCT, with a field changed")
     failed, unknown = "Verification(VerificationFailed)", "Verification(KeyNotFound)"

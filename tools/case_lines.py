@@ -1,0 +1,72 @@
+"""Lines of the programs of cases, for runs in which an allocation is refused: of each call, and of each kind of result that it has in the table, the
+shortest line, and the longest of those that are not long. A kind of which each line is very long is left out."""
+import collections
+import pathlib
+import re
+
+import constraint_cases
+import results
+from failing import Case
+
+CRATES = pathlib.Path(__file__).resolve().parent.parent / "crates"
+NOT_LONG, VERY_LONG = 4000, 20000  # bytes
+FIRST = 12  # of a result's words, those that tell its kind
+ENDED = 1  # the status of a program of cases that memory ran out for
+UNMADE = "bad line"  # what is written where an argument, such as a key, could not be made
+
+Line = collections.namedtuple("Line", "case left")
+
+
+def names():
+    """The programs of cases that have a table, without `_cases`."""
+    return sorted(path.parent.name.removesuffix("_cases") for path in CRATES.glob("*_cases/stdin"))
+
+
+def program(name):
+    return CRATES / f"{name}_cases" / "out" / f"{name}_cases"
+
+
+def kind_of(returned):
+    """The kind of a result: `ok` or the error, and which values are there, of which names and truth values tell themselves."""
+    first, *values = results.normalized(returned).split(" ")[:FIRST]
+    return " ".join([first, *(word if re.fullmatch("[A-Za-z_@(),-]+|[A-Z][A-Z0-9_]+", word) else "_" for word in values)])
+
+
+def table(name):
+    """The calls of a table, each with what it returns."""
+    folder = CRATES / f"{name}_cases"
+    with open(folder / "stdin", encoding="utf-8") as calls, open(folder / "stdout", encoding="utf-8") as returned:
+        for call, line in zip(calls, returned):
+            if call.strip() and not call.startswith("#"):
+                yield call.rstrip("\n"), line.rstrip("\n")
+
+
+def chosen(rows):
+    """The shortest of these rows, unless it is very long, and the longest that is not long, where that is another."""
+    shortest = min(rows, key=lambda row: len(row[0]))
+    if len(shortest[0]) > VERY_LONG:
+        return []
+    fitting = [row for row in rows if len(row[0]) <= NOT_LONG]
+    longest = max(fitting, key=lambda row: len(row[0]), default=shortest)
+    return [shortest, *([longest] if longest != shortest else [])]
+
+
+def left_by(name, call):
+    """The lines that a call of a layer may write out of memory: what its table says of the layer that is left."""
+    if name != "constraint":
+        return []
+    if not constraint_cases.LEFT:
+        constraint_cases.markers()
+        constraint_cases.applied()
+    return constraint_cases.LEFT.get(call, [])
+
+
+def lines(name):
+    """The lines of a program, and with each what it may write out of memory beside nothing."""
+    kinds = collections.defaultdict(list)
+    for call, returned in table(name):
+        kinds[call.split(" ")[0], kind_of(returned)].append((call, returned))
+    for (word, kind), rows in kinds.items():
+        for call, returned in chosen(rows):
+            case = Case(f"{name}_cases, {word}, {kind}", [], f"{call}\n".encode(), f"{returned}\n".encode(), 0)
+            yield Line(case, [f"{each}\n".encode() for each in (UNMADE, *left_by(name, call))])
