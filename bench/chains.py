@@ -31,7 +31,7 @@ def predicate(count):
 
 
 def leaf_of_extensions(count):
-    """The leaf's extensions behind so many others, whose object identifiers come in an order that is none."""
+    """The leaf's extensions after so many others, whose object identifiers come in no order."""
     order = random.Random(count).sample(range(count), count)
     others = b"".join(extension(unknown(place), b"v") for place in order)
     return {"before": others, **fixture.leaf_extensions()}
@@ -272,7 +272,7 @@ def replaced(place, items):
 
 
 def object_before(count):
-    """An object of so many members in an order that is none, and behind it the float."""
+    """An object of so many members in no order, and after it the float."""
     return shapes.members("")(count) + b',"y":1.5,"y":1'
 
 
@@ -290,7 +290,7 @@ def floats(count):
 REPLACED = tuple(
     (f"a float that is replaced, {name}, in the {place}", replaced(place, items))
     for place in ("request", "row", "trusted root", "trusted root's log", "bundle", "log entry")
-    for name, items in (("behind an object", object_before), ("within an object", object_around), ("many", floats))
+    for name, items in (("after an object", object_before), ("within an object", object_around), ("many", floats))
 )
 
 

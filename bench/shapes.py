@@ -145,7 +145,7 @@ def signatures(count):
 
 
 def contents(line):
-    """Notes of so many lines behind the hash; their signature is over another note."""
+    """Notes of so many lines after the hash; their signature is over another note."""
     return lambda count: request(checkpoint=NOTE + line * count + "\n" + signature_line(b"sig"))
 
 
@@ -204,7 +204,7 @@ def object_of(names):
 
 
 def chosen(count, prefix=""):
-    """So many different names of four letters behind a prefix, in an order that is none."""
+    """So many different names of four letters after a prefix, in no order."""
     return [prefix + letters(place) for place in random.Random(count).sample(range(len(LETTERS) ** 4), count)]
 
 
