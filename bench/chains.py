@@ -3,8 +3,8 @@ the rest is the fixture of tools/fixture.py, of which each link holds unless the
 import random
 
 import shapes
-from roots import (anchors_and_rows, anchors_by_name, anchors_of_one_key, anchors_of_other_keys, authorities, certificate_log_keys, log_keys,
-                   log_keys_of_one_id, usual_log_keys, with_anchors)
+from roots import (anchors_and_rows, anchors_by_name, anchors_of_one_key, anchors_of_other_keys, anchors_over_intermediates, authorities,
+                   certificate_log_keys, log_keys, log_keys_of_one_id, usual_log_keys, with_anchors)
 from shapes import coded, numbered
 from signed import Signed, unknown, written
 
@@ -302,6 +302,7 @@ REQUESTS = {
         ("trust anchors of one key, a long leaf", anchors_of_one_key),
         ("trust anchors of other keys, a long signature", anchors_of_other_keys),
         ("trust anchors of long names", anchors_by_name),
+        ("trust anchors over 16 intermediates", anchors_over_intermediates),
         ("trust anchors, extensions of the leaf", anchors_beside_extensions),
         ("authorities", authorities),
         ("log keys, ids of a long prefix", log_keys),
@@ -351,6 +352,7 @@ COUNTED = (
 QUESTIONS = (
     ("one payload", predicate),
     ("trust anchors of long names", anchors_by_name),
+    ("trust anchors over 16 intermediates", anchors_over_intermediates),
     ("log keys of one id", log_keys_of_one_id),
     ("extensions of the leaf", leaf_extensions),
     ("signatures of the note, rows", note_signatures),

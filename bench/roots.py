@@ -4,6 +4,7 @@ from signed import Signed, unknown, written
 
 import fixture
 from fixture import certificate, der, extension, leaf
+from x509_paths import inter
 
 FAR = "fixture root" + "n" * 1000  # a name that agrees with no issuer's in its last bytes
 
@@ -62,6 +63,17 @@ def anchors_of_other_keys(count):
     first = {**first, "signature": coded(signature)}
     rows = [{**first, "key": coded(turned(fixture.key(9)))}, first, *others]
     return written(made, with_anchors(made, (fixture.anchor(key=key) for key in keys(count))), rows=rows)
+
+
+def anchors_over_intermediates(count):
+    """Trust anchors of one name and other keys, each of which may have signed each of 16 intermediates, of which the last
+    signed the leaf; a row for each anchor, of the last one's signature over other bytes."""
+    signer, *others = [inter("a", "fixture root", under) for under in range(100, 116)]
+    later = [certificate(each) for each in [*others, signer]]
+    made, other = fixture.ChainRequest([signer], later, leaf=leaf(issuer=fixture.name("a"))), coded(turned(fixture.tbs(signer)))
+    *first, last = made.accepted()
+    rows = [{**last, "key": coded(key), "message": other} for key in keys(count)]
+    return written(made, with_anchors(made, (fixture.anchor(key=key) for key in keys(count))), rows=[*rows, *first, last])
 
 
 def anchors_by_name(count):
