@@ -417,14 +417,28 @@ class ChainRequest(Request):
         return {**made, "verificationMaterial": {"x509CertificateChain": {"certificates": chain}, **dict(rest)}}
 
     def accepted(self):
-        """Behind those of other requests, the intermediates'."""
-        rows = super().accepted()
-        signed = [self.leaf, *self.over]
-        signatures = [row("certificate", base64_of(one["algorithm"]), other["key"], tbs(one), one["signature"][3:])
-                      for one, other in zip(signed, [*self.over, self.anchor])]
-        stamp = {"time": 1702446655000, "more": b"", "signature": b"sig-sct", **self.stamp}
-        logged = signed_by_log(self.stamped, self.precertificate(), stamp["time"], stamp["more"])
-        return [signatures[0], row("point", None, point(CERTIFICATE_LOG_KEY), logged, stamp["signature"]), *rows[2:], *signatures[1:]]
+        return with_intermediates(self, super().accepted())
+
+
+class MessageChainRequest(MessageRequest):
+    """The same over a signature of the artifact itself."""
+
+    def __init__(self, over, later=None, stamped=None, **changes):
+        super().__init__(later=[certificate(each) for each in over] if later is None else later, **changes)
+        self.over, self.stamped = over, stamped or over[0]["key"]
+
+    def accepted(self):
+        return with_intermediates(self, super().accepted())
+
+
+def with_intermediates(made, rows):
+    """The rows of a request whose leaf these intermediates connect to the trust anchor: behind those of other requests, the intermediates'."""
+    signed = [made.leaf, *made.over]
+    signatures = [row("certificate", base64_of(one["algorithm"]), other["key"], tbs(one), one["signature"][3:])
+                  for one, other in zip(signed, [*made.over, made.anchor])]
+    stamp = {"time": 1702446655000, "more": b"", "signature": b"sig-sct", **made.stamp}
+    logged = signed_by_log(made.stamped, made.precertificate(), stamp["time"], stamp["more"])
+    return [signatures[0], row("point", None, point(CERTIFICATE_LOG_KEY), logged, stamp["signature"]), *rows[2:], *signatures[1:]]
 
 
 def pieces(content):

@@ -48,7 +48,7 @@ def message(**changed):
 
 
 def chain(over, **changed):
-    """As `parts`, of the request whose leaf these intermediates connect to the trust anchor."""
+    """As `parts`, of the request whose leaf these intermediates connect to the trust anchor; beside a message, over a signature of the artifact."""
     return "chain", {"over": over, **changed}
 
 
@@ -136,7 +136,8 @@ def built(changes):
     for each in of_kind(changes, "parts") + messages + chains:
         assert not set(changed) & set(each), "two changes of one part"
         changed.update(each)
-    made = (fixture.ChainRequest if chains else fixture.MessageRequest if messages else fixture.Request)(**changed)
+    kinds = {(True, False): fixture.ChainRequest, (False, True): fixture.MessageRequest, (True, True): fixture.MessageChainRequest}
+    made = kinds.get((bool(chains), bool(messages)), fixture.Request)(**changed)
     documents = {"root": made.trusted_root(), "bundle": made.bundle()}
     for name in documents:
         for path, value in of_kind(changes, name):
@@ -281,7 +282,7 @@ def returned(reply, error):
 
 # The rows that are no calls too, since the table would be too long: rows like them are in the tables of the readers that they are about, or
 # stay beside them.
-NO_CALLS = ("index: the entry's own", "range of a log's key: null", "range of a log's key: without", "range of a log's key: begun",
+NO_CALLS = ("index: the entry's own", "message intermediates: ", "range of a log's key: null", "range of a log's key: without", "range of a log's key: begun",
             "range of a log's key: no start", "policy: ", "subject: a", "subject: in upper", "subject: of", "subject: with", "subject: the second",
             "proof: ", "checkpoint: ", "promise: null", "promise: of no bytes", "promise: of another", "body: another part: the kind",
             "body: another part: the version", "body: another part: the envelope's alg", "body: another part: the payload's alg",

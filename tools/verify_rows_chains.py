@@ -1,7 +1,7 @@
 """The rows of the table of `verify` about intermediates: the certificates behind a bundle's leaf, over which a path leads to a trust anchor."""
 import fixture
 from fixture import BASIC_CONSTRAINTS, BIT_STRING, KEY_USAGE, SEQUENCE, anchor, base64_of, certificate, der, extension, key, leaf, name
-from verify_cases import accepted, chain, root, row, unaccepted, whole_row
+from verify_cases import accepted, chain, message, root, row, unaccepted, whole_row
 from x509_paths import BOOLEAN, inter
 
 LEAF = leaf(issuer=name("a"))
@@ -78,4 +78,15 @@ def anchors_too():
     row("intermediates: two of one name signed, and the SCT is about the first", "verified 2 5", to_root(ONE, later=both, stamped=key(7)), first, led)
 
 
-GROUPS = [intermediates, longer_paths, unfit, anchors_too]
+def over_messages():
+    """The same of a signature over the artifact itself."""
+    whole_row("message intermediates: one", "verified 2 5", to_root(ONE), message())
+    whole_row("message intermediates: the leaf alone", FAILED, to_root(ONE, later=[]), message())
+    row("message intermediates: the SCT is over the trust anchor's key", MISMATCH, to_root(ONE, stamped=key(1)), message())
+    row("message intermediates: 16, each the same", "verified 2 5", to_root(ONE, later=copies(16)), message())
+    row("message intermediates: 17, each the same", "certificate Bundle(TooManyCertificates(18))", to_root(ONE, later=copies(17)), message())
+    row("message intermediates: with the trust anchor", "root-in-chain Bundle(RootInChain)",
+        to_root(ONE, later=[certificate(ONE), certificate(anchor())]), message())
+
+
+GROUPS = [intermediates, longer_paths, unfit, anchors_too, over_messages]
