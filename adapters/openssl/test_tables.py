@@ -92,8 +92,16 @@ def second_log(root, bundle):
     root["ctlogs"].append(held)
 
 
-def nothing(root, bundle):
-    return {}
+def chain_of(bundle):
+    return bundle["verificationMaterial"]["x509CertificateChain"]["certificates"]
+
+
+def many_certificates(root, bundle):
+    chain_of(bundle).extend(chain_of(bundle)[1:] * 16)
+
+
+def root_too(root, bundle):
+    chain_of(bundle).extend(root["certificateAuthorities"][0]["certChain"]["certificates"][-1:])
 
 
 NEWER_ISSUER = extension(oid("1.3.6.1.4.1.57264.1.8"), der(0x0C, ISSUER.encode()))
@@ -117,6 +125,8 @@ REFUSED = {
     "a checkpoint with a second signature, of a witness": ("checkpoint", {}, cosigned),
     "a trusted root with the root certificate alone, and a bundle without the certificates between":
         ("issuer", dict(chain=1, alone=True, left_out=0), None),
+    "a chain of more than 17 certificates": ("certificate", dict(chain=1, alone=True), many_certificates),
+    "a chain that has the root too": ("root-in-chain", dict(chain=1, alone=True), root_too),
 }
 
 NOT_CA = fixture.extensions(extension(BASIC_CONSTRAINTS, der(SEQUENCE), critical=True))
