@@ -14,7 +14,6 @@ import functools
 import json
 import pathlib
 import random
-import subprocess
 import sys
 
 TOP = pathlib.Path(__file__).resolve().parent.parent
@@ -22,6 +21,7 @@ sys.dont_write_bytecode = True
 sys.path.insert(0, str(TOP / "tools"))
 import consistency_cases as trees
 import log_requests as log
+import request_table
 from base_cases import audit_path, inclusion
 from consistency_requests import deeper
 
@@ -392,37 +392,7 @@ def examples():
     yield "audit-other-list", found | {"entries": found["entries"][:-1]}
 
 
-def check(program):
-    """How many replies of the program differ."""
-    failed = count = 0
-    for found in sweep():
-        text = json.dumps(found, separators=(",", ":"))
-        done = subprocess.run([program, "audit"], input=text, text=True, capture_output=True)
-        said, wanted = (done.stdout.removesuffix("\n").replace("\n", " "), done.returncode), reply(text)
-        count += 1
-        if said != wanted:
-            failed += 1
-            print(f"audit of {text[:200]}\n  gave {said} and not {wanted}", file=sys.stderr)
-    print(f"audit: {count} requests", file=sys.stderr)
-    return failed
-
-
-def main():
-    with open(TOP / "examples/audit.requests", "w", encoding="utf-8") as made:
-        for words, requests in GROUPS.items():
-            made.write(f"# {words}\n")
-            for found in requests():
-                text = found if isinstance(found, str) else json.dumps(found, separators=(",", ":"))
-                line, status = reply(text)
-                made.write(f"{text}\n{line} status {status}\n")
-    for name, found in examples():
-        text = json.dumps(found, indent=2)
-        (TOP / f"examples/{name}.json").write_text(text + "\n")
-        line, status = lines(text)
-        (TOP / f"examples/{name}.expected").write_text(f"{line}\nstatus {status}\n")
-
-
 if __name__ == "__main__":
     if sys.argv[1:2] == ["check"]:
-        sys.exit(min(check(sys.argv[2]), 1))
-    main()
+        sys.exit(min(request_table.count_differing(sys.argv[2], "audit", sweep(), reply), 1))
+    request_table.write("audit", GROUPS, reply, examples(), lines)

@@ -12,7 +12,6 @@ tree under the same two roots it takes for granted."""
 import base64
 import json
 import pathlib
-import subprocess
 import sys
 
 TOP = pathlib.Path(__file__).resolve().parent.parent
@@ -20,6 +19,7 @@ sys.dont_write_bytecode = True
 sys.path.insert(0, str(TOP / "tools"))
 import consistency_cases as trees
 import log_requests as log
+import request_table
 
 
 def read_request(text):
@@ -230,21 +230,6 @@ def sizes():
         yield from of_sizes(old, 300)
 
 
-def check(program):
-    """How many replies of the program differ."""
-    failed = count = 0
-    for found in sweep():
-        text = json.dumps(found, separators=(",", ":"))
-        done = subprocess.run([program, "consistency"], input=text, text=True, capture_output=True)
-        said, wanted = (done.stdout.removesuffix("\n").replace("\n", " "), done.returncode), reply(text)
-        count += 1
-        if said != wanted:
-            failed += 1
-            print(f"consistency of {text[:200]}\n  gave {said} and not {wanted}", file=sys.stderr)
-    print(f"consistency with entries: {count} requests", file=sys.stderr)
-    return failed
-
-
 GROUPS = {"each link that fails, and what holds": links, "members of another kind, out of range, absent, doubled, null": members,
           "lists and objects nest to 127": nesting, "the largest logs": largest,
           "the log's own entries: the list, other lists, what is no list of base64": lists, "logs of several sizes and their entries": sizes}
@@ -258,22 +243,7 @@ def examples():
     yield "consistency-rewritten", request(3, ENTRIES, oldRoot=rewritten)
 
 
-def main():
-    with open(TOP / "examples/consistency.requests", "w", encoding="utf-8") as made:
-        for words, requests in GROUPS.items():
-            made.write(f"# {words}\n")
-            for found in requests():
-                text = found if isinstance(found, str) else json.dumps(found, separators=(",", ":"))
-                line, status = reply(text)
-                made.write(f"{text}\n{line} status {status}\n")
-    for name, found in examples():
-        text = json.dumps(found, indent=2)
-        (TOP / f"examples/{name}.json").write_text(text + "\n")
-        line, status = lines(text)
-        (TOP / f"examples/{name}.expected").write_text(f"{line}\nstatus {status}\n")
-
-
 if __name__ == "__main__":
     if sys.argv[1:2] == ["check"]:
-        sys.exit(min(check(sys.argv[2]), 1))
-    main()
+        sys.exit(min(request_table.count_differing(sys.argv[2], "consistency", sweep(), reply), 1))
+    request_table.write("consistency", GROUPS, reply, examples(), lines)
