@@ -50,12 +50,7 @@ def watch_of(value):
 
 
 def read_request(text):
-    try:
-        members = log.tested(json.loads(text, parse_int=log.whole, parse_float=log.fraction, parse_constant=log.refuse))
-    except (ValueError, RecursionError):
-        log.refuse()
-    if not isinstance(members, dict):
-        log.refuse()
+    members = log.members_of(text)
     read = {
         "heads": log.required(members, "heads", log.list_of(head_of)),
         "watched": log.optional(members, "watched", log.list_of(watch_of)) or [],

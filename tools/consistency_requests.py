@@ -23,12 +23,7 @@ import request_table
 
 
 def read_request(text):
-    try:
-        members = log.tested(json.loads(text, parse_int=log.whole, parse_float=log.fraction, parse_constant=log.refuse))
-    except (ValueError, RecursionError):
-        log.refuse()
-    if not isinstance(members, dict):
-        log.refuse()
+    members = log.members_of(text)
     return {
         "old_size": log.required(members, "oldSize", log.integer(0, 2**64)),
         "old_root": log.required(members, "oldRoot", log.hash_of),

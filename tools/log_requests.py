@@ -116,13 +116,19 @@ def row_of(value):
     return (operation, scheme, *(required(value, name, bytes_of) for name in ("key", "message", "signature")))
 
 
-def read_request(text):
+def members_of(text):
+    """The members of a request's text, which has to be a JSON object without floats."""
     try:
         members = tested(json.loads(text, parse_int=whole, parse_float=fraction, parse_constant=refuse))
     except (ValueError, RecursionError):
         refuse()
     if not isinstance(members, dict):
         refuse()
+    return members
+
+
+def read_request(text):
+    members = members_of(text)
     return {
         "entry": required(members, "entry", bytes_of),
         "index": required(members, "logIndex", integer(-(2**63), 2**63)),
