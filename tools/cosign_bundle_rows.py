@@ -284,6 +284,20 @@ def body_changes(tree):
         yield lambda body: first(body).update({name: value})
 
 
+# ---- nesting
+
+
+def deep_rows(table, payloads):
+    table.note("Members that are ignored and nest to 127 or one more: in the bundle, in the payload and in the body.")
+    body = fixture.Request(payload=compact(Made().statement).encode()).body.decode()
+    for depth in (127, 128):
+        def deeper(text):
+            return text[:-1] + ',"more":%s%s}' % ("[" * (depth - 1), "]" * (depth - 1))
+        bundle_row(table, payloads, Made(told=[lambda made: setattr(made, "text", deeper(compact(made.tree)))]))
+        bundle_row(table, payloads, Made(payload=deeper(compact(Made().statement)).encode()))
+        bundle_row(table, payloads, Made(body=deeper(body).encode()))
+
+
 def rows(table, payloads):
     table.group("bundle TEXT DIGEST SOURCE REFERENCE POOL KEYS NOW ROWS: the layer of a Sigstore bundle, as `unsigned` shows it.")
     bundle_row(table, payloads, Made())
@@ -292,3 +306,4 @@ def rows(table, payloads):
     signer_rows(table, payloads)
     log_rows(table, payloads)
     body_rows(table, payloads)
+    deep_rows(table, payloads)

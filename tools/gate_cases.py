@@ -143,6 +143,28 @@ def rules():
     ruled("NotJson", nested("not", 124, {"least": 1}), nested("all", 63, {"least": 1}))
 
 
+def limits():
+    TABLE.group("members that are ignored and nest to 127 or one more, beside the others, in an artifact and in a rule; 300 of each that has no limit")
+    for depth, expected in ((127, "ok"), (128, "NotJson")):
+        text = spelled(manifest(other="", artifacts=[artifact(other="", rule={"least": 1, "other": ""})]))
+        for place, levels in enumerate((4, 3, 1)):
+            parts = text.split('""')
+            parts[place] += "[" * (depth - levels) + "]" * (depth - levels)
+            case(expected, '""'.join(parts[:place]) + '""' * (place > 0) + parts[place] + '""'.join(parts[place + 1:]))
+    several = {"n%03d" % place: str(place) for place in range(300)}
+    case("ok", manifest(artifact(root="n299"), roots=several))
+    case("UnknownRoot(0)", manifest(artifact(root="n300"), roots=several))
+    case("Member", manifest(artifact(root="n299"), roots={**several, "n300": 1}))
+    case("ok", manifest(artifact(policy="n299"), policies={name: POLICY for name in several}))
+    case("UnknownPolicy(0)", manifest(artifact(policy="n300"), policies={name: POLICY for name in several}))
+    case("Member", manifest(artifact(policy="n299"), policies={**{name: POLICY for name in several}, "n300": {}}))
+    for last, expected in ({"ref": "r"}, "ok"), ({"ref": None}, "Member"):
+        case(expected, manifest(policies={"p": {"any": [{"sha": "s"}] * 299 + [last]}}))
+    others = [{**ROW, "message": "bWVz"}] * 299
+    for last, expected in (ROW, "ok"), ({**ROW, "scheme": "ED"}, "Member"):
+        case(expected, manifest(accepted=[*others, last]))
+
+
 # ---- manifests by chance
 
 def some_artifact(chance):
@@ -164,7 +186,7 @@ def by_chance(count):
 
 
 def main():
-    for rows in (members, values, texts, names, counts, unknown, rules):
+    for rows in (members, values, texts, names, counts, unknown, rules, limits):
         rows()
     by_chance(400)
     TABLE.write()
