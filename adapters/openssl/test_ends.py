@@ -189,7 +189,7 @@ def planted(folder):
         os.mkdir(os.path.join(folder, package))
         file_of(folder, os.path.join(package, "__init__.py"), FORGED.encode())
     for name in ("sitecustomize", "usercustomize", "start", "genuine", "words", "times", "checked", "bundle", "json", "re",
-                 "os",                 "subprocess", "hashlib"):
+                 "os", "subprocess", "hashlib"):
         file_of(folder, f"{name}.py", FORGED.encode())
     file_of(folder, "bash_env", b"echo verified 2 5; exit 0\n")
     file_of(folder, "openssl.cnf", OPENSSL_SETTINGS)
