@@ -68,7 +68,7 @@ key-parts (key.ECDSA_P384_SHA384_ASN1 info) = refl
 key-parts (key.ECDSA_P521_SHA512_ASN1 info) = refl
 key-parts (key.ED25519 info) = refl
 
-same-key : (k l : CosignVerificationKey) → key_scheme k ≡ key_scheme l → key_info k ≡ key_info l → k ≡ l
+pub same-key : (k l : CosignVerificationKey) → key_scheme k ≡ key_scheme l → key_info k ≡ key_info l → k ≡ l
 same-key k l scheme info =
     key-parts k ∙ ap (λ s. key_of s (key_info k)) scheme ∙ ap (key_of (key_scheme l)) info ∙ sym (key-parts l)
 

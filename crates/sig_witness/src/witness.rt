@@ -1,7 +1,7 @@
 //! `Witness`: the tree heads of each log, each grown from the one before it.
 ghost use Rattle.std.specs.Prelude.{◌≡◌, ◌↔◌, ◌==◌, [], ◌∷◌, length, IfOk, OnOk, OnErr, IfSome, IsNone, IsTrue, Some, None, Result};
 ghost use Rattle.std.specs.List.{AllByRecursion, list_any};
-ghost use Rattle.std.specs.Option.{option_map};
+ghost use Rattle.std.specs.Option.{option_copied, option_map};
 ghost use Rattle.sig_audit.specs.Chained.{AreChained};
 ghost use Rattle.sig_audit.specs.Fronts.{EndsInList, IsOfFront};
 ghost use Rattle.sig_base.specs.Answers.{Answers, UnlessMemory};
@@ -10,7 +10,7 @@ ghost use Rattle.sig_base.specs.Collision.{IsCollision};
 ghost use Rattle.sig_merkle.specs.HashedText.{AreHashedTexts};
 ghost use Rattle.sig_witness.specs.Answer.{update_answer};
 ghost use Rattle.sig_witness.specs.Causes.{IsAddAnswer, IsUpdateAnswer};
-ghost use Rattle.sig_witness.specs.Kept.{AreKept, IsKeptLog, IsOriginText, chain_at, first_head, last_of, line_feed, new_log, size_and_root};
+ghost use Rattle.sig_witness.specs.Kept.{AreKept, IsKeptLog, IsOriginText, chain_at, first_head, last_of, line_feed, log_key, new_log, size_and_root};
 ghost use Rattle.sig_witness.specs.Updates.{grown_log, head_of, IsStep, update_of};
 ghost use Rattle.sig_witness.specs.declared.error.WitnessError.{WitnessError as witness_error};
 ghost use Rattle.sig_witness.specs.declared.kept_log.KeptLog.{KeptLog as Log};
@@ -74,6 +74,16 @@ impl Witness {
             return None;
         };
         Some(last_head(log.chain.as_slice()))
+    }
+
+    /// The key of an origin's log, or `None` if and only if the origin is not there.
+    pub fn key(&self, origin: &str) -> Option<&CosignVerificationKey>
+        ensures { option_copied result ≡ option_map log_key (text_lookup origin.now self.now) }
+    {
+        match self.logs.get(origin) {
+            Some(log) => Some(&log.key),
+            None => None,
+        }
     }
 
     /// Adds an origin with the key of its log. The kept head is that of the tree without leaves, whose root is SHA-256
