@@ -1,0 +1,11 @@
+pub mod Outcomes
+pub mod Starts
+pub mod Walks
+pub mod Refusals
+pub mod Replies
+pub mod EachOnce
+pub mod Lookups
+pub mod Marks
+pub mod Listings
+pub mod QuestionReplies
+pub mod Sufficing
