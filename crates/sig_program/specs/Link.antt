@@ -3,9 +3,9 @@ use Rattle.std.specs.Prelude.{ℕ, List, [], ◌∷◌, Option}
 use Rattle.std.specs.List.{AllByRecursion}
 use Rattle.sig_base.specs.Rules.{FailsFirst}
 use Rattle.sig_program.specs.declared.command.Command.{Command}
-use Rattle.sig_program.specs.declared.command.Command.TheVariants.{Log, Verify, Consistency, Audit, LogQuestions}
+use Rattle.sig_program.specs.declared.command.Command.TheVariants.{Log, Verify, Consistency, Audit, Witness, LogQuestions}
 use Rattle.sig_program.specs.declared.command.Command.TheVariants.{VerifyQuestions, ConsistencyQuestions}
-use Rattle.sig_program.specs.declared.command.Command.TheVariants.{AuditQuestions}
+use Rattle.sig_program.specs.declared.command.Command.TheVariants.{AuditQuestions, WitnessQuestions}
 use Rattle.sig_verify.specs.declared.link.Link.{Link}
 use Rattle.sig_verify.specs.declared.link.Link.TheVariants.{Request, Checkpoint, NoteKey, NoteMatch, Inclusion}
 use Rattle.sig_request.specs.declared.request.LogRequest.{LogRequest}
@@ -22,21 +22,27 @@ use Rattle.sig_request.specs.AuditRequest.{audit_request}
 use Rattle.sig_request.specs.declared.audit_request.AuditRequest.{AuditRequest}
 use Rattle.sig_request.specs.ReadFrom.{IsRequestOf}
 use Rattle.sig_program.specs.Verdict.{IsLinkVerdict}
+use Rattle.sig_witness_command.specs.Request.{witness_request}
+use Rattle.sig_witness_command.specs.Start.{IsStart, Logs}
+use Rattle.sig_witness_command.specs.declared.request.WitnessRequest.{WitnessRequest}
 
 -- the links of `log`
 abbrev pub log_links : List Link
 log_links = Request ∷ Checkpoint ∷ NoteKey ∷ NoteMatch ∷ Inclusion ∷ []
 
--- of `audit` the one link that is of no head and of no watched entry: the others are sig_audit_command's
+-- of `audit` the one link that is of no head and of no watched entry: the others are sig_audit_command's; of `witness`
+-- the one that there is
 abbrev pub links : Command → List Link
 links Log = log_links
 links Verify = verify_links
 links Consistency = consistency_links
 links Audit = Request ∷ []
+links Witness = Request ∷ []
 links LogQuestions = head_question_links
 links VerifyQuestions = verify_question_links
 links ConsistencyQuestions = head_question_links
 links AuditQuestions = Request ∷ []
+links WitnessQuestions = Request ∷ []
 
 -- the proof is one of the entry
 abbrev pub IsLogged : LogRequest → Type 0
@@ -54,17 +60,24 @@ HoldsOfLog request NoteMatch = HoldsOfLogHead request NoteMatch
 HoldsOfLog request Inclusion = IsLogged request
 HoldsOfLog request other = Unit {0}
 
+-- a text is a request of `witness`, which starts from some logs
+abbrev pub IsWitnessRequest : List ℕ → Type 0
+IsWitnessRequest text =
+    (request : WitnessRequest) × IsRequestOf witness_request text request × ((start : Logs) × IsStart request start)
+
 -- a link holds of a text: the text is a request of the command, and the link holds of it
 abbrev pub Holds : Command → List ℕ → Link → Type 0
 Holds Log text link = (request : LogRequest) × IsRequestOf log_request text request × HoldsOfLog request link
 Holds Verify text link = HoldsVerify text link
 Holds Consistency text link = HoldsConsistency text link
 Holds Audit text link = (request : AuditRequest) × IsRequestOf audit_request text request
+Holds Witness text link = IsWitnessRequest text
 Holds LogQuestions text link = HoldsHeadQuestions log_request (λ (r : LogRequest). r.head) text link
 Holds VerifyQuestions text link = HoldsVerifyQuestions text link
 Holds ConsistencyQuestions text link =
     HoldsHeadQuestions consistency_request (λ (r : ConsistencyRequest). r.head) text link
 Holds AuditQuestions text link = (request : AuditRequest) × IsRequestOf audit_request text request
+Holds WitnessQuestions text link = IsWitnessRequest text
 
 -- every link of the command holds of a text
 abbrev pub EveryLinkHolds : Command → List ℕ → Type 0

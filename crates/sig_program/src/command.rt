@@ -15,6 +15,8 @@ pub enum Command {
     Consistency,
     /// `audit`: are these heads of one log over time, and are these entries in it?
     Audit,
+    /// `witness`: which of these heads have grown from those that are kept?
+    Witness,
     /// `questions log`: which signatures can the reply of `log` rest on?
     LogQuestions,
     /// `questions verify`: which signatures can the reply of `verify` rest on?
@@ -23,6 +25,8 @@ pub enum Command {
     ConsistencyQuestions,
     /// `questions audit`: which signatures can the reply of `audit` rest on?
     AuditQuestions,
+    /// `questions witness`: which signatures can the reply of `witness` rest on?
+    WitnessQuestions,
 }
 
 impl Command {
@@ -37,6 +41,7 @@ impl Command {
                 "verify" => Some(Command::Verify),
                 "consistency" => Some(Command::Consistency),
                 "audit" => Some(Command::Audit),
+                "witness" => Some(Command::Witness),
                 _ => None,
             },
             [first, second] => match (first.as_str(), second.as_str()) {
@@ -44,6 +49,7 @@ impl Command {
                 ("questions", "verify") => Some(Command::VerifyQuestions),
                 ("questions", "consistency") => Some(Command::ConsistencyQuestions),
                 ("questions", "audit") => Some(Command::AuditQuestions),
+                ("questions", "witness") => Some(Command::WitnessQuestions),
                 _ => None,
             },
             _ => None,

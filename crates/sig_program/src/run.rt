@@ -13,8 +13,9 @@ ghost use Rattle.sig_program.specs.Run.{AppendsFront, usage_line};
 ghost use Rattle.sig_program.specs.Status.{usage_status, memory_status, fault_status};
 ghost use Rattle.sig_program.specs.Suffice.{ConsistencyQuestionsSuffice, LogQuestionsSuffice, VerifyQuestionsSuffice};
 ghost use Rattle.sig_program.specs.VerifyQuestions.{RefusesForAll};
-ghost use Rattle.sig_program.specs.declared.command.Command.TheVariants.{AuditQuestions, ConsistencyQuestions, LogQuestions, VerifyQuestions};
+ghost use Rattle.sig_program.specs.declared.command.Command.TheVariants.{AuditQuestions, ConsistencyQuestions, LogQuestions, VerifyQuestions, WitnessQuestions};
 ghost use Rattle.sig_program.specs.declared.invocation.Invocation.TheVariants.{Demo};
+ghost use Rattle.sig_witness_command.specs.Suffice.{WitnessQuestionsSuffice};
 
 use crate::command::Command;
 use crate::consistency::consistency_reply;
@@ -33,6 +34,7 @@ use sig_base::{OutOfMemory, Sink, Source, Text};
 use sig_reply::Reply;
 use sig_request::{ReadFault, read_request};
 use sig_verify::Link;
+use sig_witness_command::{witness_questions, witness_reply};
 use std::alloc::Global;
 
 /// The status for words that ask for nothing (EX_USAGE of sysexits.h).
@@ -74,8 +76,11 @@ impl From<OutOfMemory> for NoReply {
 /// for `audit`, and each of the K heads is that of the list's first entries, each watched entry that at its index; or
 /// `collision HEX HEX`, two different byte strings of equal SHA-256; else `other list`.
 ///
-/// `questions log`, `questions verify`, `questions consistency` and `questions audit` read a request of the command, and
-/// list the signatures that its reply can rest on, as a JSON list in the form of `accepted`, with status 0; else `refused NAME` for the first link that
+/// `witness` writes a line for each update, an empty line, and the state of all kept heads after them, with status 0 if
+/// all updates were accepted, else 1; or `refused request` with status 2.
+///
+/// `questions log`, `questions verify`, `questions consistency`, `questions audit` and `questions witness` read a request
+/// of the command, and list the signatures that its reply can rest on, as a JSON list in the form of `accepted`, with status 0; else `refused NAME` for the first link that
 /// fails whatever signatures are accepted, and `refused request` if the bytes of the request, of the list and of
 /// `,"accepted":` would be more than 2^24 together.
 ///
@@ -96,7 +101,8 @@ pub fn run<S: Source, K: Sink>(alloc: Global, words: &[Text], source: &mut S, si
 
     // The headline: what `Answered` says of the reply is that every link holds if the status is 0, and that else it
     // shows the first that fails; and of the log's entries, where they are given, what `IsSecondLine` says, for
-    // `consistency` what `IsFrontLine` does, and for `audit` what `IsListLine` does.
+    // `consistency` what `IsFrontLine` does, and for `audit` what `IsListLine` does. For `witness` it is that the state
+    // which is written is *Witness run*'s, and the lines say what became of each update.
     ensures answered { result < 3 →
         Answered words.now (S.left source.old) (S.left source.new) (K.taken sink.old) (K.taken sink.new) result }
     ensures usage { result ≡ usage_status → ¬ IsInvocation words.now
@@ -116,11 +122,11 @@ pub fn run<S: Source, K: Sink>(alloc: Global, words: &[Text], source: &mut S, si
         (K.handed sink.new) }
     ensures later { (S.faults source.old ≤ S.faults source.new) × (K.faults sink.old ≤ K.faults sink.new) }
 
-    // Nothing else matters: of the accepted signatures of a request of `log`, `consistency` or `audit`, its reply depends
-    // on those alone that are over a checkpoint's note under the log's scheme and key, and of a request of `verify` on
-    // those alone that a link asks for. `questions` lists them, unless the list is too long.
+    // Nothing else matters: of the accepted signatures of a request of `log`, `consistency`, `audit` or `witness`, its
+    // reply depends on those alone that are over a checkpoint's note under the log's scheme and key, and of a request of
+    // `verify` on those alone that a link asks for. `questions` lists them, unless the list is too long.
     ensures suffice { LogQuestionsSuffice × VerifyQuestionsSuffice × ConsistencyQuestionsSuffice
-        × AuditQuestionsSuffice }
+        × AuditQuestionsSuffice × WitnessQuestionsSuffice }
 
     // A link other than `request` is the first that fails in `questions verify` if and only if it is the first that
     // fails in `verify`, whatever signatures are accepted and whatever the policy says.
@@ -129,7 +135,8 @@ pub fn run<S: Source, K: Sink>(alloc: Global, words: &[Text], source: &mut S, si
     // A list that is written can be given back: the request with the list put in as `accepted`, before its last brace
     // or wherever else, has at most 2^24 bytes.
     ensures given_back { ListsAreGivenBack LogQuestions × ListsAreGivenBack VerifyQuestions
-        × ListsAreGivenBack ConsistencyQuestions × ListsAreGivenBack AuditQuestions }
+        × ListsAreGivenBack ConsistencyQuestions × ListsAreGivenBack AuditQuestions
+        × ListsAreGivenBack WitnessQuestions }
 {
     lists();
     let Some(invocation) = Invocation::asked(words) else {
@@ -187,10 +194,12 @@ fn reply_of(alloc: Global, command: Command, request: &[u8]) -> Result<Reply, Ou
         Command::Verify => verify_reply(alloc, request),
         Command::Consistency => consistency_reply(alloc, request),
         Command::Audit => audit_reply(alloc, request),
+        Command::Witness => witness_reply(alloc, request),
         Command::LogQuestions => log_questions(alloc, request),
         Command::VerifyQuestions => verify_questions(alloc, request),
         Command::ConsistencyQuestions => consistency_questions(alloc, request),
         Command::AuditQuestions => audit_questions(alloc, request),
+        Command::WitnessQuestions => witness_questions(alloc, request),
     }
 }
 

@@ -11,10 +11,12 @@ usage: sigverify log < REQUEST
        sigverify verify < REQUEST
        sigverify consistency < REQUEST
        sigverify audit < REQUEST
+       sigverify witness < REQUEST
        sigverify questions log < REQUEST
        sigverify questions verify < REQUEST
        sigverify questions consistency < REQUEST
        sigverify questions audit < REQUEST
+       sigverify questions witness < REQUEST
        sigverify demo N
        sigverify --help | --version
 
@@ -104,6 +106,32 @@ commands:
            collision HEX HEX   neither: two different byte strings of equal
                                SHA-256
 
+  witness Which heads have grown from those that are kept? The request on
+         standard input is a JSON object with the members
+           state       text, what the last run wrote behind the empty line; empty
+                       or absent before the first
+           origins     optional list of the logs that are added to it, objects
+                       with
+             origin      text, the first line of the log's notes
+             scheme, key   as of log
+           updates     optional list of at most 4096 objects with
+             checkpoint  text, a signed note
+             oldSize     the size of the head that is kept, 0 for an origin that
+                         was just added
+             hashes      list of 64 hex digits, the consistency proof from it
+           accepted    as of log
+         The reply on standard output is a line for each update,
+           accepted SIZE            the new head is kept
+           refused checkpoint       the text is no signed note
+           refused origin           its origin is not kept
+           refused note-key         no signature is accepted under its key
+           refused old-size KEPT    the head that is kept has this size
+           refused consistency      the hashes do not lead to the new head
+           refused full             4096 heads were kept in this run
+         an empty line, and the state; or
+           refused request
+         A refused update changes nothing. Nothing is signed.
+
   questions log, questions verify, questions consistency, questions audit
          Which signatures can the reply of the command rest on? The
          request is the command's own, and its accepted, if given, has to be a
@@ -114,6 +142,9 @@ commands:
                                12 bytes more, more than 2^24 bytes
          Those that are genuine are what accepted needs: no other signature
          matters.
+  questions witness
+         The same of witness: of each update each signature under the key of its
+         origin, each once. The refusal is that of the request alone.
 
   demo N Does it work? N is how many entries a log has that the program makes up,
          from 1 to 4096 in decimal digits. Nothing is read. The reply is three
@@ -127,7 +158,7 @@ docs/LINKS.md says of each link what was tested, and what to look at first.
 
 status:
   0   every link holds; of questions, the list is written
-  1   a link other than request fails
+  1   a link other than request fails; of witness, an update is refused
   2   the link request fails; of questions also, the list would be too long
   64  the words are no command, or no number that demo takes
   71  out of memory

@@ -3,9 +3,9 @@ use Rattle.std.specs.Prelude.{◌≡◌, ℕ}
 use Rattle.sig_program.specs.declared.command.Command.{Command}
 use Rattle.sig_program.specs.declared.command.Command.TheVariants as command
 use Rattle.sigverify_c.specs.declared.numbered.Numbered.{Numbered}
-use Rattle.sigverify_c.specs.declared.numbered.Numbered.TheVariants.{Log, Verify, Consistency, Audit}
+use Rattle.sigverify_c.specs.declared.numbered.Numbered.TheVariants.{Log, Verify, Consistency, Audit, Witness}
 use Rattle.sigverify_c.specs.declared.numbered.Numbered.TheVariants.{LogQuestions, VerifyQuestions}
-use Rattle.sigverify_c.specs.declared.numbered.Numbered.TheVariants.{ConsistencyQuestions, AuditQuestions}
+use Rattle.sigverify_c.specs.declared.numbered.Numbered.TheVariants.{ConsistencyQuestions, AuditQuestions, WitnessQuestions}
 
 -- the number that C has for a command: that of its questions is 256 more
 abbrev pub number_of : Command → ℕ
@@ -13,10 +13,12 @@ number_of command.Log = 1
 number_of command.Verify = 2
 number_of command.Consistency = 3
 number_of command.Audit = 4
+number_of command.Witness = 5
 number_of command.LogQuestions = 257
 number_of command.VerifyQuestions = 258
 number_of command.ConsistencyQuestions = 259
 number_of command.AuditQuestions = 260
+number_of command.WitnessQuestions = 261
 
 -- a command has the number
 abbrev pub IsNumber : ℕ → Type 0
@@ -28,7 +30,9 @@ command_of Log = command.Log
 command_of Verify = command.Verify
 command_of Consistency = command.Consistency
 command_of Audit = command.Audit
+command_of Witness = command.Witness
 command_of LogQuestions = command.LogQuestions
 command_of VerifyQuestions = command.VerifyQuestions
 command_of ConsistencyQuestions = command.ConsistencyQuestions
 command_of AuditQuestions = command.AuditQuestions
+command_of WitnessQuestions = command.WitnessQuestions

@@ -12,6 +12,7 @@ use sig_program::log_questions::log_questions;
 use sig_program::verify::verify_reply;
 use sig_program::verify_questions::verify_questions;
 use sig_reply::Reply;
+use sig_witness_command::{witness_questions, witness_reply};
 use std::alloc::Global;
 
 /// A command that has a number.
@@ -21,10 +22,12 @@ pub enum Numbered {
     Verify,
     Consistency,
     Audit,
+    Witness,
     LogQuestions,
     VerifyQuestions,
     ConsistencyQuestions,
     AuditQuestions,
+    WitnessQuestions,
 }
 
 impl Numbered {
@@ -38,10 +41,12 @@ impl Numbered {
             2 => Some(Numbered::Verify),
             3 => Some(Numbered::Consistency),
             4 => Some(Numbered::Audit),
+            5 => Some(Numbered::Witness),
             257 => Some(Numbered::LogQuestions),
             258 => Some(Numbered::VerifyQuestions),
             259 => Some(Numbered::ConsistencyQuestions),
             260 => Some(Numbered::AuditQuestions),
+            261 => Some(Numbered::WitnessQuestions),
             _ => None,
         }
     }
@@ -55,10 +60,12 @@ impl Numbered {
             Numbered::Verify => verify_reply(alloc, request),
             Numbered::Consistency => consistency_reply(alloc, request),
             Numbered::Audit => audit_reply(alloc, request),
+            Numbered::Witness => witness_reply(alloc, request),
             Numbered::LogQuestions => log_questions(alloc, request),
             Numbered::VerifyQuestions => verify_questions(alloc, request),
             Numbered::ConsistencyQuestions => consistency_questions(alloc, request),
             Numbered::AuditQuestions => audit_questions(alloc, request),
+            Numbered::WitnessQuestions => witness_questions(alloc, request),
         }
     }
 }

@@ -19,4 +19,10 @@ pub returns-clause-refusals : goal.returns-clause-refusals
 returns-clause-refusals c = refuses_for_all c.refusals.ensures
 
 pub returns-clause-given_back : goal.returns-clause-given_back
-returns-clause-given_back c = (log_lists, verify_lists, consistency_lists, c.audit_lists.ensures.given_back)
+returns-clause-given_back c = (
+  log_lists,
+  verify_lists,
+  consistency_lists,
+  c.audit_lists.ensures.given_back,
+  c.witness_lists.ensures.given_back,
+)
