@@ -18,6 +18,7 @@ from layers import images
 from library import library
 from measure import megabytes, written
 from shapes import filled
+from witnesses import witnesses
 
 # Requests of `log` by the reply that they have; each is made at half of the largest size, and at the whole.
 LOG_REQUESTS = {
@@ -471,6 +472,6 @@ def walks(bench):
     bench.goal("check of inclusion, time to its hashes", took[0] / took[2], MOST_TO_HASHES)
 
 
-OF_PROGRAM = (log, entries, audits, audit_lists, demo, verify, questions, bundles_at_once, library)  # those that measure sigverify
+OF_PROGRAM = (log, entries, audits, audit_lists, witnesses, demo, verify, questions, bundles_at_once, library)  # those that measure sigverify
 OF_READERS = (entries, certificates, documents, bundles, statements, images, artifacts, pools, walks)  # those that run sig_bench
 TABLES = {table.__name__: table for table in (*OF_PROGRAM, *OF_READERS)}

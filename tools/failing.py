@@ -18,6 +18,7 @@ import log_requests
 import questions_cases
 import verify_cases
 import verify_links
+import witness_requests
 from fixture import anchor, certificate, compact, name
 
 HERE = pathlib.Path(__file__).resolve().parent
@@ -112,9 +113,20 @@ def audit_cases():
     yield made("questions audit", "questions audit", whole, questions_cases.audit_reply(whole))
 
 
+def witness_cases_made():
+    """Three updates, and one of them refused; a state; and the signatures of the updates."""
+    grown = witness_requests.GROWN[:3]
+    whole = json.dumps(witness_requests.request(grown, witness_requests.OTHERS))
+    state = witness_requests.state_of(json.loads(whole))
+    late = json.dumps(witness_requests.request([witness_requests.GROWN[3], grown[0], witness_requests.AGAIN], (), state))
+    for title, text in (("witness", whole), ("witness, refused old-size", late)):
+        yield made(title, "witness", text, witness_requests.lines(text))
+    yield made("questions witness", "questions witness", whole, questions_cases.witness_reply(whole))
+
+
 def demo_cases():
     yield Case("demo 3", ["demo", "3"], b"", demo_requests.shown(3).encode(), 0)
 
 
 def cases():
-    return [*log_cases(), *verify_cases_made(), *consistency_cases(), *audit_cases(), *demo_cases()]
+    return [*log_cases(), *verify_cases_made(), *consistency_cases(), *audit_cases(), *witness_cases_made(), *demo_cases()]

@@ -24,10 +24,10 @@ COUNT, INDEX = 5, 2  # the entries of the log that is drawn, and the entry that 
 # The links.
 
 def names_of_program():
-    """The names that replies have, from the sources: `Link::Kind => "name"`, and `refused_at(alloc, "name", ..)`."""
+    """The names that replies have, from the sources: `Link::Kind => "name"`, `refused_at(alloc, "name", ..)`, and the lines "refused name"."""
     texts = [path.read_text() for path in sorted(TOP.glob("crates/*/src/*.rt"))]
-    return {name for text in texts for name in re.findall(r'\w*Link::\w+ => "([a-z-]+)"|refused_at\(\s*alloc,\s*"([a-z-]+)"', text)
-            for name in name if name}
+    forms = r'\w*Link::\w+ => "([a-z-]+)"|refused_at\(\s*alloc,\s*"([a-z-]+)"|"refused ([a-z-]+)(?:\\n)?"'
+    return {name for text in texts for names in re.findall(forms, text) for name in names if name}
 
 
 def sections(path):

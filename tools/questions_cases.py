@@ -3,7 +3,7 @@
 
     tools/questions_cases.py                  writes the examples/questions-*.expected
     tools/questions_cases.py check PROGRAM    runs the program on each request of examples/log.requests, of examples/consistency.requests, of
-                                              examples/audit.requests and of the rows of `verify`, and compares its reply with this reader's. Where it lists signatures, the command has to have
+                                              examples/audit.requests, of examples/witness.requests and of the rows of `verify`, and compares its reply with this reader's. Where it lists signatures, the command has to have
                                               the same reply with those of the accepted signatures alone that are listed, and that of
                                               the second implementation with all that are listed; where it names a link of the chain
                                               of trust, `verify` has to name it too, with and without accepted signatures. Then come
@@ -11,7 +11,8 @@
                                               those with the longest chains, whose lists have the number of rows that is stated by hand
 
 The reader of a request of `log` is that of tools/log_requests.py, that of one of `consistency` that of
-tools/consistency_requests.py, and that of one of `audit` that of tools/audit_requests.py. That of a request of `verify` asks
+tools/consistency_requests.py, that of one of `audit` that of tools/audit_requests.py, and that of one of `witness` that of
+tools/witness_requests.py. That of a request of `verify` asks
 the links of tools/verify_links.py: those before `issuer` for the first that fails, and the others for the signatures that they
 look up, under one issuer at a time. Which certificates come after one another in a path, if every signature is genuine, it finds
 out by walking all paths.
@@ -33,6 +34,7 @@ import verify_cases  # noqa: E402
 import verify_certificate as certificates  # noqa: E402
 import verify_links as links  # noqa: E402
 import verify_rows  # noqa: E402
+import witness_requests  # noqa: E402
 from log_requests import NoRequest, rekor  # noqa: E402
 from x509_paths import inter  # noqa: E402
 
@@ -41,6 +43,7 @@ BETWEEN = ',"accepted":'  # a request and its list
 LOG = ["log", "log-entries", "log-rekor-staging", "log-wrong-path"]
 CONSISTENCY = ["consistency", "consistency-entries", "consistency-rewritten"]
 AUDIT = ["audit", "audit-forged"]
+WITNESS = ["witness", "witness-next"]
 VERIFY = ["verify", "verify-refused"]
 
 
@@ -100,6 +103,16 @@ def audit_reply(text):
         except rekor.Fault:
             return f"refused checkpoint {place}", 1
     return listing(text, document(rows))
+
+
+def witness_reply(text):
+    """The reply of `questions witness` and its status: the signatures of each update under the key of its origin, each once."""
+    try:
+        request = witness_requests.read_request(text)
+        witness = witness_requests.started(request)
+    except NoRequest:
+        return "refused request", 2
+    return listing(text, document(witness_requests.rows_asked(request, witness)))
 
 
 class Asked(list):
@@ -188,7 +201,8 @@ def verify_reply(text):
 
 
 def write():
-    for names, reply in ((LOG, log_reply), (CONSISTENCY, consistency_reply), (AUDIT, audit_reply), (VERIFY, verify_reply)):
+    for names, reply in ((LOG, log_reply), (CONSISTENCY, consistency_reply), (AUDIT, audit_reply), (WITNESS, witness_reply),
+                         (VERIFY, verify_reply)):
         for name in names:
             text, status = reply((TOP / f"examples/{name}.json").read_text())
             (TOP / f"examples/questions-{name}.expected").write_text(f"{text}\nstatus {status}\n")
@@ -241,6 +255,15 @@ def with_many_heads(text, count):
     return json.dumps({**request, "heads": request["heads"] + [again] * count})
 
 
+def with_different_signatures(text, count):
+    """The request of a witness whose first checkpoint has so many signatures, each of them twice."""
+    request = json.loads(text)
+    first = request["updates"][0]
+    note, _ = first["checkpoint"].split("\n\n")
+    lines = [f"\u2014 log.example {in_base64(number.to_bytes(8, 'big'))}" for number in range(count)]
+    return json.dumps({**request, "updates": [{**first, "checkpoint": "\n\n".join([note, *lines, *lines])}]})
+
+
 def about_the_limit(program, command, text):
     """Whether the list of a request is written as long as the two fit one request, which is then read."""
     front, brace = text.rstrip()[:-1], "}"
@@ -257,11 +280,12 @@ def about_the_limit(program, command, text):
 
 
 def limit_texts():
-    log, consistency, audit, verify = ((TOP / f"examples/{name}.json").read_text() for name in ("log", "consistency", "audit", "verify"))
+    log, consistency, audit, witness, verify = ((TOP / f"examples/{name}.json").read_text()
+                                                for name in ("log", "consistency", "audit", "witness", "verify"))
     # The list of many signatures is longer than the request, whose note each of them repeats.
     return [("log", log), ("log", with_signatures(log, 40_000)), ("consistency", consistency),
             ("consistency", with_signatures(consistency, 40_000)), ("audit", audit), ("audit", with_many_heads(audit, 200)),
-            ("verify", verify)]
+            ("witness", witness), ("witness", with_different_signatures(witness, 40_000)), ("verify", verify)]
 
 
 def chain_text(over, anchors):
@@ -303,6 +327,7 @@ def check(program):
     for command, texts, reader, second in (("log", texts_of("log"), log_reply, log_requests.reply),
                                            ("consistency", texts_of("consistency"), consistency_reply, consistency_requests.reply),
                                            ("audit", texts_of("audit"), audit_reply, audit_requests.reply),
+                                           ("witness", texts_of("witness"), witness_reply, witness_requests.reply),
                                            ("verify", verify_texts(), verify_reply, verify_second)):
         for text in texts:
             wanted = reader(text)

@@ -4,7 +4,8 @@
 What comes of a run is counted here by the contract of `run`: a request is read until the source gives nothing more, its calls counted from 0;
 the reply is written when it is whole, each call handed all that is left of it; a read that fails writes nothing, and a write that fails leaves
 what was written before it, with status 74 both times; words that are no command, and `demo N`, read nothing. The replies are those of
-tools/log_requests.py, tools/consistency_requests.py, tools/audit_requests.py, tools/questions_cases.py and, of `demo`, tools/demo_requests.py."""
+tools/log_requests.py, tools/consistency_requests.py, tools/audit_requests.py, tools/witness_requests.py, tools/questions_cases.py and, of `demo`,
+tools/demo_requests.py."""
 import hashlib
 import json
 import sys
@@ -15,6 +16,7 @@ import audit_requests as audits
 import consistency_requests as growth
 import demo_requests
 import questions_cases
+import witness_requests as witnesses
 from case_table import Table
 from log_requests import FIRST
 
@@ -22,7 +24,8 @@ from log_requests import FIRST
 ASKED = 16_384
 FAULT = 74
 NEVER = 999_999
-COMMANDS = ("log", "verify", "consistency", "audit", "questions,log", "questions,verify", "questions,consistency", "questions,audit")
+COMMANDS = ("log", "verify", "consistency", "audit", "witness", "questions,log", "questions,verify", "questions,consistency", "questions,audit",
+            "questions,witness")
 
 # Words that look like `demo N`.
 NOT_DEMO = (
@@ -141,12 +144,36 @@ def audited_logs():
     both(audits.request([audits.X] * 256, [audits.ONE] * 300, audits.LOG), WIDE[:2])
 
 
+def kept_heads():
+    def both(request, source=STEADY):
+        found = json.dumps(request, separators=(",", ":"))
+        for words, (reply, status) in (("witness", witnesses.lines(found)), ("questions,witness", questions_cases.witness_reply(found))):
+            run(words, found, source, (64, NEVER, 65536), reply.encode() + b"\n", status)
+
+    group("Heads kept over time: the first updates of a log; each refusal; a state that is handed back, and states and origins that are none")
+    for request in witnesses.first_rows():
+        both(request)
+    grown, others = witnesses.GROWN, witnesses.OTHERS
+    whole = witnesses.request(grown, others)
+    state = witnesses.state_of(whole)
+    spoiled = ({"checkpoint": witnesses.BROKEN}, {"oldSize": 2}, {"hashes": []}, {"checkpoint": witnesses.update(witnesses.LOG, origin="nobody")["checkpoint"]})
+    for changes in spoiled:
+        both(witnesses.request(audits.put(grown, 1, {**grown[1], **changes}), others))
+    both({**whole, "accepted": whole["accepted"][1:]})
+    both(witnesses.request([witnesses.update(witnesses.LOG, origin="a")], (), state))
+    both(witnesses.request([], others, state))
+    both(witnesses.request([], (), state[:-1]))
+    both(witnesses.request(grown + grown, [witnesses.origin("\n")]))
+    for request in list(witnesses.hundreds())[1:]:
+        both(request, WIDE[:2])
+
+
 def other_words():
     group("Both fail: the read comes first")
     run("log", FIRST, (64, 2), (1, 3, 256), LOGGED, 0)
     run("log", "", (1, 0), (1, 0, 0), REFUSED, 2)
     group("Words that are no command, and those that `main` answers itself: nothing is read")
-    for words in ("x", "--help", "--version", "log,log", "questions", "questions,questions", "questions,consistency,log", "audit,audit", "questions,audit,audit", "Audit", "Log", "log,"):
+    for words in ("x", "--help", "--version", "log,log", "questions", "questions,questions", "questions,consistency,log", "audit,audit", "questions,audit,audit", "witness,witness", "Witness", "Audit", "Log", "log,"):
         run(words, "12345", (1, 0), WIDE, USAGE, 64)
         for failing in range(4):
             run(words, "12345", STEADY, (2, failing, 256), USAGE, 64)
@@ -181,6 +208,7 @@ def main():
     failing_calls()
     grown_trees()
     audited_logs()
+    kept_heads()
     other_words()
     demo()
     TABLE.write()

@@ -12,7 +12,7 @@ import (
 	"testing"
 )
 
-var commands = map[string]Command{"log": Log, "verify": Verify, "consistency": Consistency, "audit": Audit}
+var commands = map[string]Command{"log": Log, "verify": Verify, "consistency": Consistency, "audit": Audit, "witness": Witness}
 
 // expected reads the reply and the status of a file, whose last line says the status.
 func expected(t *testing.T, path string) string {

@@ -35,6 +35,11 @@ OF_ENTRIES = b"(?:(?:entry|prefix|prefixes) [0-9]+\n|other list\n|collision [0-9
 REPLIES = {command: {0: b"%s [0-9]+ [0-9]+\n%s" % (word, OF_ENTRIES), **REFUSED}
            for command, word in (("log", b"logged"), ("verify", b"verified"), ("consistency", b"consistent"))}
 REPLIES["audit"] = {0: b"audited [0-9]+ [0-9]+ [0-9]+\n%s" % OF_ENTRIES, **REFUSED_AT}
+# A line for each update, an empty line, and five for each origin; with status 1 one of the updates is refused.
+STATE = rb"\n(?:[^\n]+\n[A-Z0-9_]+\n[0-9A-Za-z+/=]*\n[0-9]+\n[0-9A-Za-z+/]{43}=\n)*"
+NOT_KEPT = rb"refused (?:checkpoint|origin|note-key|old-size [0-9]+|consistency|full)\n"
+KEPT = rb"accepted [0-9]+\n"
+REPLIES["witness"] = {0: b"(?:%s)*%s" % (KEPT, STATE), 1: b"(?:%s)*%s(?:%s|%s)*%s" % (KEPT, NOT_KEPT, KEPT, NOT_KEPT, STATE), 2: REFUSED[2]}
 
 
 def help_text():

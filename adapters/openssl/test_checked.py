@@ -70,6 +70,51 @@ def audits():
         yield "audit", json.load(file), 0, "audited 7 1 40\nprefixes 7\n"
 
 
+# How the update at each place is signed otherwise, the lines of those behind it, and the last that is accepted.
+SPOILED = (("flip", ["refused old-size 0"] * 3, None), ("stranger", ["refused old-size 2"] * 2, 0), ("another note", ["accepted 9"], 3), ("flip", [], 2))
+
+
+def witnesses():
+    """The heads of such audits as updates, in one run and in two, and each of them in turn signed otherwise; as many rows are claimed."""
+    import signed_audit
+    for kind in "P-256", "RSA-PSS", "Ed25519":
+        signer = signed.signer(kind, "log")
+        whole = witnessed(signer, signed_audit.audit(signer)[0])
+        yield "witness", whole, 0, lines_of("accepted 2", "accepted 5", "accepted 5", "accepted 9", *state_lines(signer, whole, 3))
+        for place, (by, behind, last) in enumerate(SPOILED):
+            request, _ = signed_audit.audit(signer, place, by)
+            claimed = {**witnessed(signer, request), "accepted": signed_audit.claimed(request, signer)}
+            said = ["accepted 2", "accepted 5", "accepted 5", "accepted 9"][:place]
+            yield "witness", claimed, 1, lines_of(*said, "refused note-key", *behind, *state_lines(signer, claimed, last))
+    signer = signed.signer("P-256", "log")
+    whole = witnessed(signer, signed_audit.audit(signer)[0])
+    state = "".join(line + "\n" for line in state_lines(signer, whole, 1)[1:])
+    later = {"state": state, "updates": whole["updates"][2:]}
+    yield "witness", later, 0, lines_of("accepted 5", "accepted 9", *state_lines(signer, whole, 3))
+    yield "witness", {**later, "origins": whole["origins"]}, 2, "refused request\n"
+    yield "witness", {}, 0, "\n"
+
+
+def witnessed(signer, audit):
+    """The request of `witness` with the heads of an audit."""
+    sizes = [int(head["checkpoint"].split("\n")[1]) for head in audit["heads"]]
+    updates = [{**head, "oldSize": old} for head, old in zip(audit["heads"], [0, *sizes])]
+    origin = {"origin": audit["heads"][0]["checkpoint"].split("\n")[0], "scheme": signer.scheme, "key": signed.base64_of(signer.spki)}
+    return {"origins": [origin], "updates": updates}
+
+
+def state_lines(signer, request, place):
+    """The lines after those of the updates, where this update is the last that was accepted."""
+    origin, size, root = request["updates"][place or 0]["checkpoint"].split("\n")[:3]
+    if place is None:
+        size, root = "0", signed.base64_of(fixture.sha256(b""))
+    return ["", origin, signer.scheme, signed.base64_of(signer.spki), size, root]
+
+
+def lines_of(*lines):
+    return "".join(line + "\n" for line in lines)
+
+
 def requests():
     """By command: a request, the status, and the lines."""
     for kind in "P-256", "P-384", "P-521", "RSA", "RSA-PSS", "Ed25519":
@@ -85,6 +130,7 @@ def requests():
     for title, link in signed.LINKS.items():
         yield "verify", verify_request(Signed(spoiled=title)), 1, f"refused {link}\n"
     yield from audits()
+    yield from witnesses()
     yield "log", verify_request(Signed()), 2, "refused request\n"
     yield "verify", {}, 2, "refused request\n"
 
@@ -175,6 +221,9 @@ def check_ends(results, program):
         for does in "echo 'audited 1 0'", "echo 'refused note-key'; exit 1", "echo 'audited 1 0 1'; echo 'entry 1 1'":
             program_of = program_that(folder, f'[ "$1" = audit ] || {{ echo "[]"; exit; }}; {does}')
             compare_end(results, f"an audit that does: {does}", [f"--sigverify={program_of}", "audit"], "no reply", adapter=CHECKED, input=text)
+        for does in "echo 'accepted 1'", "echo; echo x", "echo 'refused full'; echo; exit 0", "echo 'accepted 1'; echo; exit 1", "echo; exit 1":
+            program_of = program_that(folder, f'[ "$1" = witness ] || {{ echo "[]"; exit; }}; {does}')
+            compare_end(results, f"a witness that does: {does}", [f"--sigverify={program_of}", "witness"], "no reply", adapter=CHECKED, input=text)
         file_of(folder, "start.py", b"raise MemoryError")
         there = os.path.join(folder, "sigverify-checked")
         with open(CHECKED, "rb") as file:

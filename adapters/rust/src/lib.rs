@@ -13,10 +13,12 @@ pub enum Command {
     Verify = 2,
     Consistency = 3,
     Audit = 4,
+    Witness = 5,
     LogQuestions = 257,
     VerifyQuestions = 258,
     ConsistencyQuestions = 259,
     AuditQuestions = 260,
+    WitnessQuestions = 261,
 }
 
 /// What a reply is.
@@ -24,7 +26,7 @@ pub enum Command {
 pub enum Status {
     /// Every link of the command holds; of questions, the list is there.
     Holds,
-    /// The reply names the first link that does not hold.
+    /// The reply names the first link that does not hold; of `Witness`, some update is refused.
     Refused,
     /// The request is none of the command's, or too long.
     NoRequest,

@@ -4,11 +4,12 @@ use std::fs;
 use std::path::Path;
 use std::process::Command as Process;
 
-const NAMES: [(&str, Command, Command); 4] = [
+const NAMES: [(&str, Command, Command); 5] = [
     ("log", Command::Log, Command::LogQuestions),
     ("verify", Command::Verify, Command::VerifyQuestions),
     ("consistency", Command::Consistency, Command::ConsistencyQuestions),
     ("audit", Command::Audit, Command::AuditQuestions),
+    ("witness", Command::Witness, Command::WitnessQuestions),
 ];
 
 fn folder(name: &str) -> String {
