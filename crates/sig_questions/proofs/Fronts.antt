@@ -13,19 +13,19 @@ use Rattle.sig_checked_bundle.specs.Checked.{Checked}
 use Rattle.sig_checked_bundle.specs.OfBytes.{HasCertificateOfBytes}
 use Rattle.sig_checked_bundle.specs.Passed.{IsPassed}
 use Rattle.sig_dsse.specs.declared.artifact_digest.ArtifactDigest.{ArtifactDigest}
+use Rattle.sig_json.specs.declared.error.JsonError.{JsonError}
 use Rattle.sig_policy.specs.Refusals.{not_found}
 use Rattle.sig_root.specs.OfBytes.{HasRawBytes}
 use Rattle.sig_root.specs.RootRecord.{trusted_root_in}
 use Rattle.sig_root.specs.declared.record.TrustedRoot.{TrustedRoot}
-use Rattle.sig_verify.proofs.Chains.{bundle_read, root_read}
 use Rattle.sig_verify.proofs.JudgedLaws.{Alike, all_as}
-use Rattle.sig_verify.proofs.OfflineBytes.{are_read, bundle_bytes, inputs, links_told}
+use Rattle.sig_verify.proofs.OfflineBytes.{are_read, bundle_bytes, inputs}
 use Rattle.sig_verify.specs.CertificateLinks.{HasIssuer}
 use Rattle.sig_verify.specs.Judged.{IsOfFirst, Judged}
 use Rattle.sig_verify.specs.Links.{HoldsOf, Inputs, OfPassed, Outside, chain_links}
 use Rattle.sig_verify.specs.OfflineErrors.{link_of}
 use Rattle.sig_verify.specs.OfflineLaws.{HasEntryOfBytes, OutcomesAreJudged}
-use Rattle.sig_verify.specs.OfflineVerdict.{IsOfflineOf}
+use Rattle.sig_verify.specs.OfflineVerdict.{AfterRead, IsOfflineIn, IsOfflineOf}
 use Rattle.sig_verify.specs.RootLinks.{IsSomeAnchor, authorities, ct_keys}
 use Rattle.sig_verify.specs.declared.link.Link.{Link}
 use Rattle.sig_verify.specs.declared.link.Link.TheVariants.{Issuance, Issuer, Sct, Policy, Key, Signature, Subject, Body, Time}
@@ -34,6 +34,7 @@ use Rattle.sig_verify.specs.declared.link.Link.TheVariants.{Inclusion}
 use Rattle.sig_verify.specs.declared.offline.Offline.{Offline}
 use Rattle.sig_verify.specs.declared.offline_error.OfflineError.{OfflineError}
 use Rattle.sig_verify.specs.declared.offline_error.OfflineError.TheVariants.{OutOfMemory}
+use Rattle.sig_verify.specs.declared.offline_error.Part.TheVariants.{Root as RootText, Bundle as BundleText}
 use Rattle.sig_x509.specs.Issued.{HasProfile}
 use Rattle.sig_x509.specs.Pool.{Pool, pool_over}
 use Rattle.sig_questions.proofs.Issuers.{first_signed, some_issuer, would_hold}
@@ -204,8 +205,14 @@ pub parts_told : OutcomesAreJudged → (o : Outside) (root_text : List ℕ) (roo
     → bundle_in text ≡ Ok b → AllByRecursion HasRawBytes root.tlogs → HasCertificateOfBytes b → HasEntryOfBytes b
     → UnlessMemory OutOfMemory result (IsOfflineOf o.checker o.policy root now d b result)
     → UnlessMemory OutOfMemory result (Judged (HoldsOf o (inputs root_text now d text)) chain_links result)
-parts_told law o root_text root now d text b result root_is bundle_is keys certificate entry is =
-    links_told law o root_text now now d text result refl
-    (inr (are_read (inputs root_text now d text) root root_is keys (bundle_bytes text b bundle_is certificate entry)))
-    (root_read o.checker o.policy root_text root root now now d text result refl refl root_is
-    (bundle_read o.checker o.policy root now now d text b result refl bundle_is is))
+parts_told law o root_text root now d text b result root_is bundle_is keys certificate entry (inl memory) = inl memory
+parts_told law o root_text root now d text b result root_is bundle_is keys certificate entry (inr is) =
+    elim (law o (inputs root_text now d text)
+    (are_read (inputs root_text now d text) root root_is keys (bundle_bytes text b bundle_is certificate entry)) result
+    (subst (λ (found : Result TrustedRoot JsonError). AfterRead RootText found
+    (λ r. IsOfflineIn o.checker o.policy r now d text) result) (sym root_is)
+    (subst (λ (found : Result Bundle JsonError). AfterRead BundleText found (IsOfflineOf o.checker o.policy root now d)
+    result) (sym bundle_is) is))) [
+      | inl memory ↦ inl memory
+      | inr all ↦ inr all.judged
+    ]

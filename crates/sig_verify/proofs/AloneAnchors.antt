@@ -1,4 +1,4 @@
--- A pool that is made of trust anchors alone has no intermediates, and too many of these is no cause.
+-- A pool that is made of trust anchors alone has no intermediates, and too many of these cannot be its error.
 use Rattle.std.proofs.Common.{◌≡◌, ℕ, List, [], ◌∷◌, Option, refl}
 use Rattle.sig_certificate.specs.Certificate.{Cert}
 use Rattle.sig_x509.specs.Pool.{AreReadAs}

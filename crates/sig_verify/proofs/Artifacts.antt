@@ -9,7 +9,7 @@ use Rattle.sig_verify.specs.Verdict.{Answer}
 use Rattle.sig_verify.specs.declared.error.VerificationError.TheVariants.{Input, OutOfMemory}
 use Rattle.sig_verify.specs.declared.link.Link.{Link}
 
--- no answer for a digest that is handed in says that the bytes could not be read
+-- a result for a digest that is handed in never says that the bytes could not be read
 pub never_unread : (Holds : Link → Type 0) (links : List Link) (result : Answer)
     → UnlessMemory OutOfMemory result (Judged Holds links (renamed result)) → ¬ IsUnread result
 never_unread Holds links (Ok done) judged unread = absurd (let wrong = unread.1 in cc)

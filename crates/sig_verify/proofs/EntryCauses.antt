@@ -1,6 +1,6 @@
 -- Each error of a log's entry has its cause, and comes where it has.
-use Rattle.std.proofs.Common.{◌≡◌, ◌⊎◌, ℕ, Bool, true, false, cond, List, [], ◌∷◌, Option, Some, None, Result, Ok}
-use Rattle.std.proofs.Common.{Err, inl, inr, refl, sym, ap, subst, ◌∙◌}
+use Rattle.std.proofs.Common.{◌≡◌, ◌⊎◌, ℕ, Bool, true, false, cond, List, [], ◌∷◌, Option, Some, None, Result, Ok, Err}
+use Rattle.std.proofs.Common.{inl, inr, refl, sym, ap, subst, ◌∙◌}
 use Rattle.std.specs.Prelude.{is_some, nat_lt, bytes_eq, IsSome, ℤ, pos, negsuc}
 use Rattle.hex.specs.Hex.{encode_lower}
 use Rattle.sig_base.proofs.ByteLists.{byte_at}

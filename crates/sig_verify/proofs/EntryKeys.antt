@@ -1,6 +1,6 @@
 -- The link `log-key`: a key is returned if and only if it is that of the entry's log.
-use Rattle.std.proofs.Common.{◌≡◌, ℕ, List, [], ◌∷◌, Option, Some, None, Result, Ok, Err}
-use Rattle.std.proofs.Common.{IfErr, refl, sym, ap, subst, ◌∙◌}
+use Rattle.std.proofs.Common.{◌≡◌, ℕ, List, [], ◌∷◌, Option, Some, None, Result, Ok, Err, IfErr, refl, sym, ap, subst}
+use Rattle.std.proofs.Common.{◌∙◌}
 use Rattle.hex.specs.Hex.{encode_lower}
 use Rattle.sig_base.proofs.ByteLists.{byte_at}
 use Rattle.sig_base.proofs.ResultSteps.{ok_is}

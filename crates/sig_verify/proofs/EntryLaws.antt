@@ -16,8 +16,7 @@ use Rattle.sig_verify.specs.ContentCheck.{AcceptsSpki}
 use Rattle.sig_verify.specs.EntryLinks.{HasKeyOfBytes, HasLogKey, HoldsOfEntry, IsOfBytes, LogKeys, entry_links}
 use Rattle.sig_verify.specs.LinkLaws.{IsKept}
 use Rattle.sig_verify.specs.Judged.{Judged, Tells}
-use Rattle.sig_verify.specs.LogEntry.{log_entry_answer, fields_answer, included, entry_inclusion_answer}
-use Rattle.sig_verify.specs.LogEntry.{log_key_answer}
+use Rattle.sig_verify.specs.LogEntry.{log_entry_answer, fields_answer, included, entry_inclusion_answer, log_key_answer}
 use Rattle.sig_verify.specs.LogEntry.{promise_answer, vouched}
 use Rattle.sig_verify.specs.declared.link.Link.TheVariants.{LogKey, Promise, Proof, Checkpoint, NoteKey, NoteMatch}
 use Rattle.sig_verify.specs.declared.link.Link.TheVariants.{Inclusion}

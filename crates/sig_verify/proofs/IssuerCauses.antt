@@ -19,8 +19,8 @@ use Rattle.sig_x509.specs.declared.issuer.Issuer.{Issuer}
 use Rattle.sig_verify.proofs.IssuerVerdicts.{sct_cause}
 use Rattle.sig_verify.proofs.LinkGroups.{found_to}
 use Rattle.sig_verify.specs.Errors.{of_pool, of_sct}
-use Rattle.sig_verify.specs.IssuerCheck.{from_pool, from_sct, issued_answer, issuer_spki, path_start, sct_answer, spki_of}
-use Rattle.sig_verify.specs.IssuerCheck.{spki_or_none}
+use Rattle.sig_verify.specs.IssuerCheck.{from_pool, from_sct, issued_answer, issuer_spki, path_start, sct_answer}
+use Rattle.sig_verify.specs.IssuerCheck.{spki_of, spki_or_none}
 use Rattle.sig_verify.specs.LinkLaws.{trust_of}
 use Rattle.sig_verify.specs.Links.{Inputs, OfChecked, Outside}
 use Rattle.sig_verify.specs.OfflineCauses.{IsOfflineCause}
@@ -32,7 +32,6 @@ use Rattle.sig_verify.specs.Verifier.{IsVerifierOf, Trusted}
 use Rattle.sig_verify.specs.declared.error.CertificateErrorKind.TheVariants as certificate
 use Rattle.sig_verify.specs.declared.error.VerificationError.{VerificationError}
 use Rattle.sig_verify.specs.declared.error.VerificationError.TheVariants as verification
-use Rattle.sig_verify.specs.declared.offline_error.OfflineError.{OfflineError}
 
 module _ (one : OneCertificate) (o : Outside) (i : Inputs) (read : AreReadInputs i) (root : TrustedRoot)
     (root_is : trusted_root_in i.root ≡ Ok root) (b : BundleType) (bundle_is : bundle_in i.bundle ≡ Ok b)

@@ -1,6 +1,6 @@
 -- What the pool of a verifier returns, which has no intermediates of its own, is the issuer in the first path at the first
 -- second of the certificate's validity.
-use Rattle.std.proofs.Common.{◌≡◌, ◌⊎◌, inl, inr, ℕ, ℤ, List, [], ◌++◌, Option, Some, None, Result, Ok, Err, option_map}
+use Rattle.std.proofs.Common.{◌≡◌, inl, inr, ℕ, ℤ, List, [], ◌++◌, Option, Some, None, Result, Ok, Err, option_map}
 use Rattle.std.proofs.Common.{sym, ap, ◌∙◌}
 use Rattle.sig_base.specs.Answers.{OrMemory}
 use Rattle.sig_base.specs.declared.fault.PoolError.{PoolError}
@@ -9,11 +9,10 @@ use Rattle.sig_certificate.specs.Certificate.{Cert}
 use Rattle.sig_x509.proofs.PathAnswers.{issued_is_first}
 use Rattle.sig_x509.specs.Issuance.{Accepts}
 use Rattle.sig_x509.specs.PathSearch.{path_issuer}
-use Rattle.sig_x509.specs.Pool.{Pool, certificate_of, present, with_further, pool_over}
+use Rattle.sig_x509.specs.Pool.{Pool, present, with_further, pool_over}
 use Rattle.sig_x509.specs.declared.issuer.Issuer.{Issuer}
 use Rattle.sig_verify.specs.Errors.{of_pool}
 use Rattle.sig_verify.specs.IssuerCheck.{from_pool, path_start, spki_of}
-use Rattle.sig_verify.specs.declared.error.VerificationError.{VerificationError}
 use Rattle.sig_verify.specs.declared.error.VerificationError.TheVariants.{OutOfMemory}
 
 module _ (accepts : Accepts) (p : Pool) (further : List Cert) (c : Cert) (time : ℤ) (same : time ≡ c.not_before)

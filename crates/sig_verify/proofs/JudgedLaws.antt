@@ -1,5 +1,5 @@
 -- Results that say which rule fails first, one after another.
-use Rattle.std.proofs.Common.{◌≡◌, ◌↔◌, List, [], ◌∷◌, ◌++◌, Option, Some, Result, Ok, Err, inl, inr, refl, sym, ap}
+use Rattle.std.proofs.Common.{◌≡◌, ◌↔◌, List, [], ◌∷◌, ◌++◌, Some, Result, Ok, Err, inl, inr, refl, sym, ap}
 use Rattle.std.proofs.Common.{subst, ◌∙◌}
 use Rattle.std.specs.List.{AllByRecursion}
 use Rattle.sig_base.proofs.OptionSteps.{some_is}
@@ -35,7 +35,7 @@ pub behind : {A : Type 0} (Holds : Link → Type 0) (xs ys : List Link) (r : Res
 behind Holds xs ys (Ok x) front judged = all_joined Holds xs ys front judged
 behind Holds xs ys (Err error) front judged = (judged.0, judged.1, fails_behind Holds xs ys judged.0 front judged.2)
 
--- one step behind another
+-- one step after another
 pub judged_bind : {A B : Type 0} (Holds : Link → Type 0) (xs ys : List Link) (r : Result A OfflineError)
     (f : A → Result B OfflineError) → Judged Holds xs r → ((x : A) → r ≡ Ok x → Judged Holds ys (f x))
     → Judged Holds (xs ++ ys) (r >>= f)

@@ -3,8 +3,8 @@ pub mod Artifacts
 pub mod BundleVerdicts
 pub mod CertificateBytes
 pub mod ChainLaws
-pub mod Chains
-pub mod CheckedVerdicts
+pub mod HeldRoots
+pub mod CheckedBundles
 pub mod ContentVerdicts
 pub mod EntryCauses
 pub mod EntryKeys
@@ -23,6 +23,6 @@ pub mod OfflineCauses
 pub mod OfflineLaws
 pub mod Parts
 pub mod RootVerdicts
-pub mod Scts
-pub mod Verdicts
-pub mod WholeVerdicts
+pub mod IssuerSteps
+pub mod VerdictSteps
+pub mod VerifiedBundles

@@ -10,19 +10,18 @@ use Rattle.sig_checked_bundle.specs.Passed.{IsMet, IsPassed}
 use Rattle.sig_checked_bundle.specs.SigningCertificate.{IsNoRoot}
 use Rattle.sig_bundle.specs.declared.bundle.Bundle.{Bundle}
 use Rattle.sig_bundle.specs.declared.material.TransparencyLogEntry.{TransparencyLogEntry}
-use Rattle.sig_certificate.specs.Certificate.{Cert}
 use Rattle.sig_certificate.specs.Profile.{leaf_refusal}
 use Rattle.sig_root.specs.RootRecord.{trusted_root_in}
 use Rattle.sig_root.specs.declared.record.TrustedRoot.{TrustedRoot}
 use Rattle.sig_timestamp.specs.Keyring.{key_of}
 use Rattle.sig_timestamp.specs.RingKey.{point_at}
-use Rattle.sig_x509.specs.Issuance.{AreAnchors, IsAnchor}
+use Rattle.sig_x509.specs.Issuance.{AreAnchors}
 use Rattle.sig_x509.specs.Issued.{HasProfile}
 use Rattle.sig_verify.proofs.JudgedLaws.{Alike, alike_joined, both_alike}
 use Rattle.sig_verify.proofs.Parts.{AnchoredParts, Parts, bundle_from, checked_from, checked_to, logged_from, logged_to}
 use Rattle.sig_verify.proofs.Parts.{of_checked, root_from}
 use Rattle.sig_verify.proofs.RootVerdicts.{some_given}
-use Rattle.sig_verify.proofs.WholeVerdicts.{one_checked}
+use Rattle.sig_verify.proofs.VerifiedBundles.{one_checked}
 use Rattle.sig_verify.specs.BundleLinks.{AreFew, IsContentRead, OfCertificates, OfContent, OfEncodings, OfEntry}
 use Rattle.sig_verify.specs.BundleLinks.{OfVersion, bundle_links}
 use Rattle.sig_verify.specs.CertificateLinks.{HasIssuer, HasSignedBytes, IsAbout, IsSignedContent, IsTimely}
@@ -31,9 +30,9 @@ use Rattle.sig_verify.specs.EntryLinks.{HasCanonicalPromise, HoldsOfEntry, IsLed
 use Rattle.sig_verify.specs.EntryLinks.{IsPromisedBy, IsProofRead, LogKeys, OfCheckpoint, OfLogKey, OfProof}
 use Rattle.sig_verify.specs.EntryLinks.{entry_links}
 use Rattle.sig_verify.specs.LinkLaws.{HoldsOfVerified, trust_of}
-use Rattle.sig_verify.specs.Links.{HoldsOf, Inputs, OfBundle, OfChecked, OfLogged, OfPassed, OfRoot, Outside}
+use Rattle.sig_verify.specs.Links.{HoldsOf, Inputs, OfBundle, OfChecked, OfLogged, OfRoot, Outside}
 use Rattle.sig_verify.specs.OfflineVerdict.{authorities_of, ct_keys_of}
-use Rattle.sig_verify.specs.RootLinks.{HoldsOfRoot, IsSomeAnchor, OfTrust, authorities, ct_keys, rekor_keys}
+use Rattle.sig_verify.specs.RootLinks.{HoldsOfRoot, IsSomeAnchor, authorities, ct_keys, rekor_keys}
 use Rattle.sig_verify.specs.RootLinks.{root_links}
 use Rattle.sig_verify.specs.Verdict.{HasBody}
 use Rattle.sig_verify.specs.Verifier.{IsVerifierOf, Trusted, values_of}

@@ -1,5 +1,5 @@
 -- Where a trust anchor issued the certificate itself, it is the first issuer in a path over any further certificates.
-use Rattle.std.proofs.Common.{◌≡◌, ℕ, ◌<◌, true, List, [], Option, Some, None, sym, ap, subst, ◌∙◌}
+use Rattle.std.proofs.Common.{◌≡◌, ℕ, true, List, [], Option, Some, None, sym, ap, subst, ◌∙◌}
 use Rattle.std.specs.Prelude.{slice_get}
 use Rattle.sig_base.proofs.OptionSteps.{some_is}
 use Rattle.sig_certificate.specs.Certificate.{Cert}
@@ -8,7 +8,7 @@ use Rattle.sig_timestamp.specs.SctBytes.{signed_bytes, signed_of}
 use Rattle.sig_x509.proofs.IssuedLaws.{issued_from, issued_is}
 use Rattle.sig_x509.proofs.PathAnswers.{anchor_issues, anchor_path}
 use Rattle.sig_x509.specs.Issuance.{Accepts}
-use Rattle.sig_x509.specs.Issued.{IsFirstIssuer, IsIssuedBy}
+use Rattle.sig_x509.specs.Issued.{IsFirstIssuer}
 use Rattle.sig_x509.specs.Path.{HasPath, IsFirstInPath}
 use Rattle.sig_x509.specs.Pool.{Pool, IsBefore, intermediate_in, pool_over, present}
 use Rattle.sig_x509.specs.declared.issuer.Issuer.{Issuer}

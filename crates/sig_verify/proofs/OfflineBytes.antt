@@ -1,20 +1,21 @@
 -- What was read is bytes, where the law of the outcomes asks for it.
-use Rattle.std.proofs.Common.{◌≡◌, ℕ, zero, suc, ℤ, Bool, true, false, List, [], ◌∷◌, Option, Some, None}
-use Rattle.std.proofs.Common.{Ok, Err, IfOk, inl, inr, refl, sym, ap, subst, ◌∙◌}
-use Rattle.std.specs.Prelude.{slice_get, if◌then◌else◌}
+use Rattle.std.proofs.Common.{◌≡◌, ℕ, zero, suc, ℤ, List, [], ◌∷◌, Some, Result, Ok}
+use Rattle.std.proofs.Common.{Err, IfOk, inl, inr, refl, sym, ap, subst, ◌∙◌}
+use Rattle.std.specs.Prelude.{slice_get}
 use Rattle.std.specs.List.{AllByRecursion}
 use Rattle.hex.specs.Hex.{encode_lower}
 use Rattle.std.proofs.lemmas.Option.{some_pair_parts}
 use Rattle.sig_base.proofs.OptionSteps.{bind_is, some_is, when_is}
-use Rattle.sig_base.proofs.ResultSteps.{ok_is}
+use Rattle.sig_base.proofs.ResultSteps.{err_is, ok_is}
 use Rattle.sig_base.specs.Answers.{UnlessMemory}
 use Rattle.sig_base.specs.OptionSteps.{◌>>=◌}
 use Rattle.sig_bundle.specs.LogEntries.{only_entry}
 use Rattle.sig_bundle.specs.BundleRecord.{bundle_in}
 use Rattle.sig_checked_bundle.specs.Checked.{Checked}
 use Rattle.sig_checked_bundle.specs.OfBytes.{HasCertificateOfBytes}
-use Rattle.sig_bundle.specs.declared.bundle.Bundle.{Bundle}
+use Rattle.sig_bundle.specs.declared.bundle.Bundle.{Bundle as BundleType}
 use Rattle.sig_dsse.specs.declared.artifact_digest.ArtifactDigest.{ArtifactDigest}
+use Rattle.sig_json.specs.declared.error.JsonError.{JsonError}
 use Rattle.sig_root.proofs.LastKeys.{only_last}
 use Rattle.sig_root.specs.OfBytes.{HasRawBytes}
 use Rattle.sig_root.specs.Picked.{key_bytes_at, holds, key_at}
@@ -24,14 +25,21 @@ use Rattle.sig_root.specs.declared.record.TransparencyLogInstance.{TransparencyL
 use Rattle.sig_root.specs.declared.record.TrustedRoot.{TrustedRoot}
 use Rattle.sig_verify.proofs.CertificateBytes.{read_of_bundle}
 use Rattle.sig_verify.specs.EntryLinks.{HasKeyOfBytes}
+use Rattle.sig_verify.specs.HeldRoot.{IsGivenBy, IsHeldIn, IsHeldOf, IsOfflineUnder}
 use Rattle.sig_verify.specs.Judged.{Judged}
 use Rattle.sig_verify.specs.Links.{HoldsOf, Inputs, OfPassed, Outside, chain_links}
 use Rattle.sig_verify.specs.LinkLaws.{IsKept}
 use Rattle.sig_verify.specs.OfflineLaws.{AreReadInputs, HasEntryOfBytes, IsOfBundleOfBytes, IsOutcomeOf}
 use Rattle.sig_verify.specs.OfflineLaws.{OutcomesAreJudged}
-use Rattle.sig_verify.specs.OfflineVerdict.{IsOffline, Outcome, only_entry_among}
+use Rattle.sig_verify.specs.OfflineErrors.{link_of}
+use Rattle.sig_verify.specs.OfflineVerdict.{AfterRead, IsOffline, IsOfflineIn, IsOfflineOf, Outcome, only_entry_among}
 use Rattle.sig_verify.specs.RootLinks.{rekor_keys}
+use Rattle.sig_verify.specs.Verdict.{Checker, PolicyOf}
+use Rattle.sig_verify.specs.declared.held_root.HeldRoot.{HeldRoot}
+use Rattle.sig_verify.specs.declared.link.Link.TheVariants.{RootJson}
+use Rattle.sig_verify.specs.declared.offline_error.OfflineError.{OfflineError}
 use Rattle.sig_verify.specs.declared.offline_error.OfflineError.TheVariants.{OutOfMemory}
+use Rattle.sig_verify.specs.declared.offline_error.Part.TheVariants.{Root, Bundle}
 
 abbrev Instance : Type 0
 Instance = TransparencyLogInstance
@@ -71,10 +79,10 @@ keys_are_bytes root now c all id key named found =
 
 -- ---- root and bundle
 
-pub bundle_bytes : (text : List ℕ) (b : Bundle) → bundle_in text ≡ Ok b → HasCertificateOfBytes b → HasEntryOfBytes b
+pub bundle_bytes : (text : List ℕ) (b : BundleType) → bundle_in text ≡ Ok b → HasCertificateOfBytes b → HasEntryOfBytes b
     → IsOfBundleOfBytes text
 bundle_bytes text b is certificate entry other other_is =
-    subst (λ (x : Bundle). HasCertificateOfBytes x × HasEntryOfBytes x) (ok_is b other (sym is ∙ other_is))
+    subst (λ (x : BundleType). HasCertificateOfBytes x × HasEntryOfBytes x) (ok_is b other (sym is ∙ other_is))
     (certificate, entry)
 
 pub are_read : (i : Inputs) (root : TrustedRoot) → trusted_root_in i.root ≡ Ok root
@@ -92,37 +100,94 @@ are_read i root root_is all bytes = record {
       });
 }
 
--- ---- the outcome, at the time that was handed in
+-- ---- the outcome of each text of which a root is held
 
 abbrev pub inputs : List ℕ → ℤ → ArtifactDigest → List ℕ → Inputs
 inputs root now d bundle = record { root = root; now = now; digest = d; bundle = bundle }
 
-module _ (law : OutcomesAreJudged) (o : Outside) (root : List ℕ) (now time : ℤ) (d : ArtifactDigest)
-    (bundle : List ℕ) where
-  abbrev AreReadIn : Outcome → Type 0
-  AreReadIn result = UnlessMemory OutOfMemory result (AreReadInputs (inputs root time d bundle))
+-- the bundle was read
+pub bundle_read : (text : List ℕ) (b : BundleType) (Next : BundleType → Outcome → Type 0) (result : Outcome)
+    → bundle_in text ≡ Ok b → UnlessMemory OutOfMemory result (Next b result)
+    → UnlessMemory OutOfMemory result (AfterRead Bundle (bundle_in text) Next result)
+bundle_read text b Next result read (inl memory) = inl memory
+bundle_read text b Next result read (inr next) =
+    inr (subst (λ (found : Result BundleType JsonError). AfterRead Bundle found Next result) (sym read) next)
 
-  abbrev IsBySteps : Outcome → Type 0
-  IsBySteps result = UnlessMemory OutOfMemory result (IsOffline o.checker o.policy root time d bundle result)
+after_bundle : (k : Checker) (policy : PolicyOf) (held : HeldRoot) (d : ArtifactDigest) (root : TrustedRoot) (now : ℤ)
+    (found : Result BundleType JsonError) (result : Outcome) → IsGivenBy root now held
+    → AfterRead Bundle found (IsOfflineUnder k policy held d) result
+    → AfterRead Bundle found (IsOfflineOf k policy root now d) result
+after_bundle k policy held d root now (Ok b) result given steps = steps root now given
+after_bundle k policy held d root now (Err why) result given is = is
 
-  told : (result : Outcome) → time ≡ now → AreReadIn result → IsBySteps result
-      → UnlessMemory OutOfMemory result (IsOutcomeOf o (inputs root now d bundle) result)
-  told result same (inl memory) is = inl memory
-  told result same (inr read) (inl memory) = inl memory
-  told result same (inr read) (inr is) =
-      subst (λ (t : ℤ). UnlessMemory OutOfMemory result (IsOutcomeOf o (inputs root t d bundle) result)) same
-      (law o (inputs root time d bundle) read result is)
+module _ (o : Outside) (held : HeldRoot) (d : ArtifactDigest) (bundle : List ℕ) (result : Outcome)
+    (steps : UnlessMemory OutOfMemory result
+    (AfterRead Bundle (bundle_in bundle) (IsOfflineUnder o.checker o.policy held d) result))
+    (root : List ℕ) (now : ℤ) (is : IsHeldOf root now held) where
+  pub steps_told : UnlessMemory OutOfMemory result (IsOffline o.checker o.policy root now d bundle result)
+  steps_told =
+      elim steps [
+        | inl memory ↦ inl memory
+        | inr after ↦
+            inr (subst (λ (found : Result TrustedRoot JsonError).
+            AfterRead Root found (λ r. IsOfflineIn o.checker o.policy r now d bundle) result) (sym is.read)
+            (after_bundle o.checker o.policy held d is.root now (bundle_in bundle) result is.given after))
+      ]
 
-  pub links_told : (result : Outcome) → time ≡ now → AreReadIn result → IsBySteps result
-      → UnlessMemory OutOfMemory result (Judged (HoldsOf o (inputs root now d bundle)) chain_links result)
-  links_told result same read is =
-      elim (told result same read is) [ inl memory ↦ inl memory | inr all ↦ inr all.judged ]
+  module _ (law : OutcomesAreJudged) (bytes : UnlessMemory OutOfMemory result (IsOfBundleOfBytes bundle)) where
+    told : UnlessMemory OutOfMemory result (IsOutcomeOf o (inputs root now d bundle) result)
+    told =
+        elim bytes [
+          | inl memory ↦ inl memory
+          | inr read ↦ elim steps_told [
+            | inl memory ↦ inl memory
+            | inr by ↦
+                law o (inputs root now d bundle)
+                (are_read (inputs root now d bundle) is.root is.read is.keys read) result by
+          ]
+        ]
 
-  pub kept_told : (result : Outcome) → time ≡ now → AreReadIn result → IsBySteps result
-      → IfOk result (λ offline. OfPassed (inputs root now d bundle) (λ c. IsKept c.entry offline))
-  kept_told (Err error) same read is = tt
-  kept_told (Ok offline) same read is =
-      elim (told (Ok offline) same read is) [
-        | inl memory ↦ absurd cc
-        | inr all ↦ all.kept offline refl
+    pub links_told : UnlessMemory OutOfMemory result
+        (Judged (HoldsOf o (inputs root now d bundle)) chain_links result)
+    links_told = elim told [ inl memory ↦ inl memory | inr all ↦ inr all.judged ]
+
+    pub kept_told : IfOk result (λ offline. OfPassed (inputs root now d bundle) (λ c. IsKept c.entry offline))
+    kept_told = kept result told
+      where
+        kept : (r : Outcome) → UnlessMemory OutOfMemory r (IsOutcomeOf o (inputs root now d bundle) r)
+            → IfOk r (λ offline. OfPassed (inputs root now d bundle) (λ c. IsKept c.entry offline))
+        kept (Err error) outcome = tt
+        kept (Ok offline) (inl memory) = absurd cc
+        kept (Ok offline) (inr all) = all.kept offline refl
+
+-- ---- the outcome where the text is not a trusted root
+
+module _ (o : Outside) (root : List ℕ) (now : ℤ) (d : ArtifactDigest) (bundle : List ℕ) (e : OfflineError)
+    (unread : (let r : Result HeldRoot OfflineError = Err e in UnlessMemory OutOfMemory r (IsHeldIn root now r))) where
+  pub unread_steps : (let r : Outcome = Err e in
+      UnlessMemory OutOfMemory r (IsOffline o.checker o.policy root now d bundle r))
+  unread_steps =
+      elim unread [
+        | inl memory ↦ inl (ap Err (err_is e OutOfMemory memory))
+        | inr is ↦
+            inr (subst (λ (found : Result TrustedRoot JsonError).
+            AfterRead Root found (λ r. IsOfflineIn o.checker o.policy r now d bundle) (Err e)) (sym is.1)
+            (ap Err is.2))
+      ]
+
+  pub unread_links : (let r : Outcome = Err e in
+      UnlessMemory OutOfMemory r (Judged (HoldsOf o (inputs root now d bundle)) chain_links r))
+  unread_links =
+      elim unread [
+        | inl memory ↦ inl (ap Err (err_is e OutOfMemory memory))
+        | inr is ↦
+            inr (
+              RootJson,
+              ap link_of is.2,
+              inl (
+                (λ holds. let wrong : ◌≡◌ {A = Result TrustedRoot JsonError} (Err is.0) (Ok holds.0) =
+                    sym is.1 ∙ holds.1 in absurd cc),
+                refl,
+              ),
+            )
       ]

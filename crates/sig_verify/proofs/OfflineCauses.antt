@@ -1,6 +1,6 @@
 -- Each error of offline verification has its cause.
-use Rattle.std.proofs.Common.{◌≡◌, ℕ, Bool, true, false, List, Option, Some, None, Result, Ok, Err, inl, inr, refl}
-use Rattle.std.proofs.Common.{sym, ap, subst, ◌∙◌}
+use Rattle.std.proofs.Common.{◌≡◌, ℕ, Bool, true, false, List, Result, Ok, Err, inl, inr, refl, sym}
+use Rattle.std.proofs.Common.{ap, subst, ◌∙◌}
 use Rattle.std.specs.Prelude.{if◌then◌else◌}
 use Rattle.sig_base.proofs.ResultSteps.{bind_err, err_is}
 use Rattle.sig_base.specs.ResultSteps.{◌>>=◌}
@@ -35,11 +35,11 @@ use Rattle.sig_verify.specs.LogEntry.{log_entry_answer}
 use Rattle.sig_verify.specs.OfflineCauses.{IsOfflineCause, IsOverOther, OfflineErrorsHaveTheirCause}
 use Rattle.sig_verify.specs.OfflineErrors.{of_root, of_verification}
 use Rattle.sig_verify.specs.OfflineLaws.{AreReadInputs}
-use Rattle.sig_verify.specs.OfflineVerdict.{AfterAnswer, AfterRead, IsOfflineIn, IsOfflineOf, IsVouchedIn}
-use Rattle.sig_verify.specs.OfflineVerdict.{Outcome, authorities_of, ct_keys_of}
+use Rattle.sig_verify.specs.OfflineVerdict.{AfterAnswer, AfterRead, IsOfflineIn, IsOfflineOf, IsVouchedIn, Outcome}
+use Rattle.sig_verify.specs.OfflineVerdict.{authorities_of, ct_keys_of}
 use Rattle.sig_verify.specs.RootLinks.{authorities, ct_keys, rekor_keys}
-use Rattle.sig_verify.specs.Verdict.{After, AfterPolicy, Answer, IsVerdict, IsVerdictFromBody}
-use Rattle.sig_verify.specs.Verdict.{IsVerdictFromKey, IsVerdictFromPolicy}
+use Rattle.sig_verify.specs.Verdict.{After, AfterPolicy, Answer, IsVerdict, IsVerdictFromBody, IsVerdictFromKey}
+use Rattle.sig_verify.specs.Verdict.{IsVerdictFromPolicy}
 use Rattle.sig_verify.specs.Verifier.{IsRefusedRoot, IsVerifierOf, Trusted}
 use Rattle.sig_verify.specs.declared.error.CertificateErrorKind.TheVariants as certificate
 use Rattle.sig_verify.specs.declared.error.SignatureErrorKind.TheVariants as signature
@@ -199,7 +199,7 @@ module _ (laws : Groups) (refusals : RefusalsHaveTheirCause) (o : Outside) (i : 
         (issued_answer o.checker.cert o.checker.point trusted c) refl x from
 
     logged : (c : Checked) → IsPassed b c → (why : OfflineError)
-        → IsVouchedIn o.checker.spki root i.now b (Err why) → Is why
+        → IsVouchedIn o.checker.spki (rekor_keys root i.now) b (Err why) → Is why
     logged c passed why (entry, only, answer) =
         let keys : List (List ℕ × List ℕ) = rekor_keys root i.now in
         let said : log_entry_answer o.checker.spki keys c.entry ≡ Err why =
@@ -222,7 +222,7 @@ module _ (laws : Groups) (refusals : RefusalsHaveTheirCause) (o : Outside) (i : 
 
     answered : (trusted : Trusted) → Verifies trusted → (answer : Answer)
         → IsVerdict o.checker trusted o.policy i.digest true b answer → (why : OfflineError)
-        → AfterAnswer answer (IsVouchedIn o.checker.spki root i.now b) (Err why) → Is why
+        → AfterAnswer answer (IsVouchedIn o.checker.spki (rekor_keys root i.now) b) (Err why) → Is why
     answered trusted verifies (Err x) said why next =
         subst Is (sym (same_error why (of_verification x) next)) (verdict trusted verifies x said)
     answered trusted verifies (Ok done) (inl none) why next = absurd cc

@@ -1,6 +1,6 @@
 -- The result of offline verification says which link fails first, of all of them.
-use Rattle.std.proofs.Common.{◌≡◌, ◌↔◌, ◌⊎◌, ◌≢◌, true, List, [], ◌∷◌, ◌++◌, Some, Result, Ok, Err, inl, inr}
-use Rattle.std.proofs.Common.{refl, sym, ap, subst, ◌∙◌}
+use Rattle.std.proofs.Common.{◌≡◌, ◌↔◌, ◌⊎◌, ◌≢◌, true, List, [], ◌∷◌, ◌++◌, Some, Result, Ok, Err, inl, inr, refl, sym}
+use Rattle.std.proofs.Common.{ap, subst, ◌∙◌}
 use Rattle.std.specs.List.{AllByRecursion}
 use Rattle.sig_base.proofs.OptionSteps.{some_is}
 use Rattle.sig_base.specs.declared.error.SigstoreError.{SigstoreError}
@@ -20,7 +20,7 @@ use Rattle.sig_verify.proofs.EntryProofs.{ProofLaws}
 use Rattle.sig_verify.proofs.JudgedLaws.{all_as, behind, fails_as, fails_front, judged_as, judged_tells}
 use Rattle.sig_verify.proofs.LinkGroups.{entries_alike, roots_alike, verified_alike}
 use Rattle.sig_verify.proofs.RootVerdicts.{memory_or_other}
-use Rattle.sig_verify.proofs.WholeVerdicts.{judged_verdict}
+use Rattle.sig_verify.proofs.VerifiedBundles.{judged_verdict}
 use Rattle.sig_verify.specs.BundleLinks.{bundle_links}
 use Rattle.sig_verify.specs.CertificateLinks.{certificate_links}
 use Rattle.sig_verify.specs.EntryLinks.{HoldsOfEntry, LogKeys, entry_links}
@@ -30,9 +30,8 @@ use Rattle.sig_verify.specs.Links.{HoldsOf, Inputs, OfPassed, Outside, chain_lin
 use Rattle.sig_verify.specs.LogEntry.{log_entry_answer}
 use Rattle.sig_verify.specs.OfflineErrors.{of_root, of_verification}
 use Rattle.sig_verify.specs.OfflineLaws.{AreReadInputs, IsOutcomeOf}
-use Rattle.sig_verify.specs.OfflineVerdict.{AfterAnswer, AfterRead, IsOffline, IsOfflineIn, IsOfflineOf}
-use Rattle.sig_verify.specs.OfflineVerdict.{IsVouchedIn, Outcome, authorities_of, ct_keys_of, only_entry_among}
-use Rattle.sig_verify.specs.OfflineVerdict.{only_entry_of}
+use Rattle.sig_verify.specs.OfflineVerdict.{AfterAnswer, AfterRead, IsOffline, IsOfflineIn, IsOfflineOf, IsVouchedIn}
+use Rattle.sig_verify.specs.OfflineVerdict.{Outcome, authorities_of, ct_keys_of, only_entry_among, only_entry_of}
 use Rattle.sig_verify.specs.RootLinks.{HoldsOfRoot, rekor_keys, root_links}
 use Rattle.sig_verify.specs.Verdict.{Answer, IsVerdict}
 use Rattle.sig_verify.specs.Verifier.{IsVerifierOf, Trusted}
@@ -65,7 +64,7 @@ module _ (laws : Groups) (o : Outside) (i : Inputs) (read : AreReadInputs i) (re
   abbrev Holds : Link → Type 0
   Holds = HoldsOf o i
 
-  -- what comes behind the links that hold
+  -- what comes after the links that hold
   record Rest (rest : List Link) : Type 0 where
     judged : Judged Holds rest result
     kept : (offline : Offline) → result ≡ Ok offline → OfPassed i (λ c. IsKept c.entry offline)
@@ -82,7 +81,7 @@ module _ (laws : Groups) (o : Outside) (i : Inputs) (read : AreReadInputs i) (re
 
   module _ (root : TrustedRoot) (root_is : trusted_root_in i.root ≡ Ok root) (b : BundleType)
       (bundle_is : bundle_in i.bundle ≡ Ok b) where
-    vouched : (c : Checked) → IsPassed b c → IsVouchedIn o.checker.spki root i.now b result → Rest entry_links
+    vouched : (c : Checked) → IsPassed b c → IsVouchedIn o.checker.spki (rekor_keys root i.now) b result → Rest entry_links
     vouched c is (entry, only, answer) =
         let keys : LogKeys = rekor_keys root i.now in
         let said : result ≡ log_entry_answer o.checker.spki keys c.entry =
@@ -113,7 +112,7 @@ module _ (laws : Groups) (o : Outside) (i : Inputs) (read : AreReadInputs i) (re
           (λ c passed. read.checked root b c root_is bundle_is passed) answer said)
 
       verified : (answer : Answer) → IsVerdict o.checker trusted o.policy i.digest true b answer
-          → AfterAnswer answer (IsVouchedIn o.checker.spki root i.now b) result
+          → AfterAnswer answer (IsVouchedIn o.checker.spki (rekor_keys root i.now) b) result
           → Rest ((bundle_links ++ certificate_links) ++ entry_links)
       verified (Err error) said next =
           let first = verdict (Err error) said in

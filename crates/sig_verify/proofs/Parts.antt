@@ -13,7 +13,7 @@ use Rattle.sig_certificate.specs.Certificates.{AreCertificates}
 use Rattle.sig_root.specs.RootRecord.{trusted_root_in}
 use Rattle.sig_root.specs.declared.record.TrustedRoot.{TrustedRoot}
 use Rattle.sig_timestamp.specs.Keyring.{key_of}
-use Rattle.sig_verify.proofs.WholeVerdicts.{one_checked}
+use Rattle.sig_verify.proofs.VerifiedBundles.{one_checked}
 use Rattle.sig_verify.specs.CertificateLinks.{Trust}
 use Rattle.sig_verify.specs.EntryLinks.{LogKeys}
 use Rattle.sig_verify.specs.Links.{Inputs, OfBundle, OfChecked, OfLogged, OfPassed, OfRoot}

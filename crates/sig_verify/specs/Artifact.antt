@@ -12,7 +12,7 @@ use Rattle.sig_verify.specs.declared.error.VerificationError.TheVariants.{Input}
 abbrev pub most_artifact_bytes : ℕ
 most_artifact_bytes = 2 ^ 40
 
--- all the bytes that were left were taken, no more than an artifact may have, and of them this holds
+-- all the bytes that were left were taken, at most as many as an artifact may have, and of them this holds
 pub record OfRest (old new : Option (List ℕ)) (P : List ℕ → Type 0) : Type 0 where
   pub bytes : List ℕ
   pub given : HandsOver old new bytes

@@ -20,8 +20,8 @@ use Rattle.sig_dsse.specs.declared.artifact_digest.ArtifactDigest.{ArtifactDiges
 use Rattle.sig_dsse.specs.declared.envelope.DsseEnvelope.{DsseEnvelope}
 use Rattle.sig_dsse.specs.declared.envelope.DsseSignature.{DsseSignature}
 use Rattle.sig_verify.specs.declared.link.Link.{Link}
-use Rattle.sig_verify.specs.declared.link.Link.TheVariants.{Material, Certificate, Leaf, RootInChain, Content}
-use Rattle.sig_verify.specs.declared.link.Link.TheVariants.{Envelope, Entry, Profile}
+use Rattle.sig_verify.specs.declared.link.Link.TheVariants.{Material, Certificate, Leaf, RootInChain, Content, Envelope}
+use Rattle.sig_verify.specs.declared.link.Link.TheVariants.{Entry, Profile}
 
 -- ---- the parts that a link may speak of
 

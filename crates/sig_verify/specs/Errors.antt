@@ -15,7 +15,7 @@ abbrev pub of_bundle : BundleErrorKind → VerificationError
 of_bundle bundle.OutOfMemory = OutOfMemory
 of_bundle kind = Bundle kind
 
--- a pool that was made has no certificate that is no trust anchor
+-- each certificate of a pool that was made is a trust anchor
 abbrev pub of_pool : PoolError → VerificationError
 of_pool pool.Malformed = Certificate Malformed
 of_pool pool.VerificationFailed = Certificate VerificationFailed

@@ -1,6 +1,6 @@
 -- The links `issuance`, `issuer` and `sct` of a certificate (RFC 5280 section 6.1; RFC 6962 section 3.2), as one
 -- result: the first of them that fails, or none.
-use Rattle.std.specs.Prelude.{ℕ, Bool, List, Option, Some, None, option_map, Result, Ok, Err}
+use Rattle.std.specs.Prelude.{ℕ, List, Option, Some, None, option_map, Result, Ok, Err}
 use Rattle.std.specs.Borrow.{Bor}
 use Rattle.sig_base.specs.ResultSteps.{◌>>=◌}
 use Rattle.sig_base.specs.declared.fault.PoolError.{PoolError}

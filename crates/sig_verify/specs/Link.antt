@@ -2,12 +2,10 @@
 use Rattle.std.specs.Prelude.{ℕ, List, codes}
 use Rattle.sig_verify.specs.declared.link.Link.{Link}
 use Rattle.sig_verify.specs.declared.link.Link.TheVariants.{Request, RootJson, BundleJson, Fulcio, Anchor, Ctfe}
-use Rattle.sig_verify.specs.declared.link.Link.TheVariants.{Material, Certificate}
-use Rattle.sig_verify.specs.declared.link.Link.TheVariants.{Leaf, RootInChain, Content, Envelope, Entry, Profile}
-use Rattle.sig_verify.specs.declared.link.Link.TheVariants.{Issuance, Issuer}
-use Rattle.sig_verify.specs.declared.link.Link.TheVariants.{Sct, Policy, Key, Signature, Subject, Body, Time, LogKey}
-use Rattle.sig_verify.specs.declared.link.Link.TheVariants.{Promise, Proof, Checkpoint, NoteKey, NoteMatch, Inclusion}
-use Rattle.sig_verify.specs.declared.link.Link.TheVariants.{Consistency}
+use Rattle.sig_verify.specs.declared.link.Link.TheVariants.{Material, Certificate, Leaf, RootInChain, Content, Envelope}
+use Rattle.sig_verify.specs.declared.link.Link.TheVariants.{Entry, Profile, Issuance, Issuer, Sct, Policy, Key}
+use Rattle.sig_verify.specs.declared.link.Link.TheVariants.{Signature, Subject, Body, Time, LogKey, Promise, Proof}
+use Rattle.sig_verify.specs.declared.link.Link.TheVariants.{Checkpoint, NoteKey, NoteMatch, Inclusion, Consistency}
 
 abbrev pub link_name : Link → List ℕ
 link_name Request = codes "request"

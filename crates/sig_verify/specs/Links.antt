@@ -13,23 +13,20 @@ use Rattle.sig_dsse.specs.declared.artifact_digest.ArtifactDigest.{ArtifactDiges
 use Rattle.sig_root.specs.RootRecord.{trusted_root_in}
 use Rattle.sig_root.specs.declared.record.TrustedRoot.{TrustedRoot}
 use Rattle.sig_x509.specs.Issued.{HasProfile}
-use Rattle.sig_verify.specs.BundleLinks.{AreFew, IsContentRead, OfCertificates, OfContent, OfEncodings, OfEntry, OfVersion}
+use Rattle.sig_verify.specs.BundleLinks.{AreFew, IsContentRead, OfCertificates, OfContent, OfEncodings, OfEntry}
+use Rattle.sig_verify.specs.BundleLinks.{OfVersion}
 use Rattle.sig_verify.specs.CertificateLinks.{HasIssuer, HasSignedBytes, IsAbout, IsSignedContent, IsTimely}
-use Rattle.sig_verify.specs.CertificateLinks.{IsVouchedFor}
-use Rattle.sig_verify.specs.CertificateLinks.{OfScheme, Trust}
+use Rattle.sig_verify.specs.CertificateLinks.{IsVouchedFor, OfScheme, Trust}
 use Rattle.sig_verify.specs.EntryLinks.{HasCanonicalPromise, IsLed, IsNoteOf, IsNoteSignedBy, IsPlaced, IsPromisedBy}
-use Rattle.sig_verify.specs.EntryLinks.{IsProofRead}
-use Rattle.sig_verify.specs.EntryLinks.{LogKeys, OfCheckpoint, OfLogKey, OfProof}
+use Rattle.sig_verify.specs.EntryLinks.{IsProofRead, LogKeys, OfCheckpoint, OfLogKey, OfProof}
 use Rattle.sig_verify.specs.RootLinks.{IsSomeAnchor, OfTrust, authorities, ct_keys, rekor_keys}
 use Rattle.sig_verify.specs.Verdict.{Checker, HasBody, PolicyOf}
 use Rattle.sig_verify.specs.declared.link.Link.{Link}
 use Rattle.sig_verify.specs.declared.link.Link.TheVariants.{Request, RootJson, BundleJson, Fulcio, Anchor, Ctfe}
-use Rattle.sig_verify.specs.declared.link.Link.TheVariants.{Material, Certificate, Leaf, RootInChain, Content}
-use Rattle.sig_verify.specs.declared.link.Link.TheVariants.{Envelope, Entry, Profile}
-use Rattle.sig_verify.specs.declared.link.Link.TheVariants.{Issuance, Issuer, Sct, Policy, Key, Signature, Subject}
-use Rattle.sig_verify.specs.declared.link.Link.TheVariants.{Body, Time}
-use Rattle.sig_verify.specs.declared.link.Link.TheVariants.{LogKey, Promise, Proof, Checkpoint, NoteKey, NoteMatch}
-use Rattle.sig_verify.specs.declared.link.Link.TheVariants.{Inclusion, Consistency}
+use Rattle.sig_verify.specs.declared.link.Link.TheVariants.{Material, Certificate, Leaf, RootInChain, Content, Envelope}
+use Rattle.sig_verify.specs.declared.link.Link.TheVariants.{Entry, Profile, Issuance, Issuer, Sct, Policy, Key}
+use Rattle.sig_verify.specs.declared.link.Link.TheVariants.{Signature, Subject, Body, Time, LogKey, Promise, Proof}
+use Rattle.sig_verify.specs.declared.link.Link.TheVariants.{Checkpoint, NoteKey, NoteMatch, Inclusion, Consistency}
 
 pub record Inputs : Type 0 where
   pub root : List ℕ

@@ -1,5 +1,5 @@
 -- *Longer chains stay valid*: where a trust anchor issued the certificate itself, further certificates change nothing.
-use Rattle.std.specs.Prelude.{◌≡◌, ◌↔◌, ℕ, List, [], Bool, true, Some}
+use Rattle.std.specs.Prelude.{◌≡◌, ◌↔◌, ℕ, List, [], true, Some}
 use Rattle.sig_certificate.specs.Certificate.{Cert}
 use Rattle.sig_checked_bundle.specs.Checked.{Checked}
 use Rattle.sig_timestamp.specs.SctBytes.{signed_bytes, signed_of}
@@ -7,8 +7,7 @@ use Rattle.sig_x509.specs.Issuance.{Accepts}
 use Rattle.sig_x509.specs.Issued.{IsFirstIssuer}
 use Rattle.sig_x509.specs.Path.{IsFirstInPath}
 use Rattle.sig_x509.specs.declared.issuer.Issuer.TheVariants.{Anchor}
-use Rattle.sig_verify.specs.CertificateLinks.{HasIssuer, IsAbout, IsSignedContent, IsTimely, IsVouchedFor, OfSct}
-use Rattle.sig_verify.specs.CertificateLinks.{Trust}
+use Rattle.sig_verify.specs.CertificateLinks.{HasIssuer, IsAbout, IsSignedContent, IsTimely, IsVouchedFor, OfSct, Trust}
 use Rattle.sig_verify.specs.EntryLinks.{IsLed, IsNoteOf, IsNoteSignedBy, IsPromisedBy, OfCheckpoint, OfProof}
 use Rattle.sig_verify.specs.Links.{Inputs, OfChecked, OfLogged, Outside}
 use Rattle.sig_verify.specs.TrustChain.{TrustChain}

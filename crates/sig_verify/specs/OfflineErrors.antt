@@ -113,7 +113,7 @@ of_verification (verification.Signature kind) = offline.Signature kind
 of_verification (verification.Policy refusal) = offline.Policy refusal
 of_verification verification.OutOfMemory = offline.OutOfMemory
 
--- a proof whose checkpoint was read has no others than these
+-- a proof whose checkpoint was read has only these
 abbrev pub of_proof : SigstoreError → OfflineError
 of_proof (sigstore.UnexpectedError kind) = offline.CheckpointMissing
 of_proof sigstore.CheckpointSignatureVerificationError = offline.CheckpointSignatureVerificationError
@@ -129,7 +129,7 @@ abbrev pub offline_of_pool : PoolError → OfflineError
 offline_of_pool (pool.Anchor place) = offline.Anchor place
 offline_of_pool other = offline.OutOfMemory
 
--- a trusted root of which no verifier could be made has no others than these
+-- a trusted root that gives no verifier has only these
 abbrev pub of_root : SigstoreError → OfflineError
 of_root (sigstore.TufMetadataError lacking) = offline.TrustRoot lacking
 of_root (sigstore.CertificatePoolError error) = offline_of_pool error

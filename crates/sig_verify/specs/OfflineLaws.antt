@@ -1,5 +1,5 @@
 -- What the result of offline verification says of the links, all of them in one.
-use Rattle.std.specs.Prelude.{◌≡◌, ℕ, List, [], Some, unwrap_or, Ok, Err}
+use Rattle.std.specs.Prelude.{◌≡◌, ℕ, List, [], Some, unwrap_or, Ok}
 use Rattle.sig_base.specs.Answers.{UnlessMemory}
 use Rattle.sig_base.specs.ByteLists.{AreBytes}
 use Rattle.sig_bundle.specs.BundleRecord.{bundle_in}

@@ -1,6 +1,6 @@
 -- *Offline verification*: every link of the chain of trust of a bundle, from its texts on, as one result: the first
--- link that fails, or the entry that the log vouches for. The five groups of links come one behind the other.
-use Rattle.std.specs.Prelude.{◌≡◌, ◌⊎◌, ℕ, ℤ, true, List, [], ◌∷◌, Option, Some, None, option_map, Result, Ok, Err}
+-- link that fails, or the entry that the log vouches for. The five groups of links come one after the other.
+use Rattle.std.specs.Prelude.{◌≡◌, ◌⊎◌, ℕ, ℤ, true, List, Option, Some, None, option_map, Result, Ok, Err}
 use Rattle.std.specs.Borrow.{Bor}
 use Rattle.sig_base.specs.declared.error.SigstoreError.{SigstoreError}
 use Rattle.sig_base.specs.declared.fault.TrustPart.TheVariants.{Fulcio, Ctfe}
@@ -15,8 +15,10 @@ use Rattle.sig_root.specs.Picked.{authority_certificates, keys_of, unless_empty}
 use Rattle.sig_root.specs.RootRecord.{trusted_root_in}
 use Rattle.sig_root.specs.declared.record.TrustedRoot.{TrustedRoot}
 use Rattle.sig_verify.specs.ContentCheck.{AcceptsSpki}
+use Rattle.sig_verify.specs.EntryLinks.{LogKeys}
 use Rattle.sig_verify.specs.LogEntry.{log_entry_answer}
 use Rattle.sig_verify.specs.OfflineErrors.{of_root, of_verification}
+use Rattle.sig_verify.specs.RootLinks.{rekor_keys}
 use Rattle.sig_verify.specs.Verdict.{Answer, Checker, IsVerdict, PolicyOf}
 use Rattle.sig_verify.specs.Verifier.{Authorities, CtKeys, IsRefusedRoot, IsVerifierOf, Trusted}
 use Rattle.sig_verify.specs.declared.offline.Offline.{Offline}
@@ -28,7 +30,7 @@ use Rattle.sig_verify.specs.declared.offline_error.Part.TheVariants.{Root, Bundl
 abbrev pub Outcome : Type 0
 Outcome = Result Offline OfflineError
 
--- ---- what comes behind a step, which ends the steps where it fails
+-- ---- what comes after a step, which ends the steps where it fails
 
 abbrev pub AfterRead : {A : Type 0} → Part → Result A JsonError → (A → Outcome → Type 0) → Outcome → Type 0
 AfterRead part (Ok value) Next result = Next value result
@@ -62,18 +64,17 @@ borrowed_entry found = option_map (λ entry. entry.now) found
 
 -- ---- the groups, the last first
 
--- `log-key` to `inclusion`
-abbrev pub IsVouchedIn : AcceptsSpki → TrustedRoot → ℤ → BundleType → Outcome → Type 0
-IsVouchedIn spki root now bundle result =
+-- `log-key` to `inclusion`, under these keys of logs
+abbrev pub IsVouchedIn : AcceptsSpki → LogKeys → BundleType → Outcome → Type 0
+IsVouchedIn spki keys bundle result =
     (entry : TransparencyLogEntry) × (only_entry_of bundle ≡ Some entry)
-    × (result ≡ log_entry_answer spki (keys_of now root.tlogs) entry)
+    × (result ≡ log_entry_answer spki keys entry)
 
 -- `material` to `time`, and those
-abbrev pub IsOfflineUnder : Checker → PolicyOf → TrustedRoot → ℤ → ArtifactDigest → BundleType → Trusted → Outcome
-    → Type 0
-IsOfflineUnder k policy root now d bundle trusted result =
+abbrev pub IsOfflineFrom : Checker → PolicyOf → Trusted → LogKeys → ArtifactDigest → BundleType → Outcome → Type 0
+IsOfflineFrom k policy trusted keys d bundle result =
     (answer : Answer) × IsVerdict k trusted policy d true bundle answer
-    × AfterAnswer answer (IsVouchedIn k.spki root now bundle) result
+    × AfterAnswer answer (IsVouchedIn k.spki keys bundle) result
 
 -- `fulcio`, `anchor` and `ctfe`, and those
 abbrev pub IsOfflineOf : Checker → PolicyOf → TrustedRoot → ℤ → ArtifactDigest → BundleType → Outcome → Type 0
@@ -81,7 +82,7 @@ IsOfflineOf k policy root now d bundle result =
     ((error : SigstoreError) × IsRefusedRoot (authorities_of root now) (ct_keys_of root now) error ×
     (result ≡ Err (of_root error)))
     ⊎ ((trusted : Trusted) × IsVerifierOf (authorities_of root now) (ct_keys_of root now) trusted
-    × IsOfflineUnder k policy root now d bundle trusted result)
+    × IsOfflineFrom k policy trusted (rekor_keys root now) d bundle result)
 
 -- `bundle-json`, and those
 abbrev pub IsOfflineIn : Checker → PolicyOf → TrustedRoot → ℤ → ArtifactDigest → List ℕ → Outcome → Type 0

@@ -1,6 +1,6 @@
 -- *Causes of the errors of an SCT*: each error of the link `sct` in the words of the certificate and of the trusted root
 -- (RFC 6962 sections 3.2 and 3.3): the rules before it hold, and this one does not.
-use Rattle.std.specs.Prelude.{◌≡◌, None, Err, IsSome}
+use Rattle.std.specs.Prelude.{◌≡◌, None, IsSome}
 use Rattle.sig_checked_bundle.specs.Checked.{Checked}
 use Rattle.sig_certificate.specs.Certificate.{Cert}
 use Rattle.sig_timestamp.specs.Precert.{precertificate}

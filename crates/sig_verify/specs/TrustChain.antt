@@ -5,13 +5,12 @@ use Rattle.sig_checked_bundle.specs.Passed.{IsMet}
 use Rattle.sig_checked_bundle.specs.SigningCertificate.{IsNoRoot}
 use Rattle.sig_certificate.specs.Profile.{leaf_refusal}
 use Rattle.sig_x509.specs.Issued.{HasProfile}
-use Rattle.sig_verify.specs.BundleLinks.{AreFew, IsContentRead, OfCertificates, OfContent, OfEncodings, OfEntry, OfVersion}
+use Rattle.sig_verify.specs.BundleLinks.{AreFew, IsContentRead, OfCertificates, OfContent, OfEncodings, OfEntry}
+use Rattle.sig_verify.specs.BundleLinks.{OfVersion}
 use Rattle.sig_verify.specs.CertificateLinks.{HasIssuer, HasSignedBytes, IsAbout, IsSignedContent, IsTimely}
-use Rattle.sig_verify.specs.CertificateLinks.{IsVouchedFor}
-use Rattle.sig_verify.specs.CertificateLinks.{OfScheme}
+use Rattle.sig_verify.specs.CertificateLinks.{IsVouchedFor, OfScheme}
 use Rattle.sig_verify.specs.EntryLinks.{HasCanonicalPromise, IsLed, IsNoteOf, IsNoteSignedBy, IsPlaced, IsPromisedBy}
-use Rattle.sig_verify.specs.EntryLinks.{IsProofRead}
-use Rattle.sig_verify.specs.EntryLinks.{OfCheckpoint, OfLogKey, OfProof}
+use Rattle.sig_verify.specs.EntryLinks.{IsProofRead, OfCheckpoint, OfLogKey, OfProof}
 use Rattle.sig_verify.specs.Links.{EveryChainLinkHolds, Inputs, OfBundle, OfChecked, OfLogged, OfRoot, Outside}
 use Rattle.sig_verify.specs.RootLinks.{IsSomeAnchor, authorities, ct_keys}
 use Rattle.sig_verify.specs.Verdict.{HasBody}

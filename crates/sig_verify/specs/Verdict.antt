@@ -1,5 +1,4 @@
--- The links `material` to `time` of a bundle, as one result: the first of them that fails, or none. The steps before
--- the policy, behind it, and behind the log's body are each a result of their own.
+-- The links `material` to `time` of a bundle, as one result: the first of them that fails, or none.
 use Rattle.std.specs.Prelude.{◌≡◌, ◌⊎◌, Bool, true, false, Result, Ok, Err}
 use Rattle.sig_base.specs.declared.checker.SignatureChecker as signature_checker
 use Rattle.sig_checked_bundle.specs.Checked.{Checked, IsChecked}
@@ -49,7 +48,11 @@ policy_of members policy = record { holds = members.holds policy; refusal = memb
 abbrev pub Answer : Type 0
 Answer = Result (Unit {0}) VerificationError
 
--- ---- what comes behind a step, which ends the steps where it fails
+-- ---- what comes after a step, which ends the steps where it fails
+
+-- nothing does
+abbrev pub IsDone : Answer → Type 0
+IsDone last = last ≡ Ok tt
 
 abbrev pub After : Answer → (Answer → Type 0) → Answer → Type 0
 After (Ok _) Next result = Next result

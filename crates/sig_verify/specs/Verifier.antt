@@ -42,7 +42,7 @@ IsRefusedPool certificates error =
     OrMemory OutOfMemory error
     ((place : ℕ) × (error ≡ CertificatePoolError (Anchor place)) × IsFirstNoAnchor certificates place)
 
--- the first of the certificates that is no trust anchor has this index
+-- the first of the certificates that is not a trust anchor has this index
 abbrev pub HasOther : Authorities → ℕ → Type 0
 HasOther authorities place = (certificates : List (List ℕ)) × (authorities ≡ Ok certificates)
     × IsFirstNoAnchor certificates place

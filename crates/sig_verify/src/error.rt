@@ -38,7 +38,7 @@ pub enum VerificationError {
 /// Why a certificate is not trusted.
 #[derive(Clone, Copy, Debug, PartialEq, Eq, Error)]
 pub enum CertificateErrorKind {
-    /// It has not the profile of a certificate that a trust anchor may issue.
+    /// It does not have the profile of a certificate that a trust anchor may issue.
     #[error("Malformed")]
     Malformed,
     /// The log entry is of a time at which it was not valid.

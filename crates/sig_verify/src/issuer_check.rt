@@ -2,12 +2,13 @@
 //! Transparency log vouches for the certificate.
 ghost use Rattle.std.specs.Prelude.{◌≡◌, ◌≤◌, [], length, option_map};
 ghost use Rattle.sig_base.specs.Answers.{Answers};
-ghost use Rattle.sig_verify.specs.IssuerCheck.{issued_with, issuer_spki, path_start, sct_answer, spki_of};
+ghost use Rattle.sig_verify.specs.IssuerCheck.{issued_answer, issuer_spki, path_start, sct_answer, spki_of};
 ghost use Rattle.sig_x509.specs.Pool.{pool_over};
 
 use crate::error::VerificationError;
 use crate::verifier::Verifier;
 use sig_base::SignatureChecker;
+use sig_checked_bundle::CheckedBundle;
 use sig_x509::uncounted::verify_cert_with_chain;
 use sig_x509::{
     Certificate, CertificateEmbeddedSCT, CertificatePool, DigitallySigned, Issuer, Keyring,
@@ -22,14 +23,15 @@ impl Verifier {
     pub(crate) fn check_issuer<C: SignatureChecker>(
         &self,
         alloc: Global,
-        leaf: &Certificate,
-        further: &[Certificate],
+        bundle: &CheckedBundle,
         checker: &C,
     ) -> Result<(), VerificationError>
-        requires few { length further.now ≤ 16 }
-        ensures { Answers VerificationError.OutOfMemory (λ done. done) result (issued_with
-            (C.cert_accepts checker.now) (C.point_accepts checker.now) self.now further.now leaf.now) }
+        requires few { length bundle.now.further ≤ 16 }
+        ensures { Answers VerificationError.OutOfMemory (λ done. done) result (issued_answer
+            (C.cert_accepts checker.now) (C.point_accepts checker.now) self.now bundle.now) }
     {
+        let leaf = bundle.certificate();
+        let further = bundle.further();
         let spki = issuer_spki(alloc, &self.pool, leaf, further, checker)?;
         check_sct(alloc, leaf, spki, &self.keyring, checker)?;
         Ok(())

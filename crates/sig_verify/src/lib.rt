@@ -1,9 +1,10 @@
 //! The chain of trust of a signed bundle: which links it has, and whether each holds.
 //!
 //! The layer above uses one fact. [`verify_offline`] returns what the five groups of links make of the two texts, one
-//! behind the other: the error of the first that fails, or the entry that a log vouches for, with its proof. Each
-//! group is a call with a contract of its own: the two readers, [`Verifier::new`], the bundle's own checks and
-//! [`Verifier::verify_digest_with`], [`verify_log_entry`]. Signatures are genuine if the handed
+//! after the other: the error of the first that fails, or the entry that a log vouches for, with its proof. Each group
+//! is a call with a contract of its own: the two readers, [`Verifier::new`], the bundle's own checks and
+//! [`Verifier::verify_digest_with`], [`verify_log_entry`]. A [`HeldRoot`] is what many bundles need of one trusted root:
+//! it is read once, and [`HeldRoot::verify`] returns of each bundle what `verify_offline` does. Signatures are genuine if the handed
 //! [`SignatureChecker`](sig_base::SignatureChecker) says so, and every fact here is relative to it.
 #![tactic(auto)]
 
@@ -11,6 +12,7 @@ mod artifact;
 mod chain;
 mod content_check;
 mod error;
+mod held_root;
 mod issuer_check;
 pub mod laws;
 mod link;
@@ -24,6 +26,7 @@ mod verify_artifact;
 pub use artifact::InputFault;
 pub use chain::{verify_offline, verify_parts};
 pub use error::{CertificateErrorKind, SignatureErrorKind, VerificationError, VerificationResult};
+pub use held_root::HeldRoot;
 pub use link::Link;
 pub use log_entry::{verify_log_entry, vouched};
 pub use offline::Offline;

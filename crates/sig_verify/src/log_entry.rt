@@ -6,7 +6,7 @@ ghost use Rattle.sig_key.specs.Kind.{key_parts};
 ghost use Rattle.sig_verify.specs.EntryLinks.{HasKeyOfBytes, HoldsOfEntry, entry_links};
 ghost use Rattle.sig_verify.specs.Judged.{Judged};
 ghost use Rattle.sig_verify.specs.LinkLaws.{IsKept};
-ghost use Rattle.sig_verify.specs.LogEntry.{log_entry_answer, fields_answer, id_answer, included};
+ghost use Rattle.sig_verify.specs.LogEntry.{log_entry_answer, fields_answer, id_answer};
 ghost use Rattle.sig_verify.specs.LogEntry.{entry_inclusion_answer};
 ghost use Rattle.sig_verify.specs.LogEntry.{log_key_answer};
 ghost use Rattle.sig_verify.specs.LogEntry.{borrowed_id, promise_answer, read_key, vouched};
@@ -26,7 +26,7 @@ use std::alloc::Global;
 ///
 /// - `LogIdMissing`: the entry names no log;
 /// - `RekorPublicKeyNotFoundError` with the log id in lower-case hexadecimal: there is no key of it;
-/// - `KeyParsingError`: the key is no SubjectPublicKeyInfo (RFC 5280 section 4.1.2.7);
+/// - `KeyParsingError`: the key is not a SubjectPublicKeyInfo (RFC 5280 section 4.1.2.7);
 /// - `PublicKeyUnsupportedAlgorithmError`: it is of a kind that no signature is checked with;
 /// - `PromiseMissing`: the entry has no promise;
 /// - `PromiseInteger`: its time or its index is beyond plus or minus 2^53 - 1;
@@ -63,22 +63,7 @@ pub fn verify_log_entry<C: SignatureChecker>(
     judge_entry(alloc, entry, log_keys, checker)
 }
 
-/// The links `log-key` to `inclusion`.
-fn judge_entry<C: SignatureChecker>(
-    alloc: Global,
-    entry: &TransparencyLogEntry,
-    log_keys: &KeyMap,
-    checker: &C,
-) -> Result<Offline, OfflineError>
-    ensures answer { Answers OfflineError.OutOfMemory (λ offline. offline) result
-        (log_entry_answer (C.spki_accepts checker.now) log_keys.now entry.now) }
-    ensures bytes { UnlessMemory OfflineError.OutOfMemory result (HasKeyOfBytes log_keys.now entry.now) }
-{
-    let key = log_key(alloc, entry, log_keys)?;
-    vouched(alloc, entry, &key, checker)
-}
-
-/// Checks that a log vouches for an entry, under this key of the log: the links behind `log-key`, for a caller that has
+/// Checks that a log vouches for an entry, under this key of the log: the links after `log-key`, for a caller that has
 /// keys of its own. Returns what [`verify_log_entry`] returns, with its errors from `PromiseMissing` on.
 pub fn vouched<C: SignatureChecker>(
     alloc: Global,
@@ -92,24 +77,24 @@ pub fn vouched<C: SignatureChecker>(
 {
     check_promise(alloc, entry, key, checker)?;
     let proof = entry_proof(alloc, &entry.inclusion_proof)?;
-    included(alloc, entry, proof, key, checker)
-}
-
-/// The links behind `checkpoint`.
-fn included<C: SignatureChecker>(
-    alloc: Global,
-    entry: &TransparencyLogEntry,
-    proof: InclusionProof,
-    key: &CosignVerificationKey,
-    checker: &C,
-) -> Result<Offline, OfflineError>
-    requires { IsSome proof.checkpoint }
-    ensures { Answers OfflineError.OutOfMemory (λ offline. offline) result
-        (included (key_accepts (C.spki_accepts checker.now) key.now) entry.now proof) }
-{
     check_proof(alloc, entry, &proof, key, checker)?;
     let body = entry.canonicalized_body.copy(alloc)?;
     Ok(Offline { body, proof })
+}
+
+/// The links `log-key` to `inclusion`, in order.
+fn judge_entry<C: SignatureChecker>(
+    alloc: Global,
+    entry: &TransparencyLogEntry,
+    log_keys: &KeyMap,
+    checker: &C,
+) -> Result<Offline, OfflineError>
+    ensures answer { Answers OfflineError.OutOfMemory (λ offline. offline) result
+        (log_entry_answer (C.spki_accepts checker.now) log_keys.now entry.now) }
+    ensures bytes { UnlessMemory OfflineError.OutOfMemory result (HasKeyOfBytes log_keys.now entry.now) }
+{
+    let key = log_key(alloc, entry, log_keys)?;
+    vouched(alloc, entry, &key, checker)
 }
 
 /// The link `log-key`: the key of the entry's log.

@@ -1,17 +1,15 @@
 //! `OfflineError`: the first link of the chain of trust that does not hold.
 ghost use Rattle.std.specs.Prelude.{◌≡◌, IsSome};
 ghost use Rattle.sig_base.specs.Answers.{OrMemory};
-ghost use Rattle.sig_verify.specs.OfflineErrors.{IsProofRefusal, IsRootRefusal};
+ghost use Rattle.sig_verify.specs.OfflineErrors.{IsProofRefusal};
 ghost use Rattle.sig_verify.specs.OfflineErrors.{bundle_link, certificate_link, link_of, of_canonical, of_fields};
 ghost use Rattle.sig_verify.specs.OfflineErrors.{of_json};
-ghost use Rattle.sig_verify.specs.OfflineErrors.{of_proof, of_root, of_verification, signature_link};
+ghost use Rattle.sig_verify.specs.OfflineErrors.{of_proof, of_verification, signature_link};
 ghost use Rattle.sig_verify.specs.declared.offline_error.OfflineError.TheVariants.{OutOfMemory as Memory};
 
 use crate::error::{CertificateErrorKind, SignatureErrorKind, VerificationError};
 use crate::link::Link;
-use sig_base::{
-    CheckpointFault, MerkleProofError, OutOfMemory, PoolError, SigstoreError, Text, TrustPart,
-};
+use sig_base::{CheckpointFault, MerkleProofError, OutOfMemory, SigstoreError, Text, TrustPart};
 use sig_bundle::ProofFieldsError;
 use sig_checked_bundle::BundleErrorKind;
 use sig_json::{CanonicalError, JsonError};
@@ -36,7 +34,7 @@ pub enum OfflineError {
     Json(Part, JsonError),
     /// The trusted root has nothing of this part at the time.
     TrustRoot(TrustPart),
-    /// The certificate at this index of its authorities is no trust anchor.
+    /// The certificate at this index of its authorities is not a trust anchor.
     Anchor(usize),
     /// The bundle does not pass its own checks.
     Bundle(BundleErrorKind),
@@ -50,7 +48,7 @@ pub enum OfflineError {
     LogIdMissing,
     /// There is no key of the log of this id, in lower-case hexadecimal.
     RekorPublicKeyNotFoundError(Text),
-    /// The key is no SubjectPublicKeyInfo.
+    /// The key is not a SubjectPublicKeyInfo.
     KeyParsingError,
     /// The key is of a kind that no signature is checked with.
     PublicKeyUnsupportedAlgorithmError,
@@ -62,9 +60,9 @@ pub enum OfflineError {
     Promise,
     /// The entry has no inclusion proof.
     ProofMissing,
-    /// The proof's root hash has not 32 bytes.
+    /// The proof's root hash does not have 32 bytes.
     RootLength,
-    /// The proof's hash at this index has not 32 bytes.
+    /// The proof's hash at this index does not have 32 bytes.
     HashLength(usize),
     /// The proof's tree size is negative.
     TreeSize,
@@ -235,22 +233,7 @@ pub(crate) fn verification_error(error: VerificationError) -> OfflineError
     }
 }
 
-/// The error of a trusted root of which no verifier could be made; it has no others than these.
-pub(crate) fn root_error(error: SigstoreError) -> OfflineError
-    requires { IsRootRefusal error }
-    ensures { result ≡ of_root error }
-{
-    match error {
-        SigstoreError::TufMetadataError(part) => OfflineError::TrustRoot(part),
-        SigstoreError::CertificatePoolError(PoolError::Anchor(place)) => OfflineError::Anchor(
-            place,
-        ),
-        SigstoreError::OutOfMemory => OfflineError::OutOfMemory,
-        _ => unreachable!(),
-    }
-}
-
-/// The error of a proof that was not accepted; one whose checkpoint was read has no others than these.
+/// The error of a proof that was not accepted. One whose checkpoint was read has only these.
 pub(crate) fn proof_error(error: SigstoreError) -> OfflineError
     requires { OrMemory SigstoreError.OutOfMemory error (IsProofRefusal error) }
     ensures { result ≡ of_proof error }

@@ -34,7 +34,7 @@ impl Verifier {
     /// first that applies:
     ///
     /// - the error of the trust root's `fulcio_certs`;
-    /// - `CertificatePoolError(Anchor)` with the index of the first of these certificates that is no trust anchor;
+    /// - `CertificatePoolError(Anchor)` with the index of the first of these certificates that is not a trust anchor;
     /// - the error of its `ctfe_keys`;
     /// - `OutOfMemory`.
     pub fn new<R: TrustRoot>(alloc: Global, trust_repo: &R, now: i64) -> sig_base::Result<Verifier>

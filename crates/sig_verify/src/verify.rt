@@ -1,13 +1,11 @@
 //! Whether a bundle verifies against a verifier.
-ghost use Rattle.std.specs.Prelude.{◌≡◌, ◌≤◌, ◌++◌, length};
+ghost use Rattle.std.specs.Prelude.{◌++◌};
 ghost use Rattle.sig_base.specs.Answers.{UnlessMemory};
 ghost use Rattle.sig_verify.specs.BundleLinks.{bundle_links};
 ghost use Rattle.sig_verify.specs.CertificateLinks.{certificate_links};
 ghost use Rattle.sig_verify.specs.Judged.{Judged};
 ghost use Rattle.sig_verify.specs.LinkLaws.{HoldsOfVerified, renamed, trust_of};
-ghost use Rattle.sig_verify.specs.Verdict.{IsVerdictFromPolicy, IsVerdictFromBody, IsVerdictFromKey};
-ghost use Rattle.sig_verify.specs.Verdict.{IsVerdictFromIssuance, IsVerdict};
-ghost use Rattle.sig_verify.specs.Verdict.{checker_of, policy_of};
+ghost use Rattle.sig_verify.specs.Verdict.{AfterBody, AfterPolicy, IsDone, IsVerdict, checker_of, policy_of};
 
 use crate::content_check::{check_content, check_time};
 use crate::error::{SignatureErrorKind, VerificationError, VerificationResult};
@@ -28,7 +26,7 @@ impl Verifier {
     /// applies:
     ///
     /// - `Bundle`, as of [`CheckedBundle::try_from_bundle`];
-    /// - `Certificate` of `Malformed`: the certificate has not the profile of one that a trust anchor may issue;
+    /// - `Certificate` of `Malformed`: the certificate does not have the profile of one that a trust anchor may issue;
     /// - `Certificate` of `VerificationFailed`: no certification path (RFC 5280 section 6.1) leads from it, at the first
     ///   second of its validity, over the further certificates of the bundle to a trust anchor;
     /// - `Certificate` of `Sct`: no Certificate Transparency log vouches for it under the key of the first issuer in such
@@ -69,11 +67,11 @@ impl Verifier {
         self.judge_bundle(alloc, input_digest, bundle, policy, offline, checker)
     }
 
-    /// The links `material` to `time`.
+    /// The links `material` to `time`, in order.
     fn judge_bundle<P: VerificationPolicy, C: SignatureChecker>(
         &self,
         alloc: Global,
-        input_digest: &ArtifactDigest,
+        digest: &ArtifactDigest,
         bundle: &Bundle,
         policy: &P,
         offline: bool,
@@ -82,87 +80,45 @@ impl Verifier {
         ensures { UnlessMemory VerificationError.OutOfMemory result (IsVerdict
             (checker_of C.SignatureChecker checker.now)
             self.now (policy_of P.VerificationPolicy policy.now)
-            input_digest.now offline bundle.now result) }
-    {
-        // No `?`: what the result says is a fact of each arm.
-        match CheckedBundle::try_from_bundle(alloc, bundle) {
-            Ok(checked) => {
-                self.verify_checked(alloc, input_digest, &checked, policy, offline, checker)
-            }
-            Err(kind) => Err(VerificationError::from(kind)),
-        }
-    }
-
-    /// The links `issuance`, `issuer` and `sct`, and those behind them.
-    fn verify_checked<P: VerificationPolicy, C: SignatureChecker>(
-        &self,
-        alloc: Global,
-        digest: &ArtifactDigest,
-        bundle: &CheckedBundle,
-        policy: &P,
-        offline: bool,
-        checker: &C,
-    ) -> VerificationResult
-        requires few { length bundle.now.further ≤ 16 }
-        ensures { UnlessMemory VerificationError.OutOfMemory result (IsVerdictFromIssuance
-            (checker_of C.SignatureChecker checker.now)
-            self.now (policy_of P.VerificationPolicy policy.now)
             digest.now offline bundle.now result) }
     {
-        self.check_issuer(alloc, bundle.certificate(), bundle.further(), checker)?;
-        verify_allowed(alloc, digest, bundle, policy, offline, checker)
+        let checked = CheckedBundle::try_from_bundle(alloc, bundle)?;
+        self.check_issuer(alloc, &checked, checker)?;
+        check_policy(alloc, &checked, policy)?;
+        check_content(alloc, &checked, digest, checker)?;
+        check_body(alloc, &checked, digest, offline)?;
+        check_time(&checked)
     }
 }
 
-/// The link `policy`, and those behind it.
-fn verify_allowed<P: VerificationPolicy, C: SignatureChecker>(
+/// The link `policy`: whether the policy holds of the certificate.
+fn check_policy<P: VerificationPolicy>(
     alloc: Global,
-    digest: &ArtifactDigest,
     bundle: &CheckedBundle,
     policy: &P,
-    offline: bool,
-    checker: &C,
 ) -> VerificationResult
-    ensures { UnlessMemory VerificationError.OutOfMemory result (IsVerdictFromPolicy
-        (checker_of C.SignatureChecker checker.now)
-        (policy_of P.VerificationPolicy policy.now)
-        digest.now offline bundle.now result) }
+    ensures { UnlessMemory VerificationError.OutOfMemory result (AfterPolicy
+        (P.holds policy.now bundle.now.certificate) (P.refusal policy.now bundle.now.certificate) IsDone result) }
 {
     // No `?`: what the result says is a fact of each arm.
     match policy.verify(alloc, bundle.certificate()) {
-        Ok(()) => verify_signed(alloc, digest, bundle, offline, checker),
+        Ok(()) => Ok(()),
         Err(refusal) => Err(VerificationError::from(refusal)),
     }
 }
 
-/// The links `key`, `signature` and `subject`, and those behind them.
-fn verify_signed<C: SignatureChecker>(
+/// The link `body`: whether the log entry is about what the bundle holds and about the artifact of this digest.
+fn check_body(
     alloc: Global,
-    digest: &ArtifactDigest,
     bundle: &CheckedBundle,
-    offline: bool,
-    checker: &C,
-) -> VerificationResult
-    ensures { UnlessMemory VerificationError.OutOfMemory result (IsVerdictFromKey
-        (checker_of C.SignatureChecker checker.now)
-        digest.now offline bundle.now result) }
-{
-    check_content(alloc, bundle, digest, checker)?;
-    verify_logged(alloc, digest, bundle, offline)
-}
-
-/// The links `body` and `time`.
-fn verify_logged(
-    alloc: Global,
     digest: &ArtifactDigest,
-    bundle: &CheckedBundle,
     offline: bool,
 ) -> VerificationResult
     ensures { UnlessMemory VerificationError.OutOfMemory result
-        (IsVerdictFromBody digest.now offline bundle.now result) }
+        (AfterBody bundle.now digest.now offline IsDone result) }
 {
     match bundle.tlog_entry(alloc, offline, digest.as_bytes()) {
-        Ok(Some(_)) => check_time(bundle),
+        Ok(Some(_)) => Ok(()),
         Ok(None) => Err(VerificationError::Signature(SignatureErrorKind::Transparency)),
         Err(_) => Err(VerificationError::OutOfMemory),
     }

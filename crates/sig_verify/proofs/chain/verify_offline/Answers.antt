@@ -1,24 +1,39 @@
+use Rattle.std.proofs.Common.{◌≡◌, Err, rules}
 use Rattle.std.proofs.Math.Facts.{to_z-of_z}
-use Rattle.sig_verify.proofs.OfflineBytes.{kept_told, links_told}
+use Rattle.sig_verify.proofs.HeldRoots.{held_there}
+use Rattle.sig_verify.proofs.OfflineBytes.{unread_links, unread_steps}
 use Rattle.sig_verify.specs.Verdict.{checker_of, policy_of}
 use Rattle.sig_verify.proofs.chain.verify_offline.Goals as goal
 
-pub returns-clause-links : goal.returns-clause-links
-returns-clause-links g c =
-    links_told c.outcomes.ensures
-    (record {
+pub returns-in_err-held-clause-links : goal.returns-in_err-held-clause-links
+returns-in_err-held-clause-links g c =
+    let is : c.from_residual.result ≡ Err c.in_err-held.field-0.0 = search rules in
+    rw is (unread_links (record {
       checker = checker_of g.C.SignatureChecker c.args.checker.now;
       policy = policy_of g.P.VerificationPolicy c.args.policy.now;
-    })
-    c.args.trusted_root.now c.args.now _ c.args.digest.now c.args.bundle.now c.judge_offline.result
-    (to_z-of_z c.ranges.now) c.judge_offline.ensures.read c.judge_offline.ensures.steps
+    }) c.args.trusted_root.now c.args.now c.args.digest.now c.args.bundle.now c.in_err-held.field-0.0
+    c.in_err-held.ensures)
+
+pub returns-in_err-held-clause-steps : goal.returns-in_err-held-clause-steps
+returns-in_err-held-clause-steps g c =
+    let is : c.from_residual.result ≡ Err c.in_err-held.field-0.0 = search rules in
+    rw is (unread_steps (record {
+      checker = checker_of g.C.SignatureChecker c.args.checker.now;
+      policy = policy_of g.P.VerificationPolicy c.args.policy.now;
+    }) c.args.trusted_root.now c.args.now c.args.digest.now c.args.bundle.now c.in_err-held.field-0.0
+    c.in_err-held.ensures)
+
+pub returns-clause-links : goal.returns-clause-links
+returns-clause-links g c =
+    c.verify.ensures.links c.args.trusted_root.now c.args.now
+    (held_there c.args.trusted_root.now c.args.now _ c.in_ok-held.held (to_z-of_z c.ranges.now) c.in_ok-held.ensures)
 
 pub returns-clause-kept : goal.returns-clause-kept
 returns-clause-kept g c =
-    kept_told c.outcomes.ensures
-    (record {
-      checker = checker_of g.C.SignatureChecker c.args.checker.now;
-      policy = policy_of g.P.VerificationPolicy c.args.policy.now;
-    })
-    c.args.trusted_root.now c.args.now _ c.args.digest.now c.args.bundle.now c.judge_offline.result
-    (to_z-of_z c.ranges.now) c.judge_offline.ensures.read c.judge_offline.ensures.steps
+    c.verify.ensures.kept c.args.trusted_root.now c.args.now
+    (held_there c.args.trusted_root.now c.args.now _ c.in_ok-held.held (to_z-of_z c.ranges.now) c.in_ok-held.ensures)
+
+pub returns-clause-steps : goal.returns-clause-steps
+returns-clause-steps g c =
+    c.verify.ensures.steps c.args.trusted_root.now c.args.now
+    (held_there c.args.trusted_root.now c.args.now _ c.in_ok-held.held (to_z-of_z c.ranges.now) c.in_ok-held.ensures)

@@ -1,4 +1,4 @@
-use Rattle.sig_verify.proofs.Scts.{sct_judged}
+use Rattle.sig_verify.proofs.IssuerSteps.{sct_judged}
 use Rattle.sig_verify.proofs.issuer_check.check_sct.Goals as goal
 
 pub returns : goal.returns

@@ -1,4 +1,4 @@
-use Rattle.sig_verify.proofs.CheckedVerdicts.{trusted_told}
+use Rattle.sig_verify.proofs.CheckedBundles.{trusted_told}
 use Rattle.sig_verify.proofs.laws.checked_bundles.Goals as goal
 
 pub returns : goal.returns

@@ -1,4 +1,4 @@
-use Rattle.sig_verify.proofs.WholeVerdicts.{verdict_told}
+use Rattle.sig_verify.proofs.VerifiedBundles.{verdict_told}
 use Rattle.sig_verify.proofs.laws.verified_bundles.Goals as goal
 
 pub returns : goal.returns

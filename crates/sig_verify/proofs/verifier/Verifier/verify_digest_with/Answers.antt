@@ -1,6 +1,6 @@
 use Rattle.std.proofs.Common.{inl, inr}
 use Rattle.sig_verify.proofs.CertificateBytes.{read_of_bundle}
-use Rattle.sig_verify.proofs.WholeVerdicts.{judged_verdict}
+use Rattle.sig_verify.proofs.VerifiedBundles.{judged_verdict}
 use Rattle.sig_verify.specs.Verdict.{checker_of, policy_of}
 use Rattle.sig_verify.proofs.verifier.Verifier.verify_digest_with.Goals as goal
 

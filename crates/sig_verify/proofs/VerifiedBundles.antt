@@ -17,7 +17,7 @@ use Rattle.sig_certificate.specs.Certificate.{Cert}
 use Rattle.sig_certificate.specs.Certificates.{AreCertificates}
 use Rattle.sig_dsse.specs.declared.artifact_digest.ArtifactDigest.{ArtifactDigest}
 use Rattle.sig_rekor.proofs.Steps.{head_is}
-use Rattle.sig_verify.proofs.CheckedVerdicts.{judged_trusted}
+use Rattle.sig_verify.proofs.CheckedBundles.{judged_trusted}
 use Rattle.sig_verify.proofs.JudgedLaws.{alike_each, behind, fails_front, judged_as, judged_tells}
 use Rattle.sig_verify.specs.BundleLinks.{bundle_links}
 use Rattle.sig_verify.specs.CertificateLinks.{HoldsOfChecked, certificate_links}

@@ -1,8 +1,9 @@
 -- What is judged is the SCT that the certificate carries.
-use Rattle.std.proofs.Common.{◌≡◌, ◌⊎◌, ℕ, List, Result, Ok, Err, inl, inr, sym, subst, ap, ◌∙◌}
+use Rattle.std.proofs.Common.{◌≡◌, ℕ, List, Result, Ok, Err, inl, inr, sym, subst, ap, ◌∙◌}
 use Rattle.sig_base.specs.Answers.{Answers, OrMemory}
 use Rattle.sig_base.specs.ResultSteps.{◌>>=◌}
 use Rattle.sig_certificate.specs.Certificate.{Cert}
+use Rattle.sig_checked_bundle.specs.Checked.{Checked}
 use Rattle.sig_timestamp.specs.Embedded.{ready}
 use Rattle.sig_timestamp.specs.RingKey.{RingKey}
 use Rattle.sig_timestamp.specs.SctBytes.{judged}
@@ -34,19 +35,24 @@ sct_judged accepts ring c spki embedded signed r read same answer =
 
 module _ (accepts : Accepts) (accepts_point : AcceptsPoint) (anchors : List Cert) (ring : List (List ℕ × RingKey))
     (trusted : Trusted) (same : ◌≡◌ {A = Trusted} (record { anchors = anchors; ring = ring }) trusted)
-    (further : List Cert) (c : Cert) where
+    (further : List Cert) (c : Cert) (checked : Checked) (of_leaf : c ≡ checked.certificate)
+    (of_further : further ≡ checked.further) where
   abbrev found : Result (List ℕ) VerificationError
   found = issuer_spki accepts (pool_over anchors further) c
 
-  abbrev Meant : Result (Unit {0}) VerificationError → Type 0
-  Meant r = Answers verification.OutOfMemory (λ (done : Unit {0}). done) r
-      (issued_with accepts accepts_point trusted further c)
+  abbrev MeantOf : Trusted → List Cert → Cert → Result (Unit {0}) VerificationError → Type 0
+  MeantOf t cs x r = Answers verification.OutOfMemory (λ (done : Unit {0}). done) r (issued_with accepts accepts_point
+      t cs x)
 
-  moved : (r : Result (Unit {0}) VerificationError) → Answers verification.OutOfMemory (λ (done : Unit {0}). done) r
-      (found >>= λ spki. from_sct (sct_answer accepts_point ring c spki)) → Meant r
+  abbrev Meant : Result (Unit {0}) VerificationError → Type 0
+  Meant r = MeantOf trusted checked.further checked.certificate r
+
+  moved : (r : Result (Unit {0}) VerificationError) → MeantOf (record { anchors = anchors; ring = ring }) further c r
+      → Meant r
   moved r meant =
-      subst (λ (t : Trusted). Answers verification.OutOfMemory (λ (done : Unit {0}). done) r
-      (issued_with accepts accepts_point t further c)) same meant
+      subst (λ (x : Cert). MeantOf trusted checked.further x r) of_leaf
+      (subst (λ (cs : List Cert). MeantOf trusted cs c r) of_further
+      (subst (λ (t : Trusted). MeantOf t further c r) same meant))
 
   pub no_issuer : (e : VerificationError) → OrMemory verification.OutOfMemory e (found ≡ Err e) → Meant (Err e)
   no_issuer e (inl memory) = inl memory
@@ -55,15 +61,15 @@ module _ (accepts : Accepts) (accepts_point : AcceptsPoint) (anchors : List Cert
       r >>= λ spki. from_sct (sct_answer accepts_point ring c spki)) is))
 
   module _ (spki : List ℕ) (is : found ≡ Ok spki) where
-    behind : (found >>= λ key. from_sct (sct_answer accepts_point ring c key))
+    after : (found >>= λ key. from_sct (sct_answer accepts_point ring c key))
         ≡ from_sct (sct_answer accepts_point ring c spki)
-    behind =
+    after =
         ap (λ (r : Result (List ℕ) VerificationError). r >>= λ key. from_sct (sct_answer accepts_point ring c key)) is
 
     pub no_sct : (e : SCTError) → OrMemory OutOfMemory e (sct_answer accepts_point ring c spki ≡ Err e)
         → Meant (Err (of_sct e))
     no_sct e (inl memory) = inl (ap of_sct memory)
-    no_sct e (inr failed) = moved (Err (of_sct e)) (inr (behind ∙ ap from_sct failed))
+    no_sct e (inr failed) = moved (Err (of_sct e)) (inr (after ∙ ap from_sct failed))
 
     pub both_held : sct_answer accepts_point ring c spki ≡ Ok tt → Meant (Ok tt)
-    both_held held = moved (Ok tt) (behind ∙ ap from_sct held)
+    both_held held = moved (Ok tt) (after ∙ ap from_sct held)

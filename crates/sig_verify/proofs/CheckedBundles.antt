@@ -12,8 +12,7 @@ use Rattle.sig_verify.specs.IssuerCheck.{issued_answer}
 use Rattle.sig_verify.specs.Judged.{Judged, Tells}
 use Rattle.sig_verify.specs.LinkLaws.{IsReadCertificate, renamed, trust_of}
 use Rattle.sig_verify.specs.Verdict.{After, AfterPolicy, Answer, Checker, IsVerdictFromPolicy, IsVerdictFromBody}
-use Rattle.sig_verify.specs.Verdict.{IsVerdictFromKey}
-use Rattle.sig_verify.specs.Verdict.{IsVerdictFromIssuance, PolicyOf}
+use Rattle.sig_verify.specs.Verdict.{IsVerdictFromKey, IsVerdictFromIssuance, PolicyOf}
 use Rattle.sig_verify.specs.Verifier.{Trusted}
 use Rattle.sig_verify.specs.declared.error.SignatureErrorKind.TheVariants.{Transparency}
 use Rattle.sig_verify.specs.declared.link.Link.{Link}
@@ -26,7 +25,7 @@ module _ (k : Checker) (policy : PolicyOf) (trusted : Trusted) (d : ArtifactDige
   abbrev Holds : Link → Type 0
   Holds = HoldsOfChecked k policy (trust_of trusted) d offline c
 
-  -- one step behind another
+  -- one step after another
   after : (xs ys : List Link) (step result : Answer) (Next : Answer → Type 0) → Judged Holds xs (renamed step)
       → (Next result → Judged Holds ys (renamed result)) → After step Next result
       → Judged Holds (xs ++ ys) (renamed result)
