@@ -25,8 +25,8 @@ VerifyQuestionsFit text request =
 abbrev pub verify_question_links : List Link
 verify_question_links = Request ∷ question_links
 
--- what a link asks of a text, and of the request that it is, whatever signatures are accepted: `issuer`, that some
--- trust anchor may have issued the certificate
+-- what a link asks of a text, and of the request that it is, whatever signatures are accepted: `issuer`, that a
+-- path would lead to a trust anchor if every signature were genuine
 abbrev pub HoldsOfVerifyQuestions : List ℕ → VerifyRequest → Link → Type 0
 HoldsOfVerifyQuestions text request Request = VerifyQuestionsFit text request
 HoldsOfVerifyQuestions text request other = HoldsUnasked (inputs request) other

@@ -24,12 +24,13 @@ use sig_verify::Link;
 use std::alloc::Global;
 
 /// Returns the reply to a request's text: the list of the signatures that the links of `verify` ask for, in their
-/// order, with status 0: the certificate under each trust anchor that may have issued it, its SCT as issued by each of
-/// these, the signature over the content, the log's promise, and each signature of the checkpoint's note. Else
-/// `refused NAME`, for the first link of `verify` that fails whatever is accepted: one before `issuer`, or `issuer` if
-/// no trust anchor may have issued the certificate; and `refused request` if the text is no request of `verify`, or
-/// text, list and `,"accepted":` would have more than 2^24 bytes together. Which signatures the request itself accepts does not matter. Fails only if
-/// out of memory.
+/// order, with status 0: those of the certificate and of the bundle's further ones under the keys of their issuers in
+/// each path to a trust anchor that would hold if every signature were genuine, the SCT as issued by each such issuer
+/// of the certificate, the signature over the content, the log's promise, and each signature of the checkpoint's note.
+/// Else `refused NAME`, for the first link of `verify` that fails whatever is accepted: one before `issuer`, or
+/// `issuer` if there is no such path; and `refused request` if the text is no request of `verify`, or text, list and
+/// `,"accepted":` would have more than 2^24 bytes together. Which signatures the request itself accepts does not
+/// matter. Fails only if out of memory.
 ///
 /// Of two requests that differ in their accepted signatures alone, and in none of those that a link asks for, `verify`
 /// has the same reply.

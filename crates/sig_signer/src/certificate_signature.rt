@@ -14,8 +14,8 @@ use sig_key::CosignVerificationKey;
 use sig_x509::{Certificate, CertificatePool, X509ReadError, is_trusted, uncounted};
 use std::alloc::Global;
 
-/// Who signed, by the word of a certificate that a trust anchor issued, and that was valid when a log took the
-/// signature. Whether its key signed anything is not asked.
+/// Who signed, by the word of a certificate from which a path leads to a trust anchor, and that was valid when a log
+/// took the signature. Whether its key signed anything is not asked.
 #[derive(Drop)]
 pub struct CertificateSignature {
     /// The certificate's key.

@@ -1,5 +1,5 @@
-//! Who signed, by the word of a certificate: the subject and the claims of a certificate that a trust anchor issued
-//! and that was valid when a log took the signature.
+//! Who signed, by the word of a certificate: the subject and the claims of a certificate from which a path leads to a
+//! trust anchor, and that was valid when a log took the signature.
 //!
 //! ```text
 //! subject alternative name (RFC 5280 section 4.2.1.6), the first email or URI:  Email or Uri

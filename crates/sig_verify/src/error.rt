@@ -47,7 +47,7 @@ pub enum CertificateErrorKind {
     /// No Certificate Transparency log vouches for it.
     #[error("Sct")]
     Sct(SCTError),
-    /// No trust anchor issued it.
+    /// No certification path leads from it to a trust anchor.
     #[error("VerificationFailed")]
     VerificationFailed,
 }

@@ -35,7 +35,7 @@ pub enum Link {
     Profile,
     /// The certificate has the profile of one that is issued.
     Issuance,
-    /// A trust anchor issued it.
+    /// A certification path leads from it to a trust anchor.
     Issuer,
     /// A Certificate Transparency log vouches for it.
     Sct,
