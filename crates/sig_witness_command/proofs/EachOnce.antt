@@ -5,7 +5,7 @@ use Rattle.std.proofs.lemmas.List.{append-nil, append_assoc}
 use Rattle.std.proofs.lemmas.List.Elements.{Contains-append_cases, Contains-append_left, Contains-append_right, Contains-push, Contains-push_cases}
 use Rattle.sig_base.proofs.AcceptedRows.{accepted-rows}
 use Rattle.sig_base.specs.declared.checker.AcceptedRow.{AcceptedRow}
-use Rattle.sig_witness_command.specs.Questions.{each_once_behind, has_row, update_rows, with_row}
+use Rattle.sig_witness_command.specs.Questions.{each_once_after, has_row, update_rows, with_row}
 use Rattle.sig_witness_command.specs.Suffice.{AreDifferent, WitnessRowsAreEachOnce}
 
 -- ---- whether a row is there
@@ -55,13 +55,13 @@ one-row rows row = by (has_row rows row) refl where
 -- ---- rows behind others
 
 pub once-parts : (before first second : List AcceptedRow)
-    → each_once_behind before (first ++ second) ≡ each_once_behind (each_once_behind before first) second
+    → each_once_after before (first ++ second) ≡ each_once_after (each_once_after before first) second
 once-parts before [] second = refl
 once-parts before (row ∷ later) second = once-parts (with_row before row) later second
 
 -- they begin with those before them
 pub once-begins : (before rows : List AcceptedRow)
-    → (more : List AcceptedRow) × (each_once_behind before rows ≡ before ++ more)
+    → (more : List AcceptedRow) × (each_once_after before rows ≡ before ++ more)
 once-begins before [] = ([], sym (append-nil before))
 once-begins before (row ∷ later) =
     let rest = once-begins (with_row before row) later in
@@ -110,13 +110,13 @@ with-cases rows row one there = elim (one-row rows row) [
 ]
 
 once-keeps : (before rows : List AcceptedRow) (one : AcceptedRow) → Contains before one
-    → Contains (each_once_behind before rows) one
+    → Contains (each_once_after before rows) one
 once-keeps before [] one there = there
 once-keeps before (row ∷ rest) one there =
     once-keeps (with_row before row) rest one (kept-with before row one there)
 
 pub once-has : (before rows : List AcceptedRow) (one : AcceptedRow) → Contains rows one
-    → Contains (each_once_behind before rows) one
+    → Contains (each_once_after before rows) one
 once-has before [] one there = absurd (omega (arith, there.1))
 once-has before (row ∷ rest) one there = elim (first-or-later row one rest there) [
   | inl same ↦
@@ -125,7 +125,7 @@ once-has before (row ∷ rest) one there = elim (first-or-later row one rest the
   | inr behind ↦ once-has (with_row before row) rest one behind
 ]
 
-once-only : (before rows : List AcceptedRow) (one : AcceptedRow) → Contains (each_once_behind before rows) one
+once-only : (before rows : List AcceptedRow) (one : AcceptedRow) → Contains (each_once_after before rows) one
     → Contains before one ⊎ Contains rows one
 once-only before [] one there = inl there
 once-only before (row ∷ rest) one there = elim (once-only (with_row before row) rest one there) [
@@ -149,7 +149,7 @@ different-behind (one ∷ rest) row all absent = (
   different-behind rest row all.1 (λ there. absent (later one row rest there)),
 )
 
-once-different : (before rows : List AcceptedRow) → AreDifferent before → AreDifferent (each_once_behind before rows)
+once-different : (before rows : List AcceptedRow) → AreDifferent before → AreDifferent (each_once_after before rows)
 once-different before [] all = all
 once-different before (row ∷ rest) all = once-different (with_row before row) rest (elim (one-row before row) [
   | inl (_, same) ↦ subst AreDifferent (sym same) all

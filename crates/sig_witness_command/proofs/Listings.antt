@@ -24,7 +24,7 @@ use Rattle.sig_witness.specs.Updates.{Update, update_of}
 use Rattle.sig_witness_command.proofs.Marks.{next-place, put-more, put-past}
 use Rattle.sig_witness_command.proofs.EachOnce.{once-begins, once-parts}
 use Rattle.sig_witness_command.specs.Outcome.{HasReading, IsUpdate}
-use Rattle.sig_witness_command.specs.Questions.{IsNotesDocument, checkpoint_rows, each_once_behind, note_rows}
+use Rattle.sig_witness_command.specs.Questions.{IsNotesDocument, checkpoint_rows, each_once_after, note_rows}
 use Rattle.sig_witness_command.specs.Questions.{rows_under, signature_row, update_rows, with_row, witness_rows}
 use Rattle.sig_witness_command.specs.RowList.{HasAdded, HasAddedRows, HasAddedText, IsCoded, IsListSoFar, IsPut}
 use Rattle.sig_witness_command.specs.Start.{HaveLines, Logs}
@@ -71,47 +71,47 @@ module _ (key : CosignVerificationKey) (checkpoint : SignedCheckpoint) where
   module _ (logs : Logs) (bound : ℕ) (before : List AcceptedRow) (lines : HaveLines logs)
       (at : option_map log_key (text_lookup checkpoint.note.origin logs) ≡ Some key) where
     pub sign-none : (rows : RowList) → IsListSoFar logs bound before rows
-        → IsListSoFar logs bound (each_once_behind before (rows_so_far 0)) rows
+        → IsListSoFar logs bound (each_once_after before (rows_so_far 0)) rows
     sign-none rows is = is
 
     pub sign-more : (count number : ℕ) (signature : CheckpointSignature) (old new : RowList)
         → count < length checkpoint.signatures → signature ≡ get_or checkpoint.signatures count signature
         → text_lookup (note_text checkpoint.note) old.notes ≡ Some number → IsCoded signature.raw
-        → IsListSoFar logs bound (each_once_behind before (rows_so_far count)) old
+        → IsListSoFar logs bound (each_once_after before (rows_so_far count)) old
         → IsPut (signature_row key checkpoint signature) number signature.raw old new true
-        → IsListSoFar logs bound (each_once_behind before (rows_so_far (count + 1))) new
+        → IsListSoFar logs bound (each_once_after before (rows_so_far (count + 1))) new
     sign-more count number signature old new below is numbered coded so_far put =
-        let rows = each_once_behind before (rows_so_far count) in
+        let rows = each_once_after before (rows_so_far count) in
         let more = put-more logs bound rows key checkpoint number signature.raw old new lines at numbered so_far coded put
         in
-        let whole : each_once_behind before (rows_so_far (count + 1))
+        let whole : each_once_after before (rows_so_far (count + 1))
         ≡ with_row rows (signature_row key checkpoint signature) =
-        ap (each_once_behind before) (rows-more count signature below is)
+        ap (each_once_after before) (rows-more count signature below is)
         ∙ once-parts before (rows_so_far count) (signature_row key checkpoint signature ∷ []) in
         subst (λ (all : List AcceptedRow). IsListSoFar logs bound all new) (sym whole) more
 
     pub sign-past : (count number : ℕ) (signature : CheckpointSignature) (old new : RowList)
         → count < length checkpoint.signatures → signature ≡ get_or checkpoint.signatures count signature
         → text_lookup (note_text checkpoint.note) old.notes ≡ Some number → IsCoded signature.raw
-        → IsListSoFar logs bound (each_once_behind before (rows_so_far count)) old
+        → IsListSoFar logs bound (each_once_after before (rows_so_far count)) old
         → IsPut (signature_row key checkpoint signature) number signature.raw old new false
-        → HasAddedRows logs bound (each_once_behind before (note_rows key checkpoint)) new false
+        → HasAddedRows logs bound (each_once_after before (note_rows key checkpoint)) new false
     sign-past count number signature old new below is numbered coded so_far put =
-        let rows = each_once_behind before (rows_so_far count) in
+        let rows = each_once_after before (rows_so_far count) in
         let rest = map (signature_row key checkpoint) (drop (count + 1) checkpoint.signatures) in
         let long = put-past logs bound rows key checkpoint number signature.raw old new lines at numbered so_far coded
         rest put in
-        let whole : each_once_behind before (note_rows key checkpoint)
-        ≡ each_once_behind rows (signature_row key checkpoint signature ∷ rest) =
-        ap (each_once_behind before) (rows-split count signature below is)
+        let whole : each_once_after before (note_rows key checkpoint)
+        ≡ each_once_after rows (signature_row key checkpoint signature ∷ rest) =
+        ap (each_once_after before) (rows-split count signature below is)
         ∙ once-parts before (rows_so_far count) (signature_row key checkpoint signature ∷ rest) in
         subst (λ (all : List AcceptedRow). new.most < length (rows_text all)) (sym whole) long
 
     pub sign-done : (count : ℕ) (rows : RowList) → length checkpoint.signatures ≤ count
-        → IsListSoFar logs bound (each_once_behind before (rows_so_far count)) rows
-        → HasAddedRows logs bound (each_once_behind before (note_rows key checkpoint)) rows true
+        → IsListSoFar logs bound (each_once_after before (rows_so_far count)) rows
+        → HasAddedRows logs bound (each_once_after before (note_rows key checkpoint)) rows true
     sign-done count rows all so_far =
-        subst (λ (first : List AcceptedRow). IsListSoFar logs bound (each_once_behind before first) rows)
+        subst (λ (first : List AcceptedRow). IsListSoFar logs bound (each_once_after before first) rows)
         (rows-whole count all) so_far
 
 -- ---- a checkpoint by its origin
@@ -119,18 +119,18 @@ module _ (key : CosignVerificationKey) (checkpoint : SignedCheckpoint) where
 module _ (logs : Logs) (place : ℕ) (before : List AcceptedRow) (checkpoint : SignedCheckpoint) where
   pub known-origin : (key : CosignVerificationKey) (rows : RowList) (added : Bool)
       → option_map log_key (text_lookup checkpoint.note.origin logs) ≡ Some key
-      → HasAddedRows logs (place + 1) (each_once_behind before (note_rows key checkpoint)) rows added
+      → HasAddedRows logs (place + 1) (each_once_after before (note_rows key checkpoint)) rows added
       → HasAdded logs place before checkpoint rows added
   known-origin key rows added at is =
       subst (λ (found : Option CosignVerificationKey).
-      HasAddedRows logs (place + 1) (each_once_behind before (rows_under found checkpoint)) rows added) (sym at) is
+      HasAddedRows logs (place + 1) (each_once_after before (rows_under found checkpoint)) rows added) (sym at) is
 
   pub unknown-origin : (rows : RowList) → place + 1 ≤ 2 ^ 64
       → option_map log_key (text_lookup checkpoint.note.origin logs) ≡ None → IsListSoFar logs place before rows
       → HasAdded logs place before checkpoint rows true
   unknown-origin rows small none so_far =
       subst (λ (found : Option CosignVerificationKey).
-      IsListSoFar logs (place + 1) (each_once_behind before (rows_under found checkpoint)) rows) (sym none)
+      IsListSoFar logs (place + 1) (each_once_after before (rows_under found checkpoint)) rows) (sym none)
       (next-place logs place before rows small so_far)
 
 -- ---- the updates of texts
@@ -200,15 +200,15 @@ rows-parts logs (update ∷ later) b =
     ∙ sym (append_assoc (checkpoint_rows logs update.checkpoint) (update_rows logs later) (update_rows logs b))
 
 witness-parts : (logs : Logs) (a b : List Update)
-    → witness_rows logs (a ++ b) ≡ each_once_behind (witness_rows logs a) (update_rows logs b)
+    → witness_rows logs (a ++ b) ≡ each_once_after (witness_rows logs a) (update_rows logs b)
 witness-parts logs a b =
-    ap (each_once_behind []) (rows-parts logs a b) ∙ once-parts [] (update_rows logs a) (update_rows logs b)
+    ap (each_once_after []) (rows-parts logs a b) ∙ once-parts [] (update_rows logs a) (update_rows logs b)
 
 witness-more : (logs : Logs) (a : List Update) (update : Update)
-    → witness_rows logs (a ++ update ∷ []) ≡ each_once_behind (witness_rows logs a) (checkpoint_rows logs update.checkpoint)
+    → witness_rows logs (a ++ update ∷ []) ≡ each_once_after (witness_rows logs a) (checkpoint_rows logs update.checkpoint)
 witness-more logs a update =
     witness-parts logs a (update ∷ [])
-    ∙ ap (each_once_behind (witness_rows logs a)) (append-nil (checkpoint_rows logs update.checkpoint))
+    ∙ ap (each_once_after (witness_rows logs a)) (append-nil (checkpoint_rows logs update.checkpoint))
 
 -- ---- text by text
 

@@ -56,17 +56,17 @@ update_rows logs (update ∷ later) = checkpoint_rows logs update.checkpoint ++ 
 abbrev pub has_row : List AcceptedRow → AcceptedRow → Bool
 has_row rows row = accepted rows row.operation row.scheme row.key row.message row.signature
 
--- rows behind others, each once: those that are not among the ones before them
+-- rows after others, each once: those that are not among the ones before them
 abbrev pub with_row : List AcceptedRow → AcceptedRow → List AcceptedRow
 with_row rows row = if has_row rows row then rows else rows ++ row ∷ []
 
-abbrev pub each_once_behind : List AcceptedRow → List AcceptedRow → List AcceptedRow
-each_once_behind before [] = before
-each_once_behind before (row ∷ later) = each_once_behind (with_row before row) later
+abbrev pub each_once_after : List AcceptedRow → List AcceptedRow → List AcceptedRow
+each_once_after before [] = before
+each_once_after before (row ∷ later) = each_once_after (with_row before row) later
 
 -- the signatures that are asked for, each once, in the order in which they come first
 abbrev pub witness_rows : Logs → List Update → List AcceptedRow
-witness_rows logs updates = each_once_behind [] (update_rows logs updates)
+witness_rows logs updates = each_once_after [] (update_rows logs updates)
 
 -- the text is this request, which starts from these logs, and these are its updates
 pub record IsAskedOf (text : List ℕ) (request : WitnessRequest) (start : Logs) (updates : List Update) : Type 0 where
@@ -89,7 +89,7 @@ pub record HasNoRoom (text : List ℕ) : Type 0 where
   pub of : IsAskedOf text request start updates
   pub past : ¬ FitsBeside text (witness_rows start updates)
 
--- the text is no request that starts from some logs, or its list has no room beside it
+-- the text is not a request that starts from some logs, or its list has no room beside it
 abbrev pub IsUnasked : List ℕ → Type 0
 IsUnasked text = IsUnread text ⊎ HasNoRoom text
 

@@ -24,7 +24,7 @@ pub record HasStart (text : List ℕ) : Type 0 where
   pub start : Logs
   pub is : IsReadAs text request start
 
--- it is none: it is no request, or its state is none or an origin of it cannot be added
+-- it is not one: it is not a request, or its state is not one or an origin of it cannot be added
 abbrev pub IsUnread : List ℕ → Type 0
 IsUnread text =
     ((request : WitnessRequest) → ¬ IsRequestOf witness_request text request)
@@ -48,7 +48,7 @@ pub record IsWitnessedReply (request : WitnessRequest) (start : Logs) (reply : R
   pub run : IsRun (takes request.accepted) start updates after
   pub made : reply ≡ witnessed outcomes (state_text after)
 
--- *Witness*: the reply to a text. It is `refused request` if and only if the text is no request, or its state is none, or
+-- *Witness*: the reply to a text. It is `refused request` if and only if the text is not a request, or its state is not one, or
 -- an origin of it cannot be added.
 pub record IsWitnessReply (text : List ℕ) (reply : Reply) : Type 0 where
   pub decided : HasStart text ⊎ IsUnread text

@@ -12,7 +12,7 @@ use Rattle.sig_rekor.specs.declared.checkpoint.SignedCheckpoint.{SignedCheckpoin
 use Rattle.sig_reply.specs.RowsText.{AddsRow, IsListOf, IsRowReadBack, rows_text, rows_tree}
 use Rattle.sig_witness.specs.Kept.{log_key}
 use Rattle.sig_witness_command.specs.Outcome.{HasReading}
-use Rattle.sig_witness_command.specs.Questions.{checkpoint_rows, each_once_behind, note_row}
+use Rattle.sig_witness_command.specs.Questions.{checkpoint_rows, each_once_after, note_row}
 use Rattle.sig_witness_command.specs.Start.{Logs}
 use Rattle.sig_rekor.specs.CheckpointText.{IsCheckpoint}
 use Rattle.sig_witness_command.specs.declared.request.UpdateText.{UpdateText}
@@ -42,7 +42,7 @@ pub record IsEmptyList (most : ℕ) (rows : RowList) : Type 0 where
 abbrev pub HasRoom : RowList → Type 0
 HasRoom rows = IsSome (as_array (document_tree rows.list)) × (rows.size < rows.most)
 
--- the same but for the numbers of notes
+-- the same except for the numbers of notes
 pub record IsSameList (old new : RowList) : Type 0 where
   pub list : new.list ≡ old.list
   pub size : new.size ≡ old.size
@@ -106,7 +106,7 @@ HasAddedRows logs bound all rows false = rows.most < length (rows_text all)
 -- whether there was room for the signatures of a checkpoint
 abbrev pub HasAdded : Logs → ℕ → List AcceptedRow → SignedCheckpoint → RowList → Bool → Type 0
 HasAdded logs place before checkpoint rows =
-    HasAddedRows logs (place + 1) (each_once_behind before (checkpoint_rows logs checkpoint)) rows
+    HasAddedRows logs (place + 1) (each_once_after before (checkpoint_rows logs checkpoint)) rows
 
 -- whether there was room for those of an update, if its text is a checkpoint
 abbrev pub HasAddedText : Logs → ℕ → List AcceptedRow → UpdateText → RowList → Bool → Type 0

@@ -26,7 +26,7 @@ pub record IsAdded (logs : Logs) (one : OriginKey) (after : Logs) : Type 0 where
   pub info : key_info key ≡ one.key
   pub put : after ≡ text_put one.origin (new_log key) logs
 
--- an origin cannot be added: it is no line, or it is there
+-- an origin cannot be added: it is not a line, or it is there
 abbrev pub IsUnaddable : Logs → OriginKey → Type 0
 IsUnaddable logs one = (¬ IsOriginText one.origin) ⊎ ((log : KeptLog) × (text_lookup one.origin logs ≡ Some log))
 
@@ -35,7 +35,7 @@ abbrev pub AreAdded : Logs → List OriginKey → Logs → Type 0
 AreAdded logs [] after = after ≡ logs
 AreAdded logs (one ∷ later) after = (next : Logs) × IsAdded logs one next × AreAdded next later after
 
--- one of them cannot be added behind those before it
+-- one of them cannot be added after those before it
 abbrev pub HasUnaddable : Logs → List OriginKey → Type 0
 HasUnaddable logs [] = ⊥
 HasUnaddable logs (one ∷ later) =
@@ -47,7 +47,7 @@ pub record IsStart (request : WitnessRequest) (start : Logs) : Type 0 where
   pub state : IsStateOf request.state kept
   pub added : AreAdded kept request.origins start
 
--- there are none: its state is no state of a witness; or it is, and an origin cannot be added
+-- there are none: its state is not the state of a witness; or it is, and an origin cannot be added
 abbrev pub HasNoStart : WitnessRequest → Type 0
 HasNoStart request =
     ((e : StateError) × IsStateFault request.state e)

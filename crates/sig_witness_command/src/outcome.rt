@@ -17,7 +17,7 @@ use std::alloc::Global;
 pub enum Outcome {
     /// It was taken, and the new head has this size.
     Accepted(u64),
-    /// Its text is no checkpoint.
+    /// Its text is not a checkpoint.
     Checkpoint,
     /// The checkpoint's origin is not kept.
     Origin,
@@ -80,7 +80,7 @@ pub fn outcome_lines(alloc: Global, outcomes: &[Outcome]) -> Result<Text, OutOfM
     Ok(Text::from(lines))
 }
 
-/// Writes the line of an update behind a text. Fails only if out of memory.
+/// Writes the line of an update after a text. Fails only if out of memory.
 fn push_line(alloc: Global, lines: &mut String, outcome: Outcome) -> Result<(), OutOfMemory>
     ensures { OnOk result (string_bytes lines.new ≡ string_bytes lines.old ++ outcome_line outcome) }
 {
@@ -100,7 +100,7 @@ fn push_line(alloc: Global, lines: &mut String, outcome: Outcome) -> Result<(), 
     Ok(())
 }
 
-/// Writes a word and a number as a line behind a text. Fails only if out of memory.
+/// Writes a word and a number as a line after a text. Fails only if out of memory.
 fn push_number(
     alloc: Global,
     lines: &mut String,

@@ -17,7 +17,7 @@ use std::alloc::Global;
 
 /// Returns the reply to a request's text: the list of the signatures that `witness` asks for, of each update whose text
 /// is a checkpoint each signature over its note under the key of its origin, where that is kept, and each signature once,
-/// in the order in which they come first, with status 0; else `refused request`, if the text is no request that `witness`
+/// in the order in which they come first, with status 0; else `refused request`, if the text is not a request that `witness`
 /// replies to, or text, list and `,"accepted":` would have more than 2^24 bytes together. Which signatures the request
 /// itself accepts does not matter. Fails only if out of memory.
 ///

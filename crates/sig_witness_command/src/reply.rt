@@ -14,15 +14,15 @@ use std::alloc::Global;
 /// Returns the reply to a request's text: a line for each update in order, an empty line, and the state after them all,
 /// the text of [`Witness::encode`]. The line is `accepted SIZE`, the size of the new head, or the first that applies of
 ///
-/// - `refused checkpoint`: the text is no checkpoint;
+/// - `refused checkpoint`: the text is not a checkpoint;
 /// - `refused origin`: its origin is not kept;
 /// - `refused note-key`: none of its signatures is accepted under the origin's key;
 /// - `refused old-size KEPT`: the old size is not KEPT, that of the kept head;
-/// - `refused consistency`: the hashes are no consistency proof from the kept head (RFC 6962 section 2.1.2);
+/// - `refused consistency`: the hashes are not a consistency proof from the kept head (RFC 6962 section 2.1.2);
 /// - `refused full`: 4,096 heads are kept of the origin.
 ///
 /// A refused update changes nothing. The status is 0 if all were accepted, else 1; and it is 2, with `refused request`,
-/// if the text is no request of `witness`, its state is none that [`Witness::decode`] reads, or one of its origins is
+/// if the text is not a request of `witness`, its state is not one that [`Witness::decode`] reads, or one of its origins is
 /// empty, holds a newline or is there already. Fails only if out of memory; then no update counts.
 pub fn witness_reply(alloc: Global, request: &[u8]) -> Result<Reply, OutOfMemory>
     ensures { IfOk result (IsWitnessReply request.now) }

@@ -5,7 +5,7 @@ ghost use Rattle.sig_base.specs.ByText.{text_lookup};
 ghost use Rattle.sig_base.specs.declared.checker.AcceptedRow.{AcceptedRow as row_type};
 ghost use Rattle.sig_rekor.specs.NoteText.{note_text};
 ghost use Rattle.sig_witness.specs.Kept.{log_key};
-ghost use Rattle.sig_witness_command.specs.Questions.{IsNotesDocument, each_once_behind, note_rows};
+ghost use Rattle.sig_witness_command.specs.Questions.{IsNotesDocument, each_once_after, note_rows};
 ghost use Rattle.sig_witness_command.specs.RowList.{HasAdded, HasAddedRows, HasAddedText, HasRoom, IsListSoFar, IsSomeList};
 ghost use Rattle.sig_witness_command.specs.Start.{HaveLines, Logs};
 
@@ -109,7 +109,7 @@ fn add_signatures(
     ensures added { (logs : Logs) (bound : ℕ) (before : List row_type) → HaveLines logs
         → option_map log_key (text_lookup checkpoint.now.note.origin logs) ≡ Some key.now
         → IsListSoFar logs bound before rows.old
-        → IfOk result (HasAddedRows logs bound (each_once_behind before (note_rows key.now checkpoint.now)) rows.new) }
+        → IfOk result (HasAddedRows logs bound (each_once_after before (note_rows key.now checkpoint.now)) rows.new) }
     ensures most { IfOk result (λ _. rows.new.most ≡ rows.old.most) }
 {
     'signatures: for signature in checkpoint.signatures.as_slice() {

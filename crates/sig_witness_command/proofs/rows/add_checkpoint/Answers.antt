@@ -6,7 +6,7 @@ use Rattle.sig_base.specs.ByText.{text_lookup}
 use Rattle.sig_witness.specs.Kept.{log_key}
 use Rattle.sig_witness_command.proofs.Listings.{known-origin}
 use Rattle.sig_witness_command.proofs.Marks.{numbered}
-use Rattle.sig_witness_command.specs.Questions.{each_once_behind, note_rows}
+use Rattle.sig_witness_command.specs.Questions.{each_once_after, note_rows}
 use Rattle.sig_witness_command.specs.RowList.{HasAdded, HasAddedRows}
 use Rattle.sig_witness_command.proofs.rows.add_checkpoint.Goals as goal
 
@@ -26,7 +26,7 @@ returns-clause-added c = λ before listed.
     c.args.rows.now c.number_of.new.self (omega (arith, c.ranges.place.fits)) listed c.in_ok-number.ensures in
     IfOk-weaker c.add_signatures-added.result
     (HasAddedRows c.args.witness.now (c.args.place + 1)
-    (each_once_behind before (note_rows c.in-Some.key.now c.args.checkpoint.now)) c.add_signatures-added.new.rows)
+    (each_once_after before (note_rows c.in-Some.key.now c.args.checkpoint.now)) c.add_signatures-added.new.rows)
     (HasAdded c.args.witness.now c.args.place before c.args.checkpoint.now c.add_signatures-added.new.rows)
     (λ added. known-origin c.args.witness.now c.args.place before c.args.checkpoint.now c.in-Some.key.now
     c.add_signatures-added.new.rows added at)
