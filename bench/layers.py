@@ -2,6 +2,7 @@
 bytes, and what the reader prints: 0 for a layer that was read and signed, 1 for a refusal."""
 import json
 
+import fixture
 import measure
 import shapes
 from goals import MOST_DOUBLED, MOST_MEGABYTES, MOST_SECONDS
@@ -59,8 +60,32 @@ def of_promises():
     yield "nested too deep", lambda count: b"[" * count, "1"
 
 
+def bundle(predicate=b"{}", subjects=(), inside=b"", behind=b"", signature=b"sig-dsse", certificate=b"der"):
+    """The bundle of an image, with a predicate and further subjects as they stand, and with members that are ignored."""
+    first = {"name": "image", "digest": {"sha256": fixture.DIGEST}}
+    kinds = {"_type": "https://in-toto.io/Statement/v1", "predicateType": "https://sigstore.dev/cosign/sign/v1"}
+    statement = compact({**kinds, "subject": [first, *subjects]}).encode()
+    payload = statement[:-1] + b',"predicate":' + predicate + b"}"
+    made = fixture.Request(payload=payload, signature=signature, body=fixture.body_of(payload, signature, certificate), log_id=bytes(32))
+    tree = made.bundle()
+    tree["verificationMaterial"]["certificate"]["rawBytes"] = fixture.base64_of(certificate)
+    return compact(tree).encode().replace(b'"tlogEntries":[{', b'"tlogEntries":[{' + inside, 1)[:-1] + behind + b"}"
+
+
+def of_bundles():
+    for name, item in shapes.worst(above=2):
+        yield f"ignored: {name}", lambda count, make=beside(repeated(item)): bundle(behind=make(count)), "0"
+    yield "ignored: lists of five, in the log entry", lambda count: bundle(inside=b'"a":' + repeated("[0,0,0,0,0]")(count) + b","), "0"
+    yield "a predicate of lists of five", lambda count: bundle(predicate=repeated("[0,0,0,0,0]")(count)), "0"
+    yield "further subjects", lambda count: bundle(subjects=[{"digest": {"sha256": ""}}] * count), "0"
+    yield "a signature of many bytes", lambda count: bundle(signature=b"s" * count), "0"
+    yield "a certificate of many bytes", lambda count: bundle(certificate=b"c" * count), "0"
+    yield "nested too deep", lambda count: b"[" * count, "1"
+
+
 def rows():
-    for word, made in (("payload", of_payloads()), ("promise", of_promises())):
+    attested = f"attested sha256:{fixture.DIGEST} {'00' * 32}"
+    for word, made in (("payload", of_payloads()), ("promise", of_promises()), (attested, of_bundles())):
         for name, make, shown in made:
             yield word, name, make, shown
     yield "signature", "base64", lambda count: b"AAAA" * count, "0"
@@ -69,12 +94,13 @@ def rows():
 
 def images(bench):
     """What cosign stores beside an image, read by `SignatureLayer::new` as the payload of a layer, as what a log promised of it in an annotation, or as
-    its signature in one, and then asked whether a key signed it. The last column is the time to that over half the size."""
+    its signature in one, or by `from_sigstore_bundle` as a bundle (`attested`), and then asked whether a key signed it. The last column is the time to
+    that over half the size."""
     table = bench.table(images, "read", "shown", "bytes", "ms", "MB", "to half")
     start = bench.seconds(bench.kept(b"{}"), [bench.reader, "read"])[0]
     for word, name, make, shown in rows():
         half, whole = (bench.kept(filled(make, most)) for most in (bench.most // 2, bench.most))
-        command = [bench.reader, word]
+        command, word = [bench.reader, *word.split(" ")], word.split(" ")[0]
         for path in (half, whole):
             measure.expect(command, path, written(command, path), shown)
         [first], [took], peak = bench.seconds(half, command), bench.seconds(whole, command), megabytes(command, whole)

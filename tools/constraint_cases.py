@@ -254,6 +254,18 @@ def keys():
             answer(" ".join(["scheme", *Layer().words(), scheme, hexed(der), *rows_words(accepted)]), lambda: is_signed(Layer(), scheme, der, accepted))
 
 
+def trusted():
+    say("trusted LAYER LAYER SPKI NAME TEXT ROWS: whether one of the layers is signed by the key and has the annotation, as README.md's caller asks.")
+    annotated, other = {"env": "prod"}, {"env": "staging"}
+    kinds = [Layer(optional=optional, signature=signature) for optional in (annotated, other, None) for signature in (SIGNATURE, "c2lo")]
+    accepted = [message_row(fixture.key(2))]
+    for one, two in itertools.product(kinds, repeat=2):
+        def holds(one=one, two=two):
+            return any(has(each.beside(), annotated) and is_signed(each, SCHEME, fixture.key(2), accepted) for each in (one, two))
+        answer(" ".join(["trusted", *one.words(), *two.words(), hexed(fixture.key(2)), "env", "prod", *rows_words(accepted)]), holds)
+    TABLE.case(" ".join(["trusted", *Layer().words(), *Layer().words(), "-", "env", "prod", *rows_words(accepted)]), "KeyParsingError")
+
+
 # ---- certificates
 
 FIRST, LAST = 1702446655, 1702447255
@@ -461,7 +473,7 @@ def applied():
 
 
 def main():
-    for part in (annotations, emails, urls, strings, keys, certificates, markers, lists, applied):
+    for part in (annotations, emails, urls, strings, keys, trusted, certificates, markers, lists, applied):
         part()
     TABLE.write()
 

@@ -4,11 +4,12 @@ import itertools
 from types import SimpleNamespace
 
 import cosign_bundles as bundles
+import cosign_layers as layers
 import fixture
 from cosign_layer_rows import ANCHOR, LEAF, NOW, REFERENCE, TIME, flat, keys_words, leaf_row, pool_words, row, trust
 from fixture import DIGEST, SCHEME, base64_of
 from json_documents import compact
-from rekor_cases import quoted
+from rekor_cases import debug, quoted
 
 LOG = "4d" * 32
 KEYS = {"3c" * 32: (SCHEME, fixture.key(3)), LOG: (SCHEME, fixture.key(4))}
@@ -53,12 +54,13 @@ class Made:
         return self.entry["inclusionProof"]
 
 
-def bundle_row(table, payloads, made):
-    words = ["bundle", quoted(made.text), quoted(made.digest), quoted(made.source), quoted(made.reference), *pool_words(made.trust.pool),
+def bundle_row(table, payloads, made, shown=False):
+    words = ["shown_bundle" if shown else "bundle", quoted(made.text), quoted(made.digest), quoted(made.source), quoted(made.reference), *pool_words(made.trust.pool),
              *keys_words(made.trust.keys), str(made.trust.now), *flat(made.trust.rows)]
     request = SimpleNamespace(bundle=made.text, accepted=made.trust.rows)
     case = SimpleNamespace(request=request, source=made.source, digest=made.digest, reference=made.reference, trust=made.trust)
-    row(table, " ".join(words), lambda: bundles.layer(case, payloads))
+    say = (lambda layer: debug(layers.layer_text(layer))) if shown else (lambda layer: layers.layer_words(layer, payloads))
+    row(table, " ".join(words), lambda: say(bundles.layer_of(case)))
 
 
 # ---- each rule broken, in the order of the rules
@@ -279,7 +281,7 @@ def body_changes(tree):
     for other in (None, {}, tree["spec"]["signatures"][0]):
         yield lambda body: spec(body)["signatures"].append(other)
         yield lambda body: spec(body)["signatures"].insert(0, other)
-    yield lambda body: spec(body).update(signatures=tree["spec"]["signatures"] * 300)
+    yield lambda body: spec(body).update(signatures=tree["spec"]["signatures"] + [{}] * 299)
     for name, value in itertools.product(("signature", "verifier"), ("c2lo", "", "%", None)):
         yield lambda body: first(body).update({name: value})
 
@@ -307,3 +309,6 @@ def rows(table, payloads):
     log_rows(table, payloads)
     body_rows(table, payloads)
     deep_rows(table, payloads)
+    table.group("shown_bundle TEXT DIGEST SOURCE REFERENCE POOL KEYS NOW ROWS: the text that the layer is shown as, or why there is none.")
+    for told in ((), [setting(lambda made: made.trust.__dict__, "pool", None)], [lambda made: made.__dict__.update(digest="", reference="a\"\n\\")], [other_source]):
+        bundle_row(table, payloads, Made(told=told), shown=True)

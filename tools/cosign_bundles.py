@@ -3,6 +3,8 @@
 Bundles, statements, log entries, checkpoints and audit paths are read by the second readers that the other tools have, which are written from the public
 standards; the rules of a layer are those of `cosign` as docs/PROVED.md and docs/DECISIONS.md say them.
 """
+from types import SimpleNamespace
+
 import cosign_layers as layers
 import dsse_cases as dsse
 import json_documents as documents
@@ -97,12 +99,11 @@ def body(case):
 RULES = (bundle, envelope, statement, signature, certificate, entry, log_key, vouched, body)
 
 
-def layer(case, payloads):
-    """`payloads` shows payloads: tools/cosign_cases.py."""
+def layer_of(case):
     for rule in RULES:
         rule(case)
     time = int(case.entry["integratedTime"])
     signer = layers.signer_or_none(case.leaf_der, case.trust.pool, time, case.trust.now, case.trust.rows)
-    signing = payloads.shown((case.reference, "sha256:" + case.sha256, case.predicate_type, None))
-    logged = "SigstoreBundle %s %s %d" % (case.entry["logIndex"], case.body.hex() or "-", time)
-    return " ".join([signing, debug(case.digest), debug(dsse.in_base64(case.signature)), logged, signer, dsse.pae(case.payload_type, case.payload).hex()])
+    return SimpleNamespace(signing=(case.reference, "sha256:" + case.sha256, case.predicate_type, None), digest=case.digest, signature=dsse.in_base64(case.signature),
+                           logged="SigstoreBundle %s %s %d" % (case.entry["logIndex"], case.body.hex() or "-", time), signer=signer,
+                           raw=dsse.pae(case.payload_type, case.payload))

@@ -15,6 +15,7 @@ sys.dont_write_bytecode = True
 
 import cosign_bundle_rows
 import cosign_layer_rows
+import cosign_manifest_rows
 import fixture
 import json_documents as documents
 from case_table import Table
@@ -428,6 +429,7 @@ def main():
         Refused=Refused, signing_of=lambda content: signing_of(content.decode()), shown=shown, payload=payload, tree=tree, signed=signed, decoded=decoded,
         promised=lambda content, keys, rows: checked(read(content, read_promise, "BundleUnreadable"), keys, [row[1:] for row in rows if row[0] == "message"]))
     cosign_layer_rows.rows(TABLE, payload_calls)
+    cosign_manifest_rows.rows(TABLE, payload_calls)
     cosign_bundle_rows.rows(TABLE, payload_calls)
     TABLE.write()
 

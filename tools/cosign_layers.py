@@ -1,8 +1,11 @@
-"""Cosign's layers in the plainest way, for tools/cosign_layer_rows.py: who signed by the word of a certificate, and the layer of a descriptor and
-its bytes.
+"""Cosign's layers in the plainest way, for tools/cosign_layer_rows.py: who signed by the word of a certificate, the layer of a descriptor and its
+bytes, the layers of a manifest, and what is shown of each.
 
 Certificates are read by the second reader that the other tools have, which is written from the public standards; the rules of a layer are those of `cosign` as docs/PROVED.md and docs/DECISIONS.md say them.
 """
+import json
+from types import SimpleNamespace
+
 import verify_certificate as certificates
 import x509_reader as x509
 from fixture import oid
@@ -33,11 +36,17 @@ def names_of(value):
     return [(kinds[tag], content.decode()) for tag, content, _ in x509.cut(certificates.sole(value, 0x30)) if tag in kinds]
 
 
-def subject(leaf):
+def named(leaf):
+    """Kind and text of the first name."""
     found = leaf.value(certificates.ALTERNATIVE_NAME, names_of)
     want(found is not None and found != certificates.MALFORMED, "CertificateParsingError")
     want(found, "CertificateWithIncompleteSubjectAlternativeName")
-    return "%s %s" % (found[0][0], debug(found[0][1]))
+    return found[0]
+
+
+def subject(leaf):
+    kind, text = named(leaf)
+    return "%s %s" % (kind, debug(text))
 
 
 def is_signed(child, parent, rows):
@@ -77,28 +86,71 @@ def check_trust(leaf, time, now):
 def claim(leaf, number):
     found = leaf.of(oid(certificates.FULCIO + number))
     if not found:
-        return "-"
+        return None
     text = certificates.utf8(found[0].value)
     want(text is not None, "X509Error")
-    return debug(text)
+    return text
 
 
-def signer(content, pool, time, now, rows):
+def signer_of(content, pool, time, now, rows):
     leaf = certificates.read_certificate(content)
     want(leaf, "X509Error")
     check_pool(leaf, *pool, rows)
     check_trust(leaf, time, now)
-    named = subject(leaf)
+    subject = named(leaf)
     scheme = certificates.scheme_of(leaf.spki)
     want(scheme, "X509Error")
-    return " ".join([scheme, leaf.spki.hex(), named, *[claim(leaf, str(number)) for number in range(1, 7)]])
+    return SimpleNamespace(scheme=scheme, spki=leaf.spki, subject=subject, claims=[claim(leaf, str(number)) for number in range(1, 7)])
+
+
+def signer_words(found):
+    if found is None:
+        return "-"
+    kind, text = found.subject
+    return " ".join([found.scheme, found.spki.hex(), kind, debug(text), *["-" if text is None else debug(text) for text in found.claims]])
+
+
+def signer(*handed):
+    return signer_words(signer_of(*handed))
 
 
 def signer_or_none(content, pool, time, now, rows):
     try:
-        return signer(content, pool, time, now, rows) if pool is not None else "-"
+        return signer_of(content, pool, time, now, rows) if pool is not None else None
     except Refused:
-        return "-"
+        return None
+
+
+# ---- what is shown of a signer, and of a layer
+
+LABELS = ("trigger", "SHA", "name", "repository", "ref")
+
+
+def signer_text(found):
+    """Texts in quotation marks, unescaped, after the name of their kind."""
+    said = ["None" if text is None else 'Some("%s")' % text for text in found.claims]
+    lines = ["issuer: " + said[0], 'subject: %s("%s")' % found.subject, *["GitHub Workflow %s: %s" % pair for pair in zip(LABELS, said[1:])]]
+    return "\n".join(["CertificateSignature", *["- " + line for line in lines], "---"])
+
+
+def signing_text(signing):
+    """JSON as Python's `json` writes it: indented by two spaces, the members in the order of their names."""
+    reference, digest, kind, beside = signing
+    tree = {"critical": {"identity": {"docker-reference": reference}, "image": {"docker-manifest-digest": digest}, "type": kind}, "optional": None}
+    if beside is not None:
+        own = {"creator": beside[0], "timestamp": beside[1]}
+        tree["optional"] = {**beside[2], **{name: value for name, value in own.items() if value is not None}}
+    return json.dumps(tree, indent=2, ensure_ascii=False, sort_keys=True)
+
+
+def layer_text(made):
+    parts = {"digest": made.digest, "signature": "None" if made.signature is None else made.signature, "bundle:": made.logged.split(" ")[0].replace("-", "None"),
+             "certificate signature": "None" if made.signer is None else signer_text(made.signer), "Simple Signing": signing_text(made.signing)}
+    return "---\n# SignatureLayer\n%s\n---" % "\n\n".join("## %s\n%s" % part for part in parts.items())
+
+
+def layer_words(made, payloads):
+    return " ".join([payloads.shown(made.signing), debug(made.digest), debug(made.signature), made.logged, signer_words(made.signer), made.raw.hex() or "-"])
 
 
 # ---- the layer of a descriptor and its bytes
@@ -111,17 +163,33 @@ def digest_of(content):
     return "sha256:" + sha256(content).hex()
 
 
-def layer(descriptor, fetched, source, trust, payloads):
-    """`payloads` reads and shows payloads and what Rekor promised: tools/cosign_cases.py."""
+def layer_of(descriptor, fetched, source, trust, payloads):
+    """`payloads` reads payloads and what Rekor promised: tools/cosign_cases.py."""
     want(descriptor.media_type == SIGNING_TYPE == fetched.media_type, "SigstoreMediaTypeNotFoundError")
     want(descriptor.digest == digest_of(fetched.content), "SigstoreLayerDigestMismatchError")
     signing = payloads.signing_of(fetched.content)
     want(signing[1] == source, unexpected("ImageDigest"))
     want(SIGNATURE in descriptor.annotations, "SigstoreAnnotationNotFoundError")
-    promised, signed = None, "-"
+    logged, signed = "- -", None
     if BUNDLE in descriptor.annotations and trust.keys is not None:
         promised = payloads.promised(descriptor.annotations[BUNDLE], trust.keys, trust.rows)
+        logged = "RekorBundle %d %s %d" % (promised[3], debug(promised[1]), promised[2])
         if descriptor.cert is not None:
             signed = signer_or_none(descriptor.cert, trust.pool, promised[2], trust.now, trust.rows)
-    return " ".join([payloads.shown(signing), debug(descriptor.digest), debug(descriptor.annotations[SIGNATURE]),
-                     "RekorBundle %d %s %d" % (promised[3], debug(promised[1]), promised[2]) if promised else "- -", signed, fetched.content.hex() or "-"])
+    return SimpleNamespace(signing=signing, digest=descriptor.digest, signature=descriptor.annotations[SIGNATURE], logged=logged, signer=signed, raw=fetched.content)
+
+
+# ---- the layers of a manifest
+
+
+def built(descriptors, fetched, source, trust, payloads):
+    """What is made of each descriptor with the first layer of its digest."""
+    made = []
+    for descriptor in descriptors:
+        of_digest = [each for each in fetched if digest_of(each.content) == descriptor.digest]
+        try:
+            made += [layer_of(descriptor, each, source, trust, payloads) for each in of_digest[:1]]
+        except (Refused, payloads.Refused):
+            pass
+    want(made, "SigstoreNoVerifiedLayer")
+    return " ".join([str(len(made)), *[layer_words(each, payloads) for each in made]])

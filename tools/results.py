@@ -182,6 +182,7 @@ CALLS = [
     ("SignatureLayer::new", "cosign layer", "sig_base SigstoreError",
      ["SigstoreMediaTypeNotFoundError", "SigstoreLayerDigestMismatchError", "UnexpectedError(LayerUnreadable)", "UnexpectedError(ImageDigest)",
       "SigstoreAnnotationNotFoundError"] + PROMISED),
+    ("build_signature_layers", "cosign build", "sig_base SigstoreError", ["SigstoreNoVerifiedLayer"]),
     ("SignatureLayer::from_sigstore_bundle", "cosign bundle", "sig_base SigstoreError", ATTESTED),
     ("verify_constraints", "constraint verify", "sig_constraint SigstoreVerifyConstraintsError", ALL),
     ("apply_constraints", "constraint apply", "sig_constraint SigstoreApplicationConstraintsError", ALL),
@@ -200,11 +201,10 @@ CALLS = [
 ]
 
 # Variants of error types that no table shows, each with its reason.
-FOR_COSIGN = "for the layers of cosign, which no call reads yet"
 CALLERS = "for a caller's own constraints; no call gives it"
 UNSHOWN = {
     "sig_base SigstoreError": {
-        "SigstoreNoVerifiedLayer": FOR_COSIGN, "VerificationConstraintError": CALLERS, "ApplyConstraintError": CALLERS},
+        "VerificationConstraintError": CALLERS, "ApplyConstraintError": CALLERS},
     "sig_der DerWriteError": {"TooLong": "bytes of 2^32 and more"},
     "sig_verify InputFault": {"TooLong": "an artifact of more than 2^40 bytes"},
     "sig_questions NoQuestions": {"Link": "shown by the name of the link alone"},

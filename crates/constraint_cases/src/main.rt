@@ -10,6 +10,7 @@ mod markers;
 mod own;
 mod rows;
 mod subjects;
+mod trusted;
 mod verifiers;
 
 use sig_cases::{Answer, Arguments, Cases, run};
@@ -26,6 +27,7 @@ impl Cases for ConstraintCases {
             "key" => verifiers::key(arguments, answer),
             "scheme" => verifiers::scheme(arguments, answer),
             "certificate" => verifiers::certificate(arguments, answer),
+            "trusted" => trusted::trusted(arguments, answer),
             "mark" => markers::mark(arguments, answer),
             "verify" => lists::verify(arguments, answer),
             "urls" => lists::urls(arguments, answer),

@@ -1,12 +1,23 @@
 //! Layers of Sigstore bundles.
 
-use crate::layers::show_made;
+use crate::layers::{show_made, show_text};
 use crate::trusted::{keys_if_any, pool_if_any};
 use sig_cases::{Answer, Arguments};
 use sig_cosign::SignatureLayer;
 
 /// `bundle TEXT DIGEST SOURCE REFERENCE POOL KEYS NOW ROWS`: the layer of a Sigstore bundle.
 pub(crate) fn bundle(arguments: &mut Arguments<'_>, answer: &mut Answer) {
+    let made = made(arguments, answer);
+    show_made(arguments.alloc(), answer, made);
+}
+
+/// `shown_bundle TEXT DIGEST SOURCE REFERENCE POOL KEYS NOW ROWS`: the text that the same layer is shown as.
+pub(crate) fn shown_bundle(arguments: &mut Arguments<'_>, answer: &mut Answer) {
+    let made = made(arguments, answer);
+    show_text(arguments.alloc(), answer, made);
+}
+
+fn made(arguments: &mut Arguments<'_>, answer: &mut Answer) -> sig_base::Result<SignatureLayer> {
     let alloc = arguments.alloc();
     let text = arguments.text();
     let digest = arguments.text();
@@ -16,7 +27,7 @@ pub(crate) fn bundle(arguments: &mut Arguments<'_>, answer: &mut Answer) {
     let keys = keys_if_any(arguments);
     let now = arguments.integer();
     let checker = arguments.checker();
-    let made = SignatureLayer::from_sigstore_bundle(
+    SignatureLayer::from_sigstore_bundle(
         alloc,
         text.as_str().as_bytes(),
         digest.as_str(),
@@ -26,6 +37,5 @@ pub(crate) fn bundle(arguments: &mut Arguments<'_>, answer: &mut Answer) {
         keys.as_ref(),
         now,
         &checker,
-    );
-    show_made(alloc, answer, made);
+    )
 }

@@ -65,7 +65,7 @@ fn signature_if_any(arguments: &mut Arguments<'_>) -> Option<Text> {
 
 /// The next arguments as a descriptor: media type, digest, `cert` and a certificate or `none`, how many annotations
 /// there are, and of each name and text.
-fn descriptor(arguments: &mut Arguments<'_>, answer: &mut Answer) -> OciDescriptor {
+pub(crate) fn descriptor(arguments: &mut Arguments<'_>, answer: &mut Answer) -> OciDescriptor {
     let media_type = Text::from(arguments.text());
     let digest = Text::from(arguments.text());
     let certificate_der = certificate_if_any(arguments);
@@ -103,7 +103,7 @@ fn annotations(arguments: &mut Arguments<'_>, answer: &mut Answer) -> TextMap {
 }
 
 /// The next arguments as a fetched layer: media type and bytes.
-fn fetched(arguments: &mut Arguments<'_>) -> ImageLayer {
+pub(crate) fn fetched(arguments: &mut Arguments<'_>) -> ImageLayer {
     ImageLayer {
         media_type: Text::from(arguments.text()),
         bytes: arguments.bytes(),
@@ -112,6 +112,17 @@ fn fetched(arguments: &mut Arguments<'_>) -> ImageLayer {
 
 /// `layer DESCRIPTOR LAYER SOURCE KEYS POOL NOW ROWS`: the layer of a descriptor and its bytes.
 pub(crate) fn layer(arguments: &mut Arguments<'_>, answer: &mut Answer) {
+    let made = made(arguments, answer);
+    show_made(arguments.alloc(), answer, made);
+}
+
+/// `shown_layer DESCRIPTOR LAYER SOURCE KEYS POOL NOW ROWS`: the text that the same layer is shown as.
+pub(crate) fn shown_layer(arguments: &mut Arguments<'_>, answer: &mut Answer) {
+    let made = made(arguments, answer);
+    show_text(arguments.alloc(), answer, made);
+}
+
+fn made(arguments: &mut Arguments<'_>, answer: &mut Answer) -> sig_base::Result<SignatureLayer> {
     let alloc = arguments.alloc();
     let descriptor = descriptor(arguments, answer);
     let fetched = fetched(arguments);
@@ -120,7 +131,7 @@ pub(crate) fn layer(arguments: &mut Arguments<'_>, answer: &mut Answer) {
     let pool = pool_if_any(arguments, answer);
     let now = arguments.integer();
     let checker = arguments.checker();
-    let made = SignatureLayer::new(
+    SignatureLayer::new(
         alloc,
         &descriptor,
         &fetched,
@@ -129,8 +140,28 @@ pub(crate) fn layer(arguments: &mut Arguments<'_>, answer: &mut Answer) {
         pool.as_ref(),
         now,
         &checker,
-    );
-    show_made(alloc, answer, made);
+    )
+}
+
+/// The text that a layer is shown as.
+pub(crate) fn show_text(
+    alloc: Global,
+    answer: &mut Answer,
+    made: sig_base::Result<SignatureLayer>,
+) {
+    match made {
+        Ok(layer) => {
+            match layer.to_string(alloc) {
+                Ok(text) => {
+                    answer.ok();
+                    answer.debug(&text);
+                }
+                Err(_) => answer.out_of_memory(),
+            }
+            drop(layer);
+        }
+        Err(error) => answer.error(error),
+    }
 }
 
 fn show_signature(answer: &mut Answer, signature: &Option<Text>) {
@@ -149,16 +180,21 @@ pub(crate) fn show_made(
     match made {
         Ok(layer) => {
             answer.ok();
-            show_signing(alloc, answer, &layer.simple_signing);
-            answer.debug(&layer.oci_digest);
-            show_signature(answer, &layer.signature);
-            show_bundle(answer, &layer.bundle);
-            show_signer_if_any(answer, &layer.certificate_signature);
-            answer.hex(layer.raw_data.as_slice());
+            show_parts(alloc, answer, &layer);
             drop(layer);
         }
         Err(error) => answer.error(error),
     }
+}
+
+/// Its parts.
+pub(crate) fn show_parts(alloc: Global, answer: &mut Answer, layer: &SignatureLayer) {
+    show_signing(alloc, answer, &layer.simple_signing);
+    answer.debug(&layer.oci_digest);
+    show_signature(answer, &layer.signature);
+    show_bundle(answer, &layer.bundle);
+    show_signer_if_any(answer, &layer.certificate_signature);
+    answer.hex(layer.raw_data.as_slice());
 }
 
 fn show_bundle(answer: &mut Answer, bundle: &Option<BundleContent>) {

@@ -7,6 +7,7 @@
 mod bundles;
 mod keys;
 mod layers;
+mod manifests;
 mod promises;
 mod signers;
 mod signings;
@@ -20,6 +21,7 @@ impl Cases for CosignCases {
     fn answer(call: &str, arguments: &mut Arguments<'_>, answer: &mut Answer) {
         match call {
             "signing" => signings::read(arguments, answer),
+            "shown_signing" => signings::shown(arguments, answer),
             "new_signing" => signings::made(arguments, answer),
             "manifest" => signings::manifest(arguments, answer),
             "annotations" => signings::annotations(arguments, answer),
@@ -31,7 +33,10 @@ impl Cases for CosignCases {
             "unsigned" => layers::unsigned(arguments, answer),
             "signed" => layers::signed(arguments, answer),
             "layer" => layers::layer(arguments, answer),
+            "shown_layer" => layers::shown_layer(arguments, answer),
+            "build" => manifests::build(arguments, answer),
             "bundle" => bundles::bundle(arguments, answer),
+            "shown_bundle" => bundles::shown_bundle(arguments, answer),
             _ => arguments.refuse(),
         }
     }

@@ -18,6 +18,24 @@ pub(crate) fn read(arguments: &mut Arguments<'_>, answer: &mut Answer) {
     }
 }
 
+/// `shown_signing TEXT`: the text that the payload is shown as.
+pub(crate) fn shown(arguments: &mut Arguments<'_>, answer: &mut Answer) {
+    let alloc = arguments.alloc();
+    match read_signing(alloc, arguments.text().as_str().as_bytes()) {
+        Ok(signing) => {
+            match signing.to_string(alloc) {
+                Ok(text) => {
+                    answer.ok();
+                    answer.debug(&text);
+                }
+                Err(_) => answer.out_of_memory(),
+            }
+            drop(signing);
+        }
+        Err(error) => answer.error(error),
+    }
+}
+
 /// `new_signing REFERENCE DIGEST`: the payload that is made of both.
 pub(crate) fn made(arguments: &mut Arguments<'_>, answer: &mut Answer) {
     let alloc = arguments.alloc();

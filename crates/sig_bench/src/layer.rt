@@ -50,6 +50,26 @@ pub fn of_promise(alloc: Global, promise: &[u8]) -> Option<u64> {
     )
 }
 
+/// Reads this text as the Sigstore bundle of the image whose manifest has the digest `source`, under a key of this log
+/// alone, and asks whether a key signed the layer. Returns 0 if it did, and 1 if the bundle is refused; `None` if out of
+/// memory.
+pub fn of_bundle(alloc: Global, bundle: &[u8], source: &str, log: &str) -> Option<u64> {
+    let mut keys = VerificationKeys::new(alloc);
+    keys.insert(log, key(alloc)?).ok()?;
+    let made = SignatureLayer::from_sigstore_bundle(
+        alloc,
+        bundle,
+        "",
+        source,
+        "image",
+        None,
+        Some(&keys),
+        0,
+        &Accepting,
+    );
+    asked(alloc, made)
+}
+
 fn text_of(bytes: &[u8]) -> Option<&str> {
     std::str::from_utf8(bytes).ok()
 }
@@ -72,6 +92,11 @@ fn made(alloc: Global, payload: &[u8], signature: &str, promise: Option<&str>) -
         0,
         &Accepting,
     );
+    asked(alloc, made)
+}
+
+/// Whether there is a layer that the key signed, as a number.
+fn asked(alloc: Global, made: sig_base::Result<SignatureLayer>) -> Option<u64> {
     match made {
         Ok(layer) => signed(alloc, &layer),
         Err(SigstoreError::OutOfMemory) => None,

@@ -11,7 +11,8 @@
 //!   artifact of N zero bytes, where nothing is trusted, and prints 0;
 //! - `payload`, `signature` and `promise` read what `cosign` stores beside an image as the payload of a layer, as its
 //!   signature, or as what a log promised of it, under a checker that accepts every signature, ask whether a key signed
-//!   the layer, and print 0, or 1 if the input is refused;
+//!   the layer, and print 0, or 1 if the input is refused; `attested DIGEST LOG` does so of the Sigstore bundle of an
+//!   image, under a key of this log;
 //! - `pool N` reads a leaf, N trust anchors and N intermediates, asks a pool for the leaf's issuer, where no signature is
 //!   genuine, and prints how many questions its checker was asked;
 //! - `walk N` and `recursion N` check a leaf of a tree of 2^63 leaves N times, and print how often it was accepted;
@@ -56,6 +57,11 @@ fn main(rt: HostRuntime) -> Result<()> {
         "payload" => layer::of_payload(alloc, input.as_slice()),
         "signature" => layer::of_signature(alloc, input.as_slice()),
         "promise" => layer::of_promise(alloc, input.as_slice()),
+        "attested" => {
+            let source = words.next().context("which image")?;
+            let log = words.next().context("which log")?;
+            layer::of_bundle(alloc, input.as_slice(), source.as_str(), log.as_str())
+        }
         "pool" => pool::questions(alloc, input.as_slice(), number(words.next())?),
         "walk" => merkle::walked(number(words.next())?),
         "recursion" => merkle::recursed(number(words.next())?),

@@ -6,3 +6,4 @@ pub mod Signers
 pub mod OciLayer
 pub mod Seen
 pub mod BundleLayer
+pub mod Manifest

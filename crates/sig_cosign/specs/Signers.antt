@@ -2,7 +2,6 @@
 use Rattle.std.specs.Prelude.{◌≡◌, ⊤, ℕ, ℤ, List, Option, Some, None, Result, Ok, Err}
 use Rattle.sig_base.specs.declared.error.SigstoreError.{SigstoreError}
 use Rattle.sig_base.specs.declared.error.SigstoreError.TheVariants.{OutOfMemory}
-use Rattle.sig_signer.specs.declared.certificate_signature.CertificateSignature.{CertificateSignature}
 use Rattle.sig_signer.specs.Signer.{IsSignerOf, Signer}
 use Rattle.sig_x509.specs.Issuance.{Accepts}
 use Rattle.sig_x509.specs.Pool.{Pool}
@@ -30,5 +29,5 @@ abbrev pub IsNoMemory : SigstoreError → Type 0
 IsNoMemory OutOfMemory = ⊥
 IsNoMemory other = ⊤
 
-abbrev pub IsNoneUnless : SigstoreError → Option CertificateSignature → Type 0
-IsNoneUnless e s = (s ≡ None) × IsNoMemory e
+abbrev pub IsNoneUnless : {X : Type 0} → SigstoreError → Option X → Type 0
+IsNoneUnless e x = (x ≡ None) × IsNoMemory e

@@ -8,22 +8,26 @@
 //! layer       {"critical":{"identity":{"docker-reference":"registry.example/image"},..},"optional":null}
 //! ```
 //!
-//! The layer above uses two facts. A layer is made of a descriptor and its bytes if and only if media types, digest,
+//! The layer above uses three facts. A layer is made of a descriptor and its bytes if and only if media types, digest,
 //! payload, image and signature annotation are as they have to be and what a log is said to have promised is signed;
-//! and else the first rule that is broken is told. A layer is signed by a key if and only if the checker accepts its
-//! signature over its raw data. **A layer ties its certificate, what a log promised and its signature together by
-//! nothing**: only [`SignatureLayer::is_signed_by_key`] checks a signature over the layer.
+//! and else the first rule that is broken is told. The layers of a manifest are those that are made of each descriptor
+//! with the first layer of its digest, in the order of the descriptors. A layer is signed by a key if and only if the
+//! checker accepts its signature over its raw data. **A layer ties its certificate, what a log promised and its
+//! signature together by nothing**: only [`SignatureLayer::is_signed_by_key`] checks a signature over the layer.
 #![tactic(auto)]
 
 mod bundle_content;
 mod bundle_layer;
+mod manifest;
 mod oci_layer;
+mod show;
 mod signature_layer;
 mod signers;
 mod source;
 mod unsigned;
 
 pub use bundle_content::BundleContent;
+pub use manifest::{Layers, build_signature_layers};
 pub use sig_payload::{
     Bundle, CRITICAL_TYPE_NAME, Critical, Identity, Image, Optional, Payload, SignedArtifactBundle,
     SimpleSigning,

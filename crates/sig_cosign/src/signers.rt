@@ -34,12 +34,12 @@ fn signer_if<C: SignatureChecker>(
         checker,
     ) {
         Ok(signer) => Ok(Some(signer)),
-        Err(error) => no_signer(error),
+        Err(error) => none_unless(error),
     }
 }
 
-/// No signer. Fails if the error is that memory ran out.
-fn no_signer(error: SigstoreError) -> Result<Option<CertificateSignature>, OutOfMemory>
+/// Nothing, for an error. Fails if the error is that memory ran out.
+pub(crate) fn none_unless<T>(error: SigstoreError) -> Result<Option<T>, OutOfMemory>
     ensures { IfOk result (IsNoneUnless error) }
 {
     match error {

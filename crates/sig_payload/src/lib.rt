@@ -22,6 +22,7 @@ mod bundle;
 mod bundle_reader;
 pub mod laws;
 mod promise;
+mod show;
 mod signing_reader;
 mod simple_signing;
 

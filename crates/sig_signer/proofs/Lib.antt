@@ -1,3 +1,5 @@
 mod Issuing
 mod Signers
 mod Subjects
+mod ComparedLaws
+mod Equality

@@ -7,14 +7,16 @@
 //! 1.3.6.1.4.1.57264.1.2 to .6:     trigger, SHA, name, repository and ref of a GitHub workflow
 //! ```
 //!
-//! The layer above uses two facts. A certificate names the first email or URI of its one subject alternative name. What
+//! The layer above uses three facts. A certificate names the first email or URI of its one subject alternative name. What
 //! is returned of a certificate's bytes is its key, its subject and its claims, if and only if a pool finds its issuer,
 //! it passes the checks of a certificate that signed, and its key and its claims can be read; and else the first of
-//! these that fails is told.
+//! these that fails is told. Its claims are the texts that the policies of sig_policy compare, if there is at most one
+//! extension of each identifier.
 #![tactic(auto)]
 
 mod certificate_signature;
 mod claims;
+pub mod laws;
 mod show;
 mod subject;
 

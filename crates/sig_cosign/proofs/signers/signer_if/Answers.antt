@@ -28,7 +28,7 @@ returns-in-Err-clause-found g c =
     let now_fits : FitsSigned w64 c.args.now = first_of (omega (arith, ints, c.ranges.now.sfits), search rules) in
     err_found (g.C.SignatureChecker.cert_accepts c.args.checker.now) c.args.pool.now c.args.der.now _ _ c.args.integrated_time
     c.args.now (to_z-of_z w64 c.args.integrated_time at_fits) (to_z-of_z w64 c.args.now now_fits)
-    c.in-Err.error c.no_signer.result c.no_signer.ensures c.in-Err.ensures.err
+    c.in-Err.error c.none_unless.result c.none_unless.ensures c.in-Err.ensures.err
 
 pub returns-in-Err-clause-only : goal.returns-in-Err-clause-only
 returns-in-Err-clause-only g c =
@@ -37,4 +37,4 @@ returns-in-Err-clause-only g c =
     let now_fits : FitsSigned w64 c.args.now = first_of (omega (arith, ints, c.ranges.now.sfits), search rules) in
     err_only (g.C.SignatureChecker.cert_accepts c.args.checker.now) c.args.pool.now c.args.der.now _ _ c.args.integrated_time
     c.args.now (to_z-of_z w64 c.args.integrated_time at_fits) (to_z-of_z w64 c.args.now now_fits)
-    c.in-Err.error c.no_signer.result c.no_signer.ensures c.in-Err.ensures.only
+    c.in-Err.error c.none_unless.result c.none_unless.ensures c.in-Err.ensures.only
