@@ -14,6 +14,7 @@ import sys
 sys.dont_write_bytecode = True
 
 import cosign_cases as cosign
+import cosign_layers as layers
 import fixture
 from case_table import Table, hexed
 from json_documents import compact
@@ -260,9 +261,8 @@ def trusted():
     kinds = [Layer(optional=optional, signature=signature) for optional in (annotated, other, None) for signature in (SIGNATURE, "c2lo")]
     accepted = [message_row(fixture.key(2))]
     for one, two in itertools.product(kinds, repeat=2):
-        def holds(one=one, two=two):
-            return any(has(each.beside(), annotated) and is_signed(each, SCHEME, fixture.key(2), accepted) for each in (one, two))
-        answer(" ".join(["trusted", *one.words(), *two.words(), hexed(fixture.key(2)), "env", "prod", *rows_words(accepted)]), holds)
+        holds = any(has(each.beside(), annotated) and is_signed(each, SCHEME, fixture.key(2), accepted) for each in (one, two))
+        TABLE.case(" ".join(["trusted", *one.words(), *two.words(), hexed(fixture.key(2)), "env", "prod", *rows_words(accepted)]), "ok " + truth(holds))
     TABLE.case(" ".join(["trusted", *Layer().words(), *Layer().words(), "-", "env", "prod", *rows_words(accepted)]), "KeyParsingError")
 
 
@@ -398,6 +398,23 @@ def markers():
     mark({**many, "n299": "x"}, many)
 
 
+def shown(optional, asked):
+    """Members of one name: the payload's own first."""
+    creator, timestamp, extra = marked(Layer(optional).beside(), asked)
+    own = [(name, value) for name, value in (("creator", creator), ("timestamp", timestamp)) if value is not None]
+    lines = ["    %s: %s" % (compact(name), compact(value)) for name, value in sorted([*own, *extra.items()], key=lambda pair: pair[0])]
+    within = '"optional": {\n%s\n  }' % ",\n".join(lines) if lines else '"optional": {}'
+    text = layers.signing_text((*cosign.signing_of(compact(cosign.payload()))[:3], None)).replace('"optional": null', within)
+    TABLE.case(" ".join(["shown", *Layer(optional).words(), *pairs_of(asked)]), "ok true " + debug(text))
+
+
+def shown_markers():
+    say("shown LAYER NAME TEXT ..: whether the annotations apply, and the text that the payload is then shown as: members of one name, its own first.")
+    optionals = (None, {}, {"creator": "c"}, {"timestamp": 7}, {"creator": "c", "timestamp": 7, "env": "prod"})
+    for optional, asked in itertools.product(optionals, ({}, {"creator": "d"}, {"timestamp": "8"}, {"creator": "d", "timestamp": "8", "a": "", "z": "x"})):
+        shown(optional, asked)
+
+
 # ---- lists
 
 
@@ -473,7 +490,7 @@ def applied():
 
 
 def main():
-    for part in (annotations, emails, urls, strings, keys, trusted, certificates, markers, lists, applied):
+    for part in (annotations, emails, urls, strings, keys, trusted, certificates, markers, shown_markers, lists, applied):
         part()
     TABLE.write()
 

@@ -29,6 +29,7 @@ impl Cases for ConstraintCases {
             "certificate" => verifiers::certificate(arguments, answer),
             "trusted" => trusted::trusted(arguments, answer),
             "mark" => markers::mark(arguments, answer),
+            "shown" => markers::shown(arguments, answer),
             "verify" => lists::verify(arguments, answer),
             "urls" => lists::urls(arguments, answer),
             "apply" => lists::apply(arguments, answer),

@@ -35,3 +35,25 @@ pub(crate) fn mark(arguments: &mut Arguments<'_>, answer: &mut Answer) {
     drop(verifier);
     drop(layer);
 }
+
+/// `shown LAYER NAME TEXT ..`: whether the annotations can be added, and the text that the payload is then shown as.
+pub(crate) fn shown(arguments: &mut Arguments<'_>, answer: &mut Answer) {
+    let Some(mut layer) = layer(arguments, answer) else {
+        return;
+    };
+    let alloc = arguments.alloc();
+    let marker = AnnotationMarker::new(texts(arguments, answer));
+    match marker.add_constraint(alloc, &mut layer) {
+        Ok(applies) => {
+            answer.ok();
+            answer.value(&applies);
+        }
+        Err(error) => answer.error(error),
+    }
+    match layer.simple_signing.to_string(alloc) {
+        Ok(text) => answer.debug(&text),
+        Err(_) => answer.out_of_memory(),
+    }
+    drop(marker);
+    drop(layer);
+}
