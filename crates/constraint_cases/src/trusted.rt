@@ -49,7 +49,7 @@ fn annotation(arguments: &mut Arguments<'_>, answer: &mut Answer) -> TextMap {
     annotations
 }
 
-fn is_trusted<C: SignatureChecker + Drop>(
+fn is_trusted<C: SignatureChecker + Drop + 'static>(
     alloc: Global,
     layers: &[SignatureLayer],
     key: &[u8],

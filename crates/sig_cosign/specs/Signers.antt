@@ -1,5 +1,5 @@
 -- *Signer of a layer*: who signed, by the word of its certificate, where it has one that is trusted.
-use Rattle.std.specs.Prelude.{◌≡◌, ⊤, ℕ, ℤ, List, Option, Some, None, Result, Ok, Err}
+use Rattle.std.specs.Prelude.{◌≡◌, ⊤, ℕ, ℤ, List, Option, Some, None, Ok, Err}
 use Rattle.sig_base.specs.declared.error.SigstoreError.{SigstoreError}
 use Rattle.sig_base.specs.declared.error.SigstoreError.TheVariants.{OutOfMemory}
 use Rattle.sig_signer.specs.Signer.{IsSignerOf, Signer}

@@ -1,5 +1,5 @@
 -- How deep values nest: an element and a member nest less deep than what they are in.
-use Rattle.std.proofs.Common.{◌≡◌, ◌≤◌, ◌<◌, ℕ, zero, suc, List, [], ◌∷◌, Some, None, refl, arith}
+use Rattle.std.proofs.Common.{◌≡◌, ◌≤◌, ◌<◌, ℕ, zero, suc, List, [], ◌∷◌, Some, refl, arith}
 use Rattle.std.specs.Prelude.{max}
 use Rattle.sig_json.specs.Data.{Data, Items, no_items, item, Members, no_members, member, depth, items_depth}
 use Rattle.sig_json.specs.Data.{members_depth, null, boolean, number, string, array, object}
