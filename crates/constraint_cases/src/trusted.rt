@@ -1,7 +1,7 @@
 //! The caller of the library that README.md shows.
 
 use crate::layers::layer;
-use sig_base::{SignatureChecker, TextMap};
+use sig_base::{TableChecker, TextMap};
 use sig_cases::{Answer, Arguments};
 use sig_constraint::{
     AnnotationVerifier, PublicKeyVerifier, VerificationConstraintVec, verify_constraints,
@@ -49,12 +49,12 @@ fn annotation(arguments: &mut Arguments<'_>, answer: &mut Answer) -> TextMap {
     annotations
 }
 
-fn is_trusted<C: SignatureChecker + Drop + 'static>(
+fn is_trusted(
     alloc: Global,
     layers: &[SignatureLayer],
     key: &[u8],
     annotations: TextMap,
-    checker: C,
+    checker: TableChecker,
 ) -> sig_base::Result<bool> {
     let mut constraints: VerificationConstraintVec = Vec::new(alloc);
     constraints.push(Box::new(alloc, PublicKeyVerifier::try_from_der(alloc, key, checker)?)?)?;
