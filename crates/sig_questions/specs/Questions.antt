@@ -92,8 +92,8 @@ accepting = record {
   policy = record { holds = λ c. true; refusal = λ c. not_found };
 }
 
--- What a link asks beside signatures. Those before `issuer` ask for none; `issuer`, that some trust anchor may have
--- issued the certificate.
+-- What a link asks beside signatures. Those before `issuer` ask for none; `issuer`, that a path would lead to a trust
+-- anchor if every signature were genuine.
 abbrev pub HoldsUnasked : Inputs → LinkType → Type 0
 HoldsUnasked i link = HoldsOf accepting i link
 

@@ -45,8 +45,8 @@ pub fn refusals()
     ensures { RefusalsAreForAll }
 {}
 
-/// What is listed of texts of which the links before `issuer` hold are the questions, in order, or none if no
-/// trust anchor may have issued the certificate.
+/// What is listed of texts of which the links before `issuer` hold are the questions, in order, or none if no path
+/// would lead to a trust anchor.
 pub(crate) fn listed_texts()
     ensures { ListedTextsAreAnswered }
 {
