@@ -9,6 +9,9 @@ pub mod EntryRows
 pub mod EachRow
 pub mod Schemes
 pub mod Few
+pub mod PathTables
+pub mod Shortcuts
+pub mod Shorter
 pub mod Mattering
 pub mod Told
 pub mod Writing

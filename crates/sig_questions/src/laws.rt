@@ -1,7 +1,7 @@
 //! What the definitions mean. The laws here have no code; each call is a law.
 ghost use Rattle.sig_questions.specs.Few.{QuestionsAreFew};
 ghost use Rattle.sig_questions.specs.Listed.{ListedTextsAreAnswered};
-ghost use Rattle.sig_questions.specs.Matters.{EachQuestionMatters};
+ghost use Rattle.sig_questions.specs.Matters.{EachQuestionMatters, IssuerRestsOnSteps};
 ghost use Rattle.sig_questions.specs.Questions.{QuestionsAreOneList, QuestionsHaveSchemes};
 ghost use Rattle.sig_questions.specs.Questions.{QuestionsSuffice, RefusalsAreForAll};
 
@@ -14,10 +14,20 @@ pub fn questions_suffice()
     certificates();
 }
 
-/// With the row of a question in a table some link holds that does not hold without it, or the row is the signature of an
-/// intermediate of a path that would lead to a trust anchor if every signature of a certificate were genuine.
+/// With the row of a question in a table some link holds that does not hold without it; or the row is the signature of an
+/// intermediate in a path that would lead to a trust anchor if every signature of a certificate were genuine, and the
+/// path has a shortcut past that signature.
 pub fn each_matters()
     ensures { EachQuestionMatters }
+{
+    certificates();
+}
+
+/// There is a table with which `issuer` holds where it has the row, and does not where it lacks the row, if and only if a
+/// path that would lead to a trust anchor has the row as a signature of a certificate past which no shortcut goes: no
+/// intermediate below the signature has the subject and the SPKI of one above it, or of a trust anchor.
+pub fn issuer_rests()
+    ensures { IssuerRestsOnSteps }
 {
     certificates();
 }
