@@ -39,7 +39,7 @@ lower_standing t m n le (x ∷ xs) are = (
 
 module _ (accepts : Accepts) (pool : Pool) (t : ℤ) where
   -- from v a way goes on over these to a trust anchor, with so many others before it
-  pub record IsOnward (others : ℕ) (v : Cert) (path : List Cert) (anchor : Cert) : Type 0 where
+  record IsOnward (others : ℕ) (v : Cert) (path : List Cert) (anchor : Cert) : Type 0 where
     pub standing : AreStanding t others path
     pub given : AllByRecursion (λ x. Contains pool.intermediates (Some x)) path
     pub trusted : Contains pool.anchors anchor
@@ -50,7 +50,7 @@ module _ (accepts : Accepts) (pool : Pool) (t : ℤ) where
   after_one others v x xs anchor on =
       record { standing = on.standing.1; given = on.given.1; trusted = on.trusted; signed = on.signed.1 }
 
-  pub onward_of : (c : Cert) (path : List Cert) (anchor : Cert) → IsPath accepts pool c t path anchor
+  onward_of : (c : Cert) (path : List Cert) (anchor : Cert) → IsPath accepts pool c t path anchor
       → IsOnward zero c path anchor
   onward_of c path anchor is = record {
     standing = standing_from t zero path is.may_issue
@@ -61,7 +61,7 @@ module _ (accepts : Accepts) (pool : Pool) (t : ℤ) where
   }
 
   -- a shorter way is a path too
-  pub shorter_path : (c : Cert) (path other : List Cert) (anchor top : Cert) → IsPath accepts pool c t path anchor
+  shorter_path : (c : Cert) (path other : List Cert) (anchor top : Cert) → IsPath accepts pool c t path anchor
       → length other ≤ length path → IsOnward zero c other top → IsPath accepts pool c t other top
   shorter_path c path other anchor top is less on = record {
     begun = is.begun;
@@ -118,7 +118,7 @@ module _ (accepts : Accepts) (pool : Pool) (t : ℤ) where
           genuine = subst (λ (key : List ℕ). accepts key v.algorithm v.tbs v.signature ≡ true) same.spki by_below.genuine;
         }
 
-    pub cut : (lower upper : List Cert) (anchor : Cert) (others : ℕ) (v : Cert) (k : ℕ)
+    cut : (lower upper : List Cert) (anchor : Cert) (others : ℕ) (v : Cert) (k : ℕ)
         → slice_get lower k ≡ Some below → Contains upper above ⊎ Contains pool.anchors above
         → IsOnward others v (lower ++ upper) anchor → IsShorter others v (lower ++ upper)
     cut [] upper anchor others v k at to on = absurd cc
@@ -181,7 +181,7 @@ module _ (row : AcceptedRow) (rows : List AcceptedRow) where
           })
 
   -- a path is one without the row, or has it
-  pub has_row : (c : Cert) (path : List Cert) (anchor : Cert) → AreSignedUp with_row c path anchor
+  has_row : (c : Cert) (path : List Cert) (anchor : Cert) → AreSignedUp with_row c path anchor
       → AreSignedUp without c path anchor ⊎ IsSplit c path anchor row
   has_row c [] anchor signed = elim (also_without c anchor signed) [
     | inl is ↦ inr (record { lower = []; upper = []; whole = refl; is = is })
@@ -254,7 +254,7 @@ module _ {i : Inputs} (p : AnchoredParts i) (row : AcceptedRow) (rows : List Acc
           (with_signatures pool c c.not_before (with_row row rows) (checker_with rows).cert path anchor is signed)))
       by (inr split) rest = split_by split rest (shortcut_or_none (trust_with p) split.lower split.upper)
 
-  pub plain_of : HasIssuer (checker_with (row ∷ rows)) (trust_with p) p.parts.checked → Plain
+  plain_of : HasIssuer (checker_with (row ∷ rows)) (trust_with p) p.parts.checked → Plain
   plain_of of =
       let found = of.first.path in
       plain_step (suc (length found.over)) found.over found.anchor (omega arith) found.path
@@ -274,10 +274,12 @@ issuer_rests one i row = (to, from)
         (λ has. both.1 (checked_to p (λ trust d. HasIssuer (checker_with rows) trust d) has)) of)) both.0
 
     from : OfStep i row (λ trust lower upper. ¬ HasShortcut trust lower upper) → RestsOn i Issuer row
-    from of = of_checked i (λ trust d. OfPath trust d (λ path anchor. (lower : List Cert) × (upper : List Cert)
-    × (path ≡ lower ++ upper) × (row ≡ signature_row (last_of d.certificate lower) (issuer_in upper anchor))
-    × (¬ HasShortcut trust lower upper))) (RestsOn i Issuer row)
-    (λ p (path, anchor, is, (lower, upper, whole, same, plain)). subst (RestsOn i Issuer) (sym same)
-    (step_matters one p lower upper anchor
-    (subst (λ (ws : List Cert). IsPath every_signature (pool_over p.anchors p.parts.checked.further)
-    p.parts.checked.certificate p.parts.checked.certificate.not_before ws anchor) whole is) plain)) of
+    from of =
+        of_checked i (λ trust d. OfPath trust d (λ path anchor. (lower : List Cert) × (upper : List Cert)
+        × (path ≡ lower ++ upper) × (row ≡ signature_row (last_of d.certificate lower) (issuer_in upper anchor))
+        × (¬ HasShortcut trust lower upper))) (RestsOn i Issuer row)
+        (λ p (path, anchor, is, (lower, upper, whole, same, plain)).
+            subst (RestsOn i Issuer) (sym same)
+            (step_matters one p lower upper anchor
+            (subst (λ (ws : List Cert). IsPath every_signature (pool_over p.anchors p.parts.checked.further)
+            p.parts.checked.certificate p.parts.checked.certificate.not_before ws anchor) whole is) plain)) of
