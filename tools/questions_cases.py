@@ -8,7 +8,8 @@
                                               the second implementation with all that are listed; where it names a link of the chain
                                               of trust, `verify` has to name it too, with and without accepted signatures. Then come
                                               requests about the limit, which gets each list back before the request's last brace, and
-                                              those with the longest chains, whose lists have the number of rows that is stated by hand
+                                              those with the longest chains, whose lists have the number of rows that is stated by hand, and
+                                              those of which it is stated by hand on which signatures of a path `issuer` rests
 
 The reader of a request of `log` is that of tools/log_requests.py, that of one of `consistency` that of
 tools/consistency_requests.py, that of one of `audit` that of tools/audit_requests.py, and that of one of `witness` that of
@@ -288,13 +289,20 @@ def limit_texts():
             ("witness", witness), ("witness", with_different_signatures(witness, 40_000)), ("verify", verify)]
 
 
-def chain_text(over, anchors):
-    """A request of `verify` whose leaf was issued under the name a, with these intermediates (name, issuer, path length) and trust anchors."""
-    made = [inter(*names, 16 + place, length) for place, (*names, length) in enumerate(over)]
-    roots = [fixture.anchor(subject=fixture.name(each), issuer=fixture.name(each), key=fixture.key(64 + place)) for place, each in enumerate(anchors)]
+def keyed_text(over, anchors):
+    """A request of `verify` whose leaf was issued under the name a, with these intermediates (name, issuer, key, path length) and trust anchors
+    (name, key)."""
+    made = [inter(*parts) for parts in over]
+    roots = [fixture.anchor(subject=fixture.name(name), issuer=fixture.name(name), key=fixture.key(under)) for name, under in anchors]
     listed = [{"certChain": {"certificates": [{"rawBytes": in_base64(fixture.certificate(each))} for each in roots]}}]
     changes = [verify_cases.chain(made, leaf=fixture.leaf(issuer=fixture.name("a"))), verify_cases.root("certificateAuthorities", listed)]
     return fixture.compact(verify_cases.built(changes))
+
+
+def chain_text(over, anchors):
+    """The same, each certificate with a key of its own."""
+    return keyed_text([(*names, 16 + place, length) for place, (*names, length) in enumerate(over)],
+                      [(name, 64 + place) for place, name in enumerate(anchors)])
 
 
 # 16 further certificates and some trust anchors, and how many rows are of signatures of certificates and how many of the SCT. At most they are
@@ -309,6 +317,70 @@ def has_lengths(program, text, certificates, points):
     wanted = verify_reply(text)
     kinds = [row["operation"] for row in json.loads(wanted[0])]
     return (kinds.count("certificate"), kinds.count("point")) == (certificates, points) and run(program, text, "questions", "verify") == wanted
+
+
+# Intermediates and trust anchors, a path over some of the intermediates in order to the first trust anchor, and of which of its signatures, from
+# the leaf's up, it is stated by hand that `issuer` rests on them (1) or that a shortcut goes past them (0). A shortcut goes from an intermediate
+# below the signature to one above it, or to a trust anchor, which has its name and its key.
+STEPS = [
+    # each name and key once
+    ([("a", "b", 16, None), ("b", "root", 17, None)], [("root", 64)], [0, 1], "111"),
+    ([("a", "b", 16, None), ("b", "c", 17, None), ("c", "d", 18, None), ("d", "e", 19, None), ("e", "f", 20, None), ("f", "root", 21, None)],
+     [("root", 64)], [0, 1, 2, 3, 4, 5], "1111111"),
+    # two certificates of one name and key, of one name, of one key; one certificate twice
+    ([("a", "b", 16, None), ("b", "a", 17, None), ("a", "root", 16, None)], [("root", 64)], [0, 1, 2], "1001"),
+    ([("a", "b", 16, None), ("b", "a", 17, None), ("a", "root", 18, None)], [("root", 64)], [0, 1, 2], "1111"),
+    ([("a", "b", 16, None), ("b", "c", 17, None), ("c", "root", 16, None)], [("root", 64)], [0, 1, 2], "1111"),
+    ([("a", "b", 16, None), ("b", "a", 17, None)], [("b", 64)], [0, 1, 0], "1001"),
+    # a shortcut past one signature of many, and none below or above it
+    ([("a", "b", 16, None), ("b", "c", 17, None), ("c", "b", 18, None), ("b", "root", 17, None)], [("root", 64)], [0, 1, 2, 3], "11001"),
+    # another trust anchor of an intermediate's name and key, of its name, of its key
+    ([("a", "b", 16, None), ("b", "root", 17, None)], [("root", 64), ("b", 17)], [0, 1], "110"),
+    ([("a", "b", 16, None), ("b", "root", 17, None)], [("root", 64), ("b", 65)], [0, 1], "111"),
+    ([("a", "b", 16, None), ("b", "root", 17, None)], [("root", 64), ("c", 17)], [0, 1], "111"),
+]
+
+
+def listed_case(text):
+    """The case of a request of `verify` of which the links before `issuer` hold."""
+    case = links.SimpleNamespace(request=links.read_request(text.encode()))
+    for name in list(links.LINKS)[:list(links.LINKS).index("issuer")]:
+        links.LINKS[name](case)
+    return case
+
+
+def step(y, x):
+    return written(("certificate", y.algorithm, x.spki, y.tbs, y.signature))
+
+
+def replies_without(program, text, steps, others):
+    """The reply of `verify` where all of these signatures are accepted, and that where one of the steps is not, for each."""
+    return [run(program, with_accepted(text, [row for row in steps if row != left] + others), "verify") for left in [None, *steps]]
+
+
+def resting(program, text, path):
+    """Of which signatures of a path `verify` refuses `issuer` where they alone are not accepted: 1, and else 0."""
+    case = listed_case(text)
+    above = [*(case.later[place] for place in path), case.anchors[0]]
+    whole, *replies = replies_without(program, text, [step(y, x) for y, x in zip([case.leaf, *above], above)],
+                                      list(map(written, verify_questions(case)[1])))
+    if whole[1] != 0 or any(each not in (whole, ("refused issuer", 1)) for each in replies):
+        return None
+    return "".join("0" if each == whole else "1" for each in replies)
+
+
+def first_issuer_turns(program):
+    """Whether `sct` rests on a signature past which a shortcut goes: without it another issuer comes first in a path, and its key is not the one
+    under which the SCT is genuine."""
+    text = keyed_text([("a", "b", 16, None), ("a", "root", 17, None), ("b", "a", 18, None), ("a", "root", 16, None)], [("root", 64)])
+    case = listed_case(text)
+    (one, other, between, last), top = case.later, case.anchors[0]
+    case.issuer = one
+    points = list(map(written, asked(case, "sct")))
+    others = points + [row for row in map(written, verify_questions(case)[1]) if row["operation"] != "point"]
+    steps = [step(one, between), step(between, last), step(case.leaf, one), step(last, top), step(case.leaf, other), step(other, top)]
+    replies = replies_without(program, text, steps, others)
+    return replies[0][1] == 0 and replies[1:3] == [("refused sct", 1)] * 2
 
 
 def texts_of(command):
@@ -339,6 +411,13 @@ def check(program):
         if not has_lengths(program, chain_text(over, anchors), *lengths):
             failed += 1
             print(f"questions verify of a chain of {over} under {anchors} has not {lengths} rows", file=sys.stderr)
+    for over, anchors, path, wanted in STEPS:
+        if resting(program, keyed_text(over, anchors), path) != wanted:
+            failed += 1
+            print(f"issuer does not rest on the signatures {wanted} of the path {path} of {over} under {anchors}", file=sys.stderr)
+    if not first_issuer_turns(program):
+        failed += 1
+        print("sct does not rest on a signature past which a shortcut goes", file=sys.stderr)
     for command, text in limit_texts():
         if not about_the_limit(program, command, text):
             failed += 1
