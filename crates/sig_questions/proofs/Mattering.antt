@@ -96,22 +96,22 @@ point_matters one {i} p row (path, anchor, on, (s, has, (long, short, point, at,
     subst (Matters i) (sym is) (
       Sct,
       (
-      other ∷ later,
-      λ policy. (
-        (
-          checked_to p (λ trust e. HasSignedBytes e.certificate) (s, has, (long, short)),
-          checked_to p (λ trust e. IsVouchedFor k trust e) (
-            s,
-            has,
-            record { issuer = issuer.issuer; first = issuer.first; holds = (point, at, vouched) },
+        other ∷ later,
+        λ policy. (
+          (
+            checked_to p (λ trust e. HasSignedBytes e.certificate) (s, has, (long, short)),
+            checked_to p (λ trust e. IsVouchedFor k trust e) (
+              s,
+              has,
+              record { issuer = issuer.issuer; first = issuer.first; holds = (point, at, vouched) },
+            ),
           ),
+          (λ holds.
+              let of = checked_from one p (λ trust e. IsVouchedFor (checker_with (other ∷ later)) trust e) holds.1 in
+              no_point d y path anchor
+              ((accepted-rows (other ∷ later) kinds.Point [] of.2.holds.0
+              (signed_bytes (signed_of d of.2.first.path.certificate.spki of.0)) of.0.signature).0 of.2.holds.2)),
         ),
-        (λ holds.
-            let of = checked_from one p (λ trust e. IsVouchedFor (checker_with (other ∷ later)) trust e) holds.1 in
-            no_point d y path anchor
-            ((accepted-rows (other ∷ later) kinds.Point [] of.2.holds.0
-            (signed_bytes (signed_of d of.2.first.path.certificate.spki of.0)) of.0.signature).0 of.2.holds.2)),
-      ),
       ),
     )
   where
@@ -176,13 +176,13 @@ content_matters {i} p row (scheme, kind, is) =
     let c : Checked = p.parts.checked in (
       Signature,
       (
-      [],
-      λ policy. (
-        checked_to p (λ trust d. IsSignedContent (checker_with (row ∷ [])) i.digest d)
-            (scheme, kind, signed_with scheme c.certificate.spki i.digest c.content c.signature row is),
-        of_checked i (λ trust d. IsSignedContent (checker_with []) i.digest d) ⊥
-            (λ q of. never_signed i.digest q.parts.checked.content q.parts.checked.signature of.2),
-      ),
+        [],
+        λ policy. (
+          checked_to p (λ trust d. IsSignedContent (checker_with (row ∷ [])) i.digest d)
+              (scheme, kind, signed_with scheme c.certificate.spki i.digest c.content c.signature row is),
+          of_checked i (λ trust d. IsSignedContent (checker_with []) i.digest d) ⊥
+              (λ q of. never_signed i.digest q.parts.checked.content q.parts.checked.signature of.2),
+        ),
       ),
     )
 
@@ -195,16 +195,16 @@ promise_matters {i} p row (key, has_key, (exact, promise, there, is)) =
     subst (Matters i) (sym is) (
       Promise,
       (
-      [],
-      λ policy. (
-        (
-          logged_to p (λ keys e. HasCanonicalPromise e) (ap is_some there, exact),
-          logged_to p (λ keys e. IsPromisedBy (checker_with (its ∷ [])).spki keys e)
-              (key, has_key, (promise, there, in_front its [])),
+        [],
+        λ policy. (
+          (
+            logged_to p (λ keys e. HasCanonicalPromise e) (ap is_some there, exact),
+            logged_to p (λ keys e. IsPromisedBy (checker_with (its ∷ [])).spki keys e)
+                (key, has_key, (promise, there, in_front its [])),
+          ),
+          (λ holds. of_logged i (λ keys e. IsPromisedBy (checker_with []).spki keys e) ⊥ (λ q of. no_truth of.2.2)
+              holds.1),
         ),
-        (λ holds. of_logged i (λ keys e. IsPromisedBy (checker_with []).spki keys e) ⊥ (λ q of. no_truth of.2.2)
-            holds.1),
-      ),
       ),
     )
 
@@ -218,16 +218,16 @@ note_matters {i} p row (key, has_key, (proof, proof_is, (n, text, (index, s, the
     subst (Matters i) (sym is) (
       NoteKey,
       (
-      [],
-      λ policy. (
-        logged_to p (λ keys e. IsNoteSignedBy (checker_with (its ∷ [])).spki keys e) (
-          key,
-          has_key,
-          (proof, proof_is, (n, text, any_has signs n.signatures index s there (in_front its []))),
+        [],
+        λ policy. (
+          logged_to p (λ keys e. IsNoteSignedBy (checker_with (its ∷ [])).spki keys e) (
+            key,
+            has_key,
+            (proof, proof_is, (n, text, any_has signs n.signatures index s there (in_front its []))),
+          ),
+          of_logged i (λ keys e. IsNoteSignedBy (checker_with []).spki keys e) ⊥
+              (λ q (at, has_at, (found, found_is, (m, read, signed))). no_truth (sym (any_none m.signatures) ∙ signed)),
         ),
-        of_logged i (λ keys e. IsNoteSignedBy (checker_with []).spki keys e) ⊥
-            (λ q (at, has_at, (found, found_is, (m, read, signed))). no_truth (sym (any_none m.signatures) ∙ signed)),
-      ),
       ),
     )
 
@@ -257,8 +257,11 @@ signature_matters one {i} p row (path, anchor, is, (y, x, next, same)) =
     by (inr plain) =
         let on = subst (λ (ws : List Cert). IsPath every_signature (pool_over p.anchors p.parts.checked.further) c
         c.not_before ws anchor) split.whole is in
-        inl (Issuer, subst (RestsOn i Issuer) (sym (same ∙ split.is))
-        (step_matters one p split.lower split.upper anchor on plain))
+        inl (
+          Issuer,
+          subst (RestsOn i Issuer) (sym (same ∙ split.is))
+              (step_matters one p split.lower split.upper anchor on plain),
+        )
 
 pub questions_matter : OneCertificate → EachQuestionMatters
 questions_matter one i row (inl certificate) =

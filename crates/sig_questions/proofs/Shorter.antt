@@ -279,7 +279,7 @@ issuer_rests one i row = (to, from)
         × (path ≡ lower ++ upper) × (row ≡ signature_row (last_of d.certificate lower) (issuer_in upper anchor))
         × (¬ HasShortcut trust lower upper))) (RestsOn i Issuer row)
         (λ p (path, anchor, is, (lower, upper, whole, same, plain)).
-            subst (RestsOn i Issuer) (sym same)
-            (step_matters one p lower upper anchor
-            (subst (λ (ws : List Cert). IsPath every_signature (pool_over p.anchors p.parts.checked.further)
-            p.parts.checked.certificate p.parts.checked.certificate.not_before ws anchor) whole is) plain)) of
+        subst (RestsOn i Issuer) (sym same)
+        (step_matters one p lower upper anchor
+        (subst (λ (ws : List Cert). IsPath every_signature (pool_over p.anchors p.parts.checked.further)
+        p.parts.checked.certificate p.parts.checked.certificate.not_before ws anchor) whole is) plain)) of

@@ -1,5 +1,5 @@
 -- Each question matters: some link rests on it. For the signature of a certificate it is said exactly when `issuer` does.
-use Rattle.std.specs.Prelude.{◌≡◌, ◌⊎◌, ◌↔◌, List, [], ◌∷◌, ◌++◌, Bool, Contains}
+use Rattle.std.specs.Prelude.{◌≡◌, ◌⊎◌, ◌↔◌, List, [], ◌∷◌, ◌++◌, Contains}
 use Rattle.sig_base.specs.Checker.{accepted}
 use Rattle.sig_base.specs.Scheme.{name_of}
 use Rattle.sig_base.specs.declared.checker.AcceptedRow.{AcceptedRow}
