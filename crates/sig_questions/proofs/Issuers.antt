@@ -1,8 +1,6 @@
 -- Two checkers that say the same of the signatures of paths that would hold have the same issuer.
-use Rattle.std.proofs.Common.{◌≡◌, ℕ, ℤ, Bool, true, List, [], ◌∷◌, Option, Some, None, slice_get, inl, inr, refl, sym}
-use Rattle.std.proofs.Common.{ap, subst, ◌∙◌}
-use Rattle.std.specs.Prelude.{Contains}
-use Rattle.sig_base.proofs.OptionSteps.{some_is}
+use Rattle.std.proofs.Common.{◌≡◌, ℤ, List, [], ◌∷◌, Option, Some, None, refl, sym}
+use Rattle.std.proofs.Common.{ap, ◌∙◌}
 use Rattle.sig_certificate.specs.Certificate.{Cert}
 use Rattle.sig_verify.specs.CertificateLinks.{OfIssuer}
 use Rattle.sig_x509.proofs.Elements.{at_contained}
@@ -10,7 +8,7 @@ use Rattle.sig_x509.proofs.PathAnswers.{Tells, tells}
 use Rattle.sig_x509.proofs.PathAsked.{also_signed_up, every_genuine}
 use Rattle.sig_x509.specs.Issuance.{Accepts}
 use Rattle.sig_x509.specs.Issued.{IsSignedBy}
-use Rattle.sig_x509.specs.Path.{AreSignedUp, HasNoPath, HasPath, IsFirstInPath, IsNext, IsPath, every_signature}
+use Rattle.sig_x509.specs.Path.{AreSignedUp, HasPath, IsFirstInPath, IsNext, IsPath, every_signature}
 use Rattle.sig_x509.specs.PathSearch.{first_issuer}
 use Rattle.sig_x509.specs.Pool.{Pool, intermediate_in}
 use Rattle.sig_x509.specs.declared.issuer.Issuer.{Issuer}

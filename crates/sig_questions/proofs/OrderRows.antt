@@ -13,7 +13,6 @@ use Rattle.sig_bundle.specs.declared.material.ProofFields.{ProofFields}
 use Rattle.sig_bundle.specs.declared.material.TransparencyLogEntry.{TransparencyLogEntry}
 use Rattle.sig_bundle.specs.Promise.{promise_tree_of}
 use Rattle.sig_bundle.specs.Proof.{OfText}
-use Rattle.sig_certificate.specs.Certificate.{Cert}
 use Rattle.sig_checked_bundle.proofs.Certificates.{OneCertificate}
 use Rattle.sig_checked_bundle.specs.Checked.{Checked}
 use Rattle.sig_checked_bundle.specs.declared.content_check.CheckedContent.{CheckedContent}
@@ -31,17 +30,14 @@ use Rattle.sig_rekor.specs.NoteText.{note_text}
 use Rattle.sig_rekor.specs.declared.checkpoint.CheckpointSignature.{CheckpointSignature}
 use Rattle.sig_rekor.specs.declared.checkpoint.SignedCheckpoint.{SignedCheckpoint}
 use Rattle.sig_timestamp.specs.Embedded.{IsSaidOf, ready}
-use Rattle.sig_timestamp.specs.Precert.{precertificate}
-use Rattle.sig_timestamp.specs.SctBytes.{signed_bytes, signed_of}
 use Rattle.sig_timestamp.specs.Timestamps.{sct_of}
-use Rattle.sig_timestamp.specs.Vectors.{IsLong, IsShort}
 use Rattle.sig_timestamp.specs.declared.sct_error.SCTError.{SCTError}
 use Rattle.sig_timestamp.specs.declared.signed.DigitallySigned.{DigitallySigned}
 use Rattle.sig_verify.proofs.EntryKeys.{key_again, key_has, one_key}
 use Rattle.sig_verify.proofs.EntryProofs.{at_checkpoint, at_proof}
 use Rattle.sig_verify.proofs.Parts.{AnchoredParts, checked_from, checked_to, log_keys_of, logged_from, logged_to}
 use Rattle.sig_verify.proofs.Parts.{trust_with}
-use Rattle.sig_verify.specs.CertificateLinks.{OfSct, Trust}
+use Rattle.sig_verify.specs.CertificateLinks.{Trust}
 use Rattle.sig_verify.specs.EntryLinks.{HasLogKey, IsOfBytes, LogKeys, OfCheckpoint}
 use Rattle.sig_verify.specs.LinkLaws.{IsReadCertificate}
 use Rattle.sig_verify.specs.Links.{Inputs}

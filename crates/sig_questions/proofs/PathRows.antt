@@ -1,7 +1,7 @@
 -- The certificates' rows are those of the signatures of paths that would hold.
-use Rattle.std.proofs.Common.{◌≡◌, ◌↔◌, ◌⊎◌, ℕ, zero, suc, ℤ, Bool, true, false, cond, List, [], ◌∷◌, ◌++◌, map, Option}
+use Rattle.std.proofs.Common.{◌≡◌, ◌↔◌, ℕ, zero, suc, ℤ, Bool, true, false, cond, List, [], ◌∷◌, map, Option}
 use Rattle.std.proofs.Common.{Some, None, slice_get, inl, inr, refl, sym, ap, subst, ◌∙◌}
-use Rattle.std.specs.List.{AllByRecursion, flat_map}
+use Rattle.std.specs.List.{AllByRecursion}
 use Rattle.std.specs.Prelude.{Contains, option_map}
 use Rattle.std.proofs.lemmas.Option.{slice_get-map}
 use Rattle.sig_base.proofs.OptionSteps.{some_is}
@@ -14,12 +14,12 @@ use Rattle.sig_x509.proofs.PossibleLaws.{IsSigner, first_given, first_next, from
 use Rattle.sig_x509.proofs.PossibleLaws.{further_under_further, later_given, later_next, leaf_under_anchor}
 use Rattle.sig_x509.proofs.PossibleLaws.{leaf_under_further, next_steps, path_given}
 use Rattle.sig_x509.specs.Path.{IsNext, IsPath, every_signature}
-use Rattle.sig_x509.specs.Pool.{Pool, pool_over, present}
-use Rattle.sig_x509.specs.Possible.{IsFirstStep, IsLaterStep, may_sign}
+use Rattle.sig_x509.specs.Pool.{pool_over, present}
+use Rattle.sig_x509.specs.Possible.{IsFirstStep, may_sign}
 use Rattle.sig_questions.proofs.RowLaws.{OfSome, empty_has, has_both, has_each, has_one}
 use Rattle.sig_questions.specs.Asked.{IsCertificateRow, OfPath, issuer_in, signature_row}
 use Rattle.sig_questions.specs.Lists.{Pair, Side, certificate_questions, pair_questions, pairs, pairs_with, signed_side}
-use Rattle.sig_questions.specs.Lists.{signer_as, signer_side, signers}
+use Rattle.sig_questions.specs.Lists.{signer_as, signers}
 use Rattle.sig_questions.specs.Order.{IsStepOf, signed_in}
 
 -- ---- lists

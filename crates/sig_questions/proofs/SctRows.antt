@@ -1,7 +1,6 @@
 -- The rows of the SCT under each issuer of a path.
-use Rattle.std.proofs.Common.{◌≡◌, ◌↔◌, ℕ, ◌<◌, ◌-◌, ◌^◌, Bool, true, false, cond, nat_lt, List, [], ◌∷◌}
+use Rattle.std.proofs.Common.{◌≡◌, ◌↔◌, ℕ, ◌<◌, ◌-◌, ◌^◌, Bool, true, false, cond, nat_lt, List, []}
 use Rattle.std.proofs.Common.{length, Option, Some, None, Result, Ok, Err, inl, inr, refl, sym, subst, arith, ◌∙◌}
-use Rattle.std.specs.List.{flat_map}
 use Rattle.std.specs.Prelude.{Contains}
 use Rattle.std.proofs.lemmas.Bool.{ltb-false, le-ltb}
 use Rattle.sig_base.proofs.OptionSteps.{some_is}
@@ -17,7 +16,6 @@ use Rattle.sig_timestamp.specs.SctList.{Sct as SctType}
 use Rattle.sig_timestamp.specs.Timestamps.{HasSct, sct_of}
 use Rattle.sig_timestamp.specs.Vectors.{IsLong, IsShort}
 use Rattle.sig_timestamp.specs.declared.sct_error.CertificateErrorKind.{CertificateErrorKind}
-use Rattle.sig_timestamp.specs.declared.sct_error.SCTError.{SCTError}
 use Rattle.sig_timestamp.specs.declared.sct_error.SCTError.TheVariants.{OutOfMemory, Parsing}
 use Rattle.sig_timestamp.specs.declared.signed.DigitallySigned.{DigitallySigned}
 use Rattle.sig_verify.proofs.IssuerVerdicts.{itself}

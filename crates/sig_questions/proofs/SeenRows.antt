@@ -1,5 +1,5 @@
 -- The rows of what was borrowed are those of the certificates.
-use Rattle.std.proofs.Common.{◌≡◌, ℤ, Bool, true, false, List, [], ◌∷◌, ◌++◌, map, Option, Some, None, refl, sym, ap, subst}
+use Rattle.std.proofs.Common.{◌≡◌, ℤ, true, false, List, [], ◌∷◌, ◌++◌, map, Option, Some, None, refl, sym, ap, subst}
 use Rattle.std.proofs.Common.{◌∙◌}
 use Rattle.std.specs.List.{flat_map}
 use Rattle.std.proofs.lemmas.Grind.{flat_map-append}
@@ -11,14 +11,13 @@ use Rattle.sig_dsse.specs.declared.artifact_digest.ArtifactDigest.{ArtifactDiges
 use Rattle.sig_timestamp.specs.RingKey.{point_at}
 use Rattle.sig_verify.specs.CertificateLinks.{Trust}
 use Rattle.sig_x509.specs.Pool.{present}
-use Rattle.sig_x509.specs.Possible.{SignedOne, SignerOne, all_signers, anchor_signer, further_signed, further_signer}
+use Rattle.sig_x509.specs.Possible.{SignedOne, SignerOne, all_signers, anchor_signer, further_signed}
 use Rattle.sig_x509.specs.Possible.{seen_signed, seen_signer, the_leaf}
 use Rattle.sig_x509.specs.declared.possible.PossiblePaths.{PossiblePaths}
 use Rattle.sig_x509.specs.declared.possible.Signed.{Signed}
-use Rattle.sig_x509.specs.declared.possible.Signer.{Signer}
 use Rattle.sig_questions.specs.Listed.{AreListed, AreListedAs, Listing, trust_in}
-use Rattle.sig_questions.specs.Lists.{Pair, Side, certificate_questions, content_questions, entry_questions, pair_questions}
-use Rattle.sig_questions.specs.Lists.{pairs, pairs_with, questions_behind, questions_of, sct_questions, sct_questions_under}
+use Rattle.sig_questions.specs.Lists.{Side, certificate_questions, content_questions, entry_questions, pair_questions}
+use Rattle.sig_questions.specs.Lists.{pairs_with, questions_behind, sct_questions, sct_questions_under}
 use Rattle.sig_questions.specs.Lists.{signature_questions, signed_side, signer_side, signers}
 use Rattle.sig_questions.specs.Written.{rows_behind, rows_of_paths, rows_of_point, rows_of_signed}
 use Rattle.sig_questions.specs.declared.trust.TrustParts.{TrustParts}

@@ -1,7 +1,5 @@
 -- What a root gives that has trust anchors and keys at the time.
-use Rattle.std.proofs.Common.{◌≡◌, ◌≢◌, ℕ, ℤ, List, [], Result, Ok, Err, IfOk, inl, inr, sym, subst, ◌∙◌}
-use Rattle.std.specs.List.{AllByRecursion}
-use Rattle.sig_base.proofs.ResultSteps.{ok_is}
+use Rattle.std.proofs.Common.{◌≡◌, ◌≢◌, ℕ, ℤ, List, [], Ok, Err, inl, inr, sym, subst}
 use Rattle.sig_base.specs.Answers.{OrMemory}
 use Rattle.sig_base.specs.declared.error.SigstoreError.{SigstoreError}
 use Rattle.sig_base.specs.declared.error.SigstoreError.TheVariants.{OutOfMemory}

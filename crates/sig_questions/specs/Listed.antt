@@ -17,7 +17,6 @@ use Rattle.sig_verify.specs.LinkLaws.{IsReadCertificate}
 use Rattle.sig_verify.specs.Links.{Inputs}
 use Rattle.sig_verify.specs.RootLinks.{authorities, ct_keys, rekor_keys}
 use Rattle.sig_verify.specs.Verifier.{HasKeys}
-use Rattle.sig_verify.specs.declared.link.Link.{Link as LinkType}
 use Rattle.sig_verify.specs.declared.link.Link.TheVariants.{Issuer}
 use Rattle.sig_questions.specs.Lists.{certificate_questions, questions_of}
 use Rattle.sig_questions.specs.Questions.{HoldsUnasked, IsDecided, front_links}

@@ -1,7 +1,5 @@
-use Rattle.std.proofs.Common.{ℤ, sym, subst}
 use Rattle.std.proofs.Math.Facts.{to_z-of_z}
 use Rattle.sig_verify.proofs.OfflineBytes.{inputs}
-use Rattle.sig_verify.specs.Links.{Inputs}
 use Rattle.sig_questions.proofs.Calls.{all_told, front_decided, none_told, texts_listed}
 use Rattle.sig_questions.proofs.Fronts.{front_passed, front_trust}
 use Rattle.sig_questions.proofs.listing.list_read.Goals as goal

@@ -1,4 +1,4 @@
-use Rattle.std.proofs.Common.{ℤ, List, [], subst, sym}
+use Rattle.std.proofs.Common.{ℤ, [], subst, sym}
 use Rattle.std.specs.Prelude.{◌≢◌}
 use Rattle.std.specs.List.{AllByRecursion}
 use Rattle.std.proofs.Math.Facts.{to_z-of_z}
