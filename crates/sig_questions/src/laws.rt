@@ -25,7 +25,8 @@ pub fn each_matters()
 
 /// There is a table with which `issuer` holds where it has the row, and does not where it lacks the row, if and only if a
 /// path that would lead to a trust anchor has the row as a signature of a certificate past which no shortcut goes: no
-/// intermediate below the signature has the subject and the SPKI of one above it, or of a trust anchor.
+/// intermediate below the signature, the signed one included, has the subject and the SPKI of one above it, or of a trust
+/// anchor.
 pub fn issuer_rests()
     ensures { IssuerRestsOnSteps }
 {
