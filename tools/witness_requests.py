@@ -176,7 +176,7 @@ OTHERS = [origin(), origin("other.example", "ED25519", "b3RoZXI="), origin("a", 
 
 
 def first_rows():
-    """The tree of one entry: from nothing, again, and the empty one behind it."""
+    """The tree of one entry: from nothing, again, and the empty one after it."""
     yield request([X])
     yield request([X, X, AGAIN, EMPTY])
     kept_state = state_of(request([X]))
@@ -190,7 +190,7 @@ def first_rows():
 
 
 def refusals():
-    """Each refusal of an update, before and behind one that is taken; two at once."""
+    """Each refusal of an update, before and after one that is taken; two at once."""
     yield request(GROWN)
     good, spoiled = GROWN[1], {"checkpoint": BROKEN, "oldSize": 3}
     unknown = update(ENTRIES[:6], 3, origin="nobody")
@@ -211,7 +211,7 @@ def refusals():
 
 
 def origins_and_states():
-    """Several logs, each with a key and heads of its own; origins that cannot be added; states that are none."""
+    """Several logs, each with a key and heads of its own; origins that cannot be added; states that are not one."""
     updates = [update(ENTRIES[:2], origin="a"), X, update(ENTRIES[:4], origin="other.example"), update(ENTRIES[:5], 2, origin="a")]
     whole = request(updates, OTHERS)
     yield whole
@@ -290,9 +290,9 @@ def hundreds():
     yield request([update(LOG, signatures=tuple(bytes([place % 200]) for place in range(300)) + (audits.SIGNATURE,))], accepted=[audits.row(X["checkpoint"])])
 
 
-GROUPS = {"the tree of one entry: from nothing, again, and the empty one behind it": first_rows,
-          "each refusal of an update, before and behind one that is taken": refusals,
-          "several logs; origins that cannot be added; states that are none": origins_and_states,
+GROUPS = {"the tree of one entry: from nothing, again, and the empty one after it": first_rows,
+          "each refusal of an update, before and after one that is taken": refusals,
+          "several logs; origins that cannot be added; states that are not one": origins_and_states,
           "members of another kind, out of range, absent, doubled, null": members, "lists and objects nest to 127": nesting,
           "the largest logs": largest, "300 updates, origins, signatures": hundreds}
 
@@ -347,7 +347,7 @@ def runs(program):
     for count in (0, 1, 2):
         yield program, request([X, *again, *[AGAIN] * count])
     for count in (MOST_UPDATES, MOST_UPDATES + 1):
-        yield program, request([], updates=[{"checkpoint": "", "oldSize": 0}] * count)
+        yield program, request([]) | {"updates": [{"checkpoint": "", "oldSize": 0}] * count}
 
 
 def check(program):
