@@ -99,7 +99,10 @@ func Checked(command Command, request []byte, genuine func(Row) bool) (Status, [
 	}
 	end := bytes.LastIndexByte(request, '}')
 	answered := append([]byte{}, request[:end]...)
-	answered = append(append(answered, `,"accepted":[`...), bytes.Join(accepted, []byte(","))...)
+	if !bytes.HasSuffix(bytes.TrimRight(answered, " \t\r\n"), []byte("{")) {
+		answered = append(answered, ',') // after the members that there are
+	}
+	answered = append(append(answered, `"accepted":[`...), bytes.Join(accepted, []byte(","))...)
 	answered = append(append(answered, ']'), request[end:]...)
 	return Reply(command, answered)
 }

@@ -69,7 +69,7 @@ func TestGoroutines(t *testing.T) {
 }
 
 func TestNoReply(t *testing.T) {
-	for _, command := range []Command{0, 5, 255, 261} {
+	for _, command := range []Command{0, 6, 255, 262} {
 		if _, text, err := Reply(command, []byte("{}")); err != ErrNoCommand || text != nil {
 			t.Errorf("command %d: %q, %v", command, text, err)
 		}

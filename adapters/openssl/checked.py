@@ -95,12 +95,13 @@ def genuine_of(command, listed):
 
 def answer(program, command, request, replies):
     """The request with the rows that are accepted, the reply to it, and its status. The rows come before the last brace
-    of the request, byte for byte as listed, since sigverify lists what fits in there, for an object with members."""
+    of the request, byte for byte as listed, since sigverify lists what fits in there."""
     listed, status = run(program, ["questions", command], request, {**replies, 0: LIST})
     if status != 0:
         return request, listed, status
     end = request.rindex(b"}")
-    answered = request[:end] + b',"accepted":' + compact(genuine_of(command, listed)) + request[end:]
+    comma = b"" if request[:end].rstrip(b" \t\r\n").endswith(b"{") else b","  # after the members that there are
+    answered = request[:end] + comma + b'"accepted":' + compact(genuine_of(command, listed)) + request[end:]
     return answered, *run(program, [command], answered, replies)
 
 

@@ -122,7 +122,8 @@ def checked(command, request):
         return status, listed
     end = request.rindex(b"}")
     rows = [row for row in json.loads(listed) if genuine()(row)]
-    return reply([command], request[:end] + b',"accepted":' + compact(rows) + request[end:])
+    comma = b"" if request[:end].rstrip(b" \t\r\n").endswith(b"{") else b","  # after the members that there are
+    return reply([command], request[:end] + comma + b'"accepted":' + compact(rows) + request[end:])
 
 
 def verify(trusted_root, bundle, digest, policy, now=None):
