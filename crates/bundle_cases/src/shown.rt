@@ -7,7 +7,7 @@ use sig_checked_bundle::{
 };
 use std::alloc::Global;
 
-/// `shown NAME`: the error of this name; out of memory comes behind `ok`, since by itself it would end the program.
+/// `shown NAME`: the error of this name; out of memory comes after `ok`, since by itself it would end the program.
 pub(crate) fn shown(arguments: &mut Arguments<'_>, answer: &mut Answer) {
     let promise = Bundle01ProfileErrorKind::InclusionPromiseMissing;
     let proof = Bundle02ProfileErrorKind::InclusionProofMissing;

@@ -41,7 +41,7 @@ fn add_certificates(answer: &mut Answer, found: sig_base::Result<Entries>) {
     }
 }
 
-/// Adds how many keys there are, and all, each behind its log id.
+/// Adds how many keys there are, and all, each after its log id.
 fn add_keys(answer: &mut Answer, found: sig_base::Result<KeyMap>) {
     match found {
         Ok(keys) => {

@@ -72,7 +72,7 @@ fn is_read_back(alloc: Global, text: &Text, bundle: &Bundle) -> bool {
 }
 
 /// `try_from_log_entry ENTRY`, the entry as Rekor's API returns it: the text of a bundle that has the converted entry
-/// alone, and whether it is read back. The line is a bad one where the text is no entry.
+/// alone, and whether it is read back. The line is a bad one where the text is not an entry.
 pub(crate) fn converted(arguments: &mut Arguments<'_>, answer: &mut Answer) {
     let alloc = arguments.alloc();
     match LogEntry::from_json_text(alloc, arguments.text().as_str()) {

@@ -36,7 +36,8 @@ fn add_shown(answer: &mut Answer, alloc: Global, token: &IdentityToken) {
     }
 }
 
-/// `period NOW TEXT`: whether the token is in its period at this time. The line is a bad one where the text is no token.
+/// `period NOW TEXT`: whether the token is in its period at this time. The line is a bad one where the text is not a
+/// token.
 pub(crate) fn period(arguments: &mut Arguments<'_>, answer: &mut Answer) {
     let now = arguments.integer();
     match IdentityToken::try_from_text(arguments.alloc(), arguments.text().as_str()) {

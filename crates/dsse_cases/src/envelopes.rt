@@ -75,7 +75,7 @@ fn signature(arguments: &mut Arguments<'_>, sig: Vec<u8>, keyid: Vec<u8>) -> Dss
     }
 }
 
-/// A hint at a key. Makes the line a bad one where it is no UTF-8.
+/// A hint at a key. Makes the line a bad one where it is not UTF-8.
 fn hint(arguments: &mut Arguments<'_>, keyid: Vec<u8>) -> Text {
     match String::from_utf8(keyid) {
         Ok(keyid) => Text::from(keyid),

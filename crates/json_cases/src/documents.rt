@@ -3,7 +3,7 @@ use sig_cases::{Answer, Arguments};
 use sig_json::{Document, DocumentError, Json, canonical, compact, quoted};
 use std::alloc::Global;
 
-/// The bytes of the next arguments: the rest of the line behind `json`, or one word in hexadecimal behind `hex`.
+/// The bytes of the next arguments: the rest of the line after `json`, or one word in hexadecimal after `hex`.
 pub(crate) fn bytes(arguments: &mut Arguments<'_>, answer: &mut Answer) -> Vec<u8> {
     match arguments.word() {
         "json" => copied(arguments.alloc(), answer, arguments.rest()),

@@ -3,8 +3,8 @@
 //!
 //! The worked examples of RFC 8785 are those without floats, the vectors of base64 those of RFC 4648 section 10.
 //! Every line is written by tools/json_cases.py, which reads JSON by Python's `json` with hooks for numbers, duplicate
-//! names and surrogates, and has writers of its own. A document is the bytes of the rest of the line behind `json`, or
-//! of one word in hexadecimal behind `hex`.
+//! names and surrogates, and has writers of its own. A document is the bytes of the rest of the line after `json`, or
+//! of one word in hexadecimal after `hex`.
 #![tactic(auto)]
 
 mod built;

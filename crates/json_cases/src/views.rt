@@ -22,7 +22,7 @@ fn add_found(alloc: Global, answer: &mut Answer, found: Option<Json<'_, '_>>) {
 }
 
 /// `values DOCUMENT`: whether the value is null, its truth value, its integer, its text, how many elements it has,
-/// each `none` if it is no such value, and whether it has members.
+/// each `none` if it is not such a value, and whether it has members.
 pub(crate) fn values(arguments: &mut Arguments<'_>, answer: &mut Answer) {
     let document = document(arguments, answer);
     let json = document.view();

@@ -60,7 +60,7 @@ impl Shown for LogInfo {
     }
 }
 
-/// How many there are, and each of them behind its word.
+/// How many there are, and each of them after its word.
 impl Shown for Shards {
     fn add_to(&self, answer: &mut Answer) {
         answer.value(&self.len());

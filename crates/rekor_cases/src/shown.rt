@@ -66,7 +66,7 @@ impl Shown for Checkpoint {
     }
 }
 
-/// Adds a content: what it is, its texts, and behind `=` how it prints.
+/// Adds a content: what it is, its texts, and after `=` how it prints.
 fn add_content(answer: &mut Answer, content: &OtherContent) {
     match content {
         OtherContent::KeyValue(key, value) => {
@@ -83,7 +83,7 @@ fn add_content(answer: &mut Answer, content: &OtherContent) {
     answer.value(content);
 }
 
-/// Adds signatures, each behind its word.
+/// Adds signatures, each after its word.
 pub(crate) fn add_signatures(answer: &mut Answer, signatures: &[CheckpointSignature]) {
     for signature in signatures {
         answer.value(&"signature");

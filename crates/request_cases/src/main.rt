@@ -1,7 +1,7 @@
 //! Cases of the signatures that are in a request of `verify`: `stdin` lists calls, and `stdout` what they return.
 //!
 //! Who made them: `tools/request_cases.py` over `tools/fixture.py`, programs in another language that were written
-//! from the standards. Each call asks for one signature, of which the rows behind it are said to be genuine: all of
+//! from the standards. Each call asks for one signature, of which the rows after it are said to be genuine: all of
 //! the request's rows, or all but one.
 #![tactic(auto)]
 

@@ -94,7 +94,7 @@ OfKey keys id P = (key : CosignVerificationKey) × (text_lookup (encode_lower id
 
 -- ---- what is attested
 
--- the digest is the text, alone or behind `sha256:`
+-- the digest is the text, alone or after `sha256:`
 abbrev pub IsDigest : List ℕ → List ℕ → Type 0
 IsDigest digest sha256 =
     (digest ≡ codes "sha256:" ++ sha256)

@@ -49,10 +49,10 @@ struct Evidence {
 /// Reads what a bundle of `cosign` attests of the image whose manifest has the digest `source_image_digest`, which may
 /// begin with `sha256:`. Errors, the first that applies, all of them `UnexpectedError` but those that say so:
 ///
-/// - `BundleUnreadable`: the bytes are no bundle, as [`read_bundle`] says;
-/// - `ContentNotDsse`: its content is no envelope;
+/// - `BundleUnreadable`: the bytes are not a bundle, as [`read_bundle`] says;
+/// - `ContentNotDsse`: its content is not an envelope;
 /// - `PayloadType`: the payload's type is not `application/vnd.in-toto+json`;
-/// - `Statement`: the payload is no statement;
+/// - `Statement`: the payload is not a statement;
 /// - `StatementType`, `PredicateType`, `NoSubjects`, `FirstSubjectWithoutSha256`: it is none of `cosign`, as
 ///   [`validate_cosign_v1`](sig_dsse::InTotoStatementV1::validate_cosign_v1) says;
 /// - `SubjectDigest`: the first subject's SHA-256 is not `source_image_digest` without a leading `sha256:`;

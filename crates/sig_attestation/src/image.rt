@@ -94,7 +94,7 @@ fn without_prefix(digest: &str) -> &str
     }
 }
 
-/// What is behind `sha256:` at the text's front.
+/// What is after `sha256:` at the text's front.
 fn after_prefix(digest: &str) -> Option<&str>
     ensures { option_map (λ t. t.now) result ≡ after_separator (codes "sha256:") digest.now }
 {

@@ -26,10 +26,10 @@ use std::alloc::Global;
 /// - `Empty`: there is no head;
 /// - `NoteKey`: the checker accepts none of the head's signatures under the key;
 /// - `Origin`: the head's origin is not that of the first head;
-/// - `Consistency`: the head's hashes are no consistency proof from the head before it, with the error of
+/// - `Consistency`: the head's hashes are not a consistency proof from the head before it, with the error of
 ///   [`sig_merkle::verify_consistency`];
 /// - `Head`: the head of the watch is the index of no head;
-/// - `Inclusion`: the hashes of the watch are no audit path of its entry under its head, with the error of
+/// - `Inclusion`: the hashes of the watch are not an audit path of its entry under its head, with the error of
 ///   [`sig_merkle::verify_inclusion`];
 /// - `OutOfMemory`.
 ///

@@ -158,7 +158,7 @@ over-replied text request heads r is read =
     IfOk-weaker r (IsReplyOver request heads) (IsAuditReply text)
     (λ reply. over text request heads reply (record { meant = is; read = read }))
 
--- the first head whose text is no checkpoint
+-- the first head whose text is not a checkpoint
 pub unread-head : (text : List ℕ) (request : AuditRequest) (place : ℕ) → IsRequestOf audit_request text request
     → IsFirstUnread request.heads place → IsUnread text (Checkpoint place)
 unread-head text request place is first = inr (place, refl, (request, is, first))
@@ -170,7 +170,7 @@ unread-replied text request place r is first =
     IfOk-weaker r (λ reply. reply ≡ refusal_at (codes "checkpoint") place) (IsAuditReply text)
     (first-replied text (Checkpoint place) (inl (unread-head text request place is first)))
 
--- the text is no request
+-- the text is not a request
 pub no-request : (text : List ℕ) (found : Option AuditRequest) → found ≡ None → IsReadFrom audit_request text found
     → IsUnread text Request
 no-request text found none read = inl (refl, subst (IsReadFrom audit_request text) none read)

@@ -1,4 +1,4 @@
--- The heads of a request are one list, or one of them is the first whose text is no checkpoint.
+-- The heads of a request are one list, or one of them is the first whose text is not a checkpoint.
 use Rattle.std.proofs.Common.{zero, suc, ◌≡◌, ◌<◌, ◌≤◌, ◌+◌, ◌⊎◌, ℕ, List, [], ◌∷◌, ◌++◌, ◌∙◌, length, take, get_or, slice_get, inl, inr}
 use Rattle.std.proofs.Common.{Option, Some, None, Result, Ok, Err, IfOk, ap, arith, refl, subst, sym}
 use Rattle.std.specs.List.{AllByRecursion, AllZip}

@@ -9,7 +9,7 @@ use Rattle.sig_reply.specs.SecondLine.{ShowsCollision, other_line}
 use Rattle.sig_reply.specs.declared.reply.Reply.{Reply}
 use Rattle.sig_request.specs.declared.audit_request.AuditRequest.{AuditRequest}
 
--- the number of heads, that of watched entries, and the last size; behind them the second line
+-- the number of heads, that of watched entries, and the last size; after them the second line
 abbrev pub audited : ℕ → ℕ → ℕ → List ℕ → Reply
 audited heads watched size second = record {
   status = 0;

@@ -29,7 +29,7 @@ pub record EveryLinkHolds (text : List ℕ) : Type 0 where
   pub is : IsReadAs text request heads
   pub audited : IsAudited (accepts request) heads request.watched
 
--- the text is no request, or a head of it is no checkpoint, the first such
+-- the text is not a request, or a head of it is not a checkpoint, the first such
 abbrev pub IsUnread : List ℕ → AuditLink → Type 0
 IsUnread text link =
     ((link ≡ Request) × ((request : AuditRequest) → ¬ IsRequestOf audit_request text request))
@@ -53,8 +53,8 @@ pub record EndsAt (text : List ℕ) (link : AuditLink) : Type 0 where
   pub fault : IsAuditFault (accepts request) heads request.watched e
   pub named : link_of e ≡ Some link
 
--- The link is the first that does not hold of a text: it is no request; or a head's text is no checkpoint; or the heads
--- are read, and their audit ends there.
+-- The link is the first that does not hold of a text: it is not a request; or a head's text is not a checkpoint; or the
+-- heads are read, and their audit ends there.
 abbrev pub IsFirstFailing : List ℕ → AuditLink → Type 0
 IsFirstFailing text link = IsUnread text link ⊎ EndsAt text link
 

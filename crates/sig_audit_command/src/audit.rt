@@ -15,7 +15,7 @@ use std::alloc::Global;
 /// the last head, with status 0 if every link holds, and the second line where the request gives the log's entries.
 /// Else, with status 1, the first link that fails and the index of its head or watched entry: `refused checkpoint I` of
 /// the heads in order, then `refused note-key I`, `refused origin I` or `refused consistency I` of each head in turn,
-/// then `refused inclusion I` of the watched entries in order; and `refused request` with status 2 if the text is no
+/// then `refused inclusion I` of the watched entries in order; and `refused request` with status 2 if the text is not a
 /// request of `audit`. Fails only if out of memory.
 ///
 /// So of an audited log each head has the size and the root of the first entries of the list that the last one has, and

@@ -11,7 +11,7 @@ use std::alloc::Global;
 /// Why there are no heads.
 #[derive(Clone, Copy)]
 pub enum NoHeads {
-    /// The text of the head at this index is no checkpoint, and it is the first such.
+    /// The text of the head at this index is not a checkpoint, and it is the first such.
     Checkpoint(usize),
     /// Out of memory.
     OutOfMemory,
@@ -28,8 +28,8 @@ impl From<OutOfMemory> for NoHeads {
     }
 }
 
-/// Returns the heads of a request. Fails if the text of one is no checkpoint, with the index of the first, or if out of
-/// memory.
+/// Returns the heads of a request. Fails if the text of one is not a checkpoint, with the index of the first, or if out
+/// of memory.
 #[tactic(auto, using(crate::proofs::Heads::heads_read))]
 pub fn read_heads(alloc: Global, texts: &[HeadText]) -> Result<Heads, NoHeads>
     ensures ok { IfOk result (AreHeads texts.now) }
@@ -48,7 +48,7 @@ pub fn read_heads(alloc: Global, texts: &[HeadText]) -> Result<Heads, NoHeads>
     Ok(heads)
 }
 
-/// The head of a text; `None` if and only if the text is no checkpoint.
+/// The head of a text; `None` if and only if the text is not a checkpoint.
 fn read_head(alloc: Global, text: &HeadText) -> Result<Option<AuditHead>, OutOfMemory>
     ensures { IfOk result (λ found. MatchOption found (¬ HasReading text.now) (IsHead text.now)) }
 {

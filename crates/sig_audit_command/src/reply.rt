@@ -46,7 +46,7 @@ fn audited_reply(
     audited_lines(alloc, heads.len(), request.watched.len(), size, &second)
 }
 
-/// `audited K W N`, and the second line behind it.
+/// `audited K W N`, and the second line after it.
 fn audited_lines(
     alloc: Global,
     heads: usize,

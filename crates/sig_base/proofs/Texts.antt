@@ -54,7 +54,7 @@ module _ {V : Type 0} where
   below_next text [] e rest below = below.0
   below_next text (x ∷ es) e rest below = below_next text es e rest below.1
 
-  -- the next of ascending entries goes behind those before it
+  -- the next of ascending entries goes after those before it
   pub text_put-next : (es : List (List ℕ × V)) (e : List ℕ × V) (rest : List (List ℕ × V))
       → KeysAscend (es ++ e ∷ rest)
       → text_put e.0 e.1 es ≡ es ++ e ∷ []
@@ -65,7 +65,7 @@ module _ {V : Type 0} where
       nat_list_cmp_total.antisymm e.0 x.0 ∙ ap ordering_reverse (below_next x.0 es e rest up.0) in
       rw (above, text_put-next es e rest up.1) refl
 
-  -- with the next entry put behind, what was walked and what is left are still the map
+  -- with the next entry put after, what was walked and what is left are still the map
   pub text_put-walked : (walked left after all : List (List ℕ × V)) (e : List ℕ × V)
       → KeysAscend all → walked ++ left ≡ all → left ≡ e ∷ after
       → text_put e.0 e.1 walked ++ after ≡ all

@@ -29,7 +29,7 @@ impl Bytes {
         Ok(Bytes { held })
     }
 
-    /// Returns one byte, and behind it the bytes of both slices. Fails only if out of memory.
+    /// Returns one byte, and after it the bytes of both slices. Fails only if out of memory.
     pub fn join(alloc: Global, first: u8, left: &[u8], right: &[u8]) -> Result<Bytes, OutOfMemory>
         ensures { IfOk result (λ b. b ≡ first ∷ left.now ++ right.now) }
     {

@@ -14,21 +14,21 @@ pub type Result<T> = std::result::Result<T, SigstoreError>;
 /// Why a call fails. Each variant is one cause, and keeps indices, seconds or faults and no sentences.
 #[derive(Debug, Drop)]
 pub enum SigstoreError {
-    /// A text is no padded standard base64.
+    /// A text is not padded standard base64.
     Base64DecodeError,
-    /// A text is no hexadecimal digits of whole bytes.
+    /// A text is not the hexadecimal digits of whole bytes.
     HexDecodeError,
-    /// Bytes are no UTF-8.
+    /// Bytes are not UTF-8.
     Utf8Error,
     /// A document is none of its kind.
     SerdeJsonError,
-    /// A text is no signed checkpoint.
+    /// A text is not a signed checkpoint.
     ParseCheckpointError(CheckpointFault),
     /// A SubjectPublicKeyInfo is of a kind that is not supported.
     PublicKeyUnsupportedAlgorithmError,
     /// The checker does not accept a signature.
     PublicKeyVerificationError,
-    /// Bytes are no SubjectPublicKeyInfo.
+    /// Bytes are not a SubjectPublicKeyInfo.
     KeyParsingError,
     /// The checker accepts none of a checkpoint's signatures.
     CheckpointSignatureVerificationError,
@@ -56,7 +56,7 @@ pub enum SigstoreError {
     CertificatePoolError(PoolError),
     /// A part of a certificate is malformed.
     CertificateParsingError,
-    /// Bytes are no certificate.
+    /// Bytes are not a certificate.
     X509Error,
     /// A checkpoint and a proof, or two heads, do not agree.
     ConsistencyProofError(MerkleProofError),
@@ -68,7 +68,7 @@ pub enum SigstoreError {
     SigstorePKIFileMalformedError(PkiFault),
     /// The trusted root has nothing of this part at the time asked.
     TufMetadataError(TrustPart),
-    /// A text is no identity token of Sigstore.
+    /// A text is not an identity token of Sigstore.
     IdentityTokenError(TokenFault),
     /// A layer is of another media type.
     SigstoreMediaTypeNotFoundError,

@@ -2,7 +2,7 @@
 use crate::memory::OutOfMemory;
 use thiserror::Error;
 
-/// Why bytes are no DER element, or no value of the wanted kind. Its reader takes no memory.
+/// Why bytes are not a DER element, or not a value of the wanted kind. Its reader takes no memory.
 #[derive(Clone, Copy, Debug, PartialEq, Eq, Error)]
 pub enum DerError {
     /// Bytes are missing.
@@ -20,12 +20,12 @@ pub enum DerError {
     /// The element has another tag.
     #[error("WrongTag")]
     WrongTag,
-    /// The content is no value of the element's type.
+    /// The content is not a value of the element's type.
     #[error("Value")]
     Value,
 }
 
-/// Why a text is no signed checkpoint: the rule of the checkpoint format that is broken first.
+/// Why a text is not a signed checkpoint: the rule of the checkpoint format that is broken first.
 #[derive(Clone, Copy, Debug, PartialEq, Eq, Error)]
 pub enum CheckpointFault {
     /// No empty line ends a note text.
@@ -49,7 +49,7 @@ pub enum CheckpointFault {
     /// The origin is only white space.
     #[error("EmptyOrigin")]
     EmptyOrigin,
-    /// The size is no decimal below 2^64.
+    /// The size is not a decimal below 2^64.
     #[error("Size")]
     Size,
     /// The hash is not base64.
@@ -66,13 +66,13 @@ pub enum PoolError {
     /// There is this number of intermediates, above 1024.
     #[error("TooMany")]
     TooMany(usize),
-    /// The certificate at this index of the list is no trust anchor.
+    /// The certificate at this index of the list is not a trust anchor.
     #[error("Anchor")]
     Anchor(usize),
-    /// The leaf does not meet the certificate profile, or its bytes are no certificate.
+    /// The leaf does not meet the certificate profile, or its bytes are not a certificate.
     #[error("Malformed")]
     Malformed,
-    /// Neither a trust anchor nor an intermediate issued the leaf.
+    /// No path leads from the leaf to a trust anchor.
     #[error("VerificationFailed")]
     VerificationFailed,
     /// Out of memory.
@@ -91,7 +91,7 @@ impl From<OutOfMemory> for PoolError {
     }
 }
 
-/// Why a text is no identity token of Sigstore.
+/// Why a text is not an identity token of Sigstore.
 #[derive(Clone, Copy, Debug, PartialEq, Eq, Error)]
 pub enum TokenFault {
     /// The text is not three parts joined by points.
@@ -100,7 +100,7 @@ pub enum TokenFault {
     /// The second part is not unpadded base64.
     #[error("ClaimsBase64")]
     ClaimsBase64,
-    /// The second part's bytes are no object of claims.
+    /// The second part's bytes are not an object of claims.
     #[error("ClaimsJson")]
     ClaimsJson,
     /// The audience is not `sigstore`.
@@ -111,7 +111,7 @@ pub enum TokenFault {
 /// Why a client's trust configuration could not be used.
 #[derive(Clone, Copy, Debug, PartialEq, Eq, Error)]
 pub enum PkiFault {
-    /// The bytes are no client configuration.
+    /// The bytes are not a client configuration.
     #[error("NotReadable")]
     NotReadable,
     /// The configuration has no trusted root.

@@ -4,13 +4,13 @@ use std::fmt;
 /// What was not as the call expects it, in the order in which the calls of a bundle look at it.
 #[derive(Clone, Copy, Debug, PartialEq, Eq)]
 pub enum UnexpectedKind {
-    /// The bytes are no bundle.
+    /// The bytes are not a bundle.
     BundleUnreadable,
-    /// The content is no envelope.
+    /// The content is not an envelope.
     ContentNotDsse,
     /// The envelope's payload type is another one.
     PayloadType,
-    /// The payload is no in-toto statement.
+    /// The payload is not an in-toto statement.
     Statement,
     /// The statement's type is another one.
     StatementType,
@@ -26,7 +26,7 @@ pub enum UnexpectedKind {
     SignatureCount(usize),
     /// The bundle has no verification material.
     MaterialMissing,
-    /// The verification material is no single certificate.
+    /// The verification material is not a single certificate.
     MaterialNotCertificate,
     /// The bundle has this number of log entries, which is not one.
     EntryCount(usize),
@@ -56,7 +56,7 @@ pub enum UnexpectedKind {
     CanonicalBody,
     /// The log body speaks of another signature, key or digest.
     Body,
-    /// The layer's bytes are no simple signing document.
+    /// The layer's bytes are not a simple signing document.
     LayerUnreadable,
     /// The layer speaks of another image.
     ImageDigest,

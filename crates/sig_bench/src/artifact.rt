@@ -41,7 +41,7 @@ pub fn hashed(count: u64) -> u64 {
 }
 
 /// Verifies the bundle that this text is of an artifact of so many zero bytes, where nothing is trusted. Returns 0;
-/// `None` if the text is no bundle, or the artifact could not be read.
+/// `None` if the text is not a bundle, or the artifact could not be read.
 pub fn verified(alloc: Global, text: &[u8], count: u64) -> Option<u64> {
     let bundle = read_bundle(alloc, text).ok()?;
     untrusted(alloc, &bundle, count)

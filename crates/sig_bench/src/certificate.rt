@@ -3,7 +3,7 @@
 use sig_certificate::Certificate;
 use std::alloc::Global;
 
-/// Returns how many extensions were read in all; `None` if the bytes are no certificate.
+/// Returns how many extensions were read in all; `None` if the bytes are not a certificate.
 pub fn extensions_of(alloc: Global, der: &[u8], times: u64) -> Option<u64> {
     let mut extensions = 0u64;
     for _ in 0..times {

@@ -27,7 +27,7 @@ pub fn of_payload(alloc: Global, payload: &[u8]) -> Option<u64> {
 }
 
 /// Takes this text as the signature of a layer, and asks whether a key signed it. Returns 0 if it did, and 1 if not;
-/// `None` if out of memory or the bytes are no text.
+/// `None` if out of memory or the bytes are not a text.
 pub fn of_signature(alloc: Global, signature: &[u8]) -> Option<u64> {
     let unsigned = SignatureLayer::new_unsigned(alloc, "image", MANIFEST).ok()?;
     made(
@@ -39,7 +39,7 @@ pub fn of_signature(alloc: Global, signature: &[u8]) -> Option<u64> {
 }
 
 /// Reads this text as what a log promised of a layer. Returns 0 if the log signed it, and 1 if it is refused; `None` if
-/// out of memory or the bytes are no text.
+/// out of memory or the bytes are not a text.
 pub fn of_promise(alloc: Global, promise: &[u8]) -> Option<u64> {
     let unsigned = SignatureLayer::new_unsigned(alloc, "image", MANIFEST).ok()?;
     made(

@@ -71,7 +71,7 @@ hashes-only place [] is = refl
 hashes-only place (bytes ∷ others) is =
     rw (hash_or-only (HashLength place) bytes is.0, hashes-only (place + 1) others is.1) refl
 
--- the first that is no hash, in a list that goes on from this index
+-- the first that is not a hash, in a list that goes on from this index
 record Fails (place : ℕ) (all : List (List ℕ)) (e : ProofFieldsError) : Type 0 where
   index : ℕ
   named : e ≡ HashLength (place + index)

@@ -35,7 +35,7 @@ HasSize fields = (size : ℕ) × (fields.tree_size ≡ pos size)
 abbrev pub OfText : ProofFields → (List ℕ → Type 0) → Type 0
 OfText fields P = (text : List ℕ) × (fields.checkpoint ≡ Some text) × P text
 
--- the first of the byte strings that is no hash has this index
+-- the first of the byte strings that is not a hash has this index
 pub record IsFirstOther (hashes : List (List ℕ)) (index : ℕ) : Type 0 where
   pub before : List (List ℕ)
   pub other : List ℕ

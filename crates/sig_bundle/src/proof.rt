@@ -20,7 +20,7 @@ impl ProofFields {
     /// - `HashLength` with the index of the first hash that has not 32 bytes;
     /// - `TreeSize`: the size is negative;
     /// - `CheckpointMissing`: there is no checkpoint;
-    /// - `Checkpoint`: its text is no checkpoint, with the fault of [`SignedCheckpoint::decode`].
+    /// - `Checkpoint`: its text is not a checkpoint, with the fault of [`SignedCheckpoint::decode`].
     pub fn to_proof(&self, alloc: Global) -> std::result::Result<InclusionProof, ProofFieldsError>
         // A proof is returned if and only if the members are it, and an error if and only if its cause is the first.
         ensures exact { AnswersOnly ProofFieldsError.OutOfMemory (IsProofOrFault self.now) result }

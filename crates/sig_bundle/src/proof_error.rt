@@ -1,12 +1,12 @@
-//! `ProofFieldsError`: why the members of an inclusion proof are no proof.
+//! `ProofFieldsError`: why the members of an inclusion proof are not a proof.
 ghost use Rattle.std.specs.Prelude.{◌≡◌};
 ghost use Rattle.sig_bundle.specs.declared.proof_error.ProofFieldsError.TheVariants.{OutOfMemory as Memory};
 
 use sig_base::{CheckpointFault, OutOfMemory};
 use thiserror::Error;
 
-/// Why the members of an inclusion proof are no proof that can be checked, or that memory ran out. The variants are in
-/// the order of the checks.
+/// Why the members of an inclusion proof are not a proof that can be checked, or that memory ran out. The variants are
+/// in the order of the checks.
 #[derive(Clone, Copy, Debug, PartialEq, Eq, Error)]
 pub enum ProofFieldsError {
     /// The root hash has not 32 bytes.

@@ -5,7 +5,7 @@ use std::fmt::{Debug, Display, Write};
 
 /// The line that is written for a case: items, one space between two of them.
 ///
-/// No call of it fails: out of memory is kept, and ends the program behind the case. So a case needs no `?`, which
+/// No call of it fails: out of memory is kept, and ends the program after the case. So a case needs no `?`, which
 /// would have to be proved together with all that the case owns there.
 #[derive(Drop)]
 pub struct Answer {
@@ -91,7 +91,7 @@ impl Answer {
         }
     }
 
-    /// Adds the Display text of an error in brackets, unless the text behind `before` begins with it as a name.
+    /// Adds the Display text of an error in brackets, unless the text after `before` begins with it as a name.
     fn name<E: Display>(&mut self, error: &E, before: usize) {
         match format!(in self.alloc; "{error}") {
             Ok(name) => {
@@ -111,7 +111,7 @@ impl Answer {
         self.value(&"bad line");
     }
 
-    /// Ends the program behind the case. For a call that fails only if out of memory.
+    /// Ends the program after the case. For a call that fails only if out of memory.
     pub fn out_of_memory(&mut self) {
         self.is_out_of_memory = true;
     }
@@ -126,7 +126,7 @@ impl Answer {
     }
 }
 
-/// Whether the Debug text of a variant, behind `before`, begins with this name.
+/// Whether the Debug text of a variant, after `before`, begins with this name.
 fn begins_with_name(text: &str, before: usize, name: &str) -> bool {
     let debug = match text.get(before..) {
         Some(debug) => debug.trim_start(),

@@ -15,7 +15,7 @@ pub struct Arguments<'a> {
 }
 
 impl<'a> Arguments<'a> {
-    /// Cuts a line at its first space: returns what is before it, the name of the call, and the arguments behind it.
+    /// Cuts a line at its first space: returns what is before it, the name of the call, and the arguments after it.
     pub(crate) fn of_line(alloc: Global, line: &'a str) -> (&'a str, Arguments<'a>) {
         let (call, rest) = match line.split_once(' ') {
             Some((call, rest)) => (call, Some(rest)),

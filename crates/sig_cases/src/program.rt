@@ -30,7 +30,7 @@ fn text_of(answer: &Answer) -> Result<&str, CaseError> {
     answer.line().ok_or(CaseError::OutOfMemory)
 }
 
-/// Whether a line is no case: an empty one, or one that begins with `#`.
+/// Whether a line is not a case: an empty one, or one that begins with `#`.
 fn is_comment(line: &str) -> bool {
     line.is_empty() || line.starts_with('#')
 }

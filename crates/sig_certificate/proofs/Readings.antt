@@ -24,13 +24,13 @@ not_read e = Err e
 pub read_same : (c d : Cert) → read d ≡ read c → d ≡ c
 read_same c d same = ok_is d c same
 
--- `Der` says that the text is no certificate
+-- `Der` says that the text is not a certificate
 pub der_only : (text : List ℕ) (e : X509ReadError) → e ≡ Der
     → ComesWhere OutOfMemory (not_read e) (not_read Der) ((c : Cert) → ¬ IsCertificate text c)
     → (c : Cert) → ¬ IsCertificate text c
 der_only text e is comes = comes.0 (ap not_read is)
 
--- a text that is cut into no parts is no certificate
+-- a text that is cut into no parts is not a certificate
 pub no_parts : (text : List ℕ) → ((p : Parts) (a b : ℤ) → HasCertificateParts text p a b → ⊥) → (c : Cert)
     → IsCertificate text c → ⊥
 no_parts text none c is = let r = certificate_again text c is in none r.parts c.not_before c.not_after r.cut
@@ -53,7 +53,7 @@ read_is text p a b es cut read c is =
     let list = some_is es c.extensions (sym read ∙ ap (λ (w : Parts). many_at extension_at w.list) same.0 ∙ r.list) in
     sym r.is ∙ same_certificate text p r.parts a b c.not_before c.not_after es c.extensions same.0 same.1 same.2 list
 
--- a text whose list is none of extensions is no certificate
+-- a text whose list is none of extensions is not a certificate
 pub no_list : (text : List ℕ) (p : Parts) (a b : ℤ) → IsCutAs text p a b → many_at extension_at p.list ≡ None
     → (c : Cert) → IsCertificate text c → ⊥
 no_list text p a b cut none c is =

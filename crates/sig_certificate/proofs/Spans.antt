@@ -12,7 +12,7 @@ use Rattle.sig_certificate.specs.Places.{extension_of}
 use Rattle.sig_certificate.specs.declared.extensions.ExtensionPlaces.{ExtensionPlaces}
 use Rattle.sig_certificate.specs.declared.lookup.ExtensionRef.{ExtensionRef}
 
--- the part from a place behind the end of the text is none
+-- the part from a place after the end of the text is none
 past_end : (bytes : List ℕ) (start end : ℕ) → length bytes ≤ start → slice_range bytes start end ≡ []
 past_end bytes start end le =
     ap (λ (w : List ℕ). take (end - start) w) (drop_all start bytes le) ∙ take_all (end - start) [] (omega arith)

@@ -18,7 +18,7 @@ pub record Extension : Type 0 where
   pub value : List ℕ
   pub whole : List ℕ
 
--- A certificate. Every part that is no number and no truth value is a part of its text; the times are seconds since
+-- A certificate. Every part that is neither a number nor a truth value is a part of its text; the times are seconds since
 -- 1970.
 pub record Cert : Type 0 where
   pub whole : List ℕ

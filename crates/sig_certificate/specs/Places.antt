@@ -50,7 +50,7 @@ pub record AreSpans (end : ℕ) (e : ExtensionPlaces) : Type 0 where
   pub value : IsSpan end e.value
   pub whole : IsSpan end e.whole
 
--- each extension begins before those behind it
+-- each extension begins before those after it
 abbrev pub Ascend : List ExtensionPlaces → Type 0
 Ascend es = AllPairs (λ d e. d.whole.start < e.whole.start) es
 

@@ -48,7 +48,7 @@ impl Certificate {
     /// `are_single` tells.
     ///
     /// Fails with
-    /// - `Der` if and only if the bytes are no certificate;
+    /// - `Der` if and only if the bytes are not a certificate;
     /// - `OutOfMemory` if memory ran out for the copy of the bytes or the list of the extensions.
     pub fn try_from_der(alloc: Global, der: &[u8]) -> Result<Certificate, X509ReadError>
         // What is returned is the certificate.
@@ -56,7 +56,7 @@ impl Certificate {
         // A certificate is returned, unless memory ran out.
         ensures only { (c : Cert) → IsCertificate der.now c
             → Answers X509ReadError.OutOfMemory (λ r. r) result (Ok c) }
-        // `Der` comes only where the bytes are no certificate, and there nothing else does, unless memory ran out.
+        // `Der` comes only where the bytes are not a certificate, and there nothing else does, unless memory ran out.
         ensures refused { ComesWhere X509ReadError.OutOfMemory result (Err X509ReadError.Der)
             ((c : Cert) → ¬ IsCertificate der.now c) }
     {

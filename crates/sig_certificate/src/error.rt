@@ -1,4 +1,4 @@
-//! Why bytes are no certificate.
+//! Why bytes are not a certificate.
 
 ghost use Rattle.std.specs.Prelude.{◌≡◌};
 ghost use Rattle.sig_certificate.specs.declared.error.X509ReadError.TheVariants.{OutOfMemory as Memory};
@@ -10,7 +10,7 @@ use thiserror::Error;
 /// Why a certificate was not read.
 #[derive(Clone, Copy, Debug, PartialEq, Eq, Error)]
 pub enum X509ReadError {
-    /// The bytes are no certificate.
+    /// The bytes are not a certificate.
     #[error("Der")]
     Der,
     /// Memory ran out.

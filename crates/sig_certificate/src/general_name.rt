@@ -69,8 +69,8 @@ fn other_name(bytes: &[u8]) -> Option<(&[u8], &[u8])>
     Some((oid.content, value))
 }
 
-/// Returns the name that an element of this tag and these contents octets is. `None` if it is no name, or a malformed
-/// one.
+/// Returns the name that an element of this tag and these contents octets is. `None` if it is not a name, or a
+/// malformed one.
 #[tactic(auto, unfolding(crate::specs::Names::general_name_of))]
 fn general_name_of(tag: u8, content: &[u8]) -> Option<GeneralName<'_>>
     ensures { general_name_of tag content.now ≡ option_map borrowed_name result }

@@ -60,8 +60,8 @@ pub fn subject_alternative_names(value: &[u8])
     let _value = value;
 }
 
-/// The lines of a certificate in PEM are the base64 of all its bytes, of 64 characters each but for the last (RFC 7468
-/// section 2).
+/// The lines of a certificate in PEM are the base64 of all its bytes, of 64 characters each except for the last (RFC
+/// 7468 section 2).
 pub fn pem_lines()
     ensures { (der : List ℕ) → IsWrappedBase64 der (lines_of der) }
 {}

@@ -73,7 +73,7 @@ pub(crate) struct Places {
     pub(crate) list: Span,
 }
 
-/// Reads the parts of the certificate that the bytes are, but for what its extensions are. `None` if they are none.
+/// Reads the parts of the certificate that the bytes are, except for what its extensions are. `None` if they are none.
 pub(crate) fn parts_of(der: &[u8]) -> Option<Places>
     ensures cut { parts_at der.now ≡ option_map (parts_of der.now) result }
     ensures within { IfSome result (ArePlaces (length der.now)) }
@@ -81,7 +81,8 @@ pub(crate) fn parts_of(der: &[u8]) -> Option<Places>
     read_certificate(Reader::new(der))
 }
 
-/// Reads the parts of the certificate that is all that is left, but for what its extensions are. `None` if it is none.
+/// Reads the parts of the certificate that is all that is left, except for what its extensions are. `None` if it is
+/// none.
 #[tactic(auto, unfolding(crate::specs::Cutting::parts_at), using(crate::proofs::Fronts::front_is))]
 fn read_certificate(reader: Reader<'_>) -> Option<Places>
     ensures cut { parts_at (left reader.entry) ≡ option_map (parts_of reader.entry.bytes.now) result }
@@ -148,7 +149,7 @@ fn read_head(reader: Reader<'_>) -> Option<(Head, Reader<'_>)>
     Some((head, rest))
 }
 
-/// Reads the version, which is 1 if the field is absent. `None` if it is malformed or no known version.
+/// Reads the version, which is 1 if the field is absent. `None` if it is malformed or not a known version.
 #[tactic(auto, unfolding(crate::specs::Cutting::version_at))]
 fn read_version(reader: Reader<'_>) -> Option<(u8, Reader<'_>)>
     ensures cut { version_at (left reader.entry) ≡ option_map value_read result }

@@ -6,7 +6,7 @@ ghost use Rattle.sig_certificate.specs.declared.profile_error.CertificateValidat
 
 use thiserror::Error;
 
-/// Why a certificate is no leaf, no authority or no root.
+/// Why a certificate is not a leaf, an authority or a root.
 #[derive(Clone, Copy, Debug, PartialEq, Eq, Error)]
 pub enum CertificateValidationError {
     /// The version is not 3.
@@ -15,10 +15,10 @@ pub enum CertificateValidationError {
     /// An extension is malformed, or a duplicate.
     #[error("Malformed")]
     Malformed,
-    /// The certificate is no leaf.
+    /// The certificate is not a leaf.
     #[error("NotLeaf")]
     NotLeaf(NotLeafErrorKind),
-    /// The certificate is no authority, or no root.
+    /// The certificate is not an authority, or not a root.
     #[error("NotCA")]
     NotCA(NotCAErrorKind),
     /// An extension is missing, or is not as it has to be.
@@ -26,7 +26,7 @@ pub enum CertificateValidationError {
     Extension(ExtensionErrorKind),
 }
 
-/// Why a certificate is no leaf.
+/// Why a certificate is not a leaf.
 #[derive(Clone, Copy, Debug, PartialEq, Eq, Error)]
 pub enum NotLeafErrorKind {
     /// It is an authority.
@@ -34,7 +34,7 @@ pub enum NotLeafErrorKind {
     IsCA,
 }
 
-/// Why a certificate is no authority, or no root.
+/// Why a certificate is not an authority, or not a root.
 #[derive(Clone, Copy, Debug, PartialEq, Eq, Error)]
 pub enum NotCAErrorKind {
     /// Neither cA nor keyCertSign is set.

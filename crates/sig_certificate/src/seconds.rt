@@ -6,7 +6,7 @@ ghost use Rattle.sig_certificate.specs.Places.{IsPlace};
 
 use sig_der::{Element, Place, time_of};
 
-/// Returns the second since 1970 of the time that this element is. `None` if it is no time.
+/// Returns the second since 1970 of the time that this element is. `None` if it is not a time.
 pub(crate) fn second_at(bytes: &[u8], place: Place) -> Option<i64>
     requires { IsPlace (length bytes.now) place }
     ensures found { IfSome result (IsTimeOf place.tag (slice_range bytes.now place.content place.end)) }

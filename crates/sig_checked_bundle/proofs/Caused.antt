@@ -169,7 +169,7 @@ payload-caused b h kind told =
           refl some.2
     ]
 
--- behind the digests nothing of an envelope is refused
+-- after the digests nothing of an envelope is refused
 kept-caused : (b : Bundle) (kind : BundleErrorKind) (kept : List ArtifactDigest → ContentWithSignature)
     (found : Result (List ArtifactDigest) BundleErrorKind)
     → (found ≡ Err kind → IsCause kind b) → (found >>= λ digests. Ok (kept digests)) ≡ Err kind → IsCause kind b

@@ -1,4 +1,4 @@
--- The checks behind the certificates', where the certificates are known.
+-- The checks after the certificates', where the certificates are known.
 use Rattle.std.proofs.Common.{◌≡◌, ◌⊎◌, inl, inr, Option, Some, Result, Ok, Err, refl, sym, ap, subst, ◌∙◌}
 use Rattle.sig_base.specs.Answers.{Answers, UnlessMemory}
 use Rattle.sig_base.proofs.ResultSteps.{err_is, ok_is}
@@ -98,7 +98,7 @@ goes_on b m c signer r other (inl is) answers of = absurd cc
 goes_on b m c signer r other (inr same) (inl e) of = inl e
 goes_on b m c signer r other (inr same) (inr e) of = inr (joined b m signer (Ok c) r other same e of)
 
--- the answer behind that of the certificates
+-- the answer after that of the certificates
 pub goes : (b : Bundle) → (m : VerificationMaterial) → (c : SigningChain) → (r : Result Checked BundleErrorKind)
     → AnswersOnly OutOfMemory (IsSigningCertificate m.content) (Ok c)
     → Answers OutOfMemory (λ x. x) r (checked b m (Ok c))

@@ -125,7 +125,7 @@ from_statement b h fault cause =
     from_payload b h.before (subject_refusal fault)
     (rw (h.stated, (faults_have_their_cause h.statement fault).1 cause) refl)
 
--- what is made of the content, behind it
+-- what is made of the content, after it
 abbrev behind_content : Bundle → VerificationMaterial → SigningChain → ContentWithSignature
     → Result Checked BundleErrorKind
 behind_content b material chain content =

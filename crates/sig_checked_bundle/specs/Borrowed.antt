@@ -25,7 +25,7 @@ seen_content s = record { signature = s.signature; content = s.content }
 abbrev pub IsUnreadAt : ℕ → List ℕ → BundleErrorKind → Type 0
 IsUnreadAt index der e = OrMemory OutOfMemory e ((e ≡ CertificateMalformed index) × IsNoCertificate der)
 
--- why the encodings behind the first are not read
+-- why the encodings after the first are not read
 abbrev pub AreUnreadBehind : List (List ℕ) → BundleErrorKind → Type 0
 AreUnreadBehind ders e =
     OrMemory OutOfMemory e ((index : ℕ) × (e ≡ CertificateMalformed (index + 1)) × IsFirstMalformed ders index)

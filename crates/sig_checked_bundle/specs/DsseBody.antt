@@ -26,7 +26,7 @@ body_signature_of d = do
   verifier ← required_bytes (codes "verifier") d
   Some (record { signature = signature; verifier = verifier })
 
--- the first element; those behind it may be anything
+-- the first element; those after it may be anything
 abbrev pub first_of : List Data → Option BodySignature
 first_of [] = None
 first_of (first ∷ others) = body_signature_of first

@@ -33,7 +33,7 @@ encodings_in (Some (X509CertificateChain ders)) = Some ders
 abbrev pub IsNoCertificate : List ℕ → Type 0
 IsNoCertificate der = (c : Cert) → ¬ IsCertificate der c
 
--- the encoding at this index, counted from 0, is no certificate, and all before it are
+-- the encoding at this index, counted from 0, is not a certificate, and all before it are
 abbrev pub IsFirstMalformed : List (List ℕ) → ℕ → Type 0
 IsFirstMalformed [] index = ⊥
 IsFirstMalformed (der ∷ ders) zero = IsNoCertificate der

@@ -24,7 +24,7 @@ pub enum BundleErrorKind {
     /// A chain has this number of certificates, above 17.
     #[error("TooManyCertificates")]
     TooManyCertificates(usize),
-    /// The bytes at this index, counted from 0, are no certificate.
+    /// The bytes at this index, counted from 0, are not a certificate.
     #[error("CertificateMalformed")]
     CertificateMalformed(usize),
     /// The chain of certificates is empty.
@@ -42,7 +42,7 @@ pub enum BundleErrorKind {
     /// An envelope has this number of signatures, and not one.
     #[error("DsseInvalidSignatureCount")]
     DsseInvalidSignatureCount(usize),
-    /// The payload of an envelope is no statement.
+    /// The payload of an envelope is not a statement.
     #[error("DssePayloadDecode")]
     DssePayloadDecode,
     /// A statement has this number of subjects, above 1024.

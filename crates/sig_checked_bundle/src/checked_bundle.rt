@@ -46,7 +46,7 @@ impl Model for CheckedBundle {
     } };
 }
 
-/// The checks behind the one for material.
+/// The checks after the one for material.
 fn check(
     alloc: Global,
     input: &Bundle,
@@ -72,7 +72,7 @@ fn checked_entry(
     Ok(entry.copy(alloc)?)
 }
 
-/// The checks behind that of the certificates.
+/// The checks after that of the certificates.
 fn check_behind_certificates(
     alloc: Global,
     input: &Bundle,
@@ -109,20 +109,20 @@ fn check_bundle(alloc: Global, input: &Bundle) -> Result<CheckedBundle, BundleEr
 }
 
 impl CheckedBundle {
-    /// Checks what a bundle alone can show, and keeps what the checks behind it need. Fails with the first of these
+    /// Checks what a bundle alone can show, and keeps what the checks after it need. Fails with the first of these
     /// that has its cause:
     ///
     /// 1. `VerificationMaterialMissing`: there is no verification material.
     /// 2. `VerificationMaterialContentUnsupported`: the material has no content, or a hint at a key.
     /// 3. `TooManyCertificates`: the chain has this number of certificates, above 17. None of them is read.
-    /// 4. `CertificateMalformed` with the index of the first that is no certificate (RFC 5280 section 4.1); a
+    /// 4. `CertificateMalformed` with the index of the first that is not a certificate (RFC 5280 section 4.1); a
     ///    certificate alone has index 0.
     /// 5. `CertificatesMissing`: the chain is empty.
     /// 6. `NoLeaf`: the first certificate may not sign, with the error of [`sig_certificate::is_leaf`].
     /// 7. `RootInChain`: a further certificate of the chain is a root, as [`sig_certificate::is_root_ca`] says.
     /// 8. `SignatureMissing`: there is no content.
     /// 9. `DsseInvalidSignatureCount`: an envelope has not one signature.
-    /// 10. `DssePayloadDecode`: its payload is no statement.
+    /// 10. `DssePayloadDecode`: its payload is not a statement.
     /// 11. `DsseTooManySubjects` above 1024, `DsseTooManySubjectDigests` above 32, `DsseSubjectDigestMalformed`, and
     ///     `DsseNoRecognizedSubjectDigest`, as [`sig_dsse::recognized_digests`].
     /// 12. `TlogEntry`: there is not one log entry.

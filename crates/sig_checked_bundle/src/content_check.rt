@@ -52,7 +52,7 @@ fn only_signature(signatures: &DsseSignatures) -> Result<&DsseSignature, BundleE
     }
 }
 
-/// The digests of the statement's subjects. Fails with `DssePayloadDecode` if the payload is no statement, then as
+/// The digests of the statement's subjects. Fails with `DssePayloadDecode` if the payload is not a statement, then as
 /// [`recognized_digests`](sig_dsse::recognized_digests), under the names of a bundle.
 #[tactic(auto, using(crate::proofs::PayloadDigests::payload_digests))]
 fn subject_digests(alloc: Global, payload: &[u8]) -> Result<Digests, BundleErrorKind>

@@ -190,7 +190,7 @@ impl DsseBody {
     }
 }
 
-/// What the body of an entry says. `None` if it is no document of these members.
+/// What the body of an entry says. `None` if it is not a document of these members.
 fn read_body(alloc: Global, body: &[u8]) -> Result<Option<DsseBody>, OutOfMemory>
     ensures { IfOk result (λ found. found ≡ result_ok (record_in dsse_body_of body.now)) }
 {

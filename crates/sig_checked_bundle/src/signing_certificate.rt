@@ -1,5 +1,5 @@
-//! The signing certificate of a bundle: the first of its certificates, which has to be a leaf, and behind which there
-//! is no root. The further ones are at most 16. No signature by any of their keys is checked here.
+//! The signing certificate of a bundle: the first of its certificates, which has to be a leaf, and after which there
+//! is not a root. The further ones are at most 16. No signature by any of their keys is checked here.
 
 ghost use Rattle.std.specs.Prelude.{◌≡◌, ◌∷◌, IfOk, IfErr, Some, option_map};
 ghost use Rattle.std.specs.List.{list_any};
@@ -54,7 +54,8 @@ fn read_certificate(alloc: Global, index: usize, der: &[u8]) -> Result<Certifica
     }
 }
 
-/// The further certificates, of these encodings behind the first. Fails with `CertificateMalformed` and the index of the first that is none.
+/// The further certificates, of these encodings after the first. Fails with `CertificateMalformed` and the index of the
+/// first that is none.
 fn read_further(alloc: Global, ders: &[Bytes]) -> Result<Register<Certificate>, BundleErrorKind>
     ensures found { IfOk result (AreCertificates ders.now) }
     ensures refused { IfErr result (AreUnreadBehind ders.now) }
@@ -80,7 +81,8 @@ fn has_root(certificates: &[Certificate]) -> bool
     certificates.iter().any(|certificate| is_root(certificate))
 }
 
-/// The certificates. Fails with `NoLeaf` if the first is no leaf, then with `RootInChain` if a further one is a root.
+/// The certificates. Fails with `NoLeaf` if the first is not a leaf, then with `RootInChain` if a further one is a
+/// root.
 #[tactic(auto, using(crate::proofs::SigningCertificateLaws::judgements))]
 fn judged(
     certificate: Certificate,
@@ -131,7 +133,7 @@ fn counted(alloc: Global, ders: &[Bytes]) -> Result<SigningChain, BundleErrorKin
 /// Fails with `VerificationMaterialContentUnsupported` if and only if the material holds no certificates: no content,
 /// or a hint at a key; then with `TooManyCertificates` and their number if there are more than 17, of which none is
 /// read; with `CertificateMalformed` and the index of the first that is none, `CertificatesMissing` if a chain is empty,
-/// `NoLeaf` if the first is no leaf, and `RootInChain` if a further one is a root.
+/// `NoLeaf` if the first is not a leaf, and `RootInChain` if a further one is a root.
 pub(crate) fn signing_chain(
     alloc: Global,
     content: &Option<MaterialContent>,

@@ -15,7 +15,7 @@ abbrev pub object_or_empty : Option Members → Data
 object_or_empty None = object no_members
 object_or_empty (Some ms) = object ms
 
--- an object: without members where there are none, and where they are no object
+-- an object: without members where there are none, and where they are not an object
 abbrev pub annotations_of : Option Beside → Data
 annotations_of None = object no_members
 annotations_of (Some beside) = object_or_empty (as_object beside.extra)

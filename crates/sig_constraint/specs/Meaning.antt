@@ -16,7 +16,7 @@ abbrev pub IsUnchanged : SignatureLayer → SignatureLayer → Type 0
 IsUnchanged old new = seen_layer new ≡ seen_layer old
 
 -- The layer that the constraint gives, if it applies; if not, the layer is unchanged. An error leaves the layer
--- unchanged too, and but for out of memory comes only if the constraint does not apply.
+-- unchanged too, and except for out of memory comes only if the constraint does not apply.
 abbrev pub IsApplied : Option Layer → SignatureLayer → SignatureLayer → Result Bool SigstoreError → Type 0
 IsApplied given old new (Ok true) = given ≡ Some (seen_layer new)
 IsApplied given old new (Ok false) = (given ≡ None) × IsUnchanged old new

@@ -15,7 +15,7 @@ use std::alloc::Global;
 /// Checks that the pool of a chain finds the certificate's issuer now, in seconds since 1970; without a chain nothing is
 /// asked. Errors, the first that applies:
 ///
-/// - `CertificatePoolError(Anchor)` with the index of the first of the chain that is no trust anchor;
+/// - `CertificatePoolError(Anchor)` with the index of the first of the chain that is not a trust anchor;
 /// - `CertificatePoolError` of `Malformed` or `VerificationFailed`, as [`CertificatePool::verify_cert_with_time`] says;
 /// - `OutOfMemory`.
 pub(crate) fn check_chain<C: SignatureChecker>(

@@ -42,10 +42,10 @@ impl<C: SignatureChecker + Drop> CertificateVerifier<C> {
     ///
     /// Errors, the first that applies:
     ///
-    /// - `X509Error`: the bytes are no certificate (RFC 5280 section 4.1);
+    /// - `X509Error`: the bytes are not a certificate (RFC 5280 section 4.1);
     /// - those of [`verify_key_usages`], [`verify_has_san`] and [`verify_validity`] by now;
-    /// - if a chain is given, `CertificatePoolError`: of `Anchor` with the index of the first of the chain that is no trust
-    ///   anchor; of `Malformed` or `VerificationFailed` if their pool finds no issuer now;
+    /// - if a chain is given, `CertificatePoolError`: of `Anchor` with the index of the first of the chain that is not
+    ///   a trust anchor; of `Malformed` or `VerificationFailed` if their pool finds no issuer now;
     /// - those of [`CosignVerificationKey::try_from_spki`], for the certificate's key;
     /// - `OutOfMemory`.
     pub fn from_der(

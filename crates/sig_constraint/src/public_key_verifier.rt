@@ -45,7 +45,7 @@ impl<C: SignatureChecker + Drop> PublicKeyVerifier<C> {
     /// Returns the constraint that a layer is signed by the key of this SPKI (DER). Errors, those of
     /// [`CosignVerificationKey::try_from_der`]:
     ///
-    /// - `KeyParsingError` if and only if the bytes are no SPKI;
+    /// - `KeyParsingError` if and only if the bytes are not an SPKI;
     /// - `PublicKeyUnsupportedAlgorithmError` if and only if they are one, and its algorithm is not supported;
     /// - `OutOfMemory`.
     pub fn try_from_der(alloc: Global, key_der: &[u8], checker: C) -> Result<PublicKeyVerifier<C>>

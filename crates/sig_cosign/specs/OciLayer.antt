@@ -74,7 +74,7 @@ noted_answer spki keys descriptor = do
   bundle ← promised spki keys (text_lookup bundle_name descriptor.annotations)
   Ok (record { signature = signature; bundle = bundle })
 
--- what goes into a layer, but for the certificate
+-- what goes into a layer, except for the certificate
 pub record Parts : Type 0 where
   pub signing : Signing
   pub signature : List ℕ

@@ -45,7 +45,7 @@ impl SignatureLayer {
     ///   `application/vnd.dev.cosign.simplesigning.v1+json`;
     /// - `SigstoreLayerDigestMismatchError`: the descriptor's digest is not `sha256:` and the SHA-256 of the bytes in
     ///   lower-case hexadecimal;
-    /// - `UnexpectedError` of `LayerUnreadable`: the bytes are no payload, as [`sig_payload::read_signing`] says;
+    /// - `UnexpectedError` of `LayerUnreadable`: the bytes are not a payload, as [`sig_payload::read_signing`] says;
     /// - `UnexpectedError` of `ImageDigest`: the payload is of another image;
     /// - `SigstoreAnnotationNotFoundError`: there is no annotation `dev.cosignproject.cosign/signature`;
     /// - those of [`Bundle::new_verified`](crate::Bundle::new_verified) for the annotation `dev.sigstore.cosign/bundle`, if
@@ -99,7 +99,7 @@ impl SignatureLayer {
     }
 }
 
-/// What goes into a layer, but for the certificate.
+/// What goes into a layer, except for the certificate.
 #[derive(Drop)]
 struct Parts {
     signing: SimpleSigning,
@@ -174,7 +174,7 @@ fn promised<C: SignatureChecker>(
     Ok(Some(BundleContent::RekorBundle(bundle)))
 }
 
-/// What goes into the layer of a descriptor and its bytes, but for the certificate.
+/// What goes into the layer of a descriptor and its bytes, except for the certificate.
 #[tactic(auto, unfolding(crate::specs::OciLayer::parts_answer))]
 fn gather_parts<C: SignatureChecker>(
     alloc: Global,

@@ -39,7 +39,7 @@ demo_row log = row_over (note_text (demo_checkpoint log).note)
 abbrev pub hash_tree : List ℕ → Data
 hash_tree hash = string (encode_lower hash)
 
--- an accepted signature over a message (RFC 8259): its texts in base64, but for the scheme's name
+-- an accepted signature over a message (RFC 8259): its texts in base64, except for the scheme's name
 unfoldable pub row_tree : AcceptedRow → Data
 row_tree row =
     object_of (

@@ -26,8 +26,8 @@ use std::alloc::Global;
 
 impl DemoLog {
     /// Returns the request of `log` for the entry at half the count, with all entries, as compact JSON: its members are
-    /// in the byte order of their names, without white space. The log's signature is no real one: the request accepts
-    /// it by a row. Fails only if out of memory.
+    /// in the byte order of their names, without white space. The log's signature is not a real one: the request
+    /// accepts it by a row. Fails only if out of memory.
     pub fn request(&self, alloc: Global) -> Result<Bytes, OutOfMemory>
         requires { self.now.count ≤ 4096 }
         ensures text { IfOk result (λ text. text ≡ compact_text (request_tree self.now)) }

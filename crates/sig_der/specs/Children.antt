@@ -5,7 +5,7 @@ use Rattle.sig_base.specs.declared.fault.DerError.{DerError}
 use Rattle.sig_der.specs.Element.{IsElement}
 use Rattle.sig_der.specs.Reading.{Piece, element_at}
 
--- a result, and the results at its rest where it is no error
+-- a result, and the results at its rest where it is not an error
 abbrev pub then_rest : (List ℕ → List (Result Piece DerError)) → Result (Piece × List ℕ) DerError
     → List (Result Piece DerError)
 then_rest go (Ok x) = Ok x.0 ∷ go x.1
@@ -24,6 +24,6 @@ children_of bytes = children_within (length bytes) bytes
 abbrev pub IsPiece : Piece → Type 0
 IsPiece p = IsElement p.whole p.tag p.content
 
--- the results that are no errors
+-- the results that are not errors
 abbrev pub all_read : List Piece → List (Result Piece DerError)
 all_read ps = map (λ p. Ok p) ps

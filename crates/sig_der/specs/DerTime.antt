@@ -34,7 +34,7 @@ IsTimeOf tag content second =
     ((tag ≡ UTC_TIME) × IsSecondOf (IsUtcTime content) second)
     ⊎ ((tag ≡ GENERALIZED_TIME) × IsSecondOf (IsGeneralizedTime content) second)
 
--- why an element is no time
+-- why an element is not a time
 abbrev pub time_fault : ℕ → DerError
 time_fault tag = if (tag == UTC_TIME) || (tag == GENERALIZED_TIME) then Value else WrongTag
 

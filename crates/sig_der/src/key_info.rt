@@ -106,7 +106,7 @@ fn at_most_one(reader: Reader<'_>) -> Option<Option<Place>>
     }
 }
 
-/// Returns where the bits begin of the BIT STRING without unused bits that is all that is left. `None` if it is no
+/// Returns where the bits begin of the BIT STRING without unused bits that is all that is left. `None` if it is not
 /// such BIT STRING.
 #[tactic(auto, unfolding(crate::specs::KeyInfo::bits_of, crate::specs::KeyInfo::after_zero))]
 pub fn read_bits(reader: Reader<'_>) -> Option<usize>

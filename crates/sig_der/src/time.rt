@@ -95,7 +95,7 @@ fn generalized_second(text: &[u8]) -> Option<i64>
 ///
 /// Fails with
 /// - `WrongTag` if the element is neither;
-/// - `Value` if its content is no time of its kind: YYMMDDHHMMSSZ, where 70 to 99 are 1970 to 1999 and 00 to 49 are
+/// - `Value` if its content is not a time of its kind: YYMMDDHHMMSSZ, where 70 to 99 are 1970 to 1999 and 00 to 49 are
 ///   2000 to 2049, or YYYYMMDDHHMMSSZ of the years 1970 to 9999.
 pub fn time_of(element: &Element<'_>) -> Result<i64, DerError>
     ensures found { IfOk result (IsTimeOf element.now.tag element.now.content.now) }

@@ -22,7 +22,7 @@ module _ {A : Type 0} where
   abbrev pub with_left : (A → Collected) → List ArtifactDigest → List A → Collected
   with_left f digests left = digests_of_each f left >>= λ others. Ok (digests ++ others)
 
-  -- behind the digests that were there before stand those of what is done, and those of what is left go behind them
+  -- after the digests that were there before stand those of what is done, and those of what is left go after them
   pub record SoFar (f : A → Collected) (all left : List A) (before after : List ArtifactDigest) : Type 0 where
     pub more : List ArtifactDigest
     pub put : after ≡ before ++ more

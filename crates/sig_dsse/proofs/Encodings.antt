@@ -22,7 +22,7 @@ digits-spaceless (d ∷ ds) all = (apart d all.0, digits-spaceless ds all.1) whe
 decimal-spaceless : (n : ℕ) → n < 2 ^ 64 → HasNoSpace (decimal n)
 decimal-spaceless n small = digits-spaceless (decimal n) (decimal_is_IsNumeral n small).0.1
 
--- what stands before the first space, and behind it
+-- what stands before the first space, and after it
 at_space : (a b rest other : List ℕ) → HasNoSpace a → HasNoSpace b → a ++ 32 ∷ rest ≡ b ++ 32 ∷ other
     → (a ≡ b) × (rest ≡ other)
 at_space [] [] rest other free free_too same = (refl, cc)

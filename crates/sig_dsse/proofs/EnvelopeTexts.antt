@@ -30,7 +30,7 @@ signed-more signatures i signature texts after text h is written pushed so_far =
     take_more signatures i signature h ∙ ap (λ s. take i signatures ++ s ∷ []) (sym is) in
     rw (pushed, front, texts_of-append texts text, signed-append (take i signatures) signature, so_far, written) refl
 
--- the members of an envelope, put one behind the other
+-- the members of an envelope, put one after the other
 pub envelope_members : (none one two three : List (String Global)) (lent payload lent_type payload_type : List ℕ)
     (signatures : List (List ℕ)) → none ≡ [] → lent ≡ payload → lent_type ≡ payload_type
     → texts_of one ≡ texts_of none ++ bytes_member (codes "payload") lent → texts_of two ≡ texts_of one ++ text_member

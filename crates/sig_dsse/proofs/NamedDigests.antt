@@ -46,7 +46,7 @@ joined [] b (e ∷ u) v one other = absurd one
 joined (d ∷ a) b [] v one other = absurd one
 joined (d ∷ a) b (e ∷ u) v one other = (one.0, joined a b u v one.1 other)
 
--- the digests of two lists of entries, one behind the other
+-- the digests of two lists of entries, one after the other
 pub record Parted (ds : List ArtifactDigest) (u v : List Entry) : Type 0 where
   pub front : List ArtifactDigest
   pub back : List ArtifactDigest

@@ -1,11 +1,11 @@
--- For private clauses: digests that are put behind those that were there.
+-- For private clauses: digests that are put after those that were there.
 use Rattle.std.specs.Prelude.{◌≡◌, List, [], ◌∷◌, ◌++◌, Option, Some, None, Result, Ok, Err}
 use Rattle.sig_base.specs.Answers.{OrMemory}
 use Rattle.sig_dsse.specs.declared.artifact_digest.ArtifactDigest.{ArtifactDigest}
 use Rattle.sig_dsse.specs.declared.recognized.SubjectFault.{SubjectFault}
 use Rattle.sig_dsse.specs.declared.recognized.SubjectFault.TheVariants.{OutOfMemory}
 
--- the digests that are meant are put behind, or the fault that is meant is told, unless memory ran out
+-- the digests that are meant are put after, or the fault that is meant is told, unless memory ran out
 abbrev pub AddsDigests : {A : Type 0} → List ArtifactDigest → List ArtifactDigest → Result A SubjectFault
     → Result (List ArtifactDigest) SubjectFault → Type 0
 AddsDigests before after (Ok x) meant = (more : List ArtifactDigest) × (meant ≡ Ok more) × (after ≡ before ++ more)

@@ -26,7 +26,7 @@ use Rattle.sig_dsse.specs.StatementText.{IsStatement}
 
 -- ---- the digests of a statement
 
--- the first element that is bad, behind good ones
+-- the first element that is bad, after good ones
 pub record IsFirst {A : Type 0} (Good Bad : A → Type 0) (xs : List A) : Type 0 where
   pub before : List A
   pub first : A
@@ -55,7 +55,7 @@ DigitsAreOfTheHash =
 abbrev pub IsHexDigest : DigestName → List ℕ → Type 0
 IsHexDigest name text = (length text ≡ digit_count name) × AllPass is_hex_digit text
 
--- the entry has this name, and its text is no digest of the algorithm
+-- the entry has this name, and its text is not a digest of the algorithm
 abbrev pub IsMalformed : DigestName → List ℕ × List ℕ → Type 0
 IsMalformed name entry = (entry.0 ≡ spelling name) × ¬ IsHexDigest name entry.1
 
@@ -94,7 +94,7 @@ FaultsHaveTheirCause =
 
 -- ---- the digests of a payload
 
--- a payload without digests is no statement, or a statement with the cause of the fault
+-- a payload without digests is not a statement, or a statement with the cause of the fault
 pub record PayloadFaultsHaveTheirCause : Type 0 where
   pub none : (payload : List ℕ)
       → (digests_of_payload payload ≡ Err NoStatement) ↔

@@ -51,6 +51,6 @@ statement_in d = do
     predicate = predicate;
   })
 
--- the statement that a payload is, none where it is no document without floats or a member is not as it has to be
+-- the statement that a payload is, none where it is not a document without floats or a member is not as it has to be
 unfoldable pub statement_of : List ℕ → Option Statement
 statement_of payload = result_ok (record_in statement_in payload)

@@ -49,6 +49,6 @@ pub record IsStatement (payload : List ℕ) (statement : Statement) : Type 0 whe
   pub subjects : AreSubjects elements statement.subject
   pub predicate : MayHave IsValue (codes "predicate") tree statement.predicate
 
--- the payload is no statement
+-- the payload is not a statement
 abbrev pub IsNoStatement : List ℕ → Type 0
 IsNoStatement payload = (statement : Statement) → ¬ IsStatement payload statement

@@ -24,7 +24,7 @@ const MEMBERS: [&str; 3] = ["_type", "subject", "predicateType"];
 /// Why the digests of a payload's statement cannot be taken.
 #[derive(Clone, Copy, Debug, PartialEq, Eq, Error)]
 pub enum PayloadFault {
-    /// The payload is no statement.
+    /// The payload is not a statement.
     #[error("NoStatement")]
     NoStatement,
     /// Its subjects have this fault, which is never out of memory.

@@ -59,7 +59,7 @@ impl ElementReader for StatementReader {
 }
 
 impl InTotoStatementV1 {
-    /// The statement that a payload is. Fails with `UnexpectedError` of `Statement` if and only if the bytes are no
+    /// The statement that a payload is. Fails with `UnexpectedError` of `Statement` if and only if the bytes are not a
     /// JSON document without floats, or a member is not as it has to be: `_type` and `predicateType` texts, `subject`
     /// a list, `predicate` anything or absent; in a subject `digest` an object of texts, `name` a text or absent,
     /// `annotations` anything or absent. Null means absent, but not inside a list or a digest; other members are

@@ -16,7 +16,7 @@ use Rattle.sig_json.specs.Gathered.{Entry, gathered, InOrder, AreInOrderIfFew, I
 use Rattle.sig_json.specs.View.{Words, view, members_view}
 use Rattle.sig_json.specs.declared.tree.Tree.{Tree}
 
--- ---- a place behind the last
+-- ---- a place after the last
 
 pub behind_none : (name : List ℕ) (es : List Entry) → length es ≡ 0 → IsPlaceOf name es (Err (length es))
 behind_none name es none =
@@ -44,7 +44,7 @@ behind_last name es count last up all some is below = (
 
 pub ruleset behind = (behind_none, behind_last)
 
--- the place of the last, or the one behind it, by a comparison with the last
+-- the place of the last, or the one after it, by a comparison with the last
 pub first_of_none : (name : List ℕ) (es : List Entry) → length es ≡ 0 → IsPlaceOf name es (Err 0)
 first_of_none name es none =
     (omega arith, ((λ i d from within. absurd (omega arith)), (λ i d from within. absurd (omega arith))))
@@ -87,7 +87,7 @@ pub few_stay : (es others : List Entry) (name : Words) (value : Tree) → AreInO
     → members_view others ≡ put (cow_str_bytes name) (view value) (members_view es) → AreInOrderIfFew others
 few_stay es others name value up below is = λ any. in_order-put es others _ _ (up (omega arith)) is
 
--- one that was put behind them
+-- one that was put after them
 pub behind_stay : (es others : List Entry) (name : Words) (value : Tree) → AreInOrderIfFew es
     → (length es < few → InOrder es → IsPlaceOf (cow_str_bytes name) es (Err (length es)))
     → others ≡ es ++ (name, value) ∷ [] → AreInOrderIfFew others

@@ -35,7 +35,7 @@ same_escape x false false false false false true g h = refl
 same_escape x false false false false false false true h = refl
 same_escape x false false false false false false false h = refl
 
--- a quotation mark and a backslash are no zero
+-- a quotation mark and a backslash are not 0
 marks_above : (x : ℕ) → ((x == 34) || (x == 92)) ≡ true → nat_lt 0 x ≡ true
 marks_above x e =
     elim (or_cases (x == 34) (x == 92) e) [

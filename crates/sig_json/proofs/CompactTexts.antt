@@ -45,7 +45,7 @@ use Rattle.sig_json.specs.declared.tree.Tree.{Tree}
 
 -- ---- a value of one token
 
--- behind the tokens before, where the value is seen as the data
+-- after the tokens before, where the value is seen as the data
 pub leaf_tokens : (t : Tree) (d : Data) (old new : List Token) → view t ≡ d → new ≡ old ++ json_tokens (outline d)
     → new ≡ old ++ json_tokens (outline (view t))
 leaf_tokens t d old new is more = more ∙ ap (λ x. old ++ json_tokens (outline x)) (sym is)
@@ -183,7 +183,7 @@ natural_fits n u is below = subst (λ m. InRange (number m)) (sym (as_u64_is n u
 
 -- ---- read back
 
--- members behind others
+-- members after others
 abbrev join : Members → Members → Members
 join no_members ms = ms
 join (member k d done) ms = member k d (join done ms)

@@ -18,7 +18,7 @@ use Rattle.sig_json.specs.SeenAs.{SeenAs}
 use Rattle.sig_json.specs.View.{view, items_view}
 use Rattle.sig_json.specs.declared.tree.Tree.{Tree}
 
--- what is read so far, and behind it what is left
+-- what is read so far, and after it what is left
 abbrev pub read_with : {A : Type 0} → (Data → Option A) → List A → Items → Option (List A)
 read_with kind done left = each kind (items_list left) >>= λ rest. Some (done ++ rest)
 
@@ -49,7 +49,7 @@ one_more : {A : Type 0} → (done : List A) (x : A) (found : Option (List A))
 one_more done x None = refl
 one_more done x (Some rest) = ap Some (sym (append_assoc done (x ∷ []) rest))
 
--- one item more is pushed behind those that were read
+-- one item more is pushed after those that were read
 pub list_each-more : {X : Type 0} → (seen_as : SeenAs X) (kind : Data → Option seen_as.Value) (d : Data)
     (values : List Tree) (i : ℕ) (value : Tree) (x : X) (found after : List X)
     → i < length values → value ≡ get_or values i value → kind (view value) ≡ Some (seen_as.item x)

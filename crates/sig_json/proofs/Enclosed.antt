@@ -82,7 +82,7 @@ opened_above floats kinds few level kind (f ∷ fs) above are = (
   opened_above floats kinds few level kind fs (omega arith) are.3,
 )
 
--- ---- before a value, and behind one
+-- ---- before a value, and after one
 
 -- at the next value in the innermost
 pub record Before (floats : Bool) (depth : ℕ) (start : List Token) (kinds : List Bool) (level : ℕ) (left : List Token) : Type 0 where
@@ -92,7 +92,7 @@ pub record Before (floats : Bool) (depth : ℕ) (start : List Token) (kinds : Li
   pub are : AreOpen floats kinds (length left) enclosing
   pub below : length left ≤ length start
 
--- behind a value in the innermost, or behind its bracket or brace
+-- after a value in the innermost, or after its bracket or brace
 pub record Inside (floats : Bool) (depth : ℕ) (start : List Token) (kinds : List Bool) (level : ℕ) (left : List Token) : Type 0 where
   pub innermost : Open
   pub others : List Open
@@ -268,7 +268,7 @@ float_taken floats depth start kinds level left next so_far some passed less =
     value_taken true depth start kinds level left next (later floats true never depth start kinds level left so_far)
     some passed less
 
--- ---- what is behind the values that were passed
+-- ---- what is after the values that were passed
 
 has_token : (depth : ℕ) (left : List Token) (p : Data × List Token) → value_meant depth left ≡ Some p
     → 0 < length left

@@ -59,7 +59,7 @@ pub next_floatless : (d : Data) (ms : Members) (name : List ℕ) → members_hav
     → (has_float d ≡ false) × (members_have_float ms ≡ false)
 next_floatless d ms name none = or_parts (has_float d) (members_have_float ms) none
 
--- a number that is no float is an integer
+-- a number that is not a float is an integer
 pub integer_floatless : (d : Data) → has_float d ≡ false
     → IsSome (option_and_then as_integer (as_number d)) ↔ IsSome (as_number d)
 integer_floatless null none = ((λ is. is), (λ is. is))

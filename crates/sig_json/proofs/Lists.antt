@@ -29,7 +29,7 @@ members_from es i e h is =
     at_drop_more members_view es i e h
     ∙ ap (λ x. member (cow_str_bytes x.0) (view x.1) (members_view (drop (i + 1) es))) (sym is)
 
--- the member at a place, and those behind it
+-- the member at a place, and those after it
 pub next_entry : (es : List Entry) (i : ℕ) (e : Entry) → i < length es → e ≡ get_or es i e
     → drop i es ≡ e ∷ drop (i + 1) es
 next_entry es i e h is = at_drop_more (λ l. l) es i e h ∙ ap (λ x. x ∷ drop (i + 1) es) (sym is)

@@ -181,7 +181,7 @@ module _ {K V : Type 0} (R : K → K → Ordering) (total : IsTotalOrder R) wher
       absurd (never_below_itself total x.0
       (total.trans x.0 y.0 x.0 (below_among x.0 xs y least after) (below_among y.0 ys x other_least later)))
 
-  -- an entry of the one that is not its head is no head of the other
+  -- an entry of the one that is not its head is not a head of the other
   later_there : (x y : K × V) (xs ys : List (K × V)) (e : K × V) → AllByRecursion (λ k. R x.0 k ≡ Less) (keys_of xs)
       → x ≡ y → Among e xs → (e ≡ y) ⊎ Among e ys → Among e ys
   later_there x y xs ys e least heads among (inl same) =

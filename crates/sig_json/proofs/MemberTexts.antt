@@ -1,4 +1,4 @@
--- The parts of a list or an object, one after another behind one text, and members that are sorted before they are
+-- The parts of a list or an object, one after another after one text, and members that are sorted before they are
 -- written.
 use Rattle.std.proofs.Common.{◌≡◌, ◌≢◌, ◌<◌, ◌≤◌, ◌+◌, ◌==◌, false, ℕ, zero, suc, max, List, [], ◌∷◌, ◌++◌, length}
 use Rattle.std.proofs.Common.{map, drop, get_or, Option, Some, None, Vec, Global, refl, sym, ap, subst, ◌∙◌}
@@ -31,7 +31,7 @@ use Rattle.sig_json.proofs.MemberOrder.{same_units}
 use Rattle.sig_json.proofs.Lists.{none_left}
 use Rattle.sig_json.proofs.SameTrees.{items_depth_at}
 
--- ---- parts behind one text
+-- ---- parts after one text
 
 -- the parts from a place on
 abbrev pub parts_from : ℕ → List (List ℕ) → List ℕ
@@ -51,7 +51,7 @@ parts_from-later place (part ∷ parts) = let later : ((place + 1) == 0) ≡ fal
 abbrev pub with_left : List ℕ → List ℕ → ℕ → Option (List (List ℕ)) → Option (List ℕ)
 with_left written end place left = option_map (λ parts. written ++ (parts_from place parts ++ end)) left
 
--- a whole list or object behind what stands before it
+-- a whole list or object after what stands before it
 abbrev pub whole : List ℕ → List ℕ → List ℕ → Option (List (List ℕ)) → Option (List ℕ)
 whole before begin end parts =
     option_map (λ text. before ++ text)

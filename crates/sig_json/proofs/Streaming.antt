@@ -55,7 +55,7 @@ element_passed kind seen depth ts rest d (Err e) means whole is = tt
 
 -- ---- a list so far
 
--- the elements so far, and behind them those that the tokens that are left mean
+-- the elements so far, and after them those that the tokens that are left mean
 pub record ItemsSoFar {A : Type 0} (kind : Data → Option A) (depth : ℕ) (start left : List Token) (done : List A)
     : Type 0 where
   pub behind : Items → Items

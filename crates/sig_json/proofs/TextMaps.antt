@@ -1,4 +1,4 @@
--- An object's texts go into a map in the order of their names, so each goes behind those before it.
+-- An object's texts go into a map in the order of their names, so each goes after those before it.
 use Rattle.std.proofs.Common.{◌≡◌, ℕ, List, [], ◌∷◌, ◌++◌, map, Option, Some, None, refl}
 use Rattle.std.proofs.Common.{sym, ap, subst, ◌∙◌, append_assoc, append-nil}
 use Rattle.std.specs.Cow.{cow_str_bytes}

@@ -143,7 +143,7 @@ pub ruleset values = (
 
 -- ---- a list so far
 
--- items behind those that were read
+-- items after those that were read
 abbrev pub before : List Data → Items → Items
 before [] rest = rest
 before (d ∷ ds) rest = item d (before ds rest)

@@ -27,7 +27,7 @@ u64_of d = integer_of d >>= in_u64
 unfoldable pub i64_of : Data → Option ℤ
 i64_of d = integer_of d >>= in_i64
 
--- the texts that these members are, by their names; a null is no text
+-- the texts that these members are, by their names; a null is not a text
 abbrev pub texts_by_name : List (List ℕ × Data) → Option (List (List ℕ × List ℕ))
 texts_by_name [] = Some []
 texts_by_name (m ∷ ms) = text_of m.1 >>= λ text. texts_by_name ms >>= λ texts. Some ((m.0, text) ∷ texts)

@@ -7,6 +7,6 @@ abbrev pub items_list : Items → List Data
 items_list no_items = []
 items_list (item d ds) = d ∷ items_list ds
 
--- none where the value is no list
+-- none where the value is not a list
 abbrev pub list_of : Data → Option (List Data)
 list_of d = option_map items_list (as_array d)

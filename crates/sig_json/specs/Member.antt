@@ -10,7 +10,7 @@ use Rattle.sig_json.specs.List.{list_of}
 abbrev pub not_null : Data → Option Data
 not_null d = if is_some (as_null d) then None else Some d
 
--- the member of an object, `None` where it is absent or null; nothing where the value is no object
+-- the member of an object, `None` where it is absent or null; nothing where the value is not an object
 unfoldable pub member_of : List ℕ → Data → Option (Option Data)
 member_of name d = as_object d >>= λ _. Some (get name d >>= not_null)
 

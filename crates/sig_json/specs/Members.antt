@@ -7,6 +7,6 @@ abbrev pub members_list : Members → List (List ℕ × Data)
 members_list no_members = []
 members_list (member name d ms) = (name, d) ∷ members_list ms
 
--- none where the value is no object
+-- none where the value is not an object
 abbrev pub members_of : Data → Option (List (List ℕ × Data))
 members_of d = option_map members_list (as_object d)

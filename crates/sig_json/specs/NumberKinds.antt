@@ -1,4 +1,4 @@
--- The kinds of JSON numbers (RFC 8259 section 6): integers, and no texts of digits.
+-- The kinds of JSON numbers (RFC 8259 section 6): integers, and not texts of digits.
 use Rattle.std.specs.Prelude.{ℕ, ℤ, Option, option_and_then}
 use Rattle.sig_base.specs.OptionSteps.{◌>>=◌}
 use Rattle.serde_json.specs.Data.{Data}

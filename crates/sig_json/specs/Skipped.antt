@@ -19,7 +19,7 @@ use Rattle.sig_json.specs.declared.skip.Rest.TheVariants as left_of
 use Rattle.sig_json.specs.declared.tree.Tree.{Tree}
 
 -- what the tokens mean as a value, as the elements of a list and as the members of an object, to this depth, and the
--- tokens behind it
+-- tokens after it
 abbrev pub value_meant : ℕ → List Token → Option (Data × List Token)
 value_meant depth ts = converted of_json (value depth ts)
 
@@ -70,7 +70,7 @@ TakesEnd true false ts rest = (name : List ℕ) × (read_key ts ≡ Some (Some n
 TakesEnd false true ts rest = after_end_array ts ≡ Some rest
 TakesEnd false false ts rest = (after_end_array ts ≡ None) × (rest ≡ ts)
 
--- the value of a member of a listed name, whose tokens end before `rest`, is kept behind those that were kept before
+-- the value of a member of a listed name, whose tokens end before `rest`, is kept after those that were kept before
 pub record KeepsValue (names : List (List ℕ)) (depth : ℕ) (name : List ℕ) (ts rest : List Token)
     (before after : List Entry) : Type 0 where
   pub listed : is_among names name ≡ true

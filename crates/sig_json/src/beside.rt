@@ -38,7 +38,7 @@ pub(crate) fn is_float_beside(alloc: Global, text: &str, names: &[&str]) -> Resu
     }
 }
 
-/// The members of other names than these, behind the opening brace, each with a value that has a float if and only if
+/// The members of other names than these, after the opening brace, each with a value that has a float if and only if
 /// its own has one.
 #[tactic(auto, using(crate::proofs::OtherFloats::notes))]
 fn note_others<'r>(

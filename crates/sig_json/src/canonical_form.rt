@@ -42,7 +42,7 @@ pub fn canonical(alloc: Global, json: Json<'_, '_>) -> Result<Text, CanonicalErr
     Ok(Text::from(out))
 }
 
-/// Writes a value behind the text so far.
+/// Writes a value after the text so far.
 #[cycle(canon)]
 fn write_value(alloc: Global, value: &Tree<'_>, out: &mut String) -> Result<(), CanonicalError>
     requires { IsNamedTree (view value.now) }

@@ -65,7 +65,7 @@ fn write_number(number: &Number, out: &mut Writer) -> Result<(), AllocError>
     if let Some(natural) = number.as_u64() {
         return out.u64(natural);
     }
-    // A number that is no float is an integer.
+    // A number that is not a float is an integer.
     match number.as_i64() {
         Some(integer) => out.i64(integer),
         None => Ok(()),

@@ -29,7 +29,7 @@ pub trait ElementReader {
         ensures { Answers MemberError.OutOfMemory seen_as.item result (or_member (meaning (tree json.entry))) };
 }
 
-/// Reads every element of a list. Fails with `Member` if the value is no list or an element is not of the kind.
+/// Reads every element of a list. Fails with `Member` if the value is not a list or an element is not of the kind.
 #[tactic(auto, using(crate::proofs::Elements::elements))]
 pub fn read_list<T: ElementReader>(
     alloc: Global,
@@ -48,8 +48,8 @@ pub fn read_list<T: ElementReader>(
     Ok(found)
 }
 
-/// A required member of one kind. Fails with `Member` if the value is no object, or the member is absent, null or not
-/// of the kind.
+/// A required member of one kind. Fails with `Member` if the value is not an object, or the member is absent, null or
+/// not of the kind.
 #[tactic(auto, using(crate::proofs::Requiring::required_members))]
 pub fn required<T: ElementReader>(
     alloc: Global,
@@ -62,7 +62,7 @@ pub fn required<T: ElementReader>(
     T::read(alloc, require_member(json, name)?)
 }
 
-/// An optional member of one kind; `None` if it is absent or null. Fails with `Member` if the value is no object or
+/// An optional member of one kind; `None` if it is absent or null. Fails with `Member` if the value is not an object or
 /// the member is not of the kind.
 #[tactic(auto, unfolding(crate::specs::Member::optional_or))]
 pub fn optional<T: ElementReader>(
@@ -79,8 +79,8 @@ pub fn optional<T: ElementReader>(
     }
 }
 
-/// A required list of one kind. Fails with `Member` if the value is no object, the member is absent, null or no list,
-/// or an element is not of the kind; a null in the list is an element as any other.
+/// A required list of one kind. Fails with `Member` if the value is not an object, the member is absent, null or not a
+/// list, or an element is not of the kind; a null in the list is an element as any other.
 #[tactic(auto, using(crate::proofs::Requiring::required_members))]
 pub fn required_list<T: ElementReader>(
     alloc: Global,
@@ -93,8 +93,8 @@ pub fn required_list<T: ElementReader>(
     read_list::<T>(alloc, require_member(json, name)?)
 }
 
-/// An optional list of one kind; empty if it is absent or null. Fails with `Member` if the value is no object, the
-/// member is no list, or an element is not of the kind; a null in the list is an element as any other.
+/// An optional list of one kind; empty if it is absent or null. Fails with `Member` if the value is not an object, the
+/// member is not a list, or an element is not of the kind; a null in the list is an element as any other.
 #[tactic(auto, unfolding(crate::specs::Member::optional_or))]
 pub fn optional_list<T: ElementReader>(
     alloc: Global,

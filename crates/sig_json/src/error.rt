@@ -1,10 +1,10 @@
-//! Why a text is no document, and why a member is not what it has to be.
+//! Why a text is not a document, and why a member is not what it has to be.
 use json::Invalid;
 use sig_base::OutOfMemory;
 use std::alloc::AllocError;
 use thiserror::Error;
 
-/// Why a text is no document.
+/// Why a text is not a document.
 #[derive(Clone, Copy, Debug, PartialEq, Eq, Error)]
 pub enum DocumentError {
     /// The text is not UTF-8, or has no reading as JSON of at most 127 nested lists and objects.
@@ -37,7 +37,7 @@ pub(crate) enum SkipError {
 /// Why a member could not be read.
 #[derive(Clone, Copy, Debug, PartialEq, Eq, Error)]
 pub enum MemberError {
-    /// The value is no object, or the member breaks its row of the table.
+    /// The value is not an object, or the member breaks its row of the table.
     #[error("Member")]
     Member,
     /// Out of memory.
@@ -45,10 +45,10 @@ pub enum MemberError {
     OutOfMemory,
 }
 
-/// Why a text is no record of a table.
+/// Why a text is not a record of a table.
 #[derive(Clone, Copy, Debug, PartialEq, Eq, Error)]
 pub enum JsonError {
-    /// The text is no JSON.
+    /// The text is not JSON.
     #[error("NotJson")]
     NotJson,
     /// A number of the tree is a float.

@@ -54,7 +54,7 @@ impl Document {
     }
 }
 
-/// The tree of a text, as `Document::read_members` reads it. The second scratch is for a text that is no object.
+/// The tree of a text, as `Document::read_members` reads it. The second scratch is for a text that is not an object.
 #[tactic(auto, using(crate::proofs::KeptReading::kept_reading))]
 pub(crate) fn kept_tree<'r>(
     alloc: Global,
@@ -167,7 +167,7 @@ pub(crate) fn read_kept<'r>(
     }
 }
 
-/// The members of these names, behind the opening brace.
+/// The members of these names, after the opening brace.
 #[tactic(auto, using(crate::proofs::Keeping::kept))]
 fn read_kept_members<'r>(
     alloc: Global,
@@ -193,7 +193,7 @@ fn read_kept_members<'r>(
     Ok((ordered, floats))
 }
 
-/// Reads the value of a member: kept behind the others if the name is one of these, and else passed over. Returns
+/// Reads the value of a member: kept after the others if the name is one of these, and else passed over. Returns
 /// whether a number that is held as a float was passed over.
 pub(crate) fn take_value<'r>(
     alloc: Global,

@@ -92,7 +92,7 @@ impl ElementReader for TextMapReader {
     }
 }
 
-/// The texts that members are, by their names. Fails with `Member` if one is no text.
+/// The texts that members are, by their names. Fails with `Member` if one is not a text.
 #[tactic(auto, using(crate::proofs::TextMaps::text_maps))]
 fn texts_of_members(alloc: Global, members: &Vec<Entry<'_>>) -> Result<TextMap, MemberError>
     requires { InOrder members.now.items }

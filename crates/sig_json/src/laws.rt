@@ -70,7 +70,7 @@ pub fn members_are_set()
 {}
 
 /// Of an object that is read for the members of some names, each member of these names is found as in the whole
-/// object, and none of another name. A value that is no object is read whole.
+/// object, and none of another name. A value that is not an object is read whole.
 pub fn members_are_kept()
     ensures listed { (names : List (List ℕ)) (name : List ℕ) (tree : Data) → IsTrue (is_among names name)
         → get name (only names tree) ≡ get name tree }

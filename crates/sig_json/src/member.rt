@@ -15,7 +15,7 @@ use crate::view::Json;
 use sig_base::{Bytes, Text};
 use std::alloc::Global;
 
-/// The member of an object, `None` if it is absent or null. Fails with `Member` if the value is no object.
+/// The member of an object, `None` if it is absent or null. Fails with `Member` if the value is not an object.
 #[tactic(auto, unfolding(crate::specs::Member::member_of))]
 pub(crate) fn find_member<'a, 't>(
     json: Json<'a, 't>,
@@ -34,7 +34,7 @@ pub(crate) fn find_member<'a, 't>(
     }
 }
 
-/// The member of an object. Fails with `Member` if the value is no object, or the member is absent or null.
+/// The member of an object. Fails with `Member` if the value is not an object, or the member is absent or null.
 #[tactic(auto, unfolding(crate::specs::Member::required))]
 pub(crate) fn require_member<'a, 't>(
     json: Json<'a, 't>,
@@ -48,7 +48,8 @@ pub(crate) fn require_member<'a, 't>(
 }
 
 /// An integer from -2^63 to 2^63 - 1: a whole JSON number, or a text of an optional `-` and digits; 0 if the member is
-/// absent or null. Fails with `Member` if the value is no object or the member is no such integer. It takes no memory.
+/// absent or null. Fails with `Member` if the value is not an object or the member is not such an integer. It takes no
+/// memory.
 #[tactic(auto, unfolding(crate::specs::Member::optional_or))]
 pub fn read_i64(json: Json<'_, '_>, name: &str) -> Result<i64, MemberError>
     ensures value { Answers MemberError.OutOfMemory (λ x. x) result
@@ -62,7 +63,8 @@ pub fn read_i64(json: Json<'_, '_>, name: &str) -> Result<i64, MemberError>
 }
 
 /// An integer from 0 to 2^64 - 1: a whole JSON number, or a text of an optional `-` and digits; 0 if the member is
-/// absent or null. Fails with `Member` if the value is no object or the member is no such integer. It takes no memory.
+/// absent or null. Fails with `Member` if the value is not an object or the member is not such an integer. It takes no
+/// memory.
 #[tactic(auto, unfolding(crate::specs::Member::optional_or))]
 pub fn read_u64(json: Json<'_, '_>, name: &str) -> Result<u64, MemberError>
     ensures value { Answers MemberError.OutOfMemory (λ x. x) result
@@ -75,8 +77,8 @@ pub fn read_u64(json: Json<'_, '_>, name: &str) -> Result<u64, MemberError>
     }
 }
 
-/// A text, empty if the member is absent or null. Fails with `Member` if the value is no object or the member is no
-/// text.
+/// A text, empty if the member is absent or null. Fails with `Member` if the value is not an object or the member is
+/// not a text.
 #[tactic(auto, unfolding(crate::specs::Member::optional_or))]
 pub fn read_text(alloc: Global, json: Json<'_, '_>, name: &str) -> Result<Text, MemberError>
     ensures { Answers MemberError.OutOfMemory (λ x. x) result (or_member (optional_text name.now (tree json.entry))) }
@@ -87,8 +89,8 @@ pub fn read_text(alloc: Global, json: Json<'_, '_>, name: &str) -> Result<Text, 
     }
 }
 
-/// Bytes in padded standard base64, empty if the member is absent or null. Fails with `Member` if the value is no
-/// object or the member is no such text.
+/// Bytes in padded standard base64, empty if the member is absent or null. Fails with `Member` if the value is not an
+/// object or the member is not such a text.
 #[tactic(auto, unfolding(crate::specs::Member::optional_or))]
 pub fn read_bytes(alloc: Global, json: Json<'_, '_>, name: &str) -> Result<Bytes, MemberError>
     ensures { Answers MemberError.OutOfMemory (λ x. x) result (or_member (optional_bytes name.now (tree json.entry))) }
@@ -99,8 +101,8 @@ pub fn read_bytes(alloc: Global, json: Json<'_, '_>, name: &str) -> Result<Bytes
     }
 }
 
-/// A required integer from -2^63 to 2^63 - 1. Fails with `Member` if the value is no object, or the member is absent,
-/// null or no such integer. It takes no memory.
+/// A required integer from -2^63 to 2^63 - 1. Fails with `Member` if the value is not an object, or the member is
+/// absent, null or not such an integer. It takes no memory.
 #[tactic(auto, using(crate::proofs::Requiring::required_members))]
 pub fn required_i64(json: Json<'_, '_>, name: &str) -> Result<i64, MemberError>
     ensures value { Answers MemberError.OutOfMemory (λ x. x) result
@@ -110,8 +112,8 @@ pub fn required_i64(json: Json<'_, '_>, name: &str) -> Result<i64, MemberError>
     i64_of(require_member(json, name)?).ok_or(MemberError::Member)
 }
 
-/// A required integer from 0 to 2^64 - 1. Fails with `Member` if the value is no object, or the member is absent, null
-/// or no such integer. It takes no memory.
+/// A required integer from 0 to 2^64 - 1. Fails with `Member` if the value is not an object, or the member is absent,
+/// null or not such an integer. It takes no memory.
 #[tactic(auto, using(crate::proofs::Requiring::required_members))]
 pub fn required_u64(json: Json<'_, '_>, name: &str) -> Result<u64, MemberError>
     ensures value { Answers MemberError.OutOfMemory (λ x. x) result
@@ -121,8 +123,8 @@ pub fn required_u64(json: Json<'_, '_>, name: &str) -> Result<u64, MemberError>
     u64_of(require_member(json, name)?).ok_or(MemberError::Member)
 }
 
-/// A required hash: 64 hexadecimal digits in either case. Fails with `Member` if the value is no object, or the member
-/// is absent, null or no such text. It takes no memory.
+/// A required hash: 64 hexadecimal digits in either case. Fails with `Member` if the value is not an object, or the
+/// member is absent, null or not such a text. It takes no memory.
 #[tactic(auto, using(crate::proofs::Requiring::required_members))]
 pub fn required_hash(json: Json<'_, '_>, name: &str) -> Result<[u8; 32], MemberError>
     ensures value { Answers MemberError.OutOfMemory (λ x. x) result
@@ -132,15 +134,15 @@ pub fn required_hash(json: Json<'_, '_>, name: &str) -> Result<[u8; 32], MemberE
     hash(require_member(json, name)?).ok_or(MemberError::Member)
 }
 
-/// A required text. Fails with `Member` if the value is no object, or the member is absent, null or no text.
+/// A required text. Fails with `Member` if the value is not an object, or the member is absent, null or not a text.
 pub fn required_text(alloc: Global, json: Json<'_, '_>, name: &str) -> Result<Text, MemberError>
     ensures { Answers MemberError.OutOfMemory (λ x. x) result (or_member (required_text name.now (tree json.entry))) }
 {
     required::<TextReader>(alloc, json, name)
 }
 
-/// Required bytes in padded standard base64. Fails with `Member` if the value is no object, or the member is absent,
-/// null or no such text.
+/// Required bytes in padded standard base64. Fails with `Member` if the value is not an object, or the member is
+/// absent, null or not such a text.
 pub fn required_bytes(alloc: Global, json: Json<'_, '_>, name: &str) -> Result<Bytes, MemberError>
     ensures { Answers MemberError.OutOfMemory (λ x. x) result (or_member (required_bytes name.now (tree json.entry))) }
 {

@@ -42,8 +42,8 @@ impl<'a, 't> Json<'a, 't> {
     ghost use Rattle.sig_json.specs.Tree.{tree};
     ghost use Rattle.sig_json.specs.Walk.{members_left};
 
-    /// The members of an object, in the byte order of their names, each name once; `None` if the value is no object.
-    /// It takes no memory.
+    /// The members of an object, in the byte order of their names, each name once; `None` if the value is not an
+    /// object. It takes no memory.
     pub fn members(self) -> Option<Members<'a, 't>>
         ensures value { option_map members_left result ≡ members_of (tree self.entry) }
         ensures ordered { IfSome result (λ members. KeysAscend (members_left members)) }

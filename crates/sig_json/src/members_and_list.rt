@@ -23,8 +23,8 @@ use std::alloc::Global;
 
 impl Document {
     /// Reads a text as `read_members` does, and beside it each element of the list of the name `list`; no element if
-    /// that member is absent or null. Fails as `read_record_with` does: with `Member` where the value is no object, the
-    /// member of that name is no list, or an element is not of the kind.
+    /// that member is absent or null. Fails as `read_record_with` does: with `Member` where the value is not an object,
+    /// the member of that name is not a list, or an element is not of the kind.
     pub fn read_members_and_list<E: ElementReader>(
         alloc: Global,
         text: &[u8],

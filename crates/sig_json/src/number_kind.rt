@@ -1,4 +1,4 @@
-//! The kinds of JSON numbers: integers, and no texts of digits.
+//! The kinds of JSON numbers: integers, and not texts of digits.
 ghost use Rattle.std.specs.Prelude.{◌≡◌};
 ghost use Rattle.sig_json.specs.NumberKinds.{i64_number_of, u64_number_of};
 ghost use Rattle.sig_json.specs.Tree.{tree};

@@ -79,7 +79,7 @@ pub(crate) fn put<'t>(
     put_at(members, place, name, value)
 }
 
-/// The same where the name is mostly the last one, or goes behind it.
+/// The same where the name is mostly the last one, or goes after it.
 #[tactic(auto, using(crate::proofs::Ordered::placed))]
 pub(crate) fn put_behind<'t>(
     members: &mut Vec<Entry<'t>>,
@@ -135,7 +135,7 @@ fn put_at<'t>(
     }
 }
 
-/// Adds a member as it was read: to its place while the members are few, and later behind them, for `all_in_order`.
+/// Adds a member as it was read: to its place while the members are few, and later after them, for `all_in_order`.
 #[tactic(auto, using(crate::proofs::Adding::added))]
 pub(crate) fn add_member<'t>(
     members: &mut Vec<Entry<'t>>,
@@ -155,7 +155,7 @@ pub(crate) fn add_member<'t>(
     Ok(())
 }
 
-/// Whether the members are few and the name does not go behind them all, as it does where names ascend.
+/// Whether the members are few and the name does not go after them all, as it does where names ascend.
 #[tactic(auto, using(crate::proofs::Adding::behind))]
 fn goes_among(members: &Vec<Entry<'_>>, name: &str) -> bool
     ensures among { IsTrue result → length members.now.items < few }

@@ -79,7 +79,7 @@ pub(crate) fn read_value<'r>(
     }
 }
 
-/// The elements of a list, behind its opening bracket.
+/// The elements of a list, after its opening bracket.
 #[cycle(read)]
 #[tactic(auto, using(crate::proofs::Tokens::lists))]
 fn read_items<'r>(
@@ -102,7 +102,7 @@ fn read_items<'r>(
     Ok(fitted(alloc, found)?)
 }
 
-/// The members of an object, behind its opening brace.
+/// The members of an object, after its opening brace.
 #[cycle(read)]
 #[tactic(auto, using(crate::proofs::Tokens::objects))]
 fn read_all_members<'r>(

@@ -19,7 +19,7 @@ pub(crate) fn make_room<T: Drop>(found: &mut Vec<T>) -> Result<(), OutOfMemory>
     }
 }
 
-/// Adds one behind the others.
+/// Adds one after the others.
 pub(crate) fn add<T: Drop>(found: &mut Vec<T>, one: T) -> Result<(), OutOfMemory>
     ensures { OnOk result (found.new.items ≡ found.old.items ++ one ∷ []) }
 {

@@ -16,7 +16,7 @@ const FEW_DIGITS: usize = 19;
 /// So many lists and objects may be open: as many as `MEMBER_DEPTH` lets nest in a member.
 const MOST_OPEN: usize = 126;
 
-/// What of a value is left behind its first token.
+/// What of a value is left after its first token.
 #[derive(Clone, Copy, Drop)]
 enum Rest {
     Nothing,
@@ -102,7 +102,7 @@ fn next_level(level: usize, depth: usize) -> Result<usize, SkipError>
     Ok(level + 1)
 }
 
-/// Passes over the rest of a list or an object, behind its bracket or brace. A loop: a call for each list and object
+/// Passes over the rest of a list or an object, after its bracket or brace. A loop: a call for each list and object
 /// that is nested in another takes longer.
 #[inline(never)]
 fn skip_rest(reader: &mut Reader<'_>, depth: usize, of_object: bool) -> Result<bool, SkipError>

@@ -46,7 +46,7 @@ pub(crate) fn stream_text<'r, E: ElementReader>(
     }
 }
 
-/// The same behind the opening brace. Of two lists of that name the last counts. Fails with `Unsure` at a number that is
+/// The same after the opening brace. Of two lists of that name the last counts. Fails with `Unsure` at a number that is
 /// held as a float in a member of another name: a later member of that name may replace it.
 #[tactic(auto, using(crate::proofs::Streaming::parts))]
 fn stream_members<'r, E: ElementReader>(
@@ -98,7 +98,7 @@ fn stream_list<E: ElementReader>(
     stream_items::<E>(alloc, reader, depth - 1)
 }
 
-/// The elements of a list, behind its opening bracket.
+/// The elements of a list, after its opening bracket.
 #[tactic(auto, using(crate::proofs::Streaming::items))]
 fn stream_items<E: ElementReader>(
     alloc: Global,

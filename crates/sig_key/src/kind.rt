@@ -12,7 +12,7 @@ use sig_der::{Element, KeyInfoPlaces, oid, whole_key_info};
 /// What kind of key some bytes are.
 #[derive(Clone, Copy, PartialEq, Eq)]
 pub enum KeyKind {
-    /// The bytes are no SPKI.
+    /// The bytes are not an SPKI.
     NoKeyInfo,
     /// An SPKI of another algorithm or curve.
     Unsupported,

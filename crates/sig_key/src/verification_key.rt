@@ -51,7 +51,7 @@ impl CosignVerificationKey {
     }
 
     /// Returns the key of an SPKI, by its kind ([`key_kind`]). Errors:
-    /// - `KeyParsingError` if and only if the bytes are no SPKI;
+    /// - `KeyParsingError` if and only if the bytes are not an SPKI;
     /// - `PublicKeyUnsupportedAlgorithmError` if and only if they are one, and its algorithm is neither RSA nor
     ///   Ed25519, nor id-ecPublicKey with the object identifier of P-256, P-384 or P-521 as its parameters;
     /// - `OutOfMemory`.

@@ -18,7 +18,7 @@ or_no_list (Some ds) = ds
 abbrev pub elements_of : Data → List Data
 elements_of d = or_no_list (list_of d)
 
--- what is read so far, and behind it what is left
+-- what is read so far, and after it what is left
 abbrev pub read_with : (Data → Option Formula) → List Formula → List Data → Option (List Formula)
 read_with kind done left = each kind left >>= λ rest. Some (done ++ rest)
 

@@ -13,7 +13,7 @@ use Rattle.sig_manifest.specs.Unknown.{IsNamedIn, unknown_at, unknown_from}
 use Rattle.sig_manifest.specs.declared.artifact.Artifact.{Artifact}
 use Rattle.sig_manifest.specs.declared.error.ManifestError.{ManifestError}
 
--- the artifact at a place, and those behind it
+-- the artifact at a place, and those after it
 pub next_artifact : (xs : List Artifact) (i : ℕ) (x : Artifact) → i < length xs → x ≡ get_or xs i x
     → artifacts_view (drop i xs) ≡ artifact_view x ∷ artifacts_view (drop (i + 1) xs)
 next_artifact xs i x below is =

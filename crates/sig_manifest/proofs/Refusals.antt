@@ -1,4 +1,4 @@
--- Why a text is no manifest, in the words of the text.
+-- Why a text is not a manifest, in the words of the text.
 use Rattle.std.proofs.Common.{◌≡◌, ℕ, zero, suc, ◌+◌, List, [], ◌∷◌, ◌++◌, length, Option, Some, None, Result, Ok, Err}
 use Rattle.std.proofs.Common.{refl, sym, ap, subst, arith, IfOk, IsSome, rules}
 use Rattle.std.specs.List.{AllByRecursion}

@@ -1,4 +1,4 @@
--- What is left of a number of nodes behind those of rules.
+-- What is left of a number of nodes after those of rules.
 use Rattle.std.proofs.Common.{◌≡◌, ℕ, suc, ◌+◌, ◌-◌, ◌<◌, ◌≤◌, ◌⊎◌, inl, inr, nat_lt, Bool, true, false, not, arith, Option}
 use Rattle.std.proofs.Common.{Some, None, List, [], ◌∷◌, length, drop, get_or, map, refl, sym, ap, ◌∙◌}
 use Rattle.std.proofs.Math.Seq.{drop-length}
@@ -40,7 +40,7 @@ left-is most taken next is = elim (order most taken) [
   | inr h ↦ inl (h, sym is ∙ left-fits most taken h)
 ]
 
--- behind the first of two
+-- after the first of two
 pub left-more : (most a b next : ℕ) → Some next ≡ left_of most a → left_of most (a + b) ≡ left_of next b
 left-more most a b next is = elim (left-is most a (Some next) (sym is)) [
   | inl h ↦ let e : next ≡ most - a = some_same next (most - a) h.1 in
@@ -85,7 +85,7 @@ left-node most taken some = left-more most 1 taken (most - 1) (sym (left-of_one 
 
 -- ---- rules one after another
 
--- the rule at a place, and those behind it
+-- the rule at a place, and those after it
 pub nodes-at : (rules : List Rule) (i : ℕ) (rule : Rule) → i < length rules → rule ≡ get_or rules i rule
     → nodes_of_all (formulas_of (rules_of (drop i rules)))
     ≡ nodes (rule_view rule) + nodes_of_all (formulas_of (rules_of (drop (i + 1) rules)))

@@ -39,7 +39,7 @@ is_within artifacts =
 abbrev pub kept_within : Gate → Option Gate
 kept_within gate = if is_within gate.artifacts then Some gate else None
 
--- the members of a manifest, but for `accepted`
+-- the members of a manifest, except for `accepted`
 unfoldable pub manifest_members : Data → Option Gate
 manifest_members d = do
   now ← required_i64 (codes "now") d

@@ -51,7 +51,7 @@ pub record HasOtherMembers (text : List ℕ) : Type 0 where
   pub document : document_of text ≡ Ok tree
   pub members : with_rows with_accepted tree ≡ None
 
--- why a text is no manifest: the first cause
+-- why a text is not a manifest: the first cause
 abbrev pub IsRefused : List ℕ → ManifestError → Type 0
 IsRefused text manifest.NotJson = document_of text ≡ Err document.NotJson
 IsRefused text manifest.Float = document_of text ≡ Err document.Float

@@ -37,7 +37,7 @@ AreNamed gate = AllByRecursion (IsNamedIn gate) gate.artifacts
 
 -- ---- the same in the words of the manifest
 
--- a list of artifacts has this one behind so many, of each of which trusted root and policy are there
+-- a list of artifacts has this one after so many, of each of which trusted root and policy are there
 pub record IsBehindNamed (gate : Gate) (xs : List Asked) (count : ℕ) (x : Asked) : Type 0 where
   pub before : List Asked
   pub after : List Asked

@@ -1,12 +1,12 @@
-//! `ManifestError`: why a text is no manifest.
+//! `ManifestError`: why a text is not a manifest.
 use sig_base::OutOfMemory;
 use sig_json::JsonError;
 use thiserror::Error;
 
-/// Why a text is no manifest: the first cause. A number is the index of an artifact.
+/// Why a text is not a manifest: the first cause. A number is the index of an artifact.
 #[derive(Clone, Copy, Debug, PartialEq, Eq, Error)]
 pub enum ManifestError {
-    /// The text is no JSON.
+    /// The text is not JSON.
     #[error("NotJson")]
     NotJson,
     /// A number of the tree is a float.

@@ -12,7 +12,7 @@ use sig_base::TextMap;
 use sig_json::{Json, MemberError, TextMapReader, required, required_i64, required_list};
 use std::alloc::Global;
 
-/// The members of a manifest, but for `accepted`.
+/// The members of a manifest, except for `accepted`.
 #[derive(Drop)]
 pub struct Manifest {
     /// The time of the verification, in seconds since 1970.

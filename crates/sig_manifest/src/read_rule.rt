@@ -44,7 +44,7 @@ impl Form {
     }
 }
 
-/// The value of an object's member, `None` if it is absent or null, or the value is no object.
+/// The value of an object's member, `None` if it is absent or null, or the value is not an object.
 fn value_of<'a, 't>(json: Json<'a, 't>, name: &str) -> Option<Json<'a, 't>>
     ensures { option_map tree result ≡ value_of name.now (tree json.entry) }
 {

@@ -12,7 +12,7 @@ pub(crate) fn is_within(rule: &Rule, most: usize) -> bool
     left(rule, most).is_some()
 }
 
-/// How many nodes are left of so many behind those of a rule; `None` if the rule has more.
+/// How many nodes are left of so many after those of a rule; `None` if the rule has more.
 #[cycle(size)]
 #[tactic(auto, using(crate::proofs::Sizes::sizes, crate::proofs::RuleViews::views))]
 fn left(rule: &Rule, most: usize) -> Option<usize>
@@ -28,7 +28,7 @@ fn left(rule: &Rule, most: usize) -> Option<usize>
     }
 }
 
-/// How many nodes are left of so many behind those of some rules; `None` if the rules have more.
+/// How many nodes are left of so many after those of some rules; `None` if the rules have more.
 #[cycle(size)]
 #[tactic(auto, using(crate::proofs::Sizes::sizes, crate::proofs::RuleViews::views))]
 fn left_behind(rules: &Rules, most: usize) -> Option<usize>

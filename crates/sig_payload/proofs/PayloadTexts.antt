@@ -28,7 +28,7 @@ text_of body time id index =
     codes "{\"body\":" ++ (body ++ (codes ",\"integratedTime\":" ++ (time ++ (codes ",\"logID\":" ++ (id
     ++ (codes ",\"logIndex\":" ++ (index ++ codes "}")))))))
 
--- the members one after another, each name with what is before and behind it
+-- the members one after another, each name with what is before and after it
 glued : (opened comma colon closed a b c d body time id index : List ℕ)
     → opened ++ (join_by (λ text. text) comma
     ((a ++ (colon ++ body)) ∷ (b ++ (colon ++ time)) ∷ (c ++ (colon ++ id)) ∷ (d ++ (colon ++ index)) ∷ []) ++ closed)

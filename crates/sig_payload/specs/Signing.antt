@@ -52,7 +52,7 @@ critical_in d = do
   type_name ← required_text (codes "type") d
   Some (record { identity = identity; image = image; type_name = type_name })
 
--- the names that are no annotations
+-- the names that are not annotations
 abbrev pub own_names : List (List ℕ)
 own_names = codes "creator" ∷ codes "timestamp" ∷ []
 
@@ -84,7 +84,7 @@ signing_in d = do
   beside ← optional optional_in (codes "optional") d
   Some (record { critical = critical; optional = beside })
 
--- the payload that bytes are, none where they are no document without floats or a member is not as it has to be
+-- the payload that bytes are, none where they are not a document without floats or a member is not as it has to be
 unfoldable pub signing_of : List ℕ → Option Signing
 signing_of bytes = result_ok (record_in signing_in bytes)
 

@@ -57,12 +57,12 @@ impl Bundle {
     /// certain signature is not asked: the body is not read.
     ///
     /// Errors, the first that applies:
-    /// - `UnexpectedError` of `BundleUnreadable`: the text is no JSON document without floats, an object of the text
+    /// - `UnexpectedError` of `BundleUnreadable`: the text is not a JSON document without floats, an object of the text
     ///   `SignedEntryTimestamp` and the object `Payload` of the texts `body` and `logID` and of the numbers
     ///   `integratedTime` and `logIndex` from -2^63 to 2^63 - 1; other members are ignored;
     /// - `UnexpectedError` of `PromiseInteger`: one of the two numbers is beyond plus or minus 2^53 - 1;
     /// - `RekorPublicKeyNotFoundError` with the payload's log id: there is no key of it;
-    /// - `Base64DecodeError`: the signature is no base64, as [`sig_key::Signature::decode_bytes`] says;
+    /// - `Base64DecodeError`: the signature is not base64, as [`sig_key::Signature::decode_bytes`] says;
     /// - `PublicKeyVerificationError`: the checker does not accept it over the canonical JSON (RFC 8785) of the
     ///   payload's four members;
     /// - `OutOfMemory`.
@@ -114,8 +114,8 @@ impl SignedArtifactBundle {
     /// [`Bundle::new_verified`]. Neither the signature nor the certificate is looked at.
     ///
     /// Errors, the first that applies:
-    /// - `UnexpectedError` of `BundleUnreadable`: the text is no JSON document without floats, an object of the texts
-    ///   `base64Signature` and `cert` and of the object `rekorBundle` that a [`Bundle`] is read from;
+    /// - `UnexpectedError` of `BundleUnreadable`: the text is not a JSON document without floats, an object of the
+    ///   texts `base64Signature` and `cert` and of the object `rekorBundle` that a [`Bundle`] is read from;
     /// - the others of [`Bundle::new_verified`], for that object.
     pub fn new_verified<C: SignatureChecker>(
         alloc: Global,

@@ -14,7 +14,7 @@ use std::alloc::Global;
 /// Checks that the log of the payload's id signed the payload. Errors, the first that applies:
 /// - `UnexpectedError` of `PromiseInteger`: an integer is beyond plus or minus 2^53 - 1;
 /// - `RekorPublicKeyNotFoundError` with the payload's log id: there is no key of it;
-/// - `Base64DecodeError`: the signature is no base64;
+/// - `Base64DecodeError`: the signature is not base64;
 /// - `PublicKeyVerificationError`: the checker does not accept it over the payload's canonical JSON;
 /// - `OutOfMemory`.
 pub(crate) fn check_promise<C: SignatureChecker>(

@@ -22,8 +22,8 @@ use sig_json::{Json, Members};
 use std::fmt;
 
 /// Shows the payload's JSON, indented by two spaces. Members are in the byte order of their names, and of a name that
-/// is there twice, as an annotation too, the payload's own member comes first. Annotations that are no object are not
-/// shown.
+/// is there twice, as an annotation too, the payload's own member comes first. Annotations that are not an object are
+/// not shown.
 impl fmt::Display for SimpleSigning {
     fn fmt<W: fmt::Write>(&self, f: &mut fmt::Formatter<W>) -> fmt::Result {
         let critical = &self.critical;

@@ -95,7 +95,7 @@ impl VerificationPolicy for RequestPolicy {
 
 impl RequestPolicy {
     /// Whether the policy holds of the certificate. It makes no refusal: time and memory are linear in the certificate
-    /// and in the policies, but for the logarithm of the number of names. [`rule_laws`](crate::rule_laws) says which
+    /// and in the policies, except for the logarithm of the number of names. [`rule_laws`](crate::rule_laws) says which
     /// extension each policy compares. Fails only if out of memory.
     pub fn holds_of(&self, alloc: Global, cert: &Certificate) -> Result<bool, OutOfMemory>
         ensures { IfOk result (λ b. b ≡ request_holds self.now cert.now) }

@@ -76,7 +76,7 @@ unread-reply : (command : Command) (text : List ℕ) → ¬ Holds command text R
     → IsReplyByLinks command text (refusal_reply Request)
 unread-reply command text fails = first-reply command text Request (unmet-request command text fails)
 
--- a text that is too long is no request
+-- a text that is too long is not a request
 pub long-reply : (command : Command) (text : List ℕ) → most_bytes < length text
     → IsReplyByLinks command text (refusal_reply Request)
 long-reply Log text long = unread-reply Log text (λ holds. omega (arith, holds.1.short, long))

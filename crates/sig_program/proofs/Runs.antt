@@ -59,7 +59,7 @@ RepliesTo-whole command old new bytes reply all short meant = record {
   meant = meant;
 }
 
--- a text that is too long is no request of any command
+-- a text that is too long is not a request of any command
 long-meant : (command : Command) (text : List ℕ) → 16777217 ≤ length text
     → IsReply command text (refusal_reply Request)
 long-meant Log text long = long-reply Log text long

@@ -1,4 +1,4 @@
--- The verdict on the links of a request: its own, those of its head, and one behind them.
+-- The verdict on the links of a request: its own, those of its head, and one after them.
 use Rattle.std.proofs.Common.{List, [], ◌∷◌, Some, None, inl, inr, refl}
 use Rattle.sig_verify.specs.declared.link.Link.{Link}
 use Rattle.sig_verify.specs.declared.link.Link.TheVariants.{Request, Checkpoint, NoteKey, NoteMatch}

@@ -50,7 +50,7 @@ HoldsOfHead head size root other = Unit {0}
 abbrev pub IsHeadVerdict : ClaimedHead → ℕ → List ℕ → Option Link → Type 0
 IsHeadVerdict head size root = IsLinkVerdict (HoldsOfHead head size root) head_links
 
--- the first failing link behind the checkpoint, or none, where this is the checkpoint's reading
+-- the first failing link after the checkpoint, or none, where this is the checkpoint's reading
 abbrev pub IsHeadVerdictUnder : ClaimedHead → ℕ → List ℕ → SignedCheckpoint → Option Link → Type 0
 IsHeadVerdictUnder head size root checkpoint None = HasAcceptedSignature head checkpoint
     × IsMatched size root checkpoint

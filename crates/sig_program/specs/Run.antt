@@ -60,7 +60,7 @@ pub record WriteFaulted (words : List (List ℕ)) (left_old left_new : Option (L
 abbrev pub ReadFaulted : {K : Type 0} → List (List ℕ) → ℕ → ℕ → K → K → Type 0
 ReadFaulted words before now sink_old sink_new = IsInvocation words × Rose before now × (sink_new ≡ sink_old)
 
--- the piece is all that is left of the bytes behind some front
+-- the piece is all that is left of the bytes after some front
 abbrev pub IsRestOf : List ℕ → List ℕ → Type 0
 IsRestOf bytes piece = (front : List ℕ) × (bytes ≡ front ++ piece)
 

@@ -16,9 +16,9 @@ use std::alloc::Global;
 
 /// Returns the reply to a request's text: the list of the signatures that `consistency` asks for, each signature of the
 /// checkpoint over its note under the log's scheme and key, in order, with status 0; else `refused checkpoint` if the
-/// request's checkpoint has no reading, and `refused request` if the text is no request of `consistency`, or text, list and
-/// `,"accepted":` would have more than 2^24 bytes together. Which signatures the request itself accepts does not matter.
-/// Fails only if out of memory.
+/// request's checkpoint has no reading, and `refused request` if the text is not a request of `consistency`, or text,
+/// list and `,"accepted":` would have more than 2^24 bytes together. Which signatures the request itself accepts does
+/// not matter. Fails only if out of memory.
 ///
 /// Of two requests that differ in their accepted signatures alone, and in none of those that are asked for, `consistency`
 /// has the same reply.

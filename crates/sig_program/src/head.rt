@@ -31,7 +31,7 @@ pub fn failing_link_of(
     }
 }
 
-/// The first link behind the checkpoint that fails, or none.
+/// The first link after the checkpoint that fails, or none.
 fn failing_link_under(
     alloc: Global,
     head: &ClaimedHead,

@@ -32,7 +32,7 @@ pub fn head_listing(alloc: Global, text: &[u8], head: &ClaimedHead) -> Result<Re
     reply
 }
 
-/// The checkpoint of a tree head; `None` if and only if its text is no checkpoint.
+/// The checkpoint of a tree head; `None` if and only if its text is not a checkpoint.
 fn head_checkpoint(alloc: Global, head: &ClaimedHead) -> Result<Option<SignedNote<'_>>, OutOfMemory>
     ensures { IfOk result (IsCheckpointOf head.now) }
 {

@@ -1,4 +1,4 @@
-//! The program but for its words and its standard streams: the links and the replies of each command, and
+//! The program except for its words and its standard streams: the links and the replies of each command, and
 //! [`run::run`], which carries the promise of this project. sig_request reads the requests.
 //!
 //! Replies:

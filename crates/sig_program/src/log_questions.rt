@@ -16,7 +16,7 @@ use std::alloc::Global;
 
 /// Returns the reply to a request's text: the list of the signatures that `log` asks for, each signature of the
 /// checkpoint over its note under the log's scheme and key, in order, with status 0; else `refused checkpoint` if the
-/// request's checkpoint has no reading, and `refused request` if the text is no request of `log`, or text, list and
+/// request's checkpoint has no reading, and `refused request` if the text is not a request of `log`, or text, list and
 /// `,"accepted":` would have more than 2^24 bytes together. Which signatures the request itself accepts does not matter.
 /// Fails only if out of memory.
 ///

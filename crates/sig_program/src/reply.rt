@@ -9,7 +9,7 @@ use sig_request::ConsistencyRequest;
 use sig_verify::Link;
 use std::alloc::Global;
 
-/// The line for words that are no command.
+/// The line for words that are not a command.
 pub const USAGE_LINE: &str = "usage\n";
 
 /// Returns `refused NAME`, for the first link that fails, with status 2 for the link `request`, else 1. Fails only if
@@ -24,7 +24,7 @@ pub fn refused(alloc: Global, link: Link) -> Result<Reply, OutOfMemory>
     Reply::refused(alloc, status, link.name())
 }
 
-/// Returns `logged I N`, the index and the size of the inclusion proof, and the second line behind it, with status 0.
+/// Returns `logged I N`, the index and the size of the inclusion proof, and the second line after it, with status 0.
 /// Fails only if out of memory.
 pub fn logged(alloc: Global, proof: &InclusionProof, second: &Text) -> Result<Reply, OutOfMemory>
     ensures { IfOk result (λ reply. reply ≡ logged proof.now second.now) }
@@ -32,7 +32,7 @@ pub fn logged(alloc: Global, proof: &InclusionProof, second: &Text) -> Result<Re
     success(alloc, "logged ", proof, second)
 }
 
-/// Returns `verified I N`, the index and the size of the inclusion proof, and the second line behind it, with status 0.
+/// Returns `verified I N`, the index and the size of the inclusion proof, and the second line after it, with status 0.
 /// Fails only if out of memory.
 pub fn verified(alloc: Global, proof: &InclusionProof, second: &Text) -> Result<Reply, OutOfMemory>
     ensures { IfOk result (λ reply. reply ≡ verified proof.now second.now) }
@@ -40,7 +40,7 @@ pub fn verified(alloc: Global, proof: &InclusionProof, second: &Text) -> Result<
     success(alloc, "verified ", proof, second)
 }
 
-/// The word, the index and the size of the inclusion proof, and the second line behind them, with status 0.
+/// The word, the index and the size of the inclusion proof, and the second line after them, with status 0.
 fn success(
     alloc: Global,
     word: &str,
@@ -56,8 +56,8 @@ fn success(
     Ok(Reply { status: 0, text })
 }
 
-/// Returns `consistent M N`, the old and the new size, and the second line behind it, with status 0. Fails only if out of
-/// memory.
+/// Returns `consistent M N`, the old and the new size, and the second line after it, with status 0. Fails only if out
+/// of memory.
 pub fn consistent(
     alloc: Global,
     request: &ConsistencyRequest,

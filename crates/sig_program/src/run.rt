@@ -1,4 +1,4 @@
-//! The program but for its words and streams: it reads a request, and makes and writes the reply.
+//! The program except for its words and streams: it reads a request, and makes and writes the reply.
 ghost use Rattle.std.specs.Prelude.{◌≡◌, ℕ, ◌⊎◌, ◌+◌, ◌<◌, ◌≤◌, IfOk, IsErrOf};
 ghost use Rattle.std.specs.Io.KnownBytes.{Appends};
 ghost use Rattle.sig_audit_command.specs.Suffice.{AuditQuestionsSuffice};
@@ -69,7 +69,7 @@ impl From<OutOfMemory> for NoReply {
 /// A command reads a request, at most 2^24 + 1 bytes of what the source has left, and writes one line: `logged I N` for
 /// `log`, `verified I N` for `verify`, `consistent M N` for `consistency` and `audited K W N` for `audit`, with status 0,
 /// if every link of the command holds, else `refused NAME` for the first that fails, with status 1, or 2 for the link
-/// `request`; of `audit` a link other than `request` has the index of its head or watched entry behind its name. With
+/// `request`; of `audit` a link other than `request` has the index of its head or watched entry after its name. With
 /// status 0 a second line follows if the request gives the log's entries: if they have the size and the RFC 6962 root
 /// that the links are about, `entry I` for `log` and `verify`, and the logged body is the entry at the index I, or
 /// `prefix M` for `consistency`, and the old root is that of the first M entries, M being the old size, or `prefixes K`

@@ -28,7 +28,7 @@ use std::alloc::Global;
 /// each path to a trust anchor that would hold if every signature were genuine, the SCT as issued by each such issuer
 /// of the certificate, the signature over the content, the log's promise, and each signature of the checkpoint's note.
 /// Else `refused NAME`, for the first link of `verify` that fails whatever is accepted: one before `issuer`, or
-/// `issuer` if there is no such path; and `refused request` if the text is no request of `verify`, or text, list and
+/// `issuer` if there is no such path; and `refused request` if the text is not a request of `verify`, or text, list and
 /// `,"accepted":` would have more than 2^24 bytes together. Which signatures the request itself accepts does not
 /// matter. Fails only if out of memory.
 ///

@@ -41,7 +41,7 @@ read_of : (parts : TrustParts) (c : Checked) (result : Listing) → OnOk result 
 read_of parts c (Ok rows) read bytes = (read, bytes)
 read_of parts c (Err error) read bytes = tt
 
--- a bundle that passes its own checks is no bundle that does not
+-- a bundle that passes its own checks is not a bundle that does not
 pub passed_refused : (b : Bundle) (error : BundleErrorKind) → ((c : Checked)
     → ComesWhere {X = Checked} bundle.OutOfMemory (Err error) (Ok c) (IsPassed b c)) → (c : Checked) × IsPassed b c
     → error ≡ bundle.OutOfMemory

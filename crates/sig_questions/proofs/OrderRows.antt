@@ -335,7 +335,7 @@ module _ (keys : LogKeys) (e : TransparencyLogEntry) (bytes : IsOfBytes keys e) 
     note_placed : ArePlaced OfNoteRow (note_questions scheme spki e)
     note_placed = by e.inclusion_proof refl
       where
-        -- the text of the proof is no checkpoint
+        -- the text of the proof is not a checkpoint
         none : (p : ProofFields) → e.inclusion_proof ≡ Some p
             → ((n : SignedCheckpoint) → ¬ OfText p (λ text. IsCheckpoint text n)) → ArePlaced OfNoteRow []
         none p proof absent = none_placed OfNoteRow (λ l place row asks.

@@ -1,4 +1,4 @@
--- Steps that add rows, one behind the other.
+-- Steps that add rows, one after the other.
 use Rattle.std.proofs.Common.{◌≡◌, ℕ, ◌+◌, ◌<◌, zero, suc, List, [], ◌∷◌, ◌++◌, take, get_or, length, Result, Ok, Err}
 use Rattle.std.proofs.Common.{refl, sym, ap, subst, arith, ◌∙◌}
 use Rattle.std.specs.List.{flat_map}

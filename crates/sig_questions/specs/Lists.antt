@@ -1,4 +1,4 @@
--- The questions in their order: those of each group, one behind the other.
+-- The questions in their order: those of each group, one after the other.
 use Rattle.std.specs.Prelude.{ℕ, ◌-◌, ◌^◌, Bool, true, false, nat_lt, map, if◌then◌else◌, List, [], ◌∷◌, ◌++◌, length}
 use Rattle.std.specs.Prelude.{flat_map, Option, Some, None, Result, Ok, Err}
 use Rattle.hex.specs.Hex.{encode_lower}
@@ -184,7 +184,7 @@ entry_questions keys e = entry_questions_under e (spki_named keys e.log_id)
 
 -- ---- all of them
 
--- behind those of certificates
+-- after those of certificates
 abbrev pub questions_behind : ArtifactDigest → Trust → LogKeys → Checked → List AcceptedRow
 questions_behind d trust keys c = sct_questions trust c ++ (content_questions d c ++ entry_questions keys c.entry)
 

@@ -22,7 +22,7 @@ AddsRows old rows (Err TooLong) new = old.room < bytes_of_rows rows
 AddsRows old rows (Err OutOfMemory) new = Unit {0}
 AddsRows old rows (Err (Link link)) new = ⊥
 
--- so much room is left behind so many bytes
+-- so much room is left after so many bytes
 abbrev pub IsSpent : ℕ → ℕ → Result ℕ NoQuestions → Type 0
 IsSpent room count (Ok left) = left + count ≡ room
 IsSpent room count (Err TooLong) = room < count
@@ -57,7 +57,7 @@ abbrev pub rows_of_paths : PossiblePaths → List AcceptedRow
 rows_of_paths paths = rows_of_signed paths.signers.items paths.leaf
     ++ flat_map (rows_of_signed paths.signers.items) paths.further.items
 
--- and those behind them
+-- and those after them
 abbrev pub rows_behind : PossiblePaths → TrustParts → ArtifactDigest → Checked → List AcceptedRow
 rows_behind paths trust d c = flat_map (rows_of_point (point_at trust.keyring) paths.leaf) paths.signers.items
     ++ (content_questions d c ++ entry_questions trust.log_keys c.entry)

@@ -118,7 +118,7 @@ pub fn questions(
     // Nothing else matters: checkers that say the same of each row have the same links that hold, under each policy.
     ensures suffice { IfOk result (λ rows. Suffices (Contains rows)
         (record { root = trusted_root.now; now = now; digest = digest.now; bundle = bundle.now })) }
-    // The rows are those of each group of links, one behind the other.
+    // The rows are those of each group of links, one after the other.
     ensures order { IfOk result (AreQuestions
         (record { root = trusted_root.now; now = now; digest = digest.now; bundle = bundle.now })) }
     // Of two positions the smaller is of an earlier link, or of the same link and an earlier place: of the certificates
@@ -258,7 +258,7 @@ fn list(
     list_paths(alloc, &paths, trust, digest, bundle, most)
 }
 
-/// The rows of the signatures of these paths, and those behind them.
+/// The rows of the signatures of these paths, and those after them.
 fn list_paths(
     alloc: Global,
     paths: &PossiblePaths<'_>,
@@ -283,7 +283,7 @@ fn list_paths(
     Ok(rows.rows)
 }
 
-/// The rows behind those of the certificate.
+/// The rows after those of the certificate.
 fn push_behind(
     rows: &mut Rows,
     alloc: Global,

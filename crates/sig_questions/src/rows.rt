@@ -7,7 +7,7 @@ use crate::listing::NoQuestions;
 use sig_base::{AcceptedRow, Bytes, Operation, OutOfMemory, Register};
 use std::alloc::Global;
 
-/// Rows in order, and how many more bytes the rows behind them may have.
+/// Rows in order, and how many more bytes the rows after them may have.
 #[derive(Drop)]
 pub(crate) struct Rows {
     pub(crate) rows: Register<AcceptedRow>,
@@ -38,7 +38,7 @@ impl Rows {
     }
 }
 
-/// What room is left behind a row.
+/// What room is left after a row.
 fn room_behind(room: usize, parts: &RowParts<'_>) -> Result<usize, NoQuestions>
     ensures { IsSpent room (row_bytes (row_of_parts parts.now)) result }
 {
@@ -48,7 +48,7 @@ fn room_behind(room: usize, parts: &RowParts<'_>) -> Result<usize, NoQuestions>
     room_left(room, parts.signature)
 }
 
-/// What room is left behind these bytes.
+/// What room is left after these bytes.
 fn room_left(room: usize, bytes: &[u8]) -> Result<usize, NoQuestions>
     ensures { IsSpent room (length bytes.now) result }
 {

@@ -61,7 +61,7 @@ cut_at-cut separator (b ∷ text) (c ∷ before) after some cut =
     ∙ ap (cut_here b None) (cut_at-cut separator text before after some later)
     ∙ ap (λ x. Some (x ∷ before, after)) same
 
--- behind the first byte, where the separator does not stand at it
+-- after the first byte, where the separator does not stand at it
 cut_behind : (separator text before after : List ℕ) (b : ℕ) → ((rest : List ℕ) → b ∷ text ≢ separator ++ rest)
     → IsCut separator text before after → IsCut separator (b ∷ text) (b ∷ before) after
 cut_behind separator text before after b lacks cut = record {

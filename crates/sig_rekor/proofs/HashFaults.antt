@@ -151,7 +151,7 @@ all_texts [] (hash ∷ hashes) are = absurd are
 all_texts (text ∷ texts) [] are = absurd are
 all_texts (text ∷ texts) (hash ∷ hashes) are = (are.0.0, all_texts texts hashes are.1)
 
--- the first text that is no hash, in a list that goes on from this place
+-- the first text that is not a hash, in a list that goes on from this place
 record Fails (place : ℕ) (texts : List (List ℕ)) (e : SigstoreError) : Type 0 where
   before : List (List ℕ)
   text : List ℕ

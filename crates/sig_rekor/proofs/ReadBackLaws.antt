@@ -232,7 +232,7 @@ signatures_back n s (next ∷ ss) small names values =
           (omega arith) names.1 values.1,
     ) refl
 
--- the rest behind the first empty line
+-- the rest after the first empty line
 blank_newline : is_blank newline ≡ true
 unfolding is_blank trim_start trim_end chars
 blank_newline = refl
@@ -276,7 +276,7 @@ content_lines (content ∷ contents) all = (
       all.1,
 )
 
--- the lines of a note behind the first
+-- the lines of a note after the first
 abbrev further : Checkpoint → List (List ℕ)
 further note = decimal note.size ∷ base64_text note.hash ∷ map content_text note.other_content
 

@@ -18,7 +18,7 @@ use Rattle.sig_rekor.specs.SignatureText.{signature_by, signature_of}
 use Rattle.sig_rekor.proofs.Cutting.{parts_between-found, parts_between-only, trimmed-found, trimmed-only}
 use Rattle.sig_rekor.proofs.Steps.{chosen, ok_or-ok}
 
--- the line behind its dash
+-- the line after its dash
 pub line-found : (text line : List ℕ) → line_of text ≡ Ok line
     → IsTrimmed 10 text line × (line ≡ em_dash ++ drop 3 line)
 unfolding line_of

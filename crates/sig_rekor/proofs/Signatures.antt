@@ -31,7 +31,7 @@ pub signatures_by-none : signatures_by [] ≡ Ok []
 unfolding signatures_by
 signatures_by-none = refl
 
--- one piece behind those that were read before
+-- one piece after those that were read before
 pub signatures_on-blank : (before : List CheckpointSignature) (piece : List ℕ) → is_blank piece ≡ true
     → signatures_on before (piece ∷ []) ≡ Ok before
 signatures_on-blank before piece blank =

@@ -92,7 +92,7 @@ written_parts line (next ∷ lines) is are =
     (cut_after 10 line (written next lines []) is.free)
     ∙ ap (λ ps. line ∷ ps) (written_parts next lines are.0 are.1)
 
--- the first empty line stands behind lines that are not empty
+-- the first empty line stands after lines that are not empty
 pub written_cut : (line : List ℕ) (lines : List (List ℕ)) (rest : List ℕ) → IsLine line → AllByRecursion IsLine lines
     → cut_at empty_line (written line lines (10 ∷ 10 ∷ rest)) ≡ Some (written line lines [], rest)
 written_cut line [] rest is are =

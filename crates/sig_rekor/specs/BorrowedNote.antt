@@ -4,7 +4,7 @@ use Rattle.sig_rekor.specs.declared.note.Note.TheInside.{Inside}
 use Rattle.sig_rekor.specs.Cut.{parts_between}
 use Rattle.sig_rekor.specs.NoteText.{newline, contents_of}
 
--- the note: what it borrows, and the contents of the lines behind the hash
+-- the note: what it borrows, and the contents of the lines after the hash
 abbrev pub note_in : Inside → Checkpoint
 note_in note = record {
   origin = note.origin.now;

@@ -39,7 +39,7 @@ pub record IsCheckpoint (text : List ℕ) (checkpoint : SignedCheckpoint) : Type
 unfoldable pub signatures_by : List (List ℕ) → Result (List CheckpointSignature) CheckpointFault
 signatures_by pieces = read_each signature_of (filter is_written pieces)
 
--- the same behind those that were read before
+-- the same after those that were read before
 abbrev pub signatures_on : List CheckpointSignature → List (List ℕ) → Result (List CheckpointSignature) CheckpointFault
 signatures_on before pieces = signatures_by pieces >>= λ signatures. Ok (before ++ signatures)
 

@@ -44,7 +44,7 @@ after_separator [] text = Some text
 after_separator (s ∷ separator) [] = None
 after_separator (s ∷ separator) (b ∷ bs) = if s == b then after_separator separator bs else None
 
--- the cut here, or else the one further on behind the byte
+-- the cut here, or else the one further on after the byte
 abbrev pub cut_here : ℕ → Option (List ℕ) → Option (List ℕ × List ℕ) → Option (List ℕ × List ℕ)
 cut_here b (Some after) later = Some ([], after)
 cut_here b None later = option_map (λ (cut : List ℕ × List ℕ). (b ∷ cut.0, cut.1)) later

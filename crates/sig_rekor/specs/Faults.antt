@@ -67,7 +67,7 @@ IsSignatureFault text fault = FailsFirst (SignatureKeeps text) signature_rules f
 abbrev pub StandsForSignature : List ℕ → Type 0
 StandsForSignature text = (signature : CheckpointSignature) × IsSignature text signature
 
--- the fault of the first piece, from the left, that is no signature
+-- the fault of the first piece, from the left, that is not a signature
 abbrev pub IsPieceFault : List (List ℕ) → CheckpointFault → Type 0
 IsPieceFault [] fault = ⊥
 IsPieceFault (piece ∷ pieces) fault =
@@ -77,7 +77,7 @@ IsPieceFault (piece ∷ pieces) fault =
 abbrev pub LacksEmptyLine : List ℕ → Type 0
 LacksEmptyLine text = (body : List ℕ) × IsTrimmed quotation_mark text body × Lacks empty_line body
 
--- with quotation marks trimmed, the text is a note's and these pieces, which are more than white space, behind the
+-- with quotation marks trimmed, the text is a note's and these pieces, which are more than white space, after the
 -- first empty line
 pub record HasPieces (text note_part : List ℕ) (written : List (List ℕ)) : Type 0 where
   pub body : List ℕ
@@ -88,7 +88,7 @@ pub record HasPieces (text note_part : List ℕ) (written : List (List ℕ)) : T
   pub between : IsParts empty_line rest pieces
   pub kept : written ≡ filter is_written pieces
 
--- *Fault of a checkpoint*: `Format` without an empty line; else that of the first piece that is no signature; where
+-- *Fault of a checkpoint*: `Format` without an empty line; else that of the first piece that is not a signature; where
 -- all are, the note's
 abbrev pub IsCheckpointFault : List ℕ → CheckpointFault → Type 0
 IsCheckpointFault text fault =

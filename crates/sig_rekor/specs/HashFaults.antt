@@ -38,7 +38,8 @@ IsHashFault other_length text e =
 abbrev pub AreHashTexts : List (List ℕ) → Type 0
 AreHashTexts texts = AllByRecursion IsHashText texts
 
--- *Fault of hashes*: that of the first text that is no hash; the index that it keeps is the number of hashes before it
+-- *Fault of hashes*: that of the first text that is not a hash; the index that it keeps is the number of hashes before
+-- it
 pub record IsHashesFault (texts : List (List ℕ)) (e : SigstoreError) : Type 0 where
   pub before : List (List ℕ)
   pub text : List ℕ
@@ -62,7 +63,7 @@ pub record IsProofOf (api : RekorInclusionProof) (proof : InclusionProof) : Type
   pub root : IsHashOf api.root_hash proof.root_hash
   pub checkpoint : IsCheckpointOf api.checkpoint proof.checkpoint
 
--- a text that is there and no checkpoint, with its own fault
+-- a text that is there and is not a checkpoint, with its own fault
 abbrev pub IsTextFault : List ℕ → SigstoreError → Type 0
 IsTextFault text e =
     (fault : CheckpointFault) × (text ≢ []) × IsCheckpointFault text fault × (e ≡ ParseCheckpointError fault)

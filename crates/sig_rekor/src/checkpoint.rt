@@ -21,7 +21,7 @@ pub struct Checkpoint {
     pub size: u64,
     /// The root hash of the tree (RFC 6962 section 2.1).
     pub hash: [u8; 32],
-    /// The lines behind the hash.
+    /// The lines after the hash.
     pub other_content: OtherContents,
 }
 
@@ -36,7 +36,7 @@ pub struct CheckpointSignature {
     pub name: Text,
 }
 
-/// A line of a note behind the hash.
+/// A line of a note after the hash.
 #[derive(Drop, PartialEq, Eq)]
 pub enum OtherContent {
     /// A line `KEY: VALUE`, split at the first colon and space.

@@ -1,4 +1,4 @@
-//! The lines of a note behind its hash.
+//! The lines of a note after its hash.
 ghost use Rattle.std.specs.Prelude.{◌≡◌, ◌++◌, [], ◌∷◌, true, IfOk, OnOk, string_bytes};
 ghost use Rattle.std.specs.List.{flat_map};
 ghost use Rattle.sig_rekor.specs.WrittenLines.{AreWritten};

@@ -1,4 +1,4 @@
-//! `ParseCheckpointError`: why a text is no checkpoint.
+//! `ParseCheckpointError`: why a text is not a checkpoint.
 use sig_base::{CheckpointFault, OutOfMemory, SigstoreError};
 use thiserror::Error;
 

@@ -36,7 +36,7 @@ pub fn decode_hash(text: &[u8], other_length: UnexpectedKind) -> Result<[u8; 32]
 
 /// Returns the hashes that the texts are, in their order.
 ///
-/// Errors, of the first text that is no hash, as of [`decode_hash`]: `HexDecodeError`, or `UnexpectedError` of
+/// Errors, of the first text that is not a hash, as of [`decode_hash`]: `HexDecodeError`, or `UnexpectedError` of
 /// `HashLength` with the index of the text; `laws::hash_texts` says when each comes.
 #[tactic(auto, using(sig_base::proofs::EachFrom::each_left))]
 pub fn decode_hashes(alloc: Global, texts: &Entries) -> Result<Hashes>

@@ -32,7 +32,7 @@ pub fn constants()
     ensures lengths { LengthsAreStandard }
 {}
 
-/// White space, which is dropped at the end of a signature's base64 and is no origin alone, is Unicode's. It has no
+/// White space, which is dropped at the end of a signature's base64 and is not an origin alone, is Unicode's. It has no
 /// code.
 pub fn white_space()
     ensures points { (c : ℕ) → IsTrue (is_whitespace c) ↔ IsTrue (is_white_space c) }
@@ -103,8 +103,8 @@ pub fn signature_faults()
 {}
 
 /// Reading a text as a checkpoint fails with a fault if and only if the fault is `Format` and no empty line is there,
-/// or it is the fault of the first piece, from the left, that is no signature, or all are and it is the note's. It has
-/// no code.
+/// or it is the fault of the first piece, from the left, that is not a signature, or all are and it is the note's. It
+/// has no code.
 pub fn checkpoint_faults()
     ensures { (text : List ℕ) (fault : CheckpointFault) →
         (checkpoint_of text ≡ Err fault) ↔ IsCheckpointFault text fault }
@@ -141,8 +141,8 @@ pub fn hash_texts()
 {}
 
 /// An inclusion proof of Rekor's API is taken for a proof if and only if it is that proof. Each fault comes if and only
-/// if it has its cause: it is that of the first text that is no hash; or the hashes are such, and it is the root's; or
-/// the root is one too, and it is that of the checkpoint's text. It has no code.
+/// if it has its cause: it is that of the first text that is not a hash; or the hashes are such, and it is the root's;
+/// or the root is one too, and it is that of the checkpoint's text. It has no code.
 pub fn api_proofs()
     ensures proof { (api : ApiProof) (proof : Proof) →
         (inclusion_proof_from_rekor api ≡ Ok proof) ↔ IsProofOf api proof }

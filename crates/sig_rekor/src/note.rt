@@ -24,14 +24,14 @@ use sig_base::{CheckpointFault, OutOfMemory, Text};
 use std::alloc::Global;
 use std::marker::Model;
 
-/// A note, borrowed from its text: its lines behind the hash take no memory. Contracts see the [`Checkpoint`] that it
+/// A note, borrowed from its text: its lines after the hash take no memory. Contracts see the [`Checkpoint`] that it
 /// is.
 #[derive(Drop)]
 pub struct Note<'a> {
     pub(crate) origin: &'a str,
     pub(crate) size: u64,
     pub(crate) hash: [u8; 32],
-    /// The lines behind the hash, those that are empty too.
+    /// The lines after the hash, those that are empty too.
     pub(crate) others: &'a str,
 }
 
@@ -157,7 +157,7 @@ fn read_hash(alloc: Global, line: &str) -> Result<[u8; 32], ParseCheckpointError
     }
 }
 
-/// The first three lines of a note's text, to write on behind them.
+/// The first three lines of a note's text, to write on after them.
 #[tactic(auto, using(crate::proofs::Steps::appended))]
 pub(crate) fn write_head(
     alloc: Global,

@@ -1,5 +1,5 @@
 -- *Log entry*: an entry as Rekor's API returns it, object by object: each member with its name and its kind. Numbers
--- are JSON numbers, and no texts of digits.
+-- are JSON numbers, and not texts of digits.
 use Rattle.std.specs.Prelude.{ℕ, ℤ, List, [], ◌∷◌, codes, Option, Some, None, Result, if◌then◌else◌}
 use Rattle.std.specs.Option.{ok_or}
 use Rattle.std.specs.Result.{result_ok}
@@ -113,7 +113,7 @@ entry_members_of d = do
 unfoldable pub log_entry_of : Data → Option LogEntry
 log_entry_of d = if has_only entry_names d then entry_members_of d else None
 
--- the entry of a text, none where it is no document without floats or a member is not as it has to be
+-- the entry of a text, none where it is not a document without floats or a member is not as it has to be
 unfoldable pub entry_in : List ℕ → Option LogEntry
 entry_in text = result_ok (record_in log_entry_of text)
 

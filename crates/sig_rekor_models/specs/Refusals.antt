@@ -79,7 +79,7 @@ IsGrowthRefusal accepts head old_size old_root proof e =
 abbrev pub IsKeyText : List ℕ → List ℕ → Type 0
 IsKeyText coded text = OfBytes coded (λ bytes. (bytes ≡ text) × IsUtf8 bytes)
 
--- *Fault of a key*: no base64; or the base64 of bytes that are no UTF-8
+-- *Fault of a key*: no base64; or the base64 of bytes that are not UTF-8
 abbrev pub IsKeyFault : List ℕ → SigstoreError → Type 0
 IsKeyFault coded e =
     (¬ OfBytes coded (λ bytes. ⊤) × (e ≡ Base64DecodeError))

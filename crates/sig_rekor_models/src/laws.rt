@@ -221,7 +221,7 @@ pub fn growth_refusals()
         ↔ IsGrowthRefusal accepts head old_size old_root proof error }
 {}
 
-/// The text of a public key is the UTF-8 that its base64 is of. `Base64DecodeError` comes if and only if it is no
+/// The text of a public key is the UTF-8 that its base64 is of. `Base64DecodeError` comes if and only if it is not
 /// base64, `Utf8Error` if and only if it is that of other bytes. It has no code.
 pub fn key_texts()
     ensures text { (coded text : List ℕ) → (decoded_text coded ≡ Ok text) ↔ IsKeyText coded text }

@@ -217,7 +217,7 @@ fn read_members(alloc: Global, json: Json<'_, '_>) -> Result<LogEntry, MemberErr
 }
 
 impl LogEntry {
-    /// Reads an entry as Rekor's API returns it. Fails with `SerdeJsonError` if and only if the text is no JSON
+    /// Reads an entry as Rekor's API returns it. Fails with `SerdeJsonError` if and only if the text is not a JSON
     /// document without floats, or a member is not as it has to be: `body` a text in padded standard base64 of a JSON
     /// object without floats that has one of the nine kinds as `kind`, a text `apiVersion` and a `spec`; `logID` a
     /// text; `integratedTime` and `logIndex` numbers from -2^63 to 2^63 - 1; `verification` an object with a text

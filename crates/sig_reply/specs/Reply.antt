@@ -15,7 +15,7 @@ refusal_at name place = record {
   text = codes "refused " ++ (name ++ (codes " " ++ (decimal place ++ codes "\n")));
 }
 
--- the reply where the text is no request, or has no room beside it for the list that it asks for
+-- the reply where the text is not a request, or has no room beside it for the list that it asks for
 abbrev pub no_request : Reply
 no_request = refusal 2 (codes "request")
 

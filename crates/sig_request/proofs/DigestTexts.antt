@@ -37,7 +37,7 @@ bytes_after-some beginning size text bytes = by (after_separator beginning text)
   by (Some digits) is same =
       (digits, after_separator-some beginning text digits is, ok_from (decode_sized digits size) bytes same)
 
--- bytes behind a beginning
+-- bytes after a beginning
 pub bytes_after-at : (beginning digits : List ℕ) (size : ℕ) (bytes : List ℕ) → decode_sized digits size ≡ Ok bytes
     → bytes_after beginning size (beginning ++ digits) ≡ Some bytes
 bytes_after-at beginning digits size bytes is = rw (after_separator-at beginning digits, is) refl

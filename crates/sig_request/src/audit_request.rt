@@ -165,7 +165,7 @@ impl AuditRequest {
     ghost use Rattle.sig_request.specs.ReadFrom.{IsReadFrom};
     ghost use Rattle.sig_request.specs.AuditRequest.{audit_request};
 
-    /// Reads a request; `None` if and only if the text has more than 2^24 bytes, is no JSON document without floats,
+    /// Reads a request; `None` if and only if the text has more than 2^24 bytes, is not a JSON document without floats,
     /// or does not have the members of a request: from 1 to 256 heads, and at most 4,096 watched entries, each of which
     /// names one of these heads by its index. Fails only if out of memory.
     pub fn read(alloc: Global, text: &[u8]) -> Result<Option<AuditRequest>, OutOfMemory>

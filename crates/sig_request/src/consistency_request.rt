@@ -90,7 +90,7 @@ impl ConsistencyRequest {
     ghost use Rattle.sig_request.specs.ReadFrom.{IsReadFrom};
     ghost use Rattle.sig_request.specs.ConsistencyRequest.{consistency_request};
 
-    /// Reads a request; `None` if and only if the text has more than 2^24 bytes, is no JSON document without floats,
+    /// Reads a request; `None` if and only if the text has more than 2^24 bytes, is not a JSON document without floats,
     /// or does not have the members of a request. Fails only if out of memory.
     pub fn read(alloc: Global, text: &[u8]) -> Result<Option<ConsistencyRequest>, OutOfMemory>
         ensures { IfOk result (IsReadFrom consistency_request text.now) }

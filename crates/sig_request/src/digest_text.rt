@@ -50,7 +50,7 @@ fn find_digest(text: &str) -> Option<ArtifactDigest>
     }
 }
 
-/// The digest of a text; `None` if and only if it is no digest's text.
+/// The digest of a text; `None` if and only if it is not a digest's text.
 #[tactic(auto, using(crate::proofs::DigestTexts::texts))]
 pub(crate) fn digest_of(text: &str) -> Option<ArtifactDigest>
     ensures exact { result ≡ digest_in text.now }

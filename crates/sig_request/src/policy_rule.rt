@@ -135,7 +135,8 @@ fn one_of_five(
     one_at_most(found, ref_is(git_ref))
 }
 
-/// The policy of a GitHub workflow, `None` without one. Fails with `Member` if a member is no text, or two are there.
+/// The policy of a GitHub workflow, `None` without one. Fails with `Member` if a member is not a text, or two are
+/// there.
 #[tactic(auto, unfolding(crate::specs::Policy::workflow_policy))]
 fn workflow_policy(alloc: Global, json: Json<'_, '_>) -> Result<Option<LeafPolicy>, MemberError>
     ensures { Answers MemberError.OutOfMemory (λ x. x) result (or_member (workflow_policy (tree json.entry))) }

@@ -98,7 +98,7 @@ impl LogRequest {
     ghost use Rattle.sig_request.specs.ReadFrom.{IsReadFrom};
     ghost use Rattle.sig_request.specs.Request.{log_request};
 
-    /// Reads a request; `None` if and only if the text has more than 2^24 bytes, is no JSON document without floats,
+    /// Reads a request; `None` if and only if the text has more than 2^24 bytes, is not a JSON document without floats,
     /// or does not have the members of a request. Fails only if out of memory.
     pub fn read(alloc: Global, text: &[u8]) -> Result<Option<LogRequest>, OutOfMemory>
         ensures { IfOk result (IsReadFrom log_request text.now) }

@@ -38,7 +38,7 @@ pub trait RequestReader {
 }
 
 /// The request that a text is, by `accepted` and a table of these names; `None` if and only if the text has more than
-/// 2^24 bytes, is no JSON document without floats, or does not have the members of a request. No tree is made of a
+/// 2^24 bytes, is not a JSON document without floats, or does not have the members of a request. No tree is made of a
 /// member of another name. Fails only if out of memory.
 #[tactic(auto, using(crate::proofs::RequestTexts::texts))]
 pub fn request_from_text<T: RequestReader>(

@@ -102,10 +102,10 @@ impl ElementReader for RowReader {
     }
 }
 
-/// Reads accepted signatures: a list of rows. Fails with `Member` if and only if the value is no list, or a row is not
-/// as it has to be: an object with `operation` (`message`, `prehash`, `point`, `certificate`), `scheme`, `key`,
-/// `message` and `signature`, of which the last three are base64 and required. `scheme` is a scheme's name for the first
-/// two operations, absent for `point`, and base64 of the AlgorithmIdentifier for `certificate`.
+/// Reads accepted signatures: a list of rows. Fails with `Member` if and only if the value is not a list, or a row is
+/// not as it has to be: an object with `operation` (`message`, `prehash`, `point`, `certificate`), `scheme`, `key`,
+/// `message` and `signature`, of which the last three are base64 and required. `scheme` is a scheme's name for the
+/// first two operations, absent for `point`, and base64 of the AlgorithmIdentifier for `certificate`.
 pub fn read_accepted(alloc: Global, json: Json<'_, '_>) -> Result<TableChecker, MemberError>
     ensures { Answers MemberError.OutOfMemory (λ checker. checker) result
         (or_member (accepted_of (tree json.entry))) }

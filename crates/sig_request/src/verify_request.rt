@@ -85,7 +85,7 @@ impl VerifyRequest {
     ghost use Rattle.sig_request.specs.ReadFrom.{IsReadFrom};
     ghost use Rattle.sig_request.specs.VerifyRequest.{verify_request};
 
-    /// Reads a request; `None` if and only if the text has more than 2^24 bytes, is no JSON document without floats,
+    /// Reads a request; `None` if and only if the text has more than 2^24 bytes, is not a JSON document without floats,
     /// or does not have the members of a request. Its policy has in each rule exactly one of the sets of members that a
     /// rule may have, as [`policies`](crate::laws::policies) says. Fails only if out of memory.
     pub fn read(alloc: Global, text: &[u8]) -> Result<Option<VerifyRequest>, OutOfMemory>

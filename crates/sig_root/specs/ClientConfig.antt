@@ -18,7 +18,7 @@ use Rattle.sig_root.specs.declared.record.TrustedRoot.{TrustedRoot}
 unfoldable pub configured_root_of : Data → Option (Option TrustedRoot)
 configured_root_of d = optional trusted_root_of (codes "trustedRoot") d
 
--- the trusted root that the configuration of a text has, if any, or why the text is no configuration
+-- the trusted root that the configuration of a text has, if any, or why the text is not a configuration
 abbrev pub configured_root_in : List ℕ → Result (Option TrustedRoot) JsonError
 configured_root_in = record_in configured_root_of
 

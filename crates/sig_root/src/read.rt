@@ -131,7 +131,7 @@ impl ElementReader for RootReader {
 /// - `NotJson` if the text has no reading;
 /// - then `Float` if its tree holds a number with a point or an exponent, `-0`, or an integer outside -2^63 to
 ///   2^64 - 1;
-/// - then `Member` if the text is no object, or a member is not of its kind;
+/// - then `Member` if the text is not an object, or a member is not of its kind;
 /// - `OutOfMemory`.
 pub fn read_trusted_root(alloc: Global, text: &[u8]) -> Result<TrustedRoot, JsonError>
     ensures { Answers JsonError.OutOfMemory (λ root. root) result (trusted_root_in text.now) }

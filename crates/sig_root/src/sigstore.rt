@@ -37,7 +37,7 @@ impl SigstoreTrustRoot {
     /// Returns the trusted root that a text is, as `read_trusted_root` reads it. Nothing is checked of who made the
     /// text. Errors:
     ///
-    /// - `SerdeJsonError` if and only if the text is no trusted root, unless memory runs out;
+    /// - `SerdeJsonError` if and only if the text is not a trusted root, unless memory runs out;
     /// - `OutOfMemory`.
     pub fn from_trusted_root_json_unchecked(alloc: Global, json: &[u8]) -> Result<SigstoreTrustRoot>
         ensures { Answers SigstoreError.OutOfMemory (λ root. root) result (trusted_root_of_text json.now) }
@@ -54,8 +54,8 @@ impl SigstoreTrustRoot {
     /// configuration are ignored, and no tree is made of them. Nothing is checked of who made the text. Errors, each a
     /// `SigstorePKIFileMalformedError`, unless memory runs out:
     ///
-    /// - of `NotReadable` if and only if the text is no such configuration: it is no JSON without floats, no object,
-    ///   or its `trustedRoot` is there, not null and no trusted root;
+    /// - of `NotReadable` if and only if the text is not such a configuration: it is not JSON without floats, no
+    ///   object, or its `trustedRoot` is there, not null and not a trusted root;
     /// - of `TrustedRootMissing` if and only if it is one whose `trustedRoot` is absent or null;
     /// - `OutOfMemory`.
     pub fn from_client_trust_config(alloc: Global, json: &[u8]) -> Result<SigstoreTrustRoot>

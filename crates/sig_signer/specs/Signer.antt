@@ -94,7 +94,7 @@ signer_answer accepts pool c at now = do
 
 -- ---- of bytes
 
--- the bytes are no certificate
+-- the bytes are not a certificate
 abbrev pub IsUnreadable : List ℕ → Type 0
 IsUnreadable der = (c : Cert) → ¬ IsCertificate der c
 

@@ -41,7 +41,7 @@ impl CertificateSignature {
     /// `integrated_time` is when a log took the signature.
     ///
     /// Errors, the first that applies:
-    /// - `X509Error`: the bytes are no certificate (RFC 5280 section 4.1);
+    /// - `X509Error`: the bytes are not a certificate (RFC 5280 section 4.1);
     /// - `CertificatePoolError` of `Malformed` or `VerificationFailed`: the pool finds no issuer of it at the first second
     ///   of its validity, as [`CertificatePool::verify_cert_with_time`] says;
     /// - those of [`is_trusted`]: key usages, one subject alternative name, validity by now and at the integrated time;

@@ -1,4 +1,4 @@
--- Why a text is no key of a ring: each fault, and when it comes.
+-- Why a text is not a key of a ring: each fault, and when it comes.
 use Rattle.std.proofs.Common.{◌≡◌, ◌≢◌, ◌⊎◌, ℕ, Bool, true, false, not, eqb, cond, ◌&&◌, List, Option, Some, None}
 use Rattle.std.proofs.Common.{Result, Ok, Err, refl, sym, ap, ◌∙◌, inl, inr}
 use Rattle.std.specs.Prelude.{bytes_eq}

@@ -34,7 +34,7 @@ point_under bits oid (Some p) =
     else if is_null p && bytes_eq oid rsa then Err AlgoUnsupported
     else Err KeyMalformed
 
--- the point of an SPKI, or why it is no key of a ring
+-- the point of an SPKI, or why it is not a key of a ring
 abbrev pub point_in : KeyInfo → Result (List ℕ) KeyringError
 point_in k = point_under k.bits k.algorithm.oid k.algorithm.parameters
 
@@ -54,7 +54,7 @@ abbrev pub point_of_info : Option KeyInfo → Result (List ℕ) KeyringError
 point_of_info None = Err KeyMalformed
 point_of_info (Some k) = point_in k
 
--- the point of bytes, or why they are no key of a ring
+-- the point of bytes, or why they are not a key of a ring
 unfoldable pub point_of : List ℕ → Result (List ℕ) KeyringError
 point_of spki = point_of_info (whole_key_info spki)
 
@@ -86,18 +86,18 @@ vouch accepts None message signature = Err KeyNotFound
 vouch accepts (Some point) message signature = if accepts point message signature then Ok tt
     else Err VerificationFailed
 
--- ---- why bytes are no key of a ring
+-- ---- why bytes are not a key of a ring
 
 -- the parameters are absent, an object identifier, or the NULL of an RSA key (RFC 3279 section 2.3.1)
 abbrev pub AreKnown : List ℕ → Option Piece → Type 0
 AreKnown oid None = Unit {0}
 AreKnown oid (Some p) = (is_identifier p ≡ true) ⊎ ((is_null p ≡ true) × (oid ≡ rsa))
 
--- The bytes are no SPKI, or one with other parameters.
+-- The bytes are not an SPKI, or one with other parameters.
 abbrev pub IsMalformedKey : List ℕ → Type 0
 IsMalformedKey spki = (k : KeyInfo) → IsKeyInfo k → k.whole ≡ spki → ¬ AreKnown k.algorithm.oid k.algorithm.parameters
 
--- The bytes are an SPKI with such parameters, and no point of P-256.
+-- The bytes are an SPKI with such parameters, and not a point of P-256.
 pub record IsOtherKey (spki : List ℕ) : Type 0 where
   pub info : KeyInfo
   pub is : IsKeyInfo info

@@ -30,8 +30,8 @@ extensions_element es = element EXTENSIONS (element SEQUENCE (ders_of es))
 abbrev pub tbs_with : Cert → List Extension → List ℕ
 tbs_with c es = element SEQUENCE (c.front ++ extensions_element es)
 
--- *Precertificate TBS*: the elements of the TBSCertificate, each as it is, but for its extensions, which are made anew
--- without those that list SCTs. A TBSCertificate without extensions is kept as it is.
+-- *Precertificate TBS*: the elements of the TBSCertificate, each as it is, except for its extensions, which are made
+-- anew without those that list SCTs. A TBSCertificate without extensions is kept as it is.
 abbrev pub precertificate : Cert → List ℕ
 precertificate c = if c.listed then tbs_with c (kept_extensions c) else c.tbs
 

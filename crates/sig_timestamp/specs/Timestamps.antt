@@ -33,7 +33,7 @@ pub record ListsOthers (c : Cert) : Type 0 where
 abbrev pub LacksSct : Cert → Type 0
 LacksSct c = (length (sct_extensions c) ≢ 1) ⊎ ListsOthers c
 
--- The value is no list of SCTs.
+-- The value is not a list of SCTs.
 abbrev pub IsNoList : List ℕ → Type 0
 IsNoList value = (texts : List (List ℕ)) → ¬ IsSctList value texts
 

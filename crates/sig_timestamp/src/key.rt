@@ -35,9 +35,9 @@ impl Model for Key {
 impl Key {
     /// Returns the key of this SubjectPublicKeyInfo (DER, RFC 5280 section 4.1.2.7). Errors:
     ///
-    /// - `KeyMalformed` if and only if the bytes are no SPKI, or the parameters of its algorithm are there and are
+    /// - `KeyMalformed` if and only if the bytes are not an SPKI, or the parameters of its algorithm are there and are
     ///   neither an object identifier nor the NULL of an RSA key;
-    /// - `AlgoUnsupported` if and only if it is any other SPKI that is no point of P-256, one without parameters
+    /// - `AlgoUnsupported` if and only if it is any other SPKI that is not a point of P-256, one without parameters
     ///   included;
     /// - `OutOfMemory`.
     pub fn new(alloc: Global, spki_bytes: &[u8]) -> Result<Key, KeyringError>

@@ -30,7 +30,7 @@ impl Model for Keyring {
 }
 
 impl Keyring {
-    /// Returns the keys of these SPKIs (DER). One that is no point of P-256 is left out; of two with one id the last
+    /// Returns the keys of these SPKIs (DER). One that is not a point of P-256 is left out; of two with one id the last
     /// is kept. Fails only if out of memory.
     pub fn new(alloc: Global, keys: &Entries) -> Result<Keyring, KeyringError>
         ensures keys { IfOk result (λ r. (id : List ℕ) → point_at r id ≡ key_of keys.now id) }

@@ -10,8 +10,8 @@ use thiserror::Error;
 /// Why a key did not get into a keyring, or why a keyring does not vouch for a signature.
 #[derive(Clone, Copy, Debug, PartialEq, Eq, Error)]
 pub enum KeyringError {
-    /// The bytes are no SPKI, or the parameters of its algorithm are neither an object identifier nor the NULL of an
-    /// RSA key.
+    /// The bytes are not an SPKI, or the parameters of its algorithm are neither an object identifier nor the NULL of
+    /// an RSA key.
     #[error("KeyMalformed")]
     KeyMalformed,
     /// The key is of another kind than a point of P-256.

@@ -28,7 +28,7 @@ cut_parts text (Some x) is =
 
 -- ---- three parts
 
--- a byte that is no point goes to the front of a part without points
+-- a byte that is not a point goes to the front of a part without points
 onto : (b : ℕ) (part : List ℕ) → is_point b ≡ false → LacksPoints part → LacksPoints (b ∷ part)
 onto b part plain has zero d inside = plain
 onto b part plain has (suc k) d inside = has k d (omega arith)

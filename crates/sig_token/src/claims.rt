@@ -71,7 +71,7 @@ impl ElementReader for ClaimsReader {
 
 /// The claims that a text is: an object of the texts `aud` and `email`, the number `exp`, and the number `nbf`, which
 /// may be absent or null. Other members are ignored. Fails with `NotJson` if the text has no reading, then with `Float`
-/// if a number in it is held as a float, and then with `Member` if it is no such object.
+/// if a number in it is held as a float, and then with `Member` if it is not such an object.
 pub(crate) fn read_claims(alloc: Global, text: &[u8]) -> Result<Claims, JsonError>
     ensures { Answers JsonError.OutOfMemory (λ claims. claims) result (claims_in text.now) }
 {

@@ -41,7 +41,7 @@ impl IdentityToken {
     /// - `NotThreeParts`: the text is not three parts with a point between each two (RFC 7515 section 7.1); a part may
     ///   be empty;
     /// - `ClaimsBase64`: the second part is not base64 of the standard alphabet without padding (RFC 4648 section 4);
-    /// - `ClaimsJson`: its bytes are no JSON object without floats that has the texts `aud` and `email`, the number
+    /// - `ClaimsJson`: its bytes are not a JSON object without floats that has the texts `aud` and `email`, the number
     ///   `exp` from -2^63 to 2^63 - 1 and, unless it is absent or null, such a number `nbf`;
     /// - `NotSigstore`: `aud` is not `sigstore`.
     pub fn try_from_text(alloc: Global, value: &str) -> Result<IdentityToken>

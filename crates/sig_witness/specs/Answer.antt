@@ -13,7 +13,7 @@ use Rattle.sig_witness.specs.declared.kept_log.KeptLog.{KeptLog}
 use Rattle.sig_witness.specs.Kept.{last_of}
 use Rattle.sig_witness.specs.Updates.{Update, origin_of, most_heads}
 
--- whether there is room behind so many heads, once the proof was accepted
+-- whether there is room after so many heads, once the proof was accepted
 abbrev pub room_answer : ℕ → Result (Unit {0}) MerkleProofError → Result (Unit {0}) WitnessError
 room_answer heads (Ok _) = if nat_lt heads most_heads then Ok tt else Err Full
 room_answer heads (Err cause) = Err (Consistency cause)

@@ -50,7 +50,7 @@ abbrev pub IsUpdateAnswer : (VerifyScheme → List ℕ → List ℕ → List ℕ
 IsUpdateAnswer accepts logs update (Ok _) = (log : KeptLog) × IsTaken accepts logs update log
 IsUpdateAnswer accepts logs update (Err e) = IsUpdateFault accepts logs update e
 
--- the result of adding an origin: it is a line that is not there; or it is no line; or it is there
+-- the result of adding an origin: it is a line that is not there; or it is not a line; or it is there
 abbrev pub IsAddAnswer : List (List ℕ × KeptLog) → List ℕ → Result (Unit {0}) WitnessError → Type 0
 IsAddAnswer logs origin (Ok _) = IsOriginText origin × (text_lookup origin logs ≡ None)
 IsAddAnswer logs origin (Err e) =

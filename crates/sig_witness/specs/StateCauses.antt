@@ -30,7 +30,7 @@ pub record AreLinesOf (text : List ℕ) (all : List LogLines) : Type 0 where
   pub whole : text ≡ all_before all []
   pub lines : AllByRecursion AreLines all
 
--- ---- the conditions on the lines of an origin, behind those of another origin
+-- ---- the conditions on the lines of an origin, after those of another origin
 
 -- the origin is above the other in byte order, so not empty
 abbrev pub IsAbove : List ℕ → LogLines → Type 0
@@ -84,7 +84,7 @@ IsFirstFault before [] e = ⊥
 IsFirstFault before (lines ∷ later) e =
     IsLinesFault before lines e ⊎ (AreSound before lines × IsFirstFault lines.origin later e)
 
--- *Fault of a state*: the text is no lines in fives; or the first fault of its lines
+-- *Fault of a state*: the text is not lines in fives; or the first fault of its lines
 abbrev pub IsStateFault : List ℕ → StateError → Type 0
 IsStateFault text e =
     (((all : List LogLines) → ¬ AreLinesOf text all) × (e ≡ Lines))

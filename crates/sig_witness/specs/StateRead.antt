@@ -42,7 +42,7 @@ abbrev pub IsHeadFault : LogLines → StateError → Type 0
 IsHeadFault lines =
     Unless (HasSize lines) Size (Unless (HasHash lines) Hash (Unless (HasRoot lines) Root (λ _. ⊥)))
 
--- the log that lines say, behind those of another origin
+-- the log that lines say, after those of another origin
 pub record IsLogOf (before : List ℕ) (lines : LogLines) (log : KeptLog) : Type 0 where
   pub sound : AreSound before lines
   pub cut : IsCutLog log

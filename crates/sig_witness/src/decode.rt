@@ -20,8 +20,8 @@ impl Witness {
     /// fault, and of it the first that applies:
     /// - `Origin`: it is empty, or not above the one before it in byte order;
     /// - `Scheme`: the second line is not the name of a scheme;
-    /// - `Key`: the third is no base64;
-    /// - `Size`: the fourth is no number below 2^64 in decimal without leading zeros;
+    /// - `Key`: the third is not base64;
+    /// - `Size`: the fourth is not a number below 2^64 in decimal without leading zeros;
     /// - `Hash`: the fifth is not 32 bytes in base64;
     /// - `Root`: the size is 0, and they are not the root of no entries;
     ///

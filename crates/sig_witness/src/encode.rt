@@ -36,7 +36,7 @@ impl Witness {
     }
 }
 
-/// Writes the lines of an origin behind a text. Fails only if out of memory.
+/// Writes the lines of an origin after a text. Fails only if out of memory.
 fn push_lines(
     alloc: Global,
     text: &mut String,

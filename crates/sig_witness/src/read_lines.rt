@@ -21,7 +21,7 @@ use sig_merkle::empty_root;
 use std::alloc::Global;
 use std::cmp::Ordering;
 
-/// Returns the log that lines say, behind those of the origin `before`. Fails with the first condition that does not
+/// Returns the log that lines say, after those of the origin `before`. Fails with the first condition that does not
 /// hold, or with `OutOfMemory`.
 #[tactic(auto, using(crate::proofs::ReadLines::log_faults))]
 pub(crate) fn read_log(

@@ -1,8 +1,8 @@
-//! `StateError`: why a text is no state of a witness.
+//! `StateError`: why a text is not a state of a witness.
 use sig_base::OutOfMemory;
 use thiserror::Error;
 
-/// Why a text is no state of a witness: the first fault, of its origins in order.
+/// Why a text is not a state of a witness: the first fault, of its origins in order.
 #[derive(Clone, Copy, Debug, PartialEq, Eq, Error)]
 pub enum StateError {
     /// The text is not lines in fives, each ended by a newline.
@@ -14,10 +14,10 @@ pub enum StateError {
     /// The second line of an origin is not the name of a scheme.
     #[error("Scheme")]
     Scheme,
-    /// The third line is no base64.
+    /// The third line is not base64.
     #[error("Key")]
     Key,
-    /// The fourth line is no number below 2^64 in decimal without leading zeros.
+    /// The fourth line is not a number below 2^64 in decimal without leading zeros.
     #[error("Size")]
     Size,
     /// The fifth line is not 32 bytes in base64.

@@ -47,8 +47,8 @@ struct Cut<'a> {
     rest: &'a str,
 }
 
-/// Returns the lines of a text in fives, each line ended by a newline. Fails with `Lines` if and only if the text is no
-/// such lines, or with `OutOfMemory`.
+/// Returns the lines of a text in fives, each line ended by a newline. Fails with `Lines` if and only if the text is
+/// not such lines, or with `OutOfMemory`.
 #[tactic(auto, using(crate::proofs::StateLines::splitting))]
 pub(crate) fn split_lines(alloc: Global, text: &str) -> Result<Vec<StateLines<'_>>, StateError>
     ensures ok { IfOk result (λ all. AreLinesOf text.now all.items) }

@@ -122,7 +122,7 @@ impl Witness {
     /// - `UnknownOrigin`: the checkpoint's origin is not there;
     /// - `NoteKey`: the checker accepts none of the signatures under the origin's key;
     /// - `OldSize`, with the size of the kept head: `old_size` is another;
-    /// - `Consistency`: the hashes are no consistency proof from the kept head, with the error of
+    /// - `Consistency`: the hashes are not a consistency proof from the kept head, with the error of
     ///   [`sig_merkle::verify_consistency`];
     /// - `Full`: 4,096 heads are kept of the origin;
     /// - `OutOfMemory`.

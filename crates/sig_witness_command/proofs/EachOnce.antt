@@ -40,7 +40,7 @@ absent-behind rows row absent =
     if-false (has_row rows row) rows (rows ++ row ∷ [])
     (not-true (has_row rows row) (λ is. absent (among rows row is)))
 
--- one more row is there, or it is not and comes behind
+-- one more row is there, or it is not and comes after
 one-row : (rows : List AcceptedRow) (row : AcceptedRow)
     → (Contains rows row × (with_row rows row ≡ rows)) ⊎ ((¬ Contains rows row) × (with_row rows row ≡ rows ++ row ∷ []))
 one-row rows row = by (has_row rows row) refl where
@@ -52,7 +52,7 @@ one-row rows row = by (has_row rows row) refl where
     if-false (has_row rows row) rows (rows ++ row ∷ []) is,
   )
 
--- ---- rows behind others
+-- ---- rows after others
 
 pub once-parts : (before first second : List AcceptedRow)
     → each_once_after before (first ++ second) ≡ each_once_after (each_once_after before first) second

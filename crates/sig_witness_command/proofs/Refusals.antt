@@ -66,7 +66,7 @@ module _ (accepts : VerifyScheme → List ℕ → List ℕ → List ℕ → Bool
       IfOk-weaker r (λ o. error_outcome e ≡ Some o) (λ o. IsUpdated accepts logs text o after)
       (λ o. updated e after o found step)
 
--- ---- a text that is no checkpoint
+-- ---- a text that is not a checkpoint
 
 pub unread : (update : UpdateText) (text : List ℕ) (cause : CheckpointFault) → text ≡ update.checkpoint
     → ((other : SignedCheckpoint) → IsCheckpoint text other

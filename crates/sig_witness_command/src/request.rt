@@ -73,7 +73,7 @@ pub struct WitnessRequest {
 const MEMBERS: [&str; 3] = ["state", "origins", "updates"];
 
 impl WitnessRequest {
-    /// Reads a request; `None` if and only if the text has more than 2^24 bytes, is no JSON document without floats,
+    /// Reads a request; `None` if and only if the text has more than 2^24 bytes, is not a JSON document without floats,
     /// or does not have the members of a request, of which `updates` has at most 4,096 elements. Fails only if out of
     /// memory.
     #[tactic(auto, using(sig_request::proofs::RequestTexts::texts))]

@@ -10,7 +10,7 @@ use Rattle.sig_x509.specs.Possible.{next_of, node_of, seen_signed, seen_signer, 
 use Rattle.sig_x509.specs.declared.possible.Signed.{Signed}
 use Rattle.sig_x509.specs.declared.possible.Signer.{Signer}
 
--- one more behind a list
+-- one more after a list
 grown : {X Y Z : Type 0} (seen : X → Y) (f : Z → Y) (base : List Y) (zs : List Z) (k : ℕ) (z : Z) (items more : List X)
     (x : X)
     → map seen items ≡ base ++ map f (take k zs) → more ≡ items ++ x ∷ [] → seen x ≡ f z → k < length zs

@@ -98,7 +98,7 @@ IsNoAnchor der = (c : Cert) → IsAnchor der c → ⊥
 abbrev pub AreAnchors : List (List ℕ) → List Cert → Type 0
 AreAnchors ders anchors = AllZip IsAnchor ders anchors
 
--- The DER at this index is the first that is no trust anchor.
+-- The DER at this index is the first that is not a trust anchor.
 pub record IsFirstNoAnchor (ders : List (List ℕ)) (index : ℕ) : Type 0 where
   pub anchors : List Cert
   pub before : AreAnchors (take index ders) anchors

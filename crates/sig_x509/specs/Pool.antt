@@ -9,7 +9,7 @@ use Rattle.sig_x509.specs.Issuance.{IsFirstNoAnchor}
 use Rattle.sig_x509.specs.declared.issuer.Issuer.{Issuer}
 use Rattle.sig_x509.specs.declared.issuer.Issuer.TheVariants.{Anchor as ByAnchor, Intermediate as ByIntermediate}
 
--- the trust anchors, and the intermediates, each at its index: none where the bytes are no certificate
+-- the trust anchors, and the intermediates, each at its index: none where the bytes are not a certificate
 pub record Pool : Type 0 where
   pub anchors : List Cert
   pub intermediates : List (Option Cert)

@@ -26,8 +26,8 @@ const MOST_INTERMEDIATES: usize = 1024;
 
 /// Trust anchors, in order: certificates that are trusted by themselves, and have no name constraints; and the
 /// intermediates that may lead to them, in order, which are not trusted. Contracts see both lists; an intermediate whose
-/// bytes are no certificate has its index, and is absent. Beside them are the indices of the trust anchors that a checker
-/// is asked about.
+/// bytes are not a certificate has its index, and is absent. Beside them are the indices of the trust anchors that a
+/// checker is asked about.
 #[derive(Drop)]
 pub struct CertificatePool {
     pub(crate) anchors: Register<Certificate>,
@@ -106,11 +106,11 @@ fn read_intermediates(
 }
 
 impl CertificatePool {
-    /// Returns the pool of these trust anchors and intermediates (DER). An intermediate that is no certificate keeps its
-    /// index, and issued nothing. Errors, the first that applies:
+    /// Returns the pool of these trust anchors and intermediates (DER). An intermediate that is not a certificate keeps
+    /// its index, and issued nothing. Errors, the first that applies:
     ///
     /// - `TooMany` with the number of intermediates, which is above 1024;
-    /// - `Anchor` with the index of the first trust anchor that is no certificate or has name constraints;
+    /// - `Anchor` with the index of the first trust anchor that is not a certificate or has name constraints;
     /// - `OutOfMemory`.
     pub fn from_certificates(
         alloc: Global,
@@ -119,7 +119,7 @@ impl CertificatePool {
     ) -> Result<CertificatePool, PoolError>
         // The anchors are those of the DERs, one by one.
         ensures anchors { IfOk result (λ p. AreAnchors trusted_roots.now p.anchors) }
-        // So are the intermediates; one that is no certificate is absent.
+        // So are the intermediates; one that is not a certificate is absent.
         ensures intermediates { IfOk result (λ p. AreReadAs untrusted_intermediates.now p.intermediates) }
         // An error has its cause, unless memory ran out.
         ensures err { IfErr result (IsPoolRefusal trusted_roots.now untrusted_intermediates.now) }
@@ -128,8 +128,8 @@ impl CertificatePool {
         ensures too_many { (count : ℕ) → ComesWhere PoolError.OutOfMemory result (Err (PoolError.TooMany count))
             ((count ≡ length untrusted_intermediates.now)
             × (most_intermediates < length untrusted_intermediates.now)) }
-        // `Anchor` is returned with an index if and only if there are no more, and the DER there is the first that is no
-        // anchor, unless memory ran out.
+        // `Anchor` is returned with an index if and only if there are no more, and the DER there is the first that is
+        // not an anchor, unless memory ran out.
         ensures anchor { (index : ℕ) → ComesWhere PoolError.OutOfMemory result (Err (PoolError.Anchor index))
             ((length untrusted_intermediates.now ≤ most_intermediates)
             × IsFirstNoAnchor trusted_roots.now index) }
@@ -272,7 +272,7 @@ impl CertificatePool {
     }
 
     /// Returns what `verify_cert_with_time` returns for the certificate that the bytes are, with the same errors, and
-    /// `Malformed` also if they are no certificate.
+    /// `Malformed` also if they are not a certificate.
     pub fn verify_der_cert<C: SignatureChecker, L: Ledger>(
         &self,
         alloc: Global,
@@ -285,7 +285,8 @@ impl CertificatePool {
         // to a trust anchor, and none before it is, unless memory ran out.
         ensures issued { (issuer : Issuer) → ComesWhere PoolError.OutOfMemory result (Ok issuer)
             (IsIssuedText (C.cert_accepts checker.now) self.now der.now verification_time issuer) }
-        // `Malformed` is returned if and only if the bytes are no certificate with the profile, unless memory ran out.
+        // `Malformed` is returned if and only if the bytes are not a certificate with the profile, unless memory ran
+        // out.
         ensures malformed { ComesWhere PoolError.OutOfMemory result (Err PoolError.Malformed) (HasNoProfile der.now) }
         // `VerificationFailed` is returned if and only if they are one, and no path leads to a trust anchor, unless
         // memory ran out.

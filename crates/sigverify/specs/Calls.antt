@@ -13,7 +13,7 @@ abbrev pub outcome_of : {A : Type 0} → Result A Error → Outcome
 outcome_of (Ok value) = None
 outcome_of (Err error) = Some (error_kind error)
 
--- a call that came to this was made behind those before it, where they are told
+-- a call that came to this was made after those before it, where they are told
 abbrev pub Tells : Option (List Outcome) → Option (List Outcome) → Outcome → Type 0
 Tells None new outcome = ⊤
 Tells (Some before) new outcome = new ≡ Some (before ++ outcome ∷ [])

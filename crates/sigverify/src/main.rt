@@ -28,13 +28,13 @@ fn main(rt: HostRuntime) -> ExitCode {
             },
             None => run_over(&rt, words.as_slice()),
         },
-        // Words that are no text are no command.
+        // Words that are not a text are not a command.
         Err(WordsFault::NotText) => run_over(&rt, &[]),
         Err(WordsFault::OutOfMemory) => NO_MEMORY,
     })
 }
 
-/// Runs over the standard streams. For words that are no command a hint follows on standard error.
+/// Runs over the standard streams. For words that are not a command a hint follows on standard error.
 fn run_over(rt: &HostRuntime, words: &[Text]) -> u8 {
     let status = run(
         rt.alloc(),

@@ -21,7 +21,7 @@ pub(crate) fn policy(arguments: &mut Arguments<'_>, answer: &mut Answer) -> Requ
     }
 }
 
-/// The rules of the next arguments, behind their number.
+/// The rules of the next arguments, after their number.
 fn rules(arguments: &mut Arguments<'_>, answer: &mut Answer) -> LeafPolicies {
     let mut rules = LeafPolicies::new(arguments.alloc());
     for _ in 0..arguments.natural() {

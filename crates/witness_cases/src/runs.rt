@@ -7,7 +7,7 @@ use sig_witness::Witness;
 use std::alloc::Global;
 
 /// `run STATE ORIGINS UPDATES ROWS`: of the witness of a text, which `-` is without origins, what it returns for each
-/// origin that is added and for each update, under a checker of these rows; behind each update how SHA-256 of its text
+/// origin that is added and for each update, under a checker of these rows; after each update how SHA-256 of its text
 /// begins, once that text was read and written again; and at the end the text.
 pub(crate) fn ran(arguments: &mut Arguments<'_>, answer: &mut Answer) {
     let alloc = arguments.alloc();

@@ -160,7 +160,7 @@ fn push_line(answer: &mut Answer, written: &mut String, line: &Answer) {
     }
 }
 
-/// `cut DER`: the lengths at which the bytes, and a byte 00 behind them, are a certificate.
+/// `cut DER`: the lengths at which the bytes, and a byte 00 after them, are a certificate.
 pub(crate) fn cut(arguments: &mut Arguments<'_>, answer: &mut Answer) {
     let mut longer = arguments.hex();
     if longer.push(0).is_err() {

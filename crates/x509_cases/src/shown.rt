@@ -42,7 +42,7 @@ fn shown_of_sct(name: &str, arguments: &mut Arguments<'_>, answer: &mut Answer) 
     }
 }
 
-/// What each type's error for memory shows, behind `ok`, since by itself it would end the program.
+/// What each type's error for memory shows, after `ok`, since by itself it would end the program.
 fn shown_out_of_memory(answer: &mut Answer) {
     answer.ok();
     answer.value(&X509ReadError::OutOfMemory);

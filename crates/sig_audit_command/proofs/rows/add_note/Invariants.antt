@@ -1,4 +1,4 @@
--- The list has the signatures so far behind those that it had; it is a list, and has room.
+-- The list has the signatures so far after those that it had; it is a list, and has room.
 use Rattle.std.proofs.Common.{◌<◌, ◌++◌, List, IsSome}
 use Rattle.sig_base.specs.declared.checker.AcceptedRow.{AcceptedRow}
 use Rattle.sig_json.specs.Find.{as_array}

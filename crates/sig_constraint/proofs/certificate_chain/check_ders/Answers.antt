@@ -1,4 +1,4 @@
--- A pool is made, or one of the chain is no trust anchor.
+-- A pool is made, or one of the chain is not a trust anchor.
 use Rattle.std.proofs.Common.{w64, FitsSigned, arith, rules}
 use Rattle.std.proofs.lemmas.Int.{ints, to_z-of_z}
 use Rattle.sig_constraint.proofs.ChainLaws.{by_error, by_pool, issued_at, no_intermediates}

@@ -3,7 +3,7 @@ use Rattle.fast_float.specs.Text.{scan}
 use Rattle.serde_json.specs.Read.{number_of, number_from}
 use Rattle.sig_json.proofs.number.number_in.Goals as goal
 
--- behind the minus sign
+-- after the minus sign
 pub returns-then-has_minus : goal.returns-then-has_minus
 unfolding number_of
 returns-then-has_minus c =

@@ -3,7 +3,7 @@ use Rattle.sig_manifest.specs.Formula.{formulas_of, nodes_of_all, rules_of, rule
 use Rattle.sig_manifest.specs.Size.{left_of}
 use Rattle.sig_manifest.proofs.size.+size.Given as goal
 
--- what is left behind the rules so far decides
+-- what is left after the rules so far decides
 abbrev pub invariant-left_behind-rules : goal.invariant-left_behind-rules
 invariant-left_behind-rules l =
     left_of l.fn.most (nodes_of_all (formulas_of (rules_view l.rules)))

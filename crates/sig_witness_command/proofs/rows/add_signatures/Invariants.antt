@@ -1,4 +1,5 @@
--- The list has the signatures so far behind those that it had; it has room, and the numbers of the notes are as they were.
+-- The list has the signatures so far after those that it had; it has room, and the numbers of the notes are as they
+-- were.
 use Rattle.std.proofs.Common.{◌≡◌, ℕ, List, Some}
 use Rattle.std.specs.Option.{option_map}
 use Rattle.sig_base.specs.ByText.{text_lookup}

@@ -1,4 +1,4 @@
--- The next entry goes behind those that were copied.
+-- The next entry goes after those that were copied.
 use Rattle.std.proofs.Common.{ap, ◌++◌, ◌∙◌}
 use Rattle.sig_base.proofs.Texts.{text_put-walked}
 use Rattle.sig_base.proofs.copy_map.CopyMap.copy.Goals as goal

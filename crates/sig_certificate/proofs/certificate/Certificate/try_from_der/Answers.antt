@@ -25,7 +25,7 @@ returns-in_default-clause-only c = λ d is. absurd (no_parts c.args.der.now c.in
 pub returns-in_default-clause-refused : goal.returns-in_default-clause-refused
 returns-in_default-clause-refused c = (λ e. no_parts c.args.der.now c.in_default.ensures.only, λ none. inr refl)
 
--- what an error says of the bytes: memory ran out, or they are no certificate
+-- what an error says of the bytes: memory ran out, or they are not a certificate
 abbrev Says : List ℕ → X509ReadError → Type 0
 Says text e = (e ≡ OutOfMemory) ⊎ ((c : Cert) → IsCertificate text c → ⊥)
 

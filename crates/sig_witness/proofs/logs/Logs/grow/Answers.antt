@@ -1,4 +1,4 @@
--- The tree keeps its entries, but for the log at the origin.
+-- The tree keeps its entries, except for the log at the origin.
 use Rattle.std.proofs.Common.{◌≡◌, sym, ap, ◌∙◌, Some, None, Option}
 use Rattle.std.specs.Prelude.{string_bytes}
 use Rattle.std.specs.Option.{option_copied_mut}
