@@ -1,7 +1,7 @@
 //! Readers of each kind of values.
 use crate::documents::{add_tree, borrowed, bytes, document, names};
 use crate::kinds::Kind;
-use sig_base::Register;
+use sig_base::OwnedList;
 use sig_cases::{Answer, Arguments};
 use sig_json::{
     AnyReader, BytesReader, Document, HashReader, Json, MemberError, TextMapReader, TextReader,
@@ -123,7 +123,7 @@ fn add_optional<K: Kind>(
 fn add_each<K: Kind>(
     alloc: Global,
     answer: &mut Answer,
-    read: Result<Register<K::Item>, MemberError>,
+    read: Result<OwnedList<K::Item>, MemberError>,
 ) {
     match read {
         Ok(list) => {
@@ -135,7 +135,7 @@ fn add_each<K: Kind>(
 }
 
 /// Adds how many elements a list has, and each.
-fn add_list<K: Kind>(alloc: Global, answer: &mut Answer, list: &Register<K::Item>) {
+fn add_list<K: Kind>(alloc: Global, answer: &mut Answer, list: &OwnedList<K::Item>) {
     answer.value(&list.len());
     for item in list.as_slice() {
         K::add(alloc, answer, item);

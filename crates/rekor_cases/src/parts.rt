@@ -1,7 +1,7 @@
 //! What a case is read into. What cannot be read is empty, and makes the line a bad one.
 
 use sig_base::{
-    AcceptedRow, Bytes, Hashes, Operation, Register, SigningScheme, TableChecker, Text,
+    AcceptedRow, Bytes, Hashes, Operation, OwnedList, SigningScheme, TableChecker, Text,
 };
 use sig_cases::{Answer, Arguments};
 use sig_key::CosignVerificationKey;
@@ -91,7 +91,7 @@ fn table(arguments: &mut Arguments<'_>, answer: &mut Answer, key: &[u8]) -> Tabl
     let alloc = arguments.alloc();
     let messages = arguments.hex_list();
     let signatures = arguments.hex_list();
-    let mut rows = Register::new(alloc);
+    let mut rows = OwnedList::new(alloc);
     for (message, signature) in messages.into_iter().zip(signatures) {
         let row = AcceptedRow {
             operation: Operation::Message,

@@ -24,7 +24,7 @@ use Rattle.sig_key.specs.declared.verification_key.CosignVerificationKey.{Cosign
 use Rattle.sig_payload.specs.Bundles.{Keys, found_key, key_named}
 use Rattle.sig_verify.proofs.EntryProofs.{ProofLaws}
 use Rattle.sig_verify.specs.LogEntry.{vouched}
-use Rattle.sig_verify.specs.declared.offline.Offline.{Offline}
+use Rattle.sig_verify.specs.declared.logged_entry.LoggedEntry.{LoggedEntry}
 use Rattle.sig_verify.specs.declared.offline_error.OfflineError.{OfflineError}
 use Rattle.sig_attestation.proofs.LogFaults.{said_vouched, unvouched, vouched_said}
 use Rattle.sig_attestation.proofs.LoggedOnce.{logged_decides}
@@ -162,7 +162,7 @@ key_by keys id (Some key) is = record {
 }
 
 module _ (laws : ProofLaws) where
-  vouched_by : (accepts : List ℕ → List ℕ → Bool) (t : TransparencyLogEntry) (r : Result Offline OfflineError)
+  vouched_by : (accepts : List ℕ → List ℕ → Bool) (t : TransparencyLogEntry) (r : Result LoggedEntry OfflineError)
       → vouched accepts t ≡ r
       → Tells (from_vouched r) (λ done. IsVouched accepts t)
       (λ e. (why : OfflineError) × (e ≡ log_refusal why) × IsLogFault accepts t why)

@@ -21,7 +21,7 @@ use Rattle.sig_verify.specs.EntryLinks.{OfProof}
 use Rattle.sig_verify.specs.LogEntry.{fields_answer, from_canonical, from_fields, from_proof, if_promised, included}
 use Rattle.sig_verify.specs.LogEntry.{promise_answer, promised, vouched}
 use Rattle.sig_verify.specs.OfflineErrors.{of_fields, of_proof}
-use Rattle.sig_verify.specs.declared.offline.Offline.{Offline}
+use Rattle.sig_verify.specs.declared.logged_entry.LoggedEntry.{LoggedEntry}
 use Rattle.sig_verify.specs.declared.offline_error.OfflineError.{OfflineError}
 use Rattle.sig_verify.specs.declared.offline_error.OfflineError.TheVariants as error
 use Rattle.sig_attestation.proofs.Telling.{Tells, retold, tells_done, tells_ends, tells_then}
@@ -139,10 +139,10 @@ module _ (accepts : AcceptsUnder) (t : TransparencyLogEntry) where
     }
 
     -- what is checked of a proof, with the value that is made of it
-    abbrev rest : InclusionProof → Result Offline OfflineError
+    abbrev rest : InclusionProof → Result LoggedEntry OfflineError
     rest proof = included accepts t proof
 
-    abbrev Ended : InclusionProof → Offline → Type 0
+    abbrev Ended : InclusionProof → LoggedEntry → Type 0
     Ended proof offline =
         (proof_answer accepts t.canonicalized_body proof ≡ Ok tt)
         × (offline ≡ record { body = t.canonicalized_body; proof = proof })
@@ -158,7 +158,7 @@ module _ (accepts : AcceptsUnder) (t : TransparencyLogEntry) where
         (proof_answer accepts t.canonicalized_body proof ≡ Ok tt) (Refused proof) refl
         (proof_by (proof_answer accepts t.canonicalized_body proof))
 
-    abbrev IsShown : Offline → Type 0
+    abbrev IsShown : LoggedEntry → Type 0
     IsShown offline = OfProof t (λ p. OfRead p (λ proof. Ended proof offline))
 
     proof_told : (o : Option ProofFields) → t.inclusion_proof ≡ o
@@ -203,16 +203,16 @@ module _ (accepts : AcceptsUnder) (t : TransparencyLogEntry) where
         tells_done (promise_answer accepts t) _ (IsPromised accepts t) (IsPromiseFault accepts t) IsShown
         (IsInclusionFault accepts t) promise_tells (λ is. proof_told t.inclusion_proof refl)
 
-    pub vouched_said : (offline : Offline) → vouched accepts t ≡ Ok offline → IsVouched accepts t
+    pub vouched_said : (offline : LoggedEntry) → vouched accepts t ≡ Ok offline → IsVouched accepts t
     vouched_said offline is =
         let held = (vouched_tells.ok offline).0 is in
         let shown = held.1 in
         (held.0, (shown.0, shown.1, (shown.2.0, shown.2.1, shown.2.2.0)))
 
-    pub said_vouched : IsVouched accepts t → (offline : Offline) × (vouched accepts t ≡ Ok offline)
+    pub said_vouched : IsVouched accepts t → (offline : LoggedEntry) × (vouched accepts t ≡ Ok offline)
     said_vouched held =
         let proved = held.1 in
-        let offline : Offline = record { body = t.canonicalized_body; proof = proved.2.0 } in (
+        let offline : LoggedEntry = record { body = t.canonicalized_body; proof = proved.2.0 } in (
           offline,
           (vouched_tells.ok offline).1
               (held.0, (proved.0, proved.1, (proved.2.0, proved.2.1, (proved.2.2, refl)))),

@@ -12,7 +12,7 @@ use Rattle.sig_key.specs.Key.{key_accepts}
 use Rattle.sig_payload.specs.Bundles.{AcceptsSpki, Keys, key_named}
 use Rattle.sig_verify.specs.ContentCheck.{AcceptsUnder}
 use Rattle.sig_verify.specs.LogEntry.{vouched}
-use Rattle.sig_verify.specs.declared.offline.Offline.{Offline}
+use Rattle.sig_verify.specs.declared.logged_entry.LoggedEntry.{LoggedEntry}
 use Rattle.sig_verify.specs.declared.offline_error.OfflineError.{OfflineError}
 use Rattle.sig_verify.specs.declared.offline_error.OfflineError.TheVariants as offline
 
@@ -49,7 +49,7 @@ IsLogRefusal (offline.InclusionProofError why) = ⊤
 IsLogRefusal offline.OutOfMemory = ⊤
 IsLogRefusal other = ⊥
 
-abbrev pub from_vouched : Result Offline OfflineError → Result (Unit {0}) SigstoreError
+abbrev pub from_vouched : Result LoggedEntry OfflineError → Result (Unit {0}) SigstoreError
 from_vouched (Ok _) = Ok tt
 from_vouched (Err error) = Err (log_refusal error)
 

@@ -1,6 +1,6 @@
 //! A chain of tree heads: what a log's tree was, from the oldest head to the latest.
 
-use sig_base::{Hashes, Register};
+use sig_base::{Hashes, OwnedList};
 
 /// A tree head, and the proof from the head before it.
 #[derive(Drop, PartialEq, Eq)]
@@ -15,4 +15,4 @@ pub struct ChainHead {
 }
 
 /// Tree heads of one log, the oldest first.
-pub type Chain = Register<ChainHead>;
+pub type Chain = OwnedList<ChainHead>;

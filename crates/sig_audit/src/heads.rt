@@ -1,6 +1,6 @@
 //! What is audited: signed checkpoints of one log, the oldest first, and entries watched under them.
 
-use sig_base::{Bytes, Hashes, Register};
+use sig_base::{Bytes, Hashes, OwnedList};
 use sig_rekor::SignedCheckpoint;
 
 /// A signed checkpoint, and the proof from the one before it.
@@ -14,7 +14,7 @@ pub struct AuditHead {
 }
 
 /// Signed checkpoints of one log, the oldest first.
-pub type Heads = Register<AuditHead>;
+pub type Heads = OwnedList<AuditHead>;
 
 /// An entry that a head's tree is to have.
 #[derive(Drop, PartialEq, Eq)]
@@ -30,4 +30,4 @@ pub struct Watch {
 }
 
 /// Watched entries in order.
-pub type WatchList = Register<Watch>;
+pub type WatchList = OwnedList<Watch>;

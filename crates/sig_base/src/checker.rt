@@ -5,7 +5,7 @@ ghost use Rattle.sig_base.specs.declared.scheme.VerifyScheme.{VerifyScheme as sc
 
 use crate::bytes::Bytes;
 use crate::memory::OutOfMemory;
-use crate::register::Register;
+use crate::owned_list::OwnedList;
 use crate::row_order::{RowParts, order_of, order_to, put_in_order};
 use crate::scheme::VerifyScheme;
 use std::alloc::Global;
@@ -99,7 +99,7 @@ pub struct AcceptedRow {
 /// A checker that accepts exactly the rows of a table.
 #[derive(Drop)]
 pub struct TableChecker {
-    rows: Register<AcceptedRow>,
+    rows: OwnedList<AcceptedRow>,
     order: Vec<usize>,
 }
 
@@ -124,7 +124,7 @@ impl TableChecker {
         ensures { result ≡ [] }
     {
         TableChecker {
-            rows: Register::new(alloc),
+            rows: OwnedList::new(alloc),
             order: Vec::new(alloc),
         }
     }
@@ -132,7 +132,7 @@ impl TableChecker {
     /// Returns the table of these rows, which it sorts once. Fails only if out of memory.
     pub fn from_rows(
         alloc: Global,
-        rows: Register<AcceptedRow>,
+        rows: OwnedList<AcceptedRow>,
     ) -> Result<TableChecker, OutOfMemory>
         ensures { IfOk result (λ table. table ≡ rows) }
     {

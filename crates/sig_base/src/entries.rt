@@ -3,7 +3,7 @@ ghost use Rattle.std.specs.Prelude.{◌≡◌, ◌++◌, [], ◌∷◌, length, 
 
 use crate::bytes::Bytes;
 use crate::memory::OutOfMemory;
-use crate::register::Register;
+use crate::owned_list::OwnedList;
 use std::alloc::Global;
 use std::marker::Model;
 
@@ -11,7 +11,7 @@ use std::marker::Model;
 #[derive(Drop)]
 pub struct Entries {
     alloc: Global,
-    items: Register<Bytes>,
+    items: OwnedList<Bytes>,
 }
 
 impl Model for Entries {
@@ -29,12 +29,12 @@ impl Entries {
     {
         Entries {
             alloc,
-            items: Register::new(alloc),
+            items: OwnedList::new(alloc),
         }
     }
 
     /// The list of these byte strings, which are not copied. It takes no memory.
-    pub fn of(alloc: Global, items: Register<Bytes>) -> Entries
+    pub fn of(alloc: Global, items: OwnedList<Bytes>) -> Entries
         ensures { result ≡ items }
     {
         Entries { alloc, items }

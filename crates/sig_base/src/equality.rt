@@ -4,7 +4,7 @@ ghost use Rattle.std.specs.Cmp.{partial_equiv_from_equiv};
 ghost use Rattle.std.specs.Cmp.Lexicographic.{nat_list_eq_equiv, lists_per, lists_equiv, pointwise};
 
 use crate::bytes::Bytes;
-use crate::register::Register;
+use crate::owned_list::OwnedList;
 use crate::text::Text;
 
 impl PartialEq for Bytes {
@@ -35,16 +35,16 @@ impl Eq for Text {
     ghost laws = { nat_list_eq_equiv };
 }
 
-impl<T: PartialEq> PartialEq for Register<T> {
+impl<T: PartialEq> PartialEq for OwnedList<T> {
     ghost eq = { λ a b. pointwise T.eq a b };
 
     ghost laws = { lists_per T.laws };
 
-    fn eq(&self, other: &Register<T>) -> bool {
+    fn eq(&self, other: &OwnedList<T>) -> bool {
         self.as_slice() == other.as_slice()
     }
 }
 
-impl<T: Eq> Eq for Register<T> {
+impl<T: Eq> Eq for OwnedList<T> {
     ghost laws = { lists_equiv T.Eq.laws };
 }

@@ -1,7 +1,7 @@
 //! What every crate of the house depends on: bytes, texts and lists that own their memory, the errors, and the traits
 //! of the outside.
 //!
-//! The layer above uses five facts. A `Register` is the list of what was pushed, and a push that fails changes nothing.
+//! The layer above uses five facts. A `OwnedList` is the list of what was pushed, and a push that fails changes nothing.
 //! A map from texts is the list of its entries in byte order, each text once. A text is base64 if and only if it is
 //! the one encoding of its bytes. A fault of a source or a sink comes only where its count of faults rose. A signature
 //! check is a predicate of the bytes that it is handed.
@@ -26,7 +26,7 @@ mod memory_sink;
 mod memory_source;
 mod merkle_error;
 mod owned;
-mod register;
+mod owned_list;
 mod row_order;
 mod scheme;
 mod steps;
@@ -50,7 +50,7 @@ pub use memory_sink::MemorySink;
 pub use memory_source::MemorySource;
 pub use merkle_error::{MerkleProofError, RootHex};
 pub use owned::Owned;
-pub use register::{Hashes, Numbers, Register};
+pub use owned_list::{Hashes, Numbers, OwnedList};
 pub use scheme::{DEFAULT_KEY_SIZE, SigningScheme, UnknownScheme, VerifyScheme};
 pub use steps::Steps;
 pub use stream::{Failed, Sink, Source};

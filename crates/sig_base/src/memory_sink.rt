@@ -7,7 +7,7 @@ ghost use Rattle.sig_base.specs.Stream.{Hands, HasCause, Moves};
 ghost use Rattle.sig_base.specs.MemoryStream.{FailsAt, one_more};
 
 use crate::memory::OutOfMemory;
-use crate::register::Numbers;
+use crate::owned_list::Numbers;
 use crate::stream::{Failed, Sink};
 use std::alloc::Global;
 use std::marker::Model;

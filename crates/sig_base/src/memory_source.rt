@@ -6,7 +6,7 @@ ghost use Rattle.sig_base.specs.Stream.{HasCause};
 ghost use Rattle.sig_base.specs.MemoryStream.{FailsAt, one_more};
 
 use crate::bytes::Bytes;
-use crate::register::Numbers;
+use crate::owned_list::Numbers;
 use crate::stream::{Failed, Source};
 use std::marker::Model;
 

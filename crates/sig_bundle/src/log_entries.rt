@@ -6,7 +6,7 @@ ghost use Rattle.std.specs.Option.{option_copied};
 ghost use Rattle.sig_bundle.specs.LogEntries.{of_id, only_entry, whole};
 
 use crate::material::TransparencyLogEntry;
-use sig_base::{Bytes, OutOfMemory, Register};
+use sig_base::{Bytes, OutOfMemory, OwnedList};
 use std::alloc::Global;
 use std::marker::Model;
 
@@ -195,7 +195,7 @@ impl Eq for SparseEntry {
 pub struct LogEntries {
     alloc: Global,
     small: SmallEntries,
-    items: Register<SparseEntry>,
+    items: OwnedList<SparseEntry>,
 }
 
 impl Model for LogEntries {
@@ -209,7 +209,7 @@ impl Model for LogEntries {
 
 impl LogEntries {
     /// The list of these entries. It takes no memory.
-    pub(crate) fn of(alloc: Global, items: Register<SparseEntry>) -> LogEntries
+    pub(crate) fn of(alloc: Global, items: OwnedList<SparseEntry>) -> LogEntries
         ensures { result ≡ items }
     {
         LogEntries {
@@ -223,7 +223,7 @@ impl LogEntries {
     pub fn new(alloc: Global) -> LogEntries
         ensures { result ≡ [] }
     {
-        LogEntries::of(alloc, Register::new(alloc))
+        LogEntries::of(alloc, OwnedList::new(alloc))
     }
 
     /// Adds an entry at the end. Fails only if out of memory; the list is then unchanged.

@@ -16,7 +16,7 @@ use Rattle.sig_der.proofs.KeyInfos.{content_fits, first_fits, rest_fits, none_le
 use Rattle.sig_der.proofs.KeyInfos.{key_info_at_again}
 use Rattle.sig_certificate.specs.Certificate.{IsOptionalElement, IsKeyInfoText, IsSequence}
 use Rattle.sig_certificate.specs.Cutting.{Binding, validity_at, binding_at, after_ids, extension_list_of, list_at}
-use Rattle.sig_certificate.proofs.HeadLaws.{after_fits, before_fits}
+use Rattle.sig_certificate.proofs.PreambleLaws.{after_fits, before_fits}
 use Rattle.sig_der.specs.Tag.{EXTENSIONS, ISSUER_UNIQUE_ID, SEQUENCE, SUBJECT_UNIQUE_ID}
 
 -- ---- the validity

@@ -14,10 +14,10 @@ use Rattle.sig_der.proofs.KeyInfos.{bits_of_again}
 use Rattle.sig_der.proofs.Many.{many_at_takes, many_at_again, many_at_none}
 use Rattle.sig_certificate.specs.Certificate.{Extension, Cert, IsCertificate, IsExtension, AreExtensions}
 use Rattle.sig_certificate.specs.Certificate.{IsAlgorithmText}
-use Rattle.sig_certificate.specs.Cutting.{Head, Binding, Outer, Parts, before, outer_at, head_at, binding_at, after_ids}
+use Rattle.sig_certificate.specs.Cutting.{Preamble, Binding, Outer, Parts, before, outer_at, preamble_at, binding_at, after_ids}
 use Rattle.sig_certificate.specs.Cutting.{list_at, parts_at, extension_at, certificate_from_parts, HasCertificateParts}
 use Rattle.sig_certificate.proofs.ExtensionLaws.{extension_reader}
-use Rattle.sig_certificate.proofs.HeadLaws.{after_fits, algorithm_text_again, TakesHead, head_at_takes, head_at_again}
+use Rattle.sig_certificate.proofs.PreambleLaws.{after_fits, algorithm_text_again, TakesPreamble, preamble_at_takes, preamble_at_again}
 use Rattle.sig_certificate.proofs.BindingLaws.{TakesBinding, binding_at_takes, binding_at_again, TakesIds}
 use Rattle.sig_certificate.proofs.BindingLaws.{after_ids_takes, after_ids_again, IsListed, list_at_takes, list_at_again}
 use Rattle.sig_der.specs.Tag.{BIT_STRING, EXTENSIONS, ISSUER_UNIQUE_ID, SEQUENCE, SUBJECT_UNIQUE_ID}
@@ -128,12 +128,12 @@ are_extensions text true list es fits is read =
 
 -- every step of the cutting
 pub record TakesParts (text : List ℕ) (p : Parts) : Type 0 where
-  pub after_head : List ℕ
+  pub after_preamble : List ℕ
   pub after_binding : List ℕ
   pub rest : List ℕ
   pub outer : TakesOuter text p.outer
-  pub head : TakesHead p.outer.tbs.content (p.head, after_head)
-  pub binding : TakesBinding after_head (p.binding, after_binding)
+  pub preamble : TakesPreamble p.outer.tbs.content (p.preamble, after_preamble)
+  pub binding : TakesBinding after_preamble (p.binding, after_binding)
   pub ids : TakesIds after_binding rest
   pub listed : IsListed rest (p.listed, p.list)
   pub front : p.front ≡ before p.outer.tbs.content rest
@@ -147,25 +147,25 @@ parts_takes : (text : List ℕ) → IsBytes text → (p : Parts) → parts_at te
 unfolding parts_at
 parts_takes text fits p e =
     let o = bind_is (outer_at text) _ p e in
-    let h = bind_is (head_at o.0.tbs.content) _ p o.2 in
+    let h = bind_is (preamble_at o.0.tbs.content) _ p o.2 in
     let b = bind_is (binding_at h.0.1) _ p h.2 in
     let r = bind_is (after_ids b.0.1) _ p b.2 in
     let l = bind_is (list_at r.0) _ p r.2 in
     let outer = outer_at_takes text fits o.0 o.1 in
-    let head = head_at_takes o.0.tbs.content outer.fits h.0 h.1 in
+    let preamble = preamble_at_takes o.0.tbs.content outer.fits h.0 h.1 in
     let fits_h =
-    after_four head.version_text head.serial_text h.0.0.algorithm h.0.0.issuer h.0.1 o.0.tbs.content head.parts
+    after_four preamble.version_text preamble.serial_text h.0.0.algorithm h.0.0.issuer h.0.1 o.0.tbs.content preamble.parts
     outer.fits in
     let binding = binding_at_takes h.0.1 fits_h b.0 b.1 in
     let fits_b = after_four [] binding.validity_text b.0.0.subject b.0.0.spki b.0.1 h.0.1 binding.parts fits_h in
     let ids = after_ids_takes b.0.1 fits_b r.0 r.1 in
     let fits_r = after_four [] [] ids.issuer_id_text ids.subject_id_text r.0 b.0.1 ids.parts fits_b in
     subst (λ (w : Parts). TakesParts text w) (some_is _ p l.2) (record {
-      after_head = h.0.1;
+      after_preamble = h.0.1;
       after_binding = b.0.1;
       rest = r.0;
       outer = outer;
-      head = head;
+      preamble = preamble;
       binding = binding;
       ids = ids;
       listed = list_at_takes r.0 fits_r l.0 l.1;
@@ -181,9 +181,9 @@ certificate_takes text p not_before not_after es fits is read =
     let t = parts_takes text fits p is.cut in
     let content = p.outer.tbs.content in
     let all =
-    gather t.head.version_text t.head.serial_text p.head.algorithm p.head.issuer t.binding.validity_text
+    gather t.preamble.version_text t.preamble.serial_text p.preamble.algorithm p.preamble.issuer t.binding.validity_text
     p.binding.subject p.binding.spki
-    t.ids.issuer_id_text t.ids.subject_id_text t.rest content t.after_head t.after_binding t.head.parts t.binding.parts
+    t.ids.issuer_id_text t.ids.subject_id_text t.rest content t.after_preamble t.after_binding t.preamble.parts t.binding.parts
     t.ids.parts in
     let front = t.front ∙ before_is _ t.rest content all in
     record {
@@ -191,8 +191,8 @@ certificate_takes text p not_before not_after es fits is read =
       same = refl;
       whole = t.outer.whole;
       tbs = record {
-        version_text = t.head.version_text;
-        serial_text = t.head.serial_text;
+        version_text = t.preamble.version_text;
+        serial_text = t.preamble.serial_text;
         validity_text = t.binding.validity_text;
         issuer_id_text = t.ids.issuer_id_text;
         subject_id_text = t.ids.subject_id_text;
@@ -201,10 +201,10 @@ certificate_takes text p not_before not_after es fits is read =
             subst (λ (w : List ℕ). IsElement p.outer.tbs.whole SEQUENCE w)
             (all ∙ ap (λ (w : List ℕ). w ++ t.rest) (sym front)) t.outer.tbs;
         front = front;
-        version = t.head.version;
-        serial = t.head.serial;
-        algorithm = t.head.algorithm;
-        issuer = t.head.issuer;
+        version = t.preamble.version;
+        serial = t.preamble.serial;
+        algorithm = t.preamble.algorithm;
+        issuer = t.preamble.issuer;
         validity = record {
           first = p.binding.first.whole;
           second = p.binding.second.whole;
@@ -289,9 +289,9 @@ with_whole c w =
       signature = c.signature;
     }
 
-abbrev some_parts : Outer → Head → Binding → Bool → List ℕ → List ℕ → Option Parts
-some_parts outer head binding listed list front =
-    Some (record { outer = outer; front = front; head = head; binding = binding; listed = listed; list = list })
+abbrev some_parts : Outer → Preamble → Binding → Bool → List ℕ → List ℕ → Option Parts
+some_parts outer preamble binding listed list front =
+    Some (record { outer = outer; front = front; preamble = preamble; binding = binding; listed = listed; list = list })
 
 pub certificate_again : (text : List ℕ) (c : Cert) → IsCertificate text c → IsCertificateOf text c
 unfolding parts_at
@@ -309,21 +309,21 @@ certificate_again text c is =
       algorithm = c.algorithm;
       signature = c.signature;
     } in
-    let head : Head = record { version = c.version; algorithm = c.inner_algorithm; issuer = c.issuer } in
+    let preamble : Preamble = record { version = c.version; algorithm = c.inner_algorithm; issuer = c.issuer } in
     let binding : Binding = record { first = first; second = second; subject = c.subject; spki = c.spki } in
     let after_binding = s.issuer_id_text ++ (s.subject_id_text ++ s.extensions_text) in
-    let after_head = s.validity_text ++ (c.subject ++ (c.spki ++ after_binding)) in
+    let after_preamble = s.validity_text ++ (c.subject ++ (c.spki ++ after_binding)) in
     let spelled = ap (λ (w : List ℕ). w ++ s.extensions_text) s.front
     ∙ nine_then s.version_text s.serial_text c.inner_algorithm c.issuer s.validity_text c.subject c.spki
     s.issuer_id_text s.subject_id_text s.extensions_text in
     record {
       parts =
-          record { outer = outer; front = c.front; head = head; binding = binding; listed = c.listed; list = has.list };
+          record { outer = outer; front = c.front; preamble = preamble; binding = binding; listed = c.listed; list = has.list };
       cut = record {
         cut = bind_of_some (outer_at text) _ outer
             (outer_at_again text c.tbs content c.algorithm c.signature is.signature_text is.whole s.tbs is.algorithm
             is.signature)
-            ∙ bind_of_some (head_at content) _ (head, after_head) (head_at_again content (head, after_head) (record {
+            ∙ bind_of_some (preamble_at content) _ (preamble, after_preamble) (preamble_at_again content (preamble, after_preamble) (record {
               version_text = s.version_text;
               serial_text = s.serial_text;
               version = s.version;
@@ -332,8 +332,8 @@ certificate_again text c is =
               issuer = s.issuer;
               parts = spelled;
             }))
-            ∙ bind_of_some (binding_at after_head) _ (binding, after_binding)
-            (binding_at_again after_head (binding, after_binding) (record {
+            ∙ bind_of_some (binding_at after_preamble) _ (binding, after_binding)
+            (binding_at_again after_preamble (binding, after_binding) (record {
               validity_text = s.validity_text;
               validity = s.validity.is;
               first = s.validity.begins.is;
@@ -352,7 +352,7 @@ certificate_again text c is =
             }) has.no_issuer_id has.no_subject_id)
             ∙ bind_of_some (list_at s.extensions_text) _ (c.listed, has.list)
             (list_at_again s.extensions_text c.listed has.list has.is)
-            ∙ ap (λ (w : List ℕ). some_parts outer head binding c.listed has.list w)
+            ∙ ap (λ (w : List ℕ). some_parts outer preamble binding c.listed has.list w)
             (before_is c.front s.extensions_text content refl);
         begins = s.validity.begins.time;
         ends = s.validity.ends.time;

@@ -1,6 +1,6 @@
 pub mod Fronts
 pub mod ExtensionLaws
-pub mod HeadLaws
+pub mod PreambleLaws
 pub mod BindingLaws
 pub mod CertificateLaws
 pub mod Readings

@@ -43,7 +43,7 @@ extension_at bytes = do
 -- ---- TBSCertificate
 
 -- The fields of the TBSCertificate up to the issuer.
-pub record Head : Type 0 where
+pub record Preamble : Type 0 where
   pub version : ℕ
   pub algorithm : List ℕ
   pub issuer : List ℕ
@@ -67,8 +67,8 @@ version_at bytes = do
   n ← certificate_version_of v.0
   Some (n, v.1)
 
-unfoldable pub head_at : List ℕ → Option (Head × List ℕ)
-head_at bytes = do
+unfoldable pub preamble_at : List ℕ → Option (Preamble × List ℕ)
+preamble_at bytes = do
   v ← version_at bytes
   n ← take_tag INTEGER v.1
   a ← algorithm_at n.1
@@ -135,7 +135,7 @@ outer_at bytes = do
 pub record Parts : Type 0 where
   pub outer : Outer
   pub front : List ℕ
-  pub head : Head
+  pub preamble : Preamble
   pub binding : Binding
   pub listed : Bool
   pub list : List ℕ
@@ -147,11 +147,11 @@ before text end = take (length text - length end) text
 unfoldable pub parts_at : List ℕ → Option Parts
 parts_at bytes = do
   o ← outer_at bytes
-  h ← head_at o.tbs.content
+  h ← preamble_at o.tbs.content
   b ← binding_at h.1
   r ← after_ids b.1
   l ← list_at r
-  Some (record { outer = o; front = before o.tbs.content r; head = h.0; binding = b.0; listed = l.0; list = l.1 })
+  Some (record { outer = o; front = before o.tbs.content r; preamble = h.0; binding = b.0; listed = l.0; list = l.1 })
 
 -- the parts, the times of their validity, and the extensions that their list reads as
 abbrev pub certificate_from_parts : List ℕ → Parts → ℤ → ℤ → List Extension → Cert
@@ -160,9 +160,9 @@ certificate_from_parts text p not_before not_after extensions =
       whole = text;
       tbs = p.outer.tbs.whole;
       front = p.front;
-      version = p.head.version;
-      inner_algorithm = p.head.algorithm;
-      issuer = p.head.issuer;
+      version = p.preamble.version;
+      inner_algorithm = p.preamble.algorithm;
+      issuer = p.preamble.issuer;
       not_before = not_before;
       not_after = not_after;
       subject = p.binding.subject;

@@ -7,13 +7,13 @@ use Rattle.sig_der.specs.declared.reader.Reader.{Reader}
 use Rattle.sig_der.specs.Places.{piece_at}
 use Rattle.sig_der.specs.Readers.{left}
 use Rattle.sig_certificate.specs.declared.span.Span.{Span}
-use Rattle.sig_certificate.specs.declared.parts.Head.{Head as HeadPlaces}
+use Rattle.sig_certificate.specs.declared.parts.Preamble.{Preamble as PreamblePlaces}
 use Rattle.sig_certificate.specs.declared.parts.Binding.{Binding as BindingPlaces}
 use Rattle.sig_certificate.specs.declared.parts.Outer.{Outer as OuterPlaces}
 use Rattle.sig_certificate.specs.declared.parts.Places.{Places}
 use Rattle.sig_certificate.specs.declared.extensions.ExtensionPlaces.{ExtensionPlaces}
 use Rattle.sig_certificate.specs.Certificate.{Extension, Cert}
-use Rattle.sig_certificate.specs.Cutting.{Head, Binding, Outer, Parts, certificate_from_parts}
+use Rattle.sig_certificate.specs.Cutting.{Preamble, Binding, Outer, Parts, certificate_from_parts}
 
 -- a reader after another, over the same buffer to the same end
 pub record GoesTo (r next : Reader) : Type 0 where
@@ -31,7 +31,7 @@ pub record IsSpan (end : ℕ) (s : Span) : Type 0 where
 
 -- the element lies below the offset
 pub record IsPlace (end : ℕ) (p : Place) : Type 0 where
-  pub headed : p.start ≤ p.content
+  pub preambleed : p.start ≤ p.content
   pub filled : p.content ≤ p.end
   pub below : p.end ≤ end
 
@@ -60,13 +60,13 @@ value_read x = (x.0, left x.1)
 
 -- ---- the parts
 
-abbrev pub placed_head : List ℕ → HeadPlaces → Head
-placed_head bytes h = record { version = h.version; algorithm = part bytes h.algorithm; issuer = part bytes h.issuer }
+abbrev pub placed_preamble : List ℕ → PreamblePlaces → Preamble
+placed_preamble bytes h = record { version = h.version; algorithm = part bytes h.algorithm; issuer = part bytes h.issuer }
 
-abbrev pub head_read : List ℕ → HeadPlaces × Reader → Head × List ℕ
-head_read bytes x = (placed_head bytes x.0, left x.1)
+abbrev pub preamble_read : List ℕ → PreamblePlaces × Reader → Preamble × List ℕ
+preamble_read bytes x = (placed_preamble bytes x.0, left x.1)
 
-pub record IsHeadWithin (end : ℕ) (h : HeadPlaces) : Type 0 where
+pub record IsPreambleWithin (end : ℕ) (h : PreamblePlaces) : Type 0 where
   pub algorithm : IsSpan end h.algorithm
   pub issuer : IsSpan end h.issuer
 
@@ -101,7 +101,7 @@ placed_outer bytes o =
 
 pub record IsOuterWithin (at end : ℕ) (o : OuterPlaces) : Type 0 where
   pub from : at ≤ o.tbs.start
-  pub headed : o.tbs.start ≤ o.tbs.content
+  pub preambleed : o.tbs.start ≤ o.tbs.content
   pub filled : o.tbs.content ≤ o.tbs.end
   pub to : o.tbs.end ≤ end
   pub algorithm : IsSpan end o.algorithm
@@ -120,7 +120,7 @@ parts_of bytes p =
     record {
       outer = placed_outer bytes p.outer;
       front = part bytes p.front;
-      head = placed_head bytes p.head;
+      preamble = placed_preamble bytes p.preamble;
       binding = placed_binding bytes p.binding;
       listed = p.listed;
       list = part bytes p.list;
@@ -130,7 +130,7 @@ parts_of bytes p =
 pub record ArePlaces (end : ℕ) (p : Places) : Type 0 where
   pub outer : IsOuterWithin 0 end p.outer
   pub front : IsSpan end p.front
-  pub head : IsHeadWithin end p.head
+  pub preamble : IsPreambleWithin end p.preamble
   pub binding : IsBindingWithin end p.binding
   pub list : IsSpan end p.list
 

@@ -116,14 +116,14 @@ impl Certificate {
     pub fn inner_algorithm(&self) -> &[u8]
         ensures { result.now ≡ self.now.inner_algorithm }
     {
-        part(&self.der, self.places.head.algorithm)
+        part(&self.der, self.places.preamble.algorithm)
     }
 
     /// Returns the issuer's name, a whole element.
     pub fn issuer(&self) -> &[u8]
         ensures { result.now ≡ self.now.issuer }
     {
-        part(&self.der, self.places.head.issuer)
+        part(&self.der, self.places.preamble.issuer)
     }
 
     /// Returns the subject's name, a whole element.
@@ -151,7 +151,7 @@ impl Certificate {
     pub fn version(&self) -> u8
         ensures { result ≡ self.now.version }
     {
-        self.places.head.version
+        self.places.preamble.version
     }
 
     /// Returns the first second of the validity, in seconds since 1970.

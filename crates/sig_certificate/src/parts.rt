@@ -8,7 +8,7 @@
 //!      signatureAlgorithm   AlgorithmIdentifier,
 //!      signatureValue       BIT STRING }
 //! TBSCertificate ::= SEQUENCE {
-//!      version         [0]  EXPLICIT Version DEFAULT v1,          -- read_head, read_version
+//!      version         [0]  EXPLICIT Version DEFAULT v1,          -- read_preamble, read_version
 //!      serialNumber         CertificateSerialNumber,
 //!      signature            AlgorithmIdentifier,
 //!      issuer               Name,
@@ -24,9 +24,9 @@
 //! ```
 
 ghost use Rattle.std.specs.Prelude.{◌≡◌, length, option_map, IfSome};
-ghost use Rattle.sig_certificate.specs.Cutting.{version_number, explicit_version, version_at, head_at, validity_at};
+ghost use Rattle.sig_certificate.specs.Cutting.{version_number, explicit_version, version_at, preamble_at, validity_at};
 ghost use Rattle.sig_certificate.specs.Cutting.{binding_at, after_ids, list_at, outer_at, parts_at};
-ghost use Rattle.sig_certificate.specs.Places.{value_read, head_read, IsHeadWithin, validity_read, IsValidityRead};
+ghost use Rattle.sig_certificate.specs.Places.{value_read, preamble_read, IsPreambleWithin, validity_read, IsValidityRead};
 ghost use Rattle.sig_certificate.specs.Places.{binding_read, IsBindingWithin, placed_outer, IsOuterWithin, listed_of};
 ghost use Rattle.sig_certificate.specs.Places.{IsListedWithin, parts_of, ArePlaces, GoesTo};
 ghost use Rattle.sig_der.specs.Readers.{left};
@@ -36,7 +36,7 @@ use sig_der::{Place, Reader, read_algorithm, read_bits, read_key_info, tag};
 
 /// The fields of the TBSCertificate up to the issuer.
 #[derive(Clone, Copy, Debug)]
-pub(crate) struct Head {
+pub(crate) struct Preamble {
     pub(crate) version: u8,
     pub(crate) algorithm: Span,
     pub(crate) issuer: Span,
@@ -65,7 +65,7 @@ pub(crate) struct Places {
     pub(crate) outer: Outer,
     /// The elements of the TBSCertificate before its extensions.
     pub(crate) front: Span,
-    pub(crate) head: Head,
+    pub(crate) preamble: Preamble,
     pub(crate) binding: Binding,
     /// Whether the extensions are there.
     pub(crate) listed: bool,
@@ -90,7 +90,7 @@ fn read_certificate(reader: Reader<'_>) -> Option<Places>
 {
     let outer = read_outer(reader)?;
     let tbs = reader.inside(outer.tbs);
-    let (head, rest) = read_head(tbs)?;
+    let (preamble, rest) = read_preamble(tbs)?;
     let (binding, rest) = read_binding(rest)?;
     let rest = skip_ids(rest)?;
     let (listed, list) = read_list(rest)?;
@@ -101,7 +101,7 @@ fn read_certificate(reader: Reader<'_>) -> Option<Places>
     Some(Places {
         outer,
         front,
-        head,
+        preamble,
         binding,
         listed,
         list,
@@ -129,10 +129,10 @@ fn read_outer(reader: Reader<'_>) -> Option<Outer>
 }
 
 /// Reads the fields of the TBSCertificate up to the issuer. `None` if they are malformed.
-#[tactic(auto, unfolding(crate::specs::Cutting::head_at))]
-fn read_head(reader: Reader<'_>) -> Option<(Head, Reader<'_>)>
-    ensures cut { head_at (left reader.entry) ≡ option_map (head_read reader.entry.bytes.now) result }
-    ensures within { IfSome result (λ x. IsHeadWithin reader.entry.end x.0 × GoesTo reader.entry x.1) }
+#[tactic(auto, unfolding(crate::specs::Cutting::preamble_at))]
+fn read_preamble(reader: Reader<'_>) -> Option<(Preamble, Reader<'_>)>
+    ensures cut { preamble_at (left reader.entry) ≡ option_map (preamble_read reader.entry.bytes.now) result }
+    ensures within { IfSome result (λ x. IsPreambleWithin reader.entry.end x.0 × GoesTo reader.entry x.1) }
 {
     let (version, rest) = read_version(reader)?;
     let (serial, rest) = rest.tagged(tag::INTEGER)?;
@@ -141,12 +141,12 @@ fn read_head(reader: Reader<'_>) -> Option<(Head, Reader<'_>)>
     if reader.content(serial).is_empty() {
         return None;
     }
-    let head = Head {
+    let preamble = Preamble {
         version,
         algorithm: whole_of(algorithm.whole),
         issuer: whole_of(issuer),
     };
-    Some((head, rest))
+    Some((preamble, rest))
 }
 
 /// Reads the version, which is 1 if the field is absent. `None` if it is malformed or not a known version.

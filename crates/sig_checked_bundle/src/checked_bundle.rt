@@ -15,7 +15,7 @@ use crate::content_check::{CheckedContent, checked_content};
 use crate::log_body::is_body_about;
 use crate::profile_check::{entry_among, meets_profile};
 use crate::signing_certificate::{SigningChain, signing_chain};
-use sig_base::{Bytes, OutOfMemory, Register};
+use sig_base::{Bytes, OutOfMemory, OwnedList};
 use sig_bundle::{Bundle, TransparencyLogEntry, VerificationMaterial};
 use sig_certificate::Certificate;
 use std::alloc::Global;
@@ -26,7 +26,7 @@ use std::marker::Model;
 #[derive(Drop)]
 pub struct CheckedBundle {
     certificate: Certificate,
-    further: Register<Certificate>,
+    further: OwnedList<Certificate>,
     signature: Bytes,
     content: CheckedContent,
     entry: TransparencyLogEntry,

@@ -11,7 +11,7 @@ ghost use Rattle.sig_certificate.specs.Certificate.{IsCertificate};
 ghost use Rattle.sig_certificate.specs.Certificates.{AreCertificates};
 
 use crate::bundle_error::BundleErrorKind;
-use sig_base::{Bytes, Register};
+use sig_base::{Bytes, OwnedList};
 use sig_bundle::MaterialContent;
 use sig_certificate::laws::certificates;
 use sig_certificate::{Certificate, X509ReadError, is_leaf, is_root_ca};
@@ -27,7 +27,7 @@ pub(crate) struct SigningChain {
     /// The signing certificate.
     pub(crate) certificate: Certificate,
     /// The certificates after it.
-    pub(crate) further: Register<Certificate>,
+    pub(crate) further: OwnedList<Certificate>,
 }
 
 /// The encodings (DER) of the certificates, the signing one first. `None` if and only if there are none to read: no
@@ -56,11 +56,11 @@ fn read_certificate(alloc: Global, index: usize, der: &[u8]) -> Result<Certifica
 
 /// The further certificates, of these encodings after the first. Fails with `CertificateMalformed` and the index of the
 /// first that is none.
-fn read_further(alloc: Global, ders: &[Bytes]) -> Result<Register<Certificate>, BundleErrorKind>
+fn read_further(alloc: Global, ders: &[Bytes]) -> Result<OwnedList<Certificate>, BundleErrorKind>
     ensures found { IfOk result (AreCertificates ders.now) }
     ensures refused { IfErr result (AreUnreadBehind ders.now) }
 {
-    let mut further = Register::new(alloc);
+    let mut further = OwnedList::new(alloc);
     'ders: for (index, der) in ders.iter().enumerate() {
         let certificate = read_certificate(alloc, index + 1, der.as_slice())?;
         further.push(certificate)?;
@@ -86,7 +86,7 @@ fn has_root(certificates: &[Certificate]) -> bool
 #[tactic(auto, using(crate::proofs::SigningCertificateLaws::judgements))]
 fn judged(
     certificate: Certificate,
-    further: Register<Certificate>,
+    further: OwnedList<Certificate>,
 ) -> Result<SigningChain, BundleErrorKind>
     ensures { result ≡ leaf_among (certificate ∷ further) }
 {

@@ -13,13 +13,13 @@ use crate::signature_layer::SignatureLayer;
 use crate::signers::none_unless;
 use crate::source::{ImageLayer, OciDescriptor};
 use crate::unsigned::digest_of;
-use sig_base::{ByText, OutOfMemory, Register, SignatureChecker, SigstoreError};
+use sig_base::{ByText, OutOfMemory, OwnedList, SignatureChecker, SigstoreError};
 use sig_key::VerificationKeys;
 use sig_x509::CertificatePool;
 use std::alloc::Global;
 
 /// Layers in order.
-pub type Layers = Register<SignatureLayer>;
+pub type Layers = OwnedList<SignatureLayer>;
 
 /// Returns the layers of a manifest's descriptors, in their order, of the image whose manifest has the digest
 /// `source_image_digest`, at `now` in seconds since 1970. To each descriptor belongs the first of the fetched layers

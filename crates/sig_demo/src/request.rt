@@ -18,7 +18,7 @@ ghost use Rattle.sig_demo.specs.Request.{hash_tree, request_of, request_tree, ro
 
 use crate::log::{DemoLog, entry_at};
 use crate::written::{entries_document, hash_document, hashes_document, natural_document};
-use sig_base::{Bytes, Entries, Hashes, OutOfMemory, Register, Text};
+use sig_base::{Bytes, Entries, Hashes, OutOfMemory, OwnedList, Text};
 use sig_bundle::Object;
 use sig_json::{Document, compact};
 use sig_rekor::{Checkpoint, CheckpointSignature, SignedCheckpoint};
@@ -51,13 +51,13 @@ impl DemoLog {
     fn checkpoint(&self, alloc: Global) -> Result<SignedCheckpoint, OutOfMemory>
         ensures { IfOk result (λ checkpoint. checkpoint ≡ demo_checkpoint self.now) }
     {
-        let mut signatures = Register::new(alloc);
+        let mut signatures = OwnedList::new(alloc);
         signatures.push(signature(alloc)?)?;
         let note = Checkpoint {
             origin: Text::copy_of(alloc, "demo")?,
             size: self.count,
             hash: self.root,
-            other_content: Register::new(alloc),
+            other_content: OwnedList::new(alloc),
         };
         Ok(SignedCheckpoint { note, signatures })
     }

@@ -4,7 +4,7 @@ ghost use Rattle.hex.specs.Hex.{encode_lower};
 ghost use Rattle.sig_dsse.specs.Digest.{digest_algorithm, digest_bytes};
 
 use sha2::{Digest, Sha256, Sha512};
-use sig_base::{OutOfMemory, Register, Text};
+use sig_base::{OutOfMemory, OwnedList, Text};
 use std::alloc::Global;
 
 /// The digest of an artifact. Two are equal if and only if algorithm and bytes are.
@@ -17,7 +17,7 @@ pub enum ArtifactDigest {
 }
 
 /// Digests in order.
-pub type Digests = Register<ArtifactDigest>;
+pub type Digests = OwnedList<ArtifactDigest>;
 
 impl ArtifactDigest {
     ghost use Rattle.std.specs.Prelude.{ℕ, List};

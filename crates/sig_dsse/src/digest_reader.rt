@@ -2,7 +2,7 @@
 //! it, and not copied.
 ghost use Rattle.sig_dsse.specs.DigestsAlone.{is_text, digest_map_in, digest_maps_in};
 
-use sig_base::{Register, TextMap};
+use sig_base::{OwnedList, TextMap};
 use sig_json::{
     ElementReader, Json, MemberError, TextMapReader, optional, required, required_list,
 };
@@ -45,13 +45,13 @@ impl ElementReader for DigestMapReader {
 pub(crate) enum DigestMapsReader {}
 
 impl ElementReader for DigestMapsReader {
-    type Item = Register<TextMap>;
+    type Item = OwnedList<TextMap>;
 
     ghost meaning = { digest_maps_in };
 
     // `predicate` may be anything, so no object is rejected for it.
     #[tactic(auto, using(crate::proofs::DigestsAlone::of_statement))]
-    fn read(alloc: Global, json: Json<'_, '_>) -> Result<Register<TextMap>, MemberError> {
+    fn read(alloc: Global, json: Json<'_, '_>) -> Result<OwnedList<TextMap>, MemberError> {
         required::<TextTest>(alloc, json, "_type")?;
         required::<TextTest>(alloc, json, "predicateType")?;
         required_list::<DigestMapReader>(alloc, json, "subject")

@@ -13,7 +13,7 @@ use crate::artifact_digest::Digests;
 use crate::digest_reader::DigestMapsReader;
 use crate::recognized::{SubjectFault, digests_of_maps};
 use crate::subject_digests::{Left, SubjectDigests};
-use sig_base::{Register, TextMap};
+use sig_base::{OwnedList, TextMap};
 use sig_json::{JsonError, read_record_with};
 use std::alloc::Global;
 use thiserror::Error;
@@ -81,7 +81,7 @@ fn take(alloc: Global, payload: &[u8]) -> Result<Digests, PayloadFault>
 
 /// The digests of each subject of the statement that a payload is. Fails with `NoStatement` where it is none.
 #[tactic(auto, using(crate::proofs::DigestsAlone::of_record))]
-fn read_maps(alloc: Global, payload: &[u8]) -> Result<Register<TextMap>, PayloadFault>
+fn read_maps(alloc: Global, payload: &[u8]) -> Result<OwnedList<TextMap>, PayloadFault>
     ensures { Answers PayloadFault.OutOfMemory (λ maps. maps) result (digest_maps_of payload.now) }
 {
     match read_digest_record(alloc, payload) {
@@ -95,7 +95,7 @@ fn read_maps(alloc: Global, payload: &[u8]) -> Result<Register<TextMap>, Payload
 
 /// The same by the error of a record, as if the whole payload were read: `MEMBERS` has every name but `predicate`, of
 /// which nothing is asked.
-fn read_digest_record(alloc: Global, payload: &[u8]) -> Result<Register<TextMap>, JsonError>
+fn read_digest_record(alloc: Global, payload: &[u8]) -> Result<OwnedList<TextMap>, JsonError>
     ensures { Answers JsonError.OutOfMemory (λ maps. maps) result (record_in digest_maps_in payload.now) }
 {
     read_record_with::<DigestMapsReader>(alloc, payload, &MEMBERS)

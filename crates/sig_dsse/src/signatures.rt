@@ -5,7 +5,7 @@ ghost use Rattle.std.specs.Option.{option_copied};
 ghost use Rattle.sig_dsse.specs.Signatures.{no_parts, only_signature};
 
 use crate::envelope::DsseSignature;
-use sig_base::{Bytes, OutOfMemory, Register, Text};
+use sig_base::{Bytes, OutOfMemory, OwnedList, Text};
 use std::alloc::Global;
 use std::marker::Model;
 
@@ -128,7 +128,7 @@ impl Eq for SparseSignature {
 pub struct DsseSignatures {
     alloc: Global,
     empty: DsseSignature,
-    items: Register<SparseSignature>,
+    items: OwnedList<SparseSignature>,
 }
 
 impl Model for DsseSignatures {
@@ -145,7 +145,7 @@ impl Model for DsseSignatures {
 
 impl DsseSignatures {
     /// The list of these signatures. It takes no memory.
-    pub fn of(alloc: Global, items: Register<SparseSignature>) -> DsseSignatures
+    pub fn of(alloc: Global, items: OwnedList<SparseSignature>) -> DsseSignatures
         ensures { result ≡ items }
     {
         DsseSignatures {
@@ -159,7 +159,7 @@ impl DsseSignatures {
     pub fn new(alloc: Global) -> DsseSignatures
         ensures { result ≡ [] }
     {
-        DsseSignatures::of(alloc, Register::new(alloc))
+        DsseSignatures::of(alloc, OwnedList::new(alloc))
     }
 
     /// Adds a signature at the end. Fails only if out of memory; the list is then unchanged.

@@ -11,7 +11,7 @@ ghost use Rattle.std.specs.Prelude.{◌≡◌};
 ghost use Rattle.sig_base.specs.declared.error.SigstoreError.TheVariants.{UnexpectedError};
 
 use crate::subject_digests::{Left, SubjectDigests};
-use sig_base::{Register, Result, SigstoreError, Text, TextMap, UnexpectedKind};
+use sig_base::{OwnedList, Result, SigstoreError, Text, TextMap, UnexpectedKind};
 use sig_json::Document;
 use std::alloc::Global;
 
@@ -40,7 +40,7 @@ pub struct Subject {
 }
 
 /// Subjects in order.
-pub type Subjects = Register<Subject>;
+pub type Subjects = OwnedList<Subject>;
 
 /// The version of statements that is read here.
 const STATEMENT_V1: &str = "https://in-toto.io/Statement/v1";

@@ -10,7 +10,7 @@ ghost use Rattle.sig_json.specs.Tree.{tree};
 use crate::error::MemberError;
 use crate::member::{find_member, require_member};
 use crate::view::Json;
-use sig_base::Register;
+use sig_base::OwnedList;
 use std::alloc::Global;
 
 /// A reader of one kind of value: of the elements of a list, and of a member.
@@ -34,14 +34,14 @@ pub trait ElementReader {
 pub fn read_list<T: ElementReader>(
     alloc: Global,
     list: Json<'_, '_>,
-) -> Result<Register<T::Item>, MemberError>
+) -> Result<OwnedList<T::Item>, MemberError>
     ensures { Answers MemberError.OutOfMemory T.seen_as.list result
         (or_member (list_each T.meaning (tree list.entry))) }
 {
     let Some(elements) = list.value.as_array() else {
         return Err(MemberError::Member);
     };
-    let mut found = Register::new(alloc);
+    let mut found = OwnedList::new(alloc);
     'elements: for element in elements {
         found.push(T::read(alloc, Json { value: element })?)?;
     }
@@ -86,7 +86,7 @@ pub fn required_list<T: ElementReader>(
     alloc: Global,
     json: Json<'_, '_>,
     name: &str,
-) -> Result<Register<T::Item>, MemberError>
+) -> Result<OwnedList<T::Item>, MemberError>
     ensures { Answers MemberError.OutOfMemory T.seen_as.list result
         (or_member (required_list T.meaning name.now (tree json.entry))) }
 {
@@ -100,12 +100,12 @@ pub fn optional_list<T: ElementReader>(
     alloc: Global,
     json: Json<'_, '_>,
     name: &str,
-) -> Result<Register<T::Item>, MemberError>
+) -> Result<OwnedList<T::Item>, MemberError>
     ensures { Answers MemberError.OutOfMemory T.seen_as.list result
         (or_member (optional_list T.meaning name.now (tree json.entry))) }
 {
     match find_member(json, name)? {
         Some(value) => read_list::<T>(alloc, value),
-        None => Ok(Register::new(alloc)),
+        None => Ok(OwnedList::new(alloc)),
     }
 }

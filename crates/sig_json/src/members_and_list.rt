@@ -18,7 +18,7 @@ use crate::stream::stream_text;
 use crate::tree::Tree;
 use crate::view::Json;
 use json::Scratch;
-use sig_base::Register;
+use sig_base::OwnedList;
 use std::alloc::Global;
 
 impl Document {
@@ -30,7 +30,7 @@ impl Document {
         text: &[u8],
         names: &[&str],
         list: &str,
-    ) -> Result<(Document, Register<E::Item>), JsonError>
+    ) -> Result<(Document, OwnedList<E::Item>), JsonError>
         ensures { Answers JsonError.OutOfMemory (λ parts. (document_tree parts.0, E.seen_as.list parts.1)) result
             (record_in (members_and_list (names_of names.now) list.now E.meaning) text.now) }
     {
@@ -63,7 +63,7 @@ impl<'t> BorrowedDocument<'t> {
         list: &str,
         scratch: &'t mut Scratch,
         spare: &'t mut Scratch,
-    ) -> Result<(BorrowedDocument<'t>, Register<E::Item>), JsonError>
+    ) -> Result<(BorrowedDocument<'t>, OwnedList<E::Item>), JsonError>
         ensures { Answers JsonError.OutOfMemory (λ parts. (borrowed_tree parts.0, E.seen_as.list parts.1)) result
             (record_in (members_and_list (names_of names.now) list.now E.meaning) text.now) }
     {
@@ -97,7 +97,7 @@ fn read_whole_and_list<'t, E: ElementReader>(
     names: &[&str],
     list: &str,
     scratch: &'t mut Scratch,
-) -> Result<(BorrowedDocument<'t>, Register<E::Item>), JsonError>
+) -> Result<(BorrowedDocument<'t>, OwnedList<E::Item>), JsonError>
     ensures { Answers JsonError.OutOfMemory (λ parts. (borrowed_tree parts.0, E.seen_as.list parts.1)) result
         (record_in (members_and_list (names_of names.now) list.now E.meaning) text.now) }
 {

@@ -16,7 +16,7 @@ use crate::read::read_value;
 use crate::tree::{Entry, Tree};
 use crate::view::Json;
 use json::{Reader, Scratch, Token};
-use sig_base::Register;
+use sig_base::OwnedList;
 use std::alloc::Global;
 
 /// The members of these names of a text that is an object, and the elements of the list of the name `list`. It says
@@ -28,7 +28,7 @@ pub(crate) fn stream_text<'r, E: ElementReader>(
     names: &[&str],
     list: &str,
     scratch: &'r mut Scratch,
-) -> Result<(Vec<Entry<'r>>, Register<E::Item>), SkipError>
+) -> Result<(Vec<Entry<'r>>, OwnedList<E::Item>), SkipError>
     requires { is_among (names_of names.now) list.now ≡ false }
     ensures ok { IfOk result (λ parts. StreamsOf E.meaning (names_of names.now) list.now text.now
         (members_view parts.0.items) (map E.seen_as.item parts.1)) }
@@ -55,7 +55,7 @@ fn stream_members<'r, E: ElementReader>(
     depth: usize,
     names: &[&str],
     list: &str,
-) -> Result<(Vec<Entry<'r>>, Register<E::Item>), SkipError>
+) -> Result<(Vec<Entry<'r>>, OwnedList<E::Item>), SkipError>
     requires { is_among (names_of names.now) list.now ≡ false }
     ensures ok { IfOk result (λ parts. StreamsMembers E.meaning (names_of names.now) list.now depth reader.old
         reader.new (members_view parts.0.items) (map E.seen_as.item parts.1)) }
@@ -63,7 +63,7 @@ fn stream_members<'r, E: ElementReader>(
         × HasNamedValues (members_view parts.0.items)) }
 {
     let mut found = Vec::new(alloc);
-    let mut elements = Register::new(alloc);
+    let mut elements = OwnedList::new(alloc);
     'members: while let Some(name) = reader.next_key()? {
         if name == list {
             elements = stream_list::<E>(alloc, reader, depth)?;
@@ -84,7 +84,7 @@ fn stream_list<E: ElementReader>(
     alloc: Global,
     reader: &mut Reader<'_>,
     depth: usize,
-) -> Result<Register<E::Item>, SkipError>
+) -> Result<OwnedList<E::Item>, SkipError>
     ensures ok { IfOk result (λ found. StreamsValue (list_each E.meaning) depth reader.old reader.new
         (map E.seen_as.item found)) }
     ensures shorter { OnOk result (length reader.new < length reader.old) }
@@ -104,12 +104,12 @@ fn stream_items<E: ElementReader>(
     alloc: Global,
     reader: &mut Reader<'_>,
     depth: usize,
-) -> Result<Register<E::Item>, SkipError>
+) -> Result<OwnedList<E::Item>, SkipError>
     ensures ok { IfOk result (λ found. StreamsItems E.meaning depth reader.old reader.new
         (map E.seen_as.item found)) }
     ensures shorter { OnOk result (length reader.new < length reader.old) }
 {
-    let mut found = Register::new(alloc);
+    let mut found = OwnedList::new(alloc);
     'elements: while !reader.take_end_array() {
         let element = stream_element::<E>(alloc, reader, depth)?;
         found.push(element)?;

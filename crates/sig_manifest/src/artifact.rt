@@ -6,7 +6,7 @@ ghost use Rattle.sig_manifest.specs.Artifact.{are_graphic, artifact_of, artifact
 
 use crate::read_rule::RuleReader;
 use crate::rule::Rule;
-use sig_base::{Bytes, Entries, Register, Text};
+use sig_base::{Bytes, Entries, OwnedList, Text};
 use sig_dsse::ArtifactDigest;
 use sig_json::{
     ElementReader, Json, MemberError, TextReader, optional_list, required, required_text,
@@ -41,7 +41,7 @@ pub struct Artifact {
 }
 
 /// Artifacts in order.
-pub type Artifacts = Register<Artifact>;
+pub type Artifacts = OwnedList<Artifact>;
 
 /// Whether a text is the name of an artifact: 1 to 256 bytes, none of them below 21 hex or above 7e hex.
 fn is_name(text: &str) -> bool

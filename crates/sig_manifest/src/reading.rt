@@ -12,7 +12,7 @@ ghost use Rattle.sig_request.specs.Accepted.{with_rows};
 use crate::error::ManifestError;
 use crate::manifest::{Manifest, read_members};
 use crate::unknown::unknown_in;
-use sig_base::{AcceptedRow, Register, TableChecker};
+use sig_base::{AcceptedRow, OwnedList, TableChecker};
 use sig_json::{BorrowedDocument, Json, JsonError, Scratch};
 use sig_request::RowReader;
 use std::alloc::Global;
@@ -80,7 +80,7 @@ fn read_parts(alloc: Global, text: &[u8]) -> Result<(Manifest, TableChecker), Js
 fn parts_of(
     alloc: Global,
     members: Json<'_, '_>,
-    rows: Register<AcceptedRow>,
+    rows: OwnedList<AcceptedRow>,
 ) -> Result<(Manifest, TableChecker), JsonError>
     ensures { Answers JsonError.OutOfMemory parts_view result
         (ok_or (with_accepted rows (tree members.entry)) JsonError.Member) }

@@ -18,7 +18,7 @@ use crate::identity::Identity;
 use crate::policy::{PolicyResult, VerificationPolicy};
 use crate::said::said_by;
 use crate::subject::PolicySubject;
-use sig_base::{OutOfMemory, Register};
+use sig_base::{OutOfMemory, OwnedList};
 use sig_certificate::Certificate;
 use std::alloc::Global;
 
@@ -42,7 +42,7 @@ pub enum LeafPolicy {
 }
 
 /// Policies in order.
-pub type LeafPolicies = Register<LeafPolicy>;
+pub type LeafPolicies = OwnedList<LeafPolicy>;
 
 /// The policy of a request.
 #[derive(Drop)]

@@ -14,7 +14,7 @@ use Rattle.sig_verify.specs.LinkLaws.{IsKept}
 use Rattle.sig_verify.specs.Links.{HoldsOf, Inputs, OfPassed, Outside, chain_links}
 use Rattle.sig_verify.specs.declared.link.Link.{Link}
 use Rattle.sig_verify.specs.declared.link.Link.TheVariants.{Inclusion, RootJson}
-use Rattle.sig_verify.specs.declared.offline.Offline.{Offline}
+use Rattle.sig_verify.specs.declared.logged_entry.LoggedEntry.{LoggedEntry}
 use Rattle.sig_verify.proofs.EntryPaths.{pos_same}
 use Rattle.sig_program.specs.ProofOf.{IsProofOf}
 
@@ -55,7 +55,7 @@ of_kept : (i : Inputs) (c : Checked) (b : Bundle) (P : TransparencyLogEntry → 
 of_kept i c b P is passed (d, other, (k, passed_too, holds)) =
     subst P (one_entry i.bundle d b k c other is passed_too passed) holds
 
-pub proof_in : (o : Outside) (i : Inputs) (offline : Offline) → HoldsOf o i Inclusion
+pub proof_in : (o : Outside) (i : Inputs) (offline : LoggedEntry) → HoldsOf o i Inclusion
     → OfPassed i (λ c. IsKept c.entry offline) → IsProofOf offline.body offline.proof
 proof_in o i offline ((root, root_is, placed), (root2, root_is2, led)) (b, is, (c, passed, kept)) =
     one_proof offline.body c.entry offline.proof kept.body kept.proof
@@ -76,7 +76,7 @@ holds-last : (P : Link → Type 0) (link : Link) (rest : List Link) → AllByRec
 holds-last P link [] every = every.0
 holds-last P link (next ∷ rest) every = holds-last P next rest every.1
 
-pub every-included : (o : Outside) (i : Inputs) (offline : Offline) → AllByRecursion (HoldsOf o i) chain_links
+pub every-included : (o : Outside) (i : Inputs) (offline : LoggedEntry) → AllByRecursion (HoldsOf o i) chain_links
     → OfPassed i (λ c. IsKept c.entry offline) → IsProofOf offline.body offline.proof
 every-included o i offline every kept =
     proof_in o i offline (holds-last (HoldsOf o i) RootJson (behind chain_links) every) kept

@@ -1,5 +1,5 @@
 pub mod ConsistencyReplies
-pub mod ConsistencySufficing
+pub mod ConsistencyRowsSuffice
 pub mod ConsistencyVerdicts
 pub mod FrontLines
 pub mod Fronts
@@ -19,10 +19,10 @@ pub mod Replies
 pub mod RowSizes
 pub mod Runs
 pub mod SecondLines
-pub mod Sufficing
+pub mod LogRowsSuffice
 pub mod Verdicts
 pub mod VerifyChains
 pub mod VerifyQuestionReplies
 pub mod VerifyReplies
-pub mod VerifySufficing
+pub mod VerifyRowsSuffice
 pub mod Writing

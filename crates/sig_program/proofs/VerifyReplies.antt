@@ -9,7 +9,7 @@ use Rattle.sig_verify.specs.Judged.{Judged}
 use Rattle.sig_verify.specs.Links.{chain_links}
 use Rattle.sig_verify.specs.OfflineErrors.{link_of}
 use Rattle.sig_verify.specs.declared.link.Link.{Link}
-use Rattle.sig_verify.specs.declared.offline.Offline.{Offline}
+use Rattle.sig_verify.specs.declared.logged_entry.LoggedEntry.{LoggedEntry}
 use Rattle.sig_verify.specs.declared.offline_error.OfflineError.{OfflineError}
 use Rattle.sig_verify.specs.declared.offline_error.OfflineError.TheVariants.{OutOfMemory as Memory}
 use Rattle.std.proofs.lemmas.Result.{IfOk-weaker}
@@ -26,8 +26,8 @@ use Rattle.sig_request.specs.declared.verify_request.VerifyRequest.{VerifyReques
 use Rattle.sig_request.specs.ReadFrom.{IsRequestOf}
 
 -- every link of the chain holds
-pub verified-reply : (text : List ℕ) (request : VerifyRequest) (offline : Offline) (reply : Reply)
-    → IsRequestOf verify_request text request → Judged {A = Offline} (HoldsOfVerify request) chain_links (Ok offline)
+pub verified-reply : (text : List ℕ) (request : VerifyRequest) (offline : LoggedEntry) (reply : Reply)
+    → IsRequestOf verify_request text request → Judged {A = LoggedEntry} (HoldsOfVerify request) chain_links (Ok offline)
     → IsEntryIn request offline → IsVerifiedReply request offline reply → IsReply Verify text reply
 verified-reply text request offline reply is judged kept made =
     every-reply Verify text reply (ap (λ (r : Reply). r.status) made.2)
@@ -42,7 +42,7 @@ verified-reply text request offline reply is judged kept made =
 -- the link of the error is the first that fails
 pub refused-verify : (text : List ℕ) (request : VerifyRequest) (error : OfflineError) (link : Link)
     → IsRequestOf verify_request text request → link_of error ≡ Some link
-    → Judged {A = Offline} (HoldsOfVerify request) chain_links (Err error) → IsReply Verify text (refusal_reply link)
+    → Judged {A = LoggedEntry} (HoldsOfVerify request) chain_links (Err error) → IsReply Verify text (refusal_reply link)
 refused-verify text request error link is named judged =
     let same : judged.0 ≡ link = some_is judged.0 link (sym judged.1 ∙ named) in
     subst (λ (l : Link). IsReply Verify text (refusal_reply l)) same
@@ -53,14 +53,14 @@ refused-verify text request error link is named judged =
 -- ---- the replies of a call
 
 -- what the chain of trust says of a request
-abbrev pub IsChainOf : VerifyRequest → Result Offline OfflineError → Type 0
+abbrev pub IsChainOf : VerifyRequest → Result LoggedEntry OfflineError → Type 0
 IsChainOf request r = UnlessMemory Memory r (Judged (HoldsOfVerify request) chain_links r)
 
-no_memory : (offline : Offline) → ◌≡◌ {A = Result Offline OfflineError} (Ok offline) (Err Memory) → ⊥
+no_memory : (offline : LoggedEntry) → ◌≡◌ {A = Result LoggedEntry OfflineError} (Ok offline) (Err Memory) → ⊥
 no_memory offline e = cc
 
-chain_held : (request : VerifyRequest) (offline : Offline) → IsChainOf request (Ok offline)
-    → Judged {A = Offline} (HoldsOfVerify request) chain_links (Ok offline)
+chain_held : (request : VerifyRequest) (offline : LoggedEntry) → IsChainOf request (Ok offline)
+    → Judged {A = LoggedEntry} (HoldsOfVerify request) chain_links (Ok offline)
 chain_held request offline (inl memory) = absurd (no_memory offline memory)
 chain_held request offline (inr judged) = judged
 
@@ -68,20 +68,20 @@ no_link : (link : Link) → ◌≡◌ {A = Option Link} None (Some link) → ⊥
 no_link link e = cc
 
 chain_failed : (request : VerifyRequest) (error : OfflineError) (link : Link) → link_of error ≡ Some link
-    → IsChainOf request (Err error) → Judged {A = Offline} (HoldsOfVerify request) chain_links (Err error)
+    → IsChainOf request (Err error) → Judged {A = LoggedEntry} (HoldsOfVerify request) chain_links (Err error)
 chain_failed request error link named (inl memory) =
     absurd (no_link link (subst (λ (e : OfflineError). link_of e ≡ Some link) (err_is error Memory memory) named))
 chain_failed request error link named (inr judged) = judged
 
 -- there is a proof of the logged body
-pub chain-included : (request : VerifyRequest) (offline : Offline) → IsChainOf request (Ok offline)
+pub chain-included : (request : VerifyRequest) (offline : LoggedEntry) → IsChainOf request (Ok offline)
     → IsEntryIn request offline → IsProofOf offline.body offline.proof
 chain-included request offline chain kept =
     every-included (outside request) (inputs request) offline (chain_held request offline chain) kept
 
 module _ (text : List ℕ) (request : VerifyRequest) (r : Result Reply OutOfMemory)
     (is : IsRequestOf verify_request text request) where
-  pub verified-replied : (offline : Offline) → IfOk r (IsVerifiedReply request offline) → IsChainOf request (Ok offline)
+  pub verified-replied : (offline : LoggedEntry) → IfOk r (IsVerifiedReply request offline) → IsChainOf request (Ok offline)
       → IsEntryIn request offline → IfOk r (IsReply Verify text)
   verified-replied offline made chain kept =
       IfOk-weaker r (IsVerifiedReply request offline) (IsReply Verify text)

@@ -19,7 +19,7 @@ use Rattle.sig_verify.specs.LinkLaws.{IsKept}
 use Rattle.sig_verify.specs.Links.{OfPassed}
 use Rattle.sig_verify.specs.declared.link.Link.{Link}
 use Rattle.sig_verify.specs.declared.link.Link.TheVariants.{Request, Checkpoint}
-use Rattle.sig_verify.specs.declared.offline.Offline.{Offline}
+use Rattle.sig_verify.specs.declared.logged_entry.LoggedEntry.{LoggedEntry}
 use Rattle.sig_rekor.specs.declared.checkpoint.SignedCheckpoint.{SignedCheckpoint}
 use Rattle.sig_request.specs.declared.head_members.ClaimedHead.{ClaimedHead}
 use Rattle.sig_request.specs.declared.request.LogRequest.{LogRequest}
@@ -74,11 +74,11 @@ IsLoggedReply request reply =
     × (reply ≡ logged request.proof second)
 
 -- the log entry of the request's bundle: its body, with the proof that its members are
-abbrev pub IsEntryIn : VerifyRequest → Offline → Type 0
+abbrev pub IsEntryIn : VerifyRequest → LoggedEntry → Type 0
 IsEntryIn request offline = OfPassed (inputs request) (λ c. IsKept c.entry offline)
 
 -- the proof of the log entry of the bundle of a request of `verify`, and what the log's entries say of the logged body
-abbrev pub IsVerifiedReply : VerifyRequest → Offline → Reply → Type 0
+abbrev pub IsVerifiedReply : VerifyRequest → LoggedEntry → Reply → Type 0
 IsVerifiedReply request offline reply =
     (second : List ℕ) × IsSecondLine request.entries offline.body offline.proof second
     × (reply ≡ verified offline.proof second)
@@ -127,7 +127,7 @@ Succeeds Log text reply =
     (request : LogRequest) → IsRequestOf log_request text request → IsLoggedReply request reply
 Succeeds Verify text reply =
     (request : VerifyRequest) → IsRequestOf verify_request text request
-    → (offline : Offline) × IsEntryIn request offline × IsVerifiedReply request offline reply
+    → (offline : LoggedEntry) × IsEntryIn request offline × IsVerifiedReply request offline reply
 Succeeds Consistency text reply =
     (request : ConsistencyRequest) → IsRequestOf consistency_request text request → IsConsistentReply request reply
 Succeeds Audit text reply = IsAuditReply text reply

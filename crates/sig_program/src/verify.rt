@@ -15,8 +15,8 @@ use crate::reply::{refused, verified};
 use crate::second_line::second_line;
 use sig_base::OutOfMemory;
 use sig_reply::Reply;
-use sig_request::{BriefPolicy, VerifyRequest, bundle_of, now_of, trusted_root_of};
-use sig_verify::{Link, Offline, OfflineError, verify_offline};
+use sig_request::{BriefPolicy, VerifyRequest};
+use sig_verify::{Link, LoggedEntry, OfflineError, verify_offline};
 use std::alloc::Global;
 
 /// Returns the reply to a request's text: `verified I N` with status 0 if every link holds, with the index and the
@@ -76,7 +76,7 @@ fn refused_reply(alloc: Global, link: Option<Link>) -> Result<Reply, OutOfMemory
 fn verified_reply(
     alloc: Global,
     request: &VerifyRequest,
-    offline: &Offline,
+    offline: &LoggedEntry,
 ) -> Result<Reply, OutOfMemory>
     requires { IsProofOf offline.now.body offline.now.proof }
     ensures { IfOk result (IsVerifiedReply request.entry.now offline.now) }
@@ -91,22 +91,22 @@ fn verified_reply(
 }
 
 /// The log entry of the request's bundle, or the error of the first link of the chain of trust that fails.
-fn verify_chain(alloc: Global, request: &VerifyRequest) -> Result<Offline, OfflineError>
+fn verify_chain(alloc: Global, request: &VerifyRequest) -> Result<LoggedEntry, OfflineError>
     ensures links { UnlessMemory OfflineError.OutOfMemory result
         (Judged (HoldsOfVerify request.entry.now) chain_links result) }
     ensures kept { IfOk result (λ offline. IsEntryIn request.entry.now offline) }
 {
-    let now = now_of(request);
+    let now = request.now();
     // A refusal in full is never written, and may be longer than memory has room for.
     let policy = BriefPolicy {
         policy: &request.policy,
     };
     verify_offline(
         alloc,
-        trusted_root_of(request),
+        request.trusted_root(),
         now,
         &request.digest,
-        bundle_of(request),
+        request.bundle(),
         &policy,
         &request.accepted,
     )

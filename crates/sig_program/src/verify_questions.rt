@@ -15,11 +15,11 @@ ghost use Rattle.sig_request.specs.VerifyRequest.{verify_request};
 
 use crate::laws::lists;
 use crate::reply::refused;
-use sig_base::{AcceptedRow, OutOfMemory, Register};
+use sig_base::{AcceptedRow, OutOfMemory, OwnedList};
 use sig_questions::laws::{few, one_list, schemes};
 use sig_questions::{NoQuestions, questions};
 use sig_reply::{Reply, room_beside, rows_document};
-use sig_request::{VerifyRequest, bundle_of, now_of, trusted_root_of};
+use sig_request::VerifyRequest;
 use sig_verify::Link;
 use std::alloc::Global;
 
@@ -81,18 +81,18 @@ fn questions_of(
     alloc: Global,
     request: &VerifyRequest,
     most: usize,
-) -> Result<Register<AcceptedRow>, NoQuestions>
+) -> Result<OwnedList<AcceptedRow>, NoQuestions>
     ensures decided { IsDecided (inputs request.entry.now) most result }
     ensures asked { IfOk result (λ rows.
         (row : row_type) → Contains rows row ↔ IsAskedBy (inputs request.entry.now) row) }
 {
-    let now = now_of(request);
+    let now = request.now();
     questions(
         alloc,
-        trusted_root_of(request),
+        request.trusted_root(),
         now,
         &request.digest,
-        bundle_of(request),
+        request.bundle(),
         most,
     )
 }
@@ -101,7 +101,7 @@ fn questions_of(
 fn listing_reply(
     alloc: Global,
     text: &[u8],
-    rows: &Register<AcceptedRow>,
+    rows: &OwnedList<AcceptedRow>,
 ) -> Result<Reply, OutOfMemory>
     requires { All HasScheme rows.now }
     ensures { IfOk result (IsListingOf text.now rows.now) }

@@ -31,7 +31,7 @@ use Rattle.sig_verify.specs.declared.link.Link.{Link}
 use Rattle.sig_verify.specs.declared.link.Link.TheVariants.{Issuance, Issuer, Sct, Policy, Key, Signature, Subject, Body, Time}
 use Rattle.sig_verify.specs.declared.link.Link.TheVariants.{LogKey, Promise, Proof, Checkpoint, NoteKey, NoteMatch}
 use Rattle.sig_verify.specs.declared.link.Link.TheVariants.{Inclusion}
-use Rattle.sig_verify.specs.declared.offline.Offline.{Offline}
+use Rattle.sig_verify.specs.declared.logged_entry.LoggedEntry.{LoggedEntry}
 use Rattle.sig_verify.specs.declared.offline_error.OfflineError.{OfflineError}
 use Rattle.sig_verify.specs.declared.offline_error.OfflineError.TheVariants.{OutOfMemory}
 use Rattle.sig_verify.specs.declared.offline_error.Part.TheVariants.{Root as RootText, Bundle as BundleText}
@@ -158,7 +158,7 @@ module _ (o : Outside) (i : Inputs) where
       (λ is p. cc) fails
 
 abbrev Outcome : Type 0
-Outcome = Result Offline OfflineError
+Outcome = Result LoggedEntry OfflineError
 
 -- what the error of the first link that fails says, under a checker that accepts no certificate
 pub front_told : (o : Outside) (root : List ℕ) (now time : ℤ) (d : ArtifactDigest) (bundle : List ℕ)
@@ -176,7 +176,7 @@ front_told o root now time d bundle error at denied (inr (link, is, fails)) =
     (told_link o (inputs root time d bundle) (silent o (inputs root time d bundle) denied) link fails))
 
 -- no link before `issuer` asks a checker, and that one does not hold: not all hold
-pub never_all : (o : Outside) (i : Inputs) (offline : Offline)
+pub never_all : (o : Outside) (i : Inputs) (offline : LoggedEntry)
     → ((issuer algorithm tbs signature : List ℕ) → o.checker.cert issuer algorithm tbs signature ≡ false)
     → UnlessMemory OutOfMemory (Ok offline) (Judged (HoldsOf o i) chain_links (Ok offline)) → ⊥
 never_all o i offline denied (inl memory) = absurd (let wrong : ◌≡◌ {A = Outcome} (Ok offline) (Err OutOfMemory) = memory in cc)

@@ -12,8 +12,8 @@ pub mod Few
 pub mod PathTables
 pub mod Shortcuts
 pub mod Shorter
-pub mod Mattering
-pub mod Told
+pub mod EachMatters
+pub mod ListedQuestions
 pub mod Writing
 pub mod Fronts
 pub mod Named

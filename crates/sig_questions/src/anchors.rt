@@ -5,7 +5,7 @@ ghost use Rattle.sig_certificate.specs.Certificate.{IsCertificate};
 ghost use Rattle.sig_certificate.specs.Certificates.{AreCertificates};
 ghost use Rattle.sig_verify.specs.RootLinks.{IsSomeAnchor};
 
-use sig_base::{Entries, OutOfMemory, Register};
+use sig_base::{Entries, OutOfMemory, OwnedList};
 use sig_certificate::{Certificate, X509ReadError};
 use std::alloc::Global;
 
@@ -13,11 +13,11 @@ use std::alloc::Global;
 pub(crate) fn read_anchors(
     alloc: Global,
     ders: &Entries,
-) -> Result<Register<Certificate>, OutOfMemory>
+) -> Result<OwnedList<Certificate>, OutOfMemory>
     requires { AllByRecursion IsSomeAnchor ders.now }
     ensures { IfOk result (AreCertificates ders.now) }
 {
-    let mut anchors = Register::new(alloc);
+    let mut anchors = OwnedList::new(alloc);
     'ders: for der in ders.as_slice() {
         let anchor = read_anchor(alloc, der.as_slice())?;
         anchors.push(anchor)?;

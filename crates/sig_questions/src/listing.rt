@@ -26,7 +26,7 @@ use crate::paths::push_certificates;
 use crate::points::push_points;
 use crate::rows::Rows;
 use crate::trust::{TrustParts, read_trust};
-use sig_base::{AcceptedRow, KeyMap, OutOfMemory, Register};
+use sig_base::{AcceptedRow, KeyMap, OutOfMemory, OwnedList};
 use sig_bundle::{ArtifactDigest, Bundle, read_bundle};
 use sig_checked_bundle::laws::passed_bundles;
 use sig_checked_bundle::{BundleErrorKind, CheckedBundle};
@@ -111,7 +111,7 @@ pub fn questions(
     digest: &ArtifactDigest,
     bundle: &[u8],
     most: usize,
-) -> Result<Register<AcceptedRow>, NoQuestions>
+) -> Result<OwnedList<AcceptedRow>, NoQuestions>
     // A row is listed if and only if a link asks it.
     ensures asked { IfOk result (λ rows. (row : row_type) → Contains rows row ↔ IsAskedBy
         (record { root = trusted_root.now; now = now; digest = digest.now; bundle = bundle.now }) row) }
@@ -145,7 +145,7 @@ fn list_text(
     digest: &ArtifactDigest,
     bundle: &[u8],
     most: usize,
-) -> Result<Register<AcceptedRow>, NoQuestions>
+) -> Result<OwnedList<AcceptedRow>, NoQuestions>
     ensures { IsAnswered (record { root = trusted_root.now; now = now; digest = digest.now; bundle = bundle.now })
         most result }
 {
@@ -168,7 +168,7 @@ fn list_bundle(
     digest: &ArtifactDigest,
     bundle: &[u8],
     most: usize,
-) -> Result<Register<AcceptedRow>, NoQuestions>
+) -> Result<OwnedList<AcceptedRow>, NoQuestions>
     requires keys { AllByRecursion HasRawBytes root.now.tlogs }
     requires read { trusted_root_in root_text.now ≡ Ok root.now }
     ensures { IsAnswered (record { root = root_text.now; now = now; digest = digest.now; bundle = bundle.now })
@@ -190,7 +190,7 @@ fn list_read(
     digest: &ArtifactDigest,
     bundle: &Bundle,
     most: usize,
-) -> Result<Register<AcceptedRow>, NoQuestions>
+) -> Result<OwnedList<AcceptedRow>, NoQuestions>
     requires keys { AllByRecursion HasRawBytes root.now.tlogs }
     requires root_read { trusted_root_in root_text.now ≡ Ok root.now }
     requires bundle_read { bundle_in bundle_text.now ≡ Ok bundle.now }
@@ -213,7 +213,7 @@ fn list_checked(
     digest: &ArtifactDigest,
     bundle: &Bundle,
     most: usize,
-) -> Result<Register<AcceptedRow>, NoQuestions>
+) -> Result<OwnedList<AcceptedRow>, NoQuestions>
     requires trust { HasTrust root.now now }
     requires passed { IsPassedBundle bundle.now }
     ensures { UnlessMemory NoQuestions.OutOfMemory result (AreListedOf root.now now digest.now bundle.now most
@@ -245,7 +245,7 @@ fn list(
     digest: &ArtifactDigest,
     bundle: &CheckedBundle,
     most: usize,
-) -> Result<Register<AcceptedRow>, NoQuestions>
+) -> Result<OwnedList<AcceptedRow>, NoQuestions>
     ensures listed { AreListed digest.now (trust_in trust.now) trust.now.log_keys bundle.now most result }
     ensures read { OnOk result (IsReadCertificate bundle.now) }
     ensures bytes { OnOk result (IsOfBytes trust.now.log_keys bundle.now.entry) }
@@ -266,13 +266,13 @@ fn list_paths(
     digest: &ArtifactDigest,
     bundle: &CheckedBundle,
     most: usize,
-) -> Result<Register<AcceptedRow>, NoQuestions>
+) -> Result<OwnedList<AcceptedRow>, NoQuestions>
     ensures listed { AreListedAs (rows_of_paths paths.now) (rows_of_paths paths.now ++ rows_behind paths.now trust.now
         digest.now bundle.now) most result }
     ensures bytes { OnOk result (IsOfBytes trust.now.log_keys bundle.now.entry) }
 {
     let mut rows = Rows {
-        rows: Register::new(alloc),
+        rows: OwnedList::new(alloc),
         room: most,
     };
     push_certificates(&mut rows, alloc, paths)?;

@@ -4,13 +4,13 @@ ghost use Rattle.sig_questions.specs.Rows.{row_bytes};
 ghost use Rattle.sig_questions.specs.Written.{IsSpent, AddsRows, row_of_parts};
 
 use crate::listing::NoQuestions;
-use sig_base::{AcceptedRow, Bytes, Operation, OutOfMemory, Register};
+use sig_base::{AcceptedRow, Bytes, Operation, OutOfMemory, OwnedList};
 use std::alloc::Global;
 
 /// Rows in order, and how many more bytes the rows after them may have.
 #[derive(Drop)]
 pub(crate) struct Rows {
-    pub(crate) rows: Register<AcceptedRow>,
+    pub(crate) rows: OwnedList<AcceptedRow>,
     pub(crate) room: usize,
 }
 

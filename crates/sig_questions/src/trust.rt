@@ -8,7 +8,7 @@ ghost use Rattle.sig_verify.specs.RootLinks.{IsSomeAnchor, authorities, ct_keys,
 ghost use Rattle.sig_verify.specs.Verifier.{HasKeys};
 
 use crate::anchors::read_anchors;
-use sig_base::{KeyMap, OutOfMemory, Register, SigstoreError};
+use sig_base::{KeyMap, OutOfMemory, OwnedList, SigstoreError};
 use sig_certificate::Certificate;
 use sig_root::{SigstoreTrustRoot, TrustRoot};
 use sig_timestamp::Keyring;
@@ -18,7 +18,7 @@ use std::alloc::Global;
 /// What a root gives at a time.
 #[derive(Drop)]
 pub(crate) struct TrustParts {
-    pub(crate) anchors: Register<Certificate>,
+    pub(crate) anchors: OwnedList<Certificate>,
     pub(crate) keyring: Keyring,
     pub(crate) log_keys: KeyMap,
 }
@@ -44,7 +44,7 @@ fn anchors_of(
     alloc: Global,
     root: &SigstoreTrustRoot,
     now: i64,
-) -> Result<Register<Certificate>, OutOfMemory>
+) -> Result<OwnedList<Certificate>, OutOfMemory>
     requires some { authorities root.now now ≢ [] }
     requires anchors { AllByRecursion IsSomeAnchor (authorities root.now now) }
     ensures { IfOk result (AreCertificates (authorities root.now now)) }

@@ -1,6 +1,6 @@
 //! A checkpoint, also known as a signed tree head: what a log says of its tree, and the signatures over it.
 
-use sig_base::{Bytes, Register, Text};
+use sig_base::{Bytes, OwnedList, Text};
 use std::fmt;
 
 /// A note and the signatures over it.
@@ -46,10 +46,10 @@ pub enum OtherContent {
 }
 
 /// Signatures in order.
-pub type CheckpointSignatures = Register<CheckpointSignature>;
+pub type CheckpointSignatures = OwnedList<CheckpointSignature>;
 
 /// Lines of a note in order.
-pub type OtherContents = Register<OtherContent>;
+pub type OtherContents = OwnedList<OtherContent>;
 
 /// Shows the line: key, colon, space and value, or the text as it is.
 impl fmt::Display for OtherContent {

@@ -2,7 +2,7 @@
 ghost use Rattle.std.specs.Prelude.{◌≡◌, None};
 ghost use Rattle.sig_rekor_models.specs.LogInfo.{log_info_from_rekor};
 
-use sig_base::{Register, Result, Text, UnexpectedKind};
+use sig_base::{OwnedList, Result, Text, UnexpectedKind};
 use sig_rekor::{SignedCheckpoint, decode_hash};
 
 /// A shard of a log that no entry is written to any more.
@@ -19,7 +19,7 @@ pub struct InactiveShardLogInfo {
 }
 
 /// Shards in order.
-pub type Shards = Register<InactiveShardLogInfo>;
+pub type Shards = OwnedList<InactiveShardLogInfo>;
 
 /// A tree head.
 #[derive(Drop, PartialEq, Eq)]

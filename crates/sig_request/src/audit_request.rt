@@ -21,7 +21,7 @@ ghost use Rattle.sig_request.specs.AuditRequest.{are_under, head_text_of, is_wit
 use crate::request_text::{RequestReader, request_from_text};
 use crate::row::{EntriesReader, SchemeReader};
 use sig_audit::{Watch, WatchList};
-use sig_base::{Bytes, Entries, Hashes, OutOfMemory, Register, SigningScheme, TableChecker, Text};
+use sig_base::{Bytes, Entries, Hashes, OutOfMemory, OwnedList, SigningScheme, TableChecker, Text};
 use sig_json::{
     ElementReader, HashReader, Json, MemberError, optional, optional_list, required,
     required_bytes, required_list, required_text, required_u64,
@@ -48,7 +48,7 @@ pub struct HeadText {
 #[derive(Drop)]
 pub struct AuditRequest {
     /// The heads of the log, the oldest first: from 1 to 256.
-    pub heads: Register<HeadText>,
+    pub heads: OwnedList<HeadText>,
     /// The watched entries, each under one of the heads: at most 4,096.
     pub watched: WatchList,
     /// The scheme of the log's key.

@@ -35,4 +35,4 @@ pub use policy_rule::read_policy;
 pub use read::{MOST_BYTES, REQUEST_LIMIT, ReadFault, read_request};
 pub use request::LogRequest;
 pub use row::{RowReader, read_accepted};
-pub use verify_request::{VerifyRequest, bundle_of, now_of, trusted_root_of};
+pub use verify_request::VerifyRequest;

@@ -13,7 +13,7 @@ ghost use Rattle.sig_request.specs.ReadFrom.{IsReadFrom};
 
 use crate::read::MOST_BYTES;
 use crate::row::RowReader;
-use sig_base::{AcceptedRow, OutOfMemory, Register, TableChecker};
+use sig_base::{AcceptedRow, OutOfMemory, OwnedList, TableChecker};
 use sig_json::{BorrowedDocument, Json, JsonError, MemberError, Scratch};
 use std::alloc::Global;
 
@@ -87,7 +87,7 @@ fn read_parts<T: RequestReader>(
 fn request_of_parts<T: RequestReader>(
     alloc: Global,
     members: Json<'_, '_>,
-    rows: Register<AcceptedRow>,
+    rows: OwnedList<AcceptedRow>,
 ) -> Result<T::Item, JsonError>
     ensures { Answers JsonError.OutOfMemory (λ request. request) result
         (ok_or (T.meaning rows (tree members.entry)) JsonError.Member) }

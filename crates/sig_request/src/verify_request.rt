@@ -93,25 +93,25 @@ impl VerifyRequest {
     {
         request_from_text::<VerifyRequestReader>(alloc, text, &MEMBERS)
     }
-}
 
-/// The bytes of the trusted root of the request.
-pub fn trusted_root_of(request: &VerifyRequest) -> &[u8]
-    ensures { result.now ≡ request.entry.now.trusted_root }
-{
-    request.trusted_root.as_str().as_bytes()
-}
+    /// The bytes of the trusted root.
+    pub fn trusted_root(&self) -> &[u8]
+        ensures { result.now ≡ self.now.trusted_root }
+    {
+        self.trusted_root.as_str().as_bytes()
+    }
 
-/// The bytes of the bundle of the request.
-pub fn bundle_of(request: &VerifyRequest) -> &[u8]
-    ensures { result.now ≡ request.entry.now.bundle }
-{
-    request.bundle.as_str().as_bytes()
-}
+    /// The bytes of the bundle.
+    pub fn bundle(&self) -> &[u8]
+        ensures { result.now ≡ self.now.bundle }
+    {
+        self.bundle.as_str().as_bytes()
+    }
 
-/// The time of the request, in whole seconds since 1970.
-pub fn now_of(request: &VerifyRequest) -> i64
-    ensures { result ≡ request.entry.now.now }
-{
-    request.now
+    /// The time of the verification, in whole seconds since 1970.
+    pub fn now(&self) -> i64
+        ensures { result ≡ self.now.now }
+    {
+        self.now
+    }
 }

@@ -1,17 +1,17 @@
 //! `TrustedRoot`: what the text of a trusted root says (Sigstore trusted root format).
 
 use crate::sparse::{SparseAuthority, SparseInstance};
-use sig_base::{Bytes, Entries, Register};
+use sig_base::{Bytes, Entries, OwnedList};
 
 /// The authorities and logs that are trusted. Nothing is checked beyond the kinds of the members.
 #[derive(Drop)]
 pub struct TrustedRoot {
     /// Those that issue certificates.
-    pub certificate_authorities: Register<SparseAuthority>,
+    pub certificate_authorities: OwnedList<SparseAuthority>,
     /// The logs of signatures.
-    pub tlogs: Register<SparseInstance>,
+    pub tlogs: OwnedList<SparseInstance>,
     /// The Certificate Transparency logs.
-    pub ctlogs: Register<SparseInstance>,
+    pub ctlogs: OwnedList<SparseInstance>,
 }
 
 /// An authority that issues certificates.

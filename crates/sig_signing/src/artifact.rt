@@ -4,7 +4,7 @@ ghost use Rattle.sig_checked_bundle.specs.Version.{media_type};
 ghost use Rattle.sig_checked_bundle.specs.declared.version.Version.TheVariants.{Bundle0_2};
 ghost use Rattle.sig_signing.specs.Artifact.{bundle_of, material_of};
 
-use sig_base::{Bytes, Entries, OutOfMemory, Register, Text};
+use sig_base::{Bytes, Entries, OutOfMemory, OwnedList, Text};
 use sig_bundle::{
     Bundle, Content, LogEntries, MaterialContent, MessageSignature, TransparencyLogEntry,
     VerificationMaterial,
@@ -97,7 +97,7 @@ fn material(
 {
     let mut tlog_entries = LogEntries::new(alloc);
     tlog_entries.push(log_entry)?;
-    let mut chain = Register::new(alloc);
+    let mut chain = OwnedList::new(alloc);
     chain.push(cert)?;
     Ok(VerificationMaterial {
         content: Some(MaterialContent::X509CertificateChain(Entries::of(alloc, chain))),

@@ -8,7 +8,7 @@ ghost use Rattle.sig_signing.specs.Decoded.{base64_or_refused, canonical_or_refu
 
 use crate::conversion_error::ConversionError;
 use hex::FromHexError;
-use sig_base::{Bytes, Entries, Register};
+use sig_base::{Bytes, Entries, OwnedList};
 use sig_json::{CanonicalError, canonical};
 use sig_rekor_models::Body;
 use std::alloc::Global;
@@ -30,7 +30,7 @@ pub(crate) fn decode_hex(alloc: Global, text: &[u8]) -> Result<Bytes, Conversion
 pub(crate) fn decode_each_hex(alloc: Global, texts: &Entries) -> Result<Entries, ConversionError>
     ensures { Answers ConversionError.OutOfMemory (λ found. found) result (each_from hex_at 0 texts.now) }
 {
-    let mut found = Register::new(alloc);
+    let mut found = OwnedList::new(alloc);
     'texts: for text in texts.as_slice() {
         let bytes = decode_hex(alloc, text.as_slice())?;
         found.push(bytes)?;

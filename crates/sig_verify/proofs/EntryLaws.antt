@@ -20,7 +20,7 @@ use Rattle.sig_verify.specs.LogEntry.{log_entry_answer, fields_answer, included,
 use Rattle.sig_verify.specs.LogEntry.{promise_answer, vouched}
 use Rattle.sig_verify.specs.declared.link.Link.TheVariants.{LogKey, Promise, Proof, Checkpoint, NoteKey, NoteMatch}
 use Rattle.sig_verify.specs.declared.link.Link.TheVariants.{Inclusion}
-use Rattle.sig_verify.specs.declared.offline.Offline.{Offline}
+use Rattle.sig_verify.specs.declared.logged_entry.LoggedEntry.{LoggedEntry}
 use Rattle.sig_verify.specs.declared.offline_error.OfflineError.{OfflineError}
 use Rattle.sig_verify.specs.declared.offline_error.OfflineError.TheVariants.{OutOfMemory}
 
@@ -58,20 +58,20 @@ module _ (proofs : ProofLaws) (spki : AcceptsSpki) (keys : LogKeys) (e : Transpa
   entry_told = judged_tells (HoldsOfEntry spki keys e) entry_links (log_entry_answer spki keys e) judged_entry
 
 -- what the last step keeps
-pub entry_kept : ProofLaws → (spki : AcceptsSpki) (keys : LogKeys) (e : TransparencyLogEntry) (offline : Offline)
+pub entry_kept : ProofLaws → (spki : AcceptsSpki) (keys : LogKeys) (e : TransparencyLogEntry) (offline : LoggedEntry)
     → log_entry_answer spki keys e ≡ Ok offline → IsKept e offline
 entry_kept proofs spki keys e offline answer =
     let a = bind_ok (log_key_answer keys e.log_id) _ offline answer in
     let b = bind_ok (promise_answer (spki a.0.0 a.0.1) e) _ offline a.2 in
     let c = bind_ok (fields_answer e.inclusion_proof) _ offline b.2 in
     let d = bind_ok (entry_inclusion_answer (spki a.0.0 a.0.1) e.canonicalized_body c.0) _ offline c.2 in
-    let is : ◌≡◌ {A = Offline} (record { body = e.canonicalized_body; proof = c.0 }) offline = ok_is _ offline d.2 in
-    subst (λ (o : Offline). IsKept e o) is
+    let is : ◌≡◌ {A = LoggedEntry} (record { body = e.canonicalized_body; proof = c.0 }) offline = ok_is _ offline d.2 in
+    subst (λ (o : LoggedEntry). IsKept e o) is
     (record { body = refl; proof = proof_taken proofs e e.inclusion_proof c.0 refl c.1 })
 
 -- what the call returns, whose arguments are bytes
 pub entry_linked : ProofLaws → (spki : AcceptsSpki) (keys : LogKeys) (e : TransparencyLogEntry)
-    (r : Result Offline OfflineError) → Answers OutOfMemory (λ (o : Offline). o) r (log_entry_answer spki keys e)
+    (r : Result LoggedEntry OfflineError) → Answers OutOfMemory (λ (o : LoggedEntry). o) r (log_entry_answer spki keys e)
     → UnlessMemory OutOfMemory r (HasKeyOfBytes keys e) → AreBytes e.canonicalized_body
     → AreBytes (unwrap_or e.log_id []) → UnlessMemory OutOfMemory r (Judged (HoldsOfEntry spki keys e) entry_links r)
 entry_linked proofs spki keys e r is (inl memory) body id = inl memory
@@ -80,7 +80,7 @@ entry_linked proofs spki keys e r is (inr key) body id =
     (judged_entry proofs spki keys e (record { body = body; id = id; key = key }))
 
 pub entry_kept_of : ProofLaws → (spki : AcceptsSpki) (keys : LogKeys) (e : TransparencyLogEntry)
-    (r : Result Offline OfflineError) → Answers OutOfMemory (λ (o : Offline). o) r (log_entry_answer spki keys e)
+    (r : Result LoggedEntry OfflineError) → Answers OutOfMemory (λ (o : LoggedEntry). o) r (log_entry_answer spki keys e)
     → IfOk r (IsKept e)
 entry_kept_of proofs spki keys e (Ok offline) is = entry_kept proofs spki keys e offline is
 entry_kept_of proofs spki keys e (Err error) is = tt

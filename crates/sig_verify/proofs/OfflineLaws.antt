@@ -37,7 +37,7 @@ use Rattle.sig_verify.specs.Verdict.{Answer, IsVerdict}
 use Rattle.sig_verify.specs.Verifier.{IsVerifierOf, Trusted}
 use Rattle.sig_verify.specs.declared.link.Link.{Link}
 use Rattle.sig_verify.specs.declared.link.Link.TheVariants.{RootJson, BundleJson}
-use Rattle.sig_verify.specs.declared.offline.Offline.{Offline}
+use Rattle.sig_verify.specs.declared.logged_entry.LoggedEntry.{LoggedEntry}
 use Rattle.sig_verify.specs.declared.offline_error.OfflineError.{OfflineError}
 use Rattle.sig_verify.specs.declared.offline_error.OfflineError.TheVariants.{Json, OutOfMemory}
 use Rattle.sig_verify.specs.declared.offline_error.Part.TheVariants.{Root, Bundle}
@@ -67,7 +67,7 @@ module _ (laws : Groups) (o : Outside) (i : Inputs) (read : AreReadInputs i) (re
   -- what comes after the links that hold
   record Rest (rest : List Link) : Type 0 where
     judged : Judged Holds rest result
-    kept : (offline : Offline) → result ≡ Ok offline → OfPassed i (λ c. IsKept c.entry offline)
+    kept : (offline : LoggedEntry) → result ≡ Ok offline → OfPassed i (λ c. IsKept c.entry offline)
 
   refused : (rest : List Link) (error : OfflineError) → result ≡ Err error → IsOfFirst Holds rest error → Rest rest
   refused rest error is first = record {

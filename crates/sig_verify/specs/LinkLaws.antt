@@ -31,7 +31,7 @@ use Rattle.sig_verify.specs.declared.error.VerificationError.{VerificationError}
 use Rattle.sig_verify.specs.declared.link.Link.{Link}
 use Rattle.sig_verify.specs.declared.link.Link.TheVariants.{Issuance, Issuer, Sct, Policy, Key, Signature, Subject}
 use Rattle.sig_verify.specs.declared.link.Link.TheVariants.{Body, Time}
-use Rattle.sig_verify.specs.declared.offline.Offline.{Offline}
+use Rattle.sig_verify.specs.declared.logged_entry.LoggedEntry.{LoggedEntry}
 use Rattle.sig_verify.specs.declared.offline_error.OfflineError.{OfflineError}
 use Rattle.sig_verify.specs.declared.offline_error.OfflineError.TheVariants.{Bundle as Refused}
 
@@ -42,12 +42,12 @@ EntriesAreJudged = (spki : AcceptsSpki) (keys : LogKeys) (e : TransparencyLogEnt
     → Tells (HoldsOfEntry spki keys e) entry_links (log_entry_answer spki keys e)
 
 -- the value is the entry's body, with the proof that its members are
-pub record IsKept (e : TransparencyLogEntry) (offline : Offline) : Type 0 where
+pub record IsKept (e : TransparencyLogEntry) (offline : LoggedEntry) : Type 0 where
   pub body : offline.body ≡ e.canonicalized_body
   pub proof : OfProof e (λ p. IsProof p offline.proof)
 
 abbrev pub EntriesAreKept : Type 0
-EntriesAreKept = (spki : AcceptsSpki) (keys : LogKeys) (e : TransparencyLogEntry) (offline : Offline)
+EntriesAreKept = (spki : AcceptsSpki) (keys : LogKeys) (e : TransparencyLogEntry) (offline : LoggedEntry)
     → log_entry_answer spki keys e ≡ Ok offline → IsKept e offline
 
 -- of a bundle: its own checks pass if and only if the links `material` to `profile` hold, and an error is that of the

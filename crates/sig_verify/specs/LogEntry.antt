@@ -20,7 +20,7 @@ use Rattle.sig_rekor.specs.Verify.{proof_answer}
 use Rattle.sig_rekor.specs.declared.inclusion_proof.InclusionProof.{InclusionProof}
 use Rattle.sig_verify.specs.ContentCheck.{AcceptsSpki, AcceptsUnder}
 use Rattle.sig_verify.specs.OfflineErrors.{of_canonical, of_fields, of_proof}
-use Rattle.sig_verify.specs.declared.offline.Offline.{Offline}
+use Rattle.sig_verify.specs.declared.logged_entry.LoggedEntry.{LoggedEntry}
 use Rattle.sig_verify.specs.declared.offline_error.OfflineError.{OfflineError}
 use Rattle.sig_verify.specs.declared.offline_error.OfflineError.TheVariants.{LogIdMissing, RekorPublicKeyNotFoundError}
 use Rattle.sig_verify.specs.declared.offline_error.OfflineError.TheVariants.{KeyParsingError}
@@ -101,18 +101,18 @@ entry_inclusion_answer accepts body proof = from_proof (proof_answer accepts bod
 -- ---- all of them in order
 
 -- the body with this proof, if the key vouches for it
-abbrev pub included : AcceptsUnder → TransparencyLogEntry → InclusionProof → Result Offline OfflineError
+abbrev pub included : AcceptsUnder → TransparencyLogEntry → InclusionProof → Result LoggedEntry OfflineError
 included accepts entry proof = do
   _ ← entry_inclusion_answer accepts entry.canonicalized_body proof
   Ok (record { body = entry.canonicalized_body; proof = proof })
 
-abbrev pub vouched : AcceptsUnder → TransparencyLogEntry → Result Offline OfflineError
+abbrev pub vouched : AcceptsUnder → TransparencyLogEntry → Result LoggedEntry OfflineError
 vouched accepts entry = do
   _ ← promise_answer accepts entry
   proof ← fields_answer entry.inclusion_proof
   included accepts entry proof
 
-abbrev pub log_entry_answer : AcceptsSpki → List (List ℕ × List ℕ) → TransparencyLogEntry → Result Offline OfflineError
+abbrev pub log_entry_answer : AcceptsSpki → List (List ℕ × List ℕ) → TransparencyLogEntry → Result LoggedEntry OfflineError
 log_entry_answer spki keys entry = do
   key ← log_key_answer keys entry.log_id
   vouched (spki key.0 key.1) entry

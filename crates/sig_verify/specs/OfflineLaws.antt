@@ -16,7 +16,7 @@ use Rattle.sig_verify.specs.LinkLaws.{IsKept, IsReadCertificate}
 use Rattle.sig_verify.specs.Links.{HoldsOf, Inputs, OfPassed, Outside, chain_links}
 use Rattle.sig_verify.specs.OfflineVerdict.{IsOffline, Outcome, only_entry_of}
 use Rattle.sig_verify.specs.RootLinks.{rekor_keys}
-use Rattle.sig_verify.specs.declared.offline.Offline.{Offline}
+use Rattle.sig_verify.specs.declared.logged_entry.LoggedEntry.{LoggedEntry}
 use Rattle.sig_verify.specs.declared.offline_error.OfflineError.TheVariants.{OutOfMemory}
 
 -- ---- bytes
@@ -46,7 +46,7 @@ pub record AreReadInputs (i : Inputs) : Type 0 where
 pub record IsOutcomeOf (o : Outside) (i : Inputs) (result : Outcome) : Type 0 where
   pub judged : Judged (HoldsOf o i) chain_links result
   pub tells : Tells (HoldsOf o i) chain_links result
-  pub kept : (offline : Offline) → result ≡ Ok offline → OfPassed i (λ c. IsKept c.entry offline)
+  pub kept : (offline : LoggedEntry) → result ≡ Ok offline → OfPassed i (λ c. IsKept c.entry offline)
 
 -- of a trusted root's text, a time, a digest and a bundle's text: so is the result of offline verification, unless
 -- memory ran out

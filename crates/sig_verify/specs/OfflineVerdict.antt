@@ -1,4 +1,4 @@
--- *Offline verification*: every link of the chain of trust of a bundle, from its texts on, as one result: the first
+-- *LoggedEntry verification*: every link of the chain of trust of a bundle, from its texts on, as one result: the first
 -- link that fails, or the entry that the log vouches for. The five groups of links come one after the other.
 use Rattle.std.specs.Prelude.{◌≡◌, ◌⊎◌, ℕ, ℤ, true, List, Option, Some, None, option_map, Result, Ok, Err}
 use Rattle.std.specs.Borrow.{Bor}
@@ -21,14 +21,14 @@ use Rattle.sig_verify.specs.OfflineErrors.{of_root, of_verification}
 use Rattle.sig_verify.specs.RootLinks.{rekor_keys}
 use Rattle.sig_verify.specs.Verdict.{Answer, Checker, IsVerdict, PolicyOf}
 use Rattle.sig_verify.specs.Verifier.{Authorities, CtKeys, IsRefusedRoot, IsVerifierOf, Trusted}
-use Rattle.sig_verify.specs.declared.offline.Offline.{Offline}
+use Rattle.sig_verify.specs.declared.logged_entry.LoggedEntry.{LoggedEntry}
 use Rattle.sig_verify.specs.declared.offline_error.OfflineError.{OfflineError}
 use Rattle.sig_verify.specs.declared.offline_error.OfflineError.TheVariants.{Json}
 use Rattle.sig_verify.specs.declared.offline_error.Part.{Part}
 use Rattle.sig_verify.specs.declared.offline_error.Part.TheVariants.{Root, Bundle}
 
 abbrev pub Outcome : Type 0
-Outcome = Result Offline OfflineError
+Outcome = Result LoggedEntry OfflineError
 
 -- ---- what comes after a step, which ends the steps where it fails
 

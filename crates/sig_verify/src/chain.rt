@@ -15,7 +15,7 @@ ghost use Rattle.sig_verify.specs.declared.offline_error.Part.TheVariants.{Bundl
 use crate::held_root::{HeldRoot, Trust};
 use crate::laws::{is_entry_bytes, outcomes};
 use crate::log_entry::verify_log_entry;
-use crate::offline::Offline;
+use crate::logged_entry::LoggedEntry;
 use crate::offline_error::{OfflineError, Part, json_error, verification_error};
 use sig_base::SignatureChecker;
 use sig_bundle::{ArtifactDigest, Bundle, TransparencyLogEntry, read_bundle};
@@ -38,7 +38,7 @@ pub fn verify_offline<P: VerificationPolicy, C: SignatureChecker>(
     bundle: &[u8],
     policy: &P,
     checker: &C,
-) -> Result<Offline, OfflineError>
+) -> Result<LoggedEntry, OfflineError>
     // There is a value if and only if every link holds, and an error is that of the first that does not.
     ensures links { UnlessMemory OfflineError.OutOfMemory result (Judged (HoldsOf
         (record {
@@ -71,7 +71,7 @@ pub fn verify_parts<P: VerificationPolicy, C: SignatureChecker>(
     bundle: &Bundle,
     policy: &P,
     checker: &C,
-) -> Result<Offline, OfflineError>
+) -> Result<LoggedEntry, OfflineError>
     // By the steps. `laws::outcomes` says what they mean of the texts that root and bundle were read from.
     ensures { UnlessMemory OfflineError.OutOfMemory result (IsOfflineOf
         (checker_of C.SignatureChecker checker.now)
@@ -92,7 +92,7 @@ impl HeldRoot {
         bundle: &[u8],
         policy: &P,
         checker: &C,
-    ) -> Result<Offline, OfflineError>
+    ) -> Result<LoggedEntry, OfflineError>
         // There is a value if and only if every link holds, and an error is that of the first that does not.
         ensures links { (root : List ℕ) (now : ℤ) → IsHeldOf root now self.now
             → UnlessMemory OfflineError.OutOfMemory result (Judged (HoldsOf
@@ -125,7 +125,7 @@ impl HeldRoot {
         bundle: &[u8],
         policy: &P,
         checker: &C,
-    ) -> Result<Offline, OfflineError>
+    ) -> Result<LoggedEntry, OfflineError>
         ensures bytes { UnlessMemory OfflineError.OutOfMemory result (IsOfBundleOfBytes bundle.now) }
         ensures steps { UnlessMemory OfflineError.OutOfMemory result (AfterRead BundlePart (bundle_in bundle.now)
             (IsOfflineUnder
@@ -153,7 +153,7 @@ impl HeldRoot {
         bundle: &Bundle,
         policy: &P,
         checker: &C,
-    ) -> Result<Offline, OfflineError>
+    ) -> Result<LoggedEntry, OfflineError>
         ensures { UnlessMemory OfflineError.OutOfMemory result (IsOfflineUnder
             (checker_of C.SignatureChecker checker.now)
             (policy_of P.VerificationPolicy policy.now)
@@ -196,7 +196,7 @@ impl Trust {
         alloc: Global,
         bundle: &Bundle,
         checker: &C,
-    ) -> Result<Offline, OfflineError>
+    ) -> Result<LoggedEntry, OfflineError>
         requires { IsSome (only_entry_of bundle.now) }
         ensures { UnlessMemory OfflineError.OutOfMemory result (IsVouchedIn
             (C.spki_accepts checker.now) self.now.log_keys bundle.now result) }

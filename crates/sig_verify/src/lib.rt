@@ -17,7 +17,7 @@ mod issuer_check;
 pub mod laws;
 mod link;
 mod log_entry;
-mod offline;
+mod logged_entry;
 mod offline_error;
 mod verifier;
 mod verify;
@@ -29,7 +29,7 @@ pub use error::{CertificateErrorKind, SignatureErrorKind, VerificationError, Ver
 pub use held_root::HeldRoot;
 pub use link::Link;
 pub use log_entry::{verify_log_entry, vouched};
-pub use offline::Offline;
+pub use logged_entry::{LoggedEntry, Offline};
 pub use offline_error::{OfflineError, Part};
 pub use sig_root::{ManualTrustRoot, SigstoreTrustRoot, TrustRoot};
 pub use verifier::{Verifier, keyring_of};

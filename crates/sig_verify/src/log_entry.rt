@@ -11,7 +11,7 @@ ghost use Rattle.sig_verify.specs.LogEntry.{entry_inclusion_answer};
 ghost use Rattle.sig_verify.specs.LogEntry.{log_key_answer};
 ghost use Rattle.sig_verify.specs.LogEntry.{borrowed_id, promise_answer, read_key, vouched};
 
-use crate::offline::Offline;
+use crate::logged_entry::LoggedEntry;
 use crate::offline_error::{OfflineError, proof_error};
 use sig_base::laws::{are_bytes, are_optional_bytes, are_owned_bytes};
 use sig_base::{Bytes, KeyMap, SignatureChecker, SigstoreError, Text};
@@ -45,7 +45,7 @@ pub fn verify_log_entry<C: SignatureChecker>(
     entry: &TransparencyLogEntry,
     log_keys: &KeyMap,
     checker: &C,
-) -> Result<Offline, OfflineError>
+) -> Result<LoggedEntry, OfflineError>
     // There is a value only if the links `log-key` to `inclusion` hold, and an error is that of the first that does
     // not.
     ensures links { UnlessMemory OfflineError.OutOfMemory result
@@ -70,7 +70,7 @@ pub fn vouched<C: SignatureChecker>(
     entry: &TransparencyLogEntry,
     key: &CosignVerificationKey,
     checker: &C,
-) -> Result<Offline, OfflineError>
+) -> Result<LoggedEntry, OfflineError>
     requires { IsSome entry.now.log_id }
     ensures { Answers OfflineError.OutOfMemory (λ offline. offline) result
         (vouched (key_accepts (C.spki_accepts checker.now) key.now) entry.now) }
@@ -79,7 +79,7 @@ pub fn vouched<C: SignatureChecker>(
     let proof = entry_proof(alloc, &entry.inclusion_proof)?;
     check_proof(alloc, entry, &proof, key, checker)?;
     let body = entry.canonicalized_body.copy(alloc)?;
-    Ok(Offline { body, proof })
+    Ok(LoggedEntry { body, proof })
 }
 
 /// The links `log-key` to `inclusion`, in order.
@@ -88,7 +88,7 @@ fn judge_entry<C: SignatureChecker>(
     entry: &TransparencyLogEntry,
     log_keys: &KeyMap,
     checker: &C,
-) -> Result<Offline, OfflineError>
+) -> Result<LoggedEntry, OfflineError>
     ensures answer { Answers OfflineError.OutOfMemory (λ offline. offline) result
         (log_entry_answer (C.spki_accepts checker.now) log_keys.now entry.now) }
     ensures bytes { UnlessMemory OfflineError.OutOfMemory result (HasKeyOfBytes log_keys.now entry.now) }

@@ -8,4 +8,4 @@ pub mod Lookups
 pub mod Marks
 pub mod Listings
 pub mod QuestionReplies
-pub mod Sufficing
+pub mod WitnessRowsSuffice

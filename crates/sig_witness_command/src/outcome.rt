@@ -8,7 +8,7 @@ ghost use Rattle.std.specs.Prelude.{◌≡◌, ◌++◌, IfOk, OnOk, Some, codes
 ghost use Rattle.std.specs.List.{list_all};
 ghost use Rattle.sig_witness_command.specs.Outcome.{IsUpdateError, error_outcome, is_accepted, outcome_line, outcome_lines};
 
-use sig_base::{OutOfMemory, Register, Text};
+use sig_base::{OutOfMemory, OwnedList, Text};
 use sig_witness::WitnessError;
 use std::alloc::Global;
 
@@ -32,7 +32,7 @@ pub enum Outcome {
 }
 
 /// Outcomes in order.
-pub type Outcomes = Register<Outcome>;
+pub type Outcomes = OwnedList<Outcome>;
 
 /// What an error of an update makes of it. Fails only if out of memory, where the update was.
 pub fn refused(error: WitnessError) -> Result<Outcome, OutOfMemory>

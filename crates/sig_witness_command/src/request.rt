@@ -21,7 +21,7 @@ ghost use Rattle.sig_request.specs.Row.{scheme_kind};
 ghost use Rattle.sig_witness_command.specs.Request.{few_updates, origin_key_of, update_text_of, witness_members, witness_request};
 
 use sig_base::{
-    AcceptedRow, Bytes, Hashes, OutOfMemory, Register, SigningScheme, TableChecker, Text,
+    AcceptedRow, Bytes, Hashes, OutOfMemory, OwnedList, SigningScheme, TableChecker, Text,
 };
 use sig_json::{
     BorrowedDocument, ElementReader, HashReader, Json, JsonError, MemberError, Scratch,
@@ -61,9 +61,9 @@ pub struct WitnessRequest {
     /// The state that is kept, empty before the first run.
     pub state: Text,
     /// The logs that are added to it, in order.
-    pub origins: Register<OriginKey>,
+    pub origins: OwnedList<OriginKey>,
     /// The updates, in order: at most 4,096.
-    pub updates: Register<UpdateText>,
+    pub updates: OwnedList<UpdateText>,
     /// The signatures that are taken for genuine.
     pub accepted: TableChecker,
 }
@@ -115,7 +115,7 @@ fn read_parts(alloc: Global, text: &[u8], names: &[&str]) -> Result<WitnessReque
 fn request_of_parts(
     alloc: Global,
     members: Json<'_, '_>,
-    rows: Register<AcceptedRow>,
+    rows: OwnedList<AcceptedRow>,
 ) -> Result<WitnessRequest, JsonError>
     ensures { Answers JsonError.OutOfMemory (λ request. request) result
         (ok_or (witness_members rows (tree members.entry)) JsonError.Member) }

@@ -15,7 +15,7 @@ ghost use Rattle.sig_x509.specs.declared.issuer.Issuer.{Issuer};
 use crate::asked::asked_of;
 use crate::issuance::is_unconstrained;
 use crate::issuer::Issuer;
-use sig_base::{Entries, OutOfMemory, PoolError, Register, SignatureChecker, Steps};
+use sig_base::{Entries, OutOfMemory, PoolError, OwnedList, SignatureChecker, Steps};
 use sig_certificate::{Certificate, X509ReadError};
 use std::alloc::Global;
 use std::marker::Model;
@@ -30,9 +30,9 @@ const MOST_INTERMEDIATES: usize = 1024;
 /// checker is asked about.
 #[derive(Drop)]
 pub struct CertificatePool {
-    pub(crate) anchors: Register<Certificate>,
+    pub(crate) anchors: OwnedList<Certificate>,
     pub(crate) asked: Vec<usize>,
-    pub(crate) intermediates: Register<Option<Certificate>>,
+    pub(crate) intermediates: OwnedList<Option<Certificate>>,
 }
 
 impl Model for CertificatePool {
@@ -67,11 +67,11 @@ fn read_anchor(alloc: Global, index: usize, der: &[u8]) -> Result<Certificate, P
 }
 
 /// Returns the trust anchors, one by one. Fails with `Anchor` and the index of the first that is none.
-fn read_anchors(alloc: Global, ders: &Entries) -> Result<Register<Certificate>, PoolError>
+fn read_anchors(alloc: Global, ders: &Entries) -> Result<OwnedList<Certificate>, PoolError>
     ensures anchors { IfOk result (AreAnchors ders.now) }
     ensures refused { IfErr result (AreRefused ders.now) }
 {
-    let mut anchors = Register::new(alloc);
+    let mut anchors = OwnedList::new(alloc);
     'ders: for (index, der) in ders.as_slice().iter().enumerate() {
         let anchor = read_anchor(alloc, index, der.as_slice())?;
         anchors.push(anchor)?;
@@ -94,10 +94,10 @@ fn read_intermediate(alloc: Global, der: &[u8]) -> Result<Option<Certificate>, O
 fn read_intermediates(
     alloc: Global,
     ders: &Entries,
-) -> Result<Register<Option<Certificate>>, OutOfMemory>
+) -> Result<OwnedList<Option<Certificate>>, OutOfMemory>
     ensures { IfOk result (AreReadAs ders.now) }
 {
-    let mut intermediates = Register::new(alloc);
+    let mut intermediates = OwnedList::new(alloc);
     'ders: for der in ders.as_slice() {
         let intermediate = read_intermediate(alloc, der.as_slice())?;
         intermediates.push(intermediate)?;

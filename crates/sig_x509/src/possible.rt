@@ -7,7 +7,7 @@ ghost use Rattle.sig_x509.specs.Possible.{node_of, seen_signed, seen_signer, the
 
 use crate::issuance::signs_code_at;
 use crate::reach::{bit, column, down_rows, is_named, nodes_of, up_rows};
-use sig_base::{OutOfMemory, Register};
+use sig_base::{OutOfMemory, OwnedList};
 use sig_certificate::Certificate;
 use std::alloc::Global;
 
@@ -15,7 +15,7 @@ use std::alloc::Global;
 #[derive(Drop)]
 pub struct Signed<'a> {
     pub certificate: &'a Certificate,
-    pub(crate) next: Register<bool>,
+    pub(crate) next: OwnedList<bool>,
 }
 
 /// A certificate under whose key a signature may be asked about: a trust anchor, or an intermediate.
@@ -23,7 +23,7 @@ pub struct Signed<'a> {
 pub struct Signer<'a> {
     pub certificate: &'a Certificate,
     pub(crate) trusted: bool,
-    pub(crate) up: Register<bool>,
+    pub(crate) up: OwnedList<bool>,
 }
 
 /// Those who may have signed, and whose signatures they may be.
@@ -68,7 +68,7 @@ pub fn may_sign(signed: &Signed<'_>, signer: &Signer<'_>) -> bool
 fn the_leaf<'a>(alloc: Global, leaf: &'a Certificate, time: i64) -> Result<Signed<'a>, OutOfMemory>
     ensures { IfOk result (λ signed. seen_signed signed ≡ the_leaf leaf.now time) }
 {
-    let mut next = Register::new(alloc);
+    let mut next = OwnedList::new(alloc);
     next.push(signs_code_at(leaf, time))?;
     Ok(Signed {
         certificate: leaf,
@@ -83,7 +83,7 @@ fn further_signed<'a>(
     anchors: &[Certificate],
     further: &'a [Certificate],
     time: i64,
-    rows: &[Register<bool>],
+    rows: &[OwnedList<bool>],
 ) -> Result<Vec<Signed<'a>>, OutOfMemory>
     requires rows { rows.now ≡ map (down_at (map (node_of anchors.now further.now leaf.now time) further.now)) (below 7) }
     ensures { IfOk result (λ v. map seen_signed v.items ≡ map (further_signed further.now leaf.now time) further.now) }
@@ -103,7 +103,7 @@ fn all_signers<'a>(
     anchors: &'a [Certificate],
     further: &'a [Certificate],
     time: i64,
-    rows: &[Register<bool>],
+    rows: &[OwnedList<bool>],
 ) -> Result<Vec<Signer<'a>>, OutOfMemory>
     requires rows { rows.now ≡ map (up_at (map (node_of anchors.now further.now leaf.now time) further.now)) (below 7) }
     ensures { IfOk result (λ v. map seen_signer v.items ≡ all_signers anchors.now further.now time) }
@@ -113,7 +113,7 @@ fn all_signers<'a>(
         signers.push(Signer {
             certificate,
             trusted: true,
-            up: Register::new(alloc),
+            up: OwnedList::new(alloc),
         })?;
     }
     'further: for (place, certificate) in further.iter().enumerate() {

@@ -11,7 +11,7 @@ ghost use Rattle.sig_x509.specs.Possible.{node_reached, node_stands, up_at};
 use crate::issuance::{may_issue, signs_code_at};
 use crate::links::most_between;
 use crate::table::allows;
-use sig_base::{OutOfMemory, Register};
+use sig_base::{OutOfMemory, OwnedList};
 use sig_certificate::Certificate;
 use std::alloc::Global;
 
@@ -24,8 +24,8 @@ pub(crate) struct Node {
     pub(crate) most: Option<u32>,
     pub(crate) rooted: bool,
     pub(crate) issues: bool,
-    pub(crate) signers: Register<bool>,
-    pub(crate) signed: Register<bool>,
+    pub(crate) signers: OwnedList<bool>,
+    pub(crate) signed: OwnedList<bool>,
 }
 
 /// Whether the second certificate has the name of the issuer of the first.
@@ -52,10 +52,10 @@ fn signers_of(
     alloc: Global,
     certificate: &Certificate,
     further: &[Certificate],
-) -> Result<Register<bool>, OutOfMemory>
+) -> Result<OwnedList<bool>, OutOfMemory>
     ensures { IfOk result (λ row. row ≡ map (is_named certificate.now) further.now) }
 {
-    let mut row = Register::new(alloc);
+    let mut row = OwnedList::new(alloc);
     'further: for other in further {
         row.push(is_named(certificate, other))?;
     }
@@ -67,10 +67,10 @@ fn signed_by(
     alloc: Global,
     certificate: &Certificate,
     further: &[Certificate],
-) -> Result<Register<bool>, OutOfMemory>
+) -> Result<OwnedList<bool>, OutOfMemory>
     ensures { IfOk result (λ row. row ≡ map (λ y. is_named y certificate.now) further.now) }
 {
-    let mut row = Register::new(alloc);
+    let mut row = OwnedList::new(alloc);
     'further: for other in further {
         row.push(is_named(other, certificate))?;
     }
@@ -107,10 +107,10 @@ pub(crate) fn nodes_of(
     anchors: &[Certificate],
     further: &[Certificate],
     time: i64,
-) -> Result<Register<Node>, OutOfMemory>
+) -> Result<OwnedList<Node>, OutOfMemory>
     ensures { IfOk result (λ nodes. nodes ≡ map (node_of anchors.now further.now leaf.now time) further.now) }
 {
-    let mut nodes = Register::new(alloc);
+    let mut nodes = OwnedList::new(alloc);
     'further: for certificate in further {
         let node = node_of(alloc, leaf, anchors, further, time, certificate)?;
         nodes.push(node)?;
@@ -166,10 +166,10 @@ fn node_reached(node: &Node, others: u32, previous: &[bool]) -> bool
 }
 
 /// The row of nothing.
-fn no_row(alloc: Global, nodes: &[Node]) -> Result<Register<bool>, OutOfMemory>
+fn no_row(alloc: Global, nodes: &[Node]) -> Result<OwnedList<bool>, OutOfMemory>
     ensures { IfOk result (λ row. row ≡ map (λ node. false) nodes.now) }
 {
-    let mut row = Register::new(alloc);
+    let mut row = OwnedList::new(alloc);
     'nodes: for _ in nodes {
         row.push(false)?;
     }
@@ -182,10 +182,10 @@ fn up_row(
     nodes: &[Node],
     others: u32,
     next: &[bool],
-) -> Result<Register<bool>, OutOfMemory>
+) -> Result<OwnedList<bool>, OutOfMemory>
     ensures { IfOk result (λ row. row ≡ map (node_leads others next.now) nodes.now) }
 {
-    let mut row = Register::new(alloc);
+    let mut row = OwnedList::new(alloc);
     'nodes: for node in nodes {
         row.push(node_leads(node, others, next))?;
     }
@@ -198,10 +198,10 @@ fn down_row(
     nodes: &[Node],
     others: u32,
     previous: &[bool],
-) -> Result<Register<bool>, OutOfMemory>
+) -> Result<OwnedList<bool>, OutOfMemory>
     ensures { IfOk result (λ row. row ≡ map (node_reached others previous.now) nodes.now) }
 {
-    let mut row = Register::new(alloc);
+    let mut row = OwnedList::new(alloc);
     'nodes: for node in nodes {
         row.push(node_reached(node, others, previous))?;
     }
@@ -212,10 +212,10 @@ fn down_row(
 pub(crate) fn up_rows(
     alloc: Global,
     nodes: &[Node],
-) -> Result<Register<Register<bool>>, OutOfMemory>
+) -> Result<OwnedList<OwnedList<bool>>, OutOfMemory>
     ensures { IfOk result (λ rows. rows ≡ map (up_at nodes.now) (below 7)) }
 {
-    let mut rows = Register::new(alloc);
+    let mut rows = OwnedList::new(alloc);
     let mut row = no_row(alloc, nodes)?;
     let mut left: u32 = 0;
     'levels: while left < 6 {
@@ -232,10 +232,10 @@ pub(crate) fn up_rows(
 pub(crate) fn down_rows(
     alloc: Global,
     nodes: &[Node],
-) -> Result<Register<Register<bool>>, OutOfMemory>
+) -> Result<OwnedList<OwnedList<bool>>, OutOfMemory>
     ensures { IfOk result (λ rows. rows ≡ map (down_at nodes.now) (below 7)) }
 {
-    let mut rows = Register::new(alloc);
+    let mut rows = OwnedList::new(alloc);
     let mut row = no_row(alloc, nodes)?;
     let mut others: u32 = 0;
     'levels: while others < 6 {
@@ -251,12 +251,12 @@ pub(crate) fn down_rows(
 /// The bits of the rows at one place. Fails only if out of memory.
 pub(crate) fn column(
     alloc: Global,
-    rows: &[Register<bool>],
+    rows: &[OwnedList<bool>],
     place: usize,
-) -> Result<Register<bool>, OutOfMemory>
+) -> Result<OwnedList<bool>, OutOfMemory>
     ensures { IfOk result (λ bits. bits ≡ column rows.now place) }
 {
-    let mut bits = Register::new(alloc);
+    let mut bits = OwnedList::new(alloc);
     'rows: for row in rows {
         bits.push(bit(row.as_slice(), place))?;
     }

@@ -3,7 +3,7 @@
 use crate::policy::policy;
 use sig_bundle::ArtifactDigest;
 use sig_cases::{Answer, Arguments};
-use sig_verify::{Offline, OfflineError, verify_offline};
+use sig_verify::{LoggedEntry, OfflineError, verify_offline};
 
 /// `verify_offline NOW DIGEST POLICY ROOT BUNDLE ROW ..`: `ok`, and index and tree size of the proof; or the name of
 /// the first link that fails, and the error.
@@ -32,7 +32,7 @@ pub(crate) fn offline(arguments: &mut Arguments<'_>, answer: &mut Answer) {
 }
 
 /// `ok`, and index and tree size of the proof; or the name of the first link that fails, and the error.
-pub(crate) fn known(verified: Result<Offline, OfflineError>, answer: &mut Answer) {
+pub(crate) fn known(verified: Result<LoggedEntry, OfflineError>, answer: &mut Answer) {
     match verified {
         Ok(known) => {
             answer.ok();

@@ -1,6 +1,6 @@
 //! What a case is read into. What cannot be read is empty, and makes the line a bad one.
 
-use sig_base::{Bytes, Hashes, Register, SigningScheme, Text};
+use sig_base::{Bytes, Hashes, OwnedList, SigningScheme, Text};
 use sig_cases::{Answer, Arguments};
 use sig_key::CosignVerificationKey;
 use sig_rekor::{Checkpoint, CheckpointSignatures, OtherContents, SignedCheckpoint};
@@ -16,7 +16,7 @@ pub(crate) struct Update {
 }
 
 /// Updates in order.
-pub(crate) type Updates = Register<Update>;
+pub(crate) type Updates = OwnedList<Update>;
 
 /// The next arguments as updates: how many there are, and of each how often it is made, its checkpoint, its old size and
 /// its hashes.

@@ -1,4 +1,4 @@
-use Rattle.sig_questions.proofs.Told.{listed_told}
+use Rattle.sig_questions.proofs.ListedQuestions.{listed_told}
 use Rattle.sig_questions.proofs.laws.listed_texts.Goals as goal
 
 pub returns : goal.returns

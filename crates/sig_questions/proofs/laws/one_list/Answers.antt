@@ -1,4 +1,4 @@
-use Rattle.sig_questions.proofs.Told.{one_questions}
+use Rattle.sig_questions.proofs.ListedQuestions.{one_questions}
 use Rattle.sig_questions.proofs.laws.one_list.Goals as goal
 
 pub returns : goal.returns

@@ -1,4 +1,4 @@
-//! `Register`: a list of values that own their memory, as hashes, numbers, signatures.
+//! `OwnedList`: a list of values that own their memory, as hashes, numbers, signatures.
 ghost use Rattle.std.specs.Prelude.{◌≡◌, ◌++◌, [], ◌∷◌, length, IfOk, OnOk, OnErr, slice_get};
 ghost use Rattle.std.specs.Option.{option_copied};
 
@@ -8,17 +8,17 @@ use std::marker::Model;
 
 /// A list that grows at its end. Contracts see the list of what was pushed.
 #[derive(Drop)]
-pub struct Register<T> {
+pub struct OwnedList<T> {
     items: Vec<T>,
 }
 
 /// SHA-256 hashes in order.
-pub type Hashes = Register<[u8; 32]>;
+pub type Hashes = OwnedList<[u8; 32]>;
 
 /// Indices and counts in order.
-pub type Numbers = Register<usize>;
+pub type Numbers = OwnedList<usize>;
 
-impl<T> Model for Register<T> {
+impl<T> Model for OwnedList<T> {
     ghost use Rattle.std.specs.Prelude.{List};
     ghost use Rattle.std.specs.Coded.{coded_list};
 
@@ -29,12 +29,12 @@ impl<T> Model for Register<T> {
     ghost view = { λ r. r.items.items };
 }
 
-impl<T> Register<T> {
+impl<T> OwnedList<T> {
     /// A list without elements. It takes no memory.
-    pub fn new(alloc: Global) -> Register<T>
+    pub fn new(alloc: Global) -> OwnedList<T>
         ensures { result ≡ [] }
     {
-        Register {
+        OwnedList {
             items: Vec::new(alloc),
         }
     }
@@ -61,7 +61,7 @@ impl<T> Register<T> {
     }
 }
 
-impl<T: Drop> Register<T> {
+impl<T: Drop> OwnedList<T> {
     /// Adds an element at the end. Fails only if out of memory; the list is then unchanged.
     pub fn push(&mut self, item: T) -> Result<(), OutOfMemory>
         ensures ok { OnOk result (self.new ≡ self.old ++ item ∷ []) }
@@ -72,12 +72,12 @@ impl<T: Drop> Register<T> {
     }
 }
 
-impl<T: Copy> Register<T> {
+impl<T: Copy> OwnedList<T> {
     /// Returns the same list in memory of its own. Fails only if out of memory.
-    pub fn copy(&self, alloc: Global) -> Result<Register<T>, OutOfMemory>
+    pub fn copy(&self, alloc: Global) -> Result<OwnedList<T>, OutOfMemory>
         ensures { IfOk result (λ r. r ≡ self.now) }
     {
         let items = Vec::from_slice(alloc, self.items.as_slice())?;
-        Ok(Register { items })
+        Ok(OwnedList { items })
     }
 }

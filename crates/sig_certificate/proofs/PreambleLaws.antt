@@ -15,8 +15,8 @@ use Rattle.sig_der.proofs.Takings.{take_optional_takes, take_optional_here, take
 use Rattle.sig_der.proofs.KeyInfos.{content_fits, rest_fits, some_left, left_some, algorithm_at_takes}
 use Rattle.sig_der.proofs.KeyInfos.{algorithm_at_again}
 use Rattle.sig_certificate.specs.Certificate.{IsVersion, IsSerial, IsAlgorithmText, IsSequence}
-use Rattle.sig_certificate.specs.Cutting.{Head, version_number, explicit_version, certificate_version_of, version_at}
-use Rattle.sig_certificate.specs.Cutting.{head_at}
+use Rattle.sig_certificate.specs.Cutting.{Preamble, version_number, explicit_version, certificate_version_of, version_at}
+use Rattle.sig_certificate.specs.Cutting.{preamble_at}
 use Rattle.sig_der.specs.Tag.{INTEGER, SEQUENCE, VERSION}
 
 pub after_fits : (text rest bytes : List ℕ) → bytes ≡ text ++ rest → IsBytes bytes → IsBytes rest
@@ -101,9 +101,9 @@ version_at_again text version rest bytes (inr is) other parts =
     (bind_of_some (take_whole INTEGER is.inner) _ _ (take_whole_again is.inner INTEGER (is.number ∷ []) is.integer)
     ∙ version_number_again is.number is.known ∙ ap (λ (n : ℕ). some n) (sym is.is))
 
--- ---- the head
+-- ---- the preamble
 
-pub record TakesHead (bytes : List ℕ) (y : Head × List ℕ) : Type 0 where
+pub record TakesPreamble (bytes : List ℕ) (y : Preamble × List ℕ) : Type 0 where
   pub version_text : List ℕ
   pub serial_text : List ℕ
   pub version : IsVersion version_text y.0.version
@@ -115,9 +115,9 @@ pub record TakesHead (bytes : List ℕ) (y : Head × List ℕ) : Type 0 where
 four : (a b c d r w x y : List ℕ) → w ≡ a ++ x → x ≡ b ++ y → y ≡ c ++ (d ++ r) → w ≡ a ++ (b ++ (c ++ (d ++ r)))
 four a b c d r w x y e f g = e ∙ ap (λ (t : List ℕ). a ++ t) (f ∙ ap (λ (t : List ℕ). b ++ t) g)
 
-pub head_at_takes : (bytes : List ℕ) → IsBytes bytes → (y : Head × List ℕ) → head_at bytes ≡ Some y → TakesHead bytes y
-unfolding head_at
-head_at_takes bytes fits y e =
+pub preamble_at_takes : (bytes : List ℕ) → IsBytes bytes → (y : Preamble × List ℕ) → preamble_at bytes ≡ Some y → TakesPreamble bytes y
+unfolding preamble_at
+preamble_at_takes bytes fits y e =
     let v = bind_is (version_at bytes) _ y e in
     let n = bind_is (take_tag INTEGER v.0.1) _ y v.2 in
     let a = bind_is (algorithm_at n.0.1) _ y n.2 in
@@ -130,7 +130,7 @@ head_at_takes bytes fits y e =
     let ta = algorithm_at_takes n.0.1 fits_n a.0 a.1 in
     let fits_a = after_fits a.0.0.whole a.0.1 n.0.1 ta.1 fits_n in
     let ti = (take_tag_takes SEQUENCE a.0.1 fits_a i.0 i.1).0 in
-    subst (λ (w : Head × List ℕ). TakesHead bytes w) (some_is _ y g.1) (record {
+    subst (λ (w : Preamble × List ℕ). TakesPreamble bytes w) (some_is _ y g.1) (record {
       version_text = tv.text;
       serial_text = n.0.0.whole;
       version = tv.is;
@@ -141,13 +141,13 @@ head_at_takes bytes fits y e =
           (ta.1 ∙ ap (λ (w : List ℕ). a.0.0.whole ++ w) ti.parts);
     })
 
-abbrev some_head : ℕ → List ℕ → List ℕ → List ℕ → Option (Head × List ℕ)
-some_head version algorithm issuer rest =
+abbrev some_preamble : ℕ → List ℕ → List ℕ → List ℕ → Option (Preamble × List ℕ)
+some_preamble version algorithm issuer rest =
     Some (record { version = version; algorithm = algorithm; issuer = issuer }, rest)
 
-pub head_at_again : (bytes : List ℕ) (y : Head × List ℕ) → TakesHead bytes y → head_at bytes ≡ Some y
-unfolding head_at
-head_at_again bytes y t =
+pub preamble_at_again : (bytes : List ℕ) (y : Preamble × List ℕ) → TakesPreamble bytes y → preamble_at bytes ≡ Some y
+unfolding preamble_at
+preamble_at_again bytes y t =
     let h = y.0 in
     let after_issuer = h.issuer ++ y.1 in
     let after_algorithm = h.algorithm ++ after_issuer in
@@ -162,4 +162,4 @@ head_at_again bytes y t =
     ∙ bind_of_some (take_tag SEQUENCE after_issuer) _ _
     (take_tag_again h.issuer SEQUENCE t.issuer.0 y.1 after_issuer t.issuer.1 refl)
     ∙ cond-false (eqb (length t.serial.content) 0) _ _ (left_some t.serial.content t.serial.some)
-    ∙ ap (λ (w : List ℕ). some_head h.version w h.issuer y.1) a.2
+    ∙ ap (λ (w : List ℕ). some_preamble h.version w h.issuer y.1) a.2

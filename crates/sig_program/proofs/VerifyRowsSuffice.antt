@@ -12,9 +12,9 @@ use Rattle.sig_questions.specs.Asked.{IsAskedBy}
 use Rattle.sig_questions.specs.Questions.{AgreeWhere, QuestionsSuffice}
 use Rattle.sig_questions.specs.Rows.{certificate_row, message_row, point_row, prehash_row}
 use Rattle.sig_verify.specs.declared.link.Link.{Link}
-use Rattle.sig_verify.specs.declared.offline.Offline.{Offline}
+use Rattle.sig_verify.specs.declared.logged_entry.LoggedEntry.{LoggedEntry}
 use Rattle.sig_base.proofs.AcceptedRows.{as_row}
-use Rattle.sig_program.proofs.Sufficing.{AreAlike, alike-other, alike-reply}
+use Rattle.sig_program.proofs.LogRowsSuffice.{AreAlike, alike-other, alike-reply}
 use Rattle.sig_request.proofs.RequestTexts.{one_request}
 use Rattle.sig_program.specs.Reply.{IsEntryIn, IsVerifiedReply}
 use Rattle.sig_program.specs.Suffice.{AgreeOnAsked, VerifyQuestionsSuffice, verify_with_accepted}
@@ -63,7 +63,7 @@ holds-same request rows suffice same =
 
 -- what the reply shows of a request
 abbrev Shows : Reply → VerifyRequest → Type 0
-Shows reply request = (offline : Offline) × IsEntryIn request offline × IsVerifiedReply request offline reply
+Shows reply request = (offline : LoggedEntry) × IsEntryIn request offline × IsVerifiedReply request offline reply
 
 verify-alike : (text other : List ℕ) (request : VerifyRequest) (rows : List AcceptedRow) → QuestionsSuffice
     → IsRequestOf verify_request text request → IsRequestOf verify_request other (verify_with_accepted request rows)
