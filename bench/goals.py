@@ -5,6 +5,7 @@ MOST_DOUBLED = 2.3  # the time over an input, to that over one of half the size
 MOST_TO_READING_AND_HASHING = 1.3  # the time over a log's own entries, to that of reading and of hashing them
 MOST_OF_HEADS = 1.5  # the time of the roots of a list's beginnings, one for each of 256 heads, to that of hashing the list
 MOST_BEYOND_START = 1.0  # the milliseconds that a small request takes beyond those of a process that reads none
+MOST_TO_CHECKS = 1.3  # the time of a gate, to that of reading and verifying its bundles alone
 MOST_OF_DEMO = 50  # the milliseconds of `demo` of the most entries
 MOST_MEGABYTES = 500  # the peak memory over an input of 2^24 bytes
 MOST_MEGABYTES_OF_STATEMENT = 700  # the same over a payload of which a statement's parts are copied

@@ -28,6 +28,14 @@ def caller():
     return to
 
 
+def called(bench, program, path, command, status, threads=1):
+    """The least nanoseconds of a call over a file: those that passed, and those of the processor."""
+    count = 2000 // threads
+    words = [program, path, command, status, count, threads]
+    runs = [measure.written([str(word) for word in words], path).split() for _ in range(bench.runs)]
+    return [min(int(run[place]) for run in runs) / (count * threads) for place in (0, 1)]
+
+
 def parts(text):
     """Requests of `verify` that are refused after more and more was done, with their statuses."""
     members = json.loads(text)
@@ -48,15 +56,8 @@ def library(bench):
     table = bench.table(library, "call", "bytes", "us", "a second", "to one thread")
     program, text = caller(), chains.small(PAYLOAD)
 
-    def calls(path, command, status, threads):
-        """The least nanoseconds of a call: those that passed, and those of the processor."""
-        count = 2000 // threads
-        words = [program, path, command, status, count, threads]
-        runs = [measure.written([str(word) for word in words], path).split() for _ in range(bench.runs)]
-        return [min(int(run[place]) for run in runs) / (count * threads) for place in (0, 1)]
-
     def row(name, given, command=VERIFY, status=0):
-        _, took = calls(bench.kept(given), command, status, 1)
+        _, took = called(bench, program, bench.kept(given), command, status)
         table.row(name, len(given), took / 1000, round(1e9 / took), None)
         return took
 
@@ -68,8 +69,8 @@ def library(bench):
     for name, given, status in parts(text):
         row(f"verify, {name}", given, status=status)
     row("questions verify, the library", text, VERIFY + QUESTIONS)
-    alone, _ = calls(path, VERIFY, 0, 1)
-    passed, _ = calls(path, VERIFY, 0, THREADS)
+    alone, _ = called(bench, program, path, VERIFY, 0)
+    passed, _ = called(bench, program, path, VERIFY, 0, THREADS)
     table.row(f"verify, the library, {THREADS} threads", len(text), passed / 1000, round(1e9 / passed), alone / passed)
     if os.getloadavg()[0] < MOST_BUSY * os.cpu_count():
         bench.goal(f"verify by {THREADS} threads, us", passed / 1000, alone / 1000 / LEAST_SCALING)

@@ -9,6 +9,7 @@ import roots
 import shapes
 import signed
 from bundles_at_once import bundles_at_once
+from gates import gates
 from goals import (
     MOST_TO_PLAIN, MOST_TO_PLAIN_SMALL, MOST_DOUBLED, MOST_TO_READING_AND_HASHING, MOST_OF_HEADS, MOST_BEYOND_START,
     MOST_OF_DEMO, MOST_MEGABYTES, MOST_MEGABYTES_OF_STATEMENT, MOST_SECONDS, MOST_SECONDS_OF_A_MILLION,
@@ -472,6 +473,6 @@ def walks(bench):
     bench.goal("check of inclusion, time to its hashes", took[0] / took[2], MOST_TO_HASHES)
 
 
-OF_PROGRAM = (log, entries, audits, audit_lists, witnesses, demo, verify, questions, bundles_at_once, library)  # those that measure sigverify
+OF_PROGRAM = (log, entries, audits, audit_lists, witnesses, gates, demo, verify, questions, bundles_at_once, library)  # of sigverify
 OF_READERS = (entries, certificates, documents, bundles, statements, images, artifacts, pools, walks)  # those that run sig_bench
 TABLES = {table.__name__: table for table in (*OF_PROGRAM, *OF_READERS)}
