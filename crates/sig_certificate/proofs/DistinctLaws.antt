@@ -3,7 +3,7 @@ use Rattle.std.proofs.Common.{◌≡◌, ℕ, true, false, not, List, [], ◌∷
 use Rattle.std.specs.Prelude.{bytes_eq}
 use Rattle.std.specs.List.{AllByRecursion, IsDistinct, list_any}
 use Rattle.std.proofs.lemmas.Bool.{and_parts, and_from, or_parts, or_from, not_from_false, not-true}
-use Rattle.std.proofs.lemmas.Map.Keys.{IsDistinct-preamble, IsDistinct-tail}
+use Rattle.std.proofs.lemmas.Map.Keys.{IsDistinct-head, IsDistinct-tail}
 use Rattle.sig_certificate.specs.Lookups.{are_distinct}
 
 abbrev pub Texts : Type 0
@@ -31,5 +31,5 @@ pub distinct_is : (xs : Texts) → IsDistinct bytes_eq xs → are_distinct xs �
 distinct_is [] is = refl
 distinct_is (x ∷ xs) is =
     and_from (not (list_any (bytes_eq x) xs)) (are_distinct xs)
-    (not_from_false (list_any (bytes_eq x) xs) (equal_none x xs (IsDistinct-preamble bytes_eq x xs is)))
+    (not_from_false (list_any (bytes_eq x) xs) (equal_none x xs (IsDistinct-head bytes_eq x xs is)))
     (distinct_is xs (IsDistinct-tail bytes_eq x xs is))

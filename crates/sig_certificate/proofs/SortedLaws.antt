@@ -70,9 +70,9 @@ module _ {X : Type 0} (key : X → ℕ) where
   in_cons y ys x (zero, below, is) = inl is
   in_cons y ys x (suc k, below, is) = inr (k, omega (arith, below), is)
 
-  same_preamble : (x : X) (xs : List X) (y : X) (ys : List X) → Rises (x ∷ xs) → Rises (y ∷ ys) → Contains (y ∷ ys) x
+  same_head : (x : X) (xs : List X) (y : X) (ys : List X) → Rises (x ∷ xs) → Rises (y ∷ ys) → Contains (y ∷ ys) x
       → Contains (x ∷ xs) y → x ≡ y
-  same_preamble x xs y ys up1 up2 first second =
+  same_head x xs y ys up1 up2 first second =
       elim (in_cons y ys x first) [
         | inl e ↦ sym e
         | inr behind ↦ elim (in_cons x xs y second) [
@@ -100,7 +100,7 @@ module _ {X : Type 0} (key : X → ℕ) where
   same_list [] (y ∷ ys) up1 up2 to from = let c = from 0 y (omega arith) in absurd (omega (arith, c.1))
   same_list (x ∷ xs) [] up1 up2 to from = let c = to 0 x (omega arith) in absurd (omega (arith, c.1))
   same_list (x ∷ xs) (y ∷ ys) up1 up2 to from =
-      let first : x ≡ y = same_preamble x xs y ys up1 up2 (to 0 x (omega arith)) (from 0 y (omega arith)) in
+      let first : x ≡ y = same_head x xs y ys up1 up2 (to 0 x (omega arith)) (from 0 y (omega arith)) in
       let rest : xs ≡ ys =
       same_list xs ys (tail_rises x xs up1) (tail_rises y ys up2) (in_tail x xs y ys first up1 to)
       (in_tail y ys x xs (sym first) up2 from) in
