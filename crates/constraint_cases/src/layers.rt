@@ -7,7 +7,7 @@ use sig_cosign::{
     Bundle, BundleContent, CertificateSignature, CertificateSubject, Optional, Payload,
     SignatureLayer, SimpleSigning,
 };
-use sig_json::compact;
+use sig_json_text::compact;
 use sig_key::CosignVerificationKey;
 use sig_payload::read_signing;
 use std::alloc::Global;

@@ -2,7 +2,8 @@
 
 use sig_base::{Text, TextMap};
 use sig_cases::{Answer, Arguments};
-use sig_json::{Document, compact};
+use sig_json::Document;
+use sig_json_text::compact;
 use sig_payload::{Optional, SimpleSigning, read_signing};
 use std::alloc::Global;
 

@@ -2,7 +2,8 @@
 use crate::digests::add_taken;
 use sig_cases::{Answer, Arguments};
 use sig_dsse::{InTotoStatementV1, Subject, recognized_digests};
-use sig_json::{Document, compact};
+use sig_json::Document;
+use sig_json_text::compact;
 use std::alloc::Global;
 
 /// `statement PAYLOAD` and its kin: what the call returns of the statement that the payload is.

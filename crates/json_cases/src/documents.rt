@@ -1,6 +1,7 @@
 //! Texts, and the trees that they are.
 use sig_cases::{Answer, Arguments};
-use sig_json::{Document, DocumentError, Json, canonical, compact, quoted};
+use sig_json::{Document, DocumentError, Json};
+use sig_json_text::{canonical, compact, quoted};
 use std::alloc::Global;
 
 /// The bytes of the next arguments: the rest of the line after `json`, or one word in hexadecimal after `hex`.

@@ -1,7 +1,8 @@
 //! The texts of errors.
 use sig_base::OutOfMemory;
 use sig_cases::Answer;
-use sig_json::{CanonicalError, DocumentError, JsonError, MemberError};
+use sig_json::{DocumentError, JsonError, MemberError};
+use sig_json_text::CanonicalError;
 
 /// `errors`: each variant by its Debug text, which begins with its Display text, type by type, and then what each is
 /// converted to.

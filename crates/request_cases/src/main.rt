@@ -8,7 +8,8 @@
 use sig_base::{Bytes, Result, TableChecker};
 use sig_cases::{Answer, Arguments, Cases, run};
 use sig_dsse::compute_pae;
-use sig_json::{Document, canonical};
+use sig_json::Document;
+use sig_json_text::canonical;
 use sig_key::{CosignVerificationKey, Signature};
 use sig_rekor::SignedCheckpoint;
 use std::alloc::Global;

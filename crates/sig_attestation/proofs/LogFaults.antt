@@ -10,9 +10,9 @@ use Rattle.sig_bundle.specs.Proof.{IsProof, IsProofFault, proof_or_fault}
 use Rattle.sig_bundle.specs.declared.material.ProofFields.{ProofFields}
 use Rattle.sig_bundle.specs.declared.material.TransparencyLogEntry.{TransparencyLogEntry}
 use Rattle.sig_bundle.specs.declared.proof_error.ProofFieldsError.{ProofFieldsError}
-use Rattle.sig_json.specs.Canonical.{canon, canonical_of, or_too_large}
-use Rattle.sig_json.specs.declared.error.CanonicalError.{CanonicalError}
-use Rattle.sig_json.specs.declared.error.CanonicalError.TheVariants.{IntegerTooLarge}
+use Rattle.sig_json_text.specs.Canonical.{canon, canonical_of, or_too_large}
+use Rattle.sig_json_text.specs.declared.error.CanonicalError.{CanonicalError}
+use Rattle.sig_json_text.specs.declared.error.CanonicalError.TheVariants.{IntegerTooLarge}
 use Rattle.sig_rekor.specs.Verify.{proof_answer}
 use Rattle.sig_rekor.specs.declared.inclusion_proof.InclusionProof.{InclusionProof}
 use Rattle.sig_verify.proofs.EntryProofs.{ProofLaws}

@@ -7,8 +7,8 @@ use Rattle.sig_bundle.specs.Proof.{IsProof, IsProofFault}
 use Rattle.sig_bundle.specs.declared.material.ProofFields.{ProofFields}
 use Rattle.sig_bundle.specs.declared.material.TransparencyLogEntry.{TransparencyLogEntry}
 use Rattle.sig_bundle.specs.declared.proof_error.ProofFieldsError.{ProofFieldsError}
-use Rattle.sig_json.specs.Canonical.{canonical_of}
-use Rattle.sig_json.specs.declared.error.CanonicalError.TheVariants.{IntegerTooLarge}
+use Rattle.sig_json_text.specs.Canonical.{canonical_of}
+use Rattle.sig_json_text.specs.declared.error.CanonicalError.TheVariants.{IntegerTooLarge}
 use Rattle.sig_rekor.specs.Verify.{proof_answer}
 use Rattle.sig_rekor.specs.declared.inclusion_proof.InclusionProof.{InclusionProof}
 use Rattle.sig_verify.specs.ContentCheck.{AcceptsUnder}

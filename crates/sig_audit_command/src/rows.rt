@@ -9,7 +9,8 @@ ghost use Rattle.sig_reply.specs.RowsText.{AddsRow, IsDocumentOf, IsListOf, IsRo
 
 use sig_audit::AuditHead;
 use sig_base::{AcceptedRow, Bytes, Operation, OutOfMemory, Text};
-use sig_json::{Document, compact};
+use sig_json::Document;
+use sig_json_text::compact;
 use sig_rekor::{CheckpointSignature, SignedCheckpoint};
 use sig_reply::add_row;
 use sig_request::AuditRequest;

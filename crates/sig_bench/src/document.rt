@@ -1,6 +1,7 @@
 //! Documents, read as the program reads them, and written.
 
-use sig_json::{BorrowedDocument, Scratch, canonical, compact};
+use sig_json::{BorrowedDocument, Scratch};
+use sig_json_text::{canonical, compact};
 use std::alloc::Global;
 
 /// Returns 0 if the text is a document.

@@ -8,7 +8,7 @@ use Rattle.std.specs.List.{list_all, flat_map}
 use Rattle.hex.specs.Hex.{encode_lower, encode_with, lower_digits}
 use Rattle.sig_base.proofs.Base64Texts.{all_at, all_base64}
 use Rattle.sig_base.specs.Base64.{base64_text}
-use Rattle.sig_json.specs.Canonical.{canon_string, escape_of}
+use Rattle.sig_json_text.specs.Canonical.{canon_string, escape_of}
 use Rattle.sig_base.specs.ByteLists.{AreBytes}
 
 -- above the controls and the space, no quotation mark and no backslash

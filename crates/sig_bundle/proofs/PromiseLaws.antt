@@ -13,11 +13,11 @@ use Rattle.sig_base.specs.Answers.{Answers, ComesWhere}
 use Rattle.sig_base.specs.Base64.{base64_text}
 use Rattle.sig_base.specs.ByteLists.{AreBytes}
 use Rattle.sig_base.specs.OptionSteps.{◌>>=◌}
-use Rattle.sig_json.specs.Canonical.{canon, canon_integer, canon_string, canonical_of, utf16_units, with_text}
+use Rattle.sig_json_text.specs.Canonical.{canon, canon_integer, canon_string, canonical_of, utf16_units, with_text}
 use Rattle.sig_json.specs.Data.{Data, Num, string, number, object, no_members, member}
 use Rattle.sig_json.specs.Find.{as_integer, of_integer}
-use Rattle.sig_json.specs.declared.error.CanonicalError.{CanonicalError}
-use Rattle.sig_json.specs.declared.error.CanonicalError.TheVariants.{IntegerTooLarge, OutOfMemory}
+use Rattle.sig_json_text.specs.declared.error.CanonicalError.{CanonicalError}
+use Rattle.sig_json_text.specs.declared.error.CanonicalError.TheVariants.{IntegerTooLarge, OutOfMemory}
 use Rattle.sig_bundle.specs.Promise.{promise_tree_of, IsExact, IsExactEntry, promise_of_entry}
 use Rattle.sig_bundle.specs.declared.material.TransparencyLogEntry.{TransparencyLogEntry}
 use Rattle.sig_bundle.proofs.PlainTexts.{base64-plain, hex-plain}

@@ -6,14 +6,14 @@ ghost use Rattle.sig_bundle.specs.Proof.{IsProof, IsProofFault, proof_or_fault};
 ghost use Rattle.sig_bundle.specs.declared.material.ProofFields.{ProofFields as Members};
 ghost use Rattle.sig_bundle.specs.declared.proof_error.ProofFieldsError.{ProofFieldsError};
 ghost use Rattle.sig_bundle.specs.declared.material.TransparencyLogEntry.{TransparencyLogEntry as Entry};
-ghost use Rattle.sig_json.specs.Canonical.{canonical_of};
+ghost use Rattle.sig_json_text.specs.Canonical.{canonical_of};
 ghost use Rattle.sig_rekor.specs.declared.inclusion_proof.InclusionProof.{InclusionProof};
 
 use crate::bundle::{Bundle, Content, MessageSignature};
 use crate::material::{
     KindVersion, MaterialContent, ProofFields, TransparencyLogEntry, VerificationMaterial,
 };
-use sig_json::CanonicalError;
+use sig_json_text::CanonicalError;
 
 /// The text of a log's promise is the template of Rekor's signed entry timestamp, if both integers are within plus or
 /// minus 2^53 - 1, and there is none if one is not. It has no code.

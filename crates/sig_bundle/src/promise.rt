@@ -6,14 +6,15 @@
 ghost use Rattle.std.specs.Prelude.{◌≡◌, [], IsSome, IfOk, Err, unwrap_or};
 ghost use Rattle.sig_base.specs.Answers.{Answers, ComesWhere};
 ghost use Rattle.sig_bundle.specs.Promise.{IsExactEntry, promise_of_entry, promise_tree_of};
-ghost use Rattle.sig_json.specs.Canonical.{canonical_of};
+ghost use Rattle.sig_json_text.specs.Canonical.{canonical_of};
 ghost use Rattle.sig_json.specs.Tree.{document_tree};
 
 use crate::material::TransparencyLogEntry;
 use crate::object::Object;
 use sig_base::laws::{are_optional_bytes, are_owned_bytes};
 use sig_base::{Bytes, OutOfMemory, Text};
-use sig_json::{CanonicalError, Document, canonical};
+use sig_json::Document;
+use sig_json_text::{CanonicalError, canonical};
 use std::alloc::Global;
 
 /// Returns the text that a log signs to promise that it includes the entry: the canonical text (RFC 8785) of an object

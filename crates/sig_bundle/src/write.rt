@@ -10,7 +10,8 @@ use crate::object::Object;
 use crate::write_content::with_content;
 use crate::write_material::MaterialWriter;
 use sig_base::{OutOfMemory, Text};
-use sig_json::{Document, compact};
+use sig_json::Document;
+use sig_json_text::compact;
 use std::alloc::Global;
 
 /// The tree of a bundle.

@@ -2,7 +2,7 @@
 use Rattle.std.specs.Prelude.{ℕ, List, ◌++◌, codes, None}
 use Rattle.hex.specs.Hex.{encode_lower}
 use Rattle.sig_base.specs.Sha256.{sha256}
-use Rattle.sig_json.specs.Canonical.{canon_string}
+use Rattle.sig_json_text.specs.Canonical.{canon_string}
 use Rattle.sig_payload.specs.Signing.{plain_signing}
 use Rattle.sig_cosign.specs.Layer.{Layer}
 

@@ -6,7 +6,7 @@ ghost use Rattle.sig_cosign.specs.Unsigned.{digest_of, unsigned_layer, unsigned_
 
 use crate::signature_layer::SignatureLayer;
 use sig_base::{Bytes, OutOfMemory, Result, Text, sha256};
-use sig_json::quoted;
+use sig_json_text::quoted;
 use sig_payload::SimpleSigning;
 use std::alloc::Global;
 

@@ -20,7 +20,8 @@ use crate::log::{DemoLog, entry_at};
 use crate::written::{entries_document, hash_document, hashes_document, natural_document};
 use sig_base::{Bytes, Entries, Hashes, OutOfMemory, OwnedList, Text};
 use sig_bundle::Object;
-use sig_json::{Document, compact};
+use sig_json::Document;
+use sig_json_text::compact;
 use sig_rekor::{Checkpoint, CheckpointSignature, SignedCheckpoint};
 use std::alloc::Global;
 

@@ -2,7 +2,7 @@
 use Rattle.std.proofs.Common.{◌≡◌, ℕ, ◌+◌, ◌<◌, List, [], ◌∷◌, ◌++◌, length, map, take, get_or, String, Global}
 use Rattle.std.proofs.Common.{string_bytes, refl, sym, ap, ◌∙◌, append_assoc, append-nil}
 use Rattle.std.proofs.lemmas.List.{take_more}
-use Rattle.sig_json.specs.Spells.{texts_of}
+use Rattle.sig_json_text.specs.Spells.{texts_of}
 use Rattle.std.specs.Prelude.{codes}
 use Rattle.sig_dsse.specs.EnvelopeText.{text_member, bytes_member, list_member, envelope_signature_text}
 use Rattle.sig_dsse.specs.declared.envelope.DsseSignature.{DsseSignature}

@@ -2,7 +2,7 @@
 -- omitted, no white space.
 use Rattle.std.specs.Prelude.{ℕ, List, [], ◌∷◌, ◌++◌, map, codes}
 use Rattle.sig_base.specs.Base64.{base64_text}
-use Rattle.sig_json.specs.Canonical.{canon_string, in_braces, in_brackets}
+use Rattle.sig_json_text.specs.Canonical.{canon_string, in_braces, in_brackets}
 use Rattle.sig_dsse.specs.declared.envelope.DsseEnvelope.{DsseEnvelope}
 use Rattle.sig_dsse.specs.declared.envelope.DsseSignature.{DsseSignature}
 

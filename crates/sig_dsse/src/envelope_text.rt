@@ -1,8 +1,8 @@
 //! An envelope as text.
 ghost use Rattle.std.specs.Prelude.{◌≡◌, ◌++◌, [], ◌∷◌, map, codes, IfOk, OnOk, string_bytes};
 ghost use Rattle.sig_base.specs.Base64.{base64_text};
-ghost use Rattle.sig_json.specs.Canonical.{canon_string, in_braces, in_brackets};
-ghost use Rattle.sig_json.specs.Spells.{texts_of};
+ghost use Rattle.sig_json_text.specs.Canonical.{canon_string, in_braces, in_brackets};
+ghost use Rattle.sig_json_text.specs.Spells.{texts_of};
 ghost use Rattle.sig_dsse.specs.EnvelopeText.{envelope_member, text_member, bytes_member, list_member};
 ghost use Rattle.sig_dsse.specs.EnvelopeText.{envelope_signature_text};
 ghost use Rattle.sig_dsse.specs.EnvelopeText.{envelope_text};
@@ -11,7 +11,7 @@ ghost use Rattle.sig_dsse.specs.Signatures.{no_parts};
 use crate::envelope::{DsseEnvelope, DsseSignature};
 use crate::signatures::{DsseSignatures, SparseSignature};
 use sig_base::{OutOfMemory, Text};
-use sig_json::quoted;
+use sig_json_text::quoted;
 use std::alloc::Global;
 
 /// The JSON of an envelope: `payload`, `payloadType` and `signatures` in this order, in a signature `sig` and `keyid`.

@@ -1,6 +1,6 @@
 -- A list read element by element: what is read so far, and the elements that are left.
-use Rattle.std.proofs.Common.{◌≡◌, ℕ, ◌<◌, ◌+◌, List, [], ◌∷◌, ◌++◌, length, map, drop, get_or, Option}
-use Rattle.std.proofs.Common.{Some, None}
+use Rattle.std.proofs.Common.{◌≡◌, ℕ, zero, suc, ◌<◌, ◌+◌, List, [], ◌∷◌, ◌++◌, length, map, drop, get_or, Option}
+use Rattle.std.proofs.Common.{Some, None, arith}
 use Rattle.std.proofs.Common.{false, refl, sym, ap, subst, ◌∙◌, append_assoc, append-nil}
 use Rattle.std.proofs.lemmas.List.{map-append}
 use Rattle.sig_base.specs.OptionSteps.{◌>>=◌}
@@ -9,11 +9,10 @@ use Rattle.serde_json.specs.Find.{as_array}
 use Rattle.serde_json.specs.Written.{has_float}
 use Rattle.sig_json.proofs.ByKind.{as_array_is}
 use Rattle.sig_json.proofs.Lists.{items_from, none_left}
-use Rattle.sig_json.proofs.MemberTexts.{items_named_at}
 use Rattle.sig_json.proofs.SameTrees.{items_floatless_at}
 use Rattle.sig_json.specs.List.{items_list}
 use Rattle.sig_json.specs.Member.{each, list_each}
-use Rattle.sig_json.specs.Named.{IsNamedTree}
+use Rattle.sig_json.specs.Named.{IsNamedTree, AreNamed}
 use Rattle.sig_json.specs.SeenAs.{SeenAs}
 use Rattle.sig_json.specs.View.{view, items_view}
 use Rattle.sig_json.specs.declared.tree.Tree.{Tree}
@@ -83,6 +82,12 @@ pub element_floatless : (d : Data) (values : List Tree) (i : ℕ) (value : Tree)
 element_floatless d values i value whole e h is =
     items_floatless_at values i value h is
     (subst (λ t. has_float t ≡ false) (as_array_is d (items_view values) e) whole)
+
+pub items_named_at : (trees : List Tree) (i : ℕ) (tree : Tree) → i < length trees → tree ≡ get_or trees i tree
+    → AreNamed (items_view trees) → IsNamedTree (view tree)
+items_named_at [] i tree h is named = absurd (omega arith)
+items_named_at (t ∷ trees) zero tree h is named = rw is named.0
+items_named_at (t ∷ trees) (suc i) tree h is named = items_named_at trees i tree (omega arith) is named.1
 
 pub element_named : (d : Data) (values : List Tree) (i : ℕ) (value : Tree) → IsNamedTree d
     → Some (items_view values) ≡ as_array d → i < length values → value ≡ get_or values i value

@@ -5,7 +5,6 @@ pub mod OrMember
 pub mod Ordered
 pub mod Scanned
 pub mod Adding
-pub mod CompactTexts
 pub mod Copies
 pub mod Converted
 pub mod Tokens
@@ -22,12 +21,9 @@ pub mod Records
 pub mod Parts
 pub mod Building
 pub mod Built
-pub mod CanonicalTexts
 pub mod SameTrees
 pub mod SameDocuments
 pub mod TextMaps
-pub mod Units
-pub mod MemberOrder
 pub mod Named
 pub mod Only
 pub mod Skipping
@@ -37,8 +33,6 @@ pub mod Keeping
 pub mod OtherFloats
 pub mod KeptReading
 pub mod Streaming
-pub mod MemberTexts
-pub mod Large
 -- what is found in a tree that members were put into
 pub use Rattle.serde_json.proofs.Views
 mod ClosedObjects

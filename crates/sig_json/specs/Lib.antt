@@ -1,12 +1,10 @@
 pub mod Builders
-pub mod Canonical
 pub mod Causes
 pub mod Document
 pub mod Gathered
 pub mod Integer
 pub mod Kinds
 pub mod NumberKinds
-pub mod Large
 pub mod List
 pub mod Member
 pub mod Members
@@ -16,8 +14,6 @@ pub mod Numerals
 pub mod Only
 pub mod Closed
 pub mod OrMember
-pub mod Order
-pub mod Range
 pub mod Record
 pub mod SameTree
 pub mod SameTreeProofs
@@ -25,11 +21,9 @@ pub mod SeenAs
 pub mod Skipped
 pub mod Sorting
 pub mod Streamed
-pub mod Spells
 pub mod Tree
 pub mod View
 pub mod Walk
-pub mod Writes
 -- the trees, the words that look into them, and what texts they are read from and written as
 pub use Rattle.serde_json.specs.Data
 pub use Rattle.serde_json.specs.Find

@@ -1,5 +1,5 @@
 -- *Named trees*: the names of each object are texts in byte order, as the keys of a map from strings are.
-use Rattle.std.specs.Prelude.{⊤}
+use Rattle.std.specs.Prelude.{◌≢◌, ⊤}
 use Rattle.std.specs.List.{AllByRecursion}
 use Rattle.std.specs.Map.{keys_of}
 use Rattle.std.specs.Str.{IsUtf8}
@@ -11,6 +11,12 @@ use Rattle.sig_json.specs.Members.{members_list}
 -- each name is a text (UTF-8), and below those after it in byte order: so none is there twice
 abbrev pub NamesAscend : Members → Type 0
 NamesAscend ms = AllByRecursion IsUtf8 (keys_of (members_list ms)) × KeysAscend (members_list ms)
+
+-- each name is a text (UTF-8), and no later member has it too
+abbrev pub HasNames : Members → Type 0
+HasNames no_members = ⊤
+HasNames (member name d ms) =
+    IsUtf8 name × AllByRecursion (λ other. name ≢ other) (keys_of (members_list ms)) × HasNames ms
 
 -- the names of each object of a tree, at every depth
 abbrev mutual

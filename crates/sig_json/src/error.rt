@@ -62,17 +62,6 @@ pub enum JsonError {
     OutOfMemory,
 }
 
-/// Why a tree has no canonical text.
-#[derive(Clone, Copy, Debug, PartialEq, Eq, Error)]
-pub enum CanonicalError {
-    /// An integer is beyond plus or minus 2^53 - 1.
-    #[error("IntegerTooLarge")]
-    IntegerTooLarge,
-    /// Out of memory.
-    #[error("OutOfMemory")]
-    OutOfMemory,
-}
-
 impl From<OutOfMemory> for ReadError {
     ghost use Rattle.std.specs.Prelude.{◌≡◌};
     ghost use Rattle.sig_json.specs.declared.error.ReadError.TheVariants.{OutOfMemory};
@@ -200,17 +189,6 @@ impl From<OutOfMemory> for MemberError {
 
     fn from(_error: OutOfMemory) -> MemberError {
         MemberError::OutOfMemory
-    }
-}
-
-impl From<OutOfMemory> for CanonicalError {
-    ghost use Rattle.std.specs.Prelude.{◌≡◌};
-    ghost use Rattle.sig_json.specs.declared.error.CanonicalError.TheVariants.{OutOfMemory};
-
-    ghost from_gives = { λ _ e. e ≡ OutOfMemory };
-
-    fn from(_error: OutOfMemory) -> CanonicalError {
-        CanonicalError::OutOfMemory
     }
 }
 

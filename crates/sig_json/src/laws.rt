@@ -1,53 +1,19 @@
-//! What the definitions of trees and of canonical JSON mean, in the subject's words. It has no code.
-ghost use Rattle.std.specs.Prelude.{◌≡◌, ◌≢◌, ◌↔◌, ◌++◌, ℕ, List, [], ◌∷◌, Some, None, IsSome, IsTrue, false, map};
-ghost use Rattle.std.specs.Prelude.{chars};
-ghost use Rattle.std.specs.Char.Utf16.{utf16_chars};
-ghost use Rattle.std.specs.Map.{values_of};
-ghost use Rattle.std.specs.Str.{IsUtf8};
-ghost use Rattle.serde_json.specs.Data.{Data, Members, object};
+//! What the definitions of trees mean, in the subject's words. It has no code.
+ghost use Rattle.std.specs.Prelude.{◌≡◌, ◌≢◌, ◌↔◌, ◌++◌, ℕ, List, [], ◌∷◌, Some, None, IsSome, IsTrue, false};
+ghost use Rattle.serde_json.specs.Data.{Data, Members};
 ghost use Rattle.serde_json.specs.Find.{as_object, get};
 ghost use Rattle.serde_json.specs.Written.{has_float};
 ghost use Rattle.sig_json.specs.Builders.{with_last, with_member};
-ghost use Rattle.sig_json.specs.Canonical.{Sorted, canon, canon_members, in_braces, utf16_units};
-ghost use Rattle.sig_json.specs.Large.{has_large};
 ghost use Rattle.sig_json.specs.List.{list_of};
-ghost use Rattle.sig_json.specs.Named.{IsNamedTree, NamesAscend};
+ghost use Rattle.sig_json.specs.Named.{HasNames, IsNamedTree, NamesAscend};
 ghost use Rattle.sig_json.specs.Only.{is_among, only};
-ghost use Rattle.sig_json.specs.Order.{HasNames, UnitsAscend, IsSorting};
 ghost use Rattle.sig_json.specs.SameTree.{same_tree};
 ghost use Rattle.sig_json.specs.Tree.{document_tree, tree};
 ghost use Rattle.sig_json.specs.declared.document.Document.{Document};
 ghost use Rattle.sig_json.specs.declared.view.Json.{Json};
 
-/// The UTF-16 code units of a text are decoded to its characters, so texts that differ have units that differ.
-pub fn units_of_texts()
-    ensures decoded { (text : List ℕ) → IsUtf8 text → utf16_chars (utf16_units text) ≡ map Some (chars text) }
-    ensures distinct { (one other : List ℕ) → IsUtf8 one → IsUtf8 other
-        → utf16_units one ≡ utf16_units other → one ≡ other }
-{}
-
-/// The members of an object come in the ascending order of the UTF-16 code units of their names, each once and no
-/// others (RFC 8785 section 3.2.3), where the names are texts and none is there twice, as in a map from strings in
-/// byte order.
-pub fn members_in_order()
-    ensures object { (ms : Members) → HasNames ms → (text : List ℕ)
-        → (canon (object ms) ≡ Some text)
-        ↔ ((sorted : Sorted) × IsSorting ms sorted × (text ≡ in_braces (values_of sorted))) }
-    ensures exact { (ms : Members) → HasNames ms → (sorted : Sorted)
-        → (canon_members ms [] ≡ Some sorted) ↔ IsSorting ms sorted }
-    ensures ascend { (ms : Members) (sorted : Sorted)
-        → canon_members ms [] ≡ Some sorted → UnitsAscend sorted }
-{}
-
-/// A tree without floats has no canonical text if and only if it holds an integer beyond plus or minus 2^53 - 1, at
-/// any depth.
-pub fn large_integers()
-    ensures exact { (d : Data) → has_float d ≡ false
-        → (canon d ≡ None) ↔ IsTrue (has_large d) }
-{}
-
 /// In every document, read or built, and in every view of one, the names of each object are texts that ascend in byte
-/// order, at every depth: the premise of `members_in_order`.
+/// order, at every depth, so that none is there twice.
 pub fn trees_are_named()
     ensures document { (document : Document) → IsNamedTree (document_tree document) }
     ensures view { (json : Json) → IsNamedTree (tree json) }

@@ -1,5 +1,5 @@
 //! JSON documents (RFC 8259) without floats: one way in, a view of the tree, readers of the members that the formats
-//! of Sigstore have, and canonical JSON (RFC 8785).
+//! of Sigstore have.
 //!
 //! The grammar of RFC 8259, as far as it has a value here, white space left out:
 //!
@@ -24,13 +24,10 @@
 //! - A document that is read for the members of some names is the whole one without the others, and fails as the whole
 //!   one does. No tree is made of the others, unless they hold a float. A list beside them is read element by element,
 //!   and no tree is made of the list.
-//! - `Json`, a view, shows what the tree is; the members of an object come in the byte order of their names.
+//! - `Json`, a view, shows what the tree is; the members of an object come in the byte order of their names. What
+//!   writes the whole tree takes it as a `Tree`, level by level.
 //! - A reader returns what the member means by its row of a table, and fails with `Member` if and only if the member
 //!   breaks that row.
-//! - The compact text of a tree that nests to 127 is read back as the same tree.
-//! - The canonical text of a tree is that of RFC 8785: in each object the members come in the ascending order of the
-//!   UTF-16 code units of their names. It fails with `IntegerTooLarge` if and only if the tree holds an integer beyond
-//!   plus or minus 2^53 - 1.
 //!
 //! `laws` says what the definitions mean.
 #![tactic(auto)]
@@ -39,10 +36,8 @@ mod any;
 mod beside;
 mod borrowed_document;
 mod build;
-mod canonical_form;
 mod change;
 mod closed;
-mod compact_form;
 mod copy;
 mod document;
 mod element;
@@ -56,7 +51,6 @@ pub mod laws;
 mod member;
 mod members;
 mod members_and_list;
-mod named_member;
 mod number;
 mod number_kind;
 mod order;
@@ -72,11 +66,9 @@ mod words;
 
 pub use any::AnyReader;
 pub use borrowed_document::BorrowedDocument;
-pub use canonical_form::{canonical, quoted};
-pub use compact_form::compact;
 pub use document::Document;
 pub use element::{ElementReader, optional, optional_list, read_list, required, required_list};
-pub use error::{CanonicalError, DocumentError, JsonError, MemberError};
+pub use error::{DocumentError, JsonError, MemberError};
 pub use json::Scratch;
 pub use kind::{BytesReader, HashReader, TextMapReader, TextReader};
 pub use member::{
@@ -86,4 +78,6 @@ pub use member::{
 pub use members::Members;
 pub use number_kind::{I64NumberReader, U64NumberReader};
 pub use record::{read_record, read_record_with};
+pub use tree::{Entry, Tree};
 pub use view::Json;
+pub use words::Words;

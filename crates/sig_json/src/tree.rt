@@ -12,12 +12,13 @@ use crate::words::Words;
 use serde_json::Number;
 
 /// A member of an object: its name and its value.
-pub(crate) type Entry<'t> = (Words<'t>, Tree<'t>);
+pub type Entry<'t> = (Words<'t>, Tree<'t>);
 
 /// A value. The members of an object are in the byte order of their names, each name once: `IsNamedTree`, which each
-/// document and each view of one carries.
+/// document and each view of one carries. Outside the crate trees are looked at alone (`Json::as_tree`): no document is
+/// made of one.
 #[derive(Drop)]
-pub(crate) enum Tree<'t> {
+pub enum Tree<'t> {
     Null,
     Bool(bool),
     Number(Number),

@@ -23,6 +23,15 @@ impl<'a, 't> Json<'a, 't> {
     ghost use Rattle.sig_json.specs.List.{list_of};
     ghost use Rattle.sig_json.specs.Tree.{tree};
 
+    /// The tree itself: no number of it is a float, and the names of each object in it ascend in byte order.
+    pub fn as_tree(self) -> &'a Tree<'t>
+        ensures value { view result.now ≡ tree self.entry }
+        ensures whole { has_float (view result.now) ≡ false }
+        ensures named { IsNamedTree (view result.now) }
+    {
+        self.value
+    }
+
     /// The member of this name of an object.
     pub fn get(self, name: &str) -> Option<Json<'a, 't>>
         ensures { option_map tree result ≡ member_in name.now (tree self.entry) }

@@ -9,7 +9,7 @@ use std::borrow::CowStr;
 
 /// A name or a text of a tree: in memory of its own in a document, and borrowed from the text that is read in a tree
 /// that is dropped before that text is.
-pub(crate) type Words<'t> = CowStr<'t, Global>;
+pub type Words<'t> = CowStr<'t, Global>;
 
 /// The text in memory of its own. Fails only if out of memory.
 pub(crate) fn own<'t>(alloc: Global, text: &str) -> Result<Words<'t>, OutOfMemory>

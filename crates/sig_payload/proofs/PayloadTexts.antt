@@ -9,7 +9,7 @@ use Rattle.std.specs.Str.{chars}
 use Rattle.sig_base.specs.OptionSteps.{◌>>=◌}
 use Rattle.sig_base.specs.declared.error.SigstoreError.TheVariants.{UnexpectedError}
 use Rattle.sig_base.specs.declared.unexpected.UnexpectedKind.TheVariants.{PromiseInteger}
-use Rattle.sig_json.specs.Canonical.{canon, canon_integer, canon_string, utf16_units, with_text}
+use Rattle.sig_json_text.specs.Canonical.{canon, canon_integer, canon_string, utf16_units, with_text}
 use Rattle.sig_json.specs.Data.{Data, Num, string, number, object, no_members, member}
 use Rattle.sig_json.specs.Find.{as_integer, of_integer}
 use Rattle.sig_payload.specs.Bundles.{payload_text, payload_tree}

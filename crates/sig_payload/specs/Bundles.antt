@@ -7,12 +7,12 @@ use Rattle.sig_base.specs.declared.error.SigstoreError.{SigstoreError}
 use Rattle.sig_base.specs.declared.error.SigstoreError.TheVariants as sigstore
 use Rattle.sig_base.specs.declared.scheme.VerifyScheme.{VerifyScheme}
 use Rattle.sig_base.specs.declared.unexpected.UnexpectedKind.TheVariants.{BundleUnreadable, PromiseInteger}
-use Rattle.sig_json.specs.Canonical.{canonical_of}
+use Rattle.sig_json_text.specs.Canonical.{canonical_of}
 use Rattle.sig_json.specs.Data.{Data, string, number, object, member, no_members}
 use Rattle.sig_json.specs.Find.{of_integer}
 use Rattle.sig_json.specs.Record.{record_in}
-use Rattle.sig_json.specs.declared.error.CanonicalError.{CanonicalError}
-use Rattle.sig_json.specs.declared.error.CanonicalError.TheVariants as canonical
+use Rattle.sig_json_text.specs.declared.error.CanonicalError.{CanonicalError}
+use Rattle.sig_json_text.specs.declared.error.CanonicalError.TheVariants as canonical
 use Rattle.sig_json.specs.declared.error.JsonError.{JsonError}
 use Rattle.sig_key.specs.Key.{check_answer, key_accepts}
 use Rattle.sig_key.specs.Signature.{text_bytes}

@@ -8,7 +8,7 @@ use Rattle.sig_base.specs.declared.error.SigstoreError.{SigstoreError}
 use Rattle.sig_base.specs.declared.error.SigstoreError.TheVariants.{UnexpectedError, RekorPublicKeyNotFoundError}
 use Rattle.sig_base.specs.declared.error.SigstoreError.TheVariants.{Base64DecodeError, PublicKeyVerificationError}
 use Rattle.sig_base.specs.declared.unexpected.UnexpectedKind.TheVariants.{BundleUnreadable, PromiseInteger}
-use Rattle.sig_json.specs.Canonical.{canon_string}
+use Rattle.sig_json_text.specs.Canonical.{canon_string}
 use Rattle.sig_json.specs.declared.error.JsonError.{JsonError}
 use Rattle.sig_key.specs.Key.{key_accepts}
 use Rattle.sig_key.specs.Signature.{text_bytes}

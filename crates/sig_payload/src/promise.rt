@@ -7,7 +7,8 @@ ghost use Rattle.sig_payload.specs.Bundles.{key_named, payload_text, payload_tre
 
 use crate::bundle::{Bundle, Payload};
 use sig_base::{OutOfMemory, Result, SignatureChecker, SigstoreError, Text, UnexpectedKind};
-use sig_json::{CanonicalError, Document, canonical};
+use sig_json::Document;
+use sig_json_text::{CanonicalError, canonical};
 use sig_key::{CosignVerificationKey, Signature, VerificationKeys};
 use std::alloc::Global;
 

@@ -11,7 +11,8 @@ ghost use Rattle.sig_rekor.specs.NoteText.{note_text};
 
 use crate::reply::refused;
 use sig_base::{AcceptedRow, Bytes, Operation, OutOfMemory, Text};
-use sig_json::{Document, compact};
+use sig_json::Document;
+use sig_json_text::compact;
 use sig_rekor::{CheckpointSignature, ParseCheckpointError, SignedNote};
 use sig_reply::{Reply, add_row, room_beside};
 use sig_request::ClaimedHead;

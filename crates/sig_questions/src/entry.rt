@@ -11,7 +11,7 @@ use crate::rows::{RowParts, Rows};
 use sig_base::laws::{are_bytes, are_optional_bytes, are_owned_bytes};
 use sig_base::{KeyMap, Operation, Text, VerifyScheme};
 use sig_bundle::{TransparencyLogEntry, promise_text};
-use sig_json::CanonicalError;
+use sig_json_text::CanonicalError;
 use sig_key::{KeyKind, key_kind};
 use sig_rekor::{CheckpointSignature, ParseCheckpointError, SignedNote};
 use std::alloc::Global;

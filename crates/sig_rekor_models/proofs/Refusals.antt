@@ -16,7 +16,7 @@ use Rattle.sig_base.specs.declared.merkle_error.MerkleProofError.{MerkleProofErr
 use Rattle.sig_base.specs.declared.unexpected.UnexpectedKind.{UnexpectedKind}
 use Rattle.sig_base.specs.declared.unexpected.UnexpectedKind.TheVariants.{ProofMissing, ProofConversion, CanonicalBody}
 use Rattle.sig_base.specs.declared.unexpected.UnexpectedKind.TheVariants.{RootLength}
-use Rattle.sig_json.specs.Canonical.{canonical_of}
+use Rattle.sig_json_text.specs.Canonical.{canonical_of}
 use Rattle.sig_merkle.proofs.ConsistencyAnswers.{consistency_answers}
 use Rattle.sig_merkle.specs.ConsistencyAnswer.{consistency_answer}
 use Rattle.sig_rekor.proofs.HashFaults.{hash-found, hash-only, hash-fails, hash-only_fails, hash_of}

@@ -8,7 +8,7 @@ use Rattle.sig_base.specs.declared.error.SigstoreError.{SigstoreError}
 use Rattle.sig_base.specs.declared.error.SigstoreError.TheVariants.{OutOfMemory, UnexpectedError}
 use Rattle.sig_base.specs.declared.unexpected.UnexpectedKind.{UnexpectedKind}
 use Rattle.sig_base.specs.declared.unexpected.UnexpectedKind.TheVariants.{ProofMissing, ProofConversion, CanonicalBody}
-use Rattle.sig_json.specs.Canonical.{canonical_of}
+use Rattle.sig_json_text.specs.Canonical.{canonical_of}
 use Rattle.sig_rekor.proofs.Steps.{ok_or-ok}
 use Rattle.sig_rekor.proofs.VerifyLaws.{vouched, accepted}
 use Rattle.sig_rekor.specs.RekorProof.{inclusion_proof_from_rekor}

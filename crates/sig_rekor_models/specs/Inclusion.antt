@@ -7,7 +7,7 @@ use Rattle.sig_base.specs.declared.error.SigstoreError.{SigstoreError}
 use Rattle.sig_base.specs.declared.error.SigstoreError.TheVariants.{UnexpectedError}
 use Rattle.sig_base.specs.declared.unexpected.UnexpectedKind.{UnexpectedKind}
 use Rattle.sig_base.specs.declared.unexpected.UnexpectedKind.TheVariants.{ProofMissing, ProofConversion, CanonicalBody}
-use Rattle.sig_json.specs.Canonical.{canonical_of}
+use Rattle.sig_json_text.specs.Canonical.{canonical_of}
 use Rattle.sig_rekor.specs.RekorProof.{inclusion_proof_from_rekor}
 use Rattle.sig_rekor.specs.Verify.{IsVouched, proof_answer}
 use Rattle.sig_rekor.specs.declared.inclusion_proof.InclusionProof.{InclusionProof}

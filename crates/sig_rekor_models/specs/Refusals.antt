@@ -9,7 +9,7 @@ use Rattle.sig_base.specs.declared.error.SigstoreError.TheVariants.{UnexpectedEr
 use Rattle.sig_base.specs.declared.merkle_error.MerkleProofError.{MerkleProofError}
 use Rattle.sig_base.specs.declared.unexpected.UnexpectedKind.TheVariants.{ProofMissing, ProofConversion, CanonicalBody}
 use Rattle.sig_base.specs.declared.unexpected.UnexpectedKind.TheVariants.{RootLength}
-use Rattle.sig_json.specs.Canonical.{canonical_of}
+use Rattle.sig_json_text.specs.Canonical.{canonical_of}
 use Rattle.sig_merkle.specs.ConsistencyAnswer.{IsConsistencyAnswer}
 use Rattle.sig_rekor.specs.Faults.{OfBytes}
 use Rattle.sig_rekor.specs.HashFaults.{IsHashOf, IsHashText, IsHashFault, IsHashesFault, IsProofOf, IsProofFault}

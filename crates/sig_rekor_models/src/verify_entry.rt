@@ -10,7 +10,7 @@ ghost use Rattle.sig_rekor_models.specs.LogEntry.{seen_entry};
 use crate::body::Body;
 use crate::log_entry::LogEntry;
 use sig_base::{Result, SignatureChecker, SigstoreError, Text, UnexpectedKind};
-use sig_json::{CanonicalError, canonical};
+use sig_json_text::{CanonicalError, canonical};
 use sig_key::CosignVerificationKey;
 use sig_rekor::InclusionProof;
 use std::alloc::Global;

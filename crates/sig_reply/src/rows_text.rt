@@ -16,7 +16,8 @@ ghost use Rattle.sig_reply.specs.RowsText.{accepted_name, operation_word, room_b
 ghost use Rattle.sig_reply.specs.RowsText.{with_some};
 
 use sig_base::{AcceptedRow, Bytes, Operation, OutOfMemory, Text};
-use sig_json::{Document, compact};
+use sig_json::Document;
+use sig_json_text::compact;
 use sig_request::MOST_BYTES;
 use std::alloc::Global;
 

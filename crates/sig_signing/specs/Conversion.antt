@@ -8,7 +8,7 @@ use Rattle.sig_base.specs.ResultSteps.{◌>>=◌, each_from}
 use Rattle.sig_bundle.specs.declared.material.KindVersion.{KindVersion}
 use Rattle.sig_bundle.specs.declared.material.ProofFields.{ProofFields}
 use Rattle.sig_bundle.specs.declared.material.TransparencyLogEntry.{TransparencyLogEntry}
-use Rattle.sig_json.specs.Canonical.{canonical_of}
+use Rattle.sig_json_text.specs.Canonical.{canonical_of}
 use Rattle.sig_rekor.specs.declared.rekor_proof.RekorInclusionProof.{RekorInclusionProof}
 use Rattle.sig_rekor_models.specs.Body.{body_tree}
 use Rattle.sig_rekor_models.specs.LogEntry.{LogEntry}

@@ -5,7 +5,7 @@ use Rattle.std.specs.Option.{ok_or}
 use Rattle.std.specs.Result.{result_ok}
 use Rattle.hex.specs.Hex.{decode_of}
 use Rattle.sig_base.specs.Base64.{base64_bytes}
-use Rattle.sig_json.specs.declared.error.CanonicalError.{CanonicalError}
+use Rattle.sig_json_text.specs.declared.error.CanonicalError.{CanonicalError}
 use Rattle.sig_signing.specs.declared.conversion_error.ConversionError.{ConversionError}
 use Rattle.sig_signing.specs.declared.conversion_error.ConversionError.TheVariants.{Refused}
 

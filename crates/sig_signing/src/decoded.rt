@@ -2,14 +2,14 @@
 ghost use Rattle.std.specs.Prelude.{◌≡◌};
 ghost use Rattle.sig_base.specs.Answers.{Answers};
 ghost use Rattle.sig_base.specs.ResultSteps.{each_from};
-ghost use Rattle.sig_json.specs.Canonical.{canonical_of};
+ghost use Rattle.sig_json_text.specs.Canonical.{canonical_of};
 ghost use Rattle.sig_rekor_models.specs.Body.{body_tree, seen_body};
 ghost use Rattle.sig_signing.specs.Decoded.{base64_or_refused, canonical_or_refused, hex_at, hex_or_refused};
 
 use crate::conversion_error::ConversionError;
 use hex::FromHexError;
 use sig_base::{Bytes, Entries, OwnedList};
-use sig_json::{CanonicalError, canonical};
+use sig_json_text::{CanonicalError, canonical};
 use sig_rekor_models::Body;
 use std::alloc::Global;
 

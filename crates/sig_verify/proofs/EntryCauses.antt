@@ -19,8 +19,8 @@ use Rattle.sig_bundle.specs.declared.material.ProofFields.{ProofFields}
 use Rattle.sig_bundle.specs.declared.material.TransparencyLogEntry.{TransparencyLogEntry}
 use Rattle.sig_bundle.specs.declared.proof_error.ProofFieldsError.{ProofFieldsError}
 use Rattle.sig_bundle.specs.declared.proof_error.ProofFieldsError.TheVariants as fault
-use Rattle.sig_json.specs.Canonical.{canonical_of}
-use Rattle.sig_json.specs.declared.error.CanonicalError.{CanonicalError}
+use Rattle.sig_json_text.specs.Canonical.{canonical_of}
+use Rattle.sig_json_text.specs.declared.error.CanonicalError.{CanonicalError}
 use Rattle.sig_key.proofs.KeyKinds.{key_kind_is, key_kind_only}
 use Rattle.sig_key.specs.Kind.{IsKind, key_kind, kind_answer}
 use Rattle.sig_key.specs.declared.kind.KeyKind.{KeyKind}

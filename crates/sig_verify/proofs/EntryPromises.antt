@@ -8,8 +8,8 @@ use Rattle.sig_base.specs.declared.scheme.VerifyScheme.{VerifyScheme}
 use Rattle.sig_bundle.proofs.PromiseLaws.{exact-promise, exact_or_wide, wide-promise}
 use Rattle.sig_bundle.specs.Promise.{IsExactEntry, promise_of_entry, promise_tree_of}
 use Rattle.sig_bundle.specs.declared.material.TransparencyLogEntry.{TransparencyLogEntry}
-use Rattle.sig_json.specs.Canonical.{canonical_of}
-use Rattle.sig_json.specs.declared.error.CanonicalError.{CanonicalError}
+use Rattle.sig_json_text.specs.Canonical.{canonical_of}
+use Rattle.sig_json_text.specs.declared.error.CanonicalError.{CanonicalError}
 use Rattle.sig_verify.proofs.EntryKeys.{one_key}
 use Rattle.sig_verify.proofs.JudgedLaws.{not_first}
 use Rattle.sig_verify.specs.ContentCheck.{AcceptsSpki}

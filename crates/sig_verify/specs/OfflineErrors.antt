@@ -13,8 +13,8 @@ use Rattle.sig_base.specs.declared.fault.PoolError.{PoolError}
 use Rattle.sig_base.specs.declared.fault.PoolError.TheVariants as pool
 use Rattle.sig_json.specs.declared.error.JsonError.{JsonError}
 use Rattle.sig_json.specs.declared.error.JsonError.TheVariants as json
-use Rattle.sig_json.specs.declared.error.CanonicalError.{CanonicalError}
-use Rattle.sig_json.specs.declared.error.CanonicalError.TheVariants as canonical
+use Rattle.sig_json_text.specs.declared.error.CanonicalError.{CanonicalError}
+use Rattle.sig_json_text.specs.declared.error.CanonicalError.TheVariants as canonical
 use Rattle.sig_verify.specs.declared.error.CertificateErrorKind.{CertificateErrorKind}
 use Rattle.sig_verify.specs.declared.error.CertificateErrorKind.TheVariants as certificate
 use Rattle.sig_verify.specs.declared.error.SignatureErrorKind.{SignatureErrorKind}

@@ -12,7 +12,7 @@ ghost use Rattle.sig_witness_command.specs.Start.{HaveLines, Logs};
 use crate::request::UpdateText;
 use crate::row_list::RowList;
 use sig_base::{OutOfMemory, Text};
-use sig_json::compact;
+use sig_json_text::compact;
 use sig_key::CosignVerificationKey;
 use sig_rekor::{ParseCheckpointError, SignedCheckpoint};
 use sig_witness::Witness;

@@ -1,5 +1,5 @@
 use Rattle.std.proofs.Common.{[], ◌∷◌, refl}
-use Rattle.sig_json.proofs.CanonicalTexts.{join_by-texts_of}
+use Rattle.sig_json_text.proofs.CanonicalTexts.{join_by-texts_of}
 use Rattle.sig_dsse.proofs.envelope_text.braced.Goals as goal
 
 pub returns : goal.returns

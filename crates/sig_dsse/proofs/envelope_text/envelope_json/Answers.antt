@@ -1,5 +1,5 @@
 use Rattle.std.proofs.Common.{ap, ◌∙◌}
-use Rattle.sig_json.specs.Canonical.{in_braces}
+use Rattle.sig_json_text.specs.Canonical.{in_braces}
 use Rattle.sig_dsse.specs.EnvelopeText.{envelope_text}
 use Rattle.sig_dsse.proofs.EnvelopeTexts.{envelope_members}
 use Rattle.sig_dsse.proofs.envelope_text.envelope_json.Goals as goal

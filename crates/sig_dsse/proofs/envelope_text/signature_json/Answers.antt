@@ -1,6 +1,6 @@
 use Rattle.std.proofs.Common.{◌≡◌, subst, string_bytes}
 use Rattle.std.specs.Prelude.{IfOk}
-use Rattle.sig_json.specs.Canonical.{in_braces}
+use Rattle.sig_json_text.specs.Canonical.{in_braces}
 use Rattle.sig_dsse.specs.EnvelopeText.{envelope_signature_text}
 use Rattle.sig_dsse.proofs.EnvelopeTexts.{signature_members}
 use Rattle.sig_dsse.proofs.envelope_text.signature_json.Goals as goal

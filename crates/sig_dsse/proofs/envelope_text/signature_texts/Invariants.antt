@@ -1,5 +1,5 @@
 use Rattle.std.proofs.Common.{◌≡◌, map, take}
-use Rattle.sig_json.specs.Spells.{texts_of}
+use Rattle.sig_json_text.specs.Spells.{texts_of}
 use Rattle.sig_dsse.specs.EnvelopeText.{envelope_signature_text}
 use Rattle.sig_dsse.proofs.envelope_text.signature_texts.Given as goal
 

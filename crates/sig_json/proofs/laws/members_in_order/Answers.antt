@@ -1,5 +1,0 @@
-use Rattle.sig_json.proofs.MemberOrder.{members_ascend, members_exact, object_exact}
-use Rattle.sig_json.proofs.laws.members_in_order.Goals as goal
-
-pub returns : goal.returns
-returns c = record { ascend = members_ascend; exact = members_exact; object = object_exact }

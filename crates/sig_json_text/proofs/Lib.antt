@@ -1,0 +1,7 @@
+pub mod CompactTexts
+pub mod CanonicalTexts
+pub mod Units
+pub mod MemberOrder
+pub mod KeptOrder
+pub mod MemberTexts
+pub mod Large
