@@ -1,5 +1,5 @@
-//! Cases of sig_json: texts and the trees that they are, views, readers of members, canonical and compact texts,
-//! builders, equality.
+//! Cases of sig_json and sig_json_text: texts and the trees that they are, views, readers of members, canonical and
+//! compact texts, builders, equality.
 //!
 //! The worked examples of RFC 8785 are those without floats, the vectors of base64 those of RFC 4648 section 10.
 //! Every line is written by tools/json_cases.py, which reads JSON by Python's `json` with hooks for numbers, duplicate

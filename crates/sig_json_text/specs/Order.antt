@@ -1,16 +1,13 @@
 -- *Order of members*: how the members of an object are ordered in its canonical text (RFC 8785 section 3.2.3).
-use Rattle.std.specs.Prelude.{◌≡◌, ◌≢◌, ℕ, List, [], ◌∷◌, ◌++◌, Option, Some, codes, ⊤}
+use Rattle.std.specs.Prelude.{◌≡◌, ℕ, List, [], ◌∷◌, ◌++◌, Option, Some, codes, ⊤}
 use Rattle.std.specs.Cmp.Lexicographic.{slice_cmp}
-use Rattle.std.specs.List.{AllByRecursion}
 use Rattle.std.specs.List.Sorted.{IsPermutation, IsStrictlySortedBy}
 use Rattle.std.specs.Map.{keys_of, values_of}
 use Rattle.std.specs.Ordering.{nat_cmp}
-use Rattle.std.specs.Str.{IsUtf8}
 use Rattle.sig_base.specs.OptionSteps.{◌>>=◌}
 use Rattle.serde_json.specs.Data.{Data, null, boolean, number, string, array, object, Items, no_items, item, Members}
 use Rattle.serde_json.specs.Data.{no_members, member}
 use Rattle.sig_json_text.specs.Canonical.{Sorted, canon, canon_string, in_braces, in_brackets, utf16_units}
-use Rattle.sig_json.specs.Members.{members_list}
 
 -- the units of each member's name and its text, in the order of the members; none where some value has no canonical
 -- text
