@@ -12,5 +12,7 @@ mod CausesRefuse
 pub mod VersionLaws
 pub mod DsseBodies
 pub mod PayloadDigests
+pub mod LoggedArtifacts
+pub mod LoggedBodies
 pub mod LoggedEnvelopes
 pub mod BundleClauses

@@ -1,5 +1,6 @@
 -- The body of an entry about an envelope: what is read of it, and the members that it has.
 use Rattle.std.proofs.Common.{◌≡◌, ◌≢◌, ℕ, List, codes, Option, Some, Ok, refl, sym, ap, ◌∙◌}
+use Rattle.std.specs.Prelude.{◌↔◌}
 use Rattle.sig_base.proofs.OptionSteps.{bind_is, some_is}
 use Rattle.sig_dsse.proofs.SaidMembers.{bytes_held, hash_held, held_bytes, held_hash, held_text, is_required}
 use Rattle.sig_dsse.proofs.SaidMembers.{required_is, text_held}
@@ -9,9 +10,10 @@ use Rattle.sig_json.specs.Data.{Data, Items, null, boolean, number, string, arra
 use Rattle.sig_json.specs.Document.{document_of}
 use Rattle.sig_json.specs.Find.{get}
 use Rattle.sig_json.specs.Member.{required, required_bytes, required_hash, required_text}
+use Rattle.sig_json.specs.Record.{record_in}
 use Rattle.sig_checked_bundle.specs.DsseBody.{body_about, body_signature_of, dsse_body_of, dsse_spec_of}
 use Rattle.sig_checked_bundle.specs.DsseBody.{first_signature_of, hashed_part_of}
-use Rattle.sig_checked_bundle.specs.LoggedEnvelope.{EnvelopesAreLogged, HasDigest, IsLoggedEnvelope}
+use Rattle.sig_checked_bundle.specs.LoggedEnvelope.{HasDigest, IsLoggedEnvelope}
 use Rattle.sig_checked_bundle.specs.declared.dsse_body.BodySignature.{BodySignature}
 use Rattle.sig_checked_bundle.specs.declared.dsse_body.DsseBody.{DsseBody}
 use Rattle.sig_checked_bundle.specs.declared.dsse_body.DsseSpec.{DsseSpec}
@@ -217,7 +219,10 @@ logged_says envelope payload signature pem body is = record {
   };
 }
 
-pub envelopes_are_logged : EnvelopesAreLogged
+-- a body is read as the one about an envelope if and only if it has these members
+pub envelopes_are_logged : (envelope payload signature pem body : List ℕ)
+    → (record_in dsse_body_of body ≡ Ok (body_about envelope payload signature pem)) ↔
+    IsLoggedEnvelope envelope payload signature pem body
 envelopes_are_logged envelope payload signature pem body = (
   (λ e. let read = record_in-tree dsse_body_of body (body_about envelope payload signature pem) e in
       logged envelope payload signature pem body read.0 read.1

@@ -4,6 +4,7 @@ pub mod DsseBody
 pub mod Hashedrekord
 pub mod Borrowed
 pub mod LogBody
+pub mod LoggedArtifact
 pub mod LoggedEnvelope
 pub mod Passed
 pub mod Refusals

@@ -2,12 +2,15 @@
 -- `dsse`, version 0.0.1). Other members are ignored, and all signatures but the first.
 use Rattle.std.specs.Prelude.{◌≡◌, ◌↔◌, ℕ, List, codes, Some, Ok}
 use Rattle.sig_base.specs.Sha256.{sha256}
+use Rattle.sig_certificate.specs.Pem.{pem_of}
 use Rattle.sig_dsse.specs.SaidMembers.{HasBytes, HasHash, HasText}
+use Rattle.sig_dsse.specs.declared.artifact_digest.ArtifactDigest.{ArtifactDigest}
 use Rattle.sig_json.specs.Data.{Data, Items, array, item}
 use Rattle.sig_json.specs.Document.{document_of}
 use Rattle.sig_json.specs.Find.{get}
-use Rattle.sig_json.specs.Record.{record_in}
-use Rattle.sig_checked_bundle.specs.DsseBody.{body_about, dsse_body_of}
+use Rattle.sig_checked_bundle.specs.Checked.{Checked}
+use Rattle.sig_checked_bundle.specs.LogBody.{IsLogBody}
+use Rattle.sig_checked_bundle.specs.declared.content_check.CheckedContent.TheVariants.{Dsse}
 
 -- under the name stands a hash by the algorithm, and it is this one
 pub record HasDigest (name : List ℕ) (d : Data) (algorithm hash : List ℕ) : Type 0 where
@@ -33,9 +36,10 @@ pub record IsLoggedEnvelope (envelope payload signature pem body : List ℕ) : T
   pub signed : HasBytes (codes "signature") first signature
   pub verifier : HasBytes (codes "verifier") first pem
 
--- a body is read as the one about an envelope if and only if it has these members
+-- The body of the log entry of a checked bundle with an envelope is accepted if and only if it has these members.
 abbrev pub EnvelopesAreLogged : Type 0
 EnvelopesAreLogged =
-    (envelope payload signature pem body : List ℕ)
-    → (record_in dsse_body_of body ≡ Ok (body_about envelope payload signature pem)) ↔
-    IsLoggedEnvelope envelope payload signature pem body
+    (c : Checked) (digest encoding : List ℕ) (digests : List ArtifactDigest) (envelope payload : List ℕ)
+    → c.content ≡ Dsse encoding digests envelope payload
+    → IsLogBody c digest ↔
+    IsLoggedEnvelope envelope payload c.signature (pem_of c.certificate.whole) c.entry.canonicalized_body

@@ -109,7 +109,8 @@ fn entry_with(
 
 /// Whether the body of an entry is about an artifact of this SHA-256 digest, with this signature, which the
 /// certificate of this DER verifies: whether its tree is the one of kind `hashedrekord`, version 0.0.1, that says so,
-/// without any other member. Fails only if out of memory.
+/// without any other member. [`log_bodies`](crate::laws::log_bodies) says it member by member. Fails only if out of
+/// memory.
 pub(crate) fn is_about_artifact(
     alloc: Global,
     digest: &[u8],

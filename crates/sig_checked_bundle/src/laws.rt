@@ -2,6 +2,7 @@
 ghost use Rattle.std.specs.Prelude.{◌↔◌, Ok};
 ghost use Rattle.sig_bundle.specs.declared.bundle.Bundle.{Bundle};
 ghost use Rattle.sig_checked_bundle.specs.Checked.{Checked, IsChecked};
+ghost use Rattle.sig_checked_bundle.specs.LoggedArtifact.{ArtifactsAreLogged};
 ghost use Rattle.sig_checked_bundle.specs.LoggedEnvelope.{EnvelopesAreLogged};
 ghost use Rattle.sig_checked_bundle.specs.OfBytes.{HasCertificateOfBytes, IsFirstOfBytes};
 ghost use Rattle.sig_checked_bundle.specs.Passed.{IsPassed};
@@ -23,11 +24,14 @@ pub fn causes_of_refusals()
     ensures { RefusalsHaveTheirCause }
 {}
 
-/// The body of a log's entry is about an envelope if and only if it has these members: the SHA-256 of the envelope's
-/// text and of the payload, each under its name, and as the first signature the envelope's, beside the text of the
+/// The body of the log entry of a checked bundle is accepted if and only if it has these members. Of a signature over an
+/// artifact: the artifact's SHA-256 in hexadecimal, the base64 of the bundle's signature, and the base64 of the PEM of
+/// the bundle's certificate, each under its name, and no other member. Of an envelope: the SHA-256 of the envelope's
+/// text and of the payload, each under its name, and as the first signature the envelope's, beside the PEM of the
 /// certificate that verifies it. It has no code.
 pub fn log_bodies()
-    ensures { EnvelopesAreLogged }
+    ensures artifacts { ArtifactsAreLogged }
+    ensures envelopes { EnvelopesAreLogged }
 {}
 
 /// The DER of a bundle's first certificate is bytes. Its call does nothing.

@@ -1,5 +1,8 @@
-use Rattle.sig_checked_bundle.proofs.LoggedEnvelopes.{envelopes_are_logged}
+use Rattle.sig_checked_bundle.proofs.LoggedBodies.{checked_artifacts, checked_envelopes}
 use Rattle.sig_checked_bundle.proofs.laws.log_bodies.Goals as goal
 
-pub returns : goal.returns
-returns c = envelopes_are_logged
+pub returns-clause-artifacts : goal.returns-clause-artifacts
+returns-clause-artifacts c = checked_artifacts
+
+pub returns-clause-envelopes : goal.returns-clause-envelopes
+returns-clause-envelopes c = checked_envelopes
