@@ -16,7 +16,7 @@ use Rattle.std.proofs.lemmas.Result.{IfOk-weaker}
 use Rattle.sig_program.proofs.Included.{every-included}
 use Rattle.sig_program.proofs.Replies.{every-of_text, every-reply, first-of_text, first-reply, replied}
 use Rattle.sig_request.proofs.RequestTexts.{one_request}
-use Rattle.sig_program.specs.Reply.{IsEntryIn, IsRefusalReply, IsReply, IsVerifiedReply, refusal_reply}
+use Rattle.sig_program.specs.Reply.{IsEntryIn, IsReply, IsVerifiedReply, refusal_reply}
 use Rattle.sig_program.specs.ProofOf.{IsProofOf}
 use Rattle.sig_program.specs.VerifyLink.{HoldsOfVerify, inputs, outside, verify_links}
 use Rattle.sig_request.specs.VerifyRequest.{verify_request}
@@ -87,10 +87,8 @@ module _ (text : List ℕ) (request : VerifyRequest) (r : Result Reply OutOfMemo
       IfOk-weaker r (IsVerifiedReply request offline) (IsReply Verify text)
       (λ reply. verified-reply text request offline reply is (chain_held request offline chain) kept) made
 
-  pub refused-verify-replied : (error : OfflineError) (link : Option Link) → link ≡ link_of error
-      → IfOk r (IsRefusalReply link) → IsChainOf request (Err error) → IfOk r (IsReply Verify text)
-  refused-verify-replied error None named made chain =
-      IfOk-weaker r (λ reply. ⊥) (IsReply Verify text) (λ reply. absurd) made
-  refused-verify-replied error (Some link) named made chain =
-      replied Verify text (refusal_reply link) r made (refused-verify text request error link is (sym named)
-      (chain_failed request error link (sym named) chain))
+  pub refused-verify-replied : (error : OfflineError) (link : Link) → link_of error ≡ Some link
+      → IfOk r (λ reply. reply ≡ refusal_reply link) → IsChainOf request (Err error) → IfOk r (IsReply Verify text)
+  refused-verify-replied error link named made chain =
+      replied Verify text (refusal_reply link) r made (refused-verify text request error link is named
+      (chain_failed request error link named chain))

@@ -47,11 +47,6 @@ status_of other = 1
 abbrev pub refusal_reply : Link → Reply
 refusal_reply link = refusal (status_of link) (link_name link)
 
--- for private clauses: the reply where this link, if there is one, is the first that fails
-abbrev pub IsRefusalReply : Option Link → Reply → Type 0
-IsRefusalReply None reply = ⊥
-IsRefusalReply (Some link) reply = reply ≡ refusal_reply link
-
 -- the reply where every link holds: the index and the size of the inclusion proof, and the second line
 abbrev pub success : List ℕ → InclusionProof → List ℕ → Reply
 success word proof second = record {

@@ -8,7 +8,7 @@ ghost use Rattle.sig_program.specs.Invocation.{HasCount, IsDemo, IsInvocation};
 ghost use Rattle.sig_request.specs.Limit.{most_bytes};
 ghost use Rattle.sig_program.specs.GivenBack.{ListsAreGivenBack};
 ghost use Rattle.sig_program.specs.Reply.{IsReply};
-ghost use Rattle.sig_program.specs.Run.{IsReplyOf, RepliesTo, Answered, ReadFaulted, WriteFaulted, HandsRests, WritesRests};
+ghost use Rattle.sig_program.specs.Run.{IsReplyOf, Answered, ReadFaulted, WriteFaulted, HandsRests, WritesRests};
 ghost use Rattle.sig_program.specs.Run.{AppendsFront, usage_line};
 ghost use Rattle.sig_program.specs.Status.{usage_status, memory_status, fault_status};
 ghost use Rattle.sig_program.specs.Suffice.{ConsistencyQuestionsSuffice, LogQuestionsSuffice, VerifyQuestionsSuffice};
@@ -149,7 +149,8 @@ pub fn run<S: Source, K: Sink>(alloc: Global, words: &[Text], source: &mut S, si
     }
 }
 
-/// Returns the reply to what is asked for. For `demo` nothing is read.
+/// Returns the reply to what is asked for: a command's to the request that the source has left. For `demo` nothing is
+/// read.
 #[tactic(auto, using(crate::proofs::Runs::runs))]
 fn reply_for<S: Source>(
     alloc: Global,
@@ -164,24 +165,13 @@ fn reply_for<S: Source>(
     ensures later { S.faults source.old ≤ S.faults source.new }
 {
     match invocation {
-        Invocation::Reply(command) => reply_to(alloc, command, source),
+        Invocation::Reply(command) => match read_request(alloc, source) {
+            Ok(text) => Ok(reply_of(alloc, command, text.as_slice())?),
+            Err(ReadFault::TooLong) => Ok(refused(alloc, Link::Request)?),
+            Err(ReadFault::Failed) => Err(NoReply::Failed),
+            Err(ReadFault::OutOfMemory) => Err(NoReply::OutOfMemory),
+        },
         Invocation::Demo(count) => Ok(demo(alloc, count)?),
-    }
-}
-
-/// Returns the command's reply to the request that the source has left.
-#[tactic(auto, using(crate::proofs::Runs::runs))]
-fn reply_to<S: Source>(alloc: Global, command: Command, source: &mut S) -> Result<Reply, NoReply>
-    ensures ok { IfOk result (RepliesTo command (S.left source.old) (S.left source.new)) }
-    ensures failed { IsErrOf result NoReply.Failed → Rose (S.faults source.old) (S.faults source.new) }
-    ensures most { TookAtMost (most_bytes + 1) (S.left source.old) (S.left source.new) }
-    ensures later { S.faults source.old ≤ S.faults source.new }
-{
-    match read_request(alloc, source) {
-        Ok(text) => Ok(reply_of(alloc, command, text.as_slice())?),
-        Err(ReadFault::TooLong) => Ok(refused(alloc, Link::Request)?),
-        Err(ReadFault::Failed) => Err(NoReply::Failed),
-        Err(ReadFault::OutOfMemory) => Err(NoReply::OutOfMemory),
     }
 }
 

@@ -4,7 +4,7 @@ ghost use Rattle.sig_base.specs.Answers.{UnlessMemory};
 ghost use Rattle.sig_verify.specs.Judged.{Judged};
 ghost use Rattle.sig_verify.specs.Links.{chain_links};
 ghost use Rattle.sig_program.specs.Link.{EveryLinkHolds};
-ghost use Rattle.sig_program.specs.Reply.{IsEntryIn, IsRefusalReply, IsReply, IsVerifiedReply};
+ghost use Rattle.sig_program.specs.Reply.{IsEntryIn, IsReply, IsVerifiedReply};
 ghost use Rattle.sig_program.specs.ProofOf.{IsProofOf};
 ghost use Rattle.sig_program.specs.VerifyLink.{HoldsOfVerify, IsTrusted};
 ghost use Rattle.sig_program.specs.declared.command.Command.TheVariants.{Verify};
@@ -28,13 +28,6 @@ pub fn verify_reply(alloc: Global, request: &[u8]) -> Result<Reply, OutOfMemory>
     ensures reply { IfOk result (IsReply Verify request.now) }
     ensures chain { EveryLinkHolds Verify request.now ↔ IsTrusted request.now }
 {
-    reply_to_text(alloc, request)
-}
-
-/// The reply to a request's text.
-fn reply_to_text(alloc: Global, request: &[u8]) -> Result<Reply, OutOfMemory>
-    ensures { IfOk result (IsReply Verify request.now) }
-{
     let Some(request) = VerifyRequest::read(alloc, request)? else {
         return refused(alloc, Link::Request);
     };
@@ -57,18 +50,12 @@ fn reply_to(alloc: Global, request: &VerifyRequest) -> Result<Reply, OutOfMemory
         Err(error) => {
             let link = error.link();
             drop(error);
-            refused_reply(alloc, link)
+            match link {
+                Some(link) => refused(alloc, link),
+                // The error of no link is that memory ran out.
+                None => Err(OutOfMemory),
+            }
         }
-    }
-}
-
-/// The reply where this link of the chain of trust is the first that fails; without one memory ran out.
-fn refused_reply(alloc: Global, link: Option<Link>) -> Result<Reply, OutOfMemory>
-    ensures { IfOk result (IsRefusalReply link) }
-{
-    match link {
-        Some(link) => refused(alloc, link),
-        None => Err(OutOfMemory),
     }
 }
 
