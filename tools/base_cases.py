@@ -13,6 +13,7 @@ import consistency_cases
 import key_rows
 from case_table import Table, hexed
 from consistency_cases import cut, leaf_hash, node_hash, proof_len, tree_hash
+from schemes import SCHEMES, SIZED
 
 TABLE = Table("base_cases")
 case, note = TABLE.case, TABLE.note
@@ -34,9 +35,6 @@ BASE64 = [(b"", b""), (b"Zg==", b"f"), (b"Zm8=", b"fo"), (b"Zm9v", b"foo"), (b"Z
 # padding that is missing, short or too much, stray bits, line ends, spaces, other letters, and the URL alphabet
 NO_BASE64 = [b"Z", b"Zg", b"Zg=", b"Zm8", b"Zm9v====", b"Zg==Zg==", b"=", b"Zh==", b"Zm9=", b"Zm9v\n", b"Zm9v\nZm9v", b"Zg==\n", b" Zm9v",
              "Zm9v\xe9".encode(), b"w7_Dvg==", b"4pi-"]
-
-SCHEMES = [("RSA_PSS_SHA256", True), ("RSA_PKCS1_SHA256", True), ("ECDSA_P256_SHA256_ASN1", False), ("ECDSA_P384_SHA384_ASN1", False),
-           ("ECDSA_P521_SHA512_ASN1", False), ("ED25519", False)]
 
 ERRORS = [
     ('OutOfMemory', ['OutOfMemory']),
@@ -73,8 +71,8 @@ def base():
     case("root_hex 0f" + "a0" * 31, "ok 0f" + "a0" * 31)
     case("root_hex " + bytes(range(224, 256)).hex(), "ok " + bytes(range(224, 256)).hex())
     note("scheme TEXT: the scheme that a text names, and its name")
-    for name, sized in SCHEMES:
-        case(f"scheme {name}", f"ok {name}{'(2048)' if sized else ''} {name}")
+    for name in SCHEMES:
+        case(f"scheme {name}", f"ok {name}{'(2048)' if name in SIZED else ''} {name}")
     for name in ["-", "ED2551", "ED255199", "ed25519", "ECDSA_P256_SHA256_ASN2", "RSA_PSS_SHA256%20", "%20RSA_PSS_SHA256"]:
         case(f"scheme {name}", "UnknownScheme")
     note("equal ONE OTHER: whether two texts are equal, and whether their bytes are")
@@ -439,7 +437,7 @@ def main():
         note(text)
         for call, result in rows:
             case(call, result)
-    key_rows.rows(TABLE, [name for name, _ in SCHEMES])
+    key_rows.rows(TABLE, SCHEMES)
     TABLE.write()
 
 

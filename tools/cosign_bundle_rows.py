@@ -6,6 +6,7 @@ from types import SimpleNamespace
 import cosign_bundles as bundles
 import cosign_layers as layers
 import fixture
+import schemes
 from cosign_layer_rows import ANCHOR, LEAF, NOW, REFERENCE, TIME, flat, keys_words, leaf_row, pool_words, row, trust
 from fixture import DIGEST, SCHEME, base64_of
 from json_documents import compact
@@ -213,7 +214,7 @@ def signer_rows(table, payloads):
 def log_rows(table, payloads):
     say = lambda *changes, **parts: bundle_row(table, payloads, Made(held=changes, **parts))
     table.note("Keys of other schemes; log ids of other lengths; names of keys in upper case; three hundred keys.")
-    for scheme in ("RSA_PSS_SHA256", "RSA_PKCS1_SHA256", "ECDSA_P384_SHA384_ASN1", "ECDSA_P521_SHA512_ASN1", "ED25519"):
+    for scheme in schemes.others(SCHEME):
         keys = {LOG: (scheme, b"key")}
         bundle_row(table, payloads, Made(log_scheme=scheme, log_key=b"key", told=[setting(lambda made: made.trust.__dict__, "keys", keys)]))
         bundle_row(table, payloads, Made(told=[setting(lambda made: made.trust.__dict__, "keys", {LOG: (scheme, fixture.key(4))})]))

@@ -18,6 +18,7 @@ import cosign_layer_rows
 import cosign_manifest_rows
 import fixture
 import json_documents as documents
+import schemes
 from case_table import Table
 from json_documents import compact
 from rekor_cases import debug, quoted
@@ -314,7 +315,7 @@ def promises():
     for other in (signed(tree(), key=fixture.key(3)), signed(tree(), scheme="ED25519"), signed(tree(logIndex=901)), signed(tree(), signature=b"sig-sex"),
                   signed(tree(logIndex=901)) + rows):
         promise(compact(tree()), KEYS, other)
-    for scheme in ("RSA_PSS_SHA256", "RSA_PKCS1_SHA256", "ECDSA_P384_SHA384_ASN1", "ECDSA_P521_SHA512_ASN1", "ED25519"):
+    for scheme in schemes.others(fixture.SCHEME):
         promise(compact(tree()), {LOG: (scheme, b"key")}, signed(tree(), key=b"key", scheme=scheme))
     say("Log ids are compared byte for byte; the key of an empty one, and of one that has no key.")
     for log in ("", "4" * 63, "44" * 32 + "0", "AB" * 32, "ab" * 32, "\u00e9"):

@@ -15,11 +15,11 @@ import types
 
 TOP = pathlib.Path(__file__).resolve().parent.parent
 sys.dont_write_bytecode = True
+from schemes import UNSIZED_FIRST as SCHEMES
+
 SPEC = importlib.util.spec_from_file_location("rekor_cases", TOP / "tools/rekor_cases.py")
 rekor = importlib.util.module_from_spec(SPEC)
 SPEC.loader.exec_module(rekor)
-
-SCHEMES = ("ECDSA_P256_SHA256_ASN1", "ECDSA_P384_SHA384_ASN1", "ECDSA_P521_SHA512_ASN1", "ED25519", "RSA_PSS_SHA256", "RSA_PKCS1_SHA256")
 
 
 class NoRequest(Exception):

@@ -3,6 +3,7 @@ import itertools
 
 import fixture
 from fixture import compact
+from schemes import UNSIZED_FIRST
 from verify_cases import ABSENT, ANCHOR, AUTHORITY, CHECKPOINT, ENTRY, MATERIAL, PROOF, bundle, request, root, row, text_row
 
 # The smallest request, and its reply: no authority.
@@ -121,7 +122,7 @@ def rows():
     small("accepted: null", READ, accepted=None)
     for value in ({}, "x", [None], [[]], ["x"], [{}]):
         small("accepted: %s" % compact(value), UNREAD, accepted=value)
-    for name in ("ECDSA_P256_SHA256_ASN1", "ECDSA_P384_SHA384_ASN1", "ECDSA_P521_SHA512_ASN1", "ED25519", "RSA_PSS_SHA256", "RSA_PKCS1_SHA256"):
+    for name in UNSIZED_FIRST:
         accepted_row("a message under %s" % name, READ, scheme=name)
     for name, changed in [("a digest", dict(operation="prehash")), ("a point", dict(operation="point", scheme=ABSENT)),
                           ("a point, null for the scheme", dict(operation="point", scheme=None)), ("a certificate",

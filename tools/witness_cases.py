@@ -23,9 +23,9 @@ import consistency_cases as trees
 from case_table import Table, hexed
 from consistency_cases import EMPTY, flipped, joined, subproof
 from rekor_cases import quoted
+from schemes import SCHEMES
 
 TABLE = Table("witness_cases")
-SCHEMES = ("RSA_PSS_SHA256", "RSA_PKCS1_SHA256", "ECDSA_P256_SHA256_ASN1", "ECDSA_P384_SHA384_ASN1", "ECDSA_P521_SHA512_ASN1", "ED25519")
 SCHEME, KEY, SIGNATURE, ORIGIN = SCHEMES[2], b"key", b"s", "log.example"
 OTHER = bytes([7] * 32)
 MOST, MOST_HEADS = 2 ** 64 - 1, 4096
