@@ -94,6 +94,7 @@ pub fn read_attestation<C: SignatureChecker>(
         (attestation_answer (C.spki_accepts checker.now) (option_map (λ k. k.now) rekor_pub_keys.entry)
         source_image_digest.now bundle.now) }
 {
+    // Which members an inclusion proof has, and what is refused of others.
     proofs();
     proof_faults();
     attested_by_text(alloc, bundle, source_image_digest, rekor_pub_keys, checker)

@@ -28,6 +28,7 @@ pub fn audit_questions(alloc: Global, request: &[u8]) -> Result<Reply, OutOfMemo
     ensures suffice { AuditQuestionsSuffice }
     ensures given_back { AuditListsAreGivenBack }
 {
+    // Why the list suffices, and fits one request with the request.
     audit_lists();
     reply_to_text(alloc, request)
 }

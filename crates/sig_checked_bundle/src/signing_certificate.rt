@@ -107,6 +107,7 @@ fn judged(
 fn chain_of(alloc: Global, ders: &[Bytes]) -> Result<SigningChain, BundleErrorKind>
     ensures { AnswersOnly BundleErrorKind.OutOfMemory (IsLeafOf ders.now) result }
 {
+    // Bytes are at most one certificate.
     certificates();
     let Some((first, others)) = ders.split_first() else {
         return Err(BundleErrorKind::CertificatesMissing);

@@ -42,6 +42,7 @@ fn check_ders<C: SignatureChecker>(
 ) -> Result<()>
     ensures { IsChainResult (C.cert_accepts checker.now) (Some ders.now) certificate.now now result }
 {
+    // Bytes are at most one certificate.
     certificates();
     let none = Entries::new(alloc);
     match CertificatePool::from_certificates(alloc, ders, &none) {

@@ -122,6 +122,7 @@ fn certified<C: SignatureChecker>(
 ) -> Result<(Certificate, CosignVerificationKey)>
     ensures { IsCertifiedResult (C.cert_accepts checker.now) der.now (option_copied chain.entry) now result }
 {
+    // Bytes are at most one certificate.
     certificates();
     let certificate = read_certificate(alloc, der)?;
     let key = certified_key(alloc, &certificate, chain, now, checker)?;

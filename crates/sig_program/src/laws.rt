@@ -24,6 +24,7 @@ pub fn lists()
         × ListsAreGivenBack ConsistencyQuestions × ListsAreGivenBack AuditQuestions
         × ListsAreGivenBack WitnessQuestions }
 {
+    // The same of `audit` and of `witness`, and what the questions of `verify` decide.
     audit_lists();
     witness_lists();
     questions_suffice();

@@ -138,6 +138,7 @@ pub fn run<S: Source, K: Sink>(alloc: Global, words: &[Text], source: &mut S, si
         × ListsAreGivenBack ConsistencyQuestions × ListsAreGivenBack AuditQuestions
         × ListsAreGivenBack WitnessQuestions }
 {
+    // Why the lists of `questions` suffice, and can be given back.
     lists();
     let Some(invocation) = Invocation::asked(words) else {
         return finish(sink, USAGE, USAGE_LINE.as_bytes());

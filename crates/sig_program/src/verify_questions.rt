@@ -39,6 +39,7 @@ pub fn verify_questions(alloc: Global, request: &[u8]) -> Result<Reply, OutOfMem
     ensures suffice { VerifyQuestionsSuffice }
     ensures refusals { RefusesForAll }
 {
+    // Why the list suffices, and what its refusals say of `verify`.
     lists();
     reply_to_text(alloc, request)
 }
@@ -60,6 +61,7 @@ fn reply_to(alloc: Global, text: &[u8], request: &VerifyRequest) -> Result<Reply
     requires { IsRequestOf verify_request text.now request.now }
     ensures { IfOk result (IsReply VerifyQuestions text.now) }
 {
+    // There is one list, of so few questions that its bytes can be counted, each of a scheme that has a name.
     one_list();
     few();
     schemes();

@@ -10,6 +10,7 @@ pub(crate) fn is_read_certificate(bundle: &CheckedBundle)
     ensures { IsReadCertificate bundle.now }
 {
     let certificate = bundle.certificate();
+    // What was read of a certificate is of its DER, which is bytes.
     certificate.is_certificate();
     are_bytes(certificate.der());
 }

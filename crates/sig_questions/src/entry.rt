@@ -33,6 +33,7 @@ pub(crate) fn push_entry(
     ensures written { AddsRows rows.old (entry_questions keys.now entry.now) result rows.new }
     ensures bytes { OnOk result (IsOfBytes keys.now entry.now) }
 {
+    // Body and log id are bytes, so that they are read back from the promise.
     are_owned_bytes(&entry.canonicalized_body);
     are_optional_bytes(&entry.log_id);
     let Some(id) = &entry.log_id else {
@@ -41,6 +42,7 @@ pub(crate) fn push_entry(
     let name = Text::from(hex::encode(alloc, id.as_slice())?);
     match keys.get(name.as_str()) {
         Some(spki) => {
+            // So is the key.
             are_bytes(spki);
             push_under(rows, alloc, entry, spki)
         }

@@ -52,6 +52,7 @@ pub(crate) fn check_front(
     ensures { IsFrontTold (record { root = root_text.now; now = now; digest = digest.now; bundle = bundle_text.now })
         result }
 {
+    // What the result says of the links, of texts whose certificate and log entry are bytes.
     outcomes();
     is_certificate_bytes(bundle);
     is_entry_bytes(bundle);

@@ -11,6 +11,7 @@ use sig_certificate::laws::certificates;
 pub fn questions_suffice()
     ensures { QuestionsSuffice }
 {
+    // Bytes are at most one certificate.
     certificates();
 }
 
@@ -20,6 +21,7 @@ pub fn questions_suffice()
 pub fn each_matters()
     ensures { EachQuestionMatters }
 {
+    // Bytes are at most one certificate.
     certificates();
 }
 
@@ -30,6 +32,7 @@ pub fn each_matters()
 pub fn issuer_rests()
     ensures { IssuerRestsOnSteps }
 {
+    // Bytes are at most one certificate.
     certificates();
 }
 
@@ -37,6 +40,7 @@ pub fn issuer_rests()
 pub fn one_list()
     ensures { QuestionsAreOneList }
 {
+    // Bytes are at most one certificate.
     certificates();
 }
 
@@ -61,5 +65,6 @@ pub fn refusals()
 pub(crate) fn listed_texts()
     ensures { ListedTextsAreAnswered }
 {
+    // Bytes are at most one certificate.
     certificates();
 }

@@ -133,6 +133,7 @@ pub fn questions(
     ensures decided { IsDecided
         (record { root = trusted_root.now; now = now; digest = digest.now; bundle = bundle.now }) most result }
 {
+    // The signatures that are asked for decide which links hold.
     questions_suffice();
     list_text(alloc, trusted_root, now, digest, bundle, most)
 }
@@ -151,6 +152,7 @@ fn list_text(
 {
     match read_trusted_root(alloc, trusted_root) {
         Ok(root) => {
+            // The keys of logs are bytes.
             are_log_key_bytes(root.tlogs.as_slice());
             let root = SigstoreTrustRoot::of(root);
             list_bundle(alloc, trusted_root, &root, now, digest, bundle, most)
@@ -197,6 +199,7 @@ fn list_read(
     ensures { IsAnswered (record { root = root_text.now; now = now; digest = digest.now; bundle = bundle_text.now })
         most result }
 {
+    // What is listed of texts that were read is the answer to them.
     listed_texts();
     match check_front(alloc, root_text, bundle_text, root, now, digest, bundle) {
         Ok(()) => list_checked(alloc, root, now, digest, bundle, most),
@@ -219,6 +222,7 @@ fn list_checked(
     ensures { UnlessMemory NoQuestions.OutOfMemory result (AreListedOf root.now now digest.now bundle.now most
         result) }
 {
+    // What a bundle has that passes its own checks.
     passed_bundles();
     let trust = read_trust(alloc, root, now)?;
     match CheckedBundle::try_from_bundle(alloc, bundle) {

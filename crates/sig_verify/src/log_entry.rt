@@ -54,6 +54,8 @@ pub fn verify_log_entry<C: SignatureChecker>(
     ensures answer { Answers OfflineError.OutOfMemory (λ offline. offline) result
         (log_entry_answer (C.spki_accepts checker.now) log_keys.now entry.now) }
 {
+    // Which members an inclusion proof has, and what is refused of others. Body and log id
+    // are bytes, which the promise holds.
     proofs();
     proof_faults();
     are_owned_bytes(&entry.canonicalized_body);
@@ -116,6 +118,7 @@ fn log_key(
     let Some(der) = log_keys.get(name.as_str()) else {
         return Err(OfflineError::RekorPublicKeyNotFoundError(name));
     };
+    // The key is bytes.
     are_bytes(der);
     match CosignVerificationKey::try_from_der(alloc, der) {
         Ok(key) => Ok(key),

@@ -60,6 +60,7 @@ impl Verifier {
             self.now (policy_of P.VerificationPolicy policy.now)
             input_digest.now offline bundle.now result) }
     {
+        // What the steps say of the links, of a bundle whose certificate is bytes, and is the only one of these.
         certificates();
         passed_bundles();
         bundles();

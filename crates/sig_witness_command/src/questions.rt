@@ -28,6 +28,7 @@ pub fn witness_questions(alloc: Global, request: &[u8]) -> Result<Reply, OutOfMe
     ensures suffice { WitnessQuestionsSuffice }
     ensures given_back { WitnessListsAreGivenBack }
 {
+    // Why the list suffices, and fits one request with the request.
     witness_lists();
     reply_to_text(alloc, request)
 }
