@@ -15,7 +15,7 @@ ghost use Rattle.sig_x509.specs.declared.issuer.Issuer.{Issuer};
 use crate::asked::asked_of;
 use crate::issuance::is_unconstrained;
 use crate::issuer::Issuer;
-use sig_base::{Entries, OutOfMemory, PoolError, OwnedList, SignatureChecker, Steps};
+use sig_base::{Entries, OutOfMemory, OwnedList, PoolError, SignatureChecker, Steps};
 use sig_certificate::{Certificate, X509ReadError};
 use std::alloc::Global;
 use std::marker::Model;
