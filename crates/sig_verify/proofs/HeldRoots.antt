@@ -1,5 +1,5 @@
 -- What is held of a trusted root, and what each group of links says of the chain under it.
-use Rattle.std.proofs.Common.{◌≡◌, ℕ, ℤ, true, List, Option, Some, None, Result, Ok, Err, inl, inr, ap, sym, subst, ◌∙◌}
+use Rattle.std.proofs.Common.{◌≡◌, ℕ, ℤ, true, false, List, Option, Some, None, Result, Ok, Err, inl, inr, ap, sym, subst, ◌∙◌}
 use Rattle.std.specs.Prelude.{◌⊎◌, ◌++◌, IsSome, is_some}
 use Rattle.std.specs.List.{AllByRecursion}
 use Rattle.sig_bundle.specs.LogEntries.{only_entry}
@@ -101,8 +101,9 @@ pub entry_there : (k : Checker) (policy : PolicyOf) (trust : Given) (d : Artifac
     → only_entry_of b ≡ None → ⊥
 entry_there k policy trust d b done (inl memory) none = let wrong = memory in cc
 entry_there k policy trust d b done (inr hold) none =
-    let there = one_there b (at_entry (HoldsOfVerified k policy trust d true b) certificate_links hold) in
-    let absent = ap is_some none in cc
+    let there : is_some (only_entry_of b) ≡ true =
+    one_there b (at_entry (HoldsOfVerified k policy trust d true b) certificate_links hold) in
+    let absent : is_some (only_entry_of b) ≡ false = ap is_some none in cc
 
 -- an error of a link is not a fault of an artifact's input
 pub named_link : (k : Checker) (policy : PolicyOf) (trust : Given) (d : ArtifactDigest) (b : BundleType)
