@@ -4,3 +4,5 @@ mod KindEquality
 mod EntryEquality
 mod ProposedEquality
 pub mod Refusals
+mod EntryMembers
+mod WrittenMembers

@@ -9,3 +9,4 @@ pub mod HashedrekordTree
 pub mod ProposedTree
 pub mod Consistency
 pub mod Refusals
+pub mod EntryMembers

@@ -6,6 +6,7 @@ ghost use Rattle.sig_base.specs.declared.unexpected.UnexpectedKind.TheVariants.{
 ghost use Rattle.sig_rekor.specs.HashFaults.{IsHashFault};
 ghost use Rattle.sig_rekor_models.specs.Body.{seen_body, seen_body_content};
 ghost use Rattle.sig_rekor_models.specs.Consistency.{consistency_proof_from_rekor, head_answer};
+ghost use Rattle.sig_rekor_models.specs.EntryMembers.{BodiesAreWritten, EntriesAreRead, HashedrekordsAreWritten};
 ghost use Rattle.sig_rekor_models.specs.HashedrekordTree.{algorithm_name};
 ghost use Rattle.sig_rekor_models.specs.Inclusion.{entry_answer};
 ghost use Rattle.sig_rekor_models.specs.LogEntry.{LogEntry as Entry, seen_entry};
@@ -185,6 +186,16 @@ pub fn default_algorithm() -> AlgorithmKind
 {
     AlgorithmKind::default()
 }
+
+/// A text is read as a log entry if and only if it is a document of the entry's members, each under its name, and of no
+/// others. The JSON of a body, and of an entry to propose, has the members `apiVersion`, `kind` and `spec` alone, each
+/// with its value; and of a `hashedrekord` the spec has `data.hash.algorithm`, `data.hash.value`, `signature.content` and
+/// `signature.publicKey.content` alone. It has no code.
+pub fn entry_members()
+    ensures read { EntriesAreRead }
+    ensures bodies { BodiesAreWritten }
+    ensures hashedrekords { HashedrekordsAreWritten }
+{}
 
 /// Each error of a log entry's check comes if and only if the rules before its own hold and its own does not: it has an
 /// inclusion proof; that is one of hashes and a checkpoint; the body has a canonical text; and those of the proof's own

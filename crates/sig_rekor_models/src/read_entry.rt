@@ -224,7 +224,8 @@ impl LogEntry {
     /// `signedEntryTimestamp` and an optional `inclusionProof`, of `hashes` (a list of texts), `logIndex`, `rootHash`
     /// (a text), `treeSize` (a number from 0 to 2^64 - 1) and `checkpoint` (a text); `uuid` a text or absent;
     /// `attestation` an object with an optional text `dummy`, or absent. Null means absent, but not inside a list. The
-    /// entry itself may have no other members; those of the objects in it are ignored.
+    /// entry itself may have no other members; those of the objects in it are ignored. `laws::entry_members` says it
+    /// member by member.
     #[tactic(auto, unfolding(crate::specs::LogEntry::entry_in))]
     pub fn from_json_text(alloc: Global, text: &str) -> sig_base::Result<LogEntry>
         ensures { Answers Memory seen_entry result (entry_or_error text.now) }
