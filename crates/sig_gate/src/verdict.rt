@@ -1,0 +1,28 @@
+//! `Verdict`: what a gate finds of an artifact and of each of its bundles.
+
+use sig_base::OwnedList;
+use sig_verify::{Link, Offline};
+
+/// What is found of a bundle.
+#[derive(Drop)]
+pub enum BundleVerdict {
+    /// Every link of the chain of trust holds; this is the bundle's log entry, with its proof.
+    Verified(Offline),
+    /// This link of the chain of trust is the first that fails.
+    Refused(Link),
+}
+
+/// Verdicts on bundles in order.
+pub type BundleVerdicts = OwnedList<BundleVerdict>;
+
+/// What is found of an artifact.
+#[derive(Drop)]
+pub struct Verdict {
+    /// Whether it is admitted: some bundle of it is verified, and its rule holds of those that are.
+    pub admitted: bool,
+    /// What is found of each of its bundles, in order.
+    pub bundles: BundleVerdicts,
+}
+
+/// Verdicts on artifacts in order.
+pub type Verdicts = OwnedList<Verdict>;
