@@ -1,3 +1,12 @@
 pub mod Walking
-pub mod Holding
+pub mod RuleLists
 pub mod Lines
+pub mod DifferentTexts
+pub mod Sorted
+pub mod Counting
+pub mod Meanings
+pub mod Found
+pub mod HeldNames
+pub mod VerifiedEntries
+pub mod Zips
+pub mod VerdictLaws

@@ -1,12 +1,11 @@
 -- *Gate*: which artifacts of a manifest are admitted, and what is found of each bundle.
-use Rattle.std.specs.Prelude.{◌≡◌, ◌≢◌, ◌⊎◌, ◌↔◌, ℕ, Bool, true, List, [], ◌∷◌, Some}
+use Rattle.std.specs.Prelude.{◌≡◌, ◌⊎◌, ◌↔◌, ℕ, Bool, true, List, [], ◌∷◌, Some}
 use Rattle.std.specs.List.{AllZip}
 use Rattle.sig_base.specs.ByText.{text_lookup}
 use Rattle.sig_gate.specs.BundleVerdict.{IsBundleVerdict, inputs, outside}
-use Rattle.sig_gate.specs.RuleHolds.{Holds}
+use Rattle.sig_gate.specs.RuleHolds.{IsAdmitted}
 use Rattle.sig_gate.specs.declared.verdict.Verdict.{Verdict}
 use Rattle.sig_manifest.specs.Artifact.{Asked}
-use Rattle.sig_manifest.specs.Formula.{Formula}
 use Rattle.sig_manifest.specs.Manifest.{Gate}
 use Rattle.sig_policy.specs.declared.request.RequestPolicy.{RequestPolicy}
 use Rattle.sig_verify.specs.LinkLaws.{IsKept}
@@ -37,10 +36,6 @@ AreVerified k gate x (bundle ∷ later) entries =
     × ((entry : LoggedEntry) × (others : List LoggedEntry) × (entries ≡ entry ∷ others)
     × IsEntryOf k gate x bundle entry × AreVerified k gate x later others))
     ⊎ ((¬ IsVerified k gate x bundle) × AreVerified k gate x later entries)
-
--- some bundle is verified, and the rule holds of those that are
-abbrev pub IsAdmitted : Formula → List LoggedEntry → Type 0
-IsAdmitted rule entries = (entries ≢ []) × Holds entries rule
 
 -- whether an artifact is admitted
 pub record IsDecided (k : Checker) (gate : Gate) (x : Asked) (admitted : Bool) : Type 0 where

@@ -1,5 +1,5 @@
 -- *Rule holds*: a rule holds of the log entries of an artifact's verified bundles.
-use Rattle.std.specs.Prelude.{◌≡◌, ◌≤◌, ◌⊎◌, ℕ, List, [], ◌∷◌, length, map, Contains, Some}
+use Rattle.std.specs.Prelude.{◌≡◌, ◌≢◌, ◌≤◌, ◌⊎◌, ℕ, List, [], ◌∷◌, length, map, Contains, Some}
 use Rattle.std.specs.List.{AllByRecursion}
 use Rattle.sig_manifest.specs.Formula.{Formula, Formulas, at_least, with_origin, with_size, all_of, any_of, not_so}
 use Rattle.sig_manifest.specs.Formula.{no_formula, formula}
@@ -54,3 +54,7 @@ module _ (entries : List LoggedEntry) where
     pub OneHolds : Formulas → Type 0
     OneHolds no_formula = ⊥
     OneHolds (formula rule rules) = Holds rule ⊎ OneHolds rules
+
+-- some bundle is verified, and the rule holds of those that are
+abbrev pub IsAdmitted : Formula → List LoggedEntry → Type 0
+IsAdmitted rule entries = (entries ≢ []) × Holds entries rule

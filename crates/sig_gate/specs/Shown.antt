@@ -1,6 +1,6 @@
 -- For private clauses: what of the verified bundles a rule is asked of.
 use Rattle.std.specs.Prelude.{◌≡◌, ◌≤◌, ◌↔◌, ℕ, Bool, true, false, ◌&&◌, ◌||◌, not, List, [], ◌∷◌, Option, Some, None}
-use Rattle.std.specs.Prelude.{bytes_eq, if◌then◌else◌, nat_lt}
+use Rattle.std.specs.Prelude.{bytes_eq, if◌then◌else◌, nat_le, nat_lt}
 use Rattle.std.specs.List.{list_any}
 use Rattle.sig_gate.specs.RuleHolds.{HasDifferent}
 use Rattle.sig_gate.specs.declared.verdict.BundleVerdict.{BundleVerdict}
@@ -33,16 +33,18 @@ abbrev pub checkpoint_of_origin : List ℕ → Option SignedCheckpoint → Bool
 checkpoint_of_origin origin None = false
 checkpoint_of_origin origin (Some checkpoint) = bytes_eq checkpoint.note.origin origin
 
-abbrev pub is_of_origin : List ℕ → LoggedEntry → Bool
-is_of_origin origin entry = checkpoint_of_origin origin entry.proof.checkpoint
+-- whether the bundle is verified, and the checkpoint of its proof is of a log of this origin
+abbrev pub shows_origin : List ℕ → BundleVerdict → Bool
+shows_origin origin (Verified entry) = checkpoint_of_origin origin entry.proof.checkpoint
+shows_origin origin (Refused link) = false
 
--- whether a rule holds of entries with so many different log bodies and this largest tree size
-module _ (entries : List LoggedEntry) (different largest : ℕ) where
+-- whether a rule holds of bundles that have so many different log bodies and this largest tree size
+module _ (bundles : List BundleVerdict) (different largest : ℕ) where
   abbrev mutual
     pub holds : Formula → Bool
-    holds (at_least count) = not (nat_lt different count)
-    holds (with_origin origin) = list_any (is_of_origin origin) entries
-    holds (with_size size) = not (nat_lt largest size)
+    holds (at_least count) = nat_le count different
+    holds (with_origin origin) = list_any (shows_origin origin) bundles
+    holds (with_size size) = nat_le size largest
     holds (all_of rules) = each_holds rules
     holds (any_of rules) = one_holds rules
     holds (not_so rule) = not (holds rule)

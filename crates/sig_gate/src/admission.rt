@@ -30,8 +30,8 @@ pub fn gate<C: SignatureChecker>(
     checker: &C,
 ) -> Result<Verdicts, OutOfMemory>
     requires { AreNamed (manifest_view manifest.now) }
-    ensures gate { IfOk result (IsGate (checker_of C.SignatureChecker checker.now) (manifest_view manifest.now)) }
-    ensures count { IfOk result (λ verdicts. length verdicts ≡ length manifest.now.artifacts) }
+    ensures gate { IfOk result (IsGate (checker_of C.SignatureChecker checker.now) (manifest_view manifest.entry.now)) }
+    ensures count { IfOk result (λ verdicts. length verdicts ≡ length manifest.entry.now.artifacts) }
 {
     let mut held = NamedRoots::new(alloc);
     let verdicts = judge_each(alloc, &mut held, manifest, checker);
@@ -48,7 +48,7 @@ fn judge_each<C: SignatureChecker>(
 ) -> Result<Verdicts, OutOfMemory>
     requires named { AreNamed (manifest_view manifest.now) }
     requires held { AreHeld (manifest_view manifest.now) held.old }
-    ensures { IfOk result (IsGate (checker_of C.SignatureChecker checker.now) (manifest_view manifest.now)) }
+    ensures { IfOk result (IsGate (checker_of C.SignatureChecker checker.now) (manifest_view manifest.entry.now)) }
 {
     let mut verdicts = Verdicts::new(alloc);
     'artifacts: for artifact in manifest.artifacts.as_slice() {
@@ -68,9 +68,9 @@ fn judge<C: SignatureChecker>(
 ) -> Result<Verdict, OutOfMemory>
     requires named { IsNamedIn (manifest_view manifest.now) (artifact_view artifact.now) }
     requires held { AreHeld (manifest_view manifest.now) held.old }
-    ensures verdict { IfOk result (IsVerdict (checker_of C.SignatureChecker checker.now) (manifest_view manifest.now)
+    ensures verdict { IfOk result (IsVerdict (checker_of C.SignatureChecker checker.now) (manifest_view manifest.entry.now)
         (artifact_view artifact.now)) }
-    ensures held { OnOk result (AreHeld (manifest_view manifest.now) held.new) }
+    ensures held { OnOk result (AreHeld (manifest_view manifest.entry.now) held.new) }
 {
     let bundles = judge_bundles(alloc, held, manifest, artifact, checker)?;
     let admitted = is_admitted(alloc, &artifact.rule, bundles.as_slice())?;

@@ -1,7 +1,7 @@
 //! Whether an artifact is admitted.
 ghost use Rattle.std.specs.Prelude.{◌≡◌, ◌↔◌, true, [], ◌∷◌, IfOk};
 ghost use Rattle.std.specs.List.{list_any};
-ghost use Rattle.sig_gate.specs.Gate.{IsAdmitted};
+ghost use Rattle.sig_gate.specs.RuleHolds.{IsAdmitted};
 ghost use Rattle.sig_gate.specs.Report.{is_verified};
 ghost use Rattle.sig_gate.specs.Shown.{entries_of, larger, largest_from};
 ghost use Rattle.sig_manifest.specs.Formula.{rule_view};

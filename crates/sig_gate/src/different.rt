@@ -13,7 +13,9 @@ pub(crate) fn count_different(alloc: Global, bundles: &[BundleVerdict]) -> Resul
     ensures { IfOk result (IsDifferentCount (entries_of bundles.now)) }
 {
     let bodies = different_bodies(alloc, bundles)?;
-    Ok(bodies.len())
+    let count = bodies.as_slice().len();
+    drop(bodies);
+    Ok(count)
 }
 
 /// The log bodies of the verified bundles, each once, in byte order. Fails only if out of memory.

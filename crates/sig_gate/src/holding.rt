@@ -1,7 +1,7 @@
 //! Whether a rule holds of the verified bundles of an artifact.
-ghost use Rattle.std.specs.Prelude.{◌≡◌, [], ◌∷◌};
+ghost use Rattle.std.specs.Prelude.{◌≡◌};
 ghost use Rattle.std.specs.List.{list_any};
-ghost use Rattle.sig_gate.specs.Shown.{checkpoint_of_origin, each_holds, entries_of, holds, is_of_origin, one_holds};
+ghost use Rattle.sig_gate.specs.Shown.{checkpoint_of_origin, each_holds, holds, one_holds, shows_origin};
 ghost use Rattle.sig_manifest.specs.Formula.{formulas_of, rule_view, rules_view};
 
 use crate::verdict::BundleVerdict;
@@ -9,6 +9,7 @@ use sig_manifest::{Rule, Rules};
 use sig_rekor::SignedCheckpoint;
 
 /// What of the bundles of an artifact a rule is asked of.
+#[derive(Clone, Copy)]
 pub(crate) struct Shown<'a> {
     /// The verdicts on them.
     pub(crate) bundles: &'a [BundleVerdict],
@@ -20,9 +21,9 @@ pub(crate) struct Shown<'a> {
 
 /// Whether a rule holds.
 #[cycle(holding)]
-#[tactic(auto, using(crate::proofs::Holding::holding, sig_manifest::proofs::RuleViews::views))]
+#[tactic(auto, using(crate::proofs::RuleLists::rule_lists, sig_manifest::proofs::RuleViews::views))]
 pub(crate) fn holds(rule: &Rule, shown: &Shown<'_>) -> bool
-    ensures { result ≡ holds (entries_of shown.now.bundles.now) shown.now.different shown.now.largest (rule_view rule.now) }
+    ensures { result ≡ holds shown.now.bundles.now shown.now.different shown.now.largest (rule_view rule.now) }
 {
     match rule {
         Rule::Least(least) => *least <= shown.different as u64,
@@ -36,9 +37,9 @@ pub(crate) fn holds(rule: &Rule, shown: &Shown<'_>) -> bool
 
 /// Whether each rule of a list holds.
 #[cycle(holding)]
-#[tactic(auto, using(crate::proofs::Holding::holding))]
+#[tactic(auto, using(crate::proofs::RuleLists::rule_lists))]
 fn each_holds(rules: &Rules, shown: &Shown<'_>) -> bool
-    ensures { result ≡ each_holds (entries_of shown.now.bundles.now) shown.now.different shown.now.largest
+    ensures { result ≡ each_holds shown.now.bundles.now shown.now.different shown.now.largest
         (formulas_of (rules_view rules.now)) }
 {
     let list = rules.as_slice();
@@ -52,9 +53,9 @@ fn each_holds(rules: &Rules, shown: &Shown<'_>) -> bool
 
 /// Whether one rule of a list holds.
 #[cycle(holding)]
-#[tactic(auto, using(crate::proofs::Holding::holding))]
+#[tactic(auto, using(crate::proofs::RuleLists::rule_lists))]
 fn one_holds(rules: &Rules, shown: &Shown<'_>) -> bool
-    ensures { result ≡ one_holds (entries_of shown.now.bundles.now) shown.now.different shown.now.largest
+    ensures { result ≡ one_holds shown.now.bundles.now shown.now.different shown.now.largest
         (formulas_of (rules_view rules.now)) }
 {
     let list = rules.as_slice();
@@ -67,25 +68,24 @@ fn one_holds(rules: &Rules, shown: &Shown<'_>) -> bool
 }
 
 /// Whether the proof of a verified bundle has a checkpoint of a log of this origin.
-#[tactic(auto, using(crate::proofs::Walking::origins))]
 fn has_origin(bundles: &[BundleVerdict], origin: &str) -> bool
-    ensures { result ≡ list_any (is_of_origin origin.now) (entries_of bundles.now) }
+    ensures { result ≡ list_any (shows_origin origin.now) bundles.now }
 {
-    bundles.iter().any(|verdict| is_of_origin(verdict, origin))
+    bundles.iter().any(|verdict| shows_origin(verdict, origin))
 }
 
 /// Whether a bundle is verified, and the checkpoint of its proof is of a log of this origin.
-fn is_of_origin(verdict: &BundleVerdict, origin: &str) -> bool
-    ensures { result ≡ list_any (is_of_origin origin.now) (entries_of (verdict.now ∷ [])) }
+fn shows_origin(verdict: &BundleVerdict, origin: &str) -> bool
+    ensures { result ≡ shows_origin origin.now verdict.now }
 {
     match verdict {
-        BundleVerdict::Verified(entry) => has_checkpoint_of(&entry.proof.checkpoint, origin),
+        BundleVerdict::Verified(entry) => is_of_origin(&entry.proof.checkpoint, origin),
         BundleVerdict::Refused(_) => false,
     }
 }
 
 /// Whether there is a checkpoint, of a log of this origin.
-fn has_checkpoint_of(checkpoint: &Option<SignedCheckpoint>, origin: &str) -> bool
+fn is_of_origin(checkpoint: &Option<SignedCheckpoint>, origin: &str) -> bool
     ensures { result ≡ checkpoint_of_origin origin.now checkpoint.now }
 {
     match checkpoint {

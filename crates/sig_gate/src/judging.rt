@@ -33,8 +33,8 @@ pub(crate) fn judge_bundles<C: SignatureChecker>(
     requires named { IsNamedIn (manifest_view manifest.now) (artifact_view artifact.now) }
     requires held { AreHeld (manifest_view manifest.now) held.old }
     ensures verdicts { IfOk result (AllZip (IsBundleVerdict (checker_of C.SignatureChecker checker.now)
-        (manifest_view manifest.now) (artifact_view artifact.now)) artifact.now.bundles) }
-    ensures held { OnOk result (AreHeld (manifest_view manifest.now) held.new) }
+        (manifest_view manifest.entry.now) (artifact_view artifact.now)) artifact.now.bundles) }
+    ensures held { OnOk result (AreHeld (manifest_view manifest.entry.now) held.new) }
 {
     if artifact.bundles.len() == 0 {
         return Ok(BundleVerdicts::new(alloc));
@@ -62,7 +62,7 @@ fn judge_under<C: SignatureChecker>(
     requires root { IsRootNamed (manifest_view manifest.now) artifact.now.root root.now }
     requires policy { text_lookup artifact.now.policy manifest.now.policies ≡ Some policy.now }
     ensures { IfOk result (AllZip (IsBundleVerdict (checker_of C.SignatureChecker checker.now)
-        (manifest_view manifest.now) (artifact_view artifact.now)) artifact.now.bundles) }
+        (manifest_view manifest.entry.now) (artifact_view artifact.now)) artifact.now.bundles) }
 {
     let mut verdicts = BundleVerdicts::new(alloc);
     let bundles = artifact.bundles.as_slice();

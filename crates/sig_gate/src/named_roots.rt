@@ -30,7 +30,7 @@ pub(crate) fn hold_root(
 ) -> Result<(), OutOfMemory>
     requires named { IsSome (text_lookup name.now manifest.now.roots) }
     requires held { AreHeld (manifest_view manifest.now) held.old }
-    ensures held { OnOk result (AreHeld (manifest_view manifest.now) held.new) }
+    ensures held { OnOk result (AreHeld (manifest_view manifest.entry.now) held.new) }
     ensures there { OnOk result (IsSome (text_lookup name.now held.new)) }
 {
     if held.get(name).is_some() {
@@ -43,7 +43,7 @@ pub(crate) fn hold_root(
 /// What is to be held of the trusted root of this name.
 fn read_named(alloc: Global, manifest: &Manifest, name: &str) -> Result<NamedRoot, OutOfMemory>
     requires { IsSome (text_lookup name.now manifest.now.roots) }
-    ensures { IfOk result (IsRootNamed (manifest_view manifest.now) name.now) }
+    ensures { IfOk result (IsRootNamed (manifest_view manifest.entry.now) name.now) }
 {
     let Some(text) = manifest.roots.get(name) else {
         unreachable!()

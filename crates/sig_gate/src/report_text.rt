@@ -26,7 +26,7 @@ use std::alloc::Global;
 /// of how many artifacts how many are admitted. Fails only if out of memory.
 pub fn report(alloc: Global, manifest: &Manifest, verdicts: &Verdicts) -> Result<Text, OutOfMemory>
     requires { length verdicts.now ≡ length manifest.now.artifacts }
-    ensures { IfOk result (λ text. text ≡ report_text (artifacts_view manifest.now.artifacts) verdicts.now) }
+    ensures { IfOk result (λ text. text ≡ report_text (artifacts_view manifest.entry.now.artifacts) verdicts.now) }
 {
     let mut text = String::new(alloc);
     push_artifacts(alloc, &mut text, manifest, verdicts)?;
@@ -51,7 +51,7 @@ fn push_artifacts(
 ) -> Result<(), OutOfMemory>
     requires { length verdicts.now ≡ length manifest.now.artifacts }
     ensures { OnOk result (string_bytes text.new ≡ string_bytes text.old
-        ++ all_lines (artifacts_view manifest.now.artifacts) verdicts.now) }
+        ++ all_lines (artifacts_view manifest.entry.now.artifacts) verdicts.now) }
 {
     let artifacts = manifest.artifacts.as_slice();
     'artifacts: for (place, artifact) in artifacts.iter().enumerate() {
