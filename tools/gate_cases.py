@@ -4,13 +4,14 @@
     tools/gate_cases.py
 
 What comes of a text is said by the second reader of tools/gate_manifests.py. That a text is no manifest for this cause and no other is also stated
-by hand, row by row, but for those by chance.
+by hand, row by row, except for those by chance. The rows of verdicts are in tools/gate_rows.py.
 """
 import random
 import sys
 
 sys.dont_write_bytecode = True
 
+import gate_rows
 from gate_manifests import (ABSENT, MOST_ARTIFACTS, MOST_NAME, POLICY, ROW, RULES, TABLE, artifact, manifest, nested, returned, some_rule, spelled)
 
 
@@ -189,6 +190,7 @@ def main():
     for rows in (members, values, texts, names, counts, unknown, rules, limits):
         rows()
     by_chance(400)
+    gate_rows.add_all()
     TABLE.write()
 
 
