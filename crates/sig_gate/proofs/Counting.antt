@@ -1,5 +1,5 @@
 -- How many different log bodies there are.
-use Rattle.std.proofs.Common.{◌≡◌, ◌≤◌, ◌↔◌, ℕ, Bool, List, length, map, sym, ◌∙◌, arith}
+use Rattle.std.proofs.Common.{◌≡◌, ◌≤◌, ℕ, Bool, List, length, sym, ◌∙◌, arith}
 use Rattle.std.proofs.lemmas.List.{length-map}
 use Rattle.std.specs.List.{list_any}
 use Rattle.sig_base.proofs.SeenTexts.{list_any_seen}
@@ -25,12 +25,12 @@ different-counted entries raws count kept apart is = record {
           different = has.apart;
         }),
         (λ (has : HasDifferent asked entries).
-          let le : asked ≤ length (seen raws) = both.1 (record {
-            some = has.bodies;
-            as_many = has.as_many;
-            among = has.logged;
-            apart = has.different;
-          }) in
-          omega (arith, le, long)),
+            let le : asked ≤ length (seen raws) = both.1 (record {
+              some = has.bodies;
+              as_many = has.as_many;
+              among = has.logged;
+              apart = has.different;
+            }) in
+            omega (arith, le, long)),
       );
 }

@@ -1,6 +1,6 @@
 -- How long lists are of which no two elements are the same, and what is in them.
-use Rattle.std.proofs.Common.{◌≡◌, ◌≢◌, ◌↔◌, ℕ, zero, suc, ◌+◌, ◌≤◌, ◌<◌, ◌⊎◌, inl, inr, List, [], ◌∷◌, length, take, Bool}
-use Rattle.std.proofs.Common.{true, false, refl, sym, ap, subst, ◌∙◌, arith}
+use Rattle.std.proofs.Common.{◌≡◌, ◌≢◌, ◌↔◌, ℕ, zero, suc, ◌≤◌, ◌⊎◌, inl, inr, List, [], ◌∷◌, length, take, Bool}
+use Rattle.std.proofs.Common.{true, false, refl, sym, ◌∙◌, arith}
 use Rattle.std.proofs.lemmas.List.{length-take-le}
 use Rattle.std.proofs.lemmas.Map.Views.{Contains-from_any, list_any-from_Contains}
 use Rattle.std.specs.Cmp.Lexicographic.{bytes_decides, nat_list_eq_equiv}
@@ -125,7 +125,7 @@ counted all ds apart same asked = (
     apart = different-take asked ds apart;
   }),
   (λ has.
-    let le : length has.some ≤ length ds = few has.some ds has.apart
-    (each_moved all ds has.some (same-elements all ds (λ test. sym (same test))) has.among) in
-    omega (arith, le, has.as_many)),
+      let le : length has.some ≤ length ds = few has.some ds has.apart
+      (each_moved all ds has.some (same-elements all ds (λ test. sym (same test))) has.among) in
+      omega (arith, le, has.as_many)),
 )

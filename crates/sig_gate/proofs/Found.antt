@@ -1,20 +1,27 @@
 -- The verdict on a bundle, from what the chain of trust says of it.
-use Rattle.std.proofs.Common.{◌≡◌, ℕ, inl, inr, Option, Some, None, Result, Ok, Err, refl, sym, subst, ◌∙◌}
+use Rattle.std.proofs.Common.{◌≡◌, ℕ, inl, inr, List, Option, Some, None, Ok, Err, refl, sym, subst, ◌∙◌}
 use Rattle.sig_base.proofs.OptionSteps.{some_is}
 use Rattle.sig_base.proofs.ResultSteps.{err_is}
 use Rattle.sig_base.specs.Answers.{UnlessMemory}
+use Rattle.sig_base.specs.ByText.{text_lookup}
 use Rattle.sig_base.specs.Rules.{FailsFirst}
-use Rattle.sig_gate.specs.BundleVerdict.{IsJudged, verdict_of}
-use Rattle.sig_gate.specs.Judging.{IsFound, IsRefusedBy}
+use Rattle.sig_gate.specs.BundleVerdict.{IsBundleVerdict}
+use Rattle.sig_gate.specs.Judging.{IsFound, IsFoundUnder, IsRefusedBy}
+use Rattle.sig_gate.specs.NamedRoots.{IsRootNamed}
 use Rattle.sig_gate.specs.declared.verdict.BundleVerdict.{BundleVerdict}
 use Rattle.sig_gate.specs.declared.verdict.BundleVerdict.TheVariants.{Verified, Refused}
+use Rattle.sig_gate.specs.declared.named_roots.NamedRoot.{NamedRoot}
 use Rattle.sig_json.specs.declared.error.JsonError.{JsonError}
+use Rattle.sig_manifest.specs.Artifact.{Asked}
+use Rattle.sig_manifest.specs.Manifest.{Gate}
+use Rattle.sig_policy.specs.declared.request.RequestPolicy.{RequestPolicy}
 use Rattle.sig_root.specs.RootRecord.{trusted_root_in}
 use Rattle.sig_verify.specs.Judged.{Judged}
 use Rattle.sig_verify.specs.LinkLaws.{IsKept}
 use Rattle.sig_verify.specs.Links.{HoldsOf, Inputs, OfPassed, Outside, chain_links}
 use Rattle.sig_verify.specs.OfflineErrors.{link_of}
 use Rattle.sig_verify.specs.OfflineVerdict.{IsOffline, Outcome}
+use Rattle.sig_verify.specs.Verdict.{Checker}
 use Rattle.sig_verify.specs.declared.link.Link.{Link}
 use Rattle.sig_verify.specs.declared.link.Link.TheVariants.{RootJson}
 use Rattle.sig_verify.specs.declared.logged_entry.LoggedEntry.{LoggedEntry}
@@ -75,3 +82,20 @@ module _ (o : Outside) (i : Inputs) where
     links = inl ((λ root. let read = root.1 in absurd cc), refl);
     offline = (Err (Json Root why), rw is refl, refl);
   }
+
+-- ---- the verdict on a bundle of an artifact
+
+pub bundle-verdict : (k : Checker) (gate : Gate) (x : Asked) (bundle seen : List ℕ) (policy : RequestPolicy)
+    (root : NamedRoot) (verdict : BundleVerdict) → IsRootNamed gate x.root root
+    → text_lookup x.policy gate.policies ≡ Some policy → seen ≡ bundle
+    → IsFoundUnder k policy root x.digest seen verdict → IsBundleVerdict k gate x bundle verdict
+bundle-verdict k gate x bundle seen policy root verdict named there same under =
+    let found = under named.text gate.now named.of_text in
+    subst (λ (text : List ℕ). IsBundleVerdict k gate x text verdict) same (record {
+      root = named.text;
+      root_is = named.there;
+      policy = policy;
+      policy_is = there;
+      links = found.links;
+      offline = found.offline;
+    })

@@ -1,6 +1,5 @@
 -- What is held of trusted roots, once one more was read.
-use Rattle.std.proofs.Common.{◌≡◌, ◌≢◌, ℕ, Bool, true, false, List, [], ◌∷◌, Option, Some, None, IsSome, refl, sym, subst, ◌∙◌}
-use Rattle.std.proofs.lemmas.Bool.{false_from_ne_true}
+use Rattle.std.proofs.Common.{◌≡◌, ◌≢◌, ℕ, Bool, true, false, List, [], Option, Some, None, IsSome, refl, sym, subst, ◌∙◌}
 use Rattle.std.specs.Cmp.Lexicographic.{bytes_decides}
 use Rattle.std.specs.Prelude.{bytes_eq}
 use Rattle.sig_base.proofs.OptionSteps.{some_is}
@@ -42,4 +41,4 @@ held-put gate held name root are is = record {
 
 pub put-held : (name : List ℕ) (root : NamedRoot) (held after : Held) → after ≡ text_put name root held
     → IsSome (text_lookup name after)
-put-held name root held after put = rw (put, put_found name root held) tt
+put-held name root held after put = rw (put, put_found name root held) refl

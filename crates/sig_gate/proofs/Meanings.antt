@@ -1,13 +1,13 @@
 -- What the test of a rule says: that the rule holds.
-use Rattle.std.proofs.Common.{◌≡◌, ◌≢◌, ◌↔◌, ◌⊎◌, inl, inr, ℕ, zero, suc, ◌+◌, ◌≤◌, ◌<◌, List, [], ◌∷◌, length, Bool}
-use Rattle.std.proofs.Common.{true, false, not, ◌&&◌, ◌||◌, refl, sym, ap, subst, ◌∙◌, arith, Option, Some, None, bytes_eq}
+use Rattle.std.proofs.Common.{◌≡◌, ◌≢◌, ◌↔◌, ◌⊎◌, inl, inr, ℕ, suc, ◌≤◌, List, [], ◌∷◌, Bool}
+use Rattle.std.proofs.Common.{true, false, not, ◌&&◌, ◌||◌, refl, sym, ap, subst, ◌∙◌, arith, Option, Some, None}
 use Rattle.std.proofs.lemmas.Bool.Decides.{leb_tells}
 use Rattle.std.specs.Cmp.Lexicographic.{bytes_decides}
 use Rattle.std.specs.List.{list_any}
-use Rattle.std.specs.Prelude.{Contains, nat_le, nat_lt, if◌then◌else◌}
+use Rattle.std.specs.Prelude.{nat_le, nat_lt, if◌then◌else◌}
 use Rattle.sig_gate.proofs.DifferentTexts.{among-first, first-among, later-among, none-among}
 use Rattle.sig_gate.specs.Report.{is_verified}
-use Rattle.sig_gate.specs.RuleHolds.{EachHolds, HasDifferent, Holds, IsAdmitted, IsOfOrigin, IsOfSize, OfSome, OneHolds}
+use Rattle.sig_gate.specs.RuleHolds.{EachHolds, Holds, IsAdmitted, IsOfOrigin, IsOfSize, OfSome, OneHolds}
 use Rattle.sig_gate.specs.Shown.{IsDifferentCount, checkpoint_of_origin, each_holds, entries_of, holds, larger}
 use Rattle.sig_gate.specs.Shown.{largest_from, one_holds, shows_origin}
 use Rattle.sig_gate.specs.declared.verdict.BundleVerdict.{BundleVerdict}
@@ -58,10 +58,10 @@ origin_found origin entry None is = ((λ e. absurd cc), (λ has. let there = has
 origin_found origin entry (Some checkpoint) is = (
   (λ e. record { checkpoint = checkpoint; there = is; same = (bytes_decides checkpoint.note.origin origin).0 e }),
   (λ has.
-    let there = has.there in
-    let one : has.checkpoint ≡ checkpoint = cc in
-    (bytes_decides checkpoint.note.origin origin).1
-    (ap (λ (c : SignedCheckpoint). c.note.origin) (sym one) ∙ has.same)),
+      let there = has.there in
+      let one : has.checkpoint ≡ checkpoint = cc in
+      (bytes_decides checkpoint.note.origin origin).1
+      (ap (λ (c : SignedCheckpoint). c.note.origin) (sym one) ∙ has.same)),
 )
 
 origin_tells : (origin : List ℕ) (bundles : List BundleVerdict)
@@ -71,44 +71,53 @@ origin_tells origin (Refused link ∷ later) = origin_tells origin later
 origin_tells origin (Verified entry ∷ later) =
     by (checkpoint_of_origin origin entry.proof.checkpoint) (list_any (shows_origin origin) later)
     (origin_found origin entry entry.proof.checkpoint refl) (origin_tells origin later) where
-  by : (here behind : Bool) → Tells here (IsOfOrigin origin entry)
-      → Tells behind (OfSome (IsOfOrigin origin) (entries_of later))
-      → Tells (here || behind) (OfSome (IsOfOrigin origin) (entry ∷ entries_of later))
-  by true behind here rest = (
-    (λ e. some-first (IsOfOrigin origin) entry (entries_of later) (here.0 refl)),
-    (λ some. refl),
-  )
-  by false behind here rest = (
-    (λ e. some-later (IsOfOrigin origin) entry (entries_of later) (rest.0 e)),
-    (λ some. elim (some-cases (IsOfOrigin origin) entry (entries_of later) some) [
-      | inl is ↦ let e : false ≡ true = here.1 is in absurd cc
-      | inr behind_it ↦ rest.1 behind_it
-    ]),
-  )
+      by : (here behind : Bool) → Tells here (IsOfOrigin origin entry)
+          → Tells behind (OfSome (IsOfOrigin origin) (entries_of later))
+          → Tells (here || behind) (OfSome (IsOfOrigin origin) (entry ∷ entries_of later))
+      by true behind here rest = (
+        (λ e. some-first (IsOfOrigin origin) entry (entries_of later) (here.0 refl)),
+        (λ some. refl),
+      )
+      by false behind here rest = (
+        (λ e. some-later (IsOfOrigin origin) entry (entries_of later) (rest.0 e)),
+        (λ some. elim (some-cases (IsOfOrigin origin) entry (entries_of later) some) [
+          | inl is ↦ let e : false ≡ true = here.1 is in absurd cc
+          | inr behind_it ↦ rest.1 behind_it
+        ]),
+      )
 
 -- ---- sizes
 
 larger-is : (a b size : ℕ) → (size ≤ larger a b) ↔ ((size ≤ a) ⊎ (size ≤ b))
 larger-is a b size = by (nat_lt a b) refl where
   by : (t : Bool) → nat_lt a b ≡ t → (size ≤ (if t then b else a)) ↔ ((size ≤ a) ⊎ (size ≤ b))
-  by true is = ((λ le. inr le), (λ either. elim either [
-    | inl le ↦ omega (arith, le, (le_tells (suc a) b).0 is)
-    | inr le ↦ le
-  ]))
-  by false is = ((λ le. inl le), (λ either. elim either [
-    | inl le ↦ le
-    | inr le ↦ elim (leb_tells (suc a) b) [
-      | inl h ↦ let e = h.0 in absurd cc
-      | inr h ↦ omega (arith, h.1, le)
-    ]
-  ]))
+  by true is = (
+    (λ le. inr le),
+    (λ either. elim either [
+      | inl le ↦ omega (arith, le, (le_tells (suc a) b).0 is)
+      | inr le ↦ le
+    ]),
+  )
+  by false is = (
+    (λ le. inl le),
+    (λ either. elim either [
+      | inl le ↦ le
+      | inr le ↦ elim (leb_tells (suc a) b) [
+        | inl h ↦ let e = h.0 in absurd cc
+        | inr h ↦ omega (arith, h.1, le)
+      ]
+    ]),
+  )
 
 size_from : (size largest : ℕ) (entries : List LoggedEntry)
     → (size ≤ largest_from largest entries) ↔ ((size ≤ largest) ⊎ OfSome (IsOfSize size) entries)
-size_from size largest [] = ((λ le. inl le), (λ either. elim either [
-  | inl le ↦ le
-  | inr some ↦ absurd (some-none (IsOfSize size) some)
-]))
+size_from size largest [] = (
+  (λ le. inl le),
+  (λ either. elim either [
+    | inl le ↦ le
+    | inr some ↦ absurd (some-none (IsOfSize size) some)
+  ]),
+)
 size_from size largest (entry ∷ later) =
     let rest = size_from size (larger largest entry.proof.tree_size) later in
     let here = larger-is largest entry.proof.tree_size size in (
@@ -150,10 +159,13 @@ and_tells false b P Q p q = ((λ e. absurd cc), (λ both. p.1 both.0))
 
 or_tells : (a b : Bool) (P Q : Type 0) → Tells a P → Tells b Q → Tells (a || b) (P ⊎ Q)
 or_tells true b P Q p q = ((λ e. inl (p.0 refl)), (λ either. refl))
-or_tells false b P Q p q = ((λ e. inr (q.0 e)), (λ either. elim either [
-  | inl is ↦ let e : false ≡ true = p.1 is in absurd cc
-  | inr is ↦ q.1 is
-]))
+or_tells false b P Q p q = (
+  (λ e. inr (q.0 e)),
+  (λ either. elim either [
+    | inl is ↦ let e : false ≡ true = p.1 is in absurd cc
+    | inr is ↦ q.1 is
+  ]),
+)
 
 not_tells : (a : Bool) (P : Type 0) → Tells a P → Tells (not a) (¬ P)
 not_tells true P p = ((λ e. absurd cc), (λ none. absurd (none (p.0 refl))))

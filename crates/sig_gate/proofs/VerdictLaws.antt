@@ -1,5 +1,5 @@
 -- What the verdicts on bundles mean.
-use Rattle.std.proofs.Common.{◌≡◌, ◌↔◌, ◌⊎◌, inl, inr, ℕ, ℤ, List, Option, Some, None, Result, Ok, Err, refl, sym, ap, subst, ◌∙◌}
+use Rattle.std.proofs.Common.{◌≡◌, inl, inr, Option, Some, None, Result, Ok, Err, refl, sym, ap, subst, ◌∙◌}
 use Rattle.std.specs.Prelude.{option_map}
 use Rattle.sig_base.proofs.OptionSteps.{some_is}
 use Rattle.sig_base.proofs.RuleLaws.{none_fails, one_fails}
@@ -8,7 +8,7 @@ use Rattle.sig_bundle.specs.BundleRecord.{bundle_in}
 use Rattle.sig_bundle.specs.declared.bundle.Bundle.{Bundle as BundleType}
 use Rattle.sig_bundle.specs.declared.material.TransparencyLogEntry.{TransparencyLogEntry}
 use Rattle.sig_gate.specs.BundleVerdict.{IsJudged, IsOfflineVerdict, verdict_of}
-use Rattle.sig_gate.specs.Laws.{IsExact, IsOfOffline, VerdictsAreExact, VerdictsAreOfOffline}
+use Rattle.sig_gate.specs.Laws.{IsOfOffline, VerdictsAreExact, VerdictsAreOfOffline}
 use Rattle.sig_gate.specs.declared.verdict.BundleVerdict.{BundleVerdict}
 use Rattle.sig_gate.specs.declared.verdict.BundleVerdict.TheVariants.{Verified, Refused}
 use Rattle.sig_json.specs.declared.error.JsonError.{JsonError}
@@ -17,7 +17,7 @@ use Rattle.sig_root.specs.declared.record.TrustedRoot.{TrustedRoot}
 use Rattle.sig_verify.specs.Links.{EveryChainLinkHolds, HoldsOf, Inputs, Outside, chain_links}
 use Rattle.sig_verify.specs.LogEntry.{log_entry_answer}
 use Rattle.sig_verify.specs.OfflineErrors.{link_of, of_root, of_verification}
-use Rattle.sig_verify.specs.OfflineVerdict.{AfterAnswer, AfterRead, IsOffline, IsOfflineFrom, IsOfflineIn, IsOfflineOf}
+use Rattle.sig_verify.specs.OfflineVerdict.{AfterAnswer, AfterRead, IsOffline, IsOfflineIn, IsOfflineOf}
 use Rattle.sig_verify.specs.OfflineVerdict.{IsVouchedIn, Outcome, only_entry_of}
 use Rattle.sig_verify.specs.RootLinks.{rekor_keys}
 use Rattle.sig_verify.specs.Verdict.{Answer}

@@ -1,10 +1,11 @@
 -- The verified bundles of an artifact, from the verdicts on its bundles.
-use Rattle.std.proofs.Common.{◌≡◌, ℕ, inl, inr, List, [], ◌∷◌, Some, refl, sym, subst, ◌∙◌}
+use Rattle.std.proofs.Common.{◌≡◌, ◌↔◌, ℕ, Bool, true, inl, inr, List, [], ◌∷◌, refl, sym, subst, ◌∙◌}
 use Rattle.std.specs.List.{AllZip}
 use Rattle.sig_base.proofs.OptionSteps.{some_is}
 use Rattle.sig_base.proofs.RuleLaws.{none_fails}
 use Rattle.sig_gate.specs.BundleVerdict.{IsBundleVerdict, inputs, outside}
-use Rattle.sig_gate.specs.Gate.{AreVerified, IsVerified}
+use Rattle.sig_gate.specs.Gate.{AreVerified, IsVerdict, IsVerified}
+use Rattle.sig_gate.specs.RuleHolds.{IsAdmitted}
 use Rattle.sig_gate.specs.Shown.{entries_of}
 use Rattle.sig_gate.specs.declared.verdict.BundleVerdict.{BundleVerdict}
 use Rattle.sig_gate.specs.declared.verdict.BundleVerdict.TheVariants.{Verified, Refused}
@@ -36,8 +37,27 @@ module _ (k : Checker) (gate : Gate) (x : Asked) where
       let is = are.0 in
       inl (
         (is.root, is.root_is, (is.policy, is.policy_is, is.links.0)),
-        (entry, entries_of verdicts, refl, (is.root, is.root_is, (is.policy, is.policy_is, is.links.1)),
-            are-verified bundles verdicts are.1),
+        (
+          entry,
+          entries_of verdicts,
+          refl,
+          (is.root, is.root_is, (is.policy, is.policy_is, is.links.1)),
+          are-verified bundles verdicts are.1,
+        ),
       )
   are-verified (bundle ∷ bundles) (Refused link ∷ verdicts) are =
       inr (not_verified bundle link are.0, are-verified bundles verdicts are.1)
+
+  -- the verdict on an artifact, by those on its bundles and by whether it is admitted
+  pub artifact-verdict : (bundles seen : List BundleVerdict) (admitted : Bool)
+      → AllZip (IsBundleVerdict k gate x) x.bundles bundles → seen ≡ bundles
+      → (admitted ≡ true) ↔ IsAdmitted x.rule (entries_of seen)
+      → IsVerdict k gate x (record { admitted = admitted; bundles = bundles })
+  artifact-verdict bundles seen admitted are same decided = record {
+    bundles = are;
+    decided = record {
+      entries = entries_of bundles;
+      verified = are-verified x.bundles bundles are;
+      decided = subst (λ (bs : List BundleVerdict). (admitted ≡ true) ↔ IsAdmitted x.rule (entries_of bs)) same decided;
+    };
+  }

@@ -1,5 +1,5 @@
 -- Two lists whose elements are related one by one, where of the first a view is asked.
-use Rattle.std.proofs.Common.{◌≡◌, ℕ, zero, suc, ◌<◌, ◌≤◌, List, [], ◌∷◌, length, map, take, get_or, refl, sym, ap, subst, arith}
+use Rattle.std.proofs.Common.{◌≡◌, ℕ, zero, suc, ◌<◌, ◌≤◌, List, [], ◌∷◌, length, map, take, get_or, refl, sym, subst, arith}
 use Rattle.std.proofs.lemmas.List.{take_all}
 use Rattle.std.specs.List.{AllByRecursion, AllZip}
 
@@ -12,7 +12,7 @@ module _ {A B C : Type 0} (view : A → B) (R : B → C → Type 0) where
 
 pub zip-all : {A B : Type 0} (R : A → B → Type 0) (xs : List A) (ys : List B) (i : ℕ) → length xs ≤ i
     → AllZip R (take i xs) ys → AllZip R xs ys
-zip-all {A} R xs ys i end are = subst (λ (as : List A). AllZip R as ys) (take_all i xs end) are
+zip-all {A} R xs ys i end are = subst (λ (front : List A). AllZip R front ys) (take_all i xs end) are
 
 pub zip-length : {A B : Type 0} (R : A → B → Type 0) (xs : List A) (ys : List B) → AllZip R xs ys
     → length ys ≡ length xs

@@ -51,7 +51,8 @@ fn judge_each<C: SignatureChecker>(
     ensures { IfOk result (IsGate (checker_of C.SignatureChecker checker.now) (manifest_view manifest.entry.now)) }
 {
     let mut verdicts = Verdicts::new(alloc);
-    'artifacts: for artifact in manifest.artifacts.as_slice() {
+    let artifacts = manifest.artifacts.as_slice();
+    'artifacts: for artifact in artifacts {
         let verdict = judge(alloc, held, manifest, artifact, checker)?;
         verdicts.push(verdict)?;
     }

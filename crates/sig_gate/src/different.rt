@@ -9,7 +9,10 @@ use sig_base::OutOfMemory;
 use std::alloc::Global;
 
 /// How many different log bodies the verified bundles have. Fails only if out of memory.
-pub(crate) fn count_different(alloc: Global, bundles: &[BundleVerdict]) -> Result<usize, OutOfMemory>
+pub(crate) fn count_different(
+    alloc: Global,
+    bundles: &[BundleVerdict],
+) -> Result<usize, OutOfMemory>
     ensures { IfOk result (IsDifferentCount (entries_of bundles.now)) }
 {
     let bodies = different_bodies(alloc, bundles)?;

@@ -37,7 +37,8 @@ pub(crate) fn hold_root(
         return Ok(());
     }
     let root = read_named(alloc, manifest, name)?;
-    held.insert(name, root)
+    held.insert(name, root)?;
+    Ok(())
 }
 
 /// What is to be held of the trusted root of this name.
