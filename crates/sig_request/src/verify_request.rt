@@ -96,21 +96,21 @@ impl VerifyRequest {
 
     /// The bytes of the trusted root.
     pub fn trusted_root(&self) -> &[u8]
-        ensures { result.now ≡ self.now.trusted_root }
+        ensures { result.now ≡ self.entry.now.trusted_root }
     {
         self.trusted_root.as_str().as_bytes()
     }
 
     /// The bytes of the bundle.
     pub fn bundle(&self) -> &[u8]
-        ensures { result.now ≡ self.now.bundle }
+        ensures { result.now ≡ self.entry.now.bundle }
     {
         self.bundle.as_str().as_bytes()
     }
 
     /// The time of the verification, in whole seconds since 1970.
     pub fn now(&self) -> i64
-        ensures { result ≡ self.now.now }
+        ensures { result ≡ self.entry.now.now }
     {
         self.now
     }
