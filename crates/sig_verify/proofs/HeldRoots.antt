@@ -1,12 +1,11 @@
 -- What is held of a trusted root, and what each group of links says of the chain under it.
-use Rattle.std.proofs.Common.{◌≡◌, ℕ, ℤ, true, false, List, Option, Some, None, Result, Ok, Err, inl, inr, ap, sym, subst, ◌∙◌}
+use Rattle.std.proofs.Common.{◌≡◌, ℕ, ℤ, true, List, Result, Ok, Err, inl, inr, ap, sym, subst, ◌∙◌}
 use Rattle.std.specs.Prelude.{◌⊎◌, ◌++◌, IsSome, is_some}
 use Rattle.std.specs.List.{AllByRecursion}
 use Rattle.sig_bundle.specs.LogEntries.{only_entry}
 use Rattle.sig_bundle.specs.declared.bundle.Bundle.{Bundle as BundleType}
-use Rattle.sig_bundle.specs.declared.material.TransparencyLogEntry.{TransparencyLogEntry}
 use Rattle.sig_base.proofs.ResultSteps.{err_is, ok_is}
-use Rattle.sig_base.specs.Answers.{Answers, OrMemory, UnlessMemory}
+use Rattle.sig_base.specs.Answers.{OrMemory, UnlessMemory}
 use Rattle.sig_base.specs.declared.error.SigstoreError.{SigstoreError}
 use Rattle.sig_dsse.specs.declared.artifact_digest.ArtifactDigest.{ArtifactDigest}
 use Rattle.sig_json.specs.declared.error.JsonError.{JsonError}
@@ -17,13 +16,12 @@ use Rattle.sig_root.specs.declared.record.TrustedRoot.{TrustedRoot}
 use Rattle.sig_verify.specs.BundleLinks.{OfEntry, bundle_links}
 use Rattle.sig_verify.specs.CertificateLinks.{Trust as Given, certificate_links}
 use Rattle.sig_verify.specs.EntryLinks.{LogKeys}
-use Rattle.sig_verify.specs.HeldRoot.{IsGivenBy, IsHeldIn, IsHeldOf, IsOfflineUnder, IsTrustOf}
+use Rattle.sig_verify.specs.HeldRoot.{IsGivenBy, IsHeldIn, IsHeldOf, IsOfflineUnder, IsTrustOf, IsVerdictUnder}
 use Rattle.sig_verify.specs.HeldRoot.{fault_error, from_fault, trust_answer}
 use Rattle.sig_verify.specs.Judged.{Judged}
 use Rattle.sig_verify.specs.LinkLaws.{HoldsOfVerified, renamed}
-use Rattle.sig_verify.specs.LogEntry.{log_entry_answer}
 use Rattle.sig_verify.specs.OfflineErrors.{link_of, of_json, of_root, of_verification}
-use Rattle.sig_verify.specs.OfflineVerdict.{IsOfflineFrom, IsOfflineOf, Outcome}
+use Rattle.sig_verify.specs.OfflineVerdict.{AfterAnswer, IsOfflineFrom, IsOfflineOf, IsVouchedIn, Outcome}
 use Rattle.sig_verify.specs.OfflineVerdict.{authorities_of, ct_keys_of, only_entry_among, only_entry_of}
 use Rattle.sig_verify.specs.RootLinks.{rekor_keys}
 use Rattle.sig_verify.specs.Verdict.{Answer, Checker, IsVerdict, PolicyOf}
@@ -93,17 +91,15 @@ one_there b (material, brought, (e, logged, _)) =
 at_entry : (Holds : Link → Type 0) (rest : List Link) → AllByRecursion Holds (bundle_links ++ rest) → Holds Entry
 at_entry Holds rest (_, (_, (_, (_, (_, (_, (holds, _))))))) = holds
 
--- and there is no bundle of which these links hold without one
 pub entry_there : (k : Checker) (policy : PolicyOf) (trust : Given) (d : ArtifactDigest) (b : BundleType)
-    (done : Unit {0})
-    → (let answer : Answer = Ok done in (answer ≡ Err verification.OutOfMemory)
-    ⊎ Judged (HoldsOfVerified k policy trust d true b) (bundle_links ++ certificate_links) (renamed answer))
-    → only_entry_of b ≡ None → ⊥
-entry_there k policy trust d b done (inl memory) none = let wrong = memory in cc
-entry_there k policy trust d b done (inr hold) none =
-    let there : is_some (only_entry_of b) ≡ true =
-    one_there b (at_entry (HoldsOfVerified k policy trust d true b) certificate_links hold) in
-    let absent : is_some (only_entry_of b) ≡ false = ap is_some none in cc
+    (answer : Answer) → answer ≡ Ok tt
+    → (answer ≡ Err verification.OutOfMemory)
+    ⊎ Judged (HoldsOfVerified k policy trust d true b) (bundle_links ++ certificate_links) (renamed answer)
+    → IsSome (only_entry_of b)
+entry_there k policy trust d b (Ok done) passed (inl memory) = absurd (let wrong = memory in cc)
+entry_there k policy trust d b (Ok done) passed (inr hold) =
+    one_there b (at_entry (HoldsOfVerified k policy trust d true b) certificate_links hold)
+entry_there k policy trust d b (Err error) passed judged = absurd (let wrong = passed in cc)
 
 -- an error of a link is not a fault of an artifact's input
 pub named_link : (k : Checker) (policy : PolicyOf) (trust : Given) (d : ArtifactDigest) (b : BundleType)
@@ -113,6 +109,14 @@ pub named_link : (k : Checker) (policy : PolicyOf) (trust : Given) (d : Artifact
     → OrMemory verification.OutOfMemory error (IsSome (link_of (of_verification error)))
 named_link k policy trust d b error (inl memory) = inl (err_is error verification.OutOfMemory memory)
 named_link k policy trust d b error (inr (link, is, fails)) = inr (ap is_some is)
+
+-- the result of a verifier, renamed
+pub verdict_under : (k : Checker) (policy : PolicyOf) (trusted : Trusted) (d : ArtifactDigest) (b : BundleType)
+    (answer : Answer) (result : Result (Unit {0}) OfflineError) → result ≡ renamed answer
+    → UnlessMemory verification.OutOfMemory answer (IsVerdict k trusted policy d true b answer)
+    → UnlessMemory OutOfMemory result (IsVerdictUnder k policy trusted d b result)
+verdict_under k policy trusted d b answer result same (inl memory) = inl (same ∙ ap renamed memory)
+verdict_under k policy trusted d b answer result same (inr is) = inr (answer, is, same)
 
 -- ---- the groups of links in order
 
@@ -146,24 +150,29 @@ module _ (k : Checker) (policy : PolicyOf) (held : HeldRoot) (d : ArtifactDigest
     under : (result : Outcome) → IsOfflineFrom k policy trust.verifier trust.log_keys d b result → Steps result
     under result from = inr (λ root now given. by_trust root now held.trust result given there from)
 
-    pub signed_failed : (error : VerificationError) (e : OfflineError) → e ≡ of_verification error
-        → (let answer : Answer = Err error in UnlessMemory verification.OutOfMemory answer
-        (IsVerdict k trust.verifier policy d true b answer)) → Steps (Err e)
-    signed_failed error e is (inl memory) =
-        inl (ap Err (is ∙ ap of_verification (err_is error verification.OutOfMemory memory)))
-    signed_failed error e is (inr verdict) = under (Err e) (Err error, verdict, ap Err is)
+    failed : (answer : Answer) (e : OfflineError) → (let r : Result (Unit {0}) OfflineError = Err e in r ≡ renamed answer)
+        → AfterAnswer answer (IsVouchedIn k.spki trust.log_keys b) (Err e)
+    failed (Ok done) e is = absurd (let wrong = is in cc)
+    failed (Err x) e is = ap Err (err_is e (of_verification x) is)
 
-    pub all_logged : (done : Unit {0}) (entry : TransparencyLogEntry)
-        → (let answer : Answer = Ok done in UnlessMemory verification.OutOfMemory answer
-        (IsVerdict k trust.verifier policy d true b answer))
-        → only_entry_of b ≡ Some entry → (result : Outcome)
-        → Answers OutOfMemory (λ logged. logged) result (log_entry_answer k.spki trust.log_keys entry) → Steps result
-    all_logged done entry (inl memory) only result answer = absurd (let wrong = memory in cc)
-    all_logged done entry (inr verdict) only (Ok logged) answer =
-        under (Ok logged) (Ok done, verdict, (entry, only, sym answer))
-    all_logged done entry (inr verdict) only (Err e) (inl memory) = inl (ap Err memory)
-    all_logged done entry (inr verdict) only (Err e) (inr answer) =
-        under (Err e) (Ok done, verdict, (entry, only, sym answer))
+    pub signed_failed : (e : OfflineError) → (let r : Result (Unit {0}) OfflineError = Err e in
+        UnlessMemory OutOfMemory r (IsVerdictUnder k policy trust.verifier d b r)) → Steps (Err e)
+    signed_failed e (inl memory) = inl (ap Err (err_is e OutOfMemory memory))
+    signed_failed e (inr (answer, verdict, is)) = under (Err e) (answer, verdict, failed answer e is)
+
+    passed : (answer : Answer) (result : Outcome) → (let r : Result (Unit {0}) OfflineError = Ok tt in r ≡ renamed answer)
+        → IsVouchedIn k.spki trust.log_keys b result
+        → AfterAnswer answer (IsVouchedIn k.spki trust.log_keys b) result
+    passed (Ok done) result is vouched = vouched
+    passed (Err x) result is vouched = absurd (let wrong = is in cc)
+
+    pub all_logged : (let r : Result (Unit {0}) OfflineError = Ok tt in
+        UnlessMemory OutOfMemory r (IsVerdictUnder k policy trust.verifier d b r)) → (result : Outcome)
+        → UnlessMemory OutOfMemory result (IsVouchedIn k.spki trust.log_keys b result) → Steps result
+    all_logged signed result (inl memory) = inl memory
+    all_logged (inl memory) result (inr vouched) = absurd (let wrong = memory in cc)
+    all_logged (inr (answer, verdict, is)) result (inr vouched) =
+        under result (answer, verdict, passed answer result is vouched)
 
   -- of a root that was read
   pub of_parts : (root : TrustedRoot) (now time : ℤ) (result : Outcome) → time ≡ now → IsGivenBy root time held

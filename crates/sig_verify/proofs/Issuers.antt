@@ -3,7 +3,6 @@
 use Rattle.std.proofs.Common.{◌≡◌, inl, inr, ℕ, ℤ, List, [], ◌++◌, Option, Some, None, Result, Ok, Err, option_map}
 use Rattle.std.proofs.Common.{sym, ap, ◌∙◌}
 use Rattle.sig_base.specs.Answers.{OrMemory}
-use Rattle.sig_base.specs.ResultSteps.{◌>>=◌}
 use Rattle.sig_base.specs.declared.fault.PoolError.{PoolError}
 use Rattle.sig_base.specs.declared.fault.PoolError.TheVariants as pool
 use Rattle.sig_certificate.specs.Certificate.{Cert}
@@ -13,8 +12,7 @@ use Rattle.sig_x509.specs.PathSearch.{path_issuer}
 use Rattle.sig_x509.specs.Pool.{Pool, present, with_further, pool_over}
 use Rattle.sig_x509.specs.declared.issuer.Issuer.{Issuer}
 use Rattle.sig_verify.specs.Errors.{of_pool}
-use Rattle.sig_verify.specs.IssuerCheck.{from_pool, issuer_spki, path_start, spki_of, spki_or_none}
-use Rattle.sig_verify.specs.declared.error.VerificationError.{VerificationError}
+use Rattle.sig_verify.specs.IssuerCheck.{from_pool, path_start, spki_of}
 use Rattle.sig_verify.specs.declared.error.VerificationError.TheVariants.{OutOfMemory}
 
 module _ (accepts : Accepts) (p : Pool) (further : List Cert) (c : Cert) (time : ℤ) (same : time ≡ c.not_before)
@@ -32,19 +30,11 @@ module _ (accepts : Accepts) (p : Pool) (further : List Cert) (c : Cert) (time :
       → path_start accepts over c ≡ Ok issuer
   issuer_found issuer e = ap from_pool (sym is_of ∙ e)
 
-  abbrev key_of_path : Result Issuer VerificationError → Result (List ℕ) VerificationError
-  key_of_path r = r >>= λ issuer. spki_or_none (spki_of over issuer)
-
-  pub key_found : (issuer : Issuer) (spki : List ℕ)
-      → path_issuer accepts (with_further p further) c time ≡ Ok issuer → spki_of over issuer ≡ Some spki
-      → issuer_spki accepts over c ≡ Ok spki
-  key_found issuer spki e there = ap key_of_path (issuer_found issuer e) ∙ ap spki_or_none there
-
-  pub issuer_refused : (error : PoolError) (why : VerificationError) → why ≡ of_pool error
+  pub issuer_refused : (error : PoolError)
       → OrMemory pool.OutOfMemory error (path_issuer accepts (with_further p further) c time ≡ Err error)
-      → OrMemory OutOfMemory why (issuer_spki accepts over c ≡ Err why)
-  issuer_refused error why is (inl memory) = inl (is ∙ ap of_pool memory)
-  issuer_refused error why is (inr e) = inr (ap key_of_path (ap from_pool (sym is_of ∙ e)) ∙ ap Err (sym is))
+      → OrMemory OutOfMemory (of_pool error) (path_start accepts over c ≡ Err (of_pool error))
+  issuer_refused error (inl memory) = inl (ap of_pool memory)
+  issuer_refused error (inr e) = inr (ap from_pool (sym is_of ∙ e))
 
 -- the issuer is there, with its key
 started : (accepts : Accepts) (p : Pool) (c : Cert) (issuer : Issuer) → path_start accepts p c ≡ Ok issuer

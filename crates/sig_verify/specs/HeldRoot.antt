@@ -12,11 +12,12 @@ use Rattle.sig_json.specs.declared.error.JsonError.{JsonError}
 use Rattle.sig_root.specs.OfBytes.{HasRawBytes}
 use Rattle.sig_root.specs.RootRecord.{trusted_root_in}
 use Rattle.sig_root.specs.declared.record.TrustedRoot.{TrustedRoot}
+use Rattle.sig_verify.specs.LinkLaws.{renamed}
 use Rattle.sig_verify.specs.OfflineErrors.{of_root}
 use Rattle.sig_verify.specs.OfflineVerdict.{IsOfflineOf, Outcome, authorities_of, ct_keys_of}
 use Rattle.sig_verify.specs.RootLinks.{rekor_keys}
-use Rattle.sig_verify.specs.Verdict.{Checker, PolicyOf}
-use Rattle.sig_verify.specs.Verifier.{IsRefusedRoot, IsVerifierOf}
+use Rattle.sig_verify.specs.Verdict.{Answer, Checker, IsVerdict, PolicyOf}
+use Rattle.sig_verify.specs.Verifier.{IsRefusedRoot, IsVerifierOf, Trusted}
 use Rattle.sig_verify.specs.declared.held_root.HeldRoot.{HeldRoot}
 use Rattle.sig_verify.specs.declared.held_root.RootFault.{RootFault}
 use Rattle.sig_verify.specs.declared.held_root.RootFault.TheVariants.{Lacks, Anchor}
@@ -69,6 +70,12 @@ trust_answer held = from_fault held.trust
 abbrev pub borrowed_trust : Result (Bor Trust) OfflineError → Result Trust OfflineError
 borrowed_trust (Ok trust) = Ok trust.now
 borrowed_trust (Err error) = Err error
+
+-- `material` to `time`: the result of a verifier, with its errors as those of the chain of trust
+abbrev pub IsVerdictUnder : Checker → PolicyOf → Trusted → ArtifactDigest → BundleType
+    → Result (Unit {0}) OfflineError → Type 0
+IsVerdictUnder k policy trusted d bundle result =
+    (answer : Answer) × IsVerdict k trusted policy d true bundle answer × (result ≡ renamed answer)
 
 -- `fulcio` to `inclusion`, whatever trusted root gives what is held
 abbrev pub IsOfflineUnder : Checker → PolicyOf → HeldRoot → ArtifactDigest → BundleType → Outcome → Type 0

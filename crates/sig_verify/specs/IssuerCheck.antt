@@ -1,6 +1,7 @@
 -- The links `issuance`, `issuer` and `sct` of a certificate (RFC 5280 section 6.1; RFC 6962 section 3.2), as one
 -- result: the first of them that fails, or none.
 use Rattle.std.specs.Prelude.{ℕ, List, Option, Some, None, option_map, Result, Ok, Err}
+use Rattle.std.specs.Borrow.{Bor}
 use Rattle.sig_base.specs.ResultSteps.{◌>>=◌}
 use Rattle.sig_base.specs.declared.fault.PoolError.{PoolError}
 use Rattle.sig_certificate.specs.Certificate.{Cert}
@@ -32,6 +33,11 @@ from_sct (Err error) = Err (of_sct error)
 abbrev pub spki_or_none : Option (List ℕ) → Result (List ℕ) VerificationError
 spki_or_none (Some spki) = Ok spki
 spki_or_none None = Err (Certificate VerificationFailed)
+
+-- what was borrowed
+abbrev pub borrowed_spki : Result (Bor (List ℕ)) VerificationError → Result (List ℕ) VerificationError
+borrowed_spki (Ok spki) = Ok spki.now
+borrowed_spki (Err error) = Err error
 
 -- the issuer in the first path from the certificate to a trust anchor, at the first second of its validity
 abbrev pub path_start : Accepts → Pool → Cert → Result Issuer VerificationError

@@ -1,6 +1,7 @@
 -- The links `log-key` to `inclusion` of a log's entry, as one result: the first of them that fails, or the entry's
 -- body with its proof (Rekor's signed entry timestamp; RFC 6962 section 2.1.1).
 use Rattle.std.specs.Prelude.{ℕ, Bool, true, false, List, Option, Some, None, Result, Ok, Err}
+use Rattle.std.specs.Borrow.{Bor}
 use Rattle.hex.specs.Hex.{encode_lower}
 use Rattle.sig_base.specs.ByText.{text_lookup}
 use Rattle.sig_base.specs.ResultSteps.{◌>>=◌}
@@ -31,6 +32,11 @@ use Rattle.sig_verify.specs.declared.offline_error.OfflineError.TheVariants.{Pro
 abbrev pub id_answer : Option (List ℕ) → Result (List ℕ) OfflineError
 id_answer None = Err LogIdMissing
 id_answer (Some id) = Ok id
+
+-- what was borrowed
+abbrev pub borrowed_id : Result (Bor (List ℕ)) OfflineError → Result (List ℕ) OfflineError
+borrowed_id (Ok id) = Ok id.now
+borrowed_id (Err error) = Err error
 
 abbrev pub of_kind : SigstoreError → OfflineError
 of_kind sigstore.KeyParsingError = KeyParsingError

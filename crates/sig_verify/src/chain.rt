@@ -1,18 +1,18 @@
 //! Whether a signed bundle is trusted, without a network.
-ghost use Rattle.std.specs.Prelude.{◌≡◌, ℕ, ℤ, IfOk, List};
+ghost use Rattle.std.specs.Prelude.{◌≡◌, ℕ, ℤ, IfOk, IsSome, List, OnOk};
 ghost use Rattle.sig_base.specs.Answers.{UnlessMemory};
 ghost use Rattle.sig_bundle.specs.BundleRecord.{bundle_in};
-ghost use Rattle.sig_verify.specs.HeldRoot.{IsHeldOf, IsOfflineUnder};
+ghost use Rattle.sig_verify.specs.HeldRoot.{IsHeldOf, IsOfflineUnder, IsVerdictUnder};
 ghost use Rattle.sig_verify.specs.Judged.{Judged};
 ghost use Rattle.sig_verify.specs.LinkLaws.{IsKept};
 ghost use Rattle.sig_verify.specs.Links.{HoldsOf, OfPassed, chain_links};
 ghost use Rattle.sig_verify.specs.OfflineLaws.{IsOfBundleOfBytes};
-ghost use Rattle.sig_verify.specs.OfflineVerdict.{AfterRead, IsOffline, IsOfflineOf};
+ghost use Rattle.sig_verify.specs.OfflineVerdict.{AfterRead, IsOffline, IsOfflineOf, IsVouchedIn};
 ghost use Rattle.sig_verify.specs.OfflineVerdict.{borrowed_entry, only_entry_of};
 ghost use Rattle.sig_verify.specs.Verdict.{checker_of, policy_of};
 ghost use Rattle.sig_verify.specs.declared.offline_error.Part.TheVariants.{Bundle as BundlePart};
 
-use crate::held_root::HeldRoot;
+use crate::held_root::{HeldRoot, Trust};
 use crate::laws::{is_entry_bytes, outcomes};
 use crate::log_entry::verify_log_entry;
 use crate::logged_entry::LoggedEntry;
@@ -145,8 +145,7 @@ impl HeldRoot {
         }
     }
 
-    /// The links from `fulcio` on, in order, of a bundle that was read: those of the root, `material` to `time`, and
-    /// `log-key` to `inclusion`.
+    /// The links from `fulcio` on, in order, of a bundle that was read.
     fn check_bundle<P: VerificationPolicy, C: SignatureChecker>(
         &self,
         alloc: Global,
@@ -161,17 +160,51 @@ impl HeldRoot {
             self.now digest.now bundle.now result) }
     {
         let trust = self.check_root()?;
-        match trust
+        trust.check_signed(alloc, digest, bundle, policy, checker)?;
+        trust.check_logged(alloc, bundle, checker)
+    }
+}
+
+impl Trust {
+    /// The links `material` to `time`. A bundle of which they hold has one entry.
+    fn check_signed<P: VerificationPolicy, C: SignatureChecker>(
+        &self,
+        alloc: Global,
+        digest: &ArtifactDigest,
+        bundle: &Bundle,
+        policy: &P,
+        checker: &C,
+    ) -> Result<(), OfflineError>
+        ensures verdict { UnlessMemory OfflineError.OutOfMemory result (IsVerdictUnder
+            (checker_of C.SignatureChecker checker.now)
+            (policy_of P.VerificationPolicy policy.now)
+            self.now.verifier digest.now bundle.now result) }
+        ensures logged { OnOk result (IsSome (only_entry_of bundle.now)) }
+    {
+        match self
             .verifier
             .verify_digest_with(alloc, digest, bundle, policy, true, checker)
         {
-            Ok(()) => match only_entry_of(bundle) {
-                Some(entry) => verify_log_entry(alloc, entry, &trust.log_keys, checker),
-                // A bundle of which these links hold has one entry.
-                None => unreachable!(),
-            },
+            Ok(()) => Ok(()),
             Err(error) => Err(verification_error(error)),
         }
+    }
+
+    /// The links `log-key` to `inclusion`, of the only entry of a bundle.
+    fn check_logged<C: SignatureChecker>(
+        &self,
+        alloc: Global,
+        bundle: &Bundle,
+        checker: &C,
+    ) -> Result<LoggedEntry, OfflineError>
+        requires { IsSome (only_entry_of bundle.now) }
+        ensures { UnlessMemory OfflineError.OutOfMemory result (IsVouchedIn
+            (C.spki_accepts checker.now) self.now.log_keys bundle.now result) }
+    {
+        let Some(entry) = only_entry_of(bundle) else {
+            unreachable!()
+        };
+        verify_log_entry(alloc, entry, &self.log_keys, checker)
     }
 }
 

@@ -1,5 +1,6 @@
 //! Whether a certificate's key signed what a bundle holds, and whether that is about the artifact.
 ghost use Rattle.std.specs.Prelude.{◌≡◌};
+ghost use Rattle.std.specs.List.{list_any};
 ghost use Rattle.sig_base.specs.Answers.{Answers};
 ghost use Rattle.sig_key.specs.Key.{key_accepts};
 ghost use Rattle.sig_key.specs.Kind.{key_parts};
@@ -88,11 +89,15 @@ fn is_about(content: &CheckedContent, digest: &ArtifactDigest) -> bool
         CheckedContent::Dsse {
             subject_digests,
             ..
-        } => subject_digests
-            .as_slice()
-            .iter()
-            .any(|subject| is_same(subject, digest)),
+        } => has_digest(subject_digests.as_slice(), digest),
     }
+}
+
+/// Whether one of the digests is this one.
+fn has_digest(digests: &[ArtifactDigest], digest: &ArtifactDigest) -> bool
+    ensures { result ≡ list_any (λ subject. is_same subject digest.now) digests.now }
+{
+    digests.iter().any(|subject| is_same(subject, digest))
 }
 
 /// Whether two digests have one algorithm and the same bytes.

@@ -2,7 +2,7 @@
 //! Transparency log vouches for the certificate.
 ghost use Rattle.std.specs.Prelude.{◌≡◌, ◌≤◌, [], length, option_map};
 ghost use Rattle.sig_base.specs.Answers.{Answers};
-ghost use Rattle.sig_verify.specs.IssuerCheck.{issued_answer, issuer_spki, sct_answer, spki_of};
+ghost use Rattle.sig_verify.specs.IssuerCheck.{issued_answer, issuer_spki, path_start, sct_answer, spki_of};
 ghost use Rattle.sig_x509.specs.Pool.{pool_over};
 
 use crate::error::VerificationError;
@@ -38,8 +38,7 @@ impl Verifier {
     }
 }
 
-/// The SubjectPublicKeyInfo of the first issuer in a certification path from the certificate, at the first second of its
-/// validity, over the further ones to a trust anchor. The pool has no intermediates of its own.
+/// The SubjectPublicKeyInfo of the first issuer in a certification path. The pool has no intermediates of its own.
 fn issuer_spki<'a, C: SignatureChecker>(
     alloc: Global,
     pool: &'a CertificatePool,
@@ -52,14 +51,31 @@ fn issuer_spki<'a, C: SignatureChecker>(
     ensures { Answers VerificationError.OutOfMemory (λ spki. spki.now) result
         (issuer_spki (C.cert_accepts checker.now) (pool_over pool.now.anchors further.now) leaf.now) }
 {
+    let issuer = path_start(alloc, pool, leaf, further, checker)?;
+    match spki_of(pool, further, issuer) {
+        Some(spki) => Ok(spki),
+        None => unreachable!(),
+    }
+}
+
+/// The first issuer in a certification path from the certificate, at the first second of its validity, over the further
+/// ones to a trust anchor. The pool has no intermediates of its own.
+fn path_start<C: SignatureChecker>(
+    alloc: Global,
+    pool: &CertificatePool,
+    leaf: &Certificate,
+    further: &[Certificate],
+    checker: &C,
+) -> Result<Issuer, VerificationError>
+    requires alone { pool.now.intermediates ≡ [] }
+    requires few { length further.now ≤ 16 }
+    ensures { Answers VerificationError.OutOfMemory (λ issuer. issuer) result
+        (path_start (C.cert_accepts checker.now) (pool_over pool.now.anchors further.now) leaf.now) }
+{
     let time = leaf.not_before();
     // No `?`: what the result says is a fact of each arm.
     match verify_cert_with_chain(pool, alloc, leaf, further, time, checker) {
-        Ok(issuer) => match spki_of(pool, further, issuer) {
-            Some(spki) => Ok(spki),
-            // The issuer in a path is a certificate of the pool.
-            None => unreachable!(),
-        },
+        Ok(issuer) => Ok(issuer),
         Err(error) => Err(VerificationError::from(error)),
     }
 }

@@ -33,7 +33,6 @@ pub fn entries()
     ensures links { EntriesAreJudged }
     ensures kept { EntriesAreKept }
 {
-    // Which members an inclusion proof has, and what is refused of others.
     proofs();
     proof_faults();
 }
@@ -43,7 +42,6 @@ pub fn entries()
 pub fn causes_of_entry_errors()
     ensures { EntryErrorsHaveTheirCause }
 {
-    // Which members an inclusion proof has, and what is refused of others.
     proofs();
     proof_faults();
 }
@@ -53,7 +51,6 @@ pub fn causes_of_entry_errors()
 pub fn bundles()
     ensures { BundlesAreJudged }
 {
-    // Bytes are at most one certificate, and what a bundle has that passes its own checks, or is refused by them.
     certificates();
     passed_bundles();
     causes_of_refusals();
@@ -83,7 +80,6 @@ pub fn checked_bundles()
 pub fn verified_bundles()
     ensures { VerdictsAreJudged }
 {
-    // Bytes are at most one certificate, and a bundle's own checks are its links.
     certificates();
     passed_bundles();
     bundles();
@@ -100,7 +96,6 @@ pub fn roots()
 pub fn outcomes()
     ensures { OutcomesAreJudged }
 {
-    // The same of each group of links.
     certificates();
     passed_bundles();
     bundles();
@@ -114,7 +109,6 @@ pub fn outcomes()
 pub fn causes_of_errors()
     ensures { OfflineErrorsHaveTheirCause }
 {
-    // The same of each group of links, and the causes of its errors.
     certificates();
     passed_bundles();
     causes_of_refusals();

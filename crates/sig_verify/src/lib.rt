@@ -20,6 +20,7 @@ mod log_entry;
 mod logged_entry;
 mod offline_error;
 mod verifier;
+mod verify;
 mod verify_artifact;
 
 pub use artifact::InputFault;

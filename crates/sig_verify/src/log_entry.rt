@@ -6,15 +6,17 @@ ghost use Rattle.sig_key.specs.Kind.{key_parts};
 ghost use Rattle.sig_verify.specs.EntryLinks.{HasKeyOfBytes, HoldsOfEntry, entry_links};
 ghost use Rattle.sig_verify.specs.Judged.{Judged};
 ghost use Rattle.sig_verify.specs.LinkLaws.{IsKept};
-ghost use Rattle.sig_verify.specs.LogEntry.{entry_inclusion_answer, log_entry_answer, log_key_answer, promise_answer};
-ghost use Rattle.sig_verify.specs.LogEntry.{vouched};
+ghost use Rattle.sig_verify.specs.LogEntry.{log_entry_answer, fields_answer, id_answer};
+ghost use Rattle.sig_verify.specs.LogEntry.{entry_inclusion_answer};
+ghost use Rattle.sig_verify.specs.LogEntry.{log_key_answer};
+ghost use Rattle.sig_verify.specs.LogEntry.{borrowed_id, promise_answer, read_key, vouched};
 
 use crate::logged_entry::LoggedEntry;
 use crate::offline_error::{OfflineError, proof_error};
 use sig_base::laws::{are_bytes, are_optional_bytes, are_owned_bytes};
-use sig_base::{KeyMap, SignatureChecker, SigstoreError, Text};
+use sig_base::{Bytes, KeyMap, SignatureChecker, SigstoreError, Text};
 use sig_bundle::laws::{proof_faults, proofs};
-use sig_bundle::{TransparencyLogEntry, promise_text};
+use sig_bundle::{ProofFields, TransparencyLogEntry, promise_text};
 use sig_key::CosignVerificationKey;
 use sig_rekor::InclusionProof;
 use std::alloc::Global;
@@ -54,8 +56,6 @@ pub fn verify_log_entry<C: SignatureChecker>(
     ensures answer { Answers OfflineError.OutOfMemory (λ offline. offline) result
         (log_entry_answer (C.spki_accepts checker.now) log_keys.now entry.now) }
 {
-    // Which members an inclusion proof has, and what is refused of others. Body and log id
-    // are bytes, which the promise holds.
     proofs();
     proof_faults();
     are_owned_bytes(&entry.canonicalized_body);
@@ -76,11 +76,7 @@ pub fn vouched<C: SignatureChecker>(
         (vouched (key_accepts (C.spki_accepts checker.now) key.now) entry.now) }
 {
     check_promise(alloc, entry, key, checker)?;
-    // The links `proof` and `checkpoint`.
-    let Some(fields) = &entry.inclusion_proof else {
-        return Err(OfflineError::ProofMissing);
-    };
-    let proof = fields.to_proof(alloc)?;
+    let proof = entry_proof(alloc, &entry.inclusion_proof)?;
     check_proof(alloc, entry, &proof, key, checker)?;
     let body = entry.canonicalized_body.copy(alloc)?;
     Ok(LoggedEntry { body, proof })
@@ -101,7 +97,7 @@ fn judge_entry<C: SignatureChecker>(
     vouched(alloc, entry, &key, checker)
 }
 
-/// The link `log-key`: the key of the entry's log, whose id names it in lower-case hexadecimal.
+/// The link `log-key`: the key of the entry's log.
 fn log_key(
     alloc: Global,
     entry: &TransparencyLogEntry,
@@ -111,15 +107,31 @@ fn log_key(
     ensures named { OnOk result (IsSome entry.now.log_id) }
     ensures bytes { UnlessMemory OfflineError.OutOfMemory result (HasKeyOfBytes log_keys.now entry.now) }
 {
-    let Some(id) = &entry.log_id else {
-        return Err(OfflineError::LogIdMissing);
-    };
+    let id = id_of(&entry.log_id)?;
     let name = Text::from(hex::encode(alloc, id.as_slice())?);
-    let Some(der) = log_keys.get(name.as_str()) else {
-        return Err(OfflineError::RekorPublicKeyNotFoundError(name));
-    };
-    // The key is bytes.
-    are_bytes(der);
+    match log_keys.get(name.as_str()) {
+        Some(der) => {
+            are_bytes(der);
+            key_of(alloc, der)
+        }
+        None => Err(OfflineError::RekorPublicKeyNotFoundError(name)),
+    }
+}
+
+/// The id of the entry's log.
+fn id_of(id: &Option<Bytes>) -> Result<&Bytes, OfflineError>
+    ensures { borrowed_id result ≡ id_answer id.now }
+{
+    match id {
+        Some(id) => Ok(id),
+        None => Err(OfflineError::LogIdMissing),
+    }
+}
+
+/// The key that these bytes are.
+fn key_of(alloc: Global, der: &[u8]) -> Result<CosignVerificationKey, OfflineError>
+    ensures { Answers OfflineError.OutOfMemory key_parts result (read_key der.now) }
+{
     match CosignVerificationKey::try_from_der(alloc, der) {
         Ok(key) => Ok(key),
         Err(SigstoreError::OutOfMemory) => Err(OfflineError::OutOfMemory),
@@ -147,6 +159,17 @@ fn check_promise<C: SignatureChecker>(
         Ok(())
     } else {
         Err(OfflineError::Promise)
+    }
+}
+
+/// The links `proof` and `checkpoint`: the entry's proof.
+fn entry_proof(alloc: Global, fields: &Option<ProofFields>) -> Result<InclusionProof, OfflineError>
+    ensures answer { Answers OfflineError.OutOfMemory (λ proof. proof) result (fields_answer fields.now) }
+    ensures carried { IfOk result (λ proof. IsSome proof.checkpoint) }
+{
+    match fields {
+        Some(fields) => Ok(fields.to_proof(alloc)?),
+        None => Err(OfflineError::ProofMissing),
     }
 }
 
