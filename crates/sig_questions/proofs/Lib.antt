@@ -22,3 +22,4 @@ pub mod Calls
 pub mod Orderings
 pub mod OrderRows
 pub mod SeenRows
+mod Places

@@ -8,3 +8,4 @@ pub mod Matters
 pub mod Listed
 pub mod Front
 pub mod Order
+pub mod Places

@@ -2,6 +2,7 @@
 ghost use Rattle.sig_questions.specs.Few.{QuestionsAreFew};
 ghost use Rattle.sig_questions.specs.Listed.{ListedTextsAreAnswered};
 ghost use Rattle.sig_questions.specs.Matters.{EachQuestionMatters, IssuerRestsOnSteps};
+ghost use Rattle.sig_questions.specs.Places.{PairsAreInOrder, SignersAreInOrder};
 ghost use Rattle.sig_questions.specs.Questions.{QuestionsAreOneList, QuestionsHaveSchemes};
 ghost use Rattle.sig_questions.specs.Questions.{QuestionsSuffice, RefusalsAreForAll};
 
@@ -43,6 +44,13 @@ pub fn one_list()
     // Bytes are at most one certificate.
     certificates();
 }
+
+/// The keys are those of the trust anchors in order, and then those of the further certificates in order. The signatures
+/// are that of the certificate under each key in order, and then those of the further certificates in order, each so.
+pub fn places()
+    ensures signers { SignersAreInOrder }
+    ensures pairs { PairsAreInOrder }
+{}
 
 /// Each question has a scheme that its operation may have.
 pub fn schemes()
