@@ -7,8 +7,8 @@ _sigverify_reply() {
 
 _sigverify() {
   case ${COMP_WORDS[*]:1:COMP_CWORD-1} in
-  '') _sigverify_reply 'log verify consistency audit witness questions demo --help --version' "${COMP_WORDS[COMP_CWORD]}" ;;
-  'questions') _sigverify_reply 'log verify consistency audit witness' "${COMP_WORDS[COMP_CWORD]}" ;;
+  '') _sigverify_reply 'log verify consistency audit witness gate questions demo --help --version' "${COMP_WORDS[COMP_CWORD]}" ;;
+  'questions') _sigverify_reply 'log verify consistency audit witness gate' "${COMP_WORDS[COMP_CWORD]}" ;;
   *) COMPREPLY=() ;;
   esac
 }
@@ -36,7 +36,7 @@ _sigverify_checked() {
   esac
   case ${COMP_WORDS[COMP_CWORD]} in
   -*) _sigverify_reply '--print-request --sigverify --help' "${COMP_WORDS[COMP_CWORD]}" ;;
-  *) _sigverify_reply 'log verify consistency audit witness' "${COMP_WORDS[COMP_CWORD]}" ;;
+  *) _sigverify_reply 'log verify consistency audit witness gate' "${COMP_WORDS[COMP_CWORD]}" ;;
   esac
 }
 

@@ -14,6 +14,7 @@ import audit_requests
 import consistency_requests
 import demo_requests
 import fixture
+import gate_requests
 import log_requests
 import questions_cases
 import verify_cases
@@ -124,9 +125,20 @@ def witness_cases_made():
     yield made("questions witness", "questions witness", whole, questions_cases.witness_reply(whole))
 
 
+def gate_cases_made():
+    """Two artifacts, one of two bundles, and one of them denied; and the signatures of the bundles."""
+    artifacts = [gate_requests.artifact([gate_requests.F, gate_requests.OTHER], {"all": [{"least": 2}, {"origin": gate_requests.ORIGIN}]}),
+                 gate_requests.artifact(name="b")]
+    whole = json.dumps(gate_requests.manifest(*artifacts))
+    late = json.dumps(gate_requests.manifest(*artifacts, gate_requests.artifact([gate_requests.LATE, ""], {"size": 10}, name="c")))
+    for title, text in (("gate", whole), ("gate, deny none", late)):
+        yield made(title, "gate", text, gate_requests.lines(text))
+    yield made("questions gate", "questions gate", late, questions_cases.gate_reply(late))
+
+
 def demo_cases():
     yield Case("demo 3", ["demo", "3"], b"", demo_requests.shown(3).encode(), 0)
 
 
 def cases():
-    return [*log_cases(), *verify_cases_made(), *consistency_cases(), *audit_cases(), *witness_cases_made(), *demo_cases()]
+    return [*log_cases(), *verify_cases_made(), *consistency_cases(), *audit_cases(), *witness_cases_made(), *gate_cases_made(), *demo_cases()]

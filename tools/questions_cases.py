@@ -3,7 +3,7 @@
 
     tools/questions_cases.py                  writes the examples/questions-*.expected
     tools/questions_cases.py check PROGRAM    runs the program on each request of examples/log.requests, of examples/consistency.requests, of
-                                              examples/audit.requests, of examples/witness.requests and of the rows of `verify`, and compares its reply with this reader's. Where it lists signatures, the command has to have
+                                              examples/audit.requests, of examples/witness.requests, of examples/gate.requests and of the rows of `verify`, and compares its reply with this reader's. Where it lists signatures, the command has to have
                                               the same reply with those of the accepted signatures alone that are listed, and that of
                                               the second implementation with all that are listed; where it names a link of the chain
                                               of trust, `verify` has to name it too, with and without accepted signatures. Then come
@@ -12,8 +12,8 @@
                                               those of which it is stated by hand on which signatures of a path `issuer` rests
 
 The reader of a request of `log` is that of tools/log_requests.py, that of one of `consistency` that of
-tools/consistency_requests.py, that of one of `audit` that of tools/audit_requests.py, and that of one of `witness` that of
-tools/witness_requests.py. That of a request of `verify` asks
+tools/consistency_requests.py, that of one of `audit` that of tools/audit_requests.py, that of one of `witness` that of
+tools/witness_requests.py, and that of a manifest that of tools/gate_requests.py. That of a request of `verify`, as of a bundle of a manifest, asks
 the links of tools/verify_links.py: those before `issuer` for the first that fails, and the others for the signatures that they
 look up, under one issuer at a time. Which certificates come after one another in a path, if every signature is genuine, it finds
 out by walking all paths.
@@ -30,6 +30,7 @@ sys.path.insert(0, str(TOP / "tools"))
 import audit_requests  # noqa: E402
 import consistency_requests  # noqa: E402
 import fixture  # noqa: E402
+import gate_requests  # noqa: E402
 import log_requests  # noqa: E402
 import verify_cases  # noqa: E402
 import verify_certificate as certificates  # noqa: E402
@@ -45,6 +46,8 @@ LOG = ["log", "log-entries", "log-rekor-staging", "log-wrong-path"]
 CONSISTENCY = ["consistency", "consistency-entries", "consistency-rewritten"]
 AUDIT = ["audit", "audit-forged"]
 WITNESS = ["witness", "witness-next"]
+GATE = ["gate", "gate-denied"]
+MOST_ASKED = 2**26  # bytes of all rows of a manifest, each as often as it is asked for
 VERIFY = ["verify", "verify-refused"]
 
 
@@ -181,28 +184,44 @@ def written(row):
     return {name: value for name, value in members.items() if value is not None}
 
 
-def verify_reply(text):
-    """The reply of `questions verify` and its status."""
-    try:
-        case = links.SimpleNamespace(request=links.read_request(text.encode()))
-    except NoRequest:
-        return "refused request", 2
+def rows_or_link(case):
+    """The rows that the links of a case ask for, or the first link that fails whatever is accepted."""
     for name, link in links.LINKS.items():
         if name == "issuer":
             break
         try:
             link(case)
         except links.Fails:
-            return "refused " + name, 1
+            return None, name
     rows, others = verify_questions(case)
-    if not rows:
-        return "refused issuer", 1
-    found = document(list(map(written, rows + others)))
-    return listing(text, found)
+    return (rows + others, None) if rows else (None, "issuer")
+
+
+def verify_reply(text):
+    """The reply of `questions verify` and its status."""
+    try:
+        case = links.SimpleNamespace(request=links.read_request(text.encode()))
+    except NoRequest:
+        return "refused request", 2
+    rows, failing = rows_or_link(case)
+    return (f"refused {failing}", 1) if failing else listing(text, document(list(map(written, rows))))
+
+
+def gate_reply(text):
+    """The reply of `questions gate` and its status: what the links of each bundle ask for, each once."""
+    try:
+        read = gate_requests.read_request(text)
+    except gate_requests.manifests.Refused:
+        return "refused request", 2
+    cases = [gate_requests.case_of(read, artifact, bundle) for artifact in read["artifacts"] for bundle in artifact["bundles"]]
+    rows = [row for case in cases for row in rows_or_link(case)[0] or []]
+    if sum(len(part or "") for _, *parts in rows for part in parts) > MOST_ASKED:
+        return "refused request", 2
+    return listing(text, document(list(map(written, dict.fromkeys(rows)))))
 
 
 def write():
-    for names, reply in ((LOG, log_reply), (CONSISTENCY, consistency_reply), (AUDIT, audit_reply), (WITNESS, witness_reply),
+    for names, reply in ((LOG, log_reply), (CONSISTENCY, consistency_reply), (AUDIT, audit_reply), (WITNESS, witness_reply), (GATE, gate_reply),
                          (VERIFY, verify_reply)):
         for name in names:
             text, status = reply((TOP / f"examples/{name}.json").read_text())
@@ -265,6 +284,12 @@ def with_different_signatures(text, count):
     return json.dumps({**request, "updates": [{**first, "checkpoint": "\n\n".join([note, *lines, *lines])}]})
 
 
+def with_many_artifacts(text):
+    """The manifest with 128 artifacts, all of the same bundle."""
+    request = json.loads(text)
+    return json.dumps({**request, "artifacts": request["artifacts"][-1:] * 128})
+
+
 def about_the_limit(program, command, text):
     """Whether the list of a request is written as long as the two fit one request, which is then read."""
     front, brace = text.rstrip()[:-1], "}"
@@ -281,12 +306,13 @@ def about_the_limit(program, command, text):
 
 
 def limit_texts():
-    log, consistency, audit, witness, verify = ((TOP / f"examples/{name}.json").read_text()
-                                                for name in ("log", "consistency", "audit", "witness", "verify"))
+    log, consistency, audit, witness, gate, verify = ((TOP / f"examples/{name}.json").read_text()
+                                                      for name in ("log", "consistency", "audit", "witness", "gate", "verify"))
     # The list of many signatures is longer than the request, whose note each of them repeats.
     return [("log", log), ("log", with_signatures(log, 40_000)), ("consistency", consistency),
             ("consistency", with_signatures(consistency, 40_000)), ("audit", audit), ("audit", with_many_heads(audit, 200)),
-            ("witness", witness), ("witness", with_different_signatures(witness, 40_000)), ("verify", verify)]
+            ("witness", witness), ("witness", with_different_signatures(witness, 40_000)), ("gate", gate), ("gate", with_many_artifacts(gate)),
+            ("verify", verify)]
 
 
 def keyed_text(over, anchors):
@@ -400,6 +426,7 @@ def check(program):
                                            ("consistency", texts_of("consistency"), consistency_reply, consistency_requests.reply),
                                            ("audit", texts_of("audit"), audit_reply, audit_requests.reply),
                                            ("witness", texts_of("witness"), witness_reply, witness_requests.reply),
+                                           ("gate", texts_of("gate"), gate_reply, gate_requests.reply),
                                            ("verify", verify_texts(), verify_reply, verify_second)):
         for text in texts:
             wanted = reader(text)

@@ -4,8 +4,8 @@
 What comes of a run is counted here by the contract of `run`: a request is read until the source gives nothing more, its calls counted from 0;
 the reply is written when it is whole, each call handed all that is left of it; a read that fails writes nothing, and a write that fails leaves
 what was written before it, with status 74 both times; words that are no command, and `demo N`, read nothing. The replies are those of
-tools/log_requests.py, tools/consistency_requests.py, tools/audit_requests.py, tools/witness_requests.py, tools/questions_cases.py and, of `demo`,
-tools/demo_requests.py."""
+tools/log_requests.py, tools/consistency_requests.py, tools/audit_requests.py, tools/witness_requests.py, tools/gate_requests.py,
+tools/questions_cases.py and, of `demo`, tools/demo_requests.py."""
 import hashlib
 import json
 import sys
@@ -15,6 +15,7 @@ sys.dont_write_bytecode = True
 import audit_requests as audits
 import consistency_requests as growth
 import demo_requests
+import gate_requests as gates
 import questions_cases
 import witness_requests as witnesses
 from case_table import Table
@@ -24,8 +25,8 @@ from log_requests import FIRST
 ASKED = 16_384
 FAULT = 74
 NEVER = 999_999
-COMMANDS = ("log", "verify", "consistency", "audit", "witness", "questions,log", "questions,verify", "questions,consistency", "questions,audit",
-            "questions,witness")
+COMMANDS = ("log", "verify", "consistency", "audit", "witness", "gate", "questions,log", "questions,verify", "questions,consistency", "questions,audit",
+            "questions,witness", "questions,gate")
 
 # Words that look like `demo N`.
 NOT_DEMO = (
@@ -168,12 +169,37 @@ def kept_heads():
         both(request, WIDE[:2])
 
 
+def gated_artifacts():
+    def both(request, source=STEADY):
+        found = request if isinstance(request, str) else json.dumps(request, separators=(",", ":"))
+        for words, (reply, status) in (("gate", gates.lines(found)), ("questions,gate", questions_cases.gate_reply(found))):
+            run(words, found, source, (64, NEVER, 65536), reply.encode() + b"\n", status)
+
+    group("Artifacts of a manifest: one bundle, two of which one fails, one twice, and none; rules; several artifacts; and texts that are none")
+    for request in gates.first_rows():
+        both(request)
+    bundles = [gates.F, gates.OTHER, gates.LARGER]
+    for rule in ({"least": 3}, {"least": 4}, {"all": [{"size": 9}, {"origin": gates.ORIGIN}]}, {"any": [{"size": 10}, {"not": {"origin": "other"}}]}):
+        both(gates.manifest(gates.artifact(bundles, rule)))
+    both(gates.manifest(gates.artifact(), gates.artifact(["", gates.MESSAGE], name="b"), gates.artifact(root="s", name="c"),
+                        roots={"r": gates.ROOT, "s": "{}"}))
+    both(gates.manifest(accepted=[]))
+    for place in range(5):
+        both(gates.manifest(accepted=[row for at, row in enumerate(gates.F.accepted()) if at != place]))
+    both(gates.manifest(gates.artifact(root="s")))
+    both(gates.manifest(gates.artifact(policy="q")))
+    both(gates.manifest(artifacts=[]))
+    both(json.dumps(gates.manifest())[:-1])
+    for request in list(gates.hundreds())[:4]:
+        both(request, WIDE[:2])
+
+
 def other_words():
     group("Both fail: the read comes first")
     run("log", FIRST, (64, 2), (1, 3, 256), LOGGED, 0)
     run("log", "", (1, 0), (1, 0, 0), REFUSED, 2)
     group("Words that are no command, and those that `main` answers itself: nothing is read")
-    for words in ("x", "--help", "--version", "log,log", "questions", "questions,questions", "questions,consistency,log", "audit,audit", "questions,audit,audit", "witness,witness", "Witness", "Audit", "Log", "log,"):
+    for words in ("x", "--help", "--version", "log,log", "questions", "questions,questions", "questions,consistency,log", "audit,audit", "questions,audit,audit", "witness,witness", "Witness", "gate,gate", "Gate", "Audit", "Log", "log,"):
         run(words, "12345", (1, 0), WIDE, USAGE, 64)
         for failing in range(4):
             run(words, "12345", STEADY, (2, failing, 256), USAGE, 64)
@@ -209,6 +235,7 @@ def main():
     grown_trees()
     audited_logs()
     kept_heads()
+    gated_artifacts()
     other_words()
     demo()
     TABLE.write()

@@ -32,11 +32,13 @@ extern "C" {
 #define SIGVERIFY_CONSISTENCY 3 /* does the log still have the entries that it had? */
 #define SIGVERIFY_AUDIT 4       /* are these heads of one log over time, and are these entries in it? */
 #define SIGVERIFY_WITNESS 5     /* which of these heads have grown from those that are kept? */
+#define SIGVERIFY_GATE 6        /* which of these artifacts are to be admitted? */
 #define SIGVERIFY_QUESTIONS 256
 
 /* The statuses. Of the first three the reply is written, and of the others nothing. */
 #define SIGVERIFY_HOLDS 0       /* every link of the command holds; of questions, the list is written */
-#define SIGVERIFY_REFUSED 1     /* a link does not hold: the reply names the first one; of witness, some update is refused */
+#define SIGVERIFY_REFUSED 1     /* a link does not hold: the reply names the first one; of witness, some update is refused;
+                                   of gate, some artifact is not admitted */
 #define SIGVERIFY_NO_REQUEST 2  /* the request is none of the command's, or has more than 2^24 bytes */
 #define SIGVERIFY_NO_COMMAND 64 /* no command has this number */
 #define SIGVERIFY_NO_MEMORY 71  /* malloc or realloc gave none */

@@ -27,6 +27,7 @@ const (
 	Consistency Command = C.SIGVERIFY_CONSISTENCY
 	Audit       Command = C.SIGVERIFY_AUDIT
 	Witness     Command = C.SIGVERIFY_WITNESS
+	Gate        Command = C.SIGVERIFY_GATE
 )
 
 // Questions is the command that lists the signatures on which the reply of c can rest.
@@ -37,7 +38,7 @@ type Status int
 
 const (
 	Holds     Status = C.SIGVERIFY_HOLDS      // every link of the command holds, or the list of questions is there
-	Refused   Status = C.SIGVERIFY_REFUSED    // the reply names the first link that does not hold, or some update is refused
+	Refused   Status = C.SIGVERIFY_REFUSED    // the reply names the first link that does not hold, or some update or artifact is refused
 	NoRequest Status = C.SIGVERIFY_NO_REQUEST // the request is none of the command's, or too long
 )
 

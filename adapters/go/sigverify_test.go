@@ -12,7 +12,7 @@ import (
 	"testing"
 )
 
-var commands = map[string]Command{"log": Log, "verify": Verify, "consistency": Consistency, "audit": Audit, "witness": Witness}
+var commands = map[string]Command{"log": Log, "verify": Verify, "consistency": Consistency, "audit": Audit, "witness": Witness, "gate": Gate}
 
 // expected reads the reply and the status of a file, whose last line says the status.
 func expected(t *testing.T, path string) string {
@@ -69,7 +69,7 @@ func TestGoroutines(t *testing.T) {
 }
 
 func TestNoReply(t *testing.T) {
-	for _, command := range []Command{0, 6, 255, 262} {
+	for _, command := range []Command{0, 7, 255, 263} {
 		if _, text, err := Reply(command, []byte("{}")); err != ErrNoCommand || text != nil {
 			t.Errorf("command %d: %q, %v", command, text, err)
 		}

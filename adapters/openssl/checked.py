@@ -40,6 +40,13 @@ STATE = rb"\n(?:[^\n]+\n[A-Z0-9_]+\n[0-9A-Za-z+/=]*\n[0-9]+\n[0-9A-Za-z+/]{43}=\
 NOT_KEPT = rb"refused (?:checkpoint|origin|note-key|old-size [0-9]+|consistency|full)\n"
 KEPT = rb"accepted [0-9]+\n"
 REPLIES["witness"] = {0: b"(?:%s)*%s" % (KEPT, STATE), 1: b"(?:%s)*%s(?:%s|%s)*%s" % (KEPT, NOT_KEPT, KEPT, NOT_KEPT, STATE), 2: REFUSED[2]}
+# For each artifact a line, and one for each of its bundles; and how many are admitted. With status 1 one of them is not.
+NAME = rb"[!-~]{1,256}"
+BUNDLES = rb"(?:bundle [0-9]+ (?:verified -?[0-9]+ [0-9]+|refused [0-9a-z-]+)\n)*"
+ADMITTED = b"artifact %s admit\n%s" % (NAME, BUNDLES)
+DENIED = b"artifact %s deny (?:none|rule)\n%s" % (NAME, BUNDLES)
+COUNTED = rb"admitted [0-9]+ of [0-9]+\n"
+REPLIES["gate"] = {0: b"(?:%s)+%s" % (ADMITTED, COUNTED), 1: b"(?:%s)*%s(?:%s|%s)*%s" % (ADMITTED, DENIED, ADMITTED, DENIED, COUNTED), 2: REFUSED[2]}
 
 
 def help_text():

@@ -111,6 +111,32 @@ def state_lines(signer, request, place):
     return ["", origin, signer.scheme, signed.base64_of(signer.spki), size, root]
 
 
+def gated(*artifacts):
+    """The manifest of artifacts, each the bundles of one artifact and its rule, under the first bundle's trusted root."""
+    made = [{"name": f"a{place}", "digest": "sha256:" + bundles[0].digest.hex(), "root": "root", "policy": "policy",
+             "bundles": [signed.compact(each.bundle()) for each in bundles], "rule": rule} for place, (bundles, rule) in enumerate(artifacts)]
+    return {"now": NOW, "roots": {"root": signed.compact(artifacts[0][0][0].trusted_root())},
+            "policies": {"policy": {"all": [{"identity": IDENTITY, "issuer": ISSUER}]}}, "artifacts": made}
+
+
+def gates():
+    """A bundle alone; beside one of which each signature in turn is made otherwise; twice, where two logged signatures are asked for; and artifacts
+    of which not all are admitted."""
+    whole, least, two = Signed(), {"least": 1}, {"least": 2}
+    admitted = ["artifact a0 admit", "bundle 0 verified 2 5"]
+    yield "gate", gated(([whole], least)), 0, lines_of(*admitted, "admitted 1 of 1")
+    for title, link in signed.LINKS.items():
+        for by in "flip", "stranger":
+            lines = lines_of("artifact a0 admit", f"bundle 0 refused {link}", "bundle 1 verified 2 5", "artifact a1 deny none",
+                             f"bundle 0 refused {link}", "admitted 1 of 2")
+            spoiled = Signed(spoiled=title, by=by)
+            yield "gate", gated(([spoiled, whole], least), ([spoiled], {"not": least})), 1, lines
+    yield "gate", gated(([whole, whole], two)), 1, lines_of("artifact a0 deny rule", "bundle 0 verified 2 5", "bundle 1 verified 2 5", "admitted 0 of 1")
+    yield "gate", gated(([whole, Signed()], two)), 0, lines_of(*admitted, "bundle 1 verified 2 5", "admitted 1 of 1")
+    yield "gate", {**gated(([whole], least)), "roots": {}}, 2, "refused request\n"
+    yield "gate", {}, 2, "refused request\n"
+
+
 def lines_of(*lines):
     return "".join(line + "\n" for line in lines)
 
@@ -131,6 +157,7 @@ def requests():
         yield "verify", verify_request(Signed(spoiled=title)), 1, f"refused {link}\n"
     yield from audits()
     yield from witnesses()
+    yield from gates()
     yield "log", verify_request(Signed()), 2, "refused request\n"
     yield "verify", {}, 2, "refused request\n"
 
@@ -224,6 +251,10 @@ def check_ends(results, program):
         for does in "echo 'accepted 1'", "echo; echo x", "echo 'refused full'; echo; exit 0", "echo 'accepted 1'; echo; exit 1", "echo; exit 1":
             program_of = program_that(folder, f'[ "$1" = witness ] || {{ echo "[]"; exit; }}; {does}')
             compare_end(results, f"a witness that does: {does}", [f"--sigverify={program_of}", "witness"], "no reply", adapter=CHECKED, input=text)
+        for does in ("echo 'admitted 1 of 1'", "echo 'artifact a admit'", "echo 'artifact a deny none'; echo 'admitted 0 of 1'",
+                     "echo 'artifact a admit'; echo 'admitted 1 of 1'; exit 1", "echo 'artifact a b admit'; echo 'admitted 1 of 1'"):
+            program_of = program_that(folder, f'[ "$1" = gate ] || {{ echo "[]"; exit; }}; {does}')
+            compare_end(results, f"a gate that does: {does}", [f"--sigverify={program_of}", "gate"], "no reply", adapter=CHECKED, input=text)
         file_of(folder, "start.py", b"raise MemoryError")
         there = os.path.join(folder, "sigverify-checked")
         with open(CHECKED, "rb") as file:

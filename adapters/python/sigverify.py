@@ -24,7 +24,7 @@ HOLDS, REFUSED, NO_REQUEST = 0, 1, 2
 NO_COMMAND, NO_MEMORY, NO_ROOM = 64, 71, 75
 
 # As sigverify.h numbers them; the questions of a command have QUESTIONS more.
-COMMANDS = {"log": 1, "verify": 2, "consistency": 3, "audit": 4, "witness": 5}
+COMMANDS = {"log": 1, "verify": 2, "consistency": 3, "audit": 4, "witness": 5, "gate": 6}
 QUESTIONS = 256
 
 VERSION = 0x000100

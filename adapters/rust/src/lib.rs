@@ -14,11 +14,13 @@ pub enum Command {
     Consistency = 3,
     Audit = 4,
     Witness = 5,
+    Gate = 6,
     LogQuestions = 257,
     VerifyQuestions = 258,
     ConsistencyQuestions = 259,
     AuditQuestions = 260,
     WitnessQuestions = 261,
+    GateQuestions = 262,
 }
 
 /// What a reply is.
@@ -26,7 +28,8 @@ pub enum Command {
 pub enum Status {
     /// Every link of the command holds; of questions, the list is there.
     Holds,
-    /// The reply names the first link that does not hold; of `Witness`, some update is refused.
+    /// The reply names the first link that does not hold; of `Witness`, some update is refused; of `Gate`, some
+    /// artifact is not admitted.
     Refused,
     /// The request is none of the command's, or too long.
     NoRequest,

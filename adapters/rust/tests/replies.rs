@@ -4,12 +4,13 @@ use std::fs;
 use std::path::Path;
 use std::process::Command as Process;
 
-const NAMES: [(&str, Command, Command); 5] = [
+const NAMES: [(&str, Command, Command); 6] = [
     ("log", Command::Log, Command::LogQuestions),
     ("verify", Command::Verify, Command::VerifyQuestions),
     ("consistency", Command::Consistency, Command::ConsistencyQuestions),
     ("audit", Command::Audit, Command::AuditQuestions),
     ("witness", Command::Witness, Command::WitnessQuestions),
+    ("gate", Command::Gate, Command::GateQuestions),
 ];
 
 fn folder(name: &str) -> String {

@@ -9,9 +9,10 @@ use Rattle.sig_verify.specs.declared.link.Link.TheVariants.{Request}
 use Rattle.sig_reply.specs.declared.reply.Reply.{Reply}
 use Rattle.sig_program.specs.Reply.{IsReply, IsReplyByLinks, refusal_reply, status_of}
 use Rattle.sig_program.specs.declared.command.Command.{Command}
-use Rattle.sig_program.specs.declared.command.Command.TheVariants.{Log, Verify, Consistency, Audit, Witness, LogQuestions}
+use Rattle.sig_program.specs.declared.command.Command.TheVariants.{Log, Verify, Consistency, Audit, Witness, Gate}
+use Rattle.sig_program.specs.declared.command.Command.TheVariants.{LogQuestions}
 use Rattle.sig_program.specs.declared.command.Command.TheVariants.{VerifyQuestions, ConsistencyQuestions}
-use Rattle.sig_program.specs.declared.command.Command.TheVariants.{AuditQuestions, WitnessQuestions}
+use Rattle.sig_program.specs.declared.command.Command.TheVariants.{AuditQuestions, WitnessQuestions, GateQuestions}
 use Rattle.sig_program.specs.Command.{words_of, Names, IsCommand}
 use Rattle.sig_request.specs.Limit.{TakesUpTo}
 use Rattle.std.specs.Io.KnownBytes.{Appends}
@@ -24,6 +25,8 @@ use Rattle.sig_program.specs.Run.{IsReplyOf, RepliesTo, WriteFaulted, AppendsFro
 use Rattle.sig_audit_command.proofs.AuditReplies.{long-audit}
 use Rattle.sig_audit_command.proofs.QuestionReplies.{long-asked}
 use Rattle.sig_audit_command.proofs.Replies.{decided-small}
+use Rattle.sig_gate_command.proofs.QuestionReplies.{long-questions, questions-small as gate-questions-small}
+use Rattle.sig_gate_command.proofs.Replies.{gate-small, long-gate}
 use Rattle.sig_witness_command.proofs.QuestionReplies.{long-notes, questions-small}
 use Rattle.sig_witness_command.proofs.Replies.{long-witness, witness-small}
 use Rattle.sig_program.proofs.Replies.{long-reply}
@@ -67,11 +70,13 @@ long-meant Verify text long = long-reply Verify text long
 long-meant Consistency text long = long-reply Consistency text long
 long-meant Audit text long = long-audit text long
 long-meant Witness text long = long-witness text long
+long-meant Gate text long = long-gate text long
 long-meant LogQuestions text long = long-reply LogQuestions text long
 long-meant VerifyQuestions text long = long-reply VerifyQuestions text long
 long-meant ConsistencyQuestions text long = long-reply ConsistencyQuestions text long
 long-meant AuditQuestions text long = long-asked text long
 long-meant WitnessQuestions text long = long-notes text long
+long-meant GateQuestions text long = long-questions text long
 
 -- the reply to one that is too long
 pub RepliesTo-long : (command : Command) (old new : Option (List ℕ)) (reply : Reply) → TookCount old new 16777217
@@ -101,11 +106,13 @@ IsReply-small Verify text reply meant = by_links-small Verify text reply meant
 IsReply-small Consistency text reply meant = by_links-small Consistency text reply meant
 IsReply-small Audit text reply meant = decided-small _ _ _ reply meant
 IsReply-small Witness text reply meant = witness-small text reply meant
+IsReply-small Gate text reply meant = gate-small text reply meant
 IsReply-small LogQuestions text reply meant = by_links-small LogQuestions text reply meant
 IsReply-small VerifyQuestions text reply meant = by_links-small VerifyQuestions text reply meant
 IsReply-small ConsistencyQuestions text reply meant = by_links-small ConsistencyQuestions text reply meant
 IsReply-small AuditQuestions text reply meant = decided-small _ _ _ reply meant
 IsReply-small WitnessQuestions text reply meant = questions-small text reply meant
+IsReply-small GateQuestions text reply meant = gate-questions-small text reply meant
 
 pub IsReplyOf-small : (asked : Invocation) (old new : Option (List ℕ)) (reply : Reply) → IsReplyOf asked old new reply
     → reply.status < 3
@@ -184,11 +191,13 @@ named-short Verify = (lit≤ tt, lit≤ tt)
 named-short Consistency = (lit≤ tt, lit≤ tt)
 named-short Audit = (lit≤ tt, lit≤ tt)
 named-short Witness = (lit≤ tt, lit≤ tt)
+named-short Gate = (lit≤ tt, lit≤ tt)
 named-short LogQuestions = (lit≤ tt, lit≤ tt)
 named-short VerifyQuestions = (lit≤ tt, lit≤ tt)
 named-short ConsistencyQuestions = (lit≤ tt, lit≤ tt)
 named-short AuditQuestions = (lit≤ tt, lit≤ tt)
 named-short WitnessQuestions = (lit≤ tt, lit≤ tt)
+named-short GateQuestions = (lit≤ tt, lit≤ tt)
 
 pub IsCommand-many : (words : List (List ℕ)) → 3 ≤ length words → ¬ IsCommand words
 IsCommand-many words many (command, named) = omega (arith, many, ap length named, (named-short command).1)

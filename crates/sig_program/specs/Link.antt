@@ -3,9 +3,10 @@ use Rattle.std.specs.Prelude.{ℕ, List, [], ◌∷◌, Option}
 use Rattle.std.specs.List.{AllByRecursion}
 use Rattle.sig_base.specs.Rules.{FailsFirst}
 use Rattle.sig_program.specs.declared.command.Command.{Command}
-use Rattle.sig_program.specs.declared.command.Command.TheVariants.{Log, Verify, Consistency, Audit, Witness, LogQuestions}
+use Rattle.sig_program.specs.declared.command.Command.TheVariants.{Log, Verify, Consistency, Audit, Witness, Gate}
+use Rattle.sig_program.specs.declared.command.Command.TheVariants.{LogQuestions}
 use Rattle.sig_program.specs.declared.command.Command.TheVariants.{VerifyQuestions, ConsistencyQuestions}
-use Rattle.sig_program.specs.declared.command.Command.TheVariants.{AuditQuestions, WitnessQuestions}
+use Rattle.sig_program.specs.declared.command.Command.TheVariants.{AuditQuestions, WitnessQuestions, GateQuestions}
 use Rattle.sig_verify.specs.declared.link.Link.{Link}
 use Rattle.sig_verify.specs.declared.link.Link.TheVariants.{Request, Checkpoint, NoteKey, NoteMatch, Inclusion}
 use Rattle.sig_request.specs.declared.request.LogRequest.{LogRequest}
@@ -22,6 +23,7 @@ use Rattle.sig_request.specs.AuditRequest.{audit_request}
 use Rattle.sig_request.specs.declared.audit_request.AuditRequest.{AuditRequest}
 use Rattle.sig_request.specs.ReadFrom.{IsRequestOf}
 use Rattle.sig_program.specs.Verdict.{IsLinkVerdict}
+use Rattle.sig_gate_command.specs.Reply.{HasManifest}
 use Rattle.sig_witness_command.specs.Request.{witness_request}
 use Rattle.sig_witness_command.specs.Start.{IsStart, Logs}
 use Rattle.sig_witness_command.specs.declared.request.WitnessRequest.{WitnessRequest}
@@ -31,18 +33,20 @@ abbrev pub log_links : List Link
 log_links = Request ∷ Checkpoint ∷ NoteKey ∷ NoteMatch ∷ Inclusion ∷ []
 
 -- of `audit` the one link that is of no head and of no watched entry: the others are sig_audit_command's; of `witness`
--- the one that there is
+-- and of `gate` the one that there is
 abbrev pub links : Command → List Link
 links Log = log_links
 links Verify = verify_links
 links Consistency = consistency_links
 links Audit = Request ∷ []
 links Witness = Request ∷ []
+links Gate = Request ∷ []
 links LogQuestions = head_question_links
 links VerifyQuestions = verify_question_links
 links ConsistencyQuestions = head_question_links
 links AuditQuestions = Request ∷ []
 links WitnessQuestions = Request ∷ []
+links GateQuestions = Request ∷ []
 
 -- the proof is one of the entry
 abbrev pub IsLogged : LogRequest → Type 0
@@ -72,12 +76,14 @@ Holds Verify text link = HoldsVerify text link
 Holds Consistency text link = HoldsConsistency text link
 Holds Audit text link = (request : AuditRequest) × IsRequestOf audit_request text request
 Holds Witness text link = IsWitnessRequest text
+Holds Gate text link = HasManifest text
 Holds LogQuestions text link = HoldsHeadQuestions log_request (λ (r : LogRequest). r.head) text link
 Holds VerifyQuestions text link = HoldsVerifyQuestions text link
 Holds ConsistencyQuestions text link =
     HoldsHeadQuestions consistency_request (λ (r : ConsistencyRequest). r.head) text link
 Holds AuditQuestions text link = (request : AuditRequest) × IsRequestOf audit_request text request
 Holds WitnessQuestions text link = IsWitnessRequest text
+Holds GateQuestions text link = HasManifest text
 
 -- every link of the command holds of a text
 abbrev pub EveryLinkHolds : Command → List ℕ → Type 0

@@ -4,11 +4,14 @@ use Rattle.std.specs.Prelude.{Option, Some, None}
 use Rattle.std.specs.Fmt.{signed_decimal}
 use Rattle.sig_rekor.specs.declared.inclusion_proof.InclusionProof.{InclusionProof}
 use Rattle.sig_program.specs.declared.command.Command.{Command}
-use Rattle.sig_program.specs.declared.command.Command.TheVariants.{Log, Verify, Consistency, Audit, Witness, LogQuestions}
+use Rattle.sig_program.specs.declared.command.Command.TheVariants.{Log, Verify, Consistency, Audit, Witness, Gate}
+use Rattle.sig_program.specs.declared.command.Command.TheVariants.{LogQuestions}
 use Rattle.sig_program.specs.declared.command.Command.TheVariants.{VerifyQuestions, ConsistencyQuestions}
-use Rattle.sig_program.specs.declared.command.Command.TheVariants.{AuditQuestions, WitnessQuestions}
+use Rattle.sig_program.specs.declared.command.Command.TheVariants.{AuditQuestions, WitnessQuestions, GateQuestions}
 use Rattle.sig_audit_command.specs.Questions.{IsAuditQuestionsReply}
 use Rattle.sig_audit_command.specs.Reply.{IsAuditReply}
+use Rattle.sig_gate_command.specs.Questions.{IsGateQuestionsReply}
+use Rattle.sig_gate_command.specs.Reply.{IsGateReply}
 use Rattle.sig_witness_command.specs.Questions.{IsWitnessQuestionsReply}
 use Rattle.sig_witness_command.specs.Reply.{IsWitnessReply}
 use Rattle.sig_questions.specs.Asked.{IsAskedBy}
@@ -127,6 +130,7 @@ Succeeds Consistency text reply =
     (request : ConsistencyRequest) → IsRequestOf consistency_request text request → IsConsistentReply request reply
 Succeeds Audit text reply = IsAuditReply text reply
 Succeeds Witness text reply = IsWitnessReply text reply
+Succeeds Gate text reply = IsGateReply text reply
 Succeeds LogQuestions text reply =
     (request : LogRequest) → IsRequestOf log_request text request → IsHeadQuestionsReply request.head reply
 Succeeds VerifyQuestions text reply =
@@ -136,6 +140,7 @@ Succeeds ConsistencyQuestions text reply =
     → IsHeadQuestionsReply request.head reply
 Succeeds AuditQuestions text reply = IsAuditQuestionsReply text reply
 Succeeds WitnessQuestions text reply = IsWitnessQuestionsReply text reply
+Succeeds GateQuestions text reply = IsGateQuestionsReply text reply
 
 -- the reply to a request's text of a command whose links have no index: the success line if and only if every link of
 -- the command holds, else the first link that fails
@@ -147,10 +152,12 @@ pub record IsReplyByLinks (command : Command) (text : List ℕ) (reply : Reply) 
 
 -- The reply to a request's text. That of `audit` has the same form: the success line if and only if every link holds,
 -- else the first link that fails, with the index of its head or watched entry. That of `witness` has a line for each
--- update, and the state after them.
+-- update, and the state after them; that of `gate` is the report of the verdicts.
 abbrev pub IsReply : Command → List ℕ → Reply → Type 0
 IsReply Audit text reply = IsAuditReply text reply
 IsReply AuditQuestions text reply = IsAuditQuestionsReply text reply
 IsReply Witness text reply = IsWitnessReply text reply
 IsReply WitnessQuestions text reply = IsWitnessQuestionsReply text reply
+IsReply Gate text reply = IsGateReply text reply
+IsReply GateQuestions text reply = IsGateQuestionsReply text reply
 IsReply other text reply = IsReplyByLinks other text reply

@@ -17,6 +17,8 @@ pub enum Command {
     Audit,
     /// `witness`: which of these heads have grown from those that are kept?
     Witness,
+    /// `gate`: which of these artifacts are to be admitted?
+    Gate,
     /// `questions log`: which signatures can the reply of `log` rest on?
     LogQuestions,
     /// `questions verify`: which signatures can the reply of `verify` rest on?
@@ -27,6 +29,8 @@ pub enum Command {
     AuditQuestions,
     /// `questions witness`: which signatures can the reply of `witness` rest on?
     WitnessQuestions,
+    /// `questions gate`: which signatures can the reply of `gate` rest on?
+    GateQuestions,
 }
 
 impl Command {
@@ -42,6 +46,7 @@ impl Command {
                 "consistency" => Some(Command::Consistency),
                 "audit" => Some(Command::Audit),
                 "witness" => Some(Command::Witness),
+                "gate" => Some(Command::Gate),
                 _ => None,
             },
             [first, second] => match (first.as_str(), second.as_str()) {
@@ -50,6 +55,7 @@ impl Command {
                 ("questions", "consistency") => Some(Command::ConsistencyQuestions),
                 ("questions", "audit") => Some(Command::AuditQuestions),
                 ("questions", "witness") => Some(Command::WitnessQuestions),
+                ("questions", "gate") => Some(Command::GateQuestions),
                 _ => None,
             },
             _ => None,

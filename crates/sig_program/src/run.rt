@@ -3,6 +3,7 @@ ghost use Rattle.std.specs.Prelude.{◌≡◌, ℕ, ◌⊎◌, ◌+◌, ◌<◌,
 ghost use Rattle.std.specs.Io.KnownBytes.{Appends};
 ghost use Rattle.sig_audit_command.specs.Suffice.{AuditQuestionsSuffice};
 ghost use Rattle.sig_base.specs.Stream.{Rose, TookAtMost};
+ghost use Rattle.sig_gate_command.specs.Suffice.{GateQuestionsSuffice};
 ghost use Rattle.sig_program.specs.Demo.{demo_text};
 ghost use Rattle.sig_program.specs.Invocation.{HasCount, IsDemo, IsInvocation};
 ghost use Rattle.sig_request.specs.Limit.{most_bytes};
@@ -13,7 +14,7 @@ ghost use Rattle.sig_program.specs.Run.{AppendsFront, usage_line};
 ghost use Rattle.sig_program.specs.Status.{usage_status, memory_status, fault_status};
 ghost use Rattle.sig_program.specs.Suffice.{ConsistencyQuestionsSuffice, LogQuestionsSuffice, VerifyQuestionsSuffice};
 ghost use Rattle.sig_program.specs.VerifyQuestions.{RefusesForAll};
-ghost use Rattle.sig_program.specs.declared.command.Command.TheVariants.{AuditQuestions, ConsistencyQuestions, LogQuestions, VerifyQuestions, WitnessQuestions};
+ghost use Rattle.sig_program.specs.declared.command.Command.TheVariants.{AuditQuestions, ConsistencyQuestions, GateQuestions, LogQuestions, VerifyQuestions, WitnessQuestions};
 ghost use Rattle.sig_program.specs.declared.invocation.Invocation.TheVariants.{Demo};
 ghost use Rattle.sig_witness_command.specs.Suffice.{WitnessQuestionsSuffice};
 
@@ -31,6 +32,7 @@ use crate::verify_questions::verify_questions;
 use crate::write::write_reply;
 use sig_audit_command::{audit_questions, audit_reply};
 use sig_base::{OutOfMemory, Sink, Source, Text};
+use sig_gate_command::{gate_questions, gate_reply};
 use sig_reply::Reply;
 use sig_request::{ReadFault, read_request};
 use sig_verify::Link;
@@ -79,10 +81,13 @@ impl From<OutOfMemory> for NoReply {
 /// `witness` writes a line for each update, an empty line, and the state of all kept heads after them, with status 0 if
 /// all updates were accepted, else 1; or `refused request` with status 2.
 ///
-/// `questions log`, `questions verify`, `questions consistency`, `questions audit` and `questions witness` read a request
-/// of the command, and list the signatures that its reply can rest on, as a JSON list in the form of `accepted`, with status 0; else `refused NAME` for the first link that
-/// fails whatever signatures are accepted, and `refused request` if the bytes of the request, of the list and of
-/// `,"accepted":` would be more than 2^24 together.
+/// `gate` reads a manifest, and writes for each artifact whether it is admitted, for each bundle whether it is verified,
+/// and how many artifacts are admitted, with status 0 if all are, else 1; or `refused request` with status 2.
+///
+/// `questions log`, `questions verify`, `questions consistency`, `questions audit`, `questions witness` and `questions gate`
+/// read a request of the command, and list the signatures that its reply can rest on, as a JSON list in the form of
+/// `accepted`, with status 0; else `refused NAME` for the first link that fails whatever signatures are accepted, and
+/// `refused request` if the bytes of the request, of the list and of `,"accepted":` would be more than 2^24 together.
 ///
 /// `demo N`, N from 1 to 4096 in decimal without leading zeros, reads nothing, and writes three lines with status 0:
 /// `entries N`, `root HEX` and `logged I N`, of [`demo`].
@@ -102,7 +107,8 @@ pub fn run<S: Source, K: Sink>(alloc: Global, words: &[Text], source: &mut S, si
     // The headline: what `Answered` says of the reply is that every link holds if the status is 0, and that else it
     // shows the first that fails; and of the log's entries, where they are given, what `IsSecondLine` says, for
     // `consistency` what `IsFrontLine` does, and for `audit` what `IsListLine` does. For `witness` it is that the state
-    // which is written is *Witness run*'s, and the lines say what became of each update.
+    // which is written is *Witness run*'s, and the lines say what became of each update; for `gate`, that an artifact is
+    // admitted if and only if one of its bundles is verified and its rule holds of those that are.
     ensures answered { result < 3 →
         Answered words.now (S.left source.old) (S.left source.new) (K.taken sink.old) (K.taken sink.new) result }
     ensures usage { result ≡ usage_status → ¬ IsInvocation words.now
@@ -124,9 +130,9 @@ pub fn run<S: Source, K: Sink>(alloc: Global, words: &[Text], source: &mut S, si
 
     // Nothing else matters: of the accepted signatures of a request of `log`, `consistency`, `audit` or `witness`, its
     // reply depends on those alone that are over a checkpoint's note under the log's scheme and key, and of a request of
-    // `verify` on those alone that a link asks for. `questions` lists them, unless the list is too long.
+    // `verify` or `gate` on those alone that a link asks for. `questions` lists them, unless the list is too long.
     ensures suffice { LogQuestionsSuffice × VerifyQuestionsSuffice × ConsistencyQuestionsSuffice
-        × AuditQuestionsSuffice × WitnessQuestionsSuffice }
+        × AuditQuestionsSuffice × WitnessQuestionsSuffice × GateQuestionsSuffice }
 
     // A link other than `request` is the first that fails in `questions verify` if and only if it is the first that
     // fails in `verify`, whatever signatures are accepted and whatever the policy says.
@@ -136,7 +142,7 @@ pub fn run<S: Source, K: Sink>(alloc: Global, words: &[Text], source: &mut S, si
     // or wherever else, has at most 2^24 bytes.
     ensures given_back { ListsAreGivenBack LogQuestions × ListsAreGivenBack VerifyQuestions
         × ListsAreGivenBack ConsistencyQuestions × ListsAreGivenBack AuditQuestions
-        × ListsAreGivenBack WitnessQuestions }
+        × ListsAreGivenBack WitnessQuestions × ListsAreGivenBack GateQuestions }
 {
     // Why the lists of `questions` suffice, and can be given back.
     lists();
@@ -186,11 +192,13 @@ fn reply_of(alloc: Global, command: Command, request: &[u8]) -> Result<Reply, Ou
         Command::Consistency => consistency_reply(alloc, request),
         Command::Audit => audit_reply(alloc, request),
         Command::Witness => witness_reply(alloc, request),
+        Command::Gate => gate_reply(alloc, request),
         Command::LogQuestions => log_questions(alloc, request),
         Command::VerifyQuestions => verify_questions(alloc, request),
         Command::ConsistencyQuestions => consistency_questions(alloc, request),
         Command::AuditQuestions => audit_questions(alloc, request),
         Command::WitnessQuestions => witness_questions(alloc, request),
+        Command::GateQuestions => gate_questions(alloc, request),
     }
 }
 

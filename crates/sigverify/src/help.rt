@@ -12,11 +12,13 @@ usage: sigverify log < REQUEST
        sigverify consistency < REQUEST
        sigverify audit < REQUEST
        sigverify witness < REQUEST
+       sigverify gate < REQUEST
        sigverify questions log < REQUEST
        sigverify questions verify < REQUEST
        sigverify questions consistency < REQUEST
        sigverify questions audit < REQUEST
        sigverify questions witness < REQUEST
+       sigverify questions gate < REQUEST
        sigverify demo N
        sigverify --help | --version
 
@@ -132,6 +134,37 @@ commands:
            refused request
          A refused update changes nothing. Nothing is signed.
 
+  gate   Which of these artifacts are to be admitted? The manifest on standard
+         input is a JSON object with the members
+           now         the time, in seconds since 1970
+           roots       object from names to texts of trusted roots
+           policies    object from names to policies, as of verify
+           artifacts   list of 1 to 256 objects with
+             name        1 to 256 characters from ! to ~
+             digest      as of verify
+             root        the name of a trusted root
+             policy      the name of a policy
+             bundles     optional list of texts; 256 of all artifacts together
+             rule        what the verified bundles have to show, an object with
+                         one of
+               least       1 to 16: so many different logged signatures
+               origin      text: one log's checkpoint has this first line
+               size        one log's tree has so many entries
+               all, any    list of rules: each of them, or one of them
+               not         rule: not what it asks for
+           accepted    as of log
+         The reply on standard output has for each artifact the line
+           artifact NAME admit       a bundle is verified, and the rule holds
+           artifact NAME deny none   no bundle is verified
+           artifact NAME deny rule   the rule does not hold
+         then for each of its bundles, by its index,
+           bundle INDEX verified ENTRY SIZE   every link of verify holds
+           bundle INDEX refused LINK          the first that fails
+         and at the end
+           admitted COUNT of TOTAL
+         or it is
+           refused request
+
   questions log, questions verify, questions consistency, questions audit
          Which signatures can the reply of the command rest on? The
          request is the command's own, and its accepted, if given, has to be a
@@ -145,6 +178,11 @@ commands:
   questions witness
          The same of witness: of each update each signature under the key of its
          origin, each once. The refusal is that of the request alone.
+  questions gate
+         The same of gate: of each bundle what questions verify lists of it, each
+         once. The refusal is that of the manifest alone; also where the list,
+         with each signature as often as a bundle asks for it, would have more
+         than 2^26 bytes.
 
   demo N Does it work? N is how many entries a log has that the program makes up,
          from 1 to 4096 in decimal digits. Nothing is read. The reply is three
@@ -158,7 +196,8 @@ docs/LINKS.md says of each link what was tested, and what to look at first.
 
 status:
   0   every link holds; of questions, the list is written
-  1   a link other than request fails; of witness, an update is refused
+  1   a link other than request fails; of witness, an update is refused; of
+      gate, an artifact is not admitted
   2   the link request fails; of questions also, the list would be too long
   64  the words are no command, or no number that demo takes
   71  out of memory

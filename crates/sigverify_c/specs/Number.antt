@@ -3,9 +3,10 @@ use Rattle.std.specs.Prelude.{◌≡◌, ℕ}
 use Rattle.sig_program.specs.declared.command.Command.{Command}
 use Rattle.sig_program.specs.declared.command.Command.TheVariants as command
 use Rattle.sigverify_c.specs.declared.numbered.Numbered.{Numbered}
-use Rattle.sigverify_c.specs.declared.numbered.Numbered.TheVariants.{Log, Verify, Consistency, Audit, Witness}
+use Rattle.sigverify_c.specs.declared.numbered.Numbered.TheVariants.{Log, Verify, Consistency, Audit, Witness, Gate}
 use Rattle.sigverify_c.specs.declared.numbered.Numbered.TheVariants.{LogQuestions, VerifyQuestions}
 use Rattle.sigverify_c.specs.declared.numbered.Numbered.TheVariants.{ConsistencyQuestions, AuditQuestions, WitnessQuestions}
+use Rattle.sigverify_c.specs.declared.numbered.Numbered.TheVariants.{GateQuestions}
 
 -- the number that C has for a command: that of its questions is 256 more
 abbrev pub number_of : Command → ℕ
@@ -14,11 +15,13 @@ number_of command.Verify = 2
 number_of command.Consistency = 3
 number_of command.Audit = 4
 number_of command.Witness = 5
+number_of command.Gate = 6
 number_of command.LogQuestions = 257
 number_of command.VerifyQuestions = 258
 number_of command.ConsistencyQuestions = 259
 number_of command.AuditQuestions = 260
 number_of command.WitnessQuestions = 261
+number_of command.GateQuestions = 262
 
 -- a command has the number
 abbrev pub IsNumber : ℕ → Type 0
@@ -31,8 +34,10 @@ command_of Verify = command.Verify
 command_of Consistency = command.Consistency
 command_of Audit = command.Audit
 command_of Witness = command.Witness
+command_of Gate = command.Gate
 command_of LogQuestions = command.LogQuestions
 command_of VerifyQuestions = command.VerifyQuestions
 command_of ConsistencyQuestions = command.ConsistencyQuestions
 command_of AuditQuestions = command.AuditQuestions
 command_of WitnessQuestions = command.WitnessQuestions
+command_of GateQuestions = command.GateQuestions

@@ -5,6 +5,7 @@ ghost use Rattle.sigverify_c.specs.Number.{IsNumber, command_of, number_of};
 
 use sig_audit_command::{audit_questions, audit_reply};
 use sig_base::OutOfMemory;
+use sig_gate_command::{gate_questions, gate_reply};
 use sig_program::consistency::consistency_reply;
 use sig_program::consistency_questions::consistency_questions;
 use sig_program::log::log_reply;
@@ -23,11 +24,13 @@ pub enum Numbered {
     Consistency,
     Audit,
     Witness,
+    Gate,
     LogQuestions,
     VerifyQuestions,
     ConsistencyQuestions,
     AuditQuestions,
     WitnessQuestions,
+    GateQuestions,
 }
 
 impl Numbered {
@@ -42,11 +45,13 @@ impl Numbered {
             3 => Some(Numbered::Consistency),
             4 => Some(Numbered::Audit),
             5 => Some(Numbered::Witness),
+            6 => Some(Numbered::Gate),
             257 => Some(Numbered::LogQuestions),
             258 => Some(Numbered::VerifyQuestions),
             259 => Some(Numbered::ConsistencyQuestions),
             260 => Some(Numbered::AuditQuestions),
             261 => Some(Numbered::WitnessQuestions),
+            262 => Some(Numbered::GateQuestions),
             _ => None,
         }
     }
@@ -61,11 +66,13 @@ impl Numbered {
             Numbered::Consistency => consistency_reply(alloc, request),
             Numbered::Audit => audit_reply(alloc, request),
             Numbered::Witness => witness_reply(alloc, request),
+            Numbered::Gate => gate_reply(alloc, request),
             Numbered::LogQuestions => log_questions(alloc, request),
             Numbered::VerifyQuestions => verify_questions(alloc, request),
             Numbered::ConsistencyQuestions => consistency_questions(alloc, request),
             Numbered::AuditQuestions => audit_questions(alloc, request),
             Numbered::WitnessQuestions => witness_questions(alloc, request),
+            Numbered::GateQuestions => gate_questions(alloc, request),
         }
     }
 }

@@ -25,4 +25,5 @@ returns-clause-given_back c = (
   consistency_lists,
   c.audit_lists.ensures.given_back,
   c.witness_lists.ensures.given_back,
+  c.gate_lists.ensures.given_back,
 )

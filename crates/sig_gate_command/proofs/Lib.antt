@@ -1,0 +1,9 @@
+pub mod Requests
+pub mod Replies
+pub mod EachOnce
+pub mod AskedRows
+pub mod Listings
+pub mod Walks
+pub mod QuestionReplies
+pub mod LinksAgree
+pub mod GateRowsSuffice

@@ -1,0 +1,11 @@
+-- The list has what the bundles of the artifacts so far ask for.
+use Rattle.std.proofs.Common.{◌≡◌, [], true}
+use Rattle.sig_gate_command.proofs.Walks.{inputs_before}
+use Rattle.sig_gate_command.specs.RowList.{HasAddedOf}
+use Rattle.sig_manifest.specs.Manifest.{manifest_view}
+use Rattle.sig_gate_command.proofs.rows.questions_document.Given as goal
+
+abbrev pub invariant-artifacts : goal.invariant-artifacts
+invariant-artifacts l =
+    HasAddedOf (inputs_before (manifest_view l.manifest) l.manifest.artifacts l.artifact-index) [] l.rows true
+    × (l.rows.most ≡ l.most)

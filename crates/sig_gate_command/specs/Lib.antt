@@ -1,0 +1,5 @@
+pub mod Request
+pub mod Reply
+pub mod Questions
+pub mod RowList
+pub mod Suffice

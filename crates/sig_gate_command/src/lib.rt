@@ -1,0 +1,25 @@
+//! The commands `gate` and `questions gate`: the admission of many artifacts by a manifest.
+//!
+//! ```text
+//! artifact tool-1.0.tar.gz admit
+//! bundle 0 verified 2 5
+//! artifact tool-1.1.tar.gz deny rule
+//! bundle 0 refused time
+//! bundle 1 verified 3 5
+//! admitted 1 of 2
+//! ```
+//!
+//! The layer above uses three facts. [`gate_reply`] makes the reply that is defined: the report of the verdicts, or
+//! `refused request` if and only if the text is not a manifest. [`gate_questions`] lists the signatures that it can rest
+//! on, each once. And nothing but these matters.
+#![tactic(auto)]
+
+pub mod laws;
+mod questions;
+mod reply;
+mod request;
+mod row_list;
+mod rows;
+
+pub use questions::{MOST_ASKED, gate_questions};
+pub use reply::gate_reply;

@@ -1,0 +1,275 @@
+#!/usr/bin/env python3
+"""Manifests that `gate` is handed and the replies to them, by a reader of its own.
+
+    tools/gate_requests.py                  writes examples/gate.requests, manifests, one a line, and below each the reply and the status; and the
+                                            examples gate*.json with their replies
+    tools/gate_requests.py check PROGRAM    runs the program on manifests by chance, and on the longest lists; and compares its replies
+
+The replies are this program's own: a manifest is read as tools/gate_manifests.py does, and a bundle judged by the links of tools/verify_links.py."""
+import json
+import pathlib
+import random
+import subprocess
+import sys
+from types import SimpleNamespace
+
+TOP = pathlib.Path(__file__).resolve().parent.parent
+sys.dont_write_bytecode = True
+sys.path.insert(0, str(TOP / "tools"))
+import fixture
+import gate_manifests as manifests
+import verify_links as links
+
+MOST_BYTES = 1 << 24
+ORIGIN = "fixture.log"
+
+
+# ---- the replies
+
+def read_request(text):
+    """A manifest as it is read. gate_manifests.Refused: the text is none."""
+    if len(text.encode()) > MOST_BYTES:
+        raise manifests.Refused("TooLong")
+    return manifests.read_manifest(text)
+
+
+def case_of(read, artifact, bundle):
+    """What the links of a bundle of an artifact are about."""
+    request = SimpleNamespace(trusted_root=read["roots"][artifact["root"]], bundle=bundle, now=read["now"], digest=artifact["digest"],
+                              policy=read["policies"][artifact["policy"]], accepted=set(read["accepted"]), entries=None)
+    return SimpleNamespace(request=request)
+
+
+def judged(case):
+    """The first link that fails, or None."""
+    for name, link in links.LINKS.items():
+        try:
+            link(case)
+        except links.Fails:
+            return name
+    return None
+
+
+def holds(rule, verified):
+    """Whether a rule holds of the cases of bundles that are verified."""
+    name, given = rule
+    return {
+        "least": lambda: len({case.body for case in verified}) >= given,
+        "origin": lambda: any(case.checkpoint[0][0] == given for case in verified),
+        "size": lambda: any(case.proof.size >= given for case in verified),
+        "all": lambda: all(holds(inner, verified) for inner in given),
+        "any": lambda: any(holds(inner, verified) for inner in given),
+        "not": lambda: not holds(given, verified),
+    }[name]()
+
+
+def of_artifact(read, artifact):
+    """The lines of an artifact, and whether it is admitted."""
+    cases = [case_of(read, artifact, bundle) for bundle in artifact["bundles"]]
+    failing = [judged(case) for case in cases]
+    verified = [case for case, link in zip(cases, failing) if link is None]
+    said = "deny none" if not verified else "admit" if holds(artifact["rule"], verified) else "deny rule"
+    shown = [f"bundle {place} " + (f"refused {link}" if link else f"verified {case.proof.index} {case.proof.size}")
+             for place, (case, link) in enumerate(zip(cases, failing))]
+    return [f"artifact {artifact['name']} {said}", *shown], said == "admit"
+
+
+def lines(text):
+    """The reply to a text without its last newline, and the status."""
+    try:
+        read = read_request(text)
+    except manifests.Refused:
+        return "refused request", 2
+    found = [of_artifact(read, artifact) for artifact in read["artifacts"]]
+    admitted = sum(is_admitted for _, is_admitted in found)
+    last = f"admitted {admitted} of {len(found)}"
+    return "\n".join([line for said, _ in found for line in said] + [last]), int(admitted < len(found))
+
+
+def reply(text):
+    """The reply on one line, and the status."""
+    said, status = lines(text)
+    return said.replace("\n", " "), status
+
+
+# ---- manifests
+
+F = fixture.Request()
+LATE = fixture.Request(integrated_time=-1)
+OTHER = fixture.Request(keyid="other")  # another log body over the same artifact
+LARGER = fixture.Request(keyid="larger", index=6, size=9)
+MESSAGE = fixture.MessageRequest()
+ROOT = fixture.compact(F.trusted_root())
+
+
+def text_of(made):
+    return fixture.compact(made.bundle(), canonical=True)
+
+
+def artifact(bundles=(F,), rule=None, name="a", **changes):
+    texts = [each if isinstance(each, str) else text_of(each) for each in bundles]
+    return {"name": name, "digest": F.digest, "root": "r", "policy": "p", "bundles": texts, "rule": {"least": 1} if rule is None else rule, **changes}
+
+
+def rows_of(*given):
+    """The rows of these, each once."""
+    found = []
+    for made in given:
+        found += [row for row in made.accepted() if row not in found]
+    return found
+
+
+TEXTS = {text_of(made): made for made in (F, LATE, OTHER, LARGER, MESSAGE)}
+
+
+def manifest(*artifacts, accepted=None, **changes):
+    """The manifest of these artifacts, which accepts the signatures of their bundles, if nothing else is given."""
+    artifacts = list(artifacts) or [artifact()]
+    used = dict.fromkeys(text for each in artifacts for text in each.get("bundles", ()) if text in TEXTS)
+    made = {"now": F.now, "roots": {"r": ROOT}, "policies": {"p": F.policy}, "artifacts": artifacts,
+            "accepted": rows_of(*map(TEXTS.get, used)) if accepted is None else accepted}
+    return {**made, **changes}
+
+
+def first_rows():
+    yield manifest(artifact([F], {"least": 1}))
+    yield manifest(artifact([LATE, F], {"not": {"origin": ORIGIN}}))
+    yield manifest(artifact([F, F], {"least": 2}))
+    yield manifest(artifact([], {"not": {"least": 1}}), accepted=F.accepted())
+
+
+def rules():
+    for rule in ({"least": 2}, {"least": 3}, {"least": 4}, {"size": 5}, {"size": 9}, {"size": 10}, {"origin": ORIGIN}, {"origin": "other"},
+                 {"origin": ""}):
+        yield manifest(artifact([F, OTHER, LARGER], rule))
+        yield manifest(artifact([F, OTHER, LARGER], {"not": rule}))
+    for first in ({"least": 1}, {"least": 2}):
+        for second in ({"size": 5}, {"size": 6}):
+            for name in "all", "any":
+                yield manifest(artifact([F], {name: [first, second]}))
+    yield manifest(artifact([F], {"all": [{"any": [{"least": 2}, {"not": {"size": 6}}]}, {"origin": ORIGIN}]}))
+    yield manifest(artifact([LATE], {"not": {"least": 1}}))
+    for levels in (62, 63, 64):
+        yield manifest(artifact([F], manifests.nested("not", levels, {"least": 1})))
+
+
+def bundles():
+    for changes in ({"integrated_time": -1}, {"promise": b"x"}, {"signature": b"x"}, {"index": 1}, {"log_index": 1}, {"payload": b"{}"},
+                    {"media_type": "x"}, {"noted": "other"}, {"log_id": fixture.OTHER_LOG_ID}):
+        made = fixture.Request(**changes)
+        yield manifest(artifact([made, F]), accepted=rows_of(F))
+    for text in ("", "{}", "[]", "x", text_of(F)[:-1], text_of(F) + " "):
+        yield manifest(artifact([text, F]))
+    for place in range(5):
+        yield manifest(accepted=[row for at, row in enumerate(F.accepted()) if at != place])
+    yield manifest(artifact([MESSAGE]))
+    yield manifest(artifact([MESSAGE, F, OTHER, LATE, LARGER, F], {"least": 4}))
+    yield manifest(artifact([]))
+    yield manifest({name: value for name, value in artifact().items() if name != "bundles"})
+
+
+def artifacts():
+    other = "sha256:" + "00" * 32
+    yield manifest(artifact(name="tool-1.0.tar.gz"), artifact([F, LATE], name="b"), artifact([], name="c"), artifact(digest=other, name="d"))
+    yield manifest(artifact(name="a"), artifact(name="a"), artifact(name="~!\"\\"))
+    yield manifest(artifact(root="s"), artifact(root="x"), artifact(), roots={"r": ROOT, "s": "{}", "x": "no root"})
+    yield manifest(artifact(policy="q"), artifact(), policies={"p": F.policy, "q": {"all": [{"issuer": "nobody"}]}})
+    yield manifest(artifact(root="t"))
+    yield manifest(artifact(), artifact(policy="t"))
+    for name in ("", "a b", "\u00e9", "a" * 256, "a" * 257):
+        yield manifest(artifact(name=name))
+    for now in (0, 1704067200, 2**62):
+        yield manifest(now=now)
+
+
+def members():
+    yield {}
+    yield manifest(artifacts=[])
+    yield manifest(artifact(), accepted=[{**F.accepted()[0], "key": "a"}])
+    yield manifest(artifact(rule={"least": 0}))
+    yield manifest(artifact(rule={"least": 17}))
+    yield manifest(artifact(rule={"least": 1, "size": 1}))
+    yield manifest(artifact(rule={"all": []}))
+    yield manifest(artifact(rule={}))
+    yield manifest(other=1.5)
+    yield json.dumps(manifest())[:-1]
+    yield from ("[]", "null", "x")
+
+
+def hundreds():
+    yield manifest(*[artifact([], name=f"artifact-{place}") for place in range(256)])
+    yield manifest(*[artifact([], name=f"artifact-{place}") for place in range(257)])
+    yield manifest(artifact(["{}"] * 256))
+    yield manifest(artifact(["{}"] * 257))
+    yield manifest(artifact(["{}"] * 128), artifact(["{}"] * 129, name="b"))
+
+
+GROUPS = {"one bundle, two of which one fails, one bundle twice, and none": first_rows, "each rule, and rules of rules": rules,
+          "bundles that are refused, each by a link, beside one that is not": bundles,
+          "several artifacts, trusted roots and policies": artifacts, "texts that are not a manifest": members,
+          "the longest lists, and longer ones": hundreds}
+
+
+def examples():
+    release = [artifact([F, OTHER], {"all": [{"least": 2}, {"origin": ORIGIN}]}, name="tool-1.0.tar.gz"), artifact(name="tool-1.0.sbom.json")]
+    yield "gate", manifest(*release)
+    denied = [*release, artifact([LATE], name="tool-1.1.tar.gz"), artifact([LATE, LARGER], {"size": 10}, name="tool-1.2.tar.gz")]
+    yield "gate-denied", manifest(*denied)
+
+
+# ---- runs of the program
+
+def by_chance():
+    """Up to eight artifacts of up to six bundles, and rules of up to twelve nodes."""
+    chance = random.Random(9162)
+    rows = rows_of(*TEXTS.values())
+    for _ in range(60):
+        made = [artifact(chance.choices([*TEXTS, "{}"], k=chance.randint(0, 6)), some_rule(chance, 12), name=f"a{place}")
+                for place in range(chance.randint(1, 8))]
+        yield manifest(*made, accepted=[row for row in rows if chance.random() < 0.97])
+
+
+def some_rule(chance, left):
+    form = chance.choice(("least", "origin", "size") if left < 3 else ("least", "origin", "size", "all", "any", "not"))
+    if form == "not":
+        return {form: some_rule(chance, left - 1)}
+    if form in ("all", "any"):
+        count = chance.randint(1, 3)
+        return {form: [some_rule(chance, left // count - 1) for _ in range(count)]}
+    return {form: chance.choice({"least": (1, 1, 2, 3, 4), "origin": (ORIGIN, ORIGIN, "other"), "size": (0, 5, 9, 10)}[form])}
+
+
+def check(program):
+    """How many replies of the program differ."""
+    failed = count = 0
+    for found in by_chance():
+        text = json.dumps(found, separators=(",", ":"))
+        done = subprocess.run([program, "gate"], input=text, text=True, capture_output=True)
+        said, wanted = (done.stdout.removesuffix("\n"), done.returncode), lines(text)
+        count += 1
+        if said != wanted:
+            failed += 1
+            print(f"gate of {text[:200]}\n  gave {said} and not {wanted}", file=sys.stderr)
+    print(f"gate: {count} manifests", file=sys.stderr)
+    return failed
+
+
+def main():
+    with open(TOP / "examples/gate.requests", "w", encoding="utf-8") as made:
+        for words, requests in GROUPS.items():
+            made.write(f"# {words}\n")
+            for found in requests():
+                text = found if isinstance(found, str) else json.dumps(found, separators=(",", ":"))
+                line, status = reply(text)
+                made.write(f"{text}\n{line} status {status}\n")
+    for name, found in examples():
+        text = json.dumps(found, indent=2)
+        (TOP / f"examples/{name}.json").write_text(text + "\n")
+        line, status = lines(text)
+        (TOP / f"examples/{name}.expected").write_text(f"{line}\nstatus {status}\n")
+
+
+if __name__ == "__main__":
+    if sys.argv[1:2] == ["check"]:
+        sys.exit(min(check(sys.argv[2]), 1))
+    main()
