@@ -5,7 +5,7 @@
                                             examples gate*.json with their replies
     tools/gate_requests.py check PROGRAM    runs the program on manifests by chance, and on the longest lists; and compares its replies
 
-The replies are this program's own: a manifest is read as tools/gate_manifests.py does, and a bundle judged by the links of tools/verify_links.py."""
+The replies are this program's own: a manifest is read as tools/gate_manifests.py does, and its artifacts are judged as tools/gate_verdicts.py does."""
 import json
 import pathlib
 import random
@@ -18,7 +18,7 @@ sys.dont_write_bytecode = True
 sys.path.insert(0, str(TOP / "tools"))
 import fixture
 import gate_manifests as manifests
-import verify_links as links
+from gate_verdicts import report_lines, verdict
 
 MOST_BYTES = 1 << 24
 ORIGIN = "fixture.log"
@@ -40,50 +40,14 @@ def case_of(read, artifact, bundle):
     return SimpleNamespace(request=request)
 
 
-def judged(case):
-    """The first link that fails, or None."""
-    for name, link in links.LINKS.items():
-        try:
-            link(case)
-        except links.Fails:
-            return name
-    return None
-
-
-def holds(rule, verified):
-    """Whether a rule holds of the cases of bundles that are verified."""
-    name, given = rule
-    return {
-        "least": lambda: len({case.body for case in verified}) >= given,
-        "origin": lambda: any(case.checkpoint[0][0] == given for case in verified),
-        "size": lambda: any(case.proof.size >= given for case in verified),
-        "all": lambda: all(holds(inner, verified) for inner in given),
-        "any": lambda: any(holds(inner, verified) for inner in given),
-        "not": lambda: not holds(given, verified),
-    }[name]()
-
-
-def of_artifact(read, artifact):
-    """The lines of an artifact, and whether it is admitted."""
-    cases = [case_of(read, artifact, bundle) for bundle in artifact["bundles"]]
-    failing = [judged(case) for case in cases]
-    verified = [case for case, link in zip(cases, failing) if link is None]
-    said = "deny none" if not verified else "admit" if holds(artifact["rule"], verified) else "deny rule"
-    shown = [f"bundle {place} " + (f"refused {link}" if link else f"verified {case.proof.index} {case.proof.size}")
-             for place, (case, link) in enumerate(zip(cases, failing))]
-    return [f"artifact {artifact['name']} {said}", *shown], said == "admit"
-
-
 def lines(text):
     """The reply to a text without its last newline, and the status."""
     try:
         read = read_request(text)
     except manifests.Refused:
         return "refused request", 2
-    found = [of_artifact(read, artifact) for artifact in read["artifacts"]]
-    admitted = sum(is_admitted for _, is_admitted in found)
-    last = f"admitted {admitted} of {len(found)}"
-    return "\n".join([line for said, _ in found for line in said] + [last]), int(admitted < len(found))
+    verdicts = [verdict(read, artifact) for artifact in read["artifacts"]]
+    return "".join(report_lines(read, verdicts)).removesuffix("\n"), int(not all(admitted for admitted, _ in verdicts))
 
 
 def reply(text):
