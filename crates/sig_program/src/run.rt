@@ -87,7 +87,8 @@ impl From<OutOfMemory> for NoReply {
 /// `questions log`, `questions verify`, `questions consistency`, `questions audit`, `questions witness` and `questions gate`
 /// read a request of the command, and list the signatures that its reply can rest on, as a JSON list in the form of
 /// `accepted`, with status 0; else `refused NAME` for the first link that fails whatever signatures are accepted, and
-/// `refused request` if the bytes of the request, of the list and of `,"accepted":` would be more than 2^24 together.
+/// `refused request` if the bytes of the request, of the list and of `,"accepted":` would be more than 2^24 together, and
+/// of `gate` also if the signatures, each counted as often as a bundle asks for it, have more than 2^26 bytes.
 ///
 /// `demo N`, N from 1 to 4096 in decimal without leading zeros, reads nothing, and writes three lines with status 0:
 /// `entries N`, `root HEX` and `logged I N`, of [`demo`].
