@@ -14,7 +14,7 @@ use Rattle.sig_program.specs.Link.{links, Holds, EveryLinkHolds, IsFirstFailing}
 use Rattle.sig_request.specs.ReadFrom.{IsReadFrom, IsRequestOf}
 use Rattle.sig_program.specs.Reply.{IsReplyByLinks, Succeeds, refusal_reply, status_of}
 use Rattle.sig_program.specs.declared.command.Command.{Command}
-use Rattle.sig_program.specs.declared.command.Command.TheVariants.{Log}
+use Rattle.sig_program.specs.declared.command.Command.TheVariants.{Log, Gate, GateQuestions}
 use Rattle.sig_reply.specs.declared.reply.Reply.{Reply}
 
 -- a refusal has no status 0
@@ -80,6 +80,9 @@ unread-reply command text fails = first-reply command text Request (unmet-reques
 pub long-reply : (command : Command) (text : List ℕ) → most_bytes < length text
     → IsReplyByLinks command text (refusal_reply Request)
 long-reply Log text long = unread-reply Log text (λ holds. omega (arith, holds.1.short, long))
+long-reply Gate text long = unread-reply Gate text (λ holds. omega (arith, holds.is.short, long))
+long-reply GateQuestions text long =
+    unread-reply GateQuestions text (λ holds. omega (arith, holds.is.short, long))
 long-reply other text long = unread-reply other text (λ holds. omega (arith, holds.1.short, long))
 
 -- ---- the replies of a call

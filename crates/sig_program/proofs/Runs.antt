@@ -233,3 +233,6 @@ pub ruleset runs = (
   is_one_word,
   are_two_words,
 )
+
+-- which words name a command
+pub ruleset naming = (IsCommand-many, IsCommand-none, is_one_word, are_two_words)

@@ -34,7 +34,7 @@ impl Invocation {
 
 /// The number of entries that `demo` is asked for; `None` if and only if the words are not `demo` and a number from 1
 /// to 4096. It takes no memory.
-#[tactic(auto, using(crate::proofs::Invocations::invocations, crate::proofs::Runs::runs))]
+#[tactic(auto, using(crate::proofs::Invocations::invocations, crate::proofs::Runs::naming))]
 fn demo_count(words: &[Text]) -> Option<u64>
     ensures { MatchOption result ((count : ℕ) → ¬ IsDemo words.now count) (IsDemo words.now) }
 {
