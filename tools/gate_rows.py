@@ -160,17 +160,28 @@ def of_many():
     of_one(("admit", *["refused material" if place % 16 else HERE for place in range(256)]), *bundles, rule={"all": [{"least": 3}, {"not": {"least": 4}}]})
 
 
-def by_chance(count):
+def rule_by_chance(chance):
+    """A rule over what the bundles here show."""
+    said = compact(some_rule(chance, 12)).replace('"o"', '"fixture.log"').replace('"p"', '"other.log"').replace('"size":3', '"size":9')
+    return json.loads(said)
+
+
+def artifact_by_chance(chance, place, most):
+    bundles = [chance.choice((*BUNDLES, *BUNDLES, "{}")) for _ in range(chance.randint(0, most))]
+    return artifact(*bundles, rule=rule_by_chance(chance), name="a%d" % place)
+
+
+def by_chance(manifests, artifacts, most):
+    """Manifests of so many artifacts each, and of at most so many bundles of each artifact."""
     TABLE.group("artifacts by chance")
-    chance = random.Random(41)
-    for _ in range(count):
-        bundles = [chance.choice((*BUNDLES, *BUNDLES, "{}")) for _ in range(chance.randint(0, 4))]
-        rule = json.loads(compact(some_rule(chance, 12)).replace('"o"', '"fixture.log"').replace('"p"', '"other.log"').replace('"size":3', '"size":9'))
-        text = compact(manifest(artifact(*bundles, rule=rule)))
+    chance = random.Random(40 + artifacts)
+    for _ in range(manifests):
+        text = compact(manifest(*(artifact_by_chance(chance, place, most) for place in range(artifacts))))
         TABLE.case("gate " + text, gate_verdicts.returned(text)[0])
 
 
 def add_all():
     for rows in (of_bundles, of_rules, of_artifacts, of_links, of_many):
         rows()
-    by_chance(24)
+    by_chance(24, 1, 4)
+    by_chance(24, 25, 2)
