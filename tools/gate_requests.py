@@ -179,6 +179,8 @@ def examples():
     yield "gate", manifest(*release)
     denied = [*release, artifact([LATE], name="tool-1.1.tar.gz"), artifact([LATE, LARGER], {"size": 10}, name="tool-1.2.tar.gz")]
     yield "gate-denied", manifest(*denied)
+    for name, made in zip(("one-bundle", "not-that-log", "one-bundle-twice", "no-bundle"), first_rows()):
+        yield f"gate-{name}", made
 
 
 # ---- runs of the program
