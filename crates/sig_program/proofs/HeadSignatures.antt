@@ -1,5 +1,5 @@
 -- The signature of the note of a head's checkpoint, by the table.
-use Rattle.std.proofs.Common.{◌≡◌, ◌↔◌, ◌⊎◌, inl, inr, ℕ, Bool, true, false, List, refl, sym, ◌∙◌, Err}
+use Rattle.std.proofs.Common.{◌≡◌, ◌↔◌, ◌⊎◌, inl, inr, ℕ, Bool, true, false, List, refl, sym, subst, ◌∙◌, Err}
 use Rattle.std.specs.Prelude.{Any, IsTrue}
 use Rattle.std.proofs.lemmas.Bool.{false≢true}
 use Rattle.std.proofs.lemmas.List.Folds.{Any-from_list_any, list_any-from_Any}
@@ -63,7 +63,7 @@ unsigned : (accepts : List ℕ → List ℕ → Bool) (checkpoint : SignedCheckp
     → has_accepted_signature accepts checkpoint ≡ true → ⊥
 unsigned accepts checkpoint refused is = let answer = rw is at refused in cc
 
-pub signed-no : (head : ClaimedHead) (checkpoint : SignedCheckpoint) (key : CosignVerificationKey)
+signed-no : (head : ClaimedHead) (checkpoint : SignedCheckpoint) (key : CosignVerificationKey)
     → key_scheme key ≡ scheme_of head.scheme → key_info key ≡ head.key
     → (◌≡◌ {A = SigstoreError} CheckpointSignatureVerificationError OutOfMemory)
     ⊎ (signed_answer (key_accepts (λ scheme info message signature. accepted head.accepted Message
@@ -77,3 +77,16 @@ signed-no head checkpoint key scheme info (inr refused) = (
       (name_of scheme) info message signature) key) checkpoint refused
       ((has_accepted_signature-key head checkpoint key scheme info).1 signed)),
 )
+
+-- the same of an error that is this one
+pub signed-refused : (head : ClaimedHead) (checkpoint : SignedCheckpoint) (key : CosignVerificationKey)
+    → key_scheme key ≡ scheme_of head.scheme → key_info key ≡ head.key → (error : SigstoreError)
+    → error ≡ CheckpointSignatureVerificationError
+    → (error ≡ OutOfMemory)
+    ⊎ (signed_answer (key_accepts (λ scheme info message signature. accepted head.accepted Message
+    (name_of scheme) info message signature) key) checkpoint ≡ Err error)
+    → IsTrue false ↔ HasAcceptedSignature head checkpoint
+signed-refused head checkpoint key scheme info error is told =
+    signed-no head checkpoint key scheme info (subst (λ (e : SigstoreError). (e ≡ OutOfMemory)
+    ⊎ (signed_answer (key_accepts (λ scheme info message signature. accepted head.accepted Message
+    (name_of scheme) info message signature) key) checkpoint ≡ Err e)) is told)

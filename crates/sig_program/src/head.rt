@@ -64,11 +64,9 @@ fn has_accepted_signature(
     match answer {
         Ok(()) => Ok(true),
         Err(SigstoreError::CheckpointSignatureVerificationError) => Ok(false),
-        // It fails otherwise only if out of memory.
-        Err(error) => {
-            drop(error);
-            Err(OutOfMemory)
-        }
+        Err(SigstoreError::OutOfMemory) => Err(OutOfMemory),
+        // `verify_signature` has no other error.
+        Err(_) => unreachable!(),
     }
 }
 
