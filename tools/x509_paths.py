@@ -73,10 +73,13 @@ def issuer(genuine, roots, intermediates, leaf):
     return "VerificationFailed"
 
 
-def questions(genuine, roots, intermediates, leaf):
+def questions(genuine, roots, intermediates, leaf, may=lambda child: True):
     """How many questions are asked: of the leaf the trust anchors of its issuer's name, up to one that signed it; or else each usable
     intermediate of its issuer's name, trust anchors and usable intermediates; and then of the leaf each intermediate of its issuer's
-    name that leads to a trust anchor, up to one that signed it. Of trust anchors with one name and key the first alone."""
+    name that leads to a trust anchor, up to one that signed it. Of trust anchors with one name and key the first alone. Of a certificate
+    that may not be signed none is asked, and of the others none if it is the leaf."""
+    if not may(leaf):
+        return 0
     distinct = list({(root.subject, root.key): root for root in reversed(roots)}.values())
     distinct.sort(key=lambda root: min(place for place, other in enumerate(roots) if (other.subject, other.key) == (root.subject, root.key)))
     count = 0
@@ -86,7 +89,7 @@ def questions(genuine, roots, intermediates, leaf):
             if signed(genuine, leaf, root):
                 return count
     usable = [node for node in intermediates if node and node.usable]
-    count += sum(child.issuer == parent.subject for child in usable for parent in distinct + usable)
+    count += sum(child.issuer == parent.subject for child in usable if may(child) for parent in distinct + usable)
     for first in usable:
         if leaf.issuer == first.subject and any(
                 has_path({*genuine, (leaf.der, first.key)}, roots, intermediates, (first, *rest), leaf)
@@ -110,6 +113,9 @@ def add(case, listed, spelled, cause, roots, intermediates, leaf, genuine, expec
     arguments = [str(TIME), spelled(leaf.der), listed([root.der for root in roots]), listed(given), *rows]
     case(cause, " ".join(["verify_der_cert", *arguments]), found)
     case(cause + ", questions", " ".join(["questions", *arguments]), "%s asked %d" % (found, count))
+    endings = {child.bits[-4:] for child, under in genuine}
+    told = questions(pairs, roots, intermediates, leaf, lambda child: child.bits[-4:] in endings)
+    case(cause + ", of a checker that tells", " ".join(["told", *arguments]), "%s asked %d" % (found, told))
 
 
 def under_issuers(nodes, others):
@@ -128,10 +134,11 @@ def rows(group, case, listed, spelled):
         genuine = [pair for pair in under_issuers([leaf, *[node for node in intermediates if node]], everyone) if pair[0] not in but]
         add(case, listed, spelled, cause, roots, intermediates, leaf, [*genuine, *more], expected)
 
-    group("pools with intermediates: the issuer, and how many questions are asked")
+    group("pools with intermediates: the issuer, and how many questions are asked, also of a checker that tells without a key")
     a = made("a", "fixture root", 5)
     one("one intermediate", "a", [a], "ok intermediate 0")
     one("its signature is not genuine", "a", [a], "VerificationFailed", but=[a])
+    add(case, listed, spelled, "the leaf's signature is not genuine", [root_node()], [a], leaf_node("a"), [(a, root_node().key)], "VerificationFailed")
     one("the first has no issuer", "a", [made("a", "nobody", 6), a], "ok intermediate 1")
     one("a path length of 1", "a", [made("a", "b", 5), made("b", "fixture root", 6, 1)], "ok intermediate 0")
     one("a path length of 0", "a", [made("a", "b", 5), made("b", "fixture root", 6, 0)], "VerificationFailed")

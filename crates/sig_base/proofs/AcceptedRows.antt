@@ -1,5 +1,5 @@
 -- A table accepts a signature if and only if it has its row.
-use Rattle.std.proofs.Common.{◌≡◌, ◌↔◌, ℕ, ◌==◌, Bool, true, false, cond, List, get_or, refl, sym, subst, ◌∙◌}
+use Rattle.std.proofs.Common.{◌≡◌, ◌↔◌, ℕ, ◌==◌, Bool, true, cond, List, get_or, refl, sym, subst, ◌∙◌}
 use Rattle.std.proofs.Common.{ap, nat_eq, arith}
 use Rattle.std.specs.Prelude.{Any, Contains}
 use Rattle.std.proofs.lemmas.Bool.{and_parts, eqb-true}

@@ -1,8 +1,9 @@
 -- The order in which a table of accepted rows is searched: the last bytes of signature, key and message, then the
 -- operation first, the message last.
 use Rattle.std.specs.Prelude.{ℕ, ◌<◌, ◌+◌, ◌-◌, ◌*◌, nat_lt, if◌then◌else◌, List, length, slice_get, slice_index}
-use Rattle.std.specs.Prelude.{Contains}
-use Rattle.std.specs.Option.{option_cmp}
+use Rattle.std.specs.Prelude.{Contains, Bool, nat_eq, Option}
+use Rattle.std.specs.List.{list_any}
+use Rattle.std.specs.Option.{option_cmp, option_map}
 use Rattle.std.specs.Ordering.{nat_cmp, is_lt, on, then_cmp}
 use Rattle.std.specs.Cmp.Lexicographic.{slice_cmp}
 use Rattle.std.specs.List.Sorted.{IsSortedBy}
@@ -58,6 +59,14 @@ row_order = then_cmp ending_order part_order
 -- the row at one index before the row at another
 abbrev pub order_at : List AcceptedRow → ℕ → ℕ → Ordering
 order_at rows one other = option_cmp row_order (slice_get rows one) (slice_get rows other)
+
+-- the ending of the signature of the row at an index
+abbrev pub ending_at : List AcceptedRow → ℕ → Option ℕ
+ending_at rows index = option_map (λ row. ending row.signature) (slice_get rows index)
+
+-- the signature of some row has the same ending
+abbrev pub some_ends_alike : List AcceptedRow → List ℕ → Bool
+some_ends_alike rows signature = list_any (λ row. nat_eq (ending row.signature) (ending signature)) rows
 
 -- indices in the order of their rows
 abbrev pub Ascends : List AcceptedRow → List ℕ → Type 0

@@ -1,24 +1,29 @@
 //! Who says whether a signature is genuine: a [`SignatureChecker`]; the one of this program is a table of accepted
 //! rows.
-ghost use Rattle.std.specs.Prelude.{◌≡◌, ◌↔◌, Bool, List, ℕ, [], ◌∷◌, ◌++◌, IfOk, OnOk, OnErr, IsTrue, Contains};
+ghost use Rattle.std.specs.Prelude.{◌≡◌, ◌↔◌, Bool, false, List, ℕ, [], ◌∷◌, ◌++◌, IfOk, OnOk, OnErr};
+ghost use Rattle.std.specs.Prelude.{IsTrue, IsFalse, Contains};
 ghost use Rattle.sig_base.specs.declared.scheme.VerifyScheme.{VerifyScheme as scheme_type};
 
 use crate::bytes::Bytes;
 use crate::memory::OutOfMemory;
 use crate::owned_list::OwnedList;
-use crate::row_order::{RowParts, order_of, order_to, put_in_order};
+use crate::row_order::{RowParts, ending, ending_to, order_of, order_to, put_in_order};
 use crate::scheme::VerifyScheme;
 use std::alloc::Global;
 use std::marker::Model;
 
-/// Decides whether signatures are genuine. Each call returns exactly its predicate of the listed bytes: a checker has
-/// no faults.
+/// Decides whether signatures are genuine. Each of its four checks returns exactly its predicate of the listed bytes: a
+/// checker has no faults.
 /// What this project proves is relative to these four predicates.
 ///
 /// A checker is asked for each different signature of a signed note until it accepts one, with the whole text of the
 /// note as message; and of a certificate for each different key of trust anchors of the issuer's name until it accepts
 /// one, with the whole TBSCertificate. One that hashes the message in each call hashes signatures, or keys, times text:
 /// keep the digest of the last message, or check the lengths of signatures first.
+///
+/// Before the keys of a certificate comes the question whether there may be one at all,
+/// [`may_accept_cert`](SignatureChecker::may_accept_cert): a checker that can tell without a key is spared thousands of
+/// questions.
 pub trait SignatureChecker {
     /// The signatures over messages that are genuine under a scheme and an SPKI (DER).
     ghost spki_accepts: { Self → scheme_type → List ℕ → List ℕ → List ℕ → Bool };
@@ -66,6 +71,16 @@ pub trait SignatureChecker {
         signature: &[u8],
     ) -> bool
         ensures { result ≡ cert_accepts self.now issuer_spki.now algorithm.now tbs.now signature.now };
+
+    /// Whether `signature` over the TBSCertificate `tbs` may be genuine under the `algorithm` (all DER) and some SPKI:
+    /// `false` only if it is genuine under none. A checker that cannot tell without a key says `true`, as this body
+    /// does. It only spares questions: no decision depends on it.
+    fn may_accept_cert(&self, algorithm: &[u8], tbs: &[u8], signature: &[u8]) -> bool
+        ensures { IsFalse result → (spki : List ℕ) → cert_accepts self.now spki algorithm.now tbs.now signature.now
+            ≡ false }
+    {
+        true
+    }
 }
 
 /// The four questions that a checker is asked.
@@ -118,6 +133,7 @@ impl Model for TableChecker {
 
 impl TableChecker {
     ghost use Rattle.sig_base.specs.Checker.{accepted};
+    ghost use Rattle.sig_base.specs.RowOrder.{some_ends_alike};
 
     /// Returns the empty table, which accepts nothing.
     pub fn new(alloc: Global) -> TableChecker
@@ -185,6 +201,20 @@ impl TableChecker {
             .order
             .as_slice()
             .binary_search_by(|index| order_to(rows, *index, &sought));
+        found.is_ok()
+    }
+
+    /// Whether the signature of some row has the same ending. A binary search too, since the order begins with the
+    /// endings of signatures.
+    fn has_ending(&self, signature: &[u8]) -> bool
+        ensures { result ≡ some_ends_alike self.now signature.now }
+    {
+        let sought = ending(signature);
+        let rows = self.rows.as_slice();
+        let found = self
+            .order
+            .as_slice()
+            .binary_search_by(|index| ending_to(rows, *index, sought));
         found.is_ok()
     }
 }
@@ -255,5 +285,9 @@ impl SignatureChecker for TableChecker {
             tbs,
             signature,
         )
+    }
+
+    fn may_accept_cert(&self, _algorithm: &[u8], _tbs: &[u8], signature: &[u8]) -> bool {
+        self.has_ending(signature)
     }
 }

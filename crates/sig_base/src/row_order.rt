@@ -3,9 +3,10 @@
 //! that a message is compared only where all else is equal.
 ghost use Rattle.std.specs.Prelude.{◌≡◌, Some, IfOk, slice_get, IsPermutation};
 ghost use Rattle.std.specs.Option.{option_cmp};
+ghost use Rattle.std.specs.Ordering.{nat_cmp};
 ghost use Rattle.sig_base.specs.Checker.{operation_code};
 ghost use Rattle.sig_base.specs.RowOrder.{ending, leading, following, ending_order, part_order, row_order};
-ghost use Rattle.sig_base.specs.RowOrder.{order_at, Ascends, IsOrderOf};
+ghost use Rattle.sig_base.specs.RowOrder.{ending_at, order_at, Ascends, IsOrderOf};
 
 use crate::checker::{AcceptedRow, Operation};
 use crate::memory::OutOfMemory;
@@ -150,7 +151,7 @@ impl<'a> RowParts<'a> {
 /// The last four bytes as a number, 0 of fewer.
 #[tactic(auto, unfolding(crate::specs::RowOrder::ending))]
 #[inline(always)]
-fn ending(bytes: &[u8]) -> u64
+pub fn ending(bytes: &[u8]) -> u64
     ensures { result ≡ ending bytes.now }
 {
     let length = bytes.len();
@@ -168,6 +169,18 @@ pub fn order_to(rows: &[AcceptedRow], index: usize, other: &RowParts<'_>) -> Ord
 {
     match rows.get(index) {
         Some(row) => RowParts::of(row).order(other),
+        None => Ordering::Less,
+    }
+}
+
+/// Compares the ending of the signature of the row at an index with another ending. An index that no row has comes
+/// first.
+#[inline(always)]
+pub fn ending_to(rows: &[AcceptedRow], index: usize, other: u64) -> Ordering
+    ensures { result ≡ option_cmp nat_cmp (ending_at rows.now index) (Some other) }
+{
+    match rows.get(index) {
+        Some(row) => ending(row.signature.as_slice()).cmp(&other),
         None => Ordering::Less,
     }
 }

@@ -31,7 +31,7 @@ pub record IsSpan (end : ℕ) (s : Span) : Type 0 where
 
 -- the element lies below the offset
 pub record IsPlace (end : ℕ) (p : Place) : Type 0 where
-  pub preambleed : p.start ≤ p.content
+  pub headed : p.start ≤ p.content
   pub filled : p.content ≤ p.end
   pub below : p.end ≤ end
 
@@ -101,7 +101,7 @@ placed_outer bytes o =
 
 pub record IsOuterWithin (at end : ℕ) (o : OuterPlaces) : Type 0 where
   pub from : at ≤ o.tbs.start
-  pub preambleed : o.tbs.start ≤ o.tbs.content
+  pub headed : o.tbs.start ≤ o.tbs.content
   pub filled : o.tbs.content ≤ o.tbs.end
   pub to : o.tbs.end ≤ end
   pub algorithm : IsSpan end o.algorithm

@@ -19,7 +19,7 @@ use Rattle.std.proofs.lemmas.Map.Lookups.{exact_bytes}
 use Rattle.std.proofs.lemmas.Option.{same_Some, slice_get_within}
 use Rattle.sig_base.proofs.Orderings.{both_tie}
 use Rattle.sig_certificate.specs.Certificate.{Cert}
-use Rattle.sig_x509.specs.AskedAnchors.{IsFirstOfItsKey, IsCovered, AreAsked, AreFewAsked}
+use Rattle.sig_x509.specs.AskedAnchors.{IsFirstOfItsKey, IsCovered, AreFewAsked}
 
 -- ---- the set of the subjects and SPKIs so far
 

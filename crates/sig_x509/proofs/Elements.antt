@@ -1,6 +1,6 @@
 -- Elements of a list, by their indices.
-use Rattle.std.proofs.Common.{◌≡◌, ◌⊎◌, ltb, ℕ, zero, suc, ◌+◌, ◌<◌, ◌≤◌, Bool, true, false, ◌||◌, not, cond, List, []}
-use Rattle.std.proofs.Common.{◌∷◌, length, get_or, Option, Some, None, slice_get, inl, inr, refl, sym, ap, subst, ◌∙◌}
+use Rattle.std.proofs.Common.{◌≡◌, ◌⊎◌, ltb, ℕ, zero, suc, ◌<◌, ◌≤◌, Bool, true, false, ◌||◌, not, cond, List, []}
+use Rattle.std.proofs.Common.{◌∷◌, length, get_or, Some, None, slice_get, inl, inr, refl, sym, ap, subst, ◌∙◌}
 use Rattle.std.proofs.Common.{arith}
 use Rattle.std.specs.Prelude.{Contains, position}
 use Rattle.std.specs.List.{AllByRecursion, list_any, position_or_len}

@@ -1,16 +1,15 @@
 -- The first intermediate that leads, by the table, is the first in a path.
-use Rattle.std.proofs.Common.{◌≡◌, ◌⊎◌, ℕ, zero, suc, ◌+◌, ◌<◌, ◌≤◌, ℤ, Bool, true, false, ◌&&◌, cond, List, [], ◌∷◌, ◌++◌}
-use Rattle.std.proofs.Common.{map, length, get_or, Option, Some, None, Result, Ok, Err, slice_get, inl, inr, refl, sym, ap}
+use Rattle.std.proofs.Common.{◌≡◌, ◌⊎◌, ℕ, zero, ◌+◌, ◌<◌, ◌≤◌, ℤ, Bool, true, false, ◌&&◌, cond, List, [], ◌∷◌, ◌++◌}
+use Rattle.std.proofs.Common.{map, length, get_or, Option, Some, None, Err, slice_get, inl, inr, refl, sym, ap}
 use Rattle.std.proofs.Common.{subst, ◌∙◌, arith, drop, ◌-◌, ◌*◌}
 use Rattle.std.specs.Prelude.{option_map, position}
-use Rattle.std.proofs.lemmas.Bool.{and_from, and_parts, both_ways, cases_order}
+use Rattle.std.proofs.lemmas.Bool.{and_from, both_ways, cases_order}
 use Rattle.std.proofs.lemmas.List.{append_assoc, drop-map, length-append, length-map, map-append}
 use Rattle.std.specs.Borrow.{Bor}
 use Rattle.std.proofs.lemmas.Option.{slice_get-map, slice_get_within, slice_get-get_or, get_or_from_slice_get}
 use Rattle.std.proofs.Math.Seq.{drop-append_seam}
 use Rattle.sig_base.proofs.IntOrders.{le_is}
 use Rattle.sig_base.specs.OptionSteps.{or_else}
-use Rattle.sig_base.specs.declared.fault.PoolError.{PoolError}
 use Rattle.sig_base.specs.declared.fault.PoolError.TheVariants.{Malformed, VerificationFailed}
 use Rattle.sig_certificate.specs.Certificate.{Cert}
 use Rattle.sig_certificate.specs.Trust.{may_sign_code}
@@ -18,16 +17,18 @@ use Rattle.sig_x509.specs.Candidates.{AreCandidates, IsFirstPlace, candidates_of
 use Rattle.sig_x509.specs.Candidates.{all_seen, roots_of, seen}
 use Rattle.sig_x509.specs.Rows.{AreLinksOf, rows}
 use Rattle.sig_x509.specs.declared.links.Link.{Link}
-use Rattle.sig_x509.specs.Issuance.{Accepts, is_issued, is_profiled, is_signed_by, signs_code_at}
-use Rattle.sig_x509.specs.Path.{HasPath, longest_path}
-use Rattle.sig_x509.specs.PathSearch.{anchor_of, first_issuer, found_issuer, intermediate_of, leads, leads_from, may_issue}
+use Rattle.sig_x509.specs.Issuance.{Accepts, IsSignedByNone, is_issued, is_profiled, is_signed_by, signs_code_at}
+use Rattle.sig_x509.specs.Issued.{IsSignedBy}
+use Rattle.sig_x509.specs.Path.{AreSignedUp, HasPath, longest_path}
+use Rattle.sig_x509.specs.PathSearch.{first_issuer, found_issuer, intermediate_of, leads, leads_from, may_issue}
 use Rattle.sig_x509.specs.PathSearch.{most_questions, of_read, path_issuer}
-use Rattle.sig_x509.specs.Pool.{Pool, intermediate_in, present, with_further}
+use Rattle.sig_x509.specs.Pool.{Pool, intermediate_in, present}
 use Rattle.sig_x509.specs.declared.issuer.Issuer.{Issuer}
 use Rattle.sig_x509.specs.declared.issuer.Issuer.TheVariants.{Anchor, Intermediate}
 use Rattle.sig_x509.proofs.Elements.{at_position, before_position, no_position}
 use Rattle.sig_x509.proofs.IssuedLaws.{profile_from}
 use Rattle.sig_x509.proofs.PathAnswers.{none_is_failed}
+use Rattle.sig_x509.proofs.PathConditions.{signed_is}
 use Rattle.sig_x509.proofs.Counts.{all_rows}
 use Rattle.sig_x509.proofs.RowLaws.{leading_may, root_count, rows_lead}
 use Rattle.sig_x509.proofs.Seen.{seen_count}
@@ -159,6 +160,17 @@ module _ (accepts : Accepts) (pool : Pool) (c : Cert) (t : ℤ) (profiled : is_p
           both_ways (signs_code_at c t) no_code
           (and_from _ _ (and_from _ _ (le_is c.not_before t path.begun) (le_is t c.not_after path.lasting))
           (ap may_sign_code path.purpose))
+
+  pub unsigned_by_all : IsSignedByNone accepts c → path_issuer accepts pool c t ≡ Err VerificationFailed
+  unsigned_by_all nobody =
+      none_is_failed accepts pool c t (profile_from c profiled) (λ issuer has. by has.over has.anchor has.path.signed)
+    where
+      by_one : (x : Cert) → IsSignedBy accepts c x → ⊥
+      by_one x signed = both_ways (is_signed_by accepts c x) (nobody x) (signed_is accepts c x signed)
+
+      by : (over : List Cert) (anchor : Cert) → AreSignedUp accepts c over anchor → ⊥
+      by [] anchor signed = by_one anchor signed
+      by (x ∷ xs) anchor signed = by_one x signed.0
 
   pub found : (anchor intermediate : Option ℕ) → signs_code_at c t ≡ true
       → anchor ≡ position (is_signed_by accepts c) pool.anchors

@@ -1,25 +1,22 @@
 -- The result of the search is what the relations say: the first issuer in a path, that there is none, or that the leaf
 -- has not the profile.
-use Rattle.std.proofs.Common.{◌≡◌, ◌⊎◌, ℕ, zero, suc, ◌+◌, ◌<◌, ◌≤◌, ℤ, Bool, true, false, ◌&&◌, cond, List, [], ◌∷◌}
-use Rattle.std.proofs.Common.{length, Option, Some, None, Result, Ok, Err, slice_get, inl, inr, refl, sym, ap, subst}
+use Rattle.std.proofs.Common.{◌≡◌, ◌⊎◌, ℕ, zero, suc, ◌+◌, ◌<◌, ℤ, Bool, true, false, ◌&&◌, cond, List, [], ◌∷◌}
+use Rattle.std.proofs.Common.{Option, Some, None, Ok, Err, slice_get, inl, inr, refl, sym, ap, subst}
 use Rattle.std.proofs.Common.{◌∙◌, arith}
 use Rattle.std.specs.Prelude.{Contains, position, option_map}
 use Rattle.std.proofs.lemmas.Bool.{and_parts, and_from, both_ways, cases_order}
-use Rattle.sig_base.proofs.OptionSteps.{some_is}
-use Rattle.sig_base.specs.Answers.{Answers, ComesWhere}
 use Rattle.sig_base.specs.OptionSteps.{or_else}
-use Rattle.sig_base.specs.declared.fault.PoolError.{PoolError}
-use Rattle.sig_base.specs.declared.fault.PoolError.TheVariants.{Malformed, VerificationFailed, OutOfMemory}
+use Rattle.sig_base.specs.declared.fault.PoolError.TheVariants.{Malformed, VerificationFailed}
 use Rattle.sig_certificate.specs.Certificate.{Cert}
 use Rattle.sig_x509.specs.Issuance.{Accepts, is_issued, is_profiled}
-use Rattle.sig_x509.specs.Issued.{HasProfile, IsIssuedBy, IsSignedBy}
-use Rattle.sig_x509.specs.Path.{AreSignedUp, HasNoPath, HasPath, IsFirstInPath, IsIssuerIn, IsPath, longest_path}
-use Rattle.sig_x509.specs.PathSearch.{anchor_of, first_issuer, found_issuer, intermediate_of, leads, leads_from as is_led}
-use Rattle.sig_x509.specs.PathSearch.{of_read, path_issuer}
-use Rattle.sig_x509.specs.Pool.{Pool, IsBefore, certificate_of, intermediate_in}
+use Rattle.sig_x509.specs.Issued.{HasProfile, IsSignedBy}
+use Rattle.sig_x509.specs.Path.{AreSignedUp, HasNoPath, HasPath, IsFirstInPath, IsPath, longest_path}
+use Rattle.sig_x509.specs.PathSearch.{first_issuer, found_issuer, intermediate_of, leads, leads_from as is_led}
+use Rattle.sig_x509.specs.PathSearch.{path_issuer}
+use Rattle.sig_x509.specs.Pool.{Pool, IsBefore, intermediate_in}
 use Rattle.sig_x509.specs.declared.issuer.Issuer.{Issuer}
 use Rattle.sig_x509.specs.declared.issuer.Issuer.TheVariants.{Anchor, Intermediate}
-use Rattle.sig_x509.proofs.Elements.{all_at, all_from, at_contained, at_position, before_position, contains_at}
+use Rattle.sig_x509.proofs.Elements.{all_at, all_from, at_position, before_position, contains_at}
 use Rattle.sig_x509.proofs.Elements.{no_position}
 use Rattle.sig_x509.proofs.IssuedLaws.{issued_from, issued_is, profile_from, profile_is}
 use Rattle.sig_x509.proofs.PathTable.{allows_as_many, leads_from, leads_is, of_read_from, standing_at, standing_from}

@@ -1,11 +1,10 @@
 -- Of the signatures that are on no path, were each genuine, the checker's word does not matter.
-use Rattle.std.proofs.Common.{◌≡◌, ◌⊎◌, ℕ, ℤ, Bool, true, List, [], ◌∷◌, Option, Some, None, Result, Ok, Err, inl, inr}
-use Rattle.std.proofs.Common.{refl, sym, ap, ◌∙◌}
-use Rattle.sig_base.specs.declared.fault.PoolError.TheVariants.{Malformed, VerificationFailed}
+use Rattle.std.proofs.Common.{◌≡◌, ◌⊎◌, ℤ, List, [], ◌∷◌, Option, Some, None, inl, inr}
+use Rattle.std.proofs.Common.{refl, sym, ◌∙◌}
 use Rattle.sig_certificate.specs.Certificate.{Cert}
 use Rattle.sig_x509.specs.Issuance.{Accepts}
 use Rattle.sig_x509.specs.Issued.{HasProfile, IsSignedBy}
-use Rattle.sig_x509.specs.Path.{AgreeOnPaths, AreSignedUp, HasNoPath, HasPath, IsAskedOn, IsFirstInPath, IsNext, IsPath}
+use Rattle.sig_x509.specs.Path.{AgreeOnPaths, AreSignedUp, HasPath, IsNext, IsPath}
 use Rattle.sig_x509.specs.Path.{every_signature}
 use Rattle.sig_x509.specs.PathSearch.{first_issuer, found_issuer, path_issuer}
 use Rattle.sig_x509.specs.Pool.{Pool}

@@ -1,12 +1,12 @@
 -- The clauses of a search, from the equation of its result.
 use Rattle.std.proofs.lemmas.List.{append-nil}
-use Rattle.std.proofs.Common.{◌≡◌, ◌⊎◌, ℕ, ℤ, List, [], Option, Result, Ok, Err, inl, inr, refl, sym, ap, subst, ◌∙◌}
+use Rattle.std.proofs.Common.{◌≡◌, ℕ, ℤ, List, [], Option, Result, Ok, Err, inl, inr, sym, ap, subst, ◌∙◌}
 use Rattle.sig_base.specs.Answers.{ComesWhere}
 use Rattle.sig_base.specs.declared.fault.PoolError.{PoolError}
 use Rattle.sig_base.specs.declared.fault.PoolError.TheVariants.{Malformed, VerificationFailed, OutOfMemory}
 use Rattle.sig_certificate.specs.Certificate.{Cert, IsCertificate}
 use Rattle.sig_x509.specs.Issuance.{Accepts}
-use Rattle.sig_x509.specs.Issued.{HasProfile, IsOnlyCertificate}
+use Rattle.sig_x509.specs.Issued.{HasProfile}
 use Rattle.sig_x509.specs.Path.{AgreeOnPaths, HasNoPath, IsFirstInPath}
 use Rattle.sig_x509.specs.PathSearch.{path_issuer}
 use Rattle.sig_x509.specs.PathText.{HasNoProfile, IsIssuedText, IsJudgedText, IsUnissuedText, Meant}

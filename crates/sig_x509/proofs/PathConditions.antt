@@ -1,13 +1,11 @@
 -- What is computed of one intermediate is what the relations say.
-use Rattle.std.proofs.Common.{◌≡◌, ◌⊎◌, ℕ, ◌≤◌, ℤ, Bool, true, false, Option, Some, None, Result, Ok, Err, T}
+use Rattle.std.proofs.Common.{◌≡◌, ◌⊎◌, ℕ, ◌≤◌, ℤ, Bool, true, false, Option, Some, None, Ok, Err, T}
 use Rattle.std.proofs.Common.{inl, inr, refl, sym, ap, subst, ◌∙◌}
 use Rattle.std.proofs.Math.Facts.{leb_yes, yes_leb}
 use Rattle.std.specs.Prelude.{nat_le, is_none}
 use Rattle.std.proofs.lemmas.Bool.{and_parts, and_from}
 use Rattle.std.proofs.lemmas.Slice.Eq.{bytes_eq-Decides}
 use Rattle.sig_base.proofs.IntOrders.{le_from, le_is}
-use Rattle.sig_base.proofs.OptionSteps.{some_is}
-use Rattle.sig_base.proofs.ResultSteps.{ok_is}
 use Rattle.sig_certificate.specs.declared.values.BasicConstraints.{BasicConstraints as Constraints}
 use Rattle.sig_certificate.specs.Certificate.{Cert}
 use Rattle.sig_certificate.specs.Profile.{Held, ca_refusal, constraints, code_signing}

@@ -1,15 +1,13 @@
 -- What leads to a trust anchor by the table is on a path to one, and what is on a path leads to one.
-use Rattle.std.proofs.Common.{◌≡◌, ◌⊎◌, ℕ, zero, suc, ◌+◌, ◌<◌, ◌≤◌, ℤ, Bool, true, false, ◌&&◌, ◌||◌, List, [], ◌∷◌}
-use Rattle.std.proofs.Common.{length, Option, Some, None, slice_get, inl, inr, refl, sym, ap, subst, ◌∙◌, arith}
+use Rattle.std.proofs.Common.{◌≡◌, ◌⊎◌, ℕ, zero, suc, ◌+◌, ◌<◌, ℤ, Bool, true, ◌&&◌, ◌||◌, List, [], ◌∷◌}
+use Rattle.std.proofs.Common.{length, Option, Some, None, slice_get, inl, inr, refl, ap, subst, ◌∙◌, arith}
 use Rattle.std.specs.Prelude.{Contains}
 use Rattle.std.specs.List.{AllByRecursion, list_any}
 use Rattle.std.proofs.lemmas.Bool.{and_parts, and_from, or_cases, or_right}
-use Rattle.sig_certificate.specs.declared.values.BasicConstraints.{BasicConstraints as Constraints}
 use Rattle.sig_certificate.specs.Certificate.{Cert}
 use Rattle.sig_x509.specs.Issuance.{Accepts, is_signed_by}
-use Rattle.sig_x509.specs.Issued.{IsSignedBy}
 use Rattle.sig_x509.specs.Path.{MayIssue, AllowsBetween, AreSignedUp}
-use Rattle.sig_x509.specs.PathSearch.{can_stand, is_rooted, leads, of_read}
+use Rattle.sig_x509.specs.PathSearch.{is_rooted, leads, of_read}
 use Rattle.sig_x509.specs.Pool.{Pool}
 use Rattle.sig_x509.proofs.Elements.{any_from, any_is, at_contained, contains_at}
 use Rattle.sig_x509.proofs.PathConditions.{signed_from, signed_is, stands_from, stands_is}

@@ -1,21 +1,20 @@
 -- The rows of the table say which intermediates lead to a trust anchor.
-use Rattle.std.proofs.Common.{◌≡◌, ◌⊎◌, ℕ, zero, suc, ◌+◌, ◌-◌, ◌<◌, ◌≤◌, ℤ, Bool, true, false, ◌&&◌, ◌||◌, cond, List}
+use Rattle.std.proofs.Common.{◌≡◌, ◌⊎◌, ℕ, zero, suc, ◌+◌, ◌-◌, ◌<◌, ℤ, Bool, true, false, ◌&&◌, ◌||◌, cond, List}
 use Rattle.std.proofs.Common.{[], ◌∷◌, ◌++◌, map, length, get_or, Option, Some, None, slice_get, inl, inr, refl, sym, ap}
-use Rattle.std.proofs.Common.{subst, ◌∙◌, arith, ltb}
-use Rattle.std.specs.Prelude.{Contains, bytes_eq, option_map, nat_lt}
+use Rattle.std.proofs.Common.{◌∙◌, arith, ltb}
+use Rattle.std.specs.Prelude.{bytes_eq, option_map}
 use Rattle.std.specs.List.{AllZip, list_any}
-use Rattle.std.proofs.lemmas.Bool.{and_parts, and_from, both_ways, cases_order, lt-ltb, le-ltb, ltb-true, ltb-false, or_cases}
+use Rattle.std.proofs.lemmas.Bool.{and_parts, and_from, lt-ltb, ltb-true, ltb-false, or_cases}
 use Rattle.std.proofs.lemmas.Bool.{or_right}
-use Rattle.std.proofs.lemmas.List.{get_or-append-add, get_or_append_left}
-use Rattle.std.proofs.lemmas.Option.{slice_get-map, slice_get_within, slice_get-get_or, get_or_from_slice_get}
+use Rattle.std.proofs.lemmas.Option.{slice_get-map, get_or_from_slice_get}
 use Rattle.sig_certificate.specs.Certificate.{Cert}
 use Rattle.sig_certificate.specs.Profile.{constraints}
-use Rattle.sig_x509.specs.AskedAnchors.{IsCovered, IsSameSigner}
-use Rattle.sig_x509.specs.Candidates.{AreCandidates, AreSigners, candidates_of, if_may_issue, is_signer, roots_of}
+use Rattle.sig_x509.specs.AskedAnchors.{IsSameSigner}
+use Rattle.sig_x509.specs.Candidates.{AreCandidates, AreSigners, if_may_issue, is_signer, roots_of}
 use Rattle.sig_x509.specs.Issuance.{Accepts, is_signed_by}
-use Rattle.sig_x509.specs.PathSearch.{allows, can_stand, is_rooted, leads, may_issue, most_between, of_read}
+use Rattle.sig_x509.specs.PathSearch.{allows, is_rooted, leads, may_issue, most_between, of_read}
 use Rattle.sig_x509.specs.Pool.{Pool, intermediate_in}
-use Rattle.sig_x509.specs.Rows.{AreLinksOf, IsLinkOf, is_reached, link_leads, row_of, rows}
+use Rattle.sig_x509.specs.Rows.{AreLinksOf, IsLinkOf, is_reached, link_leads, rows}
 use Rattle.sig_x509.specs.declared.links.Link.{Link}
 use Rattle.sig_x509.proofs.Elements.{any_from, any_is, at_contained, contains_at}
 

@@ -1,5 +1,5 @@
 -- The rows, from the last place down.
-use Rattle.std.proofs.Common.{◌≡◌, ℕ, zero, suc, ◌-◌, ◌<◌, ◌≤◌, Bool, false, List, map, refl, sym, ap, ◌∙◌, arith}
+use Rattle.std.proofs.Common.{◌≡◌, ℕ, suc, ◌-◌, ◌<◌, ◌≤◌, Bool, false, List, map, ap, ◌∙◌, arith}
 use Rattle.sig_x509.specs.Rows.{row_of, rows}
 use Rattle.sig_x509.specs.declared.links.Link.{Link}
 

@@ -1,14 +1,14 @@
 -- The walk over the candidates of one name, from the last down, finds all that signed.
 use Rattle.std.proofs.Common.{◌≡◌, ◌⊎◌, ℕ, zero, suc, ◌+◌, ◌<◌, ◌≤◌, Bool, true, false, cond, List, [], ◌∷◌, ◌++◌}
-use Rattle.std.proofs.Common.{length, Option, Some, None, slice_get, inl, inr, refl, sym, ap, subst, ◌∙◌, arith, ltb}
+use Rattle.std.proofs.Common.{length, Option, Some, None, slice_get, inl, inr, refl, sym, ap, subst, ◌∙◌, arith}
 use Rattle.std.specs.Prelude.{Contains, bytes_eq, ◌&&◌}
-use Rattle.std.proofs.lemmas.Bool.{and_parts, both_ways, cases_order, not-true}
+use Rattle.std.proofs.lemmas.Bool.{both_ways, cases_order}
 use Rattle.std.proofs.lemmas.List.Elements.{Contains-append_left, Contains-push}
 use Rattle.std.proofs.lemmas.Option.{slice_get_within}
 use Rattle.std.proofs.lemmas.Slice.Eq.{bytes_eq-Decides}
 use Rattle.sig_certificate.specs.Certificate.{Cert}
-use Rattle.sig_x509.specs.Candidates.{AreSigners, IsIndexOf, has_subject, is_signer, last_named, named_in}
-use Rattle.sig_x509.specs.Issuance.{Accepts, is_signed_by}
+use Rattle.sig_x509.specs.Candidates.{AreSigners, has_subject, is_signer, last_named}
+use Rattle.sig_x509.specs.Issuance.{Accepts, IsSignedByNone, is_signed_by}
 use Rattle.sig_x509.specs.PathSearch.{of_read}
 use Rattle.sig_x509.specs.Pool.{intermediate_in}
 
@@ -127,6 +127,18 @@ module _ (accepts : Accepts) (c : Cert) (listed : List (Option Cert)) where
     all = λ k over signed. absurd (past k over signed);
     counted = omega arith;
   }
+
+  -- where nobody signed, the signers are none
+  pub none_walked : IsSignedByNone accepts c → AreSigners accepts c listed []
+  none_walked nobody = record {
+    each = λ k has. absurd (omega (arith, has.1));
+    all = λ k signed. absurd (by (slice_get listed k) signed);
+  }
+    where
+      by : (o : Option (Option Cert)) → of_read (is_signed_by accepts c) (intermediate_in o) ≡ true → ⊥
+      by None signed = cc
+      by (Some None) signed = cc
+      by (Some (Some x)) signed = both_ways (is_signed_by accepts c x) (nobody x) signed
 
   pub walk_within : (place : ℕ) (signers : List ℕ) (start now : ℕ) → IsWalking (Some place) signers start now
       → place < length listed

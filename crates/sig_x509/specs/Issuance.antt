@@ -63,6 +63,10 @@ Accepts = List ℕ → List ℕ → List ℕ → List ℕ → Bool
 abbrev pub is_signed_by : Accepts → Cert → Cert → Bool
 is_signed_by accepts c x = bytes_eq c.issuer x.subject && accepts x.spki c.algorithm c.tbs c.signature
 
+-- none signed it
+abbrev pub IsSignedByNone : Accepts → Cert → Type 0
+IsSignedByNone accepts c = (x : Cert) → is_signed_by accepts c x ≡ false
+
 -- the time is within the validity, its first and its last second included (section 4.1.2.5)
 abbrev pub is_within : Cert → ℤ → Bool
 is_within c t = int_le c.not_before t && int_le t c.not_after

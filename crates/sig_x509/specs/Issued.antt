@@ -1,18 +1,16 @@
 -- *Issuance* as relations: what holds of a certificate that may be issued, of who signed it, and of the trust anchor
 -- that issued it. RFC 5280 sections 4.1, 4.2 and 6.1, in the profile of Sigstore. `Issuance` says how they are found.
-use Rattle.std.specs.Prelude.{◌≡◌, ◌⊎◌, ℕ, ◌<◌, ℤ, ◌≤ℤ◌, List, [], Bool, true, false, Some, None, Result, Ok, Err}
+use Rattle.std.specs.Prelude.{◌≡◌, ◌⊎◌, ℕ, ◌<◌, ℤ, ◌≤ℤ◌, List, [], Bool, true, false, Some, None, Ok}
 use Rattle.std.specs.Prelude.{slice_get}
 use Rattle.std.specs.Str.{bytes_eq}
 use Rattle.std.specs.List.{AllByRecursion, IsDistinct}
-use Rattle.sig_base.specs.declared.fault.PoolError.{PoolError}
-use Rattle.sig_base.specs.declared.fault.PoolError.TheVariants.{Malformed, OutOfMemory}
 use Rattle.sig_der.specs.ObjectIdentifiers.{key_usage, extended_key_usage, basic_constraints, subject_alternative_name}
 use Rattle.sig_der.specs.ObjectIdentifiers.{name_constraints}
 use Rattle.sig_certificate.specs.declared.values.BasicConstraints.{BasicConstraints as Constraints}
 use Rattle.sig_certificate.specs.Certificate.{Cert, IsCertificate}
 use Rattle.sig_certificate.specs.Lookups.{with_oid, oids}
 use Rattle.sig_certificate.specs.Profile.{constraints, code_signing}
-use Rattle.sig_x509.specs.Issuance.{Accepts, issuer_of}
+use Rattle.sig_x509.specs.Issuance.{Accepts}
 
 -- ---- what may be issued
 

@@ -1,11 +1,9 @@
 -- *Path*: the certification paths from a certificate over intermediates to a trust anchor. RFC 5280 sections 4.2.1.9,
 -- 4.2.1.12 and 6.1, in the profile of Sigstore. `PathSearch` says how they are found.
-use Rattle.std.specs.Prelude.{⊤, ◌≡◌, ◌⊎◌, ℕ, ◌≤◌, ℤ, ◌≤ℤ◌, List, [], ◌∷◌, length, slice_get, Contains, Bool, true}
-use Rattle.std.specs.Prelude.{Option, Some, None, Result, Ok, Err}
-use Rattle.sig_base.specs.Answers.{Answers}
-use Rattle.sig_base.specs.declared.fault.PoolError.{PoolError}
+use Rattle.std.specs.Prelude.{◌≡◌, ◌⊎◌, ℕ, ◌≤◌, ℤ, ◌≤ℤ◌, List, [], ◌∷◌, length, slice_get, Contains, Bool, true}
+use Rattle.std.specs.Prelude.{Some, None, Ok}
 use Rattle.sig_certificate.specs.declared.values.BasicConstraints.{BasicConstraints as Constraints}
-use Rattle.sig_certificate.specs.Certificate.{Cert, IsCertificate}
+use Rattle.sig_certificate.specs.Certificate.{Cert}
 use Rattle.sig_certificate.specs.Profile.{ca_refusal, constraints, code_signing}
 use Rattle.sig_x509.specs.Issuance.{Accepts}
 use Rattle.sig_x509.specs.Issued.{HasProfile, IsFit, IsSignedBy}

@@ -1,16 +1,14 @@
 -- The search for a certification path: a table over the place in a path and the intermediate.
-use Rattle.std.specs.Prelude.{◌≡◌, ℕ, zero, suc, ◌+◌, ◌*◌, ℤ, List, length, position, nat_le, Bool, true, false, ◌&&◌}
+use Rattle.std.specs.Prelude.{ℕ, zero, suc, ◌+◌, ◌*◌, ℤ, length, position, nat_le, Bool, true, false, ◌&&◌}
 use Rattle.std.specs.Prelude.{◌||◌, Option, Some, None, option_map, Result, Ok, Err, is_none, if◌then◌else◌}
 use Rattle.std.specs.List.{list_any}
-use Rattle.sig_base.specs.Answers.{Answers}
 use Rattle.sig_base.specs.OptionSteps.{or_else}
 use Rattle.sig_base.specs.declared.fault.PoolError.{PoolError}
-use Rattle.sig_base.specs.declared.fault.PoolError.TheVariants.{Malformed, VerificationFailed, OutOfMemory}
+use Rattle.sig_base.specs.declared.fault.PoolError.TheVariants.{Malformed, VerificationFailed}
 use Rattle.sig_certificate.specs.declared.values.BasicConstraints.{BasicConstraints as Constraints}
-use Rattle.sig_certificate.specs.Certificate.{Cert, IsCertificate}
+use Rattle.sig_certificate.specs.Certificate.{Cert}
 use Rattle.sig_certificate.specs.Profile.{Held, constraints, code_signing, ca_refusal}
 use Rattle.sig_x509.specs.Issuance.{Accepts, is_fit, is_issued, is_profiled, is_signed_by, is_within}
-use Rattle.sig_x509.specs.Issued.{IsOnlyCertificate}
 use Rattle.sig_x509.specs.Path.{longest_path}
 use Rattle.sig_x509.specs.Pool.{Pool}
 use Rattle.sig_x509.specs.declared.issuer.Issuer.{Issuer}

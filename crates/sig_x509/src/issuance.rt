@@ -1,11 +1,12 @@
 //! Which certificates may be issued, and which may issue them: RFC 5280 sections 4.2 and 6.1, in the profile of
 //! Sigstore.
 
-ghost use Rattle.std.specs.Prelude.{◌≡◌, ◌+◌, ◌≤◌, is_none};
+ghost use Rattle.std.specs.Prelude.{◌≡◌, ◌+◌, ◌≤◌, is_none, IsFalse};
 ghost use Rattle.sig_certificate.specs.Lookups.{borrowed_extension, with_oid};
 ghost use Rattle.sig_certificate.specs.Profile.{ca_refusal, code_signing, constraints};
 ghost use Rattle.sig_x509.specs.Issuance.{may_be_critical, is_understood, are_understood, is_unconstrained, is_fit};
 ghost use Rattle.sig_x509.specs.Issuance.{is_no_authority, is_profiled, is_signed_by, is_within, signs_code_at};
+ghost use Rattle.sig_x509.specs.Issuance.{IsSignedByNone};
 ghost use Rattle.sig_x509.specs.PathSearch.{may_issue, may_issue_code};
 
 use sig_base::{SignatureChecker, Steps};
@@ -109,6 +110,17 @@ pub(crate) fn is_signed_by<C: SignatureChecker, L: Ledger>(
     steps.tick();
     checker.verify_cert_signature(
         signer.spki(),
+        certificate.algorithm(),
+        certificate.tbs(),
+        certificate.signature(),
+    )
+}
+
+/// Whether anyone at all may have signed the certificate, as far as the checker can tell without a key.
+pub(crate) fn may_be_signed<C: SignatureChecker>(certificate: &Certificate, checker: &C) -> bool
+    ensures { IsFalse result → IsSignedByNone (C.cert_accepts checker.now) certificate.now }
+{
+    checker.may_accept_cert(
         certificate.algorithm(),
         certificate.tbs(),
         certificate.signature(),

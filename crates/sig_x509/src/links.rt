@@ -6,7 +6,7 @@ ghost use Rattle.sig_x509.specs.Candidates.{AreSigners, IsIndexOf, all_seen, is_
 ghost use Rattle.sig_x509.specs.PathSearch.{most_between};
 ghost use Rattle.sig_x509.specs.Rows.{AreLinksOf, IsLinkOf};
 
-use crate::issuance::is_signed_by;
+use crate::issuance::{is_signed_by, may_be_signed};
 use crate::subjects::SubjectIndex;
 use sig_base::{OutOfMemory, SignatureChecker, Steps};
 use sig_certificate::{Certificate, basic_constraints};
@@ -53,7 +53,8 @@ pub(crate) fn has_signed<C: SignatureChecker, L: Ledger>(
 }
 
 /// Returns the indices of the candidates that signed the certificate: of those that have the name of its issuer, the
-/// checker is asked about each once. Fails only if out of memory.
+/// checker is asked about each once, and about none if it tells without a key that nobody signed. Fails only if out of
+/// memory.
 fn signers_of<C: SignatureChecker, L: Ledger>(
     alloc: Global,
     certificate: &Certificate,
@@ -68,6 +69,9 @@ fn signers_of<C: SignatureChecker, L: Ledger>(
     ensures steps { steps.new ≤ steps.old + length listed.now }
 {
     let mut signers = Vec::new(alloc);
+    if !may_be_signed(certificate, checker) {
+        return Ok(signers);
+    }
     let mut next = index.last_of(certificate.issuer());
     'named: while let Some(place) = next {
         if has_signed(certificate, listed, place, checker, steps) {

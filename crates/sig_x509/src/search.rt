@@ -9,7 +9,7 @@ ghost use Rattle.sig_x509.specs.Pool.{with_further};
 
 use crate::asked::first_signer_of;
 use crate::candidates::{Candidates, push_further, push_intermediates, push_roots};
-use crate::issuance::{is_profiled, signs_code_at};
+use crate::issuance::{is_profiled, may_be_signed, signs_code_at};
 use crate::issuer::Issuer;
 use crate::links::{has_signed, links_of};
 use crate::pool::CertificatePool;
@@ -129,7 +129,8 @@ impl CertificatePool {
         Ok(first_leading(leaf, intermediates, &row, checker, steps))
     }
 
-    /// Returns the issuer of the leaf in the first path, or why there is none.
+    /// Returns the issuer of the leaf in the first path, or why there is none. The checker is asked about no key if it
+    /// tells without one that nobody signed the leaf.
     pub(crate) fn find_issuer<C: SignatureChecker, L: Ledger>(
         &self,
         alloc: Global,
@@ -147,6 +148,9 @@ impl CertificatePool {
             return Err(PoolError::Malformed);
         }
         if !signs_code_at(leaf, time) {
+            return Err(PoolError::VerificationFailed);
+        }
+        if !may_be_signed(leaf, checker) {
             return Err(PoolError::VerificationFailed);
         }
         if let Some(index) = self.first_anchor(leaf, checker, steps) {

@@ -16,6 +16,7 @@ mod pool;
 mod profile;
 mod sct;
 mod shown;
+mod told;
 
 use sig_cases::{Answer, Arguments, Cases, run};
 
@@ -36,6 +37,7 @@ impl Cases for X509Cases {
             "asked" => asked::asked(arguments, answer),
             "der_asked" => asked::der_asked(arguments, answer),
             "questions" => asked::questions(arguments, answer),
+            "told" => told::told(arguments, answer),
             "graph" => graph::issuer(arguments, answer),
             "spelled" => graph::spelled(arguments, answer),
             _ => of_scts(call, arguments, answer),

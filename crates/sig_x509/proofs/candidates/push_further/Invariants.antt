@@ -1,5 +1,5 @@
 use Rattle.std.proofs.Common.{◌≡◌, ◌++◌, map, take, Some}
-use Rattle.sig_x509.specs.Candidates.{all_seen, if_may_issue, roots_of}
+use Rattle.sig_x509.specs.Candidates.{all_seen, if_may_issue}
 use Rattle.sig_x509.proofs.candidates.push_further.Given as goal
 
 -- those so far are added

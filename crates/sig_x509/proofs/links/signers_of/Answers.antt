@@ -1,8 +1,8 @@
 -- The walk begins at the last candidate of the name, and goes on to the one before it.
-use Rattle.std.proofs.Common.{◌≡◌, ℕ, ◌<◌, List, length, Option, Some, refl, sym, ap, subst, ◌∙◌, arith}
+use Rattle.std.proofs.Common.{◌≡◌, ℕ, ◌<◌, length, Option, refl, sym, ap, subst, ◌∙◌, arith}
 use Rattle.sig_x509.specs.Candidates.{all_seen, last_named, named_in}
 use Rattle.sig_x509.proofs.Seen.{seen_count}
-use Rattle.sig_x509.proofs.Walks.{IsWalking, steps_left, there, walk_ends, walk_left, walk_passes, walk_starts}
+use Rattle.sig_x509.proofs.Walks.{IsWalking, none_walked, there, walk_ends, walk_left, walk_passes, walk_starts}
 use Rattle.sig_x509.proofs.Walks.{walk_takes, walk_within}
 use Rattle.sig_x509.proofs.links.signers_of.Goals as goal
 use Rattle.sig_x509.proofs.links.signers_of.Goals.{then-has_signed+in_ok-push, else-has_signed}
@@ -66,6 +66,12 @@ named-preserved g c =
           c.has_signed.new.steps next
           (sym c.has_signed.ensures.signed ∙ v.if-has_signed.false) c.has_signed.ensures.steps)
     ]
+
+pub returns-then-not-may_be_signed-clause-signers : goal.returns-then-not-may_be_signed-clause-signers
+returns-then-not-may_be_signed-clause-signers g c =
+    rw c.new-signers.ensures.items
+    (none_walked (g.C.SignatureChecker.cert_accepts c.args.checker.now) c.args.certificate.now
+    (all_seen c.args.listed.now) (c.if-not-may_be_signed.ensures refl))
 
 pub returns : goal.returns
 returns g c =

@@ -1,7 +1,7 @@
 -- The index over one candidate more.
-use Rattle.std.proofs.Common.{◌≡◌, Option, Some, None, slice_get, refl, sym, ap, ◌∙◌}
+use Rattle.std.proofs.Common.{◌≡◌, Some, None, slice_get, refl, ap, ◌∙◌}
 use Rattle.std.proofs.lemmas.Option.{slice_get_read}
-use Rattle.sig_x509.specs.Candidates.{all_seen, named_in}
+use Rattle.sig_x509.specs.Candidates.{all_seen}
 use Rattle.sig_x509.proofs.IndexLaws.{index_named, index_absent}
 use Rattle.sig_x509.proofs.Seen.{seen_at}
 use Rattle.sig_x509.proofs.subjects.index_subjects.Goals as goal

@@ -1,10 +1,10 @@
 -- The clauses follow from the equation.
-use Rattle.std.proofs.Common.{ℤ, List, [], subst}
+use Rattle.std.proofs.Common.{ℤ, subst}
 use Rattle.std.proofs.Math.Facts.{to_z-of_z}
 use Rattle.sig_x509.specs.PathSearch.{path_issuer}
 use Rattle.sig_x509.specs.PathText.{Meant}
-use Rattle.sig_x509.specs.Pool.{Pool, with_further}
-use Rattle.sig_x509.proofs.PathClauses.{none_further, says_asked, says_issued, says_malformed, says_none}
+use Rattle.sig_x509.specs.Pool.{with_further}
+use Rattle.sig_x509.proofs.PathClauses.{says_asked, says_issued, says_malformed, says_none}
 use Rattle.sig_x509.proofs.pool.CertificatePool.verify_cert_with_chain.Goals as goal
 
 pub returns-clause-issued : goal.returns-clause-issued
