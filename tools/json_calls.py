@@ -49,6 +49,22 @@ def members_of_names_case(names, data, words=None):
     case(" ".join(["read_members", *counted(names), words or document(data)]), answer(lambda: compact(only(names, tree(data)))))
 
 
+def take_case(name, data, words=None):
+    def make():
+        value = tree(data)
+        return compact(value[name]) if isinstance(value, dict) and name in value else "none"
+
+    case(" ".join(["take", percent(name), words or document(data)]), answer(make))
+
+
+def without_case(names, data, words=None):
+    def make():
+        value = tree(data)
+        return compact(only(value.keys() - set(names), value) if isinstance(value, dict) else value)
+
+    case(" ".join(["without", *counted(names), words or document(data)]), answer(make))
+
+
 def members_and_list_case(word, name, names, data, words=None):
     kind, show = KINDS[word]
 

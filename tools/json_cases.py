@@ -8,7 +8,7 @@ json_documents.py says what a text is as a tree, and how a tree is written; none
 import json_float_rows
 from json_calls import TABLE, members_and_list_case, members_of_names_case, say
 from json_member_rows import (
-    encoded_bytes, hashes, integers, kinds, members_beside_a_list, members_of_names, records, repeated_members, texts_by_names, views,
+    encoded_bytes, hashes, integers, kinds, members_beside_a_list, members_of_names, parts, records, repeated_members, texts_by_names, views,
 )
 from json_text_rows import nesting, orders, structures, texts
 from json_tree_rows import builders, canonicals, equality, errors
@@ -20,7 +20,7 @@ def float_rows():
 
 def main():
     for rows in (
-        texts, structures, nesting, members_of_names, repeated_members, members_beside_a_list, float_rows, orders, canonicals, views, integers, kinds, encoded_bytes,
+        texts, structures, nesting, members_of_names, repeated_members, members_beside_a_list, float_rows, orders, canonicals, views, parts, integers, kinds, encoded_bytes,
         hashes, texts_by_names, records, builders, equality, errors,
     ):
         rows()

@@ -3,7 +3,7 @@ import itertools
 
 from json_calls import (
     HASH, NO_OBJECTS, OTHER, VALUES, case, document, integers_case, kind_cases, members_and_list_case, members_of_names_case, nested, percent,
-    record_cases, row_cases, say,
+    record_cases, row_cases, say, take_case, without_case,
 )
 from json_documents import KINDS, compact, quoted, tree
 from json_text_rows import LONG, NUMBERS, RAW, STRINGS, STRUCTURES
@@ -118,6 +118,32 @@ def views():
         value = tree(text)
         for place in [0, 1, 2, 3, 4, 2**32, 2**63, 2**64 - 1]:
             case("item %d %s" % (place, document(text)), "ok " + (compact(value[place]) if isinstance(value, list) and place < len(value) else "none"))
+
+
+def parts():
+    say("take NAME DOCUMENT: the member of this name, moved out; without COUNT NAME.. DOCUMENT: the document, of an object without the members of these names.")
+    objects = ['{"b":true,"i":-7,"l":[null,"x",{"a":[]}],"t":"\\u00e9\\n"}', '{"":0,"a":1,"aa":{"a":1,"b":2},"ab":3,"b":null}', '{"a":1,"a":[2]}', '{"\\u0061":1,"b":{"\\u0061":"\\ud83d\\ude00"}}', "{}"]
+    for text in objects + VALUES + NO_OBJECTS + ["1.5", '{"a":1.5}', '{"a":1.5,"a":1}', "[", '{"a":1', ""]:
+        for name in ["", "a", "aa", "b", "l", "m", "z"]:
+            take_case(name, text)
+        for names in [[], ["a"], ["a", "b"], ["b", "", "a"], ["l", "l", "z"], ["m"]]:
+            without_case(names, text)
+    for count in (1, 2, 7, 8, 9, 32, 33, 300):
+        text = compact({"%03d" % (2 * place): [place, {"": str(place)}] for place in range(count)})
+        for name in sorted({"000", "001", "%03d" % (2 * (count // 2)), "%03d" % (2 * count - 2), "%03d" % (2 * count)}):
+            take_case(name, text)
+        for names in [["000"], ["%03d" % (2 * count - 2)], ["%03d" % place for place in range(0, 2 * count, 4)], ["%03d" % place for place in range(2 * count)]]:
+            without_case(names, text)
+    for begin, end in [("[", "]"), ('{"a":', "}")]:
+        for depth in (125, 126):
+            text, words = nested(depth, begin, end, "[7]")
+            take_case("a", '{"a":' + text + "}", "hex 7b2261223a+%s+7d" % words[4:])
+            without_case(["b"], '{"a":' + text + "}", "hex 7b2261223a+%s+7d" % words[4:])
+    say("A list that is read gives up the room of 65,536 elements at a time.")
+    for count in (65535, 65536, 131072):
+        for place in (0, count - 1, count, count + 1):
+            answer_of = "0" if place < count else "1" if place == count else "none"
+            case("item %d hex 5b+302c*%d+315d" % (place, count), "ok " + answer_of)
 
 
 def members_case(text):

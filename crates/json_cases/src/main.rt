@@ -12,6 +12,7 @@ mod documents;
 mod equal;
 mod errors;
 mod kinds;
+mod parts;
 mod readers;
 mod rows;
 mod views;
@@ -32,6 +33,8 @@ impl Cases for JsonCases {
             "get" => views::member(arguments, answer),
             "item" => views::item(arguments, answer),
             "members" => views::members(arguments, answer),
+            "take" => parts::take(arguments, answer),
+            "without" => parts::without(arguments, answer),
             "object" => built::object(arguments, answer),
             "list" => built::list(arguments, answer),
             "equal" => equal::equal(arguments, answer),

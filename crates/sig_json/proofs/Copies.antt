@@ -3,19 +3,14 @@ use Rattle.std.proofs.Common.{◌≡◌, ◌+◌, ◌<◌, ℕ, List, [], ◌∷
 use Rattle.std.proofs.Common.{refl, sym, ap, ap₂, ◌∙◌}
 use Rattle.std.proofs.Math.Seq.{take-length}
 use Rattle.std.proofs.lemmas.List.{map-append, take_more}
-use Rattle.std.specs.Cow.{cow_str_bytes}
-use Rattle.serde_json.specs.Data.{Data, member}
+use Rattle.serde_json.specs.Data.{member}
 use Rattle.serde_json.specs.View.{items_of}
 use Rattle.sig_json.proofs.Trees.{view-Null, view-Bool, view-Number, view-Text, view-Array, view-Object}
-use Rattle.sig_json.specs.Gathered.{Entry}
+use Rattle.sig_json.specs.Gathered.{Entry, seen}
 use Rattle.sig_json.specs.View.{view, items_view, members_view}
 use Rattle.sig_json.specs.declared.tree.Tree.{Tree}
 
--- a member as its name and its data
-abbrev pub seen : Entry → List ℕ × Data
-seen e = (cow_str_bytes e.0, view e.1)
-
-members_from_seen : (es fs : List Entry) → map seen es ≡ map seen fs → members_view es ≡ members_view fs
+pub members_from_seen : (es fs : List Entry) → map seen es ≡ map seen fs → members_view es ≡ members_view fs
 members_from_seen [] [] same = refl
 members_from_seen [] (f ∷ fs) same = cc
 members_from_seen (e ∷ es) [] same = cc

@@ -12,14 +12,15 @@ use Rattle.serde_json.specs.Find.{as_object}
 use Rattle.serde_json.specs.Read.{read}
 use Rattle.serde_json.specs.Written.{has_float, members_have_float}
 use Rattle.serde_json.specs.declared.number.Number.{Number}
-use Rattle.sig_json.proofs.Only.{floatless-where, floatless-both, floatless-only, named-only, only-same}
+use Rattle.sig_json.proofs.Only.{floatless-where, floatless-both, floatless-only, floatless-without, named-only}
+use Rattle.sig_json.proofs.Only.{named-without, only-same, without-same}
 use Rattle.sig_json.proofs.Reading.{document_of-not_utf8, document_of-unread, document_of-float, document_of-read}
 use Rattle.sig_json.proofs.Tokens.{object_is_named}
 use Rattle.sig_json.proofs.Trees.{view-Null, view-Bool, view-Number, view-Text, view-Array, view-Object}
 use Rattle.sig_json.specs.Document.{document_of}
 use Rattle.sig_json.specs.Gathered.{Entry}
 use Rattle.sig_json.specs.Named.{IsNamedTree}
-use Rattle.sig_json.specs.Only.{is_among, members_where, only, only_of}
+use Rattle.sig_json.specs.Only.{is_among, members_where, only, only_of, without}
 use Rattle.sig_json.specs.Skipped.{KeepsAllOf}
 use Rattle.sig_json.specs.View.{Words, view, members_view}
 use Rattle.sig_json.specs.declared.error.DocumentError.{DocumentError}
@@ -149,3 +150,46 @@ pub cut_array : (names : List (List ℕ)) (v : Vec Tree Global) → view (Array 
 cut_array names v = sym (only-same names (view (Array v)) (ap as_object (view-Array v)))
 
 pub ruleset cut = (cut_object, cut_null, cut_bool, cut_number, cut_text, cut_array)
+
+-- ---- what is left without some members
+
+pub dropped_object : (names : List (List ℕ)) (before after : Vec Entry Global)
+    → after.items ≡ filter (λ m. not (is_among names (cow_str_bytes m.0))) before.items
+    → view (Object after) ≡ without names (view (Object before))
+unfolding without
+dropped_object names before after are = view-Object after ∙ ap (λ es. object (members_view es)) are
+    ∙ ap object (filter_where (λ name. not (is_among names name)) before.items)
+    ∙ sym (ap (without names) (view-Object before))
+
+pub dropped_null : (names : List (List ℕ)) → view Null ≡ without names (view Null)
+dropped_null names = sym (without-same names (view Null) (ap as_object view-Null))
+
+pub dropped_bool : (names : List (List ℕ)) (b : Bool) → view (Truth b) ≡ without names (view (Truth b))
+dropped_bool names b = sym (without-same names (view (Truth b)) (ap as_object (view-Bool b)))
+
+pub dropped_number : (names : List (List ℕ)) (n : Number) → view (Numeral n) ≡ without names (view (Numeral n))
+dropped_number names n = sym (without-same names (view (Numeral n)) (ap as_object (view-Number n)))
+
+pub dropped_text : (names : List (List ℕ)) (text : Words) → view (Text text) ≡ without names (view (Text text))
+dropped_text names text = sym (without-same names (view (Text text)) (ap as_object (view-Text text)))
+
+pub dropped_array : (names : List (List ℕ)) (v : Vec Tree Global) → view (Array v) ≡ without names (view (Array v))
+dropped_array names v = sym (without-same names (view (Array v)) (ap as_object (view-Array v)))
+
+pub ruleset dropped_from = (
+  dropped_object,
+  dropped_null,
+  dropped_bool,
+  dropped_number,
+  dropped_text,
+  dropped_array,
+)
+
+pub dropped_floatless : (names : List (List ℕ)) (d e : Data) → has_float d ≡ false → e ≡ without names d
+    → has_float e ≡ false
+dropped_floatless names d e none is = ap has_float is ∙ floatless-without names d none
+
+pub dropped_named : (names : List (List ℕ)) (d e : Data) → IsNamedTree d → e ≡ without names d → IsNamedTree e
+dropped_named names d e named is = subst IsNamedTree (sym is) (named-without names d named)
+
+pub ruleset dropped = (dropped_floatless, dropped_named)

@@ -6,6 +6,7 @@ pub mod Ordered
 pub mod Scanned
 pub mod Adding
 pub mod Copies
+pub mod Moved
 pub mod Converted
 pub mod Tokens
 pub mod ByKind

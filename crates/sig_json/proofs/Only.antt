@@ -1,4 +1,4 @@
--- Members of some names: how they are found and how more of them go in.
+-- Members of some names, and what is left without those of some: how they are found and how more of them go in.
 use Rattle.std.proofs.Common.{◌≡◌, ℕ, Bool, true, false, not, true≢false, List, [], ◌∷◌, Option, Some}
 use Rattle.std.proofs.Common.{None, refl, sym, ap, subst, ◌∙◌}
 use Rattle.std.proofs.lemmas.Cmp.{nat_list_cmp_total}
@@ -21,7 +21,7 @@ use Rattle.sig_base.specs.OptionSteps.{◌>>=◌}
 use Rattle.sig_json.specs.Member.{member_of, not_null, there_or, required, optional_or}
 use Rattle.sig_json.specs.Members.{members_list}
 use Rattle.sig_json.specs.Named.{NamesAscend, HasNamedValues, IsNamedTree}
-use Rattle.sig_json.specs.Only.{is_among, members_where, only}
+use Rattle.sig_json.specs.Only.{is_among, members_where, object_where, only, without}
 
 abbrev compare : List ℕ → List ℕ → Ordering
 compare = slice_cmp nat_cmp
@@ -201,56 +201,98 @@ floatless-both test (member l e ms) some others =
 
 -- ---- a whole value
 
--- what holds of a value beside itself, and of an object beside what is kept of it, holds of every value beside what is
--- kept
-by_kept : (P : Data → Data → Type 0) (names : List (List ℕ)) → ((d : Data) → P d d)
-    → ((ms : Members) → P (object ms) (object (members_where (is_among names) ms))) → (d : Data) → P d (only names d)
-unfolding only
-by_kept P names same kept null = same null
-by_kept P names same kept (boolean b) = same (boolean b)
-by_kept P names same kept (number n) = same (number n)
-by_kept P names same kept (string s) = same (string s)
-by_kept P names same kept (array ds) = same (array ds)
-by_kept P names same kept (object ms) = kept ms
+module _ (test : List ℕ → Bool) where
+  -- what holds of a value beside itself, and of an object beside what is left of it, holds of every value beside what
+  -- is left
+  by_left : (P : Data → Data → Type 0) → ((d : Data) → P d d)
+      → ((ms : Members) → P (object ms) (object (members_where test ms))) → (d : Data) → P d (object_where test d)
+  by_left P same left null = same null
+  by_left P same left (boolean b) = same (boolean b)
+  by_left P same left (number n) = same (number n)
+  by_left P same left (string s) = same (string s)
+  by_left P same left (array ds) = same (array ds)
+  by_left P same left (object ms) = left ms
 
-pub get-only : (names : List (List ℕ)) (name : List ℕ) (d : Data) → is_among names name ≡ true
-    → get name (only names d) ≡ get name d
-get-only names name d listed =
-    by_kept (λ whole kept. get name kept ≡ get name whole) names (λ whole. refl)
-    (λ ms. get_member-where (is_among names) name ms listed) d
+  get-passing : (name : List ℕ) (d : Data) → test name ≡ true → get name (object_where test d) ≡ get name d
+  get-passing name d passing =
+      by_left (λ whole left. get name left ≡ get name whole) (λ whole. refl)
+      (λ ms. get_member-where test name ms passing) d
 
-pub get-none : (names : List (List ℕ)) (name : List ℕ) (d : Data) → is_among names name ≡ false
-    → get name (only names d) ≡ None
-unfolding only
-get-none names name null other = refl
-get-none names name (boolean b) other = refl
-get-none names name (number n) other = refl
-get-none names name (string s) other = refl
-get-none names name (array ds) other = refl
-get-none names name (object ms) other = get_member-none (is_among names) name ms other
+  get-failing : (name : List ℕ) (d : Data) → test name ≡ false → get name (object_where test d) ≡ None
+  get-failing name null failing = refl
+  get-failing name (boolean b) failing = refl
+  get-failing name (number n) failing = refl
+  get-failing name (string s) failing = refl
+  get-failing name (array ds) failing = refl
+  get-failing name (object ms) failing = get_member-none test name ms failing
 
-pub only-same : (names : List (List ℕ)) (d : Data) → as_object d ≡ None → only names d ≡ d
-only-same names d none =
-    by_kept (λ whole kept. as_object whole ≡ None → kept ≡ whole) names (λ whole other. refl)
-    (λ ms other. absurd cc) d none
+  same-left : (d : Data) → as_object d ≡ None → object_where test d ≡ d
+  same-left d none =
+      by_left (λ whole left. as_object whole ≡ None → left ≡ whole) (λ whole other. refl)
+      (λ ms other. absurd cc) d none
 
-pub named-only : (names : List (List ℕ)) (d : Data) → IsNamedTree d → IsNamedTree (only names d)
-named-only names d named =
-    by_kept (λ whole kept. IsNamedTree whole → IsNamedTree kept) names (λ whole is. is)
-    (λ ms is. (names-where (is_among names) ms is.0, values-where (is_among names) ms is.1)) d named
+  named-left : (d : Data) → IsNamedTree d → IsNamedTree (object_where test d)
+  named-left d named =
+      by_left (λ whole left. IsNamedTree whole → IsNamedTree left) (λ whole is. is)
+      (λ ms is. (names-where test ms is.0, values-where test ms is.1)) d named
 
-pub floatless-only : (names : List (List ℕ)) (d : Data) → has_float d ≡ false → has_float (only names d) ≡ false
-floatless-only names d none =
-    by_kept (λ whole kept. has_float whole ≡ false → has_float kept ≡ false) names (λ whole free. free)
-    (λ ms free. floatless-where (is_among names) ms free) d none
+  floatless-left : (d : Data) → has_float d ≡ false → has_float (object_where test d) ≡ false
+  floatless-left d none =
+      by_left (λ whole left. has_float whole ≡ false → has_float left ≡ false) (λ whole free. free)
+      (λ ms free. floatless-where test ms free) d none
+
+module _ (names : List (List ℕ)) where
+  pub get-only : (name : List ℕ) (d : Data) → is_among names name ≡ true → get name (only names d) ≡ get name d
+  unfolding only
+  get-only = get-passing (is_among names)
+
+  pub get-none : (name : List ℕ) (d : Data) → is_among names name ≡ false → get name (only names d) ≡ None
+  unfolding only
+  get-none = get-failing (is_among names)
+
+  pub only-same : (d : Data) → as_object d ≡ None → only names d ≡ d
+  unfolding only
+  only-same = same-left (is_among names)
+
+  pub named-only : (d : Data) → IsNamedTree d → IsNamedTree (only names d)
+  unfolding only
+  named-only = named-left (is_among names)
+
+  pub floatless-only : (d : Data) → has_float d ≡ false → has_float (only names d) ≡ false
+  unfolding only
+  floatless-only = floatless-left (is_among names)
+
+  abbrev other : List ℕ → Bool
+  other name = not (is_among names name)
+
+  pub get-others : (name : List ℕ) (d : Data) → is_among names name ≡ false
+      → get name (without names d) ≡ get name d
+  unfolding without
+  get-others name d unlisted = get-passing other name d (not_from_false (is_among names name) unlisted)
+
+  pub get-dropped : (name : List ℕ) (d : Data) → is_among names name ≡ true → get name (without names d) ≡ None
+  unfolding without
+  get-dropped name d listed = get-failing other name d (not_from_true (is_among names name) listed)
+
+  pub without-same : (d : Data) → as_object d ≡ None → without names d ≡ d
+  unfolding without
+  without-same = same-left other
+
+  pub named-without : (d : Data) → IsNamedTree d → IsNamedTree (without names d)
+  unfolding without
+  named-without = named-left other
+
+  pub floatless-without : (d : Data) → has_float d ≡ false → has_float (without names d) ≡ false
+  unfolding without
+  floatless-without = floatless-left other
 
 -- ---- the rows of a member table
 
 pub member_of-only : (names : List (List ℕ)) (name : List ℕ) (d : Data) → is_among names name ≡ true
     → member_of name (only names d) ≡ member_of name d
-unfolding member_of
+unfolding member_of only
 member_of-only names name d listed =
-    by_kept (λ whole kept. member_of name kept ≡ member_of name whole) names (λ whole. refl)
+    by_left (is_among names) (λ whole kept. member_of name kept ≡ member_of name whole) (λ whole. refl)
     (λ ms. ap (λ found. Some (found >>= not_null)) (get_member-where (is_among names) name ms listed)) d
 
 pub required-only : {A : Type 0} (kind : Data → Option A) (names : List (List ℕ)) (name : List ℕ) (d : Data)

@@ -6,7 +6,7 @@ use Rattle.std.specs.Cmp.Lexicographic.{slice_cmp}
 use Rattle.std.specs.List.Sorted.{IsPartitionPoint}
 use Rattle.std.specs.Ordering.{nat_cmp}
 use Rattle.std.specs.declared.cmp.Ordering.TheVariants.{Less, Equal, Greater}
-use Rattle.serde_json.specs.Data.{Members, no_members, put}
+use Rattle.serde_json.specs.Data.{Data, Members, no_members, put}
 use Rattle.sig_base.specs.ByText.{KeysAscend}
 use Rattle.sig_json.specs.Members.{members_list}
 use Rattle.sig_json.specs.View.{Words, view, members_view}
@@ -14,6 +14,10 @@ use Rattle.sig_json.specs.declared.tree.Tree.{Tree}
 
 abbrev pub Entry : Type 0
 Entry = Words × Tree
+
+-- a member as its name and its data
+abbrev pub seen : Entry → List ℕ × Data
+seen e = (cow_str_bytes e.0, view e.1)
 
 -- put one after another into those that are there, so that of equal names the last value counts
 abbrev pub put_each : List Entry → Members → Members

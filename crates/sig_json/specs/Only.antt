@@ -1,5 +1,5 @@
 -- *Only*: what a reader is shown that asks for the members of some names and ignores all others.
-use Rattle.std.specs.Prelude.{ℕ, List, map, Bool, Result, Ok, Err, if◌then◌else◌}
+use Rattle.std.specs.Prelude.{ℕ, List, map, Bool, not, Result, Ok, Err, if◌then◌else◌}
 use Rattle.std.specs.Borrow.{Bor}
 use Rattle.std.specs.List.{list_any}
 use Rattle.std.specs.Str.{bytes_eq}
@@ -16,14 +16,22 @@ members_where test no_members = no_members
 members_where test (member name d ms) =
     if test name then member name d (members_where test ms) else members_where test ms
 
--- an object (RFC 8259 section 4) without its members of other names; any other value as it is
+-- an object (RFC 8259 section 4) with those of its members alone whose names pass a test; any other value as it is
+abbrev pub object_where : (List ℕ → Bool) → Data → Data
+object_where test null = null
+object_where test (boolean b) = boolean b
+object_where test (number n) = number n
+object_where test (string text) = string text
+object_where test (array ds) = array ds
+object_where test (object ms) = object (members_where test ms)
+
+-- an object without its members of other names; any other value as it is
 unfoldable pub only : List (List ℕ) → Data → Data
-only names null = null
-only names (boolean b) = boolean b
-only names (number n) = number n
-only names (string text) = string text
-only names (array ds) = array ds
-only names (object ms) = object (members_where (is_among names) ms)
+only names d = object_where (is_among names) d
+
+-- an object without its members of these names; any other value as it is
+unfoldable pub without : List (List ℕ) → Data → Data
+without names d = object_where (λ name. not (is_among names name)) d
 
 -- the same of a document that is read, and the error where there is none
 abbrev pub only_of : List (List ℕ) → Result Data DocumentError → Result Data DocumentError

@@ -11,6 +11,7 @@ ghost use Rattle.sig_json.specs.NamedProofs.{IsNamedTree-prop};
 
 use crate::error::DocumentError;
 use crate::floats::is_float_in;
+use crate::owned::own_tree;
 use crate::read::read_text;
 use crate::tree::Tree;
 use crate::view::Json;
@@ -38,9 +39,8 @@ impl Document {
     {
         let mut scratch = Scratch::new(alloc);
         let tree = whole_tree(alloc, text, &mut scratch)?;
-        let copied = Json { value: &tree }.copy(alloc);
-        drop(tree);
-        Ok(copied?)
+        let value = own_tree(alloc, tree)?;
+        Ok(Document { value })
     }
 
     /// A view of the whole tree. It takes no memory.

@@ -18,11 +18,11 @@ use crate::document::{Document, whole_tree};
 use crate::error::{DocumentError, SkipError};
 use crate::floats::is_float_in;
 use crate::order::in_order;
+use crate::owned::own_tree;
 use crate::read::{MAX_DEPTH, read_value};
 use crate::room::add;
 use crate::skip::skip_value;
 use crate::tree::{Entry, Tree};
-use crate::view::Json;
 use crate::words::{borrow, is_same_name};
 use json::{Reader, Scratch, Token};
 use std::alloc::Global;
@@ -48,9 +48,8 @@ impl Document {
         let mut scratch = Scratch::new(alloc);
         let mut spare = Scratch::new(alloc);
         let tree = kept_tree(alloc, text, names, &mut scratch, &mut spare)?;
-        let copied = Json { value: &tree }.copy(alloc);
-        drop(tree);
-        Ok(copied?)
+        let value = own_tree(alloc, tree)?;
+        Ok(Document { value })
     }
 }
 

@@ -6,7 +6,7 @@ ghost use Rattle.serde_json.specs.Written.{has_float};
 ghost use Rattle.sig_json.specs.Builders.{with_last, with_member};
 ghost use Rattle.sig_json.specs.List.{list_of};
 ghost use Rattle.sig_json.specs.Named.{HasNames, IsNamedTree, NamesAscend};
-ghost use Rattle.sig_json.specs.Only.{is_among, only};
+ghost use Rattle.sig_json.specs.Only.{is_among, only, without};
 ghost use Rattle.sig_json.specs.SameTree.{same_tree};
 ghost use Rattle.sig_json.specs.Tree.{document_tree, tree};
 ghost use Rattle.sig_json.specs.declared.document.Document.{Document};
@@ -43,6 +43,16 @@ pub fn members_are_kept()
     ensures others { (names : List (List ℕ)) (name : List ℕ) (tree : Data) → is_among names name ≡ false
         → get name (only names tree) ≡ None }
     ensures whole { (names : List (List ℕ)) (tree : Data) → as_object tree ≡ None → only names tree ≡ tree }
+{}
+
+/// Of an object without its members of some names, each member of another name is found as in the whole object, and
+/// none of these names. A value that is not an object stays whole.
+pub fn members_are_dropped()
+    ensures listed { (names : List (List ℕ)) (name : List ℕ) (tree : Data) → IsTrue (is_among names name)
+        → get name (without names tree) ≡ None }
+    ensures others { (names : List (List ℕ)) (name : List ℕ) (tree : Data) → is_among names name ≡ false
+        → get name (without names tree) ≡ get name tree }
+    ensures whole { (names : List (List ℕ)) (tree : Data) → as_object tree ≡ None → without names tree ≡ tree }
 {}
 
 /// An element that is added to a list comes after all that were there.

@@ -54,6 +54,8 @@ mod members_and_list;
 mod number;
 mod number_kind;
 mod order;
+mod owned;
+mod part;
 mod read;
 mod record;
 mod room;

@@ -44,8 +44,7 @@ impl Document {
             &mut scratch,
             &mut spare,
         )?;
-        let document = borrowed.view().copy(alloc);
-        drop(borrowed);
+        let document = borrowed.into_owned(alloc);
         Ok((document?, elements))
     }
 }

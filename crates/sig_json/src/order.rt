@@ -37,6 +37,18 @@ pub(crate) fn find<'a, 't>(members: &'a Vec<Entry<'t>>, name: &str) -> Option<&'
     }
 }
 
+/// The value of a name, moved out of the members.
+#[tactic(auto, using(crate::proofs::Ordered::found))]
+pub(crate) fn take_member<'t>(mut members: Vec<Entry<'t>>, name: &str) -> Option<Tree<'t>>
+    requires { InOrder members.items }
+    ensures { option_map view result ≡ get_member name.now (members_view members.entry.items) }
+{
+    match search(&members, name) {
+        Ok(place) => Some(members.swap_remove(place).1),
+        Err(_) => None,
+    }
+}
+
 /// The value of the first member of a name.
 #[tactic(auto, using(crate::proofs::Scanned::scanned))]
 fn first_of_name<'a, 't>(members: &'a [Entry<'t>], name: &str) -> Option<&'a Tree<'t>>

@@ -7,6 +7,9 @@ use std::alloc::Global;
 /// How many have room once there is a second; no more than these move to a vector of their own size.
 const SECOND_ROOM: usize = 8;
 
+/// So many elements are taken from a vector until it gives up their room: a large one does so some hundred times.
+const PIECE: usize = 65_536;
+
 /// Makes room for one more. The first takes room for itself alone, since most lists and objects of a large document
 /// have no other, and the second takes it for a few.
 pub(crate) fn make_room<T: Drop>(found: &mut Vec<T>) -> Result<(), OutOfMemory>
@@ -41,4 +44,13 @@ pub(crate) fn fitted<T: Drop>(alloc: Global, mut found: Vec<T>) -> Result<Vec<T>
     let mut own = Vec::with_capacity(alloc, count)?;
     own.append(&mut found)?;
     Ok(own)
+}
+
+/// Gives up the room of the elements that are gone, each time that a piece of them is.
+pub(crate) fn give_up_room<T: Drop>(left: &mut Vec<T>)
+    ensures { left.new.items ≡ left.old.items }
+{
+    if left.len() % PIECE == 0 {
+        left.shrink_to_fit();
+    }
 }

@@ -1,15 +1,13 @@
 -- *Simple signing*: the payload that `cosign` signs of a container image, and the text of which it is read (simple
 -- signing format, containers/image).
-use Rattle.std.specs.Prelude.{ℕ, ℤ, List, [], ◌∷◌, codes, Bool, not, filter, Option, Some, None, option_map}
+use Rattle.std.specs.Prelude.{ℕ, ℤ, List, [], ◌∷◌, codes, Option, Some, None, option_map}
 use Rattle.std.specs.Result.{result_ok}
 use Rattle.sig_base.specs.OptionSteps.{◌>>=◌}
-use Rattle.sig_json.specs.Builders.{with_member}
-use Rattle.sig_json.specs.Data.{Data, object, no_members}
+use Rattle.sig_json.specs.Data.{Data}
 use Rattle.sig_json.specs.Kinds.{text_of}
-use Rattle.sig_json.specs.Member.{optional, required, required_text}
+use Rattle.sig_json.specs.Member.{not_null, optional, required, required_text, there_or}
 use Rattle.sig_json.specs.NumberKinds.{i64_number_of}
-use Rattle.sig_json.specs.Members.{members_of}
-use Rattle.sig_json.specs.Only.{is_among}
+use Rattle.sig_json.specs.Only.{without}
 use Rattle.sig_json.specs.Record.{record_in}
 use Rattle.sig_json.specs.Tree.{document_tree}
 use Rattle.sig_payload.specs.declared.simple_signing.Critical.{Critical}
@@ -56,32 +54,24 @@ critical_in d = do
 abbrev pub own_names : List (List ℕ)
 own_names = codes "creator" ∷ codes "timestamp" ∷ []
 
-abbrev pub is_extra : List ℕ × Data → Bool
-is_extra m = not (is_among own_names m.0)
-
--- an object with these members, each set in turn
-abbrev pub with_members : List (List ℕ × Data) → Data → Data
-with_members [] d = d
-with_members (m ∷ ms) d = with_members ms (with_member m.0 m.1 d)
-
-abbrev pub extra_members : Option (List (List ℕ × Data)) → Data
-extra_members None = object no_members
-extra_members (Some ms) = with_members (filter is_extra ms) (object no_members)
-
--- the object of the members of other names
-unfoldable pub extra_of : Data → Data
-extra_of d = extra_members (members_of d)
-
+-- `extra` is the object without its members of these names
 unfoldable pub optional_in : Data → Option Beside
 optional_in d = do
   creator ← optional text_of (codes "creator") d
   timestamp ← optional i64_number_of (codes "timestamp") d
-  Some (record { creator = creator; timestamp = timestamp; extra = extra_of d })
+  Some (record { creator = creator; timestamp = timestamp; extra = without own_names d })
+
+-- a value that is there: null is the same as absent
+abbrev pub unless_null : {A : Type 0} → (Data → Option A) → Data → Option (Option A)
+unless_null kind d = there_or (Some None) (λ v. option_map Some (kind v)) (not_null d)
+
+abbrev pub optional_in_payload : Data → Option (Option Beside)
+optional_in_payload = optional optional_in (codes "optional")
 
 unfoldable pub signing_in : Data → Option Signing
 signing_in d = do
   critical ← required critical_in (codes "critical") d
-  beside ← optional optional_in (codes "optional") d
+  beside ← optional_in_payload d
   Some (record { critical = critical; optional = beside })
 
 -- the payload that bytes are, none where they are not a document without floats or a member is not as it has to be

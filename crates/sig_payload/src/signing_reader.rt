@@ -1,20 +1,23 @@
 //! Simple signing payloads read from their text.
-ghost use Rattle.std.specs.Prelude.{◌≡◌, Some, IfOk};
+ghost use Rattle.std.specs.Prelude.{Some, IsSome, option_map};
 ghost use Rattle.std.specs.Option.{ok_or};
 ghost use Rattle.sig_base.specs.Answers.{Answers};
 ghost use Rattle.sig_base.specs.declared.error.SigstoreError.TheVariants.{OutOfMemory as Memory};
 ghost use Rattle.sig_base.specs.declared.error.SigstoreError.TheVariants.{UnexpectedError};
 ghost use Rattle.sig_base.specs.declared.unexpected.UnexpectedKind.TheVariants.{LayerUnreadable};
-ghost use Rattle.sig_json.specs.SeenAs.{value_by};
-ghost use Rattle.sig_json.specs.Tree.{document_tree, tree};
-ghost use Rattle.sig_payload.specs.Signing.{critical_in, extra_of, identity_in, image_in, optional_in, seen_optional};
-ghost use Rattle.sig_payload.specs.Signing.{seen_signing, signing_in, signing_of};
+ghost use Rattle.sig_json.specs.Find.{as_object};
+ghost use Rattle.sig_json.specs.OrMember.{or_member};
+ghost use Rattle.sig_json.specs.Record.{record_in};
+ghost use Rattle.sig_json.specs.Tree.{borrowed_tree};
+ghost use Rattle.sig_payload.specs.Signing.{critical_in, identity_in, image_in, optional_in};
+ghost use Rattle.sig_payload.specs.Signing.{optional_in_payload, seen_optional, seen_signing, signing_in, signing_of};
+ghost use Rattle.sig_payload.specs.Signing.{unless_null};
 
 use crate::simple_signing::{Critical, Identity, Image, Optional, SimpleSigning};
-use sig_base::{OutOfMemory, SigstoreError, UnexpectedKind};
+use sig_base::{SigstoreError, UnexpectedKind};
 use sig_json::{
-    Document, ElementReader, I64NumberReader, Json, JsonError, MemberError, TextReader, optional,
-    read_record, required, required_text,
+    BorrowedDocument, ElementReader, I64NumberReader, Json, JsonError, MemberError, Scratch,
+    TextReader, optional, required, required_text,
 };
 use std::alloc::Global;
 
@@ -68,61 +71,64 @@ impl ElementReader for CriticalReader {
     }
 }
 
-/// The annotations of an object: its members of other names than `creator` and `timestamp`.
-#[tactic(auto, using(crate::proofs::Extras::extras))]
-fn annotations(alloc: Global, json: Json<'_, '_>) -> Result<Document, OutOfMemory>
-    ensures { IfOk result (λ extra. document_tree extra ≡ extra_of (tree json.entry)) }
+/// What a signer says beside the image. Null is the same as absent.
+#[tactic(auto, unfolding(crate::specs::Signing::optional_in))]
+fn read_optional(
+    alloc: Global,
+    beside: BorrowedDocument<'_>,
+) -> Result<Option<Optional>, MemberError>
+    ensures { Answers MemberError.OutOfMemory (option_map seen_optional) result
+        (or_member (unless_null optional_in (borrowed_tree beside.entry))) }
 {
-    let mut extra = Document::object(alloc);
-    let Some(members) = json.members() else {
-        return Ok(extra);
-    };
-    'members: for (name, value) in members {
-        if name != "creator" && name != "timestamp" {
-            let value = value.copy(alloc)?;
-            extra.insert(alloc, name, value)?;
-        }
+    if beside.view().is_null() {
+        return Ok(None);
     }
-    Ok(extra)
+    let creator = optional::<TextReader>(alloc, beside.view(), "creator")?;
+    let timestamp = optional::<I64NumberReader>(alloc, beside.view(), "timestamp")?;
+    let annotations = beside.without(&["creator", "timestamp"]);
+    let extra = annotations.into_owned(alloc)?;
+    Ok(Some(Optional {
+        creator,
+        timestamp,
+        extra,
+    }))
 }
 
-/// Reads what a signer says beside the image.
-enum OptionalReader {}
-
-impl ElementReader for OptionalReader {
-    type Item = Optional;
-
-    ghost seen_as = { value_by seen_optional };
-
-    ghost meaning = { optional_in };
-
-    #[tactic(auto, unfolding(crate::specs::Signing::optional_in))]
-    fn read(alloc: Global, json: Json<'_, '_>) -> Result<Optional, MemberError> {
-        Ok(Optional {
-            creator: optional::<TextReader>(alloc, json, "creator")?,
-            timestamp: optional::<I64NumberReader>(alloc, json, "timestamp")?,
-            extra: annotations(alloc, json)?,
-        })
+/// The same of a payload that is an object. It is moved out of the payload.
+#[tactic(auto, using(crate::proofs::Extras::moved))]
+fn take_optional(
+    alloc: Global,
+    payload: BorrowedDocument<'_>,
+) -> Result<Option<Optional>, MemberError>
+    requires { IsSome (as_object (borrowed_tree payload)) }
+    ensures { Answers MemberError.OutOfMemory (option_map seen_optional) result
+        (or_member (optional_in_payload (borrowed_tree payload.entry))) }
+{
+    match payload.into_member("optional") {
+        Some(beside) => read_optional(alloc, beside),
+        None => Ok(None),
     }
 }
 
-/// Reads payloads.
-enum SigningReader {}
+/// The payload that a document is.
+#[tactic(auto, using(crate::proofs::Extras::read_of_object), unfolding(crate::specs::Signing::signing_in))]
+fn read_document(alloc: Global, payload: BorrowedDocument<'_>) -> Result<SimpleSigning, MemberError>
+    ensures { Answers MemberError.OutOfMemory seen_signing result
+        (or_member (signing_in (borrowed_tree payload.entry))) }
+{
+    let critical = required::<CriticalReader>(alloc, payload.view(), "critical")?;
+    let optional = take_optional(alloc, payload)?;
+    Ok(SimpleSigning { critical, optional })
+}
 
-impl ElementReader for SigningReader {
-    type Item = SimpleSigning;
-
-    ghost seen_as = { value_by seen_signing };
-
-    ghost meaning = { signing_in };
-
-    #[tactic(auto, unfolding(crate::specs::Signing::signing_in))]
-    fn read(alloc: Global, json: Json<'_, '_>) -> Result<SimpleSigning, MemberError> {
-        Ok(SimpleSigning {
-            critical: required::<CriticalReader>(alloc, json, "critical")?,
-            optional: optional::<OptionalReader>(alloc, json, "optional")?,
-        })
-    }
+/// The payload that the bytes are.
+#[tactic(auto, unfolding(sig_json::specs::Record::record_in))]
+fn read_payload(alloc: Global, bytes: &[u8]) -> Result<SimpleSigning, JsonError>
+    ensures { Answers JsonError.OutOfMemory seen_signing result (record_in signing_in bytes.now) }
+{
+    let mut scratch = Scratch::new(alloc);
+    let payload = BorrowedDocument::read(alloc, bytes, &mut scratch)?;
+    Ok(read_document(alloc, payload)?)
 }
 
 /// Returns the payload that the bytes of a layer are. Fails with `UnexpectedError` of `LayerUnreadable` if and only if they are
@@ -134,7 +140,7 @@ impl ElementReader for SigningReader {
 pub fn read_signing(alloc: Global, bytes: &[u8]) -> sig_base::Result<SimpleSigning>
     ensures { Answers Memory seen_signing result (ok_or (signing_of bytes.now) (UnexpectedError LayerUnreadable)) }
 {
-    match read_record::<SigningReader>(alloc, bytes) {
+    match read_payload(alloc, bytes) {
         Ok(signing) => Ok(signing),
         Err(JsonError::NotJson | JsonError::Float | JsonError::Member) => Err(
             SigstoreError::UnexpectedError(UnexpectedKind::LayerUnreadable),

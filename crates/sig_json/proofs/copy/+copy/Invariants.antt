@@ -1,6 +1,6 @@
 use Rattle.std.proofs.Common.{◌≡◌, map, take}
+use Rattle.sig_json.specs.Gathered.{seen}
 use Rattle.sig_json.specs.View.{view}
-use Rattle.sig_json.proofs.Copies.{seen}
 use Rattle.sig_json.proofs.copy.+copy.Given as goal
 
 -- the copies so far are of the parts so far
