@@ -1,7 +1,6 @@
 -- What a bundle attests: values and errors.
-use Rattle.std.proofs.Common.{◌≡◌, ◌≢◌, ◌⊎◌, ℕ, List, Option, Some, None, Result, Ok, Err, IfOk, IfErr, inl, inr, refl}
+use Rattle.std.proofs.Common.{◌≡◌, ◌≢◌, ◌⊎◌, Option, Some, None, Result, Ok, Err, IfOk, IfErr, inl, inr, refl}
 use Rattle.std.proofs.Common.{sym, ap, ◌∙◌}
-use Rattle.std.specs.Prelude.{◌↔◌}
 use Rattle.sig_base.proofs.ResultSteps.{err_is, ok_is}
 use Rattle.sig_base.specs.Answers.{Answers, OrMemory, UnlessMemory}
 use Rattle.sig_base.specs.declared.error.SigstoreError.{SigstoreError}

@@ -1,15 +1,13 @@
 -- What a bundle brings beside its envelope: values and errors.
 use Rattle.std.proofs.Common.{◌≡◌, ◌≢◌, ◌⊎◌, ℕ, List, [], ◌∷◌, length, Bool, true, false, Option, Some, None, Result}
-use Rattle.std.proofs.Common.{Ok, Err, inl, inr, refl, sym, ap, ◌∙◌, subst, arith}
+use Rattle.std.proofs.Common.{Ok, Err, inl, inr, refl, sym, ap, ◌∙◌, arith}
 use Rattle.std.specs.Bool.{Decides}
 use Rattle.std.specs.Option.{ok_or}
-use Rattle.std.specs.Prelude.{◌↔◌}
 use Rattle.hex.specs.Hex.{encode_lower}
 use Rattle.sig_base.proofs.ResultSteps.{err_is, ok_is}
 use Rattle.sig_base.specs.ByText.{text_lookup}
 use Rattle.sig_base.specs.declared.error.SigstoreError.{SigstoreError}
 use Rattle.sig_base.specs.declared.error.SigstoreError.TheVariants.{RekorPublicKeyNotFoundError, UnexpectedError}
-use Rattle.sig_base.specs.declared.unexpected.UnexpectedKind.{UnexpectedKind}
 use Rattle.sig_base.specs.declared.unexpected.UnexpectedKind.TheVariants as kind
 use Rattle.sig_bundle.specs.declared.bundle.Bundle.{Bundle}
 use Rattle.sig_bundle.specs.declared.material.MaterialContent.{MaterialContent}
@@ -28,15 +26,15 @@ use Rattle.sig_verify.specs.declared.logged_entry.LoggedEntry.{LoggedEntry}
 use Rattle.sig_verify.specs.declared.offline_error.OfflineError.{OfflineError}
 use Rattle.sig_attestation.proofs.LogFaults.{said_vouched, unvouched, vouched_said}
 use Rattle.sig_attestation.proofs.LoggedOnce.{logged_decides}
-use Rattle.sig_attestation.proofs.Telling.{Tells, retold, tells_done, tells_ends, tells_some, tells_then}
+use Rattle.sig_attestation.proofs.Telling.{Tells, tells_done, tells_ends, tells_some, tells_then}
 use Rattle.sig_attestation.specs.Attestation.{evidence_answer, evidence_of}
 use Rattle.sig_attestation.specs.Body.{body_answer, if_logged, is_logged_once}
 use Rattle.sig_attestation.specs.Causes.{Asked, IsBodyOf, IsEntryFault, IsEvidenceFault, IsEvidenceOf, IsKeyFault}
-use Rattle.sig_attestation.specs.Causes.{IsSignerFault, IsVouchedFor, OfCertificate, OfEntry, OfId, OfKey, OfKeys}
-use Rattle.sig_attestation.specs.Causes.{OfMaterial, OfSignature, Told}
+use Rattle.sig_attestation.specs.Causes.{IsSignerFault, IsVouchedFor, OfCertificate, OfEntry, OfId, OfKey}
+use Rattle.sig_attestation.specs.Causes.{OfMaterial, Told}
 use Rattle.sig_attestation.specs.LogCauses.{IsLogFault, IsVouched}
 use Rattle.sig_attestation.specs.Material.{certificate_in, entry_in, material_in, signature_in}
-use Rattle.sig_attestation.specs.Vouching.{entry_answer, from_vouched, log_refusal, vouched_under}
+use Rattle.sig_attestation.specs.Vouching.{entry_answer, from_vouched, log_refusal}
 use Rattle.sig_attestation.specs.declared.attestation.Evidence.{Evidence}
 
 err_of : {A : Type 0} (k e : SigstoreError) → e ≡ k → ◌≡◌ {A = Result A SigstoreError} (Err k) (Err e)

@@ -1,12 +1,11 @@
 -- What an envelope says of an image: values and errors.
-use Rattle.std.proofs.Common.{◌≡◌, ◌≢◌, ◌⊎◌, ℕ, List, [], ◌∷◌, ◌++◌, codes, Bool, Option, Some, None, Result, Ok, Err}
-use Rattle.std.proofs.Common.{inl, inr, refl, sym, ap, ◌∙◌, subst, unwrap_or}
+use Rattle.std.proofs.Common.{◌≡◌, ◌⊎◌, ℕ, List, [], ◌∷◌, ◌++◌, codes, Option, Some, None, Result, Err}
+use Rattle.std.proofs.Common.{inl, inr, refl, sym, ap, ◌∙◌, unwrap_or}
 use Rattle.std.proofs.lemmas.Slice.Eq.{bytes_eq-Decides}
 use Rattle.std.specs.Bool.{Decides}
-use Rattle.std.specs.Prelude.{◌↔◌, bytes_eq}
+use Rattle.std.specs.Prelude.{bytes_eq}
 use Rattle.sig_base.proofs.Decisions.{decides_same}
-use Rattle.sig_base.proofs.ResultSteps.{err_is, ok_is}
-use Rattle.sig_base.specs.ByText.{text_lookup}
+use Rattle.sig_base.proofs.ResultSteps.{err_is}
 use Rattle.sig_base.specs.declared.error.SigstoreError.{SigstoreError}
 use Rattle.sig_base.specs.declared.error.SigstoreError.TheVariants.{UnexpectedError}
 use Rattle.sig_base.specs.declared.unexpected.UnexpectedKind.{UnexpectedKind}
@@ -18,11 +17,10 @@ use Rattle.sig_dsse.specs.Statement.{Statement, Subject, statement_of}
 use Rattle.sig_dsse.specs.declared.envelope.DsseEnvelope.{DsseEnvelope}
 use Rattle.sig_rekor.proofs.Cutting.{after_separator-at, after_separator-some}
 use Rattle.sig_rekor.specs.Cut.{after_separator}
-use Rattle.sig_attestation.proofs.Telling.{Tells, retold, tells_done, tells_ends, tells_some, tells_sure, tells_test}
+use Rattle.sig_attestation.proofs.Telling.{Tells, tells_done, tells_ends, tells_some, tells_sure, tells_test}
 use Rattle.sig_attestation.proofs.Telling.{tells_then}
 use Rattle.sig_attestation.specs.Causes.{IsDigest, IsImageFault, IsImageOf, IsStatedFault, IsTyped, OfSha256, Told}
 use Rattle.sig_attestation.specs.Image.{image_answer, of_source, stated_image, statement_type, typed, without_prefix}
-use Rattle.sig_attestation.specs.declared.image.Image.{Image}
 
 -- ---- the digest
 

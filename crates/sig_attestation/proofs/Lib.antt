@@ -2,7 +2,9 @@ mod AttestationLaws
 mod Bodies
 mod EvidenceCauses
 mod ImageCauses
+mod Kept
 mod LogFaults
 mod LogRefusals
 mod LoggedOnce
+mod SaidImages
 mod Telling

@@ -11,7 +11,6 @@ use Rattle.sig_bundle.specs.declared.material.ProofFields.{ProofFields}
 use Rattle.sig_bundle.specs.declared.material.TransparencyLogEntry.{TransparencyLogEntry}
 use Rattle.sig_bundle.specs.declared.proof_error.ProofFieldsError.{ProofFieldsError}
 use Rattle.sig_json_text.specs.Canonical.{canon, canonical_of, or_too_large}
-use Rattle.sig_json_text.specs.declared.error.CanonicalError.{CanonicalError}
 use Rattle.sig_json_text.specs.declared.error.CanonicalError.TheVariants.{IntegerTooLarge}
 use Rattle.sig_rekor.specs.Verify.{proof_answer}
 use Rattle.sig_rekor.specs.declared.inclusion_proof.InclusionProof.{InclusionProof}
@@ -25,8 +24,8 @@ use Rattle.sig_verify.specs.declared.logged_entry.LoggedEntry.{LoggedEntry}
 use Rattle.sig_verify.specs.declared.offline_error.OfflineError.{OfflineError}
 use Rattle.sig_verify.specs.declared.offline_error.OfflineError.TheVariants as error
 use Rattle.sig_attestation.proofs.Telling.{Tells, retold, tells_done, tells_ends, tells_then}
-use Rattle.sig_attestation.specs.LogCauses.{IsInclusionFault, IsLogFault, IsPromised, IsPromiseFault, IsProved}
-use Rattle.sig_attestation.specs.LogCauses.{IsVouched, OfPromise, OfRead, OfText}
+use Rattle.sig_attestation.specs.LogCauses.{IsInclusionFault, IsLogFault, IsPromised, IsPromiseFault}
+use Rattle.sig_attestation.specs.LogCauses.{IsVouched, OfRead, OfText}
 
 module _ (accepts : AcceptsUnder) (t : TransparencyLogEntry) where
   -- ---- the promise

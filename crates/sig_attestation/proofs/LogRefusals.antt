@@ -1,5 +1,5 @@
 -- Which errors an entry has that a log does not vouch for.
-use Rattle.std.proofs.Common.{◌≡◌, ◌⊎◌, ℕ, List, Bool, true, false, Option, Some, None, Result, Ok, Err, inl, inr, refl}
+use Rattle.std.proofs.Common.{◌≡◌, ℕ, List, Bool, true, false, Option, Some, None, Result, Ok, Err, inl, inr}
 use Rattle.std.proofs.Common.{sym, subst}
 use Rattle.sig_base.proofs.ResultSteps.{bind_err, err_is}
 use Rattle.sig_base.specs.Answers.{OrMemory}

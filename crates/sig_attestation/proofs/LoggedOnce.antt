@@ -1,6 +1,6 @@
 -- The body of an entry about an envelope of one signature: what is computed, and the members that it has.
-use Rattle.std.proofs.Common.{◌≡◌, ◌≢◌, ℕ, List, codes, Bool, true, false, Option, Some, None, Result, Ok, Err, refl}
-use Rattle.std.proofs.Common.{sym, ap, ◌∙◌}
+use Rattle.std.proofs.Common.{◌≡◌, ◌≢◌, ℕ, List, codes, Some, Result, Ok, Err, refl}
+use Rattle.std.proofs.Common.{ap, ◌∙◌}
 use Rattle.std.proofs.lemmas.Bool.Decides.{Decides-and}
 use Rattle.std.proofs.lemmas.Slice.Eq.{bytes_eq-Decides}
 use Rattle.std.specs.Bool.{Decides}
@@ -12,14 +12,12 @@ use Rattle.sig_base.proofs.ResultSteps.{ok_is}
 use Rattle.sig_base.specs.Sha256.{sha256}
 use Rattle.sig_certificate.specs.Pem.{pem_of}
 use Rattle.sig_checked_bundle.proofs.LoggedEnvelopes.{envelopes_are_logged}
-use Rattle.sig_checked_bundle.specs.DsseBody.{body_about, dsse_body_of}
-use Rattle.sig_checked_bundle.specs.LoggedEnvelope.{IsLoggedEnvelope}
+use Rattle.sig_checked_bundle.specs.DsseBody.{dsse_body_of}
 use Rattle.sig_dsse.proofs.SaidMembers.{held_text, is_required, required_is, text_held}
 use Rattle.sig_json.proofs.Records.{record_in-read, record_in-tree}
 use Rattle.sig_json.specs.Data.{Data, null, boolean, number, string, array, object, no_items, item}
-use Rattle.sig_json.specs.Document.{document_of}
 use Rattle.sig_json.specs.Find.{get}
-use Rattle.sig_json.specs.Member.{required, required_text}
+use Rattle.sig_json.specs.Member.{required}
 use Rattle.sig_json.specs.Record.{record_in}
 use Rattle.sig_json.specs.declared.error.JsonError.{JsonError}
 use Rattle.sig_attestation.proofs.Bodies.{about_decides}

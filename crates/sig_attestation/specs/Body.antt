@@ -1,6 +1,6 @@
 -- *Body of one signature*: the body of a log's entry about an envelope of one signature: Rekor's entry of kind `dsse`,
 -- version 0.0.1, which here has exactly one signature, and hashes in lower-case hexadecimal.
-use Rattle.std.specs.Prelude.{⊤, ℕ, List, [], ◌∷◌, codes, Bool, true, false, bytes_eq, ◌&&◌, if◌then◌else◌, Option}
+use Rattle.std.specs.Prelude.{⊤, ℕ, List, [], ◌∷◌, codes, Bool, true, false, bytes_eq, ◌&&◌, Option}
 use Rattle.std.specs.Prelude.{Some, None, Result, Ok, Err}
 use Rattle.hex.specs.Hex.{encode_lower}
 use Rattle.sig_base.specs.OptionSteps.{◌>>=◌}

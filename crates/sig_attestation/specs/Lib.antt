@@ -6,4 +6,5 @@ pub mod Image
 pub mod LogCauses
 pub mod Logged
 pub mod Material
+pub mod Stated
 pub mod Vouching

@@ -1,7 +1,7 @@
 -- *Logged once*: what the body of a log's entry says of an envelope and its one signature, member by member (Rekor's
 -- entry of kind `dsse`, version 0.0.1): it is a logged envelope, whose hashes are spelled in lower-case hexadecimal, and
 -- it has no second signature.
-use Rattle.std.specs.Prelude.{◌≡◌, ◌↔◌, ℕ, List, codes, Some, Ok, IsTrue}
+use Rattle.std.specs.Prelude.{◌≡◌, ℕ, List, codes, Some, Ok}
 use Rattle.hex.specs.Hex.{encode_lower}
 use Rattle.sig_base.specs.Sha256.{sha256}
 use Rattle.sig_certificate.specs.Pem.{pem_of}

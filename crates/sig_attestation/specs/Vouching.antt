@@ -1,6 +1,6 @@
 -- *Vouching*: whether the log of an entry's id vouches for it, under the caller's keys: the links `log-key` to
 -- `inclusion` of the chain of trust, with these keys in place of a trusted root's.
-use Rattle.std.specs.Prelude.{⊤, ℕ, List, Option, Some, None, Result, Ok, Err}
+use Rattle.std.specs.Prelude.{⊤, Option, Result, Ok, Err}
 use Rattle.std.specs.Option.{ok_or}
 use Rattle.hex.specs.Hex.{encode_lower}
 use Rattle.sig_base.specs.ResultSteps.{◌>>=◌}

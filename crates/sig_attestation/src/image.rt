@@ -2,17 +2,24 @@
 ghost use Rattle.std.specs.Prelude.{◌≡◌, codes, option_map};
 ghost use Rattle.sig_base.specs.Answers.{Answers};
 ghost use Rattle.sig_rekor.specs.Cut.{after_separator};
-ghost use Rattle.sig_dsse.specs.Seen.{seen};
-ghost use Rattle.sig_attestation.specs.Image.{envelope_in, image_answer, of_source, stated_image, typed, without_prefix};
+ghost use Rattle.sig_attestation.specs.Image.{envelope_in, image_answer, of_source, typed, without_prefix};
 ghost use Rattle.sig_attestation.specs.Borrowed.{borrowed_now};
+ghost use Rattle.sig_attestation.specs.Stated.{first_said, image_in, said_image, types_said};
 
 use crate::refusal::unexpected;
+use crate::stated::{Stated, read_stated};
 use sig_base::{Result, SigstoreError, Text, UnexpectedKind};
-use sig_bundle::{Bundle, Content, DsseEnvelope, InTotoStatementV1};
+use sig_bundle::{Bundle, Content, DsseEnvelope};
 use std::alloc::Global;
 
 /// The type of the payloads that are statements.
 const STATEMENT_TYPE: &str = "application/vnd.in-toto+json";
+
+/// The version of statements.
+const STATEMENT_V1: &str = "https://in-toto.io/Statement/v1";
+
+/// The predicate of a signature by `cosign`.
+const COSIGN_SIGN_V1: &str = "https://sigstore.dev/cosign/sign/v1";
 
 /// What a statement says of an image.
 #[derive(Drop)]
@@ -36,15 +43,23 @@ pub(crate) fn envelope_of(bundle: &Bundle) -> Result<&DsseEnvelope>
 }
 
 /// What the envelope says of the image whose manifest has this digest. Errors, the first that applies: `PayloadType`,
-/// `Statement`, those of [`InTotoStatementV1::validate_cosign_v1`], `SubjectDigest`.
+/// `Statement`, those of [`validate_cosign_v1`](sig_dsse::InTotoStatementV1::validate_cosign_v1), `SubjectDigest`.
 #[tactic(auto, unfolding(crate::specs::Image::image_answer))]
 pub(crate) fn image_of(alloc: Global, envelope: &DsseEnvelope, source: &str) -> Result<Image>
     ensures { Answers SigstoreError.OutOfMemory (λ image. image) result (image_answer source.now envelope.now) }
 {
     check_type(envelope)?;
-    let statement = InTotoStatementV1::from_json(alloc, envelope.payload.as_slice())?;
-    let image = stated_image(alloc, &statement, source);
-    drop(statement);
+    image_in(alloc, envelope.payload.as_slice(), source)
+}
+
+/// What the payload says of it, as its statement says it.
+#[tactic(auto, using(crate::proofs::SaidImages::of_payload))]
+fn image_in(alloc: Global, payload: &[u8], source: &str) -> Result<Image>
+    ensures { Answers SigstoreError.OutOfMemory (λ image. image) result (image_in source.now payload.now) }
+{
+    let said = read_stated(alloc, payload)?;
+    let image = said_image(alloc, &said, source);
+    drop(said);
     image
 }
 
@@ -60,17 +75,40 @@ fn check_type(envelope: &DsseEnvelope) -> Result<()>
 }
 
 /// What the statement says of the image whose manifest has this digest.
-#[tactic(auto, unfolding(crate::specs::Image::stated_image))]
-fn stated_image(alloc: Global, statement: &InTotoStatementV1, source: &str) -> Result<Image>
-    ensures { Answers SigstoreError.OutOfMemory (λ image. image) result (stated_image source.now (seen statement.now)) }
+fn said_image(alloc: Global, said: &Stated, source: &str) -> Result<Image>
+    ensures { Answers SigstoreError.OutOfMemory (λ image. image) result (said_image source.now said.now) }
 {
-    statement.validate_cosign_v1()?;
-    let sha256 = statement.subject_sha256_digest(alloc)?;
-    check_digest(&sha256, source)?;
+    check_types(said)?;
+    let sha256 = first_sha256(said)?;
+    check_digest(sha256, source)?;
     Ok(Image {
-        predicate_type: statement.predicate_type.copy(alloc)?,
-        sha256,
+        predicate_type: said.predicate_type.copy(alloc)?,
+        sha256: sha256.copy(alloc)?,
     })
+}
+
+/// Fails with `StatementType` and then with `PredicateType` unless the types are those of a statement by `cosign`.
+fn check_types(said: &Stated) -> Result<()>
+    ensures { result ≡ types_said said.now }
+{
+    if said.statement_type.as_str() != STATEMENT_V1 {
+        Err(unexpected(UnexpectedKind::StatementType))
+    } else if said.predicate_type.as_str() != COSIGN_SIGN_V1 {
+        Err(unexpected(UnexpectedKind::PredicateType))
+    } else {
+        Ok(())
+    }
+}
+
+/// The first subject's SHA-256. Fails with `NoSubjects`, or with `FirstSubjectWithoutSha256`, where there is none.
+fn first_sha256(said: &Stated) -> Result<&Text>
+    ensures { borrowed_now result ≡ first_said said.now.sha256s }
+{
+    match said.sha256s.as_slice().first() {
+        Some(Some(sha256)) => Ok(sha256),
+        Some(None) => Err(unexpected(UnexpectedKind::FirstSubjectWithoutSha256)),
+        None => Err(unexpected(UnexpectedKind::NoSubjects)),
+    }
 }
 
 /// Fails with `SubjectDigest` unless the subject's digest is that of the image.

@@ -22,5 +22,6 @@ mod image;
 mod log;
 mod material;
 mod refusal;
+mod stated;
 
 pub use attestation::{Attestation, read_attestation};
