@@ -4,7 +4,7 @@
     tools/bundle_cases.py
 
 Bundles are read and written a second time, by the table of the format alone (bundle_reader.py); the rows of bundle_cases.txt state the
-refusals and, for some, the text that is written. The checked bundles are that of fixture.py with the faults that a row names put into it.
+refusals and, for some, the text that is written; document_fault.py says which member is the first that is wrong. The checked bundles are that of fixture.py with the faults that a row names put into it.
 """
 import json
 
@@ -13,6 +13,7 @@ from bundle_bodies import body_case, message_case, proof_case
 from bundle_faults import CERTIFICATES, MEDIA_TYPE, NARROW, OLDER, PROFILES, WIDE, digests, faulty_case
 from bundle_reader import read_bundle
 from bundle_table import TABLE, case, group, named_case, sections_of_rows
+from document_fault import bundle_fault, root_fault
 from fixture import base64_of, compact
 
 # Bundles that differ in one part.
@@ -137,6 +138,42 @@ def members(rows, values):
             expected = read_bundle(content)
             assert (expected == "Member") == (kind not in kinds.split(" ")), (row, line)
             case("read_bundle " + content, expected)
+            fault_case(content)
+
+
+def fault_case(content):
+    """What is wrong with a bundle: nothing, or the same as the reader says, and of a member which."""
+    found = bundle_fault(content)
+    causes = {"ok": "ok"} | {cause: "Member" for cause in ("OtherKind", "BeyondRange", "NotAlone")}
+    assert read_bundle(content).split(" ")[0] == causes.get(found.split(" ")[0], found), content
+    case("bundle_fault " + content, found)
+
+
+def several_faults():
+    """Where more than one member breaks the table, the first in the order of its rows."""
+    group("more than one fault: the first in the table's order, whatever the order of the members, and of a list the first element")
+    entry = {"canonicalizedBody": 1, "inclusionProof": {"treeSize": [], "rootHash": 1, "hashes": ["AA==", 2, 3]}, "logId": {"keyId": 1}}
+    for names in (["canonicalizedBody"], ["inclusionProof", "canonicalizedBody"], ["logId", "inclusionProof"], ["canonicalizedBody", "logId"]):
+        for before in (0, 1, 300):
+            entries = [{}] * before + [{name: entry[name] for name in names}] + [{"logIndex": True}, 0]
+            fault_case(compact({"dsseEnvelope": 1, "verificationMaterial": {"tlogEntries": entries}}))
+    fault_case('{"verificationMaterial":{"tlogEntries":[{"inclusionProof":{"hashes":["AA==",null,3],"checkpoint":1}}]}}')
+    fault_case('{"dsseEnvelope":{},"messageSignature":{"signature":1}}')
+    fault_case('{"dsseEnvelope":{"payload":1},"messageSignature":{}}')
+    fault_case('{"dsseEnvelope":{},"messageSignature":{},"verificationMaterial":{"publicKey":{},"certificate":{},"x509CertificateChain":{}}}')
+    fault_case('{"verificationMaterial":{"publicKey":{},"x509CertificateChain":{},"tlogEntries":0}}')
+    fault_case('{"verificationMaterial":{"publicKey":{},"x509CertificateChain":null,"certificate":null,"tlogEntries":0}}')
+    group("trusted roots: nothing is wrong, or the first member that breaks the table")
+    time = '"2023-01-01T00:00:00Z"'
+    ranges = ["{}", "null", '{"start":%s}' % time, '{"end":null,"start":%s}' % time, '{"end":%s}' % time, '{"start":0,"end":0}', '{"end":"x"}',
+              '{"end":"2023-01-01","start":""}', '{"start":"2023-02-29T00:00:00Z"}', "[]"]
+    for content in ["", "{", "[]", "null", "{}", '{"tlogs":null}', '{"tlogs":{}}', '{"ctlogs":[0],"tlogs":[[]]}', '{"ctlogs":[{},null]}',
+                    '{"certificateAuthorities":[{"certChain":{"certificates":[{},{"rawBytes":"A"}]}}]}', '{"certificateAuthorities":[{"certChain":[]}]}',
+                    '{"other":1.5}', '{"tlogs":[{"logId":{"keyId":""},"publicKey":{"rawBytes":0}}]}', '{"tlogs":[{"logId":0}],"ctlogs":0}']:
+        case("root_fault " + content, root_fault(content))
+    for form in ('{"certificateAuthorities":[{},{"validFor":%s}]}', '{"tlogs":[{"publicKey":{"validFor":%s}}]}', '{"ctlogs":[{},{},{"publicKey":{"validFor":%s}}]}'):
+        for each in ranges:
+            case("root_fault " + form % each, root_fault(form % each))
 
 
 def errors():
@@ -152,12 +189,14 @@ def refused_rows(rows):
         expected, content = row.split(" ", 1)
         assert read_bundle(content) == expected, row
         case("read_bundle " + content, expected)
+        fault_case(content)
 
 
 def written_rows(rows):
     for content, expected in zip(rows[::2], rows[1::2]):
         assert read_bundle(content) == "ok " + expected.strip(), content
         case("read_bundle " + content, "ok " + expected.strip())
+        fault_case(content)
 
 
 def promises():
@@ -226,6 +265,7 @@ def main():
     replaced_floats()
     members(found["member"], found["value"])
     message_signatures()
+    several_faults()
     fixture_bundle()
     cut_leaves()
     versions()

@@ -1,4 +1,4 @@
-//! Cases of bundles: read, written, compared and checked. `stdin` lists calls, and `stdout` what they return.
+//! Cases of bundles: read, written, compared and checked; and what is wrong with them, and with trusted roots. `stdin` lists calls, and `stdout` what they return.
 //!
 //! Who made them: `tools/bundle_cases.py`, a program in another language that reads and writes bundles by the table
 //! of the format alone, over the bundle that `tools/fixture.py` makes; the refusals are stated by hand, row by row.
@@ -6,6 +6,7 @@
 
 mod checked;
 mod equal;
+mod fault;
 mod logged;
 mod parts;
 mod read;
@@ -21,6 +22,8 @@ impl Cases for BundleCases {
             "read_bundle" => read::written(arguments, answer),
             "copied_entry" => read::copied(arguments, answer),
             "promise_text" => read::promise(arguments, answer),
+            "bundle_fault" => fault::bundle(arguments, answer),
+            "root_fault" => fault::root(arguments, answer),
             "equal" => equal::equal_parts(arguments, answer),
             "try_from_bundle" => checked::digests(arguments, answer),
             "checked" => checked::lent(arguments, answer),

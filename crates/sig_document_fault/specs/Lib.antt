@@ -1,0 +1,3 @@
+pub mod BundleTable
+pub mod CommonTable
+pub mod RootTable

@@ -1,0 +1,6 @@
+pub mod Elements
+pub mod Faults
+pub mod Integers
+pub mod Steps
+pub mod TableOf
+pub mod TextFaults
