@@ -1,0 +1,4 @@
+pub mod Cause
+pub mod Kept
+pub mod Names
+pub mod Refusal

@@ -1,0 +1,142 @@
+//! The cause of a refusal: the names of an error's variants, the outermost first.
+ghost use Rattle.std.specs.Prelude.{◌≡◌, ◌++◌, ◌∷◌, [], IfOk, OnOk};
+ghost use Rattle.sig_explanation.specs.Cause.{behind_bundle, behind_certificate, behind_offline, behind_profile, behind_sct};
+ghost use Rattle.sig_explanation.specs.Cause.{behind_validation, bundle_cause, cause, certificate_cause, profile_cause};
+ghost use Rattle.sig_explanation.specs.Cause.{sct_cause, validation_cause};
+
+use crate::names::{
+    bundle_name, certificate_name, checkpoint_name, extension_name, json_name, keyring_name,
+    merkle_name, not_ca_name, not_leaf_name, offline_name, parsing_name, policy_name,
+    profile_01_name, profile_02_name, profile_name, sct_name, signature_name, trust_part_name,
+    validation_name,
+};
+use sig_base::{OutOfMemory, OwnedList, Text};
+use sig_certificate::CertificateValidationError;
+use sig_checked_bundle::{BundleErrorKind, BundleProfileErrorKind};
+use sig_timestamp::SCTError;
+use sig_verify::{CertificateErrorKind, OfflineError};
+use std::alloc::Global;
+
+/// Adds a name at the end. Fails only if out of memory.
+pub(crate) fn push(
+    alloc: Global,
+    names: &mut OwnedList<Text>,
+    name: &str,
+) -> Result<(), OutOfMemory>
+    ensures { OnOk result (names.new ≡ names.old ++ name.now ∷ []) }
+{
+    names.push(Text::copy_of(alloc, name)?)
+}
+
+/// Adds the names of why a certificate has not the profile that is asked for.
+fn push_validation(
+    alloc: Global,
+    names: &mut OwnedList<Text>,
+    error: &CertificateValidationError,
+) -> Result<(), OutOfMemory>
+    ensures { OnOk result (names.new ≡ names.old ++ validation_cause error.now) }
+{
+    push(alloc, names, validation_name(error))?;
+    match error {
+        CertificateValidationError::NotLeaf(kind) => push(alloc, names, not_leaf_name(kind)),
+        CertificateValidationError::NotCA(kind) => push(alloc, names, not_ca_name(kind)),
+        CertificateValidationError::Extension(kind) => push(alloc, names, extension_name(kind)),
+        CertificateValidationError::VersionUnsupported | CertificateValidationError::Malformed => {
+            Ok(())
+        }
+    }
+}
+
+/// Adds the names of why a log entry has not what a media type demands.
+fn push_profile(
+    alloc: Global,
+    names: &mut OwnedList<Text>,
+    error: &BundleProfileErrorKind,
+) -> Result<(), OutOfMemory>
+    ensures { OnOk result (names.new ≡ names.old ++ profile_cause error.now) }
+{
+    push(alloc, names, profile_name(error))?;
+    match error {
+        BundleProfileErrorKind::Bundle01Profile(kind) => push(alloc, names, profile_01_name(kind)),
+        BundleProfileErrorKind::Bundle02Profile(kind) => push(alloc, names, profile_02_name(kind)),
+        BundleProfileErrorKind::Unknown(_) => Ok(()),
+    }
+}
+
+/// Adds the names of why a bundle does not pass its own checks.
+fn push_bundle(
+    alloc: Global,
+    names: &mut OwnedList<Text>,
+    error: &BundleErrorKind,
+) -> Result<(), OutOfMemory>
+    ensures { OnOk result (names.new ≡ names.old ++ bundle_cause error.now) }
+{
+    push(alloc, names, bundle_name(error))?;
+    match error {
+        BundleErrorKind::NoLeaf(error) => push_validation(alloc, names, error),
+        BundleErrorKind::BundleProfile(error) => push_profile(alloc, names, error),
+        _ => Ok(()),
+    }
+}
+
+/// Adds the names of why an SCT is not accepted.
+fn push_sct(alloc: Global, names: &mut OwnedList<Text>, error: &SCTError) -> Result<(), OutOfMemory>
+    ensures { OnOk result (names.new ≡ names.old ++ sct_cause error.now) }
+{
+    push(alloc, names, sct_name(error))?;
+    match error {
+        SCTError::Parsing(kind) => push(alloc, names, parsing_name(kind)),
+        SCTError::Verification(kind) => push(alloc, names, keyring_name(kind)),
+        SCTError::Serialization | SCTError::OutOfMemory => Ok(()),
+    }
+}
+
+/// Adds the names of why a certificate is not trusted.
+fn push_certificate(
+    alloc: Global,
+    names: &mut OwnedList<Text>,
+    error: &CertificateErrorKind,
+) -> Result<(), OutOfMemory>
+    ensures { OnOk result (names.new ≡ names.old ++ certificate_cause error.now) }
+{
+    push(alloc, names, certificate_name(error))?;
+    match error {
+        CertificateErrorKind::Sct(error) => push_sct(alloc, names, error),
+        CertificateErrorKind::Malformed
+        | CertificateErrorKind::Expired
+        | CertificateErrorKind::VerificationFailed => Ok(()),
+    }
+}
+
+/// Adds the names behind the first.
+fn push_behind(
+    alloc: Global,
+    names: &mut OwnedList<Text>,
+    error: &OfflineError,
+) -> Result<(), OutOfMemory>
+    ensures { OnOk result (names.new ≡ names.old ++ behind_offline error.now) }
+{
+    match error {
+        OfflineError::Json(_, error) => push(alloc, names, json_name(error)),
+        OfflineError::TrustRoot(part) => push(alloc, names, trust_part_name(part)),
+        OfflineError::Bundle(kind) => push_bundle(alloc, names, kind),
+        OfflineError::Certificate(kind) => push_certificate(alloc, names, kind),
+        OfflineError::Policy(error) => push(alloc, names, policy_name(error)),
+        OfflineError::Signature(kind) => push(alloc, names, signature_name(kind)),
+        OfflineError::ParseCheckpointError(fault) => push(alloc, names, checkpoint_name(fault)),
+        OfflineError::ConsistencyProofError(error) | OfflineError::InclusionProofError(error) => {
+            push(alloc, names, merkle_name(error))
+        }
+        _ => Ok(()),
+    }
+}
+
+/// The names of an error's variants, the outermost first. Fails only if out of memory.
+pub(crate) fn cause(alloc: Global, error: &OfflineError) -> Result<OwnedList<Text>, OutOfMemory>
+    ensures { IfOk result (λ names. names ≡ cause error.now) }
+{
+    let mut names = OwnedList::new(alloc);
+    push(alloc, &mut names, offline_name(error))?;
+    push_behind(alloc, &mut names, error)?;
+    Ok(names)
+}

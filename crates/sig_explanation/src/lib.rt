@@ -1,0 +1,19 @@
+//! Why a bundle is not trusted, as JSON: what a refusal is explained with.
+//!
+//! ```text
+//! {"cause":["Bundle","NoLeaf","Extension","Missing"],"link":"leaf","part":"KeyUsage"}
+//! ```
+//!
+//! The layer above uses one fact. [`refusal`] makes the object of an error of the chain of trust, a total function of the
+//! error: `link`, the name of the link that fails; `cause`, the names of the error's variants, the outermost first; and
+//! what the error keeps, under members that `docs/LINKS.md` lists.
+#![tactic(auto)]
+
+mod cause;
+mod kept;
+mod names;
+mod policy;
+mod refused;
+
+pub use policy::MOST_REFUSALS;
+pub use refused::refusal;

@@ -1,0 +1,50 @@
+-- Values as they are shown: numbers as decimal texts, bytes as hexadecimal, times in two forms, long texts cut.
+use Rattle.std.specs.Prelude.{ℕ, ℤ, List, [], ◌∷◌, codes, length, take, nat_le, Option, Some, None, option_map, if◌then◌else◌}
+use Rattle.std.specs.Fmt.{decimal}
+use Rattle.std.specs.Fmt.Cut.{floor_char_boundary}
+use Rattle.sig_bundle.specs.Written.{TreeMember, integer_tree, list_tree, object_of}
+use Rattle.sig_json.specs.Data.{Data, string}
+use Rattle.sig_shown.specs.UtcText.{utc_text}
+
+-- how many bytes of a text are shown at most
+abbrev pub most_shown : ℕ
+most_shown = 4096
+
+-- the text, or as many of its first characters as have at most so many bytes
+unfoldable pub shown : List ℕ → List ℕ
+shown text = if nat_le (length text) most_shown then text else take (floor_char_boundary text most_shown) text
+
+-- a number that is not negative
+unfoldable pub count_tree : ℕ → Data
+count_tree n = string (decimal n)
+
+-- how many bytes a text has, if it is cut
+unfoldable pub cut_length : List ℕ → Option Data
+cut_length text = if nat_le (length text) most_shown then None else Some (count_tree (length text))
+
+-- a text under a name, and, if it is cut, the number of its bytes under another
+abbrev pub shown_rows : List ℕ → List ℕ → List ℕ → List TreeMember
+shown_rows name length_name text = (name, Some (string (shown text))) ∷ (length_name, cut_length text) ∷ []
+
+abbrev pub texts_tree : List (List ℕ) → Data
+texts_tree texts = list_tree string texts
+
+-- rows of an object
+
+abbrev pub count_row : List ℕ → ℕ → TreeMember
+count_row name n = (name, Some (count_tree n))
+
+abbrev pub text_row : List ℕ → List ℕ → TreeMember
+text_row name text = (name, Some (string text))
+
+abbrev pub texts_row : List ℕ → List (List ℕ) → TreeMember
+texts_row name texts = (name, Some (texts_tree texts))
+
+-- a second since 1970, and the same as a text of RFC 3339 if its year is one of 1 to 9999
+unfoldable pub time_tree : ℤ → Data
+time_tree second =
+    object_of
+    ((codes "seconds", Some (integer_tree second)) ∷ (codes "utc", option_map string (utc_text second)) ∷ [])
+
+abbrev pub time_row : List ℕ → ℤ → TreeMember
+time_row name second = (name, Some (time_tree second))
