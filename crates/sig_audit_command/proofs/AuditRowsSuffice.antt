@@ -28,7 +28,7 @@ use Rattle.sig_audit_command.proofs.Replies.{decided-as}
 use Rattle.sig_audit_command.specs.Heads.{AreHeads, IsFirstUnread, accepts}
 use Rattle.sig_audit_command.specs.Line.{IsAuditedReply}
 use Rattle.sig_audit_command.specs.Link.{EndsAt, EveryLinkHolds, IsFirstFailing, IsReadAs, IsUnread}
-use Rattle.sig_audit_command.specs.Questions.{audit_rows, note_row, note_rows}
+use Rattle.sig_audit_command.specs.Questions.{audit_rows, head_row, note_rows}
 use Rattle.sig_audit_command.specs.Reply.{IsAuditReply, Succeeds}
 use Rattle.sig_audit_command.specs.Suffice.{AgreeOnHeads, AuditQuestionsSuffice, audit_with_accepted}
 use Rattle.sig_audit_command.specs.declared.link.AuditLink.{AuditLink}
@@ -120,7 +120,7 @@ module _ (request : AuditRequest) (rows : List AcceptedRow) where
   Agrees row = Contains request.accepted row ↔ Contains rows row
 
   accepted-same : (checkpoint : SignedCheckpoint) (signature : CheckpointSignature)
-      → Agrees (note_row request checkpoint signature)
+      → Agrees (head_row request checkpoint signature)
       → accepts request (note_text checkpoint.note) signature.raw ≡ accepts changed (note_text checkpoint.note) signature.raw
   accepted-same checkpoint signature agree =
       let one = accepted-rows request.accepted Message (name_of (scheme_of request.scheme)) request.key
@@ -135,9 +135,9 @@ module _ (request : AuditRequest) (rows : List AcceptedRow) where
   checkpoint-same checkpoint all =
       any-same (λ (s : CheckpointSignature). accepts request (note_text checkpoint.note) s.raw)
       (λ (s : CheckpointSignature). accepts changed (note_text checkpoint.note) s.raw) checkpoint.signatures
-      (all-more (λ s. Agrees (note_row request checkpoint s)) _ checkpoint.signatures
+      (all-more (λ s. Agrees (head_row request checkpoint s)) _ checkpoint.signatures
       (λ s. accepted-same checkpoint s)
-      (all-mapped Agrees (note_row request checkpoint) checkpoint.signatures all))
+      (all-mapped Agrees (head_row request checkpoint) checkpoint.signatures all))
 
   heads-same : (heads : List AuditHead) → AllByRecursion Agrees (audit_rows request heads)
       → AllByRecursion (SignedAlike (accepts request) (accepts changed)) heads

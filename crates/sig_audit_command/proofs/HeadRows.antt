@@ -13,43 +13,43 @@ use Rattle.sig_rekor.specs.declared.checkpoint.SignedCheckpoint.{SignedCheckpoin
 use Rattle.sig_reply.proofs.RowsTexts.{list_of-more, list_of-past, list_of-whole, longer}
 use Rattle.sig_reply.specs.RowsText.{AddsRow, IsDocumentOf, IsListOf, IsRowReadBack, rows_text}
 use Rattle.sig_request.specs.declared.audit_request.AuditRequest.{AuditRequest}
-use Rattle.sig_audit_command.specs.Questions.{HasAdded, audit_rows, note_row, note_rows}
+use Rattle.sig_audit_command.specs.Questions.{HasAdded, audit_rows, head_row, note_rows}
 
 -- ---- the signatures of one checkpoint
 
 module _ (request : AuditRequest) (checkpoint : SignedCheckpoint) where
   -- the rows of its first signatures
   abbrev pub rows_so_far : ℕ → List AcceptedRow
-  rows_so_far count = map (note_row request checkpoint) (take count checkpoint.signatures)
+  rows_so_far count = map (head_row request checkpoint) (take count checkpoint.signatures)
 
   map-append : (xs : List CheckpointSignature) (x : CheckpointSignature)
-      → map (note_row request checkpoint) (xs ++ x ∷ []) ≡ map (note_row request checkpoint) xs
-      ++ note_row request checkpoint x ∷ []
+      → map (head_row request checkpoint) (xs ++ x ∷ []) ≡ map (head_row request checkpoint) xs
+      ++ head_row request checkpoint x ∷ []
   map-append [] x = refl
-  map-append (y ∷ ys) x = ap (λ rest. note_row request checkpoint y ∷ rest) (map-append ys x)
+  map-append (y ∷ ys) x = ap (λ rest. head_row request checkpoint y ∷ rest) (map-append ys x)
 
   rows-more : (count : ℕ) (signature : CheckpointSignature) → count < length checkpoint.signatures
       → signature ≡ get_or checkpoint.signatures count signature
-      → rows_so_far (count + 1) ≡ rows_so_far count ++ note_row request checkpoint signature ∷ []
+      → rows_so_far (count + 1) ≡ rows_so_far count ++ head_row request checkpoint signature ∷ []
   rows-more count signature below is =
-      ap (map (note_row request checkpoint)) (take_more checkpoint.signatures count signature below
+      ap (map (head_row request checkpoint)) (take_more checkpoint.signatures count signature below
       ∙ ap (λ s. take count checkpoint.signatures ++ s ∷ []) (sym is))
       ∙ map-append (take count checkpoint.signatures) signature
 
   rows-whole : (count : ℕ) → length checkpoint.signatures ≤ count → rows_so_far count ≡ note_rows request checkpoint
-  rows-whole count all = ap (map (note_row request checkpoint)) (take_all count checkpoint.signatures all)
+  rows-whole count all = ap (map (head_row request checkpoint)) (take_all count checkpoint.signatures all)
 
   map-parts : (xs ys : List CheckpointSignature)
-      → map (note_row request checkpoint) (xs ++ ys) ≡ map (note_row request checkpoint) xs
-      ++ map (note_row request checkpoint) ys
+      → map (head_row request checkpoint) (xs ++ ys) ≡ map (head_row request checkpoint) xs
+      ++ map (head_row request checkpoint) ys
   map-parts [] ys = refl
-  map-parts (x ∷ xs) ys = ap (λ rest. note_row request checkpoint x ∷ rest) (map-parts xs ys)
+  map-parts (x ∷ xs) ys = ap (λ rest. head_row request checkpoint x ∷ rest) (map-parts xs ys)
 
   -- all of them are the first ones and the others
   rows-split : (count : ℕ) → note_rows request checkpoint ≡ rows_so_far count
-      ++ map (note_row request checkpoint) (drop count checkpoint.signatures)
+      ++ map (head_row request checkpoint) (drop count checkpoint.signatures)
   rows-split count =
-      ap (map (note_row request checkpoint)) (sym (take-append-drop count checkpoint.signatures))
+      ap (map (head_row request checkpoint)) (sym (take-append-drop count checkpoint.signatures))
       ∙ map-parts (take count checkpoint.signatures) (drop count checkpoint.signatures)
 
   pub sign-none : (most : ℕ) (before : List AcceptedRow) (list : Data) (size : ℕ) → IsListOf most before list size
@@ -61,25 +61,25 @@ module _ (request : AuditRequest) (checkpoint : SignedCheckpoint) where
       (old new : Data) (size sum : ℕ) → count < length checkpoint.signatures
       → signature ≡ get_or checkpoint.signatures count signature
       → IsListOf most (before ++ rows_so_far count) old size
-      → IsRowReadBack (note_row request checkpoint signature)
-      → AddsRow most old new size (note_row request checkpoint signature) (Some sum)
+      → IsRowReadBack (head_row request checkpoint signature)
+      → AddsRow most old new size (head_row request checkpoint signature) (Some sum)
       → IsListOf most (before ++ rows_so_far (count + 1)) new sum
   sign-more most before count signature old new size sum below is listed back added =
       subst (λ (rows : List AcceptedRow). IsListOf most rows new sum)
-      (append_assoc before (rows_so_far count) (note_row request checkpoint signature ∷ [])
+      (append_assoc before (rows_so_far count) (head_row request checkpoint signature ∷ [])
       ∙ ap (λ rows. before ++ rows) (sym (rows-more count signature below is)))
-      (list_of-more most (before ++ rows_so_far count) (note_row request checkpoint signature) old new size sum listed
+      (list_of-more most (before ++ rows_so_far count) (head_row request checkpoint signature) old new size sum listed
       back added)
 
   pub sign-past : (most : ℕ) (before : List AcceptedRow) (count : ℕ) (signature : CheckpointSignature)
       (old new : Data) (size : ℕ) → count < length checkpoint.signatures
       → signature ≡ get_or checkpoint.signatures count signature
       → IsListOf most (before ++ rows_so_far count) old size
-      → AddsRow most old new size (note_row request checkpoint signature) None
+      → AddsRow most old new size (head_row request checkpoint signature) None
       → HasAdded most (before ++ note_rows request checkpoint) new None
   sign-past most before count signature old new size below is listed long =
-      let row = note_row request checkpoint signature in
-      let rest = map (note_row request checkpoint) (drop (count + 1) checkpoint.signatures) in
+      let row = head_row request checkpoint signature in
+      let rest = map (head_row request checkpoint) (drop (count + 1) checkpoint.signatures) in
       let past = list_of-past most (before ++ rows_so_far count) row rest old new size listed long in
       let whole : (before ++ rows_so_far count) ++ row ∷ rest ≡ before ++ note_rows request checkpoint =
       append_assoc before (rows_so_far count) (row ∷ rest)

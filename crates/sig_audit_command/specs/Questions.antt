@@ -1,13 +1,13 @@
 -- What `questions audit` writes: every signature that an audit can rest on.
 use Rattle.std.specs.Prelude.{◌≡◌, ◌⊎◌, ◌<◌, ℕ, List, [], ◌∷◌, ◌++◌, map, length, Option, Some, None}
 use Rattle.sig_audit.specs.declared.heads.AuditHead.{AuditHead}
-use Rattle.sig_base.specs.Scheme.{name_of, scheme_of}
+use Rattle.sig_base.specs.Scheme.{scheme_of}
 use Rattle.sig_base.specs.declared.checker.AcceptedRow.{AcceptedRow}
-use Rattle.sig_base.specs.declared.checker.Operation.TheVariants.{Message}
 use Rattle.sig_json.specs.Data.{Data}
 use Rattle.sig_rekor.specs.NoteText.{note_text}
 use Rattle.sig_rekor.specs.declared.checkpoint.CheckpointSignature.{CheckpointSignature}
 use Rattle.sig_rekor.specs.declared.checkpoint.SignedCheckpoint.{SignedCheckpoint}
+use Rattle.sig_reply.specs.NoteRow.{note_row}
 use Rattle.sig_reply.specs.Reply.{listed}
 use Rattle.sig_reply.specs.RowsText.{FitsBeside, IsListOf, IsReadBack, rows_text}
 use Rattle.sig_reply.specs.declared.reply.Reply.{Reply}
@@ -18,18 +18,13 @@ use Rattle.sig_audit_command.specs.declared.link.AuditLink.{AuditLink}
 use Rattle.sig_audit_command.specs.declared.link.AuditLink.TheVariants.{Request}
 
 -- the row that says that the log's key signed the note
-abbrev pub note_row : AuditRequest → SignedCheckpoint → CheckpointSignature → AcceptedRow
-note_row request checkpoint signature = record {
-  operation = Message;
-  scheme = name_of (scheme_of request.scheme);
-  key = request.key;
-  message = note_text checkpoint.note;
-  signature = signature.raw;
-}
+abbrev pub head_row : AuditRequest → SignedCheckpoint → CheckpointSignature → AcceptedRow
+head_row request checkpoint signature =
+    note_row (scheme_of request.scheme) request.key (note_text checkpoint.note) signature.raw
 
 -- each signature of a checkpoint over its note, under the log's scheme and key, in order
 abbrev pub note_rows : AuditRequest → SignedCheckpoint → List AcceptedRow
-note_rows request checkpoint = map (note_row request checkpoint) checkpoint.signatures
+note_rows request checkpoint = map (head_row request checkpoint) checkpoint.signatures
 
 -- the signatures of each head, in order
 abbrev pub audit_rows : AuditRequest → List AuditHead → List AcceptedRow

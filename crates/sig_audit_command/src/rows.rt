@@ -1,6 +1,6 @@
 //! The list of the signatures of a request's heads.
 ghost use Rattle.std.specs.Prelude.{◌≡◌, ◌++◌, ◌<◌, IfOk, IsSome, List};
-ghost use Rattle.sig_audit_command.specs.Questions.{HasAdded, audit_rows, note_row, note_rows};
+ghost use Rattle.sig_audit_command.specs.Questions.{HasAdded, audit_rows, head_row, note_rows};
 ghost use Rattle.sig_base.specs.declared.checker.AcceptedRow.{AcceptedRow as row_type};
 ghost use Rattle.sig_json.specs.Find.{as_array};
 ghost use Rattle.sig_json.specs.Tree.{document_tree};
@@ -8,11 +8,11 @@ ghost use Rattle.sig_rekor.specs.NoteText.{note_text};
 ghost use Rattle.sig_reply.specs.RowsText.{AddsRow, IsDocumentOf, IsListOf, IsRowReadBack};
 
 use sig_audit::AuditHead;
-use sig_base::{AcceptedRow, Bytes, Operation, OutOfMemory, Text};
+use sig_base::{OutOfMemory, Text};
 use sig_json::Document;
 use sig_json_text::compact;
 use sig_rekor::{CheckpointSignature, SignedCheckpoint};
-use sig_reply::add_row;
+use sig_reply::{add_row, note_row};
 use sig_request::AuditRequest;
 use std::alloc::Global;
 
@@ -109,31 +109,17 @@ fn add_signature(
     requires room { size < most }
     requires note { note.now ≡ note_text checkpoint.now.note }
     ensures added { IfOk result (AddsRow most (document_tree list.old) (document_tree list.new) size
-        (note_row request.now checkpoint.now signature.now)) }
-    ensures back { IfOk result (λ _. IsRowReadBack (note_row request.now checkpoint.now signature.now)) }
+        (head_row request.now checkpoint.now signature.now)) }
+    ensures back { IfOk result (λ _. IsRowReadBack (head_row request.now checkpoint.now signature.now)) }
 {
-    let row = note_row(alloc, request, checkpoint, note, signature)?;
+    let row = note_row(
+        alloc,
+        request.scheme.scheme(),
+        request.key.as_slice(),
+        note.as_str(),
+        signature.raw.as_slice(),
+    )?;
     let sum = add_row(alloc, list, size, most, &row);
     drop(row);
     sum
-}
-
-/// A signature over the checkpoint's note, whose text this is, under the log's scheme and key.
-fn note_row(
-    alloc: Global,
-    request: &AuditRequest,
-    checkpoint: &SignedCheckpoint,
-    note: &Text,
-    signature: &CheckpointSignature,
-) -> Result<AcceptedRow, OutOfMemory>
-    requires { note.now ≡ note_text checkpoint.now.note }
-    ensures { IfOk result (λ row. row ≡ note_row request.now checkpoint.now signature.now) }
-{
-    Ok(AcceptedRow {
-        operation: Operation::Message,
-        scheme: Bytes::copy_of(alloc, request.scheme.scheme().name().as_bytes())?,
-        key: request.key.copy(alloc)?,
-        message: Bytes::copy_of(alloc, note.as_str().as_bytes())?,
-        signature: signature.raw.copy(alloc)?,
-    })
 }

@@ -1,14 +1,14 @@
 -- The links on a tree head: its checkpoint has to vouch for the size and the root that a proof leads to.
 use Rattle.std.specs.Prelude.{◌≡◌, ℕ, List, [], ◌∷◌, Any, Contains, Option, Some, None}
 use Rattle.sig_base.specs.declared.checker.AcceptedRow.{AcceptedRow}
-use Rattle.sig_base.specs.declared.checker.Operation.TheVariants.{Message}
-use Rattle.sig_base.specs.Scheme.{name_of, scheme_of}
+use Rattle.sig_base.specs.Scheme.{scheme_of}
 use Rattle.sig_rekor.specs.declared.checkpoint.CheckpointSignature.{CheckpointSignature}
 use Rattle.sig_rekor.specs.declared.checkpoint.SignedCheckpoint.{SignedCheckpoint}
 use Rattle.sig_rekor.specs.CheckpointText.{IsCheckpoint}
 use Rattle.sig_rekor.specs.NoteText.{note_text}
 use Rattle.sig_verify.specs.declared.link.Link.{Link}
 use Rattle.sig_verify.specs.declared.link.Link.TheVariants.{Checkpoint, NoteKey, NoteMatch}
+use Rattle.sig_reply.specs.NoteRow.{note_row}
 use Rattle.sig_request.specs.declared.head_members.ClaimedHead.{ClaimedHead}
 use Rattle.sig_program.specs.Verdict.{IsLinkVerdict}
 
@@ -18,13 +18,8 @@ head_links = Checkpoint ∷ NoteKey ∷ NoteMatch ∷ []
 
 -- the row that says that the log's key signed the note
 abbrev pub head_row : ClaimedHead → SignedCheckpoint → CheckpointSignature → AcceptedRow
-head_row head checkpoint signature = record {
-  operation = Message;
-  scheme = name_of (scheme_of head.scheme);
-  key = head.key;
-  message = note_text checkpoint.note;
-  signature = signature.raw;
-}
+head_row head checkpoint signature =
+    note_row (scheme_of head.scheme) head.key (note_text checkpoint.note) signature.raw
 
 -- one of the signatures over the note text is accepted under the log's scheme and key
 abbrev pub HasAcceptedSignature : ClaimedHead → SignedCheckpoint → Type 0

@@ -10,11 +10,11 @@ ghost use Rattle.sig_reply.specs.RowsText.{AddsRow, IsDocumentOf, IsRowReadBack}
 ghost use Rattle.sig_rekor.specs.NoteText.{note_text};
 
 use crate::reply::refused;
-use sig_base::{AcceptedRow, Bytes, Operation, OutOfMemory, Text};
+use sig_base::{OutOfMemory, Text};
 use sig_json::Document;
 use sig_json_text::compact;
 use sig_rekor::{CheckpointSignature, ParseCheckpointError, SignedNote};
-use sig_reply::{Reply, add_row, room_beside};
+use sig_reply::{Reply, add_row, note_row, room_beside};
 use sig_request::ClaimedHead;
 use sig_verify::Link;
 use std::alloc::Global;
@@ -124,28 +124,14 @@ fn add_signature(
         (head_row head.now checkpoint.now signature.now)) }
     ensures back { IfOk result (λ _. IsRowReadBack (head_row head.now checkpoint.now signature.now)) }
 {
-    let row = head_row(alloc, head, checkpoint, note, signature)?;
+    let row = note_row(
+        alloc,
+        head.scheme.scheme(),
+        head.key.as_slice(),
+        note.as_str(),
+        signature.raw.as_slice(),
+    )?;
     let sum = add_row(alloc, list, size, most, &row);
     drop(row);
     sum
-}
-
-/// A signature over the checkpoint's note, whose text this is, under the log's scheme and key.
-fn head_row(
-    alloc: Global,
-    head: &ClaimedHead,
-    checkpoint: &SignedNote<'_>,
-    note: &Text,
-    signature: &CheckpointSignature,
-) -> Result<AcceptedRow, OutOfMemory>
-    requires { note.now ≡ note_text checkpoint.now.note }
-    ensures { IfOk result (λ row. row ≡ head_row head.now checkpoint.now signature.now) }
-{
-    Ok(AcceptedRow {
-        operation: Operation::Message,
-        scheme: Bytes::copy_of(alloc, head.scheme.scheme().name().as_bytes())?,
-        key: head.key.copy(alloc)?,
-        message: Bytes::copy_of(alloc, note.as_str().as_bytes())?,
-        signature: signature.raw.copy(alloc)?,
-    })
 }

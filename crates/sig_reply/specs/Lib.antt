@@ -1,4 +1,5 @@
 pub mod GivenBack
+pub mod NoteRow
 pub mod Reply
 pub mod RowsText
 pub mod SecondLine

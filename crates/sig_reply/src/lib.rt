@@ -11,10 +11,12 @@
 //! signatures that is written is read back as these, and fits one request with the request that it is beside.
 #![tactic(auto)]
 
+mod note;
 mod reply;
 mod rows_text;
 mod second_line;
 
+pub use note::note_row;
 pub use reply::Reply;
 pub use rows_text::{add_row, room_beside, rows_document};
 pub use second_line::{collision_text, other_text};

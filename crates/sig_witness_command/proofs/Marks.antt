@@ -21,7 +21,7 @@ use Rattle.sig_witness.specs.Kept.{IsOriginText, log_key}
 use Rattle.sig_witness.specs.declared.kept_log.KeptLog.{KeptLog}
 use Rattle.sig_witness_command.proofs.Lookups.{put-cases, put-found, split-same}
 use Rattle.sig_witness_command.proofs.EachOnce.{absent-behind, once-begins, there-same}
-use Rattle.sig_witness_command.specs.Questions.{each_once_after, note_row, with_row}
+use Rattle.sig_witness_command.specs.Questions.{each_once_after, key_row, with_row}
 use Rattle.sig_witness_command.specs.RowList.{HasRoom, IsCoded, IsEmptyList, IsListSoFar, IsMarked, IsNewRow, IsNumbered, IsPut, IsSameList, pair_of}
 use Rattle.sig_witness_command.specs.Start.{HaveLines, Logs}
 use Rattle.sig_witness_command.specs.declared.row_list.RowList.{RowList}
@@ -209,7 +209,7 @@ module _ (logs : Logs) (place given : ℕ) (before : List AcceptedRow) (note : L
 
     new-marks : (checkpoint : SignedCheckpoint) (key : CosignVerificationKey) (signature : List ℕ) → IsCoded signature
         → option_map log_key (text_lookup checkpoint.note.origin logs) ≡ Some key
-        → Contains before (note_row key (note_text checkpoint.note) signature)
+        → Contains before (key_row key (note_text checkpoint.note) signature)
         ↔ IsMarked new (note_text checkpoint.note) signature
     new-marks checkpoint key signature coded at =
         let text = note_text checkpoint.note in
@@ -262,7 +262,7 @@ module _ (logs : Logs) (bound : ℕ) (before : List AcceptedRow) (key : CosignVe
     (has_number : text_lookup (note_text checkpoint.note) old.notes ≡ Some number)
     (so_far : IsListSoFar logs bound before old) (coded : IsCoded signature) where
   abbrev pub row : AcceptedRow
-  row = note_row key (note_text checkpoint.note) signature
+  row = key_row key (note_text checkpoint.note) signature
 
   low : number < bound
   low = so_far.below (note_text checkpoint.note) number has_number
@@ -313,7 +313,7 @@ module _ (logs : Logs) (bound : ℕ) (before : List AcceptedRow) (key : CosignVe
           (paired (pair_of number signature) ∙ put-found (pair_of number signature) number old.pairs),
     )
 
-    row-marked : (text raw : List ℕ) (other_key : CosignVerificationKey) → row ≡ note_row other_key text raw
+    row-marked : (text raw : List ℕ) (other_key : CosignVerificationKey) → row ≡ key_row other_key text raw
         → IsMarked new text raw
     row-marked text raw other_key same =
         let note : note_text checkpoint.note ≡ text = ap (λ (r : AcceptedRow). r.message) same in
@@ -323,7 +323,7 @@ module _ (logs : Logs) (bound : ℕ) (before : List AcceptedRow) (key : CosignVe
 
     there-again : (one : SignedCheckpoint) (one_key : CosignVerificationKey) (raw : List ℕ) → IsCoded raw
         → option_map log_key (text_lookup one.note.origin logs) ≡ Some one_key → IsMarked new (note_text one.note) raw
-        → Contains (before ++ row ∷ []) (note_row one_key (note_text one.note) raw)
+        → Contains (before ++ row ∷ []) (key_row one_key (note_text one.note) raw)
     there-again one its_key raw also_coded also_at (other, found, some) =
         let was : text_lookup (note_text one.note) old.notes ≡ Some other = sym (noted (note_text one.note)) ∙ found in
         let below = so_far.below (note_text one.note) other was in
@@ -336,22 +336,22 @@ module _ (logs : Logs) (bound : ℕ) (before : List AcceptedRow) (key : CosignVe
               (was ∙ ap Some parts.0) has_number in
               let sign : raw ≡ signature = code-same raw signature also_coded coded parts.1 in
               let keys : its_key ≡ key = one-key logs one checkpoint its_key key lines also_at at note in
-              let whole : note_row its_key (note_text one.note) raw ≡ row =
-              ap (λ k. note_row k (note_text one.note) raw) keys ∙ ap (λ t. note_row key t raw) note
-              ∙ ap (note_row key (note_text checkpoint.note)) sign in
+              let whole : key_row its_key (note_text one.note) raw ≡ row =
+              ap (λ k. key_row k (note_text one.note) raw) keys ∙ ap (λ t. key_row key t raw) note
+              ∙ ap (key_row key (note_text checkpoint.note)) sign in
               subst (Contains (before ++ row ∷ [])) (sym whole) (Contains-push before row)
           | inr (_, kept) ↦
-              Contains-append_left before (row ∷ []) (note_row its_key (note_text one.note) raw)
+              Contains-append_left before (row ∷ []) (key_row its_key (note_text one.note) raw)
               ((so_far.marks one its_key raw also_coded also_at).1
               (other, was, moved _ _ (sym kept ∙ sym (paired (pair_of other raw))) some))
         ]
 
     put-marks : (one : SignedCheckpoint) (its_key : CosignVerificationKey) (raw : List ℕ) → IsCoded raw
         → option_map log_key (text_lookup one.note.origin logs) ≡ Some its_key
-        → Contains (before ++ row ∷ []) (note_row its_key (note_text one.note) raw)
+        → Contains (before ++ row ∷ []) (key_row its_key (note_text one.note) raw)
         ↔ IsMarked new (note_text one.note) raw
     put-marks one its_key raw also_coded also_at = (
-      λ there. elim (Contains-push_cases before row (note_row its_key (note_text one.note) raw) there) [
+      λ there. elim (Contains-push_cases before row (key_row its_key (note_text one.note) raw) there) [
         | inl was ↦
             still-marked (note_text one.note) raw ((so_far.marks one its_key raw also_coded also_at).0 was)
         | inr same ↦ row-marked (note_text one.note) raw its_key same

@@ -3,14 +3,13 @@ use Rattle.std.specs.Prelude.{◌≡◌, ◌⊎◌, ◌↔◌, ℕ, Bool, if◌t
 use Rattle.std.specs.Option.{option_map}
 use Rattle.sig_base.specs.ByText.{text_lookup}
 use Rattle.sig_base.specs.Checker.{accepted}
-use Rattle.sig_base.specs.Scheme.{name_of}
 use Rattle.sig_base.specs.declared.checker.AcceptedRow.{AcceptedRow}
-use Rattle.sig_base.specs.declared.checker.Operation.TheVariants.{Message}
 use Rattle.sig_key.specs.Key.{key_info, key_scheme}
 use Rattle.sig_key.specs.declared.verification_key.CosignVerificationKey.{CosignVerificationKey}
 use Rattle.sig_rekor.specs.NoteText.{note_text}
 use Rattle.sig_rekor.specs.declared.checkpoint.CheckpointSignature.{CheckpointSignature}
 use Rattle.sig_rekor.specs.declared.checkpoint.SignedCheckpoint.{SignedCheckpoint}
+use Rattle.sig_reply.specs.NoteRow.{note_row}
 use Rattle.sig_reply.specs.Reply.{IsListingOf, listed, no_request}
 use Rattle.sig_reply.specs.RowsText.{FitsBeside, IsDocumentOf, IsReadBack, rows_text}
 use Rattle.sig_reply.specs.declared.reply.Reply.{Reply}
@@ -23,18 +22,12 @@ use Rattle.sig_witness_command.specs.declared.request.UpdateText.{UpdateText}
 use Rattle.sig_witness_command.specs.declared.request.WitnessRequest.{WitnessRequest}
 
 -- the row that says that this key signed the note of this text
-abbrev pub note_row : CosignVerificationKey → List ℕ → List ℕ → AcceptedRow
-note_row key note signature = record {
-  operation = Message;
-  scheme = name_of (key_scheme key);
-  key = key_info key;
-  message = note;
-  signature = signature;
-}
+abbrev pub key_row : CosignVerificationKey → List ℕ → List ℕ → AcceptedRow
+key_row key note signature = note_row (key_scheme key) (key_info key) note signature
 
 -- each signature of a checkpoint over its note, under this key, in order
 abbrev pub signature_row : CosignVerificationKey → SignedCheckpoint → CheckpointSignature → AcceptedRow
-signature_row key checkpoint signature = note_row key (note_text checkpoint.note) signature.raw
+signature_row key checkpoint signature = key_row key (note_text checkpoint.note) signature.raw
 
 abbrev pub note_rows : CosignVerificationKey → SignedCheckpoint → List AcceptedRow
 note_rows key checkpoint = map (signature_row key checkpoint) checkpoint.signatures

@@ -12,7 +12,7 @@ use Rattle.sig_rekor.specs.declared.checkpoint.SignedCheckpoint.{SignedCheckpoin
 use Rattle.sig_reply.specs.RowsText.{AddsRow, IsListOf, IsRowReadBack, rows_text, rows_tree}
 use Rattle.sig_witness.specs.Kept.{log_key}
 use Rattle.sig_witness_command.specs.Outcome.{HasReading}
-use Rattle.sig_witness_command.specs.Questions.{checkpoint_rows, each_once_after, note_row}
+use Rattle.sig_witness_command.specs.Questions.{checkpoint_rows, each_once_after, key_row}
 use Rattle.sig_witness_command.specs.Start.{Logs}
 use Rattle.sig_rekor.specs.CheckpointText.{IsCheckpoint}
 use Rattle.sig_witness_command.specs.declared.request.UpdateText.{UpdateText}
@@ -92,7 +92,7 @@ pub record IsListSoFar (logs : Logs) (bound : ℕ) (before : List AcceptedRow) (
       → IsSome (text_lookup (pair_of number signature) rows.pairs) → number < bound
   pub marks : (checkpoint : SignedCheckpoint) (key : CosignVerificationKey) (signature : List ℕ) → IsCoded signature
       → option_map log_key (text_lookup checkpoint.note.origin logs) ≡ Some key
-      → Contains before (note_row key (note_text checkpoint.note) signature)
+      → Contains before (key_row key (note_text checkpoint.note) signature)
       ↔ IsMarked rows (note_text checkpoint.note) signature
 
 abbrev pub IsSomeList : Logs → ℕ → RowList → Type 0

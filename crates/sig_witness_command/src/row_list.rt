@@ -2,13 +2,13 @@
 ghost use Rattle.std.specs.Prelude.{◌≡◌, ◌<◌, ◌≤◌, IfOk, OnErr, codes, decimal};
 ghost use Rattle.sig_base.specs.Base64.{base64_text};
 ghost use Rattle.sig_json.specs.Tree.{document_tree};
-ghost use Rattle.sig_witness_command.specs.Questions.{note_row};
+ghost use Rattle.sig_witness_command.specs.Questions.{key_row};
 ghost use Rattle.sig_witness_command.specs.RowList.{HasRoom, IsCoded, IsEmptyList, IsMarked, IsNumbered, IsPut, pair_name};
 
-use sig_base::{AcceptedRow, ByText, Bytes, Operation, OutOfMemory, Text};
+use sig_base::{ByText, Bytes, OutOfMemory, Text};
 use sig_json::Document;
 use sig_key::CosignVerificationKey;
-use sig_reply::add_row;
+use sig_reply::{add_row, note_row};
 use std::alloc::Global;
 
 /// A list of signatures over notes, which takes `size` bytes except for its closing bracket, of at most `most`. Each
@@ -63,7 +63,7 @@ impl RowList {
         signature: &Bytes,
     ) -> Result<bool, OutOfMemory>
         requires { HasRoom self.old }
-        ensures put { IfOk result (IsPut (note_row key.now note.now signature.now) number signature.now self.old self.new) }
+        ensures put { IfOk result (IsPut (key_row key.now note.now signature.now) number signature.now self.old self.new) }
         ensures coded { IfOk result (λ _. IsCoded signature.now) }
     {
         let code = Text::in_base64(alloc, signature.as_slice())?;
@@ -71,7 +71,13 @@ impl RowList {
         if self.pairs.get(name.as_str()).is_some() {
             return Ok(true);
         }
-        let row = note_row(alloc, key, note, signature)?;
+        let row = note_row(
+            alloc,
+            key.scheme(),
+            key.spki(),
+            note.as_str(),
+            signature.as_slice(),
+        )?;
         let Some(size) = add_row(alloc, &mut self.list, self.size, self.most, &row)? else {
             return Ok(false);
         };
@@ -86,22 +92,4 @@ fn pair_name(alloc: Global, number: usize, code: &Text) -> Result<Text, OutOfMem
     ensures { IfOk result (λ name. name ≡ pair_name number code.now) }
 {
     Ok(Text::from(format!(in alloc; "{number} {}", code.as_str())?))
-}
-
-/// A signature under a key over the note of this text.
-fn note_row(
-    alloc: Global,
-    key: &CosignVerificationKey,
-    note: &Text,
-    signature: &Bytes,
-) -> Result<AcceptedRow, OutOfMemory>
-    ensures { IfOk result (λ row. row ≡ note_row key.now note.now signature.now) }
-{
-    Ok(AcceptedRow {
-        operation: Operation::Message,
-        scheme: Bytes::copy_of(alloc, key.scheme().name().as_bytes())?,
-        key: Bytes::copy_of(alloc, key.spki())?,
-        message: Bytes::copy_of(alloc, note.as_str().as_bytes())?,
-        signature: signature.copy(alloc)?,
-    })
 }

@@ -4,7 +4,7 @@ use Rattle.sig_json.proofs.Staying.{is_list-with_last}
 use Rattle.sig_json.specs.Tree.{document_tree}
 use Rattle.sig_reply.specs.RowsText.{AddsRow, row_tree}
 use Rattle.sig_audit_command.proofs.HeadRows.{sign-done, sign-more, sign-none, sign-past}
-use Rattle.sig_audit_command.specs.Questions.{note_row}
+use Rattle.sig_audit_command.specs.Questions.{head_row}
 use Rattle.sig_audit_command.proofs.rows.add_note.Goals as goal
 
 pub signatures-init : goal.signatures-init
@@ -21,7 +21,7 @@ signatures-preserved c =
     let below : c.signatures.signature-index < length c.args.checkpoint.now.signatures =
     omega (arith, c.signatures-test.true, ap length same) in
     let is = c.signature-item.is ∙ ap (λ items. get_or items c.signatures.signature-index c.signature-item.result) same in
-    let row = note_row c.args.request.now c.args.checkpoint.now c.signature-item.result in
+    let row = head_row c.args.request.now c.args.checkpoint.now c.signature-item.result in
     let added = subst (AddsRow c.args.most (document_tree c.signatures.list) (document_tree c.add_signature.new.list)
     c.signatures.taken row) c.in-Some.is c.in_ok-sum.ensures.added in (
       λ rows listed. sign-more c.args.request.now c.args.checkpoint.now c.args.most rows c.signatures.signature-index
@@ -38,7 +38,7 @@ returns-in_default c =
     let below : c.signatures.signature-index < length c.args.checkpoint.now.signatures =
     omega (arith, c.signatures-test.true, ap length same) in
     let is = c.signature-item.is ∙ ap (λ items. get_or items c.signatures.signature-index c.signature-item.result) same in
-    let row = note_row c.args.request.now c.args.checkpoint.now c.signature-item.result in
+    let row = head_row c.args.request.now c.args.checkpoint.now c.signature-item.result in
     let long = subst (AddsRow c.args.most (document_tree c.signatures.list) (document_tree c.add_signature.new.list)
     c.signatures.taken row) c.in_default.is c.in_ok-sum.ensures.added in
     λ rows listed. sign-past c.args.request.now c.args.checkpoint.now c.args.most rows c.signatures.signature-index

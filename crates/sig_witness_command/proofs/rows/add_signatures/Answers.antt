@@ -4,7 +4,7 @@ use Rattle.sig_base.specs.ByText.{text_lookup}
 use Rattle.sig_rekor.specs.NoteText.{note_text}
 use Rattle.sig_witness_command.proofs.Listings.{sign-done, sign-more, sign-past}
 use Rattle.sig_witness_command.proofs.Marks.{put-most, put-notes, put-room}
-use Rattle.sig_witness_command.specs.Questions.{note_row, signature_row}
+use Rattle.sig_witness_command.specs.Questions.{key_row, signature_row}
 use Rattle.sig_witness_command.specs.RowList.{IsPut}
 use Rattle.sig_witness_command.proofs.rows.add_signatures.Goals as goal
 
@@ -22,7 +22,7 @@ signatures-preserved c =
     c.signature-item.result.raw c.signatures.rows c.add.new.self true =
     subst (λ (b : Bool). IsPut (signature_row c.args.key.now c.args.checkpoint.now c.signature-item.result) c.args.number
     c.signature-item.result.raw c.signatures.rows c.add.new.self b) c.if-not-branch.false
-    (subst (λ (t : List ℕ). IsPut (note_row c.args.key.now t c.signature-item.result.raw) c.args.number
+    (subst (λ (t : List ℕ). IsPut (key_row c.args.key.now t c.signature-item.result.raw) c.args.number
     c.signature-item.result.raw c.signatures.rows c.add.new.self c.in_ok-add.field-0) c.requires.note
     c.in_ok-add.ensures.put) in
     let numbered : text_lookup (note_text c.args.checkpoint.now.note) c.signatures.rows.notes ≡ Some c.args.number =
@@ -49,7 +49,7 @@ returns-then-not-branch-clause-added c =
     c.signature-item.result.raw c.signatures.rows c.add.new.self false =
     subst (λ (b : Bool). IsPut (signature_row c.args.key.now c.args.checkpoint.now c.signature-item.result) c.args.number
     c.signature-item.result.raw c.signatures.rows c.add.new.self b) c.if-not-branch.true
-    (subst (λ (t : List ℕ). IsPut (note_row c.args.key.now t c.signature-item.result.raw) c.args.number
+    (subst (λ (t : List ℕ). IsPut (key_row c.args.key.now t c.signature-item.result.raw) c.args.number
     c.signature-item.result.raw c.signatures.rows c.add.new.self c.in_ok-add.field-0) c.requires.note
     c.in_ok-add.ensures.put) in
     let numbered : text_lookup (note_text c.args.checkpoint.now.note) c.signatures.rows.notes ≡ Some c.args.number =
