@@ -6,15 +6,13 @@ import re
 
 import constraint_cases
 import results
-from failing import Case
+from failing import NO_MEMORY, Case
 
 CRATES = pathlib.Path(__file__).resolve().parent.parent / "crates"
 NOT_LONG, VERY_LONG = 4000, 20000  # bytes
 FIRST = 12  # of a result's words, those that tell its kind
 ENDED = 1  # the status of a program of cases that memory ran out for
 UNMADE = "bad line"  # what is written where an argument, such as a key, could not be made
-
-Line = collections.namedtuple("Line", "case left")
 
 
 def names():
@@ -27,8 +25,9 @@ def program(name):
 
 
 def kind_of(returned):
-    """The kind of a result: `ok` or the error, and which values are there, of which names and truth values tell themselves."""
+    """The kind of a result: `ok`, the error or a status, and which values are there, of which names and truth values tell themselves."""
     first, *values = results.normalized(returned).split(" ")[:FIRST]
+    first = "_" if re.fullmatch("[0-9a-f]{64}", first) else first
     return " ".join([first, *(word if re.fullmatch("[A-Za-z_@(),-]+|[A-Z][A-Z0-9_]+", word) else "_" for word in values)])
 
 
@@ -52,21 +51,36 @@ def chosen(rows):
 
 
 def left_by(name, call):
-    """The lines that a call of a layer may write out of memory: what its table says of the layer that is left."""
+    """What a call may write out of memory, as a pattern: of a layer what its table says that is left; of `run` its status, with nothing written,
+    whatever is left of the source; of a caller's own check that it failed, which it takes for no."""
+    if name == "run" and call.startswith("run "):
+        return f"{UNMADE}|{NO_MEMORY} - [0-9]+"
     if name != "constraint":
-        return []
+        return UNMADE
     if not constraint_cases.LEFT:
         constraint_cases.markers()
         constraint_cases.applied()
-    return constraint_cases.LEFT.get(call, [])
+    left = ["ok false"] if call.startswith("trusted ") else constraint_cases.LEFT.get(call, [])
+    return "|".join(map(re.escape, [UNMADE, *left]))
+
+
+def ends_of(name, call):
+    """Whether a run of a call in which memory ran out may end so: with nothing written, or with a line that such a call leaves."""
+    left = re.compile(f"(?:{left_by(name, call)})\n")
+
+    def allowed(ended):
+        if ended.status == 0:
+            return left.fullmatch(ended.written.decode()) is not None
+        return ended == (b"", ENDED)
+    return allowed
 
 
 def lines(name):
-    """The lines of a program, and with each what it may write out of memory beside nothing."""
+    """The lines of a program, and with each whether a run in which memory ran out may end so."""
     kinds = collections.defaultdict(list)
     for call, returned in table(name):
         kinds[call.split(" ")[0], kind_of(returned)].append((call, returned))
     for (word, kind), rows in kinds.items():
         for call, returned in chosen(rows):
             case = Case(f"{name}_cases, {word}, {kind}", [], f"{call}\n".encode(), f"{returned}\n".encode(), 0)
-            yield Line(case, [f"{each}\n".encode() for each in (UNMADE, *left_by(name, call))])
+            yield case, ends_of(name, call)

@@ -9,6 +9,7 @@ import pathlib
 import re
 import subprocess
 import tempfile
+import threading
 
 import audit_requests
 import consistency_requests
@@ -37,7 +38,6 @@ class Failing:
         self.program = os.path.abspath(program)
         self.folder = tempfile.TemporaryDirectory()
         self.library = os.path.join(self.folder.name, "failing_calls.so")
-        self.counts = os.path.join(self.folder.name, "counts")
         subprocess.run(["cc", "-shared", "-fPIC", "-O1", "-o", self.library, HERE / "failing_calls.c"], check=True)
 
     def __enter__(self):
@@ -45,6 +45,11 @@ class Failing:
 
     def __exit__(self, *_):
         self.folder.cleanup()
+
+    @property
+    def counts(self):
+        """Where the program writes how many calls it made: each thread that runs it has a file of its own."""
+        return os.path.join(self.folder.name, f"counts-{threading.get_ident()}")
 
     def run(self, case, **settings):
         """What was written, and the status, where the calls fail as the settings say."""

@@ -5,6 +5,7 @@ use sig_bundle::{
     Bundle, LogEntries, TransparencyLogEntry, VerificationMaterial, bundle_text, read_bundle,
 };
 use sig_cases::{Answer, Arguments};
+use sig_json::JsonError;
 use sig_rekor_models::LogEntry;
 use sig_signing::{SigningArtifact, try_from_log_entry};
 use std::alloc::Global;
@@ -53,21 +54,21 @@ fn add_bundle(answer: &mut Answer, alloc: Global, bundle: &Bundle) {
     match bundle_text(alloc, bundle) {
         Ok(text) => {
             answer.value(&text.as_str());
-            answer.value(&is_read_back(alloc, &text, bundle));
+            add_read_back(answer, alloc, &text, bundle);
         }
         Err(_) => answer.out_of_memory(),
     }
 }
 
-/// Whether the text is read as this bundle.
-fn is_read_back(alloc: Global, text: &Text, bundle: &Bundle) -> bool {
+/// Adds whether the text is read as this bundle.
+fn add_read_back(answer: &mut Answer, alloc: Global, text: &Text, bundle: &Bundle) {
     match read_bundle(alloc, text.as_str().as_bytes()) {
         Ok(read) => {
-            let is_same = read == *bundle;
+            answer.value(&(read == *bundle));
             drop(read);
-            is_same
         }
-        Err(_) => false,
+        Err(JsonError::OutOfMemory) => answer.out_of_memory(),
+        Err(_) => answer.value(&false),
     }
 }
 
