@@ -8,6 +8,9 @@ import time
 
 import measure
 
+sys.path.append(str(measure.TOP / "adapters/c"))
+import build
+
 ADAPTERS = measure.TOP / "adapters/openssl"
 COUNT = 1000  # how many bundles one call is given
 MOST_MILLISECONDS = 4  # what a bundle takes then, OpenSSL included
@@ -47,26 +50,46 @@ def two_runs(bench, words, artifact):
     return sum(bench.seconds(path, [bench.program, "questions", "verify"], [bench.program, "verify"]))
 
 
+def by_library():
+    """Makes the library for C, which the adapter then calls. Whether it is there."""
+    try:
+        build.make()
+    except (OSError, SystemExit) as error:
+        print(f"bench/run: bundles at once without the library for C: {error}", file=sys.stderr)
+        return False
+    return True
+
+
+def timed(bench, command, artifacts):
+    """The processor's seconds of a call over these artifacts, the least of some, and those by the clock."""
+    path = bench.kept(b"")
+    wanted = "\n".join(f"{LINE} {artifact}" for artifact in artifacts)
+    measure.expect([command[0]], path, measure.written([*command, *artifacts], path) == wanted, True)
+    begun = time.monotonic()
+    used = measure.processor_seconds([*command, *artifacts], path, 0)
+    clock = time.monotonic() - begun
+    return min(used, *bench.seconds(path, [*command, *artifacts], slow=True)), clock
+
+
 def bundles_at_once(bench):
     """1,000 bundles of one trusted root, each of a signer and an artifact of its own, by one call of
-    adapters/openssl/sigverify-bundle: the processor's milliseconds for each, and those by the clock. The program's are those
-    of its two runs for each, which are in it; what is left is Python's and OpenSSL's."""
+    adapters/openssl/sigverify-bundle: the processor's milliseconds for each, and those by the clock. The call has the replies of the
+    library for C, where that is made, or of two runs of the program for each bundle, which are in its time; what is left is Python's and
+    OpenSSL's."""
     signed = signed_bundles()
     if signed is None:
         return
+    table = bench.table(bundles_at_once, "bundles", "ms each", "ms by the clock", "the program's", "the rest")
     with tempfile.TemporaryDirectory() as within:
         folder = pathlib.Path(within)
-        words = [*made(signed, folder), f"--sigverify={bench.program}"]
-        artifacts = [folder / str(place) for place in range(COUNT)]
-        path, command = bench.kept(b""), [*words, *artifacts]
-        wanted = "\n".join(f"{LINE} {artifact}" for artifact in artifacts)
-        measure.expect([words[0]], path, measure.written(command, path) == wanted, True)
-        begun = time.monotonic()
-        used = measure.processor_seconds(command, path, 0)
-        clock = time.monotonic() - begun
-        used = min(used, *bench.seconds(path, command, slow=True))
-        program = two_runs(bench, words, artifacts[0])
-    table = bench.table(bundles_at_once, "bundles", "ms each", "ms by the clock", "the program's", "the rest")
-    each = used / COUNT * 1000
-    table.row(f"{COUNT:,}", each, clock / COUNT * 1000, program * 1000, each - program * 1000)
-    bench.goal("bundles at once, milliseconds each", each, MOST_MILLISECONDS)
+        words, artifacts = made(signed, folder), [folder / str(place) for place in range(COUNT)]
+        by_program = [*words, f"--sigverify={bench.program}"]
+        program = two_runs(bench, by_program, artifacts[0])
+        ways = [("by the library", words)] if by_library() else []
+        for name, command in [*ways, ("by the program", by_program)]:
+            used, clock = timed(bench, command, artifacts)
+            each = used / COUNT * 1000
+            mine = program * 1000 if command == by_program else None
+            table.row(f"{COUNT:,} {name}", each, clock / COUNT * 1000, mine, mine and each - mine)
+            if command == words or not ways:
+                bench.goal("bundles at once, milliseconds each", each, MOST_MILLISECONDS)

@@ -1,17 +1,17 @@
 """Manifests of `gate`, and their table. Each is a function from a count to the bytes and to what the program writes."""
-import json
-
 import measure
 import shapes
 import signed
 from chains import payload_of
 from goals import MOST_DOUBLED, MOST_MEGABYTES, MOST_SECONDS, MOST_TO_CHECKS
-from library import PAYLOAD, VERIFY, called, caller
+from library import PAYLOAD
 from measure import megabytes, written
+from roots import keys, with_anchors
 from shapes import numbered
 
 import fixture
-from fixture import compact
+from fixture import certificate, compact, leaf
+from x509_paths import inter
 
 ORIGIN = "fixture.log"
 MOST_ARTIFACTS = 256  # of a manifest, and as many bundles
@@ -86,8 +86,19 @@ def origins(count):
     return manifest(made, [artifact(made, 0, rule=rule)], made.accepted()), lines(1)
 
 
-# Each is made at half of the largest size, and at the whole.
-LISTS = (("policies", policies), ("trusted roots that no artifact names", roots), ("accepted signatures", accepted),
+def anchors_over_intermediates(count):
+    """As many artifacts as there may be, each with a bundle of 16 intermediates, of which any of so many trust anchors of one name and
+    other keys may have signed each; accepted is the signature of the leaf alone, by the last of them."""
+    signers = [inter("a", "fixture root", under) for under in range(100, 116)]
+    made = fixture.ChainRequest([signers[-1]], [certificate(each) for each in signers], leaf=leaf(issuer=fixture.name("a")))
+    root = with_anchors(made, (fixture.anchor(key=key) for key in keys(count)))
+    artifacts = [artifact(made, place) for place in range(MOST_ARTIFACTS)]
+    each = "".join(f"artifact artifact-{place} deny none\nbundle 0 refused issuer\n" for place in range(MOST_ARTIFACTS))
+    return manifest(made, artifacts, made.accepted()[:1], roots={"root": compact(root)}), each + f"admitted 0 of {MOST_ARTIFACTS}\n"
+
+
+# Each is made of as many as the largest size holds, and of half as many.
+LISTS = (("trust anchors of one name over 16 intermediates each", anchors_over_intermediates), ("policies", policies), ("trusted roots that no artifact names", roots), ("accepted signatures", accepted),
          ("a bundle of a long payload", bundle_of_a_long_payload), ("a rule of long origins", origins))
 
 
@@ -98,31 +109,31 @@ def count_of(make, most):
 
 
 def checks_alone(bench, made):
-    """The seconds in which a bundle is read and verified: what a call of the library for C takes beyond one whose bundle is refused."""
-    program = caller()
-
-    def seconds(text, status):
-        return called(bench, program, bench.kept(text), VERIFY, status)[1] / 1e9
-    text = signed.written(made)
-    return seconds(text, 0) - seconds(compact({**json.loads(text), "bundle": "{}"}).encode(), 1)
+    """The seconds of a process that reads the accepted signatures of these requests and their trusted root once, and reads and verifies the
+    bundle of each."""
+    rows = each_once(row for one in made for row in one.accepted())
+    lines = [compact({"accepted": rows}), compact(made[0].trusted_root()), *(f"{one.digest.removeprefix('sha256:')} {compact(one.bundle(), canonical=True)}" for one in made)]
+    path, words = bench.kept("\n".join(lines).encode()), [bench.reader, "checks", str(made[0].now)]
+    measure.expect(words, path, written(words, path), str(len(made)))
+    return bench.seconds(path, words)[0]
 
 
 def gates(bench):
-    """Manifests of `gate`: 256 artifacts of one trusted root, each with a bundle of its own of 10 KB, beside what the bundles alone
-    take, read and verified one by one by the library for C, and beside as many processes of `verify`; and the lists of a manifest. The last
-    column is the time to that over half the size, or over half as many artifacts."""
+    """Manifests of `gate`: 256 artifacts of one trusted root, each with a bundle of its own of 10 KB, beside a process that reads the
+    accepted signatures and the trusted root once and reads and verifies these bundles alone, and beside as many processes of `verify`; and the lists of a manifest.
+    The last column is the time to that over half as many."""
     table = bench.table(gates, "manifest", "bytes", "ms", "MB", "to the bundles alone", "to processes", "to half")
     words = [bench.program, "gate"]
 
     def timed(text, said):
-        path = bench.kept(text)
-        measure.expect(words, path, written(words, path), said.strip())
-        return path, bench.seconds(path, words)[0]
+        path, status = bench.kept(text), int(" deny " in said)
+        measure.expect(words, path, written(words, path, status), said.strip())
+        return path, status, bench.seconds(path, words, status=status)[0]
 
     def row(name, half, whole, alone=None, processes=None):
-        _, first = timed(*half)
-        path, took = timed(*whole)
-        peak = megabytes(words, path)
+        first = timed(*half)[-1]
+        path, status, took = timed(*whole)
+        peak = megabytes(words, path, status)
         table.row(name, len(whole[0]), took * 1000, round(peak), alone and took / alone, processes and took / processes, took / first)
         bench.goal(f"gate, {name}, MB", peak, MOST_MEGABYTES)
         bench.goal(f"gate, {name}, seconds", took, MOST_SECONDS)
@@ -130,10 +141,11 @@ def gates(bench):
         return took
 
     made = requests(MOST_ARTIFACTS, PAYLOAD)
-    alone = MOST_ARTIFACTS * checks_alone(bench, made[0])
+    alone = checks_alone(bench, made)
     [process] = bench.seconds(bench.kept(signed.written(made[0])), [bench.program, "verify"])
     took = row(f"{MOST_ARTIFACTS} artifacts", many(made[::2]), many(made), alone, MOST_ARTIFACTS * process)
     bench.goal("gate, its time to that of the bundles alone", took / alone, MOST_TO_CHECKS)
     for name, make in LISTS:
-        row(name, *(make(count_of(make, most)) for most in (bench.most // 2, bench.most)))
+        count = count_of(make, bench.most)
+        row(name, make(count // 2), make(count))
 

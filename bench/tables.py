@@ -474,5 +474,5 @@ def walks(bench):
 
 
 OF_PROGRAM = (log, entries, audits, audit_lists, witnesses, gates, demo, verify, questions, bundles_at_once, library)  # of sigverify
-OF_READERS = (entries, certificates, documents, bundles, statements, images, artifacts, pools, walks)  # those that run sig_bench
+OF_READERS = (entries, gates, certificates, documents, bundles, statements, images, artifacts, pools, walks)  # those that run sig_bench
 TABLES = {table.__name__: table for table in (*OF_PROGRAM, *OF_READERS)}

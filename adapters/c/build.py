@@ -106,9 +106,14 @@ def link(static, heap):
     made.replace(SHARED)
 
 
-def main():
+def make():
+    """Makes the shared library, unless it is up to date in its parts."""
     home = kit()
     link(archive(home), home / "c/liblibc_c.a")
+
+
+def main():
+    make()
     print(SHARED.relative_to(TOP))
 
 

@@ -7,6 +7,8 @@
 //! - `bundle` reads a bundle, and prints 0;
 //! - `statement` reads a payload as a statement, `digests` as the checks of a bundle do, and both print how many
 //!   digests were taken;
+//! - `checks NOW` reads accepted signatures, a trusted root and bundles, verifies each of these at this time, and prints
+//!   how many;
 //! - `hash N` hashes N zero bytes, and prints the first byte of SHA-256; `artifact N` reads a bundle, verifies it of an
 //!   artifact of N zero bytes, where nothing is trusted, and prints 0;
 //! - `payload`, `signature` and `promise` read what `cosign` stores beside an image as the payload of a layer, as its
@@ -25,6 +27,7 @@ mod accepting;
 mod artifact;
 mod bundle;
 mod certificate;
+mod checks;
 mod document;
 mod layer;
 mod merkle;
@@ -52,6 +55,7 @@ fn main(rt: HostRuntime) -> Result<()> {
         "bundle" => bundle::read(alloc, input.as_slice()),
         "statement" => statement::digests_of(alloc, input.as_slice()),
         "digests" => statement::digests_alone(alloc, input.as_slice()),
+        "checks" => checks::verified(alloc, input.as_slice(), number(words.next())?),
         "hash" => Some(artifact::hashed(number(words.next())?)),
         "artifact" => artifact::verified(alloc, input.as_slice(), number(words.next())?),
         "payload" => layer::of_payload(alloc, input.as_slice()),

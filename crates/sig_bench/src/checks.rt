@@ -1,0 +1,58 @@
+//! Bundles of one trusted root, read and verified one by one.
+
+use sig_base::TableChecker;
+use sig_dsse::ArtifactDigest;
+use sig_json::Document;
+use sig_request::RowReader;
+use sig_verify::HeldRoot;
+use sig_x509::{OIDCIssuer, SingleX509ExtPolicy};
+use std::alloc::Global;
+
+/// The issuer of the certificates that are asked for.
+const ISSUER: &str = "https://issuer.example";
+
+/// Reads accepted signatures, the object of the first line, and a trusted root, the second, and verifies the bundles of
+/// the lines after it at a time in seconds since 1970: in each line stands the SHA-256 of the artifact in hexadecimal, a
+/// space, and the bundle. Returns how many are verified; `None` if one is not, or out of memory.
+pub fn verified(alloc: Global, input: &[u8], now: u64) -> Option<u64> {
+    let text = std::str::from_utf8(input).ok()?;
+    let mut lines = text.split('\n');
+    let checker = checker_of(alloc, lines.next()?)?;
+    let held = HeldRoot::read(alloc, lines.next()?.as_bytes(), i64::try_from(now).ok()?).ok()?;
+    let mut count: u64 = 0;
+    for line in lines {
+        let (digest, bundle) = line.split_once(' ')?;
+        is_verified(alloc, &held, digest, bundle, &checker)?;
+        count = count.saturating_add(1);
+    }
+    Some(count)
+}
+
+/// The table of the member `accepted` of an object.
+fn checker_of(alloc: Global, text: &str) -> Option<TableChecker> {
+    let (_, rows) = Document::read_members_and_list::<RowReader>(
+        alloc,
+        text.as_bytes(),
+        &[],
+        "accepted",
+    ).ok()?;
+    TableChecker::from_rows(alloc, rows).ok()
+}
+
+/// Verifies a bundle of the artifact of this digest.
+fn is_verified(
+    alloc: Global,
+    held: &HeldRoot,
+    digest: &str,
+    bundle: &str,
+    checker: &TableChecker,
+) -> Option<()> {
+    let policy = OIDCIssuer::new(alloc, ISSUER).ok()?;
+    let mut bytes = [0; 32];
+    hex::decode_to_slice(digest, &mut bytes).ok()?;
+    let digest = ArtifactDigest::from(bytes);
+    let _ = held
+        .verify(alloc, &digest, bundle.as_bytes(), &policy, checker)
+        .ok()?;
+    Some(())
+}
