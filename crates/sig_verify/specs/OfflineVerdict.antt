@@ -1,4 +1,4 @@
--- *LoggedEntry verification*: every link of the chain of trust of a bundle, from its texts on, as one result: the first
+-- *Offline verification*: every link of the chain of trust of a bundle, from its texts on, as one result: the first
 -- link that fails, or the entry that the log vouches for. The five groups of links come one after the other.
 use Rattle.std.specs.Prelude.{◌≡◌, ◌⊎◌, ℕ, ℤ, true, List, Option, Some, None, option_map, Result, Ok, Err}
 use Rattle.std.specs.Borrow.{Bor}
