@@ -100,8 +100,11 @@ abbrev pub one_policy_rows : PolicyError → List TreeMember
 one_policy_rows error = opened_policy_rows (out-PolicyError error)
 
 -- a refusal in the list of another one
+abbrev pub inner_policy_rows : PolicyError → List TreeMember
+inner_policy_rows error = texts_row (codes "cause") (policy_name error ∷ []) ∷ one_policy_rows error
+
 unfoldable pub inner_policy_tree : PolicyError → Data
-inner_policy_tree error = object_of (texts_row (codes "cause") (policy_name error ∷ []) ∷ one_policy_rows error)
+inner_policy_tree error = object_of (inner_policy_rows error)
 
 -- how many refusals of a list are shown at most
 abbrev pub most_refusals : ℕ

@@ -17,7 +17,7 @@ use sig_timestamp::SCTError;
 use sig_verify::{CertificateErrorKind, OfflineError};
 use std::alloc::Global;
 
-/// Adds a name at the end. Fails only if out of memory.
+/// Adds a name at the end.
 pub(crate) fn push(
     alloc: Global,
     names: &mut OwnedList<Text>,

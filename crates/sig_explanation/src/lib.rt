@@ -6,7 +6,8 @@
 //!
 //! The layer above uses one fact. [`refusal`] makes the object of an error of the chain of trust, a total function of the
 //! error: `link`, the name of the link that fails; `cause`, the names of the error's variants, the outermost first; and
-//! what the error keeps, under members that `docs/LINKS.md` lists.
+//! what the error keeps, under members that `docs/LINKS.md` lists. sig_evidence takes [`with_refused`] besides, for the
+//! rules of a policy.
 #![tactic(auto)]
 
 mod cause;
@@ -15,5 +16,5 @@ mod names;
 mod policy;
 mod refused;
 
-pub use policy::MOST_REFUSALS;
+pub use policy::{MOST_REFUSALS, with_refused};
 pub use refused::refusal;

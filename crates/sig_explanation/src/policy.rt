@@ -1,7 +1,7 @@
 //! What the refusal of a policy keeps, as members of the object of a refusal.
 ghost use Rattle.std.specs.Prelude.{◌≡◌, IfOk};
 ghost use Rattle.sig_bundle.specs.Written.{members, members_into};
-ghost use Rattle.sig_explanation.specs.Kept.{comparison_rows, inner_policy_tree, inner_policy_trees, one_policy_rows, policy_rows};
+ghost use Rattle.sig_explanation.specs.Kept.{comparison_rows, inner_policy_rows, inner_policy_tree, inner_policy_trees, one_policy_rows, policy_rows};
 ghost use Rattle.sig_json.specs.Tree.{document_tree};
 ghost use Rattle.sig_policy.specs.Failures.{failures};
 
@@ -62,15 +62,27 @@ fn with_one_policy(
     }
 }
 
+/// The object with the refusal of a policy: `cause`, a list of its variant's name, and what it keeps, without the
+/// refusals that it holds. Fails only if out of memory.
+pub fn with_refused(
+    object: Object,
+    alloc: Global,
+    error: &PolicyError,
+) -> Result<Object, OutOfMemory>
+    ensures { IfOk result (λ made. members made ≡ members_into (members object) (inner_policy_rows error.now)) }
+{
+    let mut names = OwnedList::new(alloc);
+    push(alloc, &mut names, policy_name(error))?;
+    let object = with_list::<ShownText>(object, alloc, "cause", names.as_slice())?;
+    with_one_policy(object, alloc, error)
+}
+
 /// A refusal in the list of another one.
 #[tactic(auto, unfolding(crate::specs::Kept::inner_policy_tree))]
 fn inner_document(alloc: Global, error: &PolicyError) -> Result<Document, OutOfMemory>
     ensures { IfOk result (λ document. document_tree document ≡ inner_policy_tree error.now) }
 {
-    let mut names = OwnedList::new(alloc);
-    push(alloc, &mut names, policy_name(error))?;
-    let object = with_list::<ShownText>(Object::new(alloc), alloc, "cause", names.as_slice())?;
-    let object = with_one_policy(object, alloc, error)?;
+    let object = with_refused(Object::new(alloc), alloc, error)?;
     Ok(object.into_document())
 }
 

@@ -2,7 +2,11 @@
 use Rattle.std.specs.Prelude.{ℕ, ℤ, List, [], ◌∷◌, codes, length, take, nat_le, Option, Some, None, option_map, if◌then◌else◌}
 use Rattle.std.specs.Fmt.{decimal}
 use Rattle.std.specs.Fmt.Cut.{floor_char_boundary}
+use Rattle.hex.specs.Hex.{encode_lower}
+use Rattle.sig_base.specs.Sha256.{sha256}
 use Rattle.sig_bundle.specs.Written.{TreeMember, integer_tree, list_tree, object_of}
+use Rattle.sig_dsse.specs.Digest.{digest_algorithm, digest_bytes}
+use Rattle.sig_dsse.specs.declared.artifact_digest.ArtifactDigest.{ArtifactDigest}
 use Rattle.sig_json.specs.Data.{Data, string}
 use Rattle.sig_shown.specs.UtcText.{utc_text}
 
@@ -26,8 +30,17 @@ cut_length text = if nat_le (length text) most_shown then None else Some (count_
 abbrev pub shown_rows : List ℕ → List ℕ → List ℕ → List TreeMember
 shown_rows name length_name text = (name, Some (string (shown text))) ∷ (length_name, cut_length text) ∷ []
 
+-- a text, if there is one
+abbrev pub some_rows : List ℕ → List ℕ → Option (List ℕ) → List TreeMember
+some_rows name length_name None = []
+some_rows name length_name (Some text) = shown_rows name length_name text
+
 abbrev pub texts_tree : List (List ℕ) → Data
 texts_tree texts = list_tree string texts
+
+-- the SHA-256 of bytes, in hexadecimal
+unfoldable pub sha256_tree : List ℕ → Data
+sha256_tree bytes = string (encode_lower (sha256 bytes))
 
 -- rows of an object
 
@@ -48,3 +61,7 @@ time_tree second =
 
 abbrev pub time_row : List ℕ → ℤ → TreeMember
 time_row name second = (name, Some (time_tree second))
+
+-- a digest of an artifact, in hexadecimal under the name of its algorithm
+unfoldable pub digest_tree : ArtifactDigest → Data
+digest_tree digest = object_of (text_row (digest_algorithm digest) (encode_lower (digest_bytes digest)) ∷ [])

@@ -3,6 +3,7 @@ ghost use Rattle.std.specs.Prelude.{◌≡◌, IfOk, List, take};
 ghost use Rattle.sig_bundle.specs.Written.{list_tree, members};
 ghost use Rattle.sig_json.specs.Data.{Data, put, string};
 ghost use Rattle.sig_json.specs.Tree.{document_tree};
+ghost use Rattle.sig_shown.specs.Shown.{count_tree};
 
 use sig_base::{OutOfMemory, Text};
 use sig_bundle::Object;
@@ -32,6 +33,22 @@ impl Shown for ShownText {
 
     fn show(alloc: Global, item: &Text) -> Result<Document, OutOfMemory> {
         Document::of_text(alloc, item.as_str())
+    }
+}
+
+/// Shows numbers as texts.
+pub enum ShownCount {}
+
+impl Shown for ShownCount {
+    type Item = usize;
+
+    ghost tree = { count_tree };
+
+    #[tactic(auto, unfolding(crate::specs::Shown::count_tree))]
+    fn show(alloc: Global, item: &usize) -> Result<Document, OutOfMemory> {
+        let count = *item;
+        let text = format!(in alloc; "{count}")?;
+        Document::of_text(alloc, text.as_str())
     }
 }
 

@@ -1,10 +1,10 @@
 //! Members of an object that show a value: a number, or a text, which is cut if it is long.
-ghost use Rattle.std.specs.Prelude.{◌≡◌, IfOk};
+ghost use Rattle.std.specs.Prelude.{◌≡◌, IfOk, option_map};
 ghost use Rattle.sig_bundle.specs.Written.{integer_tree, members, members_into};
 ghost use Rattle.sig_json.specs.Data.{put};
-ghost use Rattle.sig_shown.specs.Shown.{count_tree, shown, shown_rows};
+ghost use Rattle.sig_shown.specs.Shown.{count_tree, sha256_tree, shown, shown_rows, some_rows};
 
-use sig_base::OutOfMemory;
+use sig_base::{OutOfMemory, sha256};
 use sig_bundle::Object;
 use std::alloc::Global;
 
@@ -69,4 +69,34 @@ pub fn with_shown(
         return Ok(object);
     }
     with_count(object, alloc, length_name, text.len() as u64)
+}
+
+/// The object with a text as a member, as by [`with_shown`], if there is one. Fails only if out of memory.
+pub fn with_some(
+    object: Object,
+    alloc: Global,
+    name: &str,
+    length_name: &str,
+    text: Option<&str>,
+) -> Result<Object, OutOfMemory>
+    ensures { IfOk result (λ made. members made ≡ members_into (members object)
+        (some_rows name.now length_name.now (option_map (λ t. t.now) text.entry))) }
+{
+    match text {
+        Some(text) => with_shown(object, alloc, name, length_name, text),
+        None => Ok(object),
+    }
+}
+
+/// The object with the SHA-256 of bytes as a member, in hexadecimal. Fails only if out of memory.
+#[tactic(auto, unfolding(crate::specs::Shown::sha256_tree))]
+pub fn with_sha256(
+    object: Object,
+    alloc: Global,
+    name: &str,
+    bytes: &[u8],
+) -> Result<Object, OutOfMemory>
+    ensures { IfOk result (λ made. members made ≡ put name.now (sha256_tree bytes.now) (members object)) }
+{
+    object.with_hex(alloc, name, &sha256(bytes))
 }

@@ -1,0 +1,2 @@
+pub mod AnchorPlaces
+pub mod RuleRefusals

@@ -1,0 +1,30 @@
+//! What the links of the chain of trust compare, as members of JSON: of a bundle, a trusted root, a policy and the
+//! accepted signatures. An explanation shows them beside what failed, or of what was verified.
+//!
+//! ```text
+//! {"integratedTime":{"seconds":"1700000000","utc":"2023-11-14T22:13:20Z"},
+//!  "notAfter":{"seconds":"1700000600","utc":"2023-11-14T22:23:20Z"},"notBefore":{..}}
+//! ```
+//!
+//! The layer above uses one fact of each call: it returns the object with members that a definition gives of what it is
+//! handed, `times_rows` or `policy_tree` for instance, unless memory runs out. Lists are shown to a stated length, beside
+//! which a member says how long they are.
+#![tactic(auto)]
+
+mod accepted;
+mod checks;
+mod fault;
+mod issuer;
+mod logs;
+mod rules;
+mod sct;
+mod trees;
+
+pub use accepted::with_accepted;
+pub use checks::{MOST_DIGESTS, with_subjects, with_times, with_validity};
+pub use fault::with_document_fault;
+pub use issuer::{MOST_ANCHORS, with_issuer};
+pub use logs::{MOST_LOGS, with_log_id, with_logs};
+pub use rules::{MOST_RULES, with_policy_rules};
+pub use sct::with_sct;
+pub use trees::{with_proof, with_trees};

@@ -1,0 +1,6 @@
+-- There are fewer parts behind the first.
+use Rattle.std.proofs.Common.{length}
+use Rattle.sig_name.proofs.text.+push_parts.Given as goal
+
+abbrev pub decreases-push_parts : goal.decreases-push_parts
+decreases-push_parts l = length l.parts.now

@@ -1,0 +1,2 @@
+pub mod SerialNumbers
+pub mod ShownNames
