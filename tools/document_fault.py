@@ -37,13 +37,20 @@ def list_of(element):
     return fault
 
 
+def required(name, kind):
+    """The row of a member that has to be there."""
+    return name, kind, True
+
+
 def record(*rows):
-    """An object with these optional members; null is absent."""
+    """An object with these members, which are optional but for those of `required`; null is absent."""
     def fault(value):
         if not isinstance(value, dict):
             return "OtherKind", ""
-        for name, kind in rows:
+        for name, kind, *is_required in rows:
             there = [each for each in (kind if name is BESIDE else [name]) if value.get(each) is not None]
+            if is_required and not there:
+                return "Absent", "." + name
             if name is BESIDE and len(there) > 1:
                 return "NotAlone", "." + there[1]
             if name is not BESIDE and there and (found := kind(value[name])):

@@ -4,12 +4,14 @@
     tools/request_cases.py
 
 A request of fixture.py, as it is and with one part changed: each signature in it is genuine by the request's own rows, and each row is
-needed by one signature alone. The signatures of the leaf and of its SCT are among the cases of x509_cases.py.
+needed by one signature alone. The signatures of the leaf and of its SCT are among the cases of x509_cases.py. And what is wrong with requests, by
+request_fault_rows.py.
 """
 import json
 from urllib.parse import quote
 
 import fixture
+import request_fault_rows
 from case_table import Table
 from fixture import key, spelled
 
@@ -89,6 +91,7 @@ def add_calls(table, asked):
 def main():
     table = Table("request_cases")
     add_calls(table, calls)
+    request_fault_rows.add(table)
     table.write()
 
 

@@ -69,6 +69,7 @@ ATTESTED = (within("UnexpectedError", ["BundleUnreadable", "ContentNotDsse", "Pa
             + ["RekorPublicKeyNotFoundError(_)"] + within("ParseCheckpointError", FAULTS) + ["CheckpointSignatureVerificationError"] + MATCH + PATH)
 
 ALL = []  # of the type
+COMMANDS = ("log", "verify", "consistency", "audit")
 
 # The public calls: the program and its word for the call, the crate and the name of the error type, and the variants that the call has, all where
 # there is none. A word of a program may stand for several calls.
@@ -168,6 +169,11 @@ CALLS = [
     ("bundle_fault", "bundle bundle_fault", "sig_table Cause", ["OtherKind", "BeyondRange", "NotAlone"]),
     ("root_fault", "bundle root_fault", "sig_table DocumentFault", ["NotJson", "Float"]),
     ("root_fault", "bundle root_fault", "sig_table Cause", ["OtherKind"]),
+    ("%s_request_fault, %s_request_fault, %s_request_fault, %s_request_fault" % COMMANDS, "request spaces_fault", "sig_request_fault RequestFault",
+     ["TooLong"]),
+    *(row for name in COMMANDS for row in (
+        (name + "_request_fault", "request %s_request_fault" % name, "sig_table DocumentFault", ["NotJson", "Float"]),
+        (name + "_request_fault", "request %s_request_fault" % name, "sig_table Cause", ALL))),
     ("CheckedBundle::try_from_bundle", "bundle try_from_bundle", "sig_checked_bundle BundleErrorKind", BUNDLE),
     ("ProofFields::to_proof", "bundle to_proof", "sig_bundle ProofFieldsError", ALL),
     ("promise_text", "bundle promise_text", "sig_json_text CanonicalError", ALL),

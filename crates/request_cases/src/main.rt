@@ -1,9 +1,12 @@
-//! Cases of the signatures that are in a request of `verify`: `stdin` lists calls, and `stdout` what they return.
+//! Cases of requests: of the signatures that are in a request of `verify`, and of what is wrong with requests. `stdin`
+//! lists calls, and `stdout` what they return.
 //!
-//! Who made them: `tools/request_cases.py` over `tools/fixture.py`, programs in another language that were written
-//! from the standards. Each call asks for one signature, of which the rows after it are said to be genuine: all of
-//! the request's rows, or all but one.
+//! Who made them: `tools/request_cases.py` over `tools/fixture.py` and `tools/request_fault.py`, programs in another
+//! language that were written from the standards. Each call for a signature asks for one, of which the rows after it are
+//! said to be genuine: all of the request's rows, or all but one.
 #![tactic(auto)]
+
+mod fault;
 
 use sig_base::{Bytes, Result, TableChecker};
 use sig_cases::{Answer, Arguments, Cases, run};
@@ -22,6 +25,11 @@ impl Cases for RequestCases {
             "envelope" => envelope(arguments, answer),
             "promise" => promise(arguments, answer),
             "checkpoint" => checkpoint(arguments, answer),
+            "log_request_fault" => fault::log(arguments, answer),
+            "verify_request_fault" => fault::verify(arguments, answer),
+            "consistency_request_fault" => fault::consistency(arguments, answer),
+            "audit_request_fault" => fault::audit(arguments, answer),
+            "spaces_fault" => fault::spaces(arguments, answer),
             _ => arguments.refuse(),
         }
     }

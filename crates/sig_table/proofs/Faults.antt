@@ -14,7 +14,7 @@ use Rattle.sig_table.specs.Fault.{at_name, elements_fault, fault_of, fault_there
 use Rattle.sig_table.specs.Fault.{oneof_fault, or_fault, row_fault, rows_fault, under}
 use Rattle.sig_table.specs.First.{Behind, Breaks, BreaksRow, IsFirstElement, IsFirstFault, IsFirstRow, IsHere}
 use Rattle.sig_table.specs.First.{IsSecond}
-use Rattle.sig_table.specs.Table.{Table, leaf, elements, members, Row, required_row, optional_row, oneof_row, Rows}
+use Rattle.sig_table.specs.Table.{Table, leaf, elements, members, chosen, Row, required_row, optional_row, oneof_row, Rows}
 use Rattle.sig_table.specs.Table.{no_rows, row, at_most_one, each_passes, fits, is_empty, member_in, names_there, passes}
 use Rattle.sig_table.specs.Table.{row_holds, rows_hold}
 use Rattle.sig_table.specs.declared.fault.Cause.{Cause}
@@ -91,6 +91,7 @@ mutual
   fault_none (members rows) d =
       none_of-or (object_fault d) (rows_fault rows d)
       ∙ both _ _ _ _ (object_none (as_object d)) (rows_none rows d)
+  fault_none (chosen t) d = fault_none (t d) d
 
   rows_none : (rows : Rows) (d : Data) → is_none (rows_fault rows d) ≡ rows_hold rows d
   rows_none no_rows d = refl
@@ -211,6 +212,7 @@ mutual
   fault_says (elements t) d =
       list_says (fault_of t) (fits t) (fault_none t) (IsFirstFault t) (fault_says t) (list_of d)
   fault_says (members rows) d = object_says (as_object d) (IsFirstRow rows d) (rows_fault rows d) (rows_say rows d)
+  fault_says (chosen t) d = fault_says (t d) d
 
   rows_say : (rows : Rows) (d : Data) → Says (IsFirstRow rows d) (rows_fault rows d)
   rows_say no_rows d = tt
@@ -313,6 +315,7 @@ mutual
       list_tells (fault_of t) (fits t) (fault_none t) (IsFirstFault t) (fault_tells t) (list_of d)
   fault_tells (members rows) d =
       object_tells (as_object d) (IsFirstRow rows d) (rows_fault rows d) (rows_tell rows d)
+  fault_tells (chosen t) d = fault_tells (t d) d
 
   rows_tell : (rows : Rows) (d : Data) → Tells (IsFirstRow rows d) (rows_fault rows d)
   rows_tell no_rows d = λ path cause is. absurd is

@@ -45,7 +45,7 @@ some_of-map f (Some x) = refl
 
 -- ---- lists
 
-each_some : {A : Type 0} → (kind : Data → Option A) (table : Table) → IsTableOf kind table → (ds : List Data)
+pub each_some : {A : Type 0} → (kind : Data → Option A) (table : Table) → IsTableOf kind table → (ds : List Data)
     → list_all (fits table) ds ≡ is_some (each kind ds)
 each_some {A} kind table is [] = refl
 each_some {A} kind table is (d ∷ ds) =

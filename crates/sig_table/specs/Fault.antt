@@ -5,7 +5,7 @@ use Rattle.sig_base.specs.OptionSteps.{or_else}
 use Rattle.sig_json.specs.Data.{Data}
 use Rattle.sig_json.specs.Find.{as_object}
 use Rattle.sig_json.specs.List.{list_of}
-use Rattle.sig_table.specs.Table.{Table, leaf, elements, members, Row, required_row, optional_row, oneof_row, Rows}
+use Rattle.sig_table.specs.Table.{Table, leaf, elements, members, chosen, Row, required_row, optional_row, oneof_row, Rows}
 use Rattle.sig_table.specs.Table.{no_rows, row, member_in}
 use Rattle.sig_table.specs.declared.fault.Cause.{Cause}
 use Rattle.sig_table.specs.declared.fault.Cause.TheVariants.{Absent, OtherKind, NotAlone}
@@ -57,6 +57,7 @@ abbrev mutual
   fault_of (leaf cause) d = option_map here (cause d)
   fault_of (elements table) d = list_fault (fault_of table) (list_of d)
   fault_of (members rows) d = or_else (object_fault d) (rows_fault rows d)
+  fault_of (chosen table) d = fault_of (table d) d
 
   pub rows_fault : Rows → Data → Option MemberFault
   rows_fault no_rows d = None

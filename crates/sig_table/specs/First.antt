@@ -4,7 +4,7 @@ use Rattle.std.specs.List.{AllByRecursion}
 use Rattle.sig_json.specs.Data.{Data}
 use Rattle.sig_json.specs.Find.{as_object}
 use Rattle.sig_json.specs.List.{list_of}
-use Rattle.sig_table.specs.Table.{Table, leaf, elements, members, Row, required_row, optional_row, oneof_row, Rows}
+use Rattle.sig_table.specs.Table.{Table, leaf, elements, members, chosen, Row, required_row, optional_row, oneof_row, Rows}
 use Rattle.sig_table.specs.Table.{no_rows, row, member_in, names_there, fits, row_holds}
 use Rattle.sig_table.specs.declared.fault.Cause.{Cause}
 use Rattle.sig_table.specs.declared.fault.Cause.TheVariants.{Absent, OtherKind, NotAlone}
@@ -51,6 +51,7 @@ abbrev mutual
       (λ ds. IsFirstElement (fits table) (IsFirstFault table) ds path cause)
   IsFirstFault (members rows) d path cause =
       MatchOption (as_object d) (IsHere OtherKind path cause) (λ _. IsFirstRow rows d path cause)
+  IsFirstFault (chosen table) d path cause = IsFirstFault (table d) d path cause
 
   -- this row does not hold; or it does, and the first that does not is after it
   pub IsFirstRow : Rows → Breaks

@@ -1,8 +1,9 @@
 -- What is wrong with a value that is not of a kind, and the tables of single values.
-use Rattle.std.specs.Prelude.{ℤ, Option, Some, None, Bool, true, false, is_some}
+use Rattle.std.specs.Prelude.{ℕ, ℤ, nat_lt, if◌then◌else◌, Option, Some, None, Bool, true, false, is_some}
+use Rattle.sig_base.specs.OptionSteps.{◌>>=◌}
 use Rattle.sig_json.specs.Data.{Data}
 use Rattle.sig_json.specs.Integer.{integer_of}
-use Rattle.sig_json.specs.Kinds.{bytes_of, i64_of, text_of, u64_of}
+use Rattle.sig_json.specs.Kinds.{bytes_of, hash_of, i64_of, text_of, u64_of}
 use Rattle.sig_table.specs.Table.{Table, leaf, members, no_rows}
 use Rattle.sig_table.specs.declared.fault.Cause.{Cause}
 use Rattle.sig_table.specs.declared.fault.Cause.TheVariants.{BeyondRange, OtherKind}
@@ -32,11 +33,21 @@ text_table = leaf (other_kind text_of)
 abbrev pub bytes_table : Table
 bytes_table = leaf (other_kind bytes_of)
 
+abbrev pub hash_table : Table
+hash_table = leaf (other_kind hash_of)
+
 abbrev pub i64_table : Table
 i64_table = leaf (beyond_range i64_of)
 
 abbrev pub u64_table : Table
 u64_table = leaf (beyond_range u64_of)
+
+-- an integer from 0 to below this one
+abbrev pub below : ℕ → Data → Option ℕ
+below end d = u64_of d >>= λ n. if nat_lt n end then Some n else None
+
+abbrev pub below_table : ℕ → Table
+below_table end = leaf (beyond_range (below end))
 
 -- an object, whatever members it has
 abbrev pub object_table : Table

@@ -1,3 +1,4 @@
+pub mod Chosen
 pub mod Table
 pub mod Kinds
 pub mod DocumentFault

@@ -17,6 +17,8 @@ mutual
     elements : Table → Table
     -- an object whose members keep to these rows
     members : Rows → Table
+    -- what the value itself chooses, where a rule is over several of its members
+    chosen : (Data → Table) → Table
 
   pub data Row : Type 0 where
     -- a member that has to be there
@@ -71,6 +73,7 @@ abbrev mutual
   fits (leaf cause) d = is_none (cause d)
   fits (elements table) d = each_passes (fits table) (list_of d)
   fits (members rows) d = is_some (as_object d) && rows_hold rows d
+  fits (chosen table) d = fits (table d) d
 
   pub rows_hold : Rows → Data → Bool
   rows_hold no_rows d = true

@@ -9,7 +9,7 @@ pub enum Cause {
     Absent,
     /// The value is not of the kind.
     OtherKind,
-    /// The value is an integer outside the range of the kind.
+    /// The value is an integer outside the range of the kind, or a list of more or fewer elements than it may have.
     BeyondRange,
     /// An earlier member is there beside which this one may not be.
     NotAlone,

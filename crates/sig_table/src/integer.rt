@@ -1,13 +1,14 @@
 //! Rows of integers: JSON numbers, and texts of an optional `-` and digits.
-ghost use Rattle.std.specs.Prelude.{◌≡◌, is_some, option_map};
+ghost use Rattle.std.specs.Prelude.{◌≡◌, is_some, option_map, Some};
 ghost use Rattle.std.specs.Char.{is_ascii_digit};
 ghost use Rattle.std.specs.List.{list_all};
 ghost use Rattle.sig_base.specs.Answers.{Answers};
 ghost use Rattle.sig_json.specs.Integer.{integer_of, integer_text, natural_text};
 ghost use Rattle.sig_json.specs.Tree.{tree};
 ghost use Rattle.sig_table.specs.Fault.{at_name, here, or_fault, row_fault};
-ghost use Rattle.sig_table.specs.Kinds.{i64_table, not_in_range, u64_table, unless};
-ghost use Rattle.sig_table.specs.Table.{optional_row, required_row};
+ghost use Rattle.sig_table.specs.Kinds.{below, below_table, i64_table, not_in_range, u64_table, unless};
+ghost use Rattle.sig_table.specs.Table.{member_in, optional_row, required_row};
+ghost use Rattle.sig_json.specs.Data.{Data};
 
 use crate::fault::{Cause, TableError};
 use crate::rows::member;
@@ -104,6 +105,35 @@ pub fn required_u64(alloc: Global, json: Json<'_, '_>, name: &str) -> Result<(),
 {
     match member(json, name) {
         Some(value) => row_of(alloc, name, value, read_u64(json, name).is_ok()),
+        None => Err(behind_name(alloc, name, fault_here(alloc, Cause::Absent))),
+    }
+}
+
+/// Whether a member of an object is an integer from 0 to below this one.
+#[tactic(auto, using(crate::proofs::Integers::integers))]
+fn is_below(json: Json<'_, '_>, name: &str, end: u64) -> bool
+    ensures { (value : Data) → member_in name.now (tree json.entry) ≡ Some value
+        → result ≡ is_some (below end value) }
+{
+    match read_u64(json, name) {
+        Ok(number) => number < end,
+        Err(_) => false,
+    }
+}
+
+/// A required integer from 0 to below `end`: a member of an object. Fails with `Fault` if the member is absent, null, or
+/// not such an integer.
+pub fn required_below(
+    alloc: Global,
+    json: Json<'_, '_>,
+    name: &str,
+    end: u64,
+) -> Result<(), TableError>
+    ensures { Answers TableError.OutOfMemory (λ x. x) result
+        (or_fault (row_fault (required_row name.now (below_table end)) (tree json.entry))) }
+{
+    match member(json, name) {
+        Some(value) => row_of(alloc, name, value, is_below(json, name, end)),
         None => Err(behind_name(alloc, name, fault_here(alloc, Cause::Absent))),
     }
 }

@@ -34,9 +34,9 @@ mod table;
 
 pub use fault::{Cause, DocumentFault, MemberFault, TableError};
 pub use find::{document_fault, first_fault};
-pub use integer::{optional_i64, required_i64, required_u64};
-pub use kind::{AnyObject, BytesTable, ReadBy, TextTable};
-pub use list::ListOf;
+pub use integer::{optional_i64, required_below, required_i64, required_u64};
+pub use kind::{AnyObject, BytesTable, HashTable, Nothing, ReadBy, TextTable};
+pub use list::{ListOf, length_between, not_empty};
 pub use path::{MemberPath, Step};
-pub use rows::{at_most_one, object, optional, required};
-pub use table::{MemberTable, fault_here};
+pub use rows::{at_most_one, member, object, optional, required};
+pub use table::{MemberTable, behind_index, behind_name, fault_here};

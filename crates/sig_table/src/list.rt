@@ -1,8 +1,9 @@
-//! `ListOf`: lists whose elements keep to one table.
-ghost use Rattle.std.specs.Prelude.{◌≡◌};
+//! `ListOf`: lists whose elements keep to one table; and how many elements a list has.
+ghost use Rattle.std.specs.Prelude.{◌≡◌, nat_lt, option_map};
 ghost use Rattle.sig_base.specs.Answers.{Answers};
 ghost use Rattle.sig_json.specs.Tree.{tree};
-ghost use Rattle.sig_table.specs.Fault.{fault_of, or_fault};
+ghost use Rattle.sig_table.specs.Chosen.{is_between, other_length};
+ghost use Rattle.sig_table.specs.Fault.{fault_of, here, or_fault};
 ghost use Rattle.sig_table.specs.Table.{elements};
 
 use crate::fault::{Cause, TableError};
@@ -34,5 +35,33 @@ impl<T: MemberTable> MemberTable for ListOf<T> {
             }
         }
         Ok(())
+    }
+}
+
+/// Fails with `Fault` if the value is a list of fewer or more elements than these. The check of a list of so many begins
+/// with this one.
+pub fn length_between(
+    alloc: Global,
+    json: Json<'_, '_>,
+    least: usize,
+    most: usize,
+) -> Result<(), TableError>
+    ensures { Answers TableError.OutOfMemory (λ x. x) result
+        (or_fault (option_map here (other_length (is_between least most) (tree json.entry)))) }
+{
+    match json.list_len() {
+        Some(len) if len < least || most < len => Err(fault_here(alloc, Cause::BeyondRange)),
+        _ => Ok(()),
+    }
+}
+
+/// Fails with `Fault` if the value is a list without elements. The check of a list of at least one begins with this one.
+pub fn not_empty(alloc: Global, json: Json<'_, '_>) -> Result<(), TableError>
+    ensures { Answers TableError.OutOfMemory (λ x. x) result
+        (or_fault (option_map here (other_length (nat_lt 0) (tree json.entry)))) }
+{
+    match json.list_len() {
+        Some(0) => Err(fault_here(alloc, Cause::BeyondRange)),
+        _ => Ok(()),
     }
 }

@@ -13,7 +13,7 @@ use sig_json::Json;
 use std::alloc::Global;
 
 /// The member of an object, unless it is absent or null.
-pub(crate) fn member<'a, 't>(json: Json<'a, 't>, name: &str) -> Option<Json<'a, 't>>
+pub fn member<'a, 't>(json: Json<'a, 't>, name: &str) -> Option<Json<'a, 't>>
     ensures { option_map tree result ≡ member_in name.now (tree json.entry) }
 {
     match json.get(name) {

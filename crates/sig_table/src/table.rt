@@ -48,7 +48,7 @@ fn behind(error: TableError, step: Step) -> TableError
 }
 
 /// What the check of an object fails with where that of the member of this name fails so.
-pub(crate) fn behind_name(alloc: Global, name: &str, error: TableError) -> TableError
+pub fn behind_name(alloc: Global, name: &str, error: TableError) -> TableError
     ensures { OrMemory TableError.OutOfMemory result (result ≡ error_under (Name name.now) error) }
 {
     match Text::copy_of(alloc, name) {
@@ -58,7 +58,7 @@ pub(crate) fn behind_name(alloc: Global, name: &str, error: TableError) -> Table
 }
 
 /// What the check of a list fails with where that of the element at this index fails so.
-pub(crate) fn behind_index(index: usize, error: TableError) -> TableError
+pub fn behind_index(index: usize, error: TableError) -> TableError
     ensures { OrMemory TableError.OutOfMemory result (result ≡ error_under (Index index) error) }
 {
     behind(error, Step::Index(index))

@@ -1,0 +1,5 @@
+pub mod AuditTables
+pub mod PolicyTables
+pub mod RequestFaults
+pub mod RequestTables
+pub mod RowTables

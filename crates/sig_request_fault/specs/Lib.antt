@@ -1,0 +1,5 @@
+pub mod AuditTable
+pub mod PolicyTable
+pub mod RequestFault
+pub mod RequestTable
+pub mod RowTable
