@@ -156,6 +156,13 @@ impl TableChecker {
         Ok(TableChecker { rows, order })
     }
 
+    /// The rows, in the order in which they were given.
+    pub fn rows(&self) -> &[AcceptedRow]
+        ensures { result.now ≡ self.now }
+    {
+        self.rows.as_slice()
+    }
+
     /// Adds a row at the end. It sorts the table anew, so make a table of many rows by `from_rows`. Fails only if out of
     /// memory; the table is then unchanged.
     pub fn push(&mut self, row: AcceptedRow) -> Result<(), OutOfMemory>
