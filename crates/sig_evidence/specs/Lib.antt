@@ -1,4 +1,6 @@
 pub mod Accepted
+pub mod Authorities
+pub mod Body
 pub mod Checks
 pub mod Fault
 pub mod Issuer

@@ -12,6 +12,8 @@
 #![tactic(auto)]
 
 mod accepted;
+mod authorities;
+mod body;
 mod checks;
 mod fault;
 mod issuer;
@@ -20,7 +22,9 @@ mod rules;
 mod sct;
 mod trees;
 
-pub use accepted::with_accepted;
+pub use accepted::{MOST_SIGNATURES, with_accepted, with_accepted_note, with_accepted_under};
+pub use authorities::{MOST_AUTHORITIES, with_authorities};
+pub use body::{MOST_COMPARED, with_body};
 pub use checks::{MOST_DIGESTS, with_subjects, with_times, with_validity};
 pub use fault::with_document_fault;
 pub use issuer::{MOST_ANCHORS, with_issuer};

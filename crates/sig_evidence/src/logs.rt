@@ -45,7 +45,7 @@ fn holds(range: &Option<TimeRange>, now: &i64) -> bool
 }
 
 /// Whether a range holds at this second, has ended, or has not begun.
-fn state_name(range: &Option<TimeRange>, now: &i64) -> &'static str
+pub(crate) fn state_name(range: &Option<TimeRange>, now: &i64) -> &'static str
     ensures { result.now ≡ state_name now.now range.now }
 {
     if holds(range, now) {
@@ -74,7 +74,7 @@ fn with_some_time(
 }
 
 /// The object with the ends of a range.
-fn with_range(
+pub(crate) fn with_range(
     object: Object,
     alloc: Global,
     range: &Option<TimeRange>,

@@ -1,8 +1,11 @@
 //! The cause of a refusal: the names of an error's variants, the outermost first.
-ghost use Rattle.std.specs.Prelude.{◌≡◌, ◌++◌, ◌∷◌, [], IfOk, OnOk};
+ghost use Rattle.std.specs.Prelude.{◌≡◌, ◌++◌, ◌∷◌, [], IfOk, OnOk, codes};
+ghost use Rattle.sig_bundle.specs.Written.{members};
 ghost use Rattle.sig_explanation.specs.Cause.{behind_bundle, behind_certificate, behind_offline, behind_profile, behind_sct};
 ghost use Rattle.sig_explanation.specs.Cause.{behind_validation, bundle_cause, cause, certificate_cause, profile_cause};
 ghost use Rattle.sig_explanation.specs.Cause.{sct_cause, validation_cause};
+ghost use Rattle.sig_json.specs.Data.{put};
+ghost use Rattle.sig_shown.specs.Shown.{texts_tree};
 
 use crate::names::{
     bundle_name, certificate_name, checkpoint_name, extension_name, json_name, keyring_name,
@@ -11,21 +14,45 @@ use crate::names::{
     validation_name,
 };
 use sig_base::{OutOfMemory, OwnedList, Text};
+use sig_bundle::Object;
 use sig_certificate::CertificateValidationError;
 use sig_checked_bundle::{BundleErrorKind, BundleProfileErrorKind};
+use sig_shown::{ShownText, with_list};
 use sig_timestamp::SCTError;
 use sig_verify::{CertificateErrorKind, OfflineError};
 use std::alloc::Global;
 
 /// Adds a name at the end.
-pub(crate) fn push(
-    alloc: Global,
-    names: &mut OwnedList<Text>,
-    name: &str,
-) -> Result<(), OutOfMemory>
+fn push(alloc: Global, names: &mut OwnedList<Text>, name: &str) -> Result<(), OutOfMemory>
     ensures { OnOk result (names.new ≡ names.old ++ name.now ∷ []) }
 {
     names.push(Text::copy_of(alloc, name)?)
+}
+
+/// The object with `cause`, a list of one name. Fails only if out of memory.
+pub fn with_cause(object: Object, alloc: Global, name: &str) -> Result<Object, OutOfMemory>
+    ensures { IfOk result (λ made. members made
+        ≡ put (codes "cause") (texts_tree (name.now ∷ [])) (members object)) }
+{
+    let mut names = OwnedList::new(alloc);
+    push(alloc, &mut names, name)?;
+    with_list::<ShownText>(object, alloc, "cause", names.as_slice())
+}
+
+/// The object with `cause`, a list of two names, the outer one first. Fails only if out of memory.
+pub fn with_inner_cause(
+    object: Object,
+    alloc: Global,
+    name: &str,
+    inner: &str,
+) -> Result<Object, OutOfMemory>
+    ensures { IfOk result (λ made. members made
+        ≡ put (codes "cause") (texts_tree (name.now ∷ inner.now ∷ [])) (members object)) }
+{
+    let mut names = OwnedList::new(alloc);
+    push(alloc, &mut names, name)?;
+    push(alloc, &mut names, inner)?;
+    with_list::<ShownText>(object, alloc, "cause", names.as_slice())
 }
 
 /// Adds the names of why a certificate has not the profile that is asked for.

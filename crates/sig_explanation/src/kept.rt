@@ -15,8 +15,10 @@ use sig_shown::{ShownText, with_count, with_list, with_shown};
 use sig_verify::OfflineError;
 use std::alloc::Global;
 
-/// The object with what the check of a proof keeps.
-fn with_merkle(
+/// The object with what the check of a proof keeps: the sizes `new` and `old`; how many hashes there are, `got`, and how
+/// many there have to be, `want`; or the roots `expected`, that the proof leads to, and `got`, in hexadecimal. Fails only
+/// if out of memory.
+pub fn with_merkle(
     object: Object,
     alloc: Global,
     error: &MerkleProofError,

@@ -7,7 +7,8 @@
 //! The layer above uses one fact. [`refusal`] makes the object of an error of the chain of trust, a total function of the
 //! error: `link`, the name of the link that fails; `cause`, the names of the error's variants, the outermost first; and
 //! what the error keeps, under members that `docs/LINKS.md` lists. sig_evidence takes [`with_refused`] besides, for the
-//! rules of a policy.
+//! rules of a policy; and the explanations of the other commands take [`with_cause`], [`with_inner_cause`],
+//! [`with_merkle`] and the names of checkpoints' and proofs' faults.
 #![tactic(auto)]
 
 mod cause;
@@ -16,5 +17,8 @@ mod names;
 mod policy;
 mod refused;
 
+pub use cause::{with_cause, with_inner_cause};
+pub use kept::with_merkle;
+pub use names::{checkpoint_name, merkle_name};
 pub use policy::{MOST_REFUSALS, with_refused};
 pub use refused::refusal;

@@ -244,7 +244,7 @@ pub(crate) fn signature_name(error: &SignatureErrorKind) -> &'static str
 }
 
 /// The name of why a text is not a checkpoint.
-pub(crate) fn checkpoint_name(error: &CheckpointFault) -> &'static str
+pub fn checkpoint_name(error: &CheckpointFault) -> &'static str
     ensures { result.now ≡ checkpoint_name error.now }
 {
     match error {
@@ -262,7 +262,7 @@ pub(crate) fn checkpoint_name(error: &CheckpointFault) -> &'static str
 }
 
 /// The name of why the check of a proof fails.
-pub(crate) fn merkle_name(error: &MerkleProofError) -> &'static str
+pub fn merkle_name(error: &MerkleProofError) -> &'static str
     ensures { result.now ≡ merkle_name error.now }
 {
     match error {

@@ -5,13 +5,13 @@ ghost use Rattle.sig_explanation.specs.Kept.{comparison_rows, inner_policy_rows,
 ghost use Rattle.sig_json.specs.Tree.{document_tree};
 ghost use Rattle.sig_policy.specs.Failures.{failures};
 
-use crate::cause::push;
+use crate::cause::with_cause;
 use crate::names::policy_name;
-use sig_base::{OutOfMemory, OwnedList};
+use sig_base::OutOfMemory;
 use sig_bundle::Object;
 use sig_json::Document;
 use sig_policy::{PolicyError, PolicyErrors};
-use sig_shown::{ShownText, with_count, with_list, with_shown};
+use sig_shown::{with_count, with_shown};
 use std::alloc::Global;
 
 /// How many refusals of a list of policies are shown at most.
@@ -71,9 +71,7 @@ pub fn with_refused(
 ) -> Result<Object, OutOfMemory>
     ensures { IfOk result (λ made. members made ≡ members_into (members object) (inner_policy_rows error.now)) }
 {
-    let mut names = OwnedList::new(alloc);
-    push(alloc, &mut names, policy_name(error))?;
-    let object = with_list::<ShownText>(object, alloc, "cause", names.as_slice())?;
+    let object = with_cause(object, alloc, policy_name(error))?;
     with_one_policy(object, alloc, error)
 }
 

@@ -19,7 +19,7 @@ pub enum RequestFault {
 /// Returns what is wrong with a text that has to be a request of a table, or `None` if it is one. Fails only if out of
 /// memory.
 #[tactic(auto, unfolding(crate::specs::RequestFault::request_fault_in))]
-pub(crate) fn request_fault<T: MemberTable>(
+pub fn request_fault<T: MemberTable>(
     alloc: Global,
     text: &[u8],
 ) -> Result<Option<RequestFault>, OutOfMemory>

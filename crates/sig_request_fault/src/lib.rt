@@ -30,8 +30,8 @@ mod verify;
 
 pub use audit::audit_request_fault;
 pub use consistency::consistency_request_fault;
-pub use fault::RequestFault;
+pub use fault::{RequestFault, request_fault};
 pub use log::log_request_fault;
 pub use policy::PolicyTable;
 pub use row::AcceptedTable;
-pub use verify::verify_request_fault;
+pub use verify::{DigestTable, verify_request_fault};

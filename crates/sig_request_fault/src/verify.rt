@@ -16,7 +16,7 @@ use sig_table::{
 use std::alloc::Global;
 
 /// The table of the texts of digests.
-enum DigestTable {}
+pub enum DigestTable {}
 
 impl MemberTable for DigestTable {
     ghost table = { digest_table };

@@ -20,6 +20,7 @@ use sig_x509::Issuer;
 use std::alloc::Global;
 
 /// What was verified.
+#[derive(Clone, Copy)]
 pub struct VerifiedRun<'a> {
     /// The bundle.
     pub bundle: &'a Bundle,
