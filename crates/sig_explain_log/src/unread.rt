@@ -1,0 +1,44 @@
+//! A text that is no checkpoint.
+//!
+//! ```text
+//! {"cause":["ParseCheckpointError","NoteFormat"],..}
+//! ```
+ghost use Rattle.std.specs.Prelude.{◌≡◌, IfOk};
+ghost use Rattle.sig_bundle.specs.Written.{members, members_into};
+ghost use Rattle.sig_explain_log.specs.Refusals.{checkpoint_fault_rows, unread_rows};
+ghost use Rattle.sig_rekor.specs.CheckpointText.{checkpoint_of};
+
+use crate::reading::read_note;
+use sig_base::{CheckpointFault, OutOfMemory};
+use sig_bundle::Object;
+use sig_explanation::{checkpoint_name, with_inner_cause};
+use std::alloc::Global;
+
+/// The object with why a text is no checkpoint: `cause`, a list of `ParseCheckpointError` and the rule that the text
+/// breaks first. Fails only if out of memory.
+pub fn with_checkpoint_fault(
+    object: Object,
+    alloc: Global,
+    fault: &CheckpointFault,
+) -> Result<Object, OutOfMemory>
+    ensures { IfOk result (λ made. members made
+        ≡ members_into (members object) (checkpoint_fault_rows fault.now)) }
+{
+    with_inner_cause(
+        object,
+        alloc,
+        "ParseCheckpointError",
+        checkpoint_name(fault),
+    )
+}
+
+/// The same of a text. Of one that is a checkpoint the object stays as it is. Fails only if out of memory.
+pub fn with_unread(object: Object, alloc: Global, text: &str) -> Result<Object, OutOfMemory>
+    ensures { IfOk result (λ made. members made
+        ≡ members_into (members object) (unread_rows (checkpoint_of text.now))) }
+{
+    match read_note(alloc, text)? {
+        Ok(_) => Ok(object),
+        Err(fault) => with_checkpoint_fault(object, alloc, &fault),
+    }
+}

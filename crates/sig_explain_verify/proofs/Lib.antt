@@ -1,0 +1,3 @@
+pub mod Issuers
+pub mod Rows
+pub mod ShownRoots

@@ -1,0 +1,6 @@
+pub mod Inputs
+pub mod Parts
+pub mod ShownRoot
+pub mod Evidence
+pub mod Refused
+pub mod Verified

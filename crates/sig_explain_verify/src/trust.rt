@@ -1,0 +1,124 @@
+//! What a trusted root gives at a time: certificates of authorities, a pool of trust anchors, and keys of logs.
+ghost use Rattle.std.specs.Prelude.{◌≡◌, IfOk};
+ghost use Rattle.sig_certificate.specs.Certificate.{IsCertificate};
+ghost use Rattle.sig_explain_verify.specs.Parts.{AreReadAll, IsReadOne, root_in};
+ghost use Rattle.sig_explain_verify.specs.ShownRoot.{IsGivenAt, IsPoolOf, IsTrustIn};
+ghost use Rattle.sig_verify.specs.RootLinks.{authorities, rekor_keys};
+
+use sig_base::{Entries, KeyMap, OutOfMemory, OwnedList, PoolError, SigstoreError};
+use sig_certificate::{Certificate, X509ReadError};
+use sig_json::JsonError;
+use sig_root::{SigstoreTrustRoot, TrustRoot, read_trusted_root};
+use sig_x509::CertificatePool;
+use std::alloc::Global;
+
+/// What a trusted root gives at a time.
+#[derive(Drop)]
+pub(crate) struct TrustParts {
+    /// The keys of the logs of signatures (DER), by their log ids.
+    pub(crate) log_keys: KeyMap,
+    /// The certificates of the authorities that have begun, if each can be read.
+    pub(crate) authorities: Option<OwnedList<Certificate>>,
+    /// The same as a pool, if each is a trust anchor.
+    pub(crate) pool: Option<CertificatePool>,
+}
+
+/// What the trusted root that a text is gives at a time; `None` if it is none. Fails only if out of memory.
+pub(crate) fn read_trust(
+    alloc: Global,
+    text: &[u8],
+    now: i64,
+) -> Result<Option<TrustParts>, OutOfMemory>
+    ensures { IfOk result (IsTrustIn (root_in text.now) now) }
+{
+    match read_trusted_root(alloc, text) {
+        Ok(root) => {
+            let root = SigstoreTrustRoot::of(root);
+            let parts = trust_of(alloc, &root, now)?;
+            Ok(Some(parts))
+        }
+        Err(JsonError::NotJson | JsonError::Float | JsonError::Member) => Ok(None),
+        Err(JsonError::OutOfMemory) => Err(OutOfMemory),
+    }
+}
+
+/// What a trusted root gives at a time.
+fn trust_of(alloc: Global, root: &SigstoreTrustRoot, now: i64) -> Result<TrustParts, OutOfMemory>
+    ensures { IfOk result (IsGivenAt root.now now) }
+{
+    let ders = authorities_of(alloc, root, now)?;
+    let authorities = read_certificates(alloc, &ders)?;
+    let pool = pool_of(alloc, &ders)?;
+    let log_keys = log_keys_of(alloc, root, now)?;
+    Ok(TrustParts {
+        log_keys,
+        authorities,
+        pool,
+    })
+}
+
+/// The certificates of the authorities that have begun (DER).
+fn authorities_of(alloc: Global, root: &SigstoreTrustRoot, now: i64) -> Result<Entries, OutOfMemory>
+    ensures { IfOk result (λ ders. ders ≡ authorities root.now now) }
+{
+    match root.fulcio_certs(alloc, now) {
+        Ok(ders) => Ok(ders),
+        Err(SigstoreError::OutOfMemory) => Err(OutOfMemory),
+        // There are none.
+        Err(_) => Ok(Entries::new(alloc)),
+    }
+}
+
+/// The keys of the logs of signatures. A root has a map of them at each time, which may be empty.
+fn log_keys_of(alloc: Global, root: &SigstoreTrustRoot, now: i64) -> Result<KeyMap, OutOfMemory>
+    ensures { IfOk result (λ keys. keys ≡ rekor_keys root.now now) }
+{
+    match root.rekor_keys(alloc, now) {
+        Ok(keys) => Ok(keys),
+        Err(SigstoreError::OutOfMemory) => Err(OutOfMemory),
+        Err(_) => unreachable!(),
+    }
+}
+
+/// The certificate that these bytes are.
+fn read_certificate(alloc: Global, der: &[u8]) -> Result<Option<Certificate>, OutOfMemory>
+    ensures { IfOk result (IsReadOne der.now) }
+{
+    match Certificate::try_from_der(alloc, der) {
+        Ok(certificate) => Ok(Some(certificate)),
+        Err(X509ReadError::Der) => Ok(None),
+        Err(X509ReadError::OutOfMemory) => Err(OutOfMemory),
+    }
+}
+
+/// The certificates that these bytes are, one by one; `None` if some are none.
+fn read_certificates(
+    alloc: Global,
+    ders: &Entries,
+) -> Result<Option<OwnedList<Certificate>>, OutOfMemory>
+    ensures { IfOk result (AreReadAll IsCertificate ders.now) }
+{
+    let mut certificates = OwnedList::new(alloc);
+    'ders: for der in ders.as_slice() {
+        match read_certificate(alloc, der.as_slice())? {
+            Some(certificate) => certificates.push(certificate)?,
+            None => return Ok(None),
+        }
+    }
+    Ok(Some(certificates))
+}
+
+/// The pool of trust anchors that these bytes are; `None` if some are none.
+#[tactic(auto, using(sig_verify::proofs::AloneAnchors::alone_anchors))]
+fn pool_of(alloc: Global, ders: &Entries) -> Result<Option<CertificatePool>, OutOfMemory>
+    ensures { IfOk result (IsPoolOf ders.now) }
+{
+    let none = Entries::new(alloc);
+    match CertificatePool::from_certificates(alloc, ders, &none) {
+        Ok(pool) => Ok(Some(pool)),
+        Err(PoolError::Anchor(_)) => Ok(None),
+        Err(PoolError::OutOfMemory) => Err(OutOfMemory),
+        // There are no intermediates, and none is asked whether it may issue.
+        Err(_) => unreachable!(),
+    }
+}
