@@ -15,11 +15,12 @@ mod key;
 pub mod laws;
 mod link;
 mod questions;
-mod read_heads;
+pub mod read_heads;
 mod reply;
 mod rows;
 mod second_line;
 
 pub use audit::audit_reply;
+pub use key::audit_of;
 pub use link::AuditLink;
 pub use questions::audit_questions;

@@ -21,10 +21,10 @@ pub mod laws;
 mod outcome;
 mod questions;
 mod reply;
-mod request;
+pub mod request;
 mod row_list;
 mod rows;
-mod start;
+pub mod start;
 mod updating;
 
 pub use questions::witness_questions;

@@ -174,7 +174,7 @@ impl ElementReader for OriginKeyReader {
 }
 
 /// Reads the names of schemes.
-enum SchemeNameReader {}
+pub enum SchemeNameReader {}
 
 impl ElementReader for SchemeNameReader {
     type Item = SigningScheme;

@@ -41,7 +41,7 @@ fn add_all(alloc: Global, witness: &mut Witness, origins: &[OriginKey]) -> Resul
 }
 
 /// Adds an origin with its key; `false` if and only if it cannot be added. Fails only if out of memory.
-fn add_one(alloc: Global, witness: &mut Witness, one: &OriginKey) -> Result<bool, OutOfMemory>
+pub fn add_one(alloc: Global, witness: &mut Witness, one: &OriginKey) -> Result<bool, OutOfMemory>
     ensures { IfOk result (IsAdding witness.old one.now witness.new) }
 {
     let key = key_of(alloc, one)?;

@@ -1,0 +1,4 @@
+pub mod Explanations
+pub mod Members
+pub mod Starts
+pub mod Walks

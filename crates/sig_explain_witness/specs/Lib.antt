@@ -1,0 +1,4 @@
+pub mod Explained
+pub mod Refused
+pub mod Start
+pub mod Walk
