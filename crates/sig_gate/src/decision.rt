@@ -13,8 +13,8 @@ use sig_base::OutOfMemory;
 use sig_manifest::Rule;
 use std::alloc::Global;
 
-/// Whether some bundle is verified, and the rule holds of those that are. Fails only if out of memory.
-pub(crate) fn is_admitted(
+/// Returns whether some bundle is verified, and the rule holds of those that are. Fails only if out of memory.
+pub fn is_admitted(
     alloc: Global,
     rule: &Rule,
     bundles: &[BundleVerdict],

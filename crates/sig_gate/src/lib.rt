@@ -23,5 +23,6 @@ mod report_text;
 mod verdict;
 
 pub use admission::gate;
+pub use decision::is_admitted;
 pub use report_text::{all_admitted, report};
 pub use verdict::{BundleVerdict, BundleVerdicts, Verdict, Verdicts};

@@ -23,3 +23,4 @@ mod rows;
 
 pub use questions::{MOST_ASKED, gate_questions};
 pub use reply::gate_reply;
+pub use request::GateRequest;

@@ -59,7 +59,7 @@ fn are_graphic(bytes: &[u8]) -> bool
 }
 
 /// Reads names of artifacts.
-enum NameReader {}
+pub enum NameReader {}
 
 impl ElementReader for NameReader {
     type Item = Text;
@@ -93,7 +93,7 @@ impl ElementReader for TextBytesReader {
 }
 
 /// Reads artifacts.
-pub(crate) enum ArtifactReader {}
+pub enum ArtifactReader {}
 
 impl ElementReader for ArtifactReader {
     type Item = Artifact;

@@ -26,9 +26,12 @@ mod rule;
 mod size;
 mod unknown;
 
-pub use artifact::{Artifact, Artifacts, MOST_ARTIFACTS, MOST_BUNDLES, MOST_NAME};
+pub use artifact::{
+    Artifact, ArtifactReader, Artifacts, MOST_ARTIFACTS, MOST_BUNDLES, MOST_NAME, NameReader,
+};
 pub use error::ManifestError;
-pub use manifest::Manifest;
+pub use manifest::{Manifest, is_within};
 pub use policies::Policies;
+pub use read_rule::{Form, RuleReader, form_of};
 pub use reading::read_manifest;
 pub use rule::{MOST_LEAST, MOST_NODES, Rule, Rules};

@@ -41,8 +41,9 @@ fn are_few_bundles(artifacts: &[Artifact]) -> bool
     true
 }
 
-/// Whether there are so many artifacts as a manifest may have, with so many bundles.
-fn is_within(artifacts: &[Artifact]) -> bool
+/// Whether there are so many artifacts as a manifest may have, with so many bundles: from 1 to 256, and at most 256 of
+/// all together.
+pub fn is_within(artifacts: &[Artifact]) -> bool
     ensures { result ≡ is_within (artifacts_view artifacts.now) }
 {
     0 < artifacts.len() && artifacts.len() < MOST_ARTIFACTS + 1 && are_few_bundles(artifacts)

@@ -19,12 +19,18 @@ use std::alloc::Global;
 
 /// Which member a rule has.
 #[derive(Clone, Copy, PartialEq, Eq)]
-pub(crate) enum Form {
+pub enum Form {
+    /// At least so many different log bodies.
     Least,
+    /// A checkpoint of a log of this origin.
     Origin,
+    /// A tree of at least this size.
     Size,
+    /// What each of these rules asks for.
     All,
+    /// What one of these rules asks for.
     Any,
+    /// Not what this rule asks for.
     Not,
 }
 
@@ -78,7 +84,7 @@ fn one_at_most(found: Option<Form>, next: Option<Form>) -> Result<Option<Form>, 
 
 /// The form of a rule. Fails with `Member` if not exactly one of the members is there.
 #[tactic(auto, unfolding(crate::specs::RuleTable::form_of))]
-fn form_of(json: Json<'_, '_>) -> Result<Form, MemberError>
+pub fn form_of(json: Json<'_, '_>) -> Result<Form, MemberError>
     ensures { result ≡ or_member (form_of (tree json.entry)) }
 {
     let found = one_at_most(
@@ -186,7 +192,7 @@ fn read_rules(alloc: Global, list: Json<'_, '_>, levels: usize) -> Result<Rules,
 }
 
 /// Reads rules of at most 64 nodes.
-pub(crate) enum RuleReader {}
+pub enum RuleReader {}
 
 impl ElementReader for RuleReader {
     type Item = Rule;

@@ -1,0 +1,4 @@
+pub mod Artifacts
+pub mod Bundles
+pub mod Explanations
+pub mod ReadNames

@@ -1,0 +1,4 @@
+pub mod Artifact
+pub mod Bundle
+pub mod Explained
+pub mod Roots

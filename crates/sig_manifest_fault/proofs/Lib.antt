@@ -1,0 +1,7 @@
+mod Ascends
+mod ManifestFaults
+mod ManifestTables
+mod RuleLevels
+mod RuleTables
+mod ValueRows
+mod ValueTables
