@@ -1,3 +1,4 @@
+pub mod ChainOutcomes
 pub mod ConsistencyReplies
 pub mod ConsistencyRowsSuffice
 pub mod ConsistencyVerdicts
@@ -7,6 +8,7 @@ pub mod GivingBack
 pub mod HeadQuestionReplies
 pub mod HeadSignatures
 pub mod HeadVerdicts
+pub mod Explanations
 pub mod DemoLines
 pub mod DemoLinks
 pub mod Included
@@ -14,7 +16,10 @@ pub mod Invocations
 pub mod LogReplies
 pub mod LogVerdicts
 pub mod Logged
+pub mod LongTexts
+pub mod Naming
 pub mod NoteRows
+pub mod OneExplanation
 pub mod Replies
 pub mod RowSizes
 pub mod Runs

@@ -72,7 +72,7 @@ unmet-request : (command : Command) (text : List ℕ) → ¬ Holds command text 
 unmet-request Log text fails = inl (fails, refl)
 unmet-request other text fails = inl (fails, refl)
 
-unread-reply : (command : Command) (text : List ℕ) → ¬ Holds command text Request
+pub unread-reply : (command : Command) (text : List ℕ) → ¬ Holds command text Request
     → IsReplyByLinks command text (refusal_reply Request)
 unread-reply command text fails = first-reply command text Request (unmet-request command text fails)
 

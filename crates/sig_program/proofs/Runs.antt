@@ -13,23 +13,24 @@ use Rattle.sig_program.specs.declared.command.Command.TheVariants.{Log, Verify, 
 use Rattle.sig_program.specs.declared.command.Command.TheVariants.{LogQuestions}
 use Rattle.sig_program.specs.declared.command.Command.TheVariants.{VerifyQuestions, ConsistencyQuestions}
 use Rattle.sig_program.specs.declared.command.Command.TheVariants.{AuditQuestions, WitnessQuestions, GateQuestions}
-use Rattle.sig_program.specs.Command.{words_of, Names, IsCommand}
 use Rattle.sig_request.specs.Limit.{TakesUpTo}
 use Rattle.std.specs.Io.KnownBytes.{Appends}
 use Rattle.sig_program.proofs.Invocations.{demo-asked}
+use Rattle.sig_program.proofs.LongTexts.{long-explained, long-meant}
+use Rattle.sig_program.proofs.Naming.{IsCommand-many, IsCommand-none, are_two_words, is_one_word}
 use Rattle.sig_program.specs.Demo.{demo_reply, demo_text}
+use Rattle.sig_program.specs.Explained.{explained_command}
+use Rattle.sig_program.specs.ExplainedReply.{IsExplained, long_explained}
 use Rattle.sig_program.specs.Invocation.{Invokes, IsDemo, IsInvocation}
+use Rattle.sig_program.specs.declared.explained.Explained.{Explained}
 use Rattle.sig_program.specs.declared.invocation.Invocation.{Invocation}
 use Rattle.sig_program.specs.declared.invocation.Invocation.TheVariants as invocation
-use Rattle.sig_program.specs.Run.{IsReplyOf, RepliesTo, WriteFaulted, AppendsFront, HandsRests, WritesRests, usage_line}
-use Rattle.sig_audit_command.proofs.AuditReplies.{long-audit}
-use Rattle.sig_audit_command.proofs.QuestionReplies.{long-asked}
+use Rattle.sig_program.specs.Run.{ExplainsTo, IsReplyOf, RepliesTo, WriteFaulted, AppendsFront, HandsRests, WritesRests, usage_line}
 use Rattle.sig_audit_command.proofs.Replies.{decided-small}
-use Rattle.sig_gate_command.proofs.QuestionReplies.{long-questions, questions-small as gate-questions-small}
-use Rattle.sig_gate_command.proofs.Replies.{gate-small, long-gate}
-use Rattle.sig_witness_command.proofs.QuestionReplies.{long-notes, questions-small}
-use Rattle.sig_witness_command.proofs.Replies.{long-witness, witness-small}
-use Rattle.sig_program.proofs.Replies.{long-reply}
+use Rattle.sig_gate_command.proofs.QuestionReplies.{questions-small as gate-questions-small}
+use Rattle.sig_gate_command.proofs.Replies.{gate-small}
+use Rattle.sig_witness_command.proofs.QuestionReplies.{questions-small}
+use Rattle.sig_witness_command.proofs.Replies.{witness-small}
 
 -- all that was left, fewer than n bytes
 TakesUpTo-whole : (n : ℕ) (old new : Option (List ℕ)) (bytes : List ℕ) → HandsOver old new bytes → length bytes < n
@@ -62,22 +63,6 @@ RepliesTo-whole command old new bytes reply all short meant = record {
   meant = meant;
 }
 
--- a text that is too long is not a request of any command
-long-meant : (command : Command) (text : List ℕ) → 16777217 ≤ length text
-    → IsReply command text (refusal_reply Request)
-long-meant Log text long = long-reply Log text long
-long-meant Verify text long = long-reply Verify text long
-long-meant Consistency text long = long-reply Consistency text long
-long-meant Audit text long = long-audit text long
-long-meant Witness text long = long-witness text long
-long-meant Gate text long = long-gate text long
-long-meant LogQuestions text long = long-reply LogQuestions text long
-long-meant VerifyQuestions text long = long-reply VerifyQuestions text long
-long-meant ConsistencyQuestions text long = long-reply ConsistencyQuestions text long
-long-meant AuditQuestions text long = long-asked text long
-long-meant WitnessQuestions text long = long-notes text long
-long-meant GateQuestions text long = long-questions text long
-
 -- the reply to one that is too long
 pub RepliesTo-long : (command : Command) (old new : Option (List ℕ)) (reply : Reply) → TookCount old new 16777217
     → reply ≡ refusal_reply Request → RepliesTo command old new reply
@@ -85,6 +70,25 @@ RepliesTo-long command old new reply took refused =
     let long = TakesUpTo-long 16777217 old new took in
     let meant : IsReply command long.0 (refusal_reply Request) = long-meant command long.0 long.2 in
     record { text = long.0; request = long.1; meant = subst (IsReply command long.0) (sym refused) meant }
+
+-- the explained reply to a request that was read, and to one that is too long
+pub ExplainsTo-whole : (what : Explained) (old new : Option (List ℕ)) (bytes : List ℕ) (reply : Reply)
+    → HandsOver old new bytes → length bytes < 16777217 → IsExplained what bytes reply → ExplainsTo what old new reply
+ExplainsTo-whole what old new bytes reply all short meant = record {
+  text = bytes;
+  request = TakesUpTo-whole 16777217 old new bytes all short;
+  meant = meant;
+}
+
+pub ExplainsTo-long : (what : Explained) (old new : Option (List ℕ)) (reply : Reply) → TookCount old new 16777217
+    → reply ≡ long_explained → ExplainsTo what old new reply
+ExplainsTo-long what old new reply took is =
+    let long = TakesUpTo-long 16777217 old new took in
+    record {
+      text = long.0;
+      request = long.1;
+      meant = subst (IsExplained what long.0) (sym is) (long-explained what long.0 long.2);
+    }
 
 -- the status of a refusal, and of every reply
 status_of-small : (link : Link) → status_of link < 3
@@ -114,10 +118,19 @@ IsReply-small AuditQuestions text reply meant = decided-small _ _ _ reply meant
 IsReply-small WitnessQuestions text reply meant = questions-small text reply meant
 IsReply-small GateQuestions text reply meant = gate-questions-small text reply meant
 
+-- that of an explained reply is the command's
+IsExplained-small : (what : Explained) (text : List ℕ) (reply : Reply) → IsExplained what text reply → reply.status < 3
+IsExplained-small what text reply meant =
+    let P : ℕ → Type 0 = λ n. n < 3 in
+    subst P (sym (ap (λ (r : Reply). r.status) meant.are))
+    (IsReply-small (explained_command what) text meant.plain meant.replies)
+
 pub IsReplyOf-small : (asked : Invocation) (old new : Option (List ℕ)) (reply : Reply) → IsReplyOf asked old new reply
     → reply.status < 3
 IsReplyOf-small (invocation.Reply command) old new reply replies =
     IsReply-small command replies.text reply replies.meant
+IsReplyOf-small (invocation.Explanation what) old new reply replies =
+    IsExplained-small what replies.text reply replies.meant
 IsReplyOf-small (invocation.Demo count) old new reply (same, is) =
     let P : Reply → Type 0 = λ r. r.status < 3 in subst P (sym is) (lit< tt)
 
@@ -184,45 +197,11 @@ demo-written words asked left_old left_new reply count result taken_old taken_ne
       subst (Appends taken_old taken_new) (same ∙ ap (λ (r : Reply). r.text) made) both.1,
     )
 
--- a command has one word or two
-named-short : (command : Command) → (1 ≤ length (words_of command)) × (length (words_of command) ≤ 2)
-named-short Log = (lit≤ tt, lit≤ tt)
-named-short Verify = (lit≤ tt, lit≤ tt)
-named-short Consistency = (lit≤ tt, lit≤ tt)
-named-short Audit = (lit≤ tt, lit≤ tt)
-named-short Witness = (lit≤ tt, lit≤ tt)
-named-short Gate = (lit≤ tt, lit≤ tt)
-named-short LogQuestions = (lit≤ tt, lit≤ tt)
-named-short VerifyQuestions = (lit≤ tt, lit≤ tt)
-named-short ConsistencyQuestions = (lit≤ tt, lit≤ tt)
-named-short AuditQuestions = (lit≤ tt, lit≤ tt)
-named-short WitnessQuestions = (lit≤ tt, lit≤ tt)
-named-short GateQuestions = (lit≤ tt, lit≤ tt)
-
-pub IsCommand-many : (words : List (List ℕ)) → 3 ≤ length words → ¬ IsCommand words
-IsCommand-many words many (command, named) = omega (arith, many, ap length named, (named-short command).1)
-
-pub IsCommand-none : (words : List (List ℕ)) → length words < 1 → ¬ IsCommand words
-IsCommand-none words few (command, named) = omega (arith, few, ap length named, (named-short command).0)
-
--- one word, and the test whether it is a name
-pub is_one_word : (words : List (List ℕ)) (word : List ℕ) → word ≡ get_or words 0 word → 1 ≤ length words
-    → length words < 2 → words ≡ word ∷ []
-is_one_word [] word is some few = absurd (omega arith)
-is_one_word (first ∷ []) word is some few = ap (λ w. w ∷ []) (sym is)
-is_one_word (first ∷ second ∷ rest) word is some few = absurd (omega arith)
-
--- two words, and the test whether they are names
-pub are_two_words : (words : List (List ℕ)) (first second : List ℕ) → first ≡ get_or words 0 first
-    → second ≡ get_or words 1 second → 2 ≤ length words → length words < 3 → words ≡ first ∷ second ∷ []
-are_two_words [] first second is then some few = absurd (omega arith)
-are_two_words (one ∷ []) first second is then some few = absurd (omega arith)
-are_two_words (one ∷ two ∷ []) first second is then some few = cc
-are_two_words (one ∷ two ∷ three ∷ rest) first second is then some few = absurd (omega arith)
-
 pub ruleset runs = (
   RepliesTo-whole,
   RepliesTo-long,
+  ExplainsTo-whole,
+  ExplainsTo-long,
   IsReplyOf-small,
   WriteFaulted-usage,
   WriteFaulted-reply,
@@ -233,6 +212,3 @@ pub ruleset runs = (
   is_one_word,
   are_two_words,
 )
-
--- which words name a command
-pub ruleset naming = (IsCommand-many, IsCommand-none, is_one_word, are_two_words)

@@ -59,7 +59,7 @@ IsChainOf request r = UnlessMemory Memory r (Judged (HoldsOfVerify request) chai
 no_memory : (offline : LoggedEntry) → ◌≡◌ {A = Result LoggedEntry OfflineError} (Ok offline) (Err Memory) → ⊥
 no_memory offline e = cc
 
-chain_held : (request : VerifyRequest) (offline : LoggedEntry) → IsChainOf request (Ok offline)
+pub chain_held : (request : VerifyRequest) (offline : LoggedEntry) → IsChainOf request (Ok offline)
     → Judged {A = LoggedEntry} (HoldsOfVerify request) chain_links (Ok offline)
 chain_held request offline (inl memory) = absurd (no_memory offline memory)
 chain_held request offline (inr judged) = judged
@@ -67,7 +67,7 @@ chain_held request offline (inr judged) = judged
 no_link : (link : Link) → ◌≡◌ {A = Option Link} None (Some link) → ⊥
 no_link link e = cc
 
-chain_failed : (request : VerifyRequest) (error : OfflineError) (link : Link) → link_of error ≡ Some link
+pub chain_failed : (request : VerifyRequest) (error : OfflineError) (link : Link) → link_of error ≡ Some link
     → IsChainOf request (Err error) → Judged {A = LoggedEntry} (HoldsOfVerify request) chain_links (Err error)
 chain_failed request error link named (inl memory) =
     absurd (no_link link (subst (λ (e : OfflineError). link_of e ≡ Some link) (err_is error Memory memory) named))

@@ -1,8 +1,9 @@
 -- What the words of the command line ask for.
 use Rattle.std.specs.Prelude.{◌≡◌, ℕ, ◌≤◌, List, [], ◌∷◌, codes, decimal, ⊤}
 use Rattle.sig_program.specs.declared.invocation.Invocation.{Invocation}
-use Rattle.sig_program.specs.declared.invocation.Invocation.TheVariants.{Reply, Demo}
+use Rattle.sig_program.specs.declared.invocation.Invocation.TheVariants.{Reply, Explanation, Demo}
 use Rattle.sig_program.specs.Command.{Names}
+use Rattle.sig_program.specs.Explained.{IsExplain, NamesExplained}
 
 -- from 1 to 4096
 pub record IsDemoCount (count : ℕ) : Type 0 where
@@ -21,12 +22,18 @@ pub record IsDemo (words : List (List ℕ)) (count : ℕ) : Type 0 where
 -- the words ask for this
 abbrev pub Invokes : List (List ℕ) → Invocation → Type 0
 Invokes words (Reply command) = Names words command
+Invokes words (Explanation what) = NamesExplained words what
 Invokes words (Demo count) = IsDemo words count
 
 abbrev pub IsInvocation : List (List ℕ) → Type 0
 IsInvocation words = (invocation : Invocation) × Invokes words invocation
 
+-- for private clauses: the words are not those of an explanation, and not those of `demo`
+abbrev pub IsNeither : List (List ℕ) → Type 0
+IsNeither words = (¬ IsExplain words) × ((count : ℕ) → ¬ IsDemo words count)
+
 -- for private clauses: the number of entries is one that `demo` takes
 abbrev pub HasCount : Invocation → Type 0
 HasCount (Reply command) = ⊤
+HasCount (Explanation what) = ⊤
 HasCount (Demo count) = IsDemoCount count

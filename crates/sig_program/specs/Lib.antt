@@ -1,5 +1,8 @@
 pub mod Command
 pub mod Demo
+pub mod Explained
+pub mod ExplainedReply
+pub mod Explanation
 pub mod Invocation
 pub mod ConsistencyLink
 pub mod Fronts

@@ -4,10 +4,12 @@ use Rattle.std.specs.Io.KnownBytes.{Appends}
 use Rattle.std.specs.List.{AllByRecursion}
 use Rattle.sig_base.specs.Stream.{Rose}
 use Rattle.sig_program.specs.Demo.{demo_reply}
+use Rattle.sig_program.specs.ExplainedReply.{IsExplained}
 use Rattle.sig_program.specs.Invocation.{Invokes, IsInvocation}
 use Rattle.sig_request.specs.Limit.{TakesRequest}
 use Rattle.sig_program.specs.Reply.{IsReply}
 use Rattle.sig_program.specs.declared.command.Command.{Command}
+use Rattle.sig_program.specs.declared.explained.Explained.{Explained}
 use Rattle.sig_program.specs.declared.invocation.Invocation.{Invocation}
 use Rattle.sig_program.specs.declared.invocation.Invocation.TheVariants as invocation
 use Rattle.sig_reply.specs.declared.reply.Reply.{Reply}
@@ -22,9 +24,16 @@ pub record RepliesTo (command : Command) (old new : Option (List ℕ)) (reply : 
   pub request : TakesRequest old new text
   pub meant : IsReply command text reply
 
+-- the command's reply to the request that was taken from the source, and its explanation
+pub record ExplainsTo (what : Explained) (old new : Option (List ℕ)) (reply : Reply) : Type 0 where
+  pub text : List ℕ
+  pub request : TakesRequest old new text
+  pub meant : IsExplained what text reply
+
 -- the reply to what the words ask for: to a request that was taken, or the lines of `demo`, for which nothing is taken
 abbrev pub IsReplyOf : Invocation → Option (List ℕ) → Option (List ℕ) → Reply → Type 0
 IsReplyOf (invocation.Reply command) old new reply = RepliesTo command old new reply
+IsReplyOf (invocation.Explanation what) old new reply = ExplainsTo what old new reply
 IsReplyOf (invocation.Demo count) old new reply = (new ≡ old) × (reply ≡ demo_reply count)
 
 -- the run replied to what the words ask for, and wrote the whole reply and nothing else

@@ -6,6 +6,7 @@ use Rattle.sig_base.specs.Scheme.{name_of}
 use Rattle.sig_base.specs.declared.checker.Operation.TheVariants.{Message, Prehash, Point, Certificate}
 use Rattle.sig_policy.specs.Refusals.{any_of}
 use Rattle.sig_policy.specs.Requests.{request_holds}
+use Rattle.sig_verify.specs.OfflineVerdict.{IsOffline, Outcome}
 use Rattle.sig_verify.specs.Links.{HoldsOf as HoldsOfInputs, Inputs, Outside, chain_links}
 use Rattle.sig_verify.specs.TrustChain.{IsValid, TrustChain}
 use Rattle.sig_verify.specs.Verdict.{Checker, PolicyOf}
@@ -42,6 +43,11 @@ outside request = record { checker = checker request; policy = policy request }
 -- what a link asks of a request of `verify`, of which all links before it hold
 abbrev pub HoldsOfVerify : VerifyRequest → Link → Type 0
 HoldsOfVerify request = HoldsOfInputs (outside request) (inputs request)
+
+-- the result of offline verification of a request's inputs, with the error that is refused
+abbrev pub IsOfflineOutcome : VerifyRequest → Outcome → Type 0
+IsOfflineOutcome request outcome =
+    IsOffline (checker request) (policy request) request.trusted_root request.now request.digest request.bundle outcome
 
 -- the links of `verify`: its request, and the chain of trust of its bundle
 abbrev pub verify_links : List Link

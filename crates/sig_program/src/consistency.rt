@@ -48,7 +48,21 @@ fn reply_to(alloc: Global, request: &ConsistencyRequest) -> Result<Reply, OutOfM
     ensures { (text : List ℕ) → IsRequestOf consistency_request text request.now
         → IfOk result (IsReply Consistency text) }
 {
-    match failing_link(alloc, request)? {
+    let verdict = failing_link(alloc, request)?;
+    reply_under(alloc, request, verdict)
+}
+
+/// The reply to a request of which this is the first link that fails, or none.
+pub(crate) fn reply_under(
+    alloc: Global,
+    request: &ConsistencyRequest,
+    verdict: Option<Link>,
+) -> Result<Reply, OutOfMemory>
+    requires { IsConsistencyVerdict request.now verdict }
+    ensures { (text : List ℕ) → IsRequestOf consistency_request text request.now
+        → IfOk result (IsReply Consistency text) }
+{
+    match verdict {
         Some(link) => refused(alloc, link),
         None => grown_reply(alloc, request),
     }
@@ -65,7 +79,10 @@ fn grown_reply(alloc: Global, request: &ConsistencyRequest) -> Result<Reply, Out
 
 /// The first link that fails of a request, or none.
 #[tactic(auto, using(crate::proofs::ConsistencyVerdicts::verdicts))]
-fn failing_link(alloc: Global, request: &ConsistencyRequest) -> Result<Option<Link>, OutOfMemory>
+pub(crate) fn failing_link(
+    alloc: Global,
+    request: &ConsistencyRequest,
+) -> Result<Option<Link>, OutOfMemory>
     ensures { IfOk result (IsConsistencyVerdict request.now) }
 {
     if let Some(link) = failing_link_of(

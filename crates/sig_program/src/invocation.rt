@@ -1,8 +1,9 @@
 //! What the words of the command line ask for.
 ghost use Rattle.std.specs.Prelude.{◌≡◌, ℕ, MatchOption};
-ghost use Rattle.sig_program.specs.Invocation.{IsCountWord, IsDemo, IsInvocation, Invokes};
+ghost use Rattle.sig_program.specs.Invocation.{IsCountWord, IsDemo, IsInvocation, IsNeither, Invokes};
 
 use crate::command::Command;
+use crate::explained::Explained;
 use itoa::Buffer;
 use sig_base::Text;
 use sig_demo::MOST_ENTRIES;
@@ -12,6 +13,8 @@ use sig_demo::MOST_ENTRIES;
 pub enum Invocation {
     /// The reply to a request.
     Reply(Command),
+    /// The reply to a request, and why.
+    Explanation(Explained),
     /// `demo N`: `log` at work, on a made log of so many entries.
     Demo(u64),
 }
@@ -24,17 +27,29 @@ impl Invocation {
     {
         match Command::named(words) {
             Some(command) => Some(Invocation::Reply(command)),
-            None => match demo_count(words) {
-                Some(count) => Some(Invocation::Demo(count)),
-                None => None,
-            },
+            None => explanation_or_demo(words),
         }
+    }
+}
+
+/// What words that name no command ask for; `None` if and only if that is no explanation, and not `demo`. It takes no
+/// memory.
+#[tactic(auto, using(crate::proofs::Invocations::invocations))]
+fn explanation_or_demo(words: &[Text]) -> Option<Invocation>
+    ensures { MatchOption result (IsNeither words.now) (Invokes words.now) }
+{
+    match Explained::named(words) {
+        Some(what) => Some(Invocation::Explanation(what)),
+        None => match demo_count(words) {
+            Some(count) => Some(Invocation::Demo(count)),
+            None => None,
+        },
     }
 }
 
 /// The number of entries that `demo` is asked for; `None` if and only if the words are not `demo` and a number from 1
 /// to 4096. It takes no memory.
-#[tactic(auto, using(crate::proofs::Invocations::invocations, crate::proofs::Runs::naming))]
+#[tactic(auto, using(crate::proofs::Invocations::invocations, crate::proofs::Naming::naming))]
 fn demo_count(words: &[Text]) -> Option<u64>
     ensures { MatchOption result ((count : ℕ) → ¬ IsDemo words.now count) (IsDemo words.now) }
 {

@@ -35,7 +35,20 @@ pub fn log_reply(alloc: Global, request: &[u8]) -> Result<Reply, OutOfMemory>
 fn reply_to(alloc: Global, request: &LogRequest) -> Result<Reply, OutOfMemory>
     ensures { (text : List ℕ) → IsRequestOf log_request text request.now → IfOk result (IsReply Log text) }
 {
-    match failing_link(alloc, request)? {
+    let verdict = failing_link(alloc, request)?;
+    reply_under(alloc, request, verdict)
+}
+
+/// The reply to a request of which this is the first link that fails, or none.
+pub(crate) fn reply_under(
+    alloc: Global,
+    request: &LogRequest,
+    verdict: Option<Link>,
+) -> Result<Reply, OutOfMemory>
+    requires { IsLogVerdict request.now verdict }
+    ensures { (text : List ℕ) → IsRequestOf log_request text request.now → IfOk result (IsReply Log text) }
+{
+    match verdict {
         Some(link) => refused(alloc, link),
         None => logged_reply(alloc, request),
     }
@@ -57,7 +70,7 @@ fn logged_reply(alloc: Global, request: &LogRequest) -> Result<Reply, OutOfMemor
 
 /// The first link that fails of a request, or none.
 #[tactic(auto, using(crate::proofs::LogVerdicts::verdicts))]
-fn failing_link(alloc: Global, request: &LogRequest) -> Result<Option<Link>, OutOfMemory>
+pub(crate) fn failing_link(alloc: Global, request: &LogRequest) -> Result<Option<Link>, OutOfMemory>
     ensures { IfOk result (IsLogVerdict request.now) }
 {
     let proof = &request.proof;

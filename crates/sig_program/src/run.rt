@@ -22,6 +22,8 @@ use crate::command::Command;
 use crate::consistency::consistency_reply;
 use crate::consistency_questions::consistency_questions;
 use crate::demo::demo;
+use crate::explain::{explained_reply, long_reply};
+use crate::explained::Explained;
 use crate::invocation::Invocation;
 use crate::laws::lists;
 use crate::log::log_reply;
@@ -89,6 +91,11 @@ impl From<OutOfMemory> for NoReply {
 /// `accepted`, with status 0; else `refused NAME` for the first link that fails whatever signatures are accepted, and
 /// `refused request` if the bytes of the request, of the list and of `,"accepted":` would be more than 2^24 together, and
 /// of `gate` also if the signatures, each counted as often as a bundle asks for it, have more than 2^26 bytes.
+///
+/// `explain` before one of the first six commands reads the same request, and writes the lines of the command's reply,
+/// with its status; then, as the last line, what the links were about: of the first that fails its name, why it fails and
+/// what it compares, and where all hold what was verified; of `witness` this of each update, of `gate` of each bundle. The
+/// line is one JSON object without white space, whose members come in byte order.
 ///
 /// `demo N`, N from 1 to 4096 in decimal without leading zeros, reads nothing, and writes three lines with status 0:
 /// `entries N`, `root HEX` and `logged I N`, of [`demo`].
@@ -176,6 +183,12 @@ fn reply_for<S: Source>(
         Invocation::Reply(command) => match read_request(alloc, source) {
             Ok(text) => Ok(reply_of(alloc, command, text.as_slice())?),
             Err(ReadFault::TooLong) => Ok(refused(alloc, Link::Request)?),
+            Err(ReadFault::Failed) => Err(NoReply::Failed),
+            Err(ReadFault::OutOfMemory) => Err(NoReply::OutOfMemory),
+        },
+        Invocation::Explanation(what) => match read_request(alloc, source) {
+            Ok(text) => Ok(explained_reply(alloc, what, text.as_slice())?),
+            Err(ReadFault::TooLong) => Ok(long_reply(alloc)?),
             Err(ReadFault::Failed) => Err(NoReply::Failed),
             Err(ReadFault::OutOfMemory) => Err(NoReply::OutOfMemory),
         },

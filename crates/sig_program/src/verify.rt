@@ -6,7 +6,7 @@ ghost use Rattle.sig_verify.specs.Links.{chain_links};
 ghost use Rattle.sig_program.specs.Link.{EveryLinkHolds};
 ghost use Rattle.sig_program.specs.Reply.{IsEntryIn, IsReply, IsVerifiedReply};
 ghost use Rattle.sig_program.specs.ProofOf.{IsProofOf};
-ghost use Rattle.sig_program.specs.VerifyLink.{HoldsOfVerify, IsTrusted};
+ghost use Rattle.sig_program.specs.VerifyLink.{HoldsOfVerify, IsOfflineOutcome, IsTrusted};
 ghost use Rattle.sig_program.specs.declared.command.Command.TheVariants.{Verify};
 ghost use Rattle.sig_request.specs.ReadFrom.{IsRequestOf};
 ghost use Rattle.sig_request.specs.VerifyRequest.{verify_request};
@@ -60,7 +60,7 @@ fn reply_to(alloc: Global, request: &VerifyRequest) -> Result<Reply, OutOfMemory
 }
 
 /// The reply to a request of which every link holds, with the log entry of its bundle.
-fn verified_reply(
+pub(crate) fn verified_reply(
     alloc: Global,
     request: &VerifyRequest,
     offline: &LoggedEntry,
@@ -78,10 +78,14 @@ fn verified_reply(
 }
 
 /// The log entry of the request's bundle, or the error of the first link of the chain of trust that fails.
-fn verify_chain(alloc: Global, request: &VerifyRequest) -> Result<LoggedEntry, OfflineError>
+pub(crate) fn verify_chain(
+    alloc: Global,
+    request: &VerifyRequest,
+) -> Result<LoggedEntry, OfflineError>
     ensures links { UnlessMemory OfflineError.OutOfMemory result
         (Judged (HoldsOfVerify request.entry.now) chain_links result) }
     ensures kept { IfOk result (λ offline. IsEntryIn request.entry.now offline) }
+    ensures steps { UnlessMemory OfflineError.OutOfMemory result (IsOfflineOutcome request.entry.now result) }
 {
     let now = request.now();
     // A refusal in full is never written, and may be longer than memory has room for.

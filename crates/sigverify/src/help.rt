@@ -19,6 +19,12 @@ usage: sigverify log < REQUEST
        sigverify questions audit < REQUEST
        sigverify questions witness < REQUEST
        sigverify questions gate < REQUEST
+       sigverify explain log < REQUEST
+       sigverify explain verify < REQUEST
+       sigverify explain consistency < REQUEST
+       sigverify explain audit < REQUEST
+       sigverify explain witness < REQUEST
+       sigverify explain gate < REQUEST
        sigverify demo N
        sigverify --help | --version
 
@@ -184,6 +190,20 @@ commands:
          with each signature as often as a bundle asks for it, would have more
          than 2^26 bytes.
 
+  explain log, explain verify, explain consistency
+         Why is this the reply of the command? The request is the command's own.
+         The reply is that of the command, and behind it one line, a JSON object.
+         Where a link fails, it has
+           link        its name, as the reply has it
+           cause       list of words: the reason, the most general word first
+           path, why   of the link request: which member is wrong, and how
+         and what the link compares; where every link holds, what was verified.
+         Numbers are texts of decimal digits. The status is the command's.
+  explain audit, explain witness, explain gate
+         The same of these: of audit with the index of the head or of the
+         watched entry; of witness a list with an object for each update; of
+         gate a list of the artifacts, each with an object for each bundle.
+
   demo N Does it work? N is how many entries a log has that the program makes up,
          from 1 to 4096 in decimal digits. Nothing is read. The reply is three
          lines on standard output:
@@ -192,7 +212,8 @@ commands:
            logged INDEX N      the reply of log to a request for the entry in
                                the middle
 
-docs/LINKS.md says of each link what was tested, and what to look at first.
+docs/LINKS.md says of each link what was tested, what to look at first, and
+what explain shows of it.
 
 status:
   0   every link holds; of questions, the list is written

@@ -1,0 +1,89 @@
+//! `explain` before a command: the lines of its reply, with its status, and one line that says why.
+//!
+//! ```text
+//! refused note-match
+//! {"cause":["ConsistencyProofError","MismatchedRoot"],"link":"note-match","note":{..},"proof":{..}}
+//! ```
+//!
+//! A module for each command that has its own links makes reply and explanation of one reading of the request; those of
+//! `audit`, `witness` and `gate` are made by the crates of these commands.
+ghost use Rattle.std.specs.Prelude.{◌≡◌, IfOk};
+ghost use Rattle.sig_program.specs.ExplainedReply.{IsExplained, long_explained};
+ghost use Rattle.sig_program.specs.Explanation.{HasOneExplanation};
+ghost use Rattle.sig_program.specs.declared.explained.Explained.TheVariants.{Audit, Consistency, Gate, Log, Witness};
+
+use crate::explain_consistency::explain_consistency;
+use crate::explain_log::explain_log;
+use crate::explain_verify::explain_verify;
+use crate::explained::Explained;
+use crate::explanation::{explained_by, refused_text};
+use sig_audit_command::audit_reply;
+use sig_base::OutOfMemory;
+use sig_explain_audit::audit_explanation;
+use sig_explain_gate::gate_explanation;
+use sig_explain_witness::witness_explanation;
+use sig_gate_command::gate_reply;
+use sig_reply::Reply;
+use sig_request_fault::RequestFault;
+use sig_witness_command::witness_reply;
+use std::alloc::Global;
+
+/// Returns the reply of a command to a request's text, with its explanation as the last line: what stands before that line
+/// is the command's reply, and the status is the command's. Fails only if out of memory.
+pub fn explained_reply(alloc: Global, what: Explained, request: &[u8]) -> Result<Reply, OutOfMemory>
+    ensures reply { IfOk result (IsExplained what request.now) }
+    // A text has no other explanation.
+    ensures log { HasOneExplanation Log }
+    ensures consistency { HasOneExplanation Consistency }
+{
+    explain(alloc, what, request)
+}
+
+/// The explained reply of a command to a request's text.
+fn explain(alloc: Global, what: Explained, request: &[u8]) -> Result<Reply, OutOfMemory>
+    ensures { IfOk result (IsExplained what request.now) }
+{
+    match what {
+        Explained::Log => explain_log(alloc, request),
+        Explained::Verify => explain_verify(alloc, request),
+        Explained::Consistency => explain_consistency(alloc, request),
+        Explained::Audit => explain_audit(alloc, request),
+        Explained::Witness => explain_witness(alloc, request),
+        Explained::Gate => explain_gate(alloc, request),
+    }
+}
+
+/// Returns `refused request`, and that the text is too long, with status 2: the explained reply of each command to a text
+/// of more than 2^24 bytes. Fails only if out of memory.
+pub fn long_reply(alloc: Global) -> Result<Reply, OutOfMemory>
+    ensures { IfOk result (λ reply. reply ≡ long_explained) }
+{
+    refused_text(alloc, &RequestFault::TooLong)
+}
+
+/// The explained reply of `audit`.
+fn explain_audit(alloc: Global, request: &[u8]) -> Result<Reply, OutOfMemory>
+    ensures { IfOk result (IsExplained Audit request.now) }
+{
+    let plain = audit_reply(alloc, request)?;
+    let explanation = audit_explanation(alloc, request)?;
+    explained_by(alloc, &plain, &explanation)
+}
+
+/// The explained reply of `witness`.
+fn explain_witness(alloc: Global, request: &[u8]) -> Result<Reply, OutOfMemory>
+    ensures { IfOk result (IsExplained Witness request.now) }
+{
+    let plain = witness_reply(alloc, request)?;
+    let explanation = witness_explanation(alloc, request)?;
+    explained_by(alloc, &plain, &explanation)
+}
+
+/// The explained reply of `gate`.
+fn explain_gate(alloc: Global, request: &[u8]) -> Result<Reply, OutOfMemory>
+    ensures { IfOk result (IsExplained Gate request.now) }
+{
+    let plain = gate_reply(alloc, request)?;
+    let explanation = gate_explanation(alloc, request)?;
+    explained_by(alloc, &plain, &explanation)
+}

@@ -1,0 +1,51 @@
+//! The command `explain consistency`: the reply of `consistency`, and why.
+ghost use Rattle.std.specs.Prelude.{ℕ, IfOk, List, None};
+ghost use Rattle.sig_program.specs.ExplainedReply.{IsExplained};
+ghost use Rattle.sig_program.specs.declared.explained.Explained.TheVariants.{Consistency};
+ghost use Rattle.sig_request.specs.ReadFrom.{IsReadFrom, IsRequestOf};
+ghost use Rattle.sig_request.specs.ConsistencyRequest.{consistency_request};
+
+use crate::consistency::{failing_link, reply_under};
+use crate::explanation::{explained_by, refused_text};
+use sig_base::OutOfMemory;
+use sig_explain_log::consistency_explanation;
+use sig_reply::Reply;
+use sig_request::ConsistencyRequest;
+use sig_request_fault::consistency_request_fault;
+use std::alloc::Global;
+
+/// Returns the reply of `consistency` to a request's text, and its explanation as the last line: what is wrong with a text
+/// that is no request; of a request the first link that fails with what it compares, or what was verified. Fails only if
+/// out of memory.
+pub fn explain_consistency(alloc: Global, text: &[u8]) -> Result<Reply, OutOfMemory>
+    ensures { IfOk result (IsExplained Consistency text.now) }
+{
+    let Some(request) = ConsistencyRequest::read(alloc, text)? else {
+        return explain_fault(alloc, text);
+    };
+    let reply = explain_request(alloc, &request);
+    drop(request);
+    reply
+}
+
+/// The explained reply to a text that is no request.
+fn explain_fault(alloc: Global, text: &[u8]) -> Result<Reply, OutOfMemory>
+    requires { IsReadFrom consistency_request text.now None }
+    ensures { IfOk result (IsExplained Consistency text.now) }
+{
+    match consistency_request_fault(alloc, text)? {
+        Some(fault) => refused_text(alloc, &fault),
+        // Something is wrong with a text that is no request.
+        None => unreachable!(),
+    }
+}
+
+/// The explained reply to a request.
+fn explain_request(alloc: Global, request: &ConsistencyRequest) -> Result<Reply, OutOfMemory>
+    ensures { (text : List ℕ) → IsRequestOf consistency_request text request.now → IfOk result (IsExplained Consistency text) }
+{
+    let verdict = failing_link(alloc, request)?;
+    let plain = reply_under(alloc, request, verdict)?;
+    let explanation = consistency_explanation(alloc, request, verdict)?;
+    explained_by(alloc, &plain, &explanation)
+}
