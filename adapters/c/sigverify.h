@@ -25,7 +25,8 @@ extern "C" {
 
 /*
  * The commands. SIGVERIFY_QUESTIONS and a command, added, are that command's questions: which signatures its reply can
- * rest on, as the JSON list that a request has as `accepted`.
+ * rest on, as the JSON list that a request has as `accepted`. SIGVERIFY_EXPLAIN and a command, added, are that command's
+ * explained reply: its lines, and behind them one line, a JSON object that says why; the status is the command's.
  */
 #define SIGVERIFY_LOG 1         /* is this entry in the log, and does the log vouch for it? */
 #define SIGVERIFY_VERIFY 2      /* may this artifact be trusted, by this bundle? */
@@ -34,6 +35,7 @@ extern "C" {
 #define SIGVERIFY_WITNESS 5     /* which of these heads have grown from those that are kept? */
 #define SIGVERIFY_GATE 6        /* which of these artifacts are to be admitted? */
 #define SIGVERIFY_QUESTIONS 256
+#define SIGVERIFY_EXPLAIN 512
 
 /* The statuses. Of the first three the reply is written, and of the others nothing. */
 #define SIGVERIFY_HOLDS 0       /* every link of the command holds; of questions, the list is written */
@@ -53,7 +55,7 @@ uint32_t sigverify_version(void);
 /*
  * Writes a command's reply to a request, and returns its status.
  *
- *   command      a command, or SIGVERIFY_QUESTIONS and a command, added
+ *   command      a command, or SIGVERIFY_QUESTIONS and a command, added, or SIGVERIFY_EXPLAIN and a command
  *   request      the request, JSON: `request_len` bytes, which may be in read-only memory, and may be read by several
  *                calls at once. They have to stay as they are until the call returns.
  *   request_len  how many they are; the request need not end with 0
@@ -73,7 +75,8 @@ uint32_t sigverify_version(void);
  * No pointer is NULL, also where its length is 0. No length is above 2^63 - 1. All memory stays the caller's: the call
  * frees none of it, and keeps no pointer.
  *
- * A reply has at most 128 bytes, unless it is a list of questions, which has at most 2^24, or shows that SHA-256 is broken.
+ * A reply has at most 128 bytes, unless it is a list of questions, which has at most 2^24, or that of witness or gate, or
+ * has an explanation, or shows that SHA-256 is broken.
  *
  * What the program that calls owes beside this:
  *

@@ -33,6 +33,9 @@ const (
 // Questions is the command that lists the signatures on which the reply of c can rest.
 func (c Command) Questions() Command { return c | C.SIGVERIFY_QUESTIONS }
 
+// Explain is the command whose reply is that of c, and behind it a line, a JSON object that says why.
+func (c Command) Explain() Command { return c | C.SIGVERIFY_EXPLAIN }
+
 // A Status says what a reply is.
 type Status int
 
@@ -48,7 +51,7 @@ var (
 	ErrNoMemory  = errors.New("sigverify: out of memory")
 )
 
-const firstRoom = 1 << 12 // for a reply; a list of questions can be longer
+const firstRoom = 1 << 12 // for a reply; a list of questions and an explanation can be longer
 
 // Reply returns what a command says to a request, with its status. Where err is not nil there is no reply.
 func Reply(command Command, request []byte) (Status, []byte, error) {

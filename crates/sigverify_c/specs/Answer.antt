@@ -1,19 +1,28 @@
 -- What a call gives back to C.
-use Rattle.std.specs.Prelude.{◌≡◌, ℕ, ◌<◌, ◌≤◌, List, ◌++◌, drop, length}
+use Rattle.std.specs.Prelude.{◌≡◌, ◌⊎◌, ℕ, ◌<◌, ◌≤◌, List, ◌++◌, drop, length}
+use Rattle.sig_program.specs.ExplainedReply.{IsExplained}
 use Rattle.sig_program.specs.Reply.{IsReply}
 use Rattle.sig_program.specs.declared.command.Command.{Command}
+use Rattle.sig_program.specs.declared.explained.Explained.{Explained}
 use Rattle.sig_reply.specs.declared.reply.Reply.{Reply}
-use Rattle.sigverify_c.specs.Number.{number_of}
+use Rattle.sigverify_c.specs.Number.{command_of, explanation_number, number_of}
+use Rattle.sigverify_c.specs.declared.numbered.Numbered.{Numbered}
+use Rattle.sigverify_c.specs.declared.numbered.Numbered.TheVariants.{Explanation}
 
 -- EX_TEMPFAIL of sysexits.h: the reply has more bytes than there is room for
 abbrev pub room_status : ℕ
 room_status = 75
 
--- the reply of the command of this number to the request
-pub record IsReplyTo (number : ℕ) (request : List ℕ) (reply : Reply) : Type 0 where
-  pub command : Command
-  pub named : number ≡ number_of command
-  pub meant : IsReply command request reply
+-- the reply of the command of this number to the request, or its explained reply
+abbrev pub IsReplyTo : ℕ → List ℕ → Reply → Type 0
+IsReplyTo number request reply =
+    ((command : Command) × (number ≡ number_of command) × IsReply command request reply)
+    ⊎ ((what : Explained) × (number ≡ explanation_number what) × IsExplained what request reply)
+
+-- for private clauses: its reply
+abbrev pub IsReplyOf : Numbered → List ℕ → Reply → Type 0
+IsReplyOf (Explanation what) request reply = IsExplained what request reply
+IsReplyOf other request reply = IsReply (command_of other) request reply
 
 -- the whole reply is at the beginning of the room, whose other bytes are as they were
 pub record IsAnswered (number : ℕ) (request room_old room_new : List ℕ) (written status : ℕ) : Type 0 where

@@ -1,12 +1,14 @@
--- The commands by their numbers.
-use Rattle.std.specs.Prelude.{◌≡◌, ℕ}
+-- The commands and their explanations by their numbers.
+use Rattle.std.specs.Prelude.{◌≡◌, ◌⊎◌, ◌+◌, ℕ}
+use Rattle.sig_program.specs.Explained.{explained_command}
 use Rattle.sig_program.specs.declared.command.Command.{Command}
 use Rattle.sig_program.specs.declared.command.Command.TheVariants as command
+use Rattle.sig_program.specs.declared.explained.Explained.{Explained}
 use Rattle.sigverify_c.specs.declared.numbered.Numbered.{Numbered}
 use Rattle.sigverify_c.specs.declared.numbered.Numbered.TheVariants.{Log, Verify, Consistency, Audit, Witness, Gate}
 use Rattle.sigverify_c.specs.declared.numbered.Numbered.TheVariants.{LogQuestions, VerifyQuestions}
 use Rattle.sigverify_c.specs.declared.numbered.Numbered.TheVariants.{ConsistencyQuestions, AuditQuestions, WitnessQuestions}
-use Rattle.sigverify_c.specs.declared.numbered.Numbered.TheVariants.{GateQuestions}
+use Rattle.sigverify_c.specs.declared.numbered.Numbered.TheVariants.{GateQuestions, Explanation}
 
 -- the number that C has for a command: that of its questions is 256 more
 abbrev pub number_of : Command → ℕ
@@ -23,9 +25,15 @@ number_of command.AuditQuestions = 260
 number_of command.WitnessQuestions = 261
 number_of command.GateQuestions = 262
 
--- a command has the number
+-- that of its explanation is 512 more
+abbrev pub explanation_number : Explained → ℕ
+explanation_number what = 512 + number_of (explained_command what)
+
+-- a command has the number, or an explanation
 abbrev pub IsNumber : ℕ → Type 0
-IsNumber number = (command : Command) × (number ≡ number_of command)
+IsNumber number =
+    ((command : Command) × (number ≡ number_of command))
+    ⊎ ((what : Explained) × (number ≡ explanation_number what))
 
 -- for private clauses: the command of sig_program
 abbrev pub command_of : Numbered → Command
@@ -41,3 +49,9 @@ command_of ConsistencyQuestions = command.ConsistencyQuestions
 command_of AuditQuestions = command.AuditQuestions
 command_of WitnessQuestions = command.WitnessQuestions
 command_of GateQuestions = command.GateQuestions
+command_of (Explanation what) = explained_command what
+
+-- for private clauses: this has the number
+abbrev pub HasNumber : ℕ → Numbered → Type 0
+HasNumber number (Explanation what) = number ≡ explanation_number what
+HasNumber number other = number ≡ number_of (command_of other)

@@ -12,8 +12,8 @@ use std::alloc::Global;
 /// again).
 pub const NO_ROOM: u8 = 75;
 
-/// Writes the reply of the command of this number to a request, and returns its status; with `written` the number of its
-/// bytes, also where they do not fit.
+/// Writes the reply of the command of this number to a request, or its explained reply, and returns its status; with
+/// `written` the number of its bytes, also where they do not fit.
 #[tactic(auto, using(crate::proofs::Answers::answers))]
 pub fn answer(
     alloc: Global,

@@ -1,4 +1,4 @@
-//! `sigverify_c`: the replies of the commands, as a static library for C.
+//! `sigverify_c`: the replies of the commands, and the explained ones, as a static library for C.
 //!
 //! An export takes references: what C hands over for one is a pointer, after that of a slice its length, and nothing
 //! for the allocator, which is the C program's own. [`answer`] is the library; an export calls it and says its clauses
@@ -17,10 +17,10 @@ mod numbered;
 
 use std::alloc::Global;
 
-/// Writes the reply of the command of this number to a request, and returns its status.
+/// Writes the reply of the command of this number to a request, or its explained reply, and returns its status.
 ///
 /// - 0, 1, 2: the status of the reply, whose bytes are the first of `reply`; `written` is how many they are.
-/// - 64: no command has the number. No memory was taken, and `written` is 0.
+/// - 64: no command has the number, and no explanation. No memory was taken, and `written` is 0.
 /// - 71: out of memory; `written` is 0.
 /// - 75: the reply has more bytes than `reply` has room for, and `written` is how many.
 ///

@@ -1,13 +1,15 @@
-//! The commands by their numbers.
+//! The commands and their explanations by their numbers.
 ghost use Rattle.std.specs.Prelude.{◌≡◌, IfOk, MatchOption};
-ghost use Rattle.sig_program.specs.Reply.{IsReply};
-ghost use Rattle.sigverify_c.specs.Number.{IsNumber, command_of, number_of};
+ghost use Rattle.sigverify_c.specs.Answer.{IsReplyOf};
+ghost use Rattle.sigverify_c.specs.Number.{HasNumber, IsNumber};
 
 use sig_audit_command::{audit_questions, audit_reply};
 use sig_base::OutOfMemory;
 use sig_gate_command::{gate_questions, gate_reply};
 use sig_program::consistency::consistency_reply;
 use sig_program::consistency_questions::consistency_questions;
+use sig_program::explain::explained_reply;
+use sig_program::explained::Explained;
 use sig_program::log::log_reply;
 use sig_program::log_questions::log_questions;
 use sig_program::verify::verify_reply;
@@ -16,7 +18,7 @@ use sig_reply::Reply;
 use sig_witness_command::{witness_questions, witness_reply};
 use std::alloc::Global;
 
-/// A command that has a number.
+/// What has a number: a command, or the explanation of one.
 #[derive(Clone, Copy)]
 pub enum Numbered {
     Log,
@@ -31,13 +33,14 @@ pub enum Numbered {
     AuditQuestions,
     WitnessQuestions,
     GateQuestions,
+    Explanation(Explained),
 }
 
 impl Numbered {
-    /// Returns the command of the number; `None` if and only if no command has it. It takes no memory.
+    /// Returns what has the number; `None` if and only if nothing has it. It takes no memory.
     #[tactic(auto, using(crate::proofs::Numbers::numbers))]
     pub fn of(number: u32) -> Option<Numbered>
-        ensures { MatchOption result (¬ IsNumber number) (λ its. number ≡ number_of (command_of its)) }
+        ensures { MatchOption result (¬ IsNumber number) (HasNumber number) }
     {
         match number {
             1 => Some(Numbered::Log),
@@ -52,13 +55,19 @@ impl Numbered {
             260 => Some(Numbered::AuditQuestions),
             261 => Some(Numbered::WitnessQuestions),
             262 => Some(Numbered::GateQuestions),
+            513 => Some(Numbered::Explanation(Explained::Log)),
+            514 => Some(Numbered::Explanation(Explained::Verify)),
+            515 => Some(Numbered::Explanation(Explained::Consistency)),
+            516 => Some(Numbered::Explanation(Explained::Audit)),
+            517 => Some(Numbered::Explanation(Explained::Witness)),
+            518 => Some(Numbered::Explanation(Explained::Gate)),
             _ => None,
         }
     }
 
-    /// Returns the command's reply to a request. Fails only if out of memory.
+    /// Returns its reply to a request. Fails only if out of memory.
     pub fn reply(self, alloc: Global, request: &[u8]) -> Result<Reply, OutOfMemory>
-        ensures { IfOk result (IsReply (command_of self) request.now) }
+        ensures { IfOk result (IsReplyOf self request.now) }
     {
         match self {
             Numbered::Log => log_reply(alloc, request),
@@ -73,6 +82,7 @@ impl Numbered {
             Numbered::AuditQuestions => audit_questions(alloc, request),
             Numbered::WitnessQuestions => witness_questions(alloc, request),
             Numbered::GateQuestions => gate_questions(alloc, request),
+            Numbered::Explanation(what) => explained_reply(alloc, what, request),
         }
     }
 }
