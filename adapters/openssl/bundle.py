@@ -8,7 +8,9 @@ import subprocess
 import sys
 import time
 
-from checked import MOST_BYTES, REFUSED, SIGVERIFY, answer, compact, library, reply
+import explain_words
+import pattern
+from checked import MOST_BYTES, REFUSED, SIGVERIFY, answer, compact, explains, library, put
 from start import NO_REPLY, reason, say, shown
 from times import seconds_of
 from words import misused, read_words, utf8, write
@@ -16,7 +18,8 @@ from words import misused, read_words, utf8, write
 HELP = """\
 usage: sigverify-bundle --trusted-root FILE [--bundle FILE] --certificate-identity TEXT
                         --certificate-oidc-issuer URL [--certificate-github-workflow-... TEXT] [--now TIME]
-                        [--print-request] [--sigverify PROGRAM] [--] ARTIFACT ...
+                        [--explain | --json] [--print-request] [--sigverify PROGRAM] [--] ARTIFACT ...
+       sigverify-bundle --certificate-identity-regexp REGEXP ...
        sigverify-bundle verify-bundle [--staging] ...
        sigverify-bundle --help
 
@@ -26,12 +29,18 @@ Verifies the Sigstore bundles of artifacts, each under the same policy: all of t
                                   that cosign, gh and sigstore-python keep
   --bundle FILE                   the bundle that came with the artifact; without it, ARTIFACT.sigstore.json
   --certificate-identity TEXT     or --identity: who has to have signed, an email, a URI or a name
+  --certificate-identity-regexp REGEXP
+                                  in place of --certificate-identity: a pattern of Python's re, which one such name has
+                                  to match as a whole. This match is the adapter's own, and is not proved: the reply is
+                                  to the other words, of which the issuer or one of the workflow has to be given
   --certificate-oidc-issuer URL   or --issuer: by whose word, the OIDC issuer
   --certificate-github-workflow-trigger, -sha, -name, -repository and -ref TEXT
                                   the event, commit, name, repository and reference of the workflow that signed
   --now TIME                      as 2023-12-14T00:00:00Z (RFC 3339), or in seconds since 1970; else by the clock
+  --explain                       write after the reply, in at most ten lines, why it is refused, or what was verified
+  --json                          write instead, after the reply, the line of JSON that `sigverify explain verify` gives
   --print-request                 write the request, with `accepted`, to standard output, and the reply to standard
-                                  error; of several artifacts a line each
+                                  error; of several artifacts a line each. Not beside a pattern: a request has none
   --sigverify PROGRAM             else that of this repository, or the installed one
   ARTIFACT                        a regular file; or its digest, as sha256:HEX or sha512:HEX; or - for standard input,
                                   if no file is there that has this name. After -- all are files, also one whose name
@@ -49,7 +58,7 @@ that of the first that is not trusted.
 
 RULES = {"identity": "--certificate-identity", "issuer": "--certificate-oidc-issuer",
          **{rule: f"--certificate-github-workflow-{rule}" for rule in ("trigger", "sha", "name", "repository", "ref")}}
-OTHERS = ["--trusted-root", "--bundle", "--now", "--sigverify"]
+OTHERS = ["--trusted-root", "--bundle", "--now", "--sigverify", pattern.WORD]
 NAMES = {"--identity": RULES["identity"], "--issuer": RULES["issuer"],
          **{word: word for word in [*RULES.values(), *OTHERS]}}
 
@@ -60,7 +69,9 @@ def words_of(given):
     words, artifacts = read_words(given[is_protocol:], NAMES)
     if "--staging" in words and not is_protocol:
         misused("--staging is a word after verify-bundle alone")
-    for name in "--trusted-root", RULES["identity"], RULES["issuer"]:
+    if pattern.WORD in words:
+        check_pattern(words)
+    for name in ["--trusted-root"] + [RULES["identity"], RULES["issuer"]] * (pattern.WORD not in words):
         if name not in words:
             misused(f"{name} is missing")
     if not artifacts:
@@ -68,6 +79,16 @@ def words_of(given):
     if len(artifacts) > 1 and "--bundle" in words:
         misused(f"--bundle is a word beside one artifact alone, and not {len(artifacts)}")
     return words, artifacts
+
+
+def check_pattern(words):
+    """A pattern stands in the place of the identity, beside another rule."""
+    if RULES["identity"] in words:
+        misused(f"{pattern.WORD} is a word in the place of {RULES['identity']}")
+    if not any(word in words for word in RULES.values()):
+        misused(f"{RULES['issuer']} is missing beside {pattern.WORD}, or a word of the workflow")
+    if "--print-request" in words:
+        misused(f"--print-request is not a word beside {pattern.WORD}, since a request has no pattern")
 
 
 # The parts of a request.
@@ -115,10 +136,10 @@ def digest_of(artifact, is_file):
 
 
 def policy_of(words):
-    """All rules whose words are given. That of the identity names the issuer too."""
+    """All rules whose words are given, but the pattern. That of the identity names the issuer too."""
     texts = {rule: utf8(word, words[word]) for rule, word in RULES.items() if word in words}
-    signer = {rule: texts.pop(rule) for rule in ("identity", "issuer")}
-    return {"all": [signer, *({rule: text} for rule, text in texts.items())]}
+    signer = {rule: texts.pop(rule) for rule in ("identity", "issuer") if rule in texts}
+    return {"all": [each for each in (signer, *({rule: text} for rule, text in texts.items())) if each]}
 
 
 def requests_of(words):
@@ -153,18 +174,44 @@ def program_of(words):
     return os.path.join(CRATES, "sigverify", "out", "sigverify")
 
 
-def line_of(words, program, request, artifact, is_file):
+def policy_refused(found, names, wanted):
+    """The answer where no name matches the pattern, in the form of an explanation."""
+    members = {"cause": ["Policy", "Pattern"], "link": "policy", "names": names, "pattern": wanted.pattern}
+    return found._replace(reply=b"refused policy\n", status=1, explanation=compact(members) + b"\n")
+
+
+def answer_of(words, program, request, wanted):
+    """The answer to a request, and what is to be said of a pattern. Where it is verified, and a pattern is wanted, the names
+    have to match it too."""
+    found = answer(program, "verify", request, VERIFIED, explains(words) or wanted is not None)
+    if wanted is None or found.status != 0:
+        return found, None
+    names = explain_words.read(found.explanation).get("certificate", {}).get("names", [])
+    if pattern.matches(wanted, names):
+        return found, None
+    found = policy_refused(found, names, wanted)
+    return found, None if explains(words) else explain_words.words_of(explain_words.read(found.explanation))
+
+
+def line_of(words, program, request, wanted, artifact, is_file):
     """The line of one of several artifacts, and its status; of an end without a reply its reason, on standard error."""
     name = os.fsencode(artifact).decode("utf-8", "backslashreplace")
     try:
-        answered, line, status = answer(program, "verify", request(artifact, is_file), VERIFIED)
+        found, said = answer_of(words, program, request(artifact, is_file), wanted)
     except SystemExit as error:
         say("sigverify-bundle", f"{name}: {reason(error)}")
         return NO_REPLY
-    if "--print-request" in words:
-        write(1, answered + b"\n")
-    write(2 if "--print-request" in words else 1, line.rstrip(b"\n") + f" {shown(name)}\n".encode())
-    return status
+    if said:
+        say("sigverify-bundle", f"{name}: {said}")
+    return put(words, "verify", found, found.reply.rstrip(b"\n") + f" {shown(name)}\n".encode())
+
+
+def one(words, request, wanted, artifact, is_file):
+    """The status of the reply of the one artifact, once that is written."""
+    found, said = answer_of(words, words.get("--sigverify", SIGVERIFY), request(artifact, is_file), wanted)
+    if said:
+        say("sigverify-bundle", said)
+    return put(words, "verify", found, found.reply)
 
 
 def main(given):
@@ -173,8 +220,9 @@ def main(given):
         write(1, HELP.encode())
         return 0
     words, artifacts = words_of(given)
+    wanted = pattern.compiled(utf8(pattern.WORD, words[pattern.WORD])) if pattern.WORD in words else None
     request = requests_of(words)
     if len(artifacts) == 1:
-        return reply(words, "verify", request(*artifacts[0]), VERIFIED)
+        return one(words, request, wanted, *artifacts[0])
     program = program_of(words)
-    return next(filter(None, [line_of(words, program, request, *each) for each in artifacts]), 0)
+    return next(filter(None, [line_of(words, program, request, wanted, *each) for each in artifacts]), 0)

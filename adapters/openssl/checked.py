@@ -1,4 +1,5 @@
 """Asks sigverify for the signatures of a request, OpenSSL for the genuine ones, and sigverify for the reply."""
+import collections
 import functools
 import importlib.util
 import json
@@ -7,18 +8,22 @@ import re
 import subprocess
 import sys
 
+import explain_words
 from genuine import is_genuine
 from words import misused, read_words, write
 
 MOST_BYTES = 1 << 24  # of a request
 SIGVERIFY = os.path.join(os.path.dirname(os.path.realpath(__file__)), "..", "..", "sigverify")
 HELP = """\
-usage: sigverify-checked [--print-request] [--sigverify PROGRAM] COMMAND < REQUEST
+usage: sigverify-checked [--explain | --json] [--print-request] [--sigverify PROGRAM] COMMAND < REQUEST
        sigverify-checked --help
 
 Runs a command of sigverify on a request, of which OpenSSL verifies the signatures.
 
   COMMAND              %s
+  --explain            write after the reply, in at most ten lines, why it is refused, or what was verified; of witness
+                       this follows the state, which is to be kept without it
+  --json               write instead, after the reply, the line of JSON that `sigverify explain` gives
   --print-request      write the request, with `accepted`, to standard output, and the reply to standard error
   --sigverify PROGRAM  else that of this repository, or the installed one
 
@@ -27,10 +32,11 @@ The request is JSON of at most 2^24 bytes, without `accepted`, or with one that 
 Status: that of the reply, 0 if every link of the command holds, 1 and 2 if not; 3 there was no reply.
 """
 
-# What a reply is, by its status; the list of `questions` has status 0.
+# What a reply is, by its status; the list of `questions` has status 0, and `explain` writes a line of JSON after a reply.
 REFUSED = {1: b"refused [0-9a-z-]+\n", 2: b"refused request\n"}
 REFUSED_AT = {1: b"refused [0-9a-z-]+ [0-9]+\n", 2: b"refused request\n"}
 LIST = rb"(?s)\[.*\]\n"
+EXPLANATION = rb"\{[^\n]*\}\n"
 OF_ENTRIES = b"(?:(?:entry|prefix|prefixes) [0-9]+\n|other list\n|collision [0-9a-f]+ [0-9a-f]+\n)?"
 REPLIES = {command: {0: b"%s [0-9]+ [0-9]+\n%s" % (word, OF_ENTRIES), **REFUSED}
            for command, word in (("log", b"logged"), ("verify", b"verified"), ("consistency", b"consistent"))}
@@ -100,25 +106,63 @@ def genuine_of(command, listed):
         return sys.exit(f"no reply: what `questions {command}` wrote is no list of signatures")
 
 
-def answer(program, command, request, replies):
-    """The request with the rows that are accepted, the reply to it, and its status. The rows come before the last brace
-    of the request, byte for byte as listed, since sigverify lists what fits in there."""
+# A reply to a request with the rows that are accepted, its status, and the JSON that explains it, if that is asked for.
+Answer = collections.namedtuple("Answer", "request reply status explanation")
+
+
+def explains(words):
+    return "--explain" in words or "--json" in words
+
+
+def explained(program, command, request, replies):
+    """The reply, its status, and the line of JSON after it."""
+    patterns = {status: b"(?:%s)%s" % (reply, EXPLANATION) for status, reply in replies.items()}
+    said, status = run(program, ["explain", command], request, patterns)
+    end = said.rindex(b"\n", 0, -1) + 1
+    return said[:end], status, said[end:]
+
+
+def refused(program, command, request, said, replies):
+    """The line of JSON that explains a reply of `questions`, whatever is accepted. What `questions` alone refuses has no room
+    for the list beside it, and is explained as a request that is too long."""
+    for text in request, request.ljust(MOST_BYTES + 1):
+        *again, explanation = explained(program, command, text, replies)
+        if again == said:
+            return explanation
+    return sys.exit(f"no reply: {program} questions {command} and explain {command} say two different things")
+
+
+def answer(program, command, request, replies, with_explanation=False):
+    """The reply to a request. The rows come before its last brace, byte for byte as listed, since sigverify lists what fits
+    in there."""
     listed, status = run(program, ["questions", command], request, {**replies, 0: LIST})
     if status != 0:
-        return request, listed, status
+        explanation = refused(program, command, request, [listed, status], replies) if with_explanation else None
+        return Answer(request, listed, status, explanation)
     end = request.rindex(b"}")
     comma = b"" if request[:end].rstrip(b" \t\r\n").endswith(b"{") else b","  # after the members that there are
     answered = request[:end] + comma + b'"accepted":' + compact(genuine_of(command, listed)) + request[end:]
-    return answered, *run(program, [command], answered, replies)
+    if with_explanation:
+        return Answer(answered, *explained(program, command, answered, replies))
+    return Answer(answered, *run(program, [command], answered, replies), None)
+
+
+def put(words, command, found, line):
+    """Writes the line of a reply, and what explains it; and before them the request, if that is asked for."""
+    beside = 2 if "--print-request" in words else 1
+    members = explain_words.read(found.explanation) if explains(words) else None
+    if members is not None:
+        line += found.explanation if "--json" in words else explain_words.text(command, members)
+    if "--print-request" in words:
+        write(1, found.request + b"\n")
+    write(beside, line)
+    return found.status
 
 
 def reply(words, command, request, replies):
     """The status of the reply, once that is written."""
-    answered, line, status = answer(words.get("--sigverify", SIGVERIFY), command, request, replies)
-    if "--print-request" in words:
-        write(1, answered + b"\n")
-    write(2 if "--print-request" in words else 1, line)
-    return status
+    found = answer(words.get("--sigverify", SIGVERIFY), command, request, replies, explains(words))
+    return put(words, command, found, found.reply)
 
 
 def given_request():

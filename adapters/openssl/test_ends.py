@@ -10,7 +10,8 @@ from signed import Signed
 from test_common import ADAPTER, HERE, VERIFIED, compare_end, file_of, program_that, run, words_of
 
 PYTHON = "/usr/bin/python3"
-FILES = "sigverify-bundle", "start.py", "genuine.py", "words.py", "times.py", "checked.py", "bundle.py"
+MODULES = "genuine", "words", "times", "explain_table", "explain_words", "pattern", "checked", "bundle"
+FILES = "sigverify-bundle", "start.py", *[f"{name}.py" for name in MODULES]
 # By which OpenSSL has no algorithm.
 OPENSSL_SETTINGS = b"openssl_conf = all\n[all]\nproviders = named\n[named]\nbase = on\n[on]\nactivate = 1\n"
 FORGED = "import os\nos.write(1, b'verified 2 5\\n')\nos._exit(0)\n"
@@ -143,7 +144,7 @@ def check_imports(results, program):
     with tempfile.TemporaryDirectory() as folder:
         signed.write(folder, Signed())
         there = os.path.join(folder, "sigverify-bundle")
-        for name in "genuine", "words", "times", "checked", "bundle":
+        for name in MODULES:
             for each in FILES:
                 shutil.copy(os.path.join(HERE, each), folder)
             for does, said in {**RAISED, SPEECHLESS: ""}.items():
@@ -188,8 +189,7 @@ def planted(folder):
     for package in "cryptography", "encodings", "importlib":
         os.mkdir(os.path.join(folder, package))
         file_of(folder, os.path.join(package, "__init__.py"), FORGED.encode())
-    for name in ("sitecustomize", "usercustomize", "start", "genuine", "words", "times", "checked", "bundle", "json", "re",
-                 "os", "subprocess", "hashlib"):
+    for name in ("sitecustomize", "usercustomize", "start", *MODULES, "json", "re", "os", "subprocess", "hashlib", "signal"):
         file_of(folder, f"{name}.py", FORGED.encode())
     file_of(folder, "bash_env", b"echo verified 2 5; exit 0\n")
     file_of(folder, "openssl.cnf", OPENSSL_SETTINGS)

@@ -2,6 +2,8 @@
 import os
 import sys
 
+FLAGS = "--explain", "--json", "--print-request", "--staging"  # the words without a value
+
 
 def write(number, content):
     """All of the content to standard output, 1, or standard error, 2."""
@@ -36,7 +38,7 @@ def read_words(given, names):
             unnamed += [(each, True) for each in rest]
         elif not word.startswith("-") or word == "-":
             unnamed.append((word, False))
-        elif word in ("--print-request", "--staging"):
+        elif word in FLAGS:
             keep(word, word)
         elif name not in names:
             misused(f"{word} is not a word here, or not beside others; for a name put -- before it")

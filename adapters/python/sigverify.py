@@ -23,13 +23,13 @@ import time
 HOLDS, REFUSED, NO_REQUEST = 0, 1, 2
 NO_COMMAND, NO_MEMORY, NO_ROOM = 64, 71, 75
 
-# As sigverify.h numbers them; the questions of a command have QUESTIONS more.
+# As sigverify.h numbers them; the questions of a command have QUESTIONS more, its explained reply EXPLAIN more.
 COMMANDS = {"log": 1, "verify": 2, "consistency": 3, "audit": 4, "witness": 5, "gate": 6}
-QUESTIONS = 256
+QUESTIONS, EXPLAIN = 256, 512
 
 VERSION = 0x000100
 MOST_BYTES = 1 << 24  # of a request
-FIRST_ROOM = 1 << 12  # for a reply; a list of questions can be longer
+FIRST_ROOM = 1 << 12  # for a reply; a list of questions and an explanation can be longer
 
 HERE = os.path.dirname(os.path.realpath(__file__))
 TOP = os.path.join(HERE, "..", "..")
@@ -74,15 +74,15 @@ def is_current():
 
 def number_of(words):
     """The number of a command, by its words. ValueError: they are those of none."""
-    *questions, command = words
-    if command not in COMMANDS or questions not in ([], ["questions"]):
+    *before, command = words
+    if command not in COMMANDS or before not in ([], ["questions"], ["explain"]):
         raise ValueError(f"no command: {' '.join(words)}")
-    return COMMANDS[command] + QUESTIONS * len(questions)
+    return COMMANDS[command] + sum({"questions": QUESTIONS, "explain": EXPLAIN}[word] for word in before)
 
 
 def reply(words, request):
-    """The status, 0, 1 or 2, and the text of the reply of a command, as ["verify"] or ["questions", "verify"], to a
-    request, of bytes. ValueError: the words are no command's; MemoryError; OSError: there is no library."""
+    """The status, 0, 1 or 2, and the text of the reply of a command, as ["verify"], ["questions", "verify"] or
+    ["explain", "verify"], to a request, of bytes. ValueError: the words are no command's; MemoryError; OSError: there is no library."""
     number, request = number_of(words), bytes(request)
     room, written = FIRST_ROOM, ctypes.c_size_t()
     while True:

@@ -21,6 +21,12 @@ pub enum Command {
     AuditQuestions = 260,
     WitnessQuestions = 261,
     GateQuestions = 262,
+    ExplainLog = 513,
+    ExplainVerify = 514,
+    ExplainConsistency = 515,
+    ExplainAudit = 516,
+    ExplainWitness = 517,
+    ExplainGate = 518,
 }
 
 /// What a reply is.
@@ -57,7 +63,7 @@ impl std::error::Error for NoReply {}
 const NO_MEMORY: u8 = 71;
 const NO_ROOM: u8 = 75;
 
-/// Bytes of room for a reply; a list of questions can be longer.
+/// Bytes of room for a reply; a list of questions and an explanation can be longer.
 const FIRST_ROOM: usize = 1 << 12;
 
 extern "C" {
