@@ -1,6 +1,7 @@
 """Lines of the programs of cases, for runs in which an allocation is refused: of each call, and of each kind of result that it has in the table, the
 shortest line, and the longest of those that are not long. A kind of which each line is very long is left out."""
 import collections
+import json
 import pathlib
 import re
 
@@ -29,6 +30,15 @@ def kind_of(returned):
     first, *values = results.normalized(returned).split(" ")[:FIRST]
     first = "_" if re.fullmatch("[0-9a-f]{64}", first) else first
     return " ".join([first, *(word if re.fullmatch("[A-Za-z_@(),-]+|[A-Z][A-Z0-9_]+", word) else "_" for word in values)])
+
+
+def cause_of(call, returned):
+    """Of a run of `explain` that wrote its last line, the command, the link and the cause, which tell its kind too."""
+    written = returned.split(" ")[1] if call.startswith("run explain,") else ""
+    if not written.endswith(b"}\n".hex()):
+        return ""
+    shown = json.loads(bytes.fromhex(written).decode().splitlines()[-1])
+    return ", ".join(["", call.split(" ")[1], shown.get("link", "none"), *shown.get("cause", [])])
 
 
 def table(name):
@@ -79,7 +89,7 @@ def lines(name):
     """The lines of a program, and with each whether a run in which memory ran out may end so."""
     kinds = collections.defaultdict(list)
     for call, returned in table(name):
-        kinds[call.split(" ")[0], kind_of(returned)].append((call, returned))
+        kinds[call.split(" ")[0], kind_of(returned) + cause_of(call, returned)].append((call, returned))
     for (word, kind), rows in kinds.items():
         for call, returned in chosen(rows):
             case = Case(f"{name}_cases, {word}, {kind}", [], f"{call}\n".encode(), f"{returned}\n".encode(), 0)

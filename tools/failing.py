@@ -14,6 +14,7 @@ import threading
 import audit_requests
 import consistency_requests
 import demo_requests
+import explain_cases
 import fixture
 import gate_requests
 import log_requests
@@ -141,9 +142,16 @@ def gate_cases_made():
     yield made("questions gate", "questions gate", late, questions_cases.gate_reply(late))
 
 
+def explained(case):
+    """The same request, explained."""
+    text, status = explain_cases.explained(case.words[0], case.text.decode())
+    return Case("explain " + case.title, ["explain", *case.words], case.text, f"{text}\n".encode(), status)
+
+
 def demo_cases():
     yield Case("demo 3", ["demo", "3"], b"", demo_requests.shown(3).encode(), 0)
 
 
 def cases():
-    return [*log_cases(), *verify_cases_made(), *consistency_cases(), *audit_cases(), *witness_cases_made(), *gate_cases_made(), *demo_cases()]
+    found = [*log_cases(), *verify_cases_made(), *consistency_cases(), *audit_cases(), *witness_cases_made(), *gate_cases_made()]
+    return [*found, *(explained(case) for case in found if case.words[0] != "questions"), *demo_cases()]

@@ -36,6 +36,7 @@ import verify_cases  # noqa: E402
 import verify_certificate as certificates  # noqa: E402
 import verify_links as links  # noqa: E402
 import verify_rows  # noqa: E402
+import verify_rows_content  # noqa: E402
 import witness_requests  # noqa: E402
 from log_requests import NoRequest, rekor  # noqa: E402
 from x509_paths import inter  # noqa: E402
@@ -415,7 +416,8 @@ def texts_of(command):
 
 
 def verify_texts():
-    for group in verify_rows.GROUPS:
+    # Of the further rows those of SCTs, under which a row of the SCT's log is listed or not.
+    for group in [*verify_rows.GROUPS, verify_rows_content.scts]:
         group()
     return [row.text for row in verify_cases.ROWS]
 

@@ -1,8 +1,8 @@
 #!/usr/bin/env python3
 """Which table shows each kind of result of the public calls that can fail.
 
-    tools/results.py          ends with `N kinds, 0 missing`, and with status 1 where a kind is in no table
-    tools/results.py --list   says for each kind which program of cases shows it, and in how many lines
+    tools/results.py          ends with `N kinds, M names of explanations, 0 missing`, and with status 1 where a kind or a name is in no table
+    tools/results.py --list   says for each kind and each name which program of cases shows it, and in how many lines
 
 A proof lets a body give up: any contract is met by a body that returns out of memory for one fault alone. So a line of a stored run shows each
 kind of result of each call. A kind is a variant of the call's error type with the variants of what it keeps; numbers, texts and fields do not
@@ -15,6 +15,9 @@ import itertools
 import os
 import re
 import sys
+
+sys.dont_write_bytecode = True
+import explain_names
 
 TOP = os.path.join(os.path.dirname(os.path.abspath(__file__)), "..", "crates")
 
@@ -352,18 +355,32 @@ def stale(found):
     return [(key_of(named), variant) for named, variants in UNSHOWN.items() for variant in variants if (key_of(named), variant) in claimed]
 
 
+def explained():
+    """Each name that an explanation can show, with the number of lines of run_cases that show it."""
+    counts = collections.Counter()
+    with open(os.path.join(TOP, "run_cases", "stdin"), encoding="utf-8") as calls, open(os.path.join(TOP, "run_cases", "stdout"), encoding="utf-8") as lines:
+        for call, line in zip(calls, lines):
+            written = bytes.fromhex(line.split(" ")[1]).decode() if call.startswith("run explain,") and line.split(" ")[1] != "-" else ""
+            if written.endswith("}\n"):
+                counts.update(explain_names.names_in(written.splitlines()[-1]))
+    return counts
+
+
 def main(words):
-    found = list(rows())
+    found, names = list(rows()), explained()
     missing = ["%s: %s is in no line of %s" % (call, kind, word) for call, word, _, kind, count in found if count == 0]
     missing += ["%s::%s: no call of the list has it" % (key[1], variant) for key, variant in unclaimed(found)]
     missing += ["%s::%s: it is said to be in no table" % (key[1], variant) for key, variant in stale(found)]
+    missing += ["explain: %s is in no line of run" % name for name in explain_names.missing(set(names))]
     if words == ["--list"]:
         for call, word, _, kind, count in found:
             print("%s: %s: %s, %d lines" % (call, kind, word, count))
         for named, variants in UNSHOWN.items():
             for variant, reason in variants.items():
                 print("%s::%s: in no table: %s" % (named.split()[1], variant, reason))
-    print("".join(line + "\n" for line in missing) + "%d kinds, %d missing" % (len(found), len(missing)))
+        for name in sorted(explain_names.defined()):
+            print("explain: %s: %s" % (name, "run, %d lines" % names[name] if name in names else "in no table: " + explain_names.UNSHOWN[name]))
+    print("".join(line + "\n" for line in missing) + "%d kinds, %d names of explanations, %d missing" % (len(found), len(explain_names.defined()), len(missing)))
     return 1 if missing else 0
 
 

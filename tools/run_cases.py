@@ -5,7 +5,7 @@ What comes of a run is counted here by the contract of `run`: a request is read 
 the reply is written when it is whole, each call handed all that is left of it; a read that fails writes nothing, and a write that fails leaves
 what was written before it, with status 74 both times; words that are no command, and `demo N`, read nothing. The replies are those of
 tools/log_requests.py, tools/consistency_requests.py, tools/audit_requests.py, tools/witness_requests.py, tools/gate_requests.py,
-tools/questions_cases.py and, of `demo`, tools/demo_requests.py."""
+tools/questions_cases.py, tools/explain_cases.py and, of `demo`, tools/demo_requests.py."""
 import hashlib
 import json
 import sys
@@ -15,6 +15,8 @@ sys.dont_write_bytecode = True
 import audit_requests as audits
 import consistency_requests as growth
 import demo_requests
+import explain_cases
+import explain_names
 import gate_requests as gates
 import questions_cases
 import witness_requests as witnesses
@@ -27,6 +29,7 @@ FAULT = 74
 NEVER = 999_999
 COMMANDS = ("log", "verify", "consistency", "audit", "witness", "gate", "questions,log", "questions,verify", "questions,consistency", "questions,audit",
             "questions,witness", "questions,gate")
+EXPLAINED = ("explain,log", "explain,verify", "explain,consistency", "explain,audit", "explain,witness", "explain,gate")
 
 # Words that look like `demo N`.
 NOT_DEMO = (
@@ -72,6 +75,7 @@ TABLE = Table("run_cases")
 group = TABLE.group
 STEADY, WIDE = (64, NEVER), (64, NEVER, 256)
 LOGGED, REFUSED, USAGE = b"logged 0 1\n", b"refused request\n", b"usage\n"
+NOT_JSON = REFUSED + b'{"cause":["NotJson"],"link":"request"}\n'
 
 
 def run(words, text, source, sink, reply, status):
@@ -194,18 +198,56 @@ def gated_artifacts():
         both(request, WIDE[:2])
 
 
+MOST_OF_REQUEST, MOST_OF_EXPLANATION = 100_000, 60_000  # bytes
+
+
+def shortest_of_kinds(command):
+    """The shortest request of each kind of explanation, with what is written and the status."""
+    shortest = {}
+    for text in explain_cases.requests(command, False):
+        if len(text) > MOST_OF_REQUEST:
+            continue
+        found = explain_cases.explained(command, text)
+        kind = explain_names.kind_of(found[0].split("\n")[-1])
+        if len(found[0]) < MOST_OF_EXPLANATION and (kind not in shortest or len(text) < len(shortest[kind][0])):
+            shortest[kind] = text, *found
+    return shortest.values()
+
+
+def explained():
+    for words in EXPLAINED:
+        command = words.removeprefix("explain,")
+        group(f"`explain {command}`: the shortest request of each link with each cause and each list of members")
+        for text, reply, status in shortest_of_kinds(command):
+            run(words, text, WIDE[:2], (64, NEVER, 65536), reply.encode() + b"\n", status)
+
+
 def other_words():
     group("Both fail: the read comes first")
     run("log", FIRST, (64, 2), (1, 3, 256), LOGGED, 0)
     run("log", "", (1, 0), (1, 0, 0), REFUSED, 2)
     group("Words that are no command, and those that `main` answers itself: nothing is read")
-    for words in ("x", "--help", "--version", "log,log", "questions", "questions,questions", "questions,consistency,log", "audit,audit", "questions,audit,audit", "witness,witness", "Witness", "gate,gate", "Gate", "Audit", "Log", "log,"):
+    for words in ("x", "--help", "--version", "log,log", "questions", "questions,questions", "questions,consistency,log", "audit,audit", "questions,audit,audit", "witness,witness", "Witness", "gate,gate", "Gate", "Audit", "Log", "log,", "explain",
+                  "explain,explain", "explain,log,log", "log,explain", "explain,questions", "explain,questions,log", "questions,explain,log", "explain,demo",
+                  "Explain,log", "explain,Log", "explain,"):
         run(words, "12345", (1, 0), WIDE, USAGE, 64)
         for failing in range(4):
             run(words, "12345", STEADY, (2, failing, 256), USAGE, 64)
     group("A source with nothing left")
     for command in COMMANDS:
         run(command, "", STEADY, WIDE, REFUSED, 2)
+
+
+def explanations():
+    group("A reply that is explained: the source fails at each of its calls, the sink at each of its, or it has room for a part")
+    for command in EXPLAINED:
+        run(command, "", STEADY, WIDE, NOT_JSON, 2)
+        for failing in range(8):
+            run(command, "1234,", (1, failing), WIDE, NOT_JSON, 2)
+        for failing in range(6):
+            run(command, "1234,", STEADY, (12, failing, 256), NOT_JSON, 2)
+        for room in (0, 15, 16, 17, len(NOT_JSON) - 1, len(NOT_JSON)):
+            run(command, "1234,", STEADY, (64, NEVER, room), NOT_JSON, 2)
 
 
 def demo():
@@ -236,7 +278,9 @@ def main():
     audited_logs()
     kept_heads()
     gated_artifacts()
+    explained()
     other_words()
+    explanations()
     demo()
     TABLE.write()
 

@@ -396,16 +396,20 @@ def log_key(case):
     want(case.log_scheme, "PublicKeyUnsupportedAlgorithmError")
 
 
+def promised(case):
+    """The members that the log's promise is over."""
+    return {"body": case.entry["canonicalizedBody"], "integratedTime": int(case.entry["integratedTime"]), "logID": case.log_id,
+            "logIndex": int(case.entry["logIndex"])}
+
+
 def promise(case):
     want("inclusionPromise" in case.entry, "PromiseMissing")
-    members = {"body": case.entry["canonicalizedBody"], "integratedTime": int(case.entry["integratedTime"]), "logID": case.log_id,
-               "logIndex": int(case.entry["logIndex"])}
     try:
-        signed = documents.canonical(members).encode()
+        signed = documents.canonical(promised(case)).encode()
     except documents.IntegerTooLarge:
         raise Fails("PromiseInteger") from None
-    promised = of_base64(case.entry["inclusionPromise"]["signedEntryTimestamp"])
-    want(("message", case.log_scheme, case.log_key, signed, promised) in case.request.accepted, "Promise")
+    signature = of_base64(case.entry["inclusionPromise"]["signedEntryTimestamp"])
+    want(("message", case.log_scheme, case.log_key, signed, signature) in case.request.accepted, "Promise")
 
 
 def proof(case):

@@ -87,6 +87,14 @@ def is_signed(witness, update, rows):
     return found is None or any(("message", found.scheme, found.key, update.note, raw) in rows for raw in update.signatures)
 
 
+def taken(witness, read):
+    """What the dictionary says to an update whose signature is accepted, under its own key and as a row of its own."""
+    plain = kept.Update(read.origin, read.size, read.root, read.old, read.path, (kept.SIGNATURE,), 1)
+    log_of = witness.get(read.origin)
+    accepted = {(log_of.scheme, log_of.key, kept.note(plain).encode(), kept.SIGNATURE)} if log_of else set()
+    return kept.make(witness, plain, accepted)
+
+
 def judged(witness, update, rows):
     """The line of an update, which the dictionary is changed by if it is taken."""
     read = read_update(update)
@@ -94,11 +102,7 @@ def judged(witness, update, rows):
         return "refused checkpoint"
     if not is_signed(witness, read, rows):
         return "refused note-key"
-    # Its signature is looked at: that of the dictionary's own row is accepted.
-    plain = kept.Update(read.origin, read.size, read.root, read.old, read.path, (kept.SIGNATURE,), 1)
-    log_of = witness.get(read.origin)
-    accepted = {(log_of.scheme, log_of.key, kept.note(plain).encode(), kept.SIGNATURE)} if log_of else set()
-    said = kept.make(witness, plain, accepted)
+    said = taken(witness, read)
     if said.isdigit():
         return f"accepted {said}"
     if said.startswith("OldSize("):
