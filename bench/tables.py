@@ -3,6 +3,7 @@ import itertools
 import sys
 
 import chains
+import explained
 import measure
 import own_entries
 import roots
@@ -265,6 +266,14 @@ def audit_lists(bench):
             bench.goal(f"audit, {name}, time to that at half", took / first, MOST_DOUBLED)
 
 
+def explanations(bench):
+    """Requests of `explain`: those of the commands' own tables, and those of which much is shown or looked for, all of
+    the largest size. The last column is the time to that of the command without `explain`."""
+    table = bench.table(explanations, "request", "status", "bytes", "ms", "MB", "to the command")
+    for command, title, text in explained.requests(bench, {"log": LOG_REQUESTS, "audit": AUDIT_REQUESTS}):
+        explained.measured(bench, table, command, title, text)
+
+
 def demo(bench):
     """`demo` of the most entries, and of half as many: the milliseconds beyond a process that is asked for nothing, and
     what hashing each leaf and node of the tree once takes by Python's `hashlib`."""
@@ -473,6 +482,6 @@ def walks(bench):
     bench.goal("check of inclusion, time to its hashes", took[0] / took[2], MOST_TO_HASHES)
 
 
-OF_PROGRAM = (log, entries, audits, audit_lists, witnesses, gates, demo, verify, questions, bundles_at_once, library)  # of sigverify
+OF_PROGRAM = (log, entries, audits, audit_lists, witnesses, gates, demo, verify, questions, explanations, bundles_at_once, library)  # of sigverify
 OF_READERS = (entries, gates, certificates, documents, bundles, statements, images, artifacts, pools, walks)  # those that run sig_bench
 TABLES = {table.__name__: table for table in (*OF_PROGRAM, *OF_READERS)}
