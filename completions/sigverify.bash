@@ -7,8 +7,9 @@ _sigverify_reply() {
 
 _sigverify() {
   case ${COMP_WORDS[*]:1:COMP_CWORD-1} in
-  '') _sigverify_reply 'log verify consistency audit witness gate questions demo --help --version' "${COMP_WORDS[COMP_CWORD]}" ;;
+  '') _sigverify_reply 'log verify consistency audit witness gate questions explain demo --help --version' "${COMP_WORDS[COMP_CWORD]}" ;;
   'questions') _sigverify_reply 'log verify consistency audit witness gate' "${COMP_WORDS[COMP_CWORD]}" ;;
+  'explain') _sigverify_reply 'log verify consistency audit witness gate' "${COMP_WORDS[COMP_CWORD]}" ;;
   *) COMPREPLY=() ;;
   esac
 }
@@ -16,16 +17,17 @@ _sigverify() {
 _sigverify_bundle() {
   COMPREPLY=()
   case ${COMP_WORDS[COMP_CWORD-1]} in
-  --trusted-root | --bundle | --certificate-identity | --identity | --certificate-oidc-issuer | \
-    --issuer | --certificate-github-workflow-trigger | --certificate-github-workflow-sha | \
-    --certificate-github-workflow-name | --certificate-github-workflow-repository | \
-    --certificate-github-workflow-ref | --now | --sigverify) return ;;
+  --trusted-root | --bundle | --certificate-identity | --identity | --certificate-identity-regexp | \
+    --certificate-oidc-issuer | --issuer | --certificate-github-workflow-trigger | \
+    --certificate-github-workflow-sha | --certificate-github-workflow-name | \
+    --certificate-github-workflow-repository | --certificate-github-workflow-ref | --now | --sigverify) return ;;
   esac
   case ${COMP_WORDS[COMP_CWORD]} in
-  -*) _sigverify_reply '--trusted-root --bundle --certificate-identity --identity --certificate-oidc-issuer --issuer
-    --certificate-github-workflow-trigger --certificate-github-workflow-sha
-    --certificate-github-workflow-name --certificate-github-workflow-repository
-    --certificate-github-workflow-ref --now --print-request --sigverify --help' "${COMP_WORDS[COMP_CWORD]}" ;;
+  -*) _sigverify_reply '--trusted-root --bundle --certificate-identity --identity --certificate-identity-regexp
+    --certificate-oidc-issuer --issuer --certificate-github-workflow-trigger
+    --certificate-github-workflow-sha --certificate-github-workflow-name
+    --certificate-github-workflow-repository --certificate-github-workflow-ref --now --explain --json
+    --print-request --sigverify --help' "${COMP_WORDS[COMP_CWORD]}" ;;
   esac
 }
 
@@ -35,7 +37,7 @@ _sigverify_checked() {
   --sigverify) return ;;
   esac
   case ${COMP_WORDS[COMP_CWORD]} in
-  -*) _sigverify_reply '--print-request --sigverify --help' "${COMP_WORDS[COMP_CWORD]}" ;;
+  -*) _sigverify_reply '--explain --json --print-request --sigverify --help' "${COMP_WORDS[COMP_CWORD]}" ;;
   *) _sigverify_reply 'log verify consistency audit witness gate' "${COMP_WORDS[COMP_CWORD]}" ;;
   esac
 }
