@@ -1,17 +1,15 @@
 //! Audits, and audited heads and watches beside a list. The extractors are called where their conditions hold, as the
 //! results before them say. Since no collision of SHA-256 is known, each of them returns `None`.
 ghost use Rattle.std.specs.List.{AllByRecursion};
-ghost use Rattle.std.specs.Prelude.{◌≡◌, IfOk};
 ghost use Rattle.sig_audit.specs.Audited.{chain_of, IsWatched};
 ghost use Rattle.sig_audit.specs.Chained.{AreChained};
 ghost use Rattle.sig_audit.specs.Fronts.{EndsInList};
 
 use crate::parts::{heads, key, watches};
 use sig_audit::{
-    AuditHead, Chain, ChainHead, Heads, Listing, WatchList, audit, audit_collision,
-    chain_collision, compare_list,
+    Heads, Listing, WatchList, audit, audit_collision, chain_collision, chain_of, compare_list,
 };
-use sig_base::{Collision, Entries, OutOfMemory};
+use sig_base::Entries;
 use sig_cases::{Answer, Arguments};
 use std::alloc::Global;
 
@@ -88,40 +86,11 @@ fn extract(
     requires included { AllByRecursion (IsWatched (chain_of heads.now)) watched.now }
     requires latest { EndsInList entries.now (chain_of heads.now) }
 {
-    show(answer, audit_collision(alloc, heads, watched, entries));
+    answer.collision(audit_collision(alloc, heads, watched, entries));
     match chain_of(alloc, heads.as_slice()) {
         Ok(chain) => {
-            show(answer, chain_collision(alloc, &chain, entries));
+            answer.collision(chain_collision(alloc, &chain, entries));
             drop(chain);
-        }
-        Err(_) => answer.out_of_memory(),
-    }
-}
-
-/// What the heads say of their trees, with copies of their proofs.
-#[tactic(auto, using(std::proofs::lemmas::List::map_more))]
-fn chain_of(alloc: Global, heads: &[AuditHead]) -> Result<Chain, OutOfMemory>
-    ensures { IfOk result (λ chain. chain ≡ chain_of heads.now) }
-{
-    let mut chain = Chain::new(alloc);
-    for head in heads {
-        let note = &head.checkpoint.note;
-        chain.push(ChainHead {
-            size: note.size,
-            hash: note.hash,
-            hashes: head.hashes.copy(alloc)?,
-        })?;
-    }
-    Ok(chain)
-}
-
-fn show(answer: &mut Answer, found: Result<Option<Collision>, OutOfMemory>) {
-    match found {
-        Ok(None) => answer.value(&"none"),
-        Ok(Some(found)) => {
-            answer.hex(found.left.as_slice());
-            answer.hex(found.right.as_slice());
-            drop(found);
         }
         Err(_) => answer.out_of_memory(),
     }

@@ -1,23 +1,15 @@
 //! What a case is read into. What cannot be read is empty, and makes the line a bad one.
 
 use sig_audit::{AuditHead, Heads, Watch, WatchList};
-use sig_base::{Bytes, Hashes, SigningScheme, Text};
+use sig_base::SigningScheme;
 use sig_cases::{Answer, Arguments};
 use sig_key::CosignVerificationKey;
-use sig_rekor::{Checkpoint, CheckpointSignatures, OtherContents, SignedCheckpoint};
-use std::alloc::Global;
+use sig_part_cases::{checkpoint, verification_key};
 
 /// The next argument as the bytes of a key, whose scheme is ECDSA over P-256.
 pub(crate) fn key(arguments: &mut Arguments<'_>, answer: &mut Answer) -> CosignVerificationKey {
-    let alloc = arguments.alloc();
     let bytes = arguments.hex();
-    match CosignVerificationKey::from_der(alloc, &bytes, &SigningScheme::default()) {
-        Ok(key) => key,
-        Err(_) => {
-            answer.out_of_memory();
-            CosignVerificationKey::ECDSA_P256_SHA256_ASN1(Bytes::from(Vec::new(alloc)))
-        }
-    }
+    verification_key(arguments.alloc(), answer, &bytes, &SigningScheme::default())
 }
 
 /// The next arguments as heads: how many there are, and of each its checkpoint and its hashes.
@@ -30,7 +22,7 @@ pub(crate) fn heads(arguments: &mut Arguments<'_>, answer: &mut Answer) -> Heads
         }
         let head = AuditHead {
             checkpoint: checkpoint(arguments),
-            hashes: hashes(arguments, answer),
+            hashes: arguments.hashes(),
         };
         if heads.push(head).is_err() {
             answer.out_of_memory();
@@ -50,7 +42,7 @@ pub(crate) fn watches(arguments: &mut Arguments<'_>, answer: &mut Answer) -> Wat
         let watch = Watch {
             head: arguments.natural() as usize,
             index: arguments.natural(),
-            hashes: hashes(arguments, answer),
+            hashes: arguments.hashes(),
             entry: arguments.bytes(),
         };
         if watched.push(watch).is_err() {
@@ -58,42 +50,4 @@ pub(crate) fn watches(arguments: &mut Arguments<'_>, answer: &mut Answer) -> Wat
         }
     }
     watched
-}
-
-fn checkpoint(arguments: &mut Arguments<'_>) -> SignedCheckpoint {
-    match SignedCheckpoint::decode(arguments.alloc(), arguments.text().as_str()) {
-        Ok(checkpoint) => checkpoint,
-        Err(error) => {
-            drop(error);
-            arguments.refuse();
-            no_checkpoint(arguments.alloc())
-        }
-    }
-}
-
-fn no_checkpoint(alloc: Global) -> SignedCheckpoint {
-    SignedCheckpoint {
-        note: Checkpoint {
-            origin: Text::from(String::new(alloc)),
-            size: 0,
-            hash: [0; 32],
-            other_content: OtherContents::new(alloc),
-        },
-        signatures: CheckpointSignatures::new(alloc),
-    }
-}
-
-fn hashes(arguments: &mut Arguments<'_>, answer: &mut Answer) -> Hashes {
-    let mut hashes = Hashes::new(arguments.alloc());
-    for bytes in &arguments.hex_list() {
-        match bytes.as_slice().try_into() {
-            Ok(hash) => {
-                if hashes.push(hash).is_err() {
-                    answer.out_of_memory();
-                }
-            }
-            Err(_) => arguments.refuse(),
-        }
-    }
-    hashes
 }

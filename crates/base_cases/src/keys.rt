@@ -1,6 +1,6 @@
 //! Calls of sig_key.
 
-use sig_base::{Bytes, Result, SigningScheme};
+use sig_base::{Bytes, Result};
 use sig_cases::{Answer, Arguments};
 use sig_key::{CosignVerificationKey, KeyKind, Signature, VerificationKeys, key_kind};
 
@@ -61,23 +61,12 @@ fn show(answer: &mut Answer, key: &CosignVerificationKey) {
 
 /// The next arguments, `SCHEME DER`, as a key.
 fn key(arguments: &mut Arguments<'_>, answer: &mut Answer) -> CosignVerificationKey {
-    let scheme = scheme(arguments);
+    let scheme = arguments.signing_scheme();
     match CosignVerificationKey::from_der(arguments.alloc(), &arguments.hex(), &scheme) {
         Ok(key) => key,
         Err(_) => {
             answer.out_of_memory();
             CosignVerificationKey::ED25519(Bytes::from(Vec::new(arguments.alloc())))
-        }
-    }
-}
-
-/// The next argument as a scheme.
-fn scheme(arguments: &mut Arguments<'_>) -> SigningScheme {
-    match SigningScheme::try_from(arguments.word()) {
-        Ok(scheme) => scheme,
-        Err(_) => {
-            arguments.refuse();
-            SigningScheme::ED25519
         }
     }
 }

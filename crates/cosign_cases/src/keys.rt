@@ -1,6 +1,5 @@
 //! Keys by the ids of their logs.
 
-use sig_base::SigningScheme;
 use sig_cases::Arguments;
 use sig_key::{CosignVerificationKey, VerificationKeys};
 
@@ -20,7 +19,7 @@ pub(crate) fn keys(arguments: &mut Arguments<'_>) -> VerificationKeys {
 /// Adds the key of the next three arguments.
 fn insert(arguments: &mut Arguments<'_>, keys: &mut VerificationKeys) {
     let name = arguments.text();
-    let scheme = scheme(arguments);
+    let scheme = arguments.signing_scheme();
     let der = arguments.hex();
     match CosignVerificationKey::from_der(arguments.alloc(), &der, &scheme) {
         Ok(key) => {
@@ -29,16 +28,5 @@ fn insert(arguments: &mut Arguments<'_>, keys: &mut VerificationKeys) {
             }
         }
         Err(_) => arguments.refuse(),
-    }
-}
-
-/// The scheme of the name that is the next argument.
-pub(crate) fn scheme(arguments: &mut Arguments<'_>) -> SigningScheme {
-    match SigningScheme::try_from(arguments.word()) {
-        Ok(scheme) => scheme,
-        Err(_) => {
-            arguments.refuse();
-            SigningScheme::default()
-        }
     }
 }

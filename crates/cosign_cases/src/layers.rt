@@ -1,6 +1,5 @@
 //! Layers.
 
-use crate::keys::scheme;
 use crate::signers::show_signer;
 use crate::signings::show_signing;
 use crate::trusted::{keys_if_any, pool_if_any};
@@ -27,7 +26,7 @@ pub(crate) fn signed(arguments: &mut Arguments<'_>, answer: &mut Answer) {
     let digest = arguments.text();
     let signature = signature_if_any(arguments);
     let raw_data = arguments.bytes();
-    let scheme = scheme(arguments);
+    let scheme = arguments.signing_scheme();
     let der = arguments.hex();
     let checker = arguments.checker();
     let Ok(key) = CosignVerificationKey::from_der(alloc, &der, &scheme) else {

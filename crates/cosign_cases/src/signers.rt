@@ -1,9 +1,9 @@
 //! Who signed, by the word of a certificate.
 
-use crate::trusted::pool;
 use sig_base::Text;
 use sig_cases::{Answer, Arguments};
 use sig_cosign::{CertificateSignature, CertificateSubject};
+use sig_part_cases::pool;
 use sig_x509::Certificate;
 
 /// `subject DER`: whom the certificate names.

@@ -1,9 +1,9 @@
 //! What a caller trusts, read from arguments.
 
 use crate::keys::keys;
-use sig_base::{Entries, PoolError};
 use sig_cases::{Answer, Arguments};
 use sig_key::VerificationKeys;
+use sig_part_cases::pool;
 use sig_x509::CertificatePool;
 
 /// The next arguments as keys, or `none`.
@@ -24,31 +24,5 @@ pub(crate) fn pool_if_any(
         pool(arguments, answer)
     } else {
         None
-    }
-}
-
-/// The next arguments as a pool.
-pub(crate) fn pool(arguments: &mut Arguments<'_>, answer: &mut Answer) -> Option<CertificatePool> {
-    let roots = arguments.entries();
-    let intermediates = arguments.entries();
-    made(arguments, answer, &roots, &intermediates)
-}
-
-fn made(
-    arguments: &mut Arguments<'_>,
-    answer: &mut Answer,
-    roots: &Entries,
-    intermediates: &Entries,
-) -> Option<CertificatePool> {
-    match CertificatePool::from_certificates(arguments.alloc(), roots, intermediates) {
-        Ok(pool) => Some(pool),
-        Err(PoolError::OutOfMemory) => {
-            answer.out_of_memory();
-            None
-        }
-        Err(_) => {
-            arguments.refuse();
-            None
-        }
     }
 }

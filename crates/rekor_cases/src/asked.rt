@@ -1,8 +1,9 @@
 //! Which signatures a checker is asked about, and in which order.
 
-use crate::parts::{Accepted, KEY, checkpoint, keyed};
+use crate::parts::{Accepted, KEY, keyed};
 use crate::shown::answer_to;
 use sig_cases::{Answer, Arguments, Recorder};
+use sig_part_cases::checkpoint;
 use sig_rekor::SignedNote;
 
 /// `asked CHECKPOINT NOTES SIGNATURES`: as `signed`, and each signature that the checker was asked about, in order.

@@ -1,8 +1,9 @@
 //! What a checkpoint and a proof answer under a table of accepted signatures.
 
-use crate::parts::{KEY, checkpoint, hashes, keyed};
+use crate::parts::{KEY, keyed};
 use crate::shown::answer_to;
 use sig_cases::{Answer, Arguments};
+use sig_part_cases::checkpoint;
 use sig_rekor::{InclusionProof, SignedCheckpoint, SignedNote};
 use sig_rekor_models::LogEntry;
 
@@ -61,7 +62,7 @@ pub(crate) fn proof(arguments: &mut Arguments<'_>, answer: &mut Answer) {
     let index = arguments.integer();
     let root = arguments.digest();
     let size = arguments.natural();
-    let hashes = hashes(arguments, answer);
+    let hashes = arguments.hashes();
     let by = keyed(arguments, answer, KEY);
     let proof = InclusionProof::new(index, root, size, hashes, last_checkpoint(arguments));
     let check = proof.verify(arguments.alloc(), &entry, &by.key, &by.table);

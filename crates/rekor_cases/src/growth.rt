@@ -1,9 +1,10 @@
 //! What heads of logs and consistency proofs of Rekor's API are read as, and whether they show that a log grew.
 
-use crate::parts::{KEY, checkpoint, keyed, made, text};
+use crate::parts::{KEY, keyed, made, text};
 use crate::shown::{Shown, answer_to};
 use sig_base::Result as Read;
 use sig_cases::{Answer, Arguments};
+use sig_part_cases::checkpoint;
 use sig_rekor_models::{
     ConsistencyProof, InactiveShardLogInfo, LogInfo, RekorConsistencyProof, RekorLogInfo, Shards,
 };

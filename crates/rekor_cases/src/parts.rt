@@ -1,52 +1,14 @@
 //! What a case is read into. What cannot be read is empty, and makes the line a bad one.
 
-use sig_base::{
-    AcceptedRow, Bytes, Hashes, Operation, OwnedList, SigningScheme, TableChecker, Text,
-};
+use sig_base::{AcceptedRow, Bytes, Operation, OwnedList, SigningScheme, TableChecker, Text};
 use sig_cases::{Answer, Arguments};
 use sig_key::CosignVerificationKey;
-use sig_rekor::{Checkpoint, CheckpointSignatures, OtherContents, SignedCheckpoint};
+use sig_part_cases::verification_key;
 use std::alloc::Global;
 
 /// The next argument as a text that owns its memory.
 pub(crate) fn text(arguments: &mut Arguments<'_>) -> Text {
     Text::from(arguments.text())
-}
-
-/// The next argument as a checkpoint.
-pub(crate) fn checkpoint(arguments: &mut Arguments<'_>) -> SignedCheckpoint {
-    match SignedCheckpoint::decode(arguments.alloc(), arguments.text().as_str()) {
-        Ok(checkpoint) => checkpoint,
-        Err(error) => {
-            drop(error);
-            arguments.refuse();
-            no_checkpoint(arguments.alloc())
-        }
-    }
-}
-
-fn no_checkpoint(alloc: Global) -> SignedCheckpoint {
-    SignedCheckpoint {
-        note: Checkpoint {
-            origin: Text::from(String::new(alloc)),
-            size: 0,
-            hash: [0; 32],
-            other_content: OtherContents::new(alloc),
-        },
-        signatures: CheckpointSignatures::new(alloc),
-    }
-}
-
-/// The next argument as an audit path.
-pub(crate) fn hashes(arguments: &mut Arguments<'_>, answer: &mut Answer) -> Hashes {
-    let mut hashes = Hashes::new(arguments.alloc());
-    for bytes in &arguments.hex_list() {
-        match bytes.as_slice().try_into() {
-            Ok(hash) => made(answer, hashes.push(hash), ()),
-            Err(_) => arguments.refuse(),
-        }
-    }
-    hashes
 }
 
 /// What was made; where memory ran out, the empty value.
@@ -74,17 +36,9 @@ pub(crate) struct Accepted {
 /// the notes over which a signature is accepted under that scheme and key, and those signatures.
 pub(crate) fn keyed(arguments: &mut Arguments<'_>, answer: &mut Answer, key: &[u8]) -> Accepted {
     Accepted {
-        key: verification_key(arguments.alloc(), answer, key),
+        key: verification_key(arguments.alloc(), answer, key, &SigningScheme::default()),
         table: table(arguments, answer, key),
     }
-}
-
-fn verification_key(alloc: Global, answer: &mut Answer, key: &[u8]) -> CosignVerificationKey {
-    made(
-        answer,
-        CosignVerificationKey::from_der(alloc, key, &SigningScheme::default()),
-        CosignVerificationKey::ECDSA_P256_SHA256_ASN1(Bytes::from(Vec::new(alloc))),
-    )
 }
 
 fn table(arguments: &mut Arguments<'_>, answer: &mut Answer, key: &[u8]) -> TableChecker {

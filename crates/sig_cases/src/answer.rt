@@ -1,5 +1,6 @@
 //! The line that is written for a case.
 use base64::engine::general_purpose::STANDARD;
+use sig_base::{Collision, OutOfMemory};
 use std::alloc::Global;
 use std::fmt::{Debug, Display, Write};
 
@@ -64,6 +65,19 @@ impl Answer {
         match STANDARD.encode(self.alloc, bytes) {
             Ok(written) => self.value(&written),
             Err(_) => self.is_out_of_memory = true,
+        }
+    }
+
+    /// Adds what an extractor of collisions returned: `none`, or the two byte strings in hexadecimal.
+    pub fn collision(&mut self, found: Result<Option<Collision>, OutOfMemory>) {
+        match found {
+            Ok(None) => self.value(&"none"),
+            Ok(Some(found)) => {
+                self.hex(found.left.as_slice());
+                self.hex(found.right.as_slice());
+                drop(found);
+            }
+            Err(_) => self.out_of_memory(),
         }
     }
 

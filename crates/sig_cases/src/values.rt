@@ -1,7 +1,9 @@
-//! Arguments that are lists of bytes, digests and checkers.
+//! Arguments that are lists of bytes, digests, schemes and checkers.
 use crate::arguments::Arguments;
 use crate::error::CaseError;
-use sig_base::{AcceptedRow, Bytes, Entries, Operation, OutOfMemory, TableChecker};
+use sig_base::{
+    AcceptedRow, Bytes, Entries, Hashes, Operation, OutOfMemory, SigningScheme, TableChecker,
+};
 use std::alloc::Global;
 
 impl<'a> Arguments<'a> {
@@ -30,6 +32,33 @@ impl<'a> Arguments<'a> {
             Err(_) => {
                 self.refuse();
                 [0; 32]
+            }
+        }
+    }
+
+    /// The next argument as a list of 32 bytes each, as [`Arguments::hex_list`] reads it.
+    pub fn hashes(&mut self) -> Hashes {
+        let mut hashes = Hashes::new(self.alloc());
+        for bytes in &self.hex_list() {
+            match bytes.as_slice().try_into() {
+                Ok(hash) => {
+                    if hashes.push(hash).is_err() {
+                        self.fail(CaseError::OutOfMemory);
+                    }
+                }
+                Err(_) => self.refuse(),
+            }
+        }
+        hashes
+    }
+
+    /// The next argument as the name of a signing scheme.
+    pub fn signing_scheme(&mut self) -> SigningScheme {
+        match SigningScheme::try_from(self.word()) {
+            Ok(scheme) => scheme,
+            Err(_) => {
+                self.refuse();
+                SigningScheme::default()
             }
         }
     }

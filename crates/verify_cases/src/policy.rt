@@ -2,10 +2,8 @@
 
 use sig_base::Text;
 use sig_cases::{Answer, Arguments};
-use sig_x509::{
-    GitHubWorkflowName, GitHubWorkflowRef, GitHubWorkflowRepository, GitHubWorkflowSHA,
-    GitHubWorkflowTrigger, Identity, LeafPolicies, LeafPolicy, OIDCIssuer, RequestPolicy,
-};
+use sig_part_cases::rule_named;
+use sig_x509::{Identity, LeafPolicies, LeafPolicy, OIDCIssuer, RequestPolicy};
 
 /// The policy of the next arguments, `all COUNT RULE ..` or `any COUNT RULE ..`.
 pub(crate) fn policy(arguments: &mut Arguments<'_>, answer: &mut Answer) -> RequestPolicy {
@@ -40,7 +38,7 @@ fn rule(arguments: &mut Arguments<'_>, answer: &mut Answer) -> LeafPolicy {
         "Identity" => identity(arguments, answer),
         name => {
             let text = Text::from(arguments.text());
-            single(arguments, name, text)
+            rule_named(arguments, name, text)
         }
     }
 }
@@ -54,24 +52,6 @@ fn identity(arguments: &mut Arguments<'_>, answer: &mut Answer) -> LeafPolicy {
         Err(_) => {
             answer.out_of_memory();
             LeafPolicy::OIDCIssuer(OIDCIssuer(Text::from(issuer)))
-        }
-    }
-}
-
-/// The policy of this name that asks for this text.
-fn single(arguments: &mut Arguments<'_>, name: &str, text: Text) -> LeafPolicy {
-    match name {
-        "OIDCIssuer" => LeafPolicy::OIDCIssuer(OIDCIssuer(text)),
-        "GitHubWorkflowTrigger" => LeafPolicy::GitHubWorkflowTrigger(GitHubWorkflowTrigger(text)),
-        "GitHubWorkflowSHA" => LeafPolicy::GitHubWorkflowSHA(GitHubWorkflowSHA(text)),
-        "GitHubWorkflowName" => LeafPolicy::GitHubWorkflowName(GitHubWorkflowName(text)),
-        "GitHubWorkflowRepository" => {
-            LeafPolicy::GitHubWorkflowRepository(GitHubWorkflowRepository(text))
-        }
-        "GitHubWorkflowRef" => LeafPolicy::GitHubWorkflowRef(GitHubWorkflowRef(text)),
-        _ => {
-            arguments.refuse();
-            LeafPolicy::OIDCIssuer(OIDCIssuer(text))
         }
     }
 }

@@ -35,15 +35,7 @@ fn compare(alloc: Global, answer: &mut Answer, witness: &Witness, origin: &str, 
         answer.value(&"other");
         return;
     }
-    match witness.witness_collision(alloc, origin, entries) {
-        Ok(None) => answer.value(&"none"),
-        Ok(Some(found)) => {
-            answer.hex(found.left.as_slice());
-            answer.hex(found.right.as_slice());
-            drop(found);
-        }
-        Err(_) => answer.out_of_memory(),
-    }
+    answer.collision(witness.witness_collision(alloc, origin, entries));
 }
 
 /// Whether the kept head of an origin has the size and the root of the list.

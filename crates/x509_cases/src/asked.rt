@@ -1,8 +1,9 @@
 //! Which keys a pool asks its checker about, and in which order.
 
 use crate::certificate::certificate;
-use crate::pool::{place, pool};
+use crate::pool::place;
 use sig_cases::{Answer, Arguments, Recorder};
+use sig_part_cases::pool;
 use sig_x509::uncounted;
 
 /// `asked TIME LEAF ANCHOR,.. INTERMEDIATE,.. ROW ..`: what `verify_cert_with_time` returns, and each key that the checker was asked

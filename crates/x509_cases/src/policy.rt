@@ -5,6 +5,7 @@ use crate::certificate::certificate;
 use crate::profile::checked;
 use sig_base::Text;
 use sig_cases::{Answer, Arguments};
+use sig_part_cases::rule_named;
 use sig_x509::{
     Certificate, GitHubWorkflowName, GitHubWorkflowRef, GitHubWorkflowRepository,
     GitHubWorkflowSHA, GitHubWorkflowTrigger, Identity, LeafPolicies, LeafPolicy, OIDCIssuer,
@@ -75,20 +76,7 @@ fn policy(
     answer: &mut Answer,
 ) -> LeafPolicy {
     let text = copy_of(arguments.alloc(), answer, text);
-    match name {
-        "OIDCIssuer" => LeafPolicy::OIDCIssuer(OIDCIssuer(text)),
-        "GitHubWorkflowTrigger" => LeafPolicy::GitHubWorkflowTrigger(GitHubWorkflowTrigger(text)),
-        "GitHubWorkflowSHA" => LeafPolicy::GitHubWorkflowSHA(GitHubWorkflowSHA(text)),
-        "GitHubWorkflowName" => LeafPolicy::GitHubWorkflowName(GitHubWorkflowName(text)),
-        "GitHubWorkflowRepository" => {
-            LeafPolicy::GitHubWorkflowRepository(GitHubWorkflowRepository(text))
-        }
-        "GitHubWorkflowRef" => LeafPolicy::GitHubWorkflowRef(GitHubWorkflowRef(text)),
-        _ => {
-            arguments.refuse();
-            LeafPolicy::OIDCIssuer(OIDCIssuer(text))
-        }
-    }
+    rule_named(arguments, name, text)
 }
 
 fn copy_of(alloc: Global, answer: &mut Answer, text: &str) -> Text {

@@ -3,6 +3,7 @@
 use crate::certificate::certificate_of;
 use sig_base::PoolError;
 use sig_cases::{Answer, Arguments};
+use sig_part_cases::pool;
 use sig_x509::{CertificatePool, Issuer, uncounted};
 
 /// `from_certificates ANCHOR,.. INTERMEDIATE,..`: whether there is a pool of them.
@@ -12,23 +13,6 @@ pub(crate) fn made(arguments: &mut Arguments<'_>, answer: &mut Answer) {
     match CertificatePool::from_certificates(arguments.alloc(), &roots, &intermediates) {
         Ok(_) => answer.ok(),
         Err(refusal) => answer.error(refusal),
-    }
-}
-
-/// The pool of the next two arguments. Refuses the line if there is none.
-pub(crate) fn pool(arguments: &mut Arguments<'_>, answer: &mut Answer) -> Option<CertificatePool> {
-    let roots = arguments.entries();
-    let intermediates = arguments.entries();
-    match CertificatePool::from_certificates(arguments.alloc(), &roots, &intermediates) {
-        Ok(pool) => Some(pool),
-        Err(PoolError::OutOfMemory) => {
-            answer.out_of_memory();
-            None
-        }
-        Err(_) => {
-            arguments.refuse();
-            None
-        }
     }
 }
 

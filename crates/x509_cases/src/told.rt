@@ -1,9 +1,10 @@
 //! How many questions a pool spares a checker that can tell without a key.
 
 use crate::certificate::certificate;
-use crate::pool::{place, pool};
+use crate::pool::place;
 use sig_base::{SignatureChecker, TableChecker, VerifyScheme};
 use sig_cases::{Answer, Arguments};
+use sig_part_cases::pool;
 use sig_x509::uncounted;
 use std::cell::Cell;
 
