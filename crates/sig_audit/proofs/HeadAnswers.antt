@@ -29,7 +29,7 @@ same_err d e same = cc
 
 -- ---- the three checks of a head
 
-signed-cases : (accepts : List ℕ → List ℕ → Bool) (checkpoint : SignedCheckpoint)
+pub signed-cases : (accepts : List ℕ → List ℕ → Bool) (checkpoint : SignedCheckpoint)
     → ((has_accepted_signature accepts checkpoint ≡ true) × IsSigned accepts checkpoint)
     ⊎ ((has_accepted_signature accepts checkpoint ≡ false) × ¬ IsSigned accepts checkpoint)
 unfolding has_accepted_signature

@@ -25,4 +25,4 @@ pub use error::AuditError;
 pub use head_collision::chain_collision;
 pub use heads::{AuditHead, Heads, Watch, WatchList};
 pub use listing::{Listing, compare_list};
-pub use log_collision::audit_collision;
+pub use log_collision::{audit_collision, chain_of};

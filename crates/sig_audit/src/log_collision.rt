@@ -43,9 +43,12 @@ pub fn audit_collision(
     )
 }
 
-/// Returns what the heads say of their trees, with copies of their proofs. Fails only if out of memory.
+/// Returns what the heads say of their trees, with copies of their proofs, as [`chain_collision`] takes it. Fails only if
+/// out of memory.
+///
+/// [`chain_collision`]: crate::chain_collision
 #[tactic(auto, using(std::proofs::lemmas::List::map_more))]
-pub(crate) fn chain_of(alloc: Global, heads: &[AuditHead]) -> Result<Chain, OutOfMemory>
+pub fn chain_of(alloc: Global, heads: &[AuditHead]) -> Result<Chain, OutOfMemory>
     ensures { IfOk result (λ chain. chain ≡ chain_of heads.now) }
 {
     let mut chain = Chain::new(alloc);

@@ -12,7 +12,8 @@ use Rattle.sig_certificate.specs.Certificate.{Cert, IsCertificate}
 use Rattle.sig_x509.specs.Issuance.{Accepts, AreAnchors, IsAnchor, IsFirstNoAnchor}
 use Rattle.sig_x509.specs.PathSearch.{path_issuer}
 use Rattle.sig_x509.specs.Pool.{AreReadAs, IsPoolRefusal, Pool, most_intermediates}
-use Rattle.sig_constraint.specs.Certified.{IsChainAnswer, IsChainResult, from_pool, issued_answer, of_pool, pool_of}
+use Rattle.sig_signer.specs.Signer.{from_pool, of_pool}
+use Rattle.sig_constraint.specs.Certified.{IsChainAnswer, IsChainResult, issued_answer, pool_of}
 use Rattle.sig_x509.specs.declared.issuer.Issuer.{Issuer}
 
 -- bytes are at most one certificate

@@ -6,7 +6,6 @@ use Rattle.sig_base.specs.OptionSteps.{or_else}
 use Rattle.sig_base.specs.ResultSteps.{◌>>=◌}
 use Rattle.sig_base.specs.declared.error.SigstoreError.{SigstoreError}
 use Rattle.sig_base.specs.declared.error.SigstoreError.TheVariants.{CertificatePoolError, OutOfMemory, X509Error}
-use Rattle.sig_base.specs.declared.fault.PoolError.{PoolError}
 use Rattle.sig_base.specs.declared.fault.PoolError.TheVariants as pool_error
 use Rattle.sig_base.specs.declared.scheme.VerifyScheme.{VerifyScheme}
 use Rattle.sig_certificate.specs.Certificate.{Cert, IsCertificate}
@@ -17,7 +16,7 @@ use Rattle.sig_payload.specs.Bundles.{AcceptsSpki}
 use Rattle.sig_x509.specs.Issuance.{Accepts, AreAnchors, IsFirstNoAnchor}
 use Rattle.sig_x509.specs.PathSearch.{path_issuer}
 use Rattle.sig_x509.specs.Pool.{Pool}
-use Rattle.sig_x509.specs.declared.issuer.Issuer.{Issuer}
+use Rattle.sig_signer.specs.Signer.{from_pool}
 use Rattle.sig_cosign.specs.Layer.{Layer, time_of}
 use Rattle.sig_cosign.specs.Signed.{is_signed_by}
 use Rattle.sig_cosign.specs.declared.bundle_content.BundleContent.{BundleContent}
@@ -37,15 +36,6 @@ is_certified spki key c required l = is_signed_by spki key l && is_timely c requ
 -- the first cause against it by itself: key usages, one subject alternative name, validity by now
 abbrev pub signer_refusal : Cert → ℤ → Option SigstoreError
 signer_refusal c now = or_else (usages_refusal c) (or_else (names_refusal c) (validity_refusal c now))
-
--- the error of a pool as the crate's
-abbrev pub of_pool : PoolError → SigstoreError
-of_pool pool_error.OutOfMemory = OutOfMemory
-of_pool other = CertificatePoolError other
-
-abbrev pub from_pool : Result Issuer PoolError → Result (Unit {0}) SigstoreError
-from_pool (Ok issuer) = Ok tt
-from_pool (Err error) = Err (of_pool error)
 
 abbrev pub pool_of : List Cert → Pool
 pool_of anchors = record { anchors = anchors; intermediates = [] }

@@ -5,10 +5,12 @@ ghost use Rattle.std.specs.Option.{option_copied};
 ghost use Rattle.sig_base.specs.Answers.{Answers};
 ghost use Rattle.sig_base.specs.declared.error.SigstoreError.TheVariants.{OutOfMemory as Memory};
 ghost use Rattle.sig_x509.specs.PathSearch.{path_issuer};
-ghost use Rattle.sig_constraint.specs.Certified.{IsChainResult, from_pool, of_pool};
+ghost use Rattle.sig_signer.specs.Signer.{from_pool};
+ghost use Rattle.sig_constraint.specs.Certified.{IsChainResult};
 
-use sig_base::{Entries, PoolError, Result, SignatureChecker, SigstoreError};
+use sig_base::{Entries, Result, SignatureChecker};
 use sig_certificate::laws::certificates;
+use sig_signer::pool_error;
 use sig_x509::{Certificate, CertificatePool, uncounted};
 use std::alloc::Global;
 
@@ -65,15 +67,5 @@ fn check_issued<C: SignatureChecker>(
     match uncounted::verify_cert_with_time(pool, alloc, certificate, now, checker) {
         Ok(_) => Ok(()),
         Err(error) => Err(pool_error(error)),
-    }
-}
-
-/// The error of a pool as this one.
-fn pool_error(error: PoolError) -> SigstoreError
-    ensures { result ≡ of_pool error }
-{
-    match error {
-        PoolError::OutOfMemory => SigstoreError::OutOfMemory,
-        error => SigstoreError::CertificatePoolError(error),
     }
 }

@@ -118,8 +118,8 @@ fn check_issued<C: SignatureChecker>(
     }
 }
 
-/// The error of a pool as this one.
-fn pool_error(error: PoolError) -> SigstoreError
+/// The error of a pool as a `SigstoreError`: `OutOfMemory`, or `CertificatePoolError` of it.
+pub fn pool_error(error: PoolError) -> SigstoreError
     ensures { result ≡ of_pool error }
 {
     match error {

@@ -20,5 +20,5 @@ pub mod laws;
 mod show;
 mod subject;
 
-pub use certificate_signature::CertificateSignature;
+pub use certificate_signature::{CertificateSignature, pool_error};
 pub use subject::CertificateSubject;

@@ -15,6 +15,7 @@ use Rattle.sig_rekor.specs.NoteText.{note_text}
 use Rattle.sig_rekor.specs.Refusals.{IsSigned}
 use Rattle.sig_rekor.specs.Verify.{has_accepted_signature}
 use Rattle.sig_rekor.specs.declared.checkpoint.SignedCheckpoint.{SignedCheckpoint}
+use Rattle.sig_audit.proofs.HeadAnswers.{err_apart, same_err, signed-cases}
 use Rattle.sig_audit.specs.Chained.{HasGrownFrom}
 use Rattle.sig_audit.specs.Fronts.{IsLast}
 use Rattle.sig_audit.specs.declared.chain.ChainHead.{ChainHead}
@@ -27,12 +28,6 @@ use Rattle.sig_witness.specs.Kept.{IsKeptLog, IsKeptChain, last_of}
 use Rattle.sig_witness.specs.Updates.{Update, origin_of, new_head, grown_log, most_heads, IsTaken, IsStep}
 use Rattle.sig_witness.proofs.Entries.{found-all}
 use Rattle.sig_witness.proofs.Heads.{chain-last, chain-grown}
-
-err_apart : {A E : Type 0} (x : A) (e : E) → ◌≡◌ {A = Result A E} (Err e) (Ok x) → ⊥
-err_apart x e same = cc
-
-same_err : {A E : Type 0} (d e : E) → ◌≡◌ {A = Result A E} (Err d) (Err e) → e ≡ d
-same_err d e same = cc
 
 -- ---- room
 
@@ -120,25 +115,6 @@ module _ (heads : ℕ) (update : Update) (last : ChainHead) where
       ) refl
 
 -- ---- the log
-
-signed-cases : (accepts : List ℕ → List ℕ → Bool) (checkpoint : SignedCheckpoint)
-    → ((has_accepted_signature accepts checkpoint ≡ true) × IsSigned accepts checkpoint)
-    ⊎ ((has_accepted_signature accepts checkpoint ≡ false) × ¬ IsSigned accepts checkpoint)
-unfolding has_accepted_signature
-signed-cases accepts checkpoint = by (has_accepted_signature accepts checkpoint) refl
-  where
-    by : (b : Bool) → has_accepted_signature accepts checkpoint ≡ b
-        → ((has_accepted_signature accepts checkpoint ≡ true) × IsSigned accepts checkpoint)
-        ⊎ ((has_accepted_signature accepts checkpoint ≡ false) × ¬ IsSigned accepts checkpoint)
-    by true is =
-        inl (is, Any-from_list_any (λ signature. accepts (note_text checkpoint.note) signature.raw) checkpoint.signatures is)
-    by false is =
-        inr (
-          is,
-          λ signed. (let f =
-              list_any-from_Any (λ signature. accepts (note_text checkpoint.note) signature.raw) checkpoint.signatures signed in
-              cc),
-        )
 
 module _ (accepts : List ℕ → List ℕ → Bool) (log : KeptLog) (update : Update) (last : ChainHead)
     (is_last : last_of log.chain ≡ Some last) where
