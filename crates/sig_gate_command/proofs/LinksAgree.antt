@@ -1,23 +1,16 @@
 -- The links of a bundle, by two checkers that say the same of each signature that it asks for.
-use Rattle.std.proofs.Common.{◌≡◌, ◌↔◌, ◌⊎◌, List, [], ◌∷◌, ◌++◌, inl, inr}
+use Rattle.std.proofs.Common.{◌≡◌, ◌⊎◌, List, [], ◌∷◌, ◌++◌, inl, inr}
 use Rattle.std.specs.List.{AllByRecursion}
 use Rattle.sig_base.specs.Rules.{FailsFirst}
-use Rattle.sig_certificate.specs.Certificate.{Cert}
 use Rattle.sig_gate.specs.BundleVerdict.{IsJudged}
 use Rattle.sig_gate.specs.declared.verdict.BundleVerdict.{BundleVerdict}
 use Rattle.sig_gate.specs.declared.verdict.BundleVerdict.TheVariants.{Verified, Refused}
-use Rattle.sig_questions.proofs.Issuers.{some_issuer, would_hold}
+use Rattle.sig_questions.proofs.Fronts.{after_issuer, front_alike, issuer_unasked}
 use Rattle.sig_questions.specs.Questions.{HoldsUnasked, SameLinks, accepting, front_links, question_links}
-use Rattle.sig_verify.proofs.JudgedLaws.{Alike, all_as, all_joined, fails_as, fails_behind, fails_front}
-use Rattle.sig_verify.proofs.Parts.{checked_as}
-use Rattle.sig_verify.specs.CertificateLinks.{HasIssuer}
+use Rattle.sig_verify.proofs.JudgedLaws.{all_as, all_joined, fails_as, fails_behind, fails_front}
 use Rattle.sig_verify.specs.Links.{EveryChainLinkHolds, HoldsOf, Inputs, Outside, chain_links}
 use Rattle.sig_verify.specs.declared.link.Link.{Link}
-use Rattle.sig_verify.specs.declared.link.Link.TheVariants.{Issuer, Sct, Policy, Key, Signature, Subject, Body, Time}
-use Rattle.sig_verify.specs.declared.link.Link.TheVariants.{LogKey, Promise, Proof, Checkpoint, NoteKey, NoteMatch}
-use Rattle.sig_verify.specs.declared.link.Link.TheVariants.{Inclusion}
-use Rattle.sig_x509.specs.Path.{every_signature}
-use Rattle.sig_x509.specs.Pool.{Pool, pool_over}
+use Rattle.sig_verify.specs.declared.link.Link.TheVariants.{Issuer}
 
 -- ---- a list of links in two parts
 
@@ -35,34 +28,7 @@ fails-parts P (x ∷ xs) ys link (inr (holds, later)) = elim (fails-parts P xs y
   | inr (all, behind) ↦ inr ((holds, all), behind)
 ]
 
--- ---- the links after `issuer`
-
-abbrev after_issuer : List Link
-after_issuer =
-    Sct ∷ Policy ∷ Key ∷ Signature ∷ Subject ∷ Body ∷ Time
-    ∷ LogKey ∷ Promise ∷ Proof ∷ Checkpoint ∷ NoteKey ∷ NoteMatch ∷ Inclusion ∷ []
-
 -- ---- whatever is accepted
-
-same : {A : Type 0} → A ↔ A
-same = ((λ x. x), (λ x. x))
-
--- the links before `issuer` ask no checker
-front_alike : (o p : Outside) (i : Inputs) → Alike (HoldsOf o i) (HoldsOf p i) front_links
-front_alike o p i =
-    (same, (same, (same, (same, (same, (same, (same, (same, (same, (same, (same, (same, (same, (same, tt))))))))))))))
-
--- a path that leads to a trust anchor may do so
-issuer_unasked : (o : Outside) (i : Inputs) → HoldsOf o i Issuer → HoldsUnasked i Issuer
-issuer_unasked o i =
-    checked_as i (λ trust c. HasIssuer o.checker trust c)
-    (λ trust c. HasIssuer accepting.checker trust c)
-    (λ p of.
-    let c : Cert = p.parts.checked.certificate in
-    let over : Pool = pool_over p.anchors p.parts.checked.further in
-    let path = of.first.path in
-    some_issuer every_signature over c path.over path.anchor
-    (would_hold over c c.not_before o.checker.cert path.over path.anchor path.path))
 
 abbrev pub IsOpen : Inputs → Type 0
 IsOpen i = AllByRecursion (HoldsUnasked i) question_links

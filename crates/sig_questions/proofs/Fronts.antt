@@ -82,8 +82,9 @@ among_first P Q (x ∷ xs) ys stop link alike denied never (inr later) =
 
 -- ---- the links
 
-abbrev rest : List Link
-rest =
+-- those after `issuer`
+abbrev pub after_issuer : List Link
+after_issuer =
     Sct ∷ Policy ∷ Key ∷ Signature ∷ Subject ∷ Body ∷ Time
     ∷ LogKey ∷ Promise ∷ Proof ∷ Checkpoint ∷ NoteKey ∷ NoteMatch ∷ Inclusion ∷ []
 
@@ -95,7 +96,7 @@ same : {A : Type 0} → A ↔ A
 same = ((λ x. x), (λ x. x))
 
 -- no checker is asked
-front_alike : (o p : Outside) (i : Inputs) → Alike (HoldsOf o i) (HoldsOf p i) front_links
+pub front_alike : (o p : Outside) (i : Inputs) → Alike (HoldsOf o i) (HoldsOf p i) front_links
 front_alike o p i =
     (same, (same, (same, (same, (same, (same, (same, (same, (same, (same, (same, (same, (same, (same, tt))))))))))))))
 
@@ -112,7 +113,7 @@ silent o i denied =
     ∙ denied (issuer_in path.over path.anchor).spki c.algorithm c.tbs c.signature in cc)
 
 -- a path that leads to a trust anchor may do so
-issuer_unasked : (o : Outside) (i : Inputs) → HoldsOf o i Issuer → HoldsUnasked i Issuer
+pub issuer_unasked : (o : Outside) (i : Inputs) → HoldsOf o i Issuer → HoldsUnasked i Issuer
 issuer_unasked o i =
     checked_as i (λ trust c. HasIssuer o.checker trust c)
     (λ trust c. HasIssuer accepting.checker trust c)
@@ -137,9 +138,9 @@ denying = record {
 -- a link fails first without a question if and only if it does so whatever the checker says
 pub refusals_for_all : RefusalsAreForAll
 refusals_for_all i link = (
-  (λ fails o. among_all (HoldsUnasked i) (HoldsOf o i) front_links rest Issuer link (front_alike accepting o i)
-      (issuer_unasked o i) fails),
-  (λ all. among_first (HoldsUnasked i) (HoldsOf denying i) front_links rest Issuer link
+  (λ fails o. among_all (HoldsUnasked i) (HoldsOf o i) front_links after_issuer Issuer link
+      (front_alike accepting o i) (issuer_unasked o i) fails),
+  (λ all. among_first (HoldsUnasked i) (HoldsOf denying i) front_links after_issuer Issuer link
       (front_alike accepting denying i) (silent denying i (λ issuer algorithm tbs signature. refl))
       (λ is. fails_not (HoldsUnasked i) chain_links Issuer
       (subst (λ (l : Link). FailsFirst (HoldsUnasked i) chain_links l) is (all accepting))) (all denying)),
@@ -152,9 +153,10 @@ module _ (o : Outside) (i : Inputs) where
       → IsFrontTold i (front_result (Some link))
   told_link denied Issuer fails =
       all_as (HoldsOf o i) (HoldsUnasked i) front_links (front_alike o accepting i)
-      (held_before (HoldsOf o i) front_links rest apart fails)
+      (held_before (HoldsOf o i) front_links after_issuer apart fails)
   told_link denied link fails =
-      among_first (HoldsUnasked i) (HoldsOf o i) front_links rest Issuer link (front_alike accepting o i) denied
+      among_first (HoldsUnasked i) (HoldsOf o i) front_links after_issuer Issuer link (front_alike accepting o i)
+      denied
       (λ is p. cc) fails
 
 abbrev Outcome : Type 0

@@ -34,5 +34,5 @@ pub use head_members::ClaimedHead;
 pub use policy_rule::read_policy;
 pub use read::{MOST_BYTES, REQUEST_LIMIT, ReadFault, read_request};
 pub use request::LogRequest;
-pub use row::{RowReader, read_accepted};
+pub use row::{RowReader, SchemeReader, read_accepted};
 pub use verify_request::VerifyRequest;

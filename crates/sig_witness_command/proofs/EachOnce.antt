@@ -41,7 +41,7 @@ absent-behind rows row absent =
     (not-true (has_row rows row) (λ is. absent (among rows row is)))
 
 -- one more row is there, or it is not and comes after
-one-row : (rows : List AcceptedRow) (row : AcceptedRow)
+pub one-row : (rows : List AcceptedRow) (row : AcceptedRow)
     → (Contains rows row × (with_row rows row ≡ rows)) ⊎ ((¬ Contains rows row) × (with_row rows row ≡ rows ++ row ∷ []))
 one-row rows row = by (has_row rows row) refl where
   by : (b : Bool) → has_row rows row ≡ b
@@ -102,7 +102,7 @@ new-with rows row = elim (one-row rows row) [
   | inr (_, same) ↦ subst (λ (all : List AcceptedRow). Contains all row) (sym same) (Contains-push rows row)
 ]
 
-with-cases : (rows : List AcceptedRow) (row one : AcceptedRow) → Contains (with_row rows row) one
+pub with-cases : (rows : List AcceptedRow) (row one : AcceptedRow) → Contains (with_row rows row) one
     → Contains rows one ⊎ (row ≡ one)
 with-cases rows row one there = elim (one-row rows row) [
   | inl (_, same) ↦ inl (subst (λ (all : List AcceptedRow). Contains all one) same there)
@@ -125,7 +125,7 @@ once-has before (row ∷ rest) one there = elim (first-or-later row one rest the
   | inr behind ↦ once-has (with_row before row) rest one behind
 ]
 
-once-only : (before rows : List AcceptedRow) (one : AcceptedRow) → Contains (each_once_after before rows) one
+pub once-only : (before rows : List AcceptedRow) (one : AcceptedRow) → Contains (each_once_after before rows) one
     → Contains before one ⊎ Contains rows one
 once-only before [] one there = inl there
 once-only before (row ∷ rest) one there = elim (once-only (with_row before row) rest one there) [
@@ -149,7 +149,7 @@ different-behind (one ∷ rest) row all absent = (
   different-behind rest row all.1 (λ there. absent (later one row rest there)),
 )
 
-once-different : (before rows : List AcceptedRow) → AreDifferent before → AreDifferent (each_once_after before rows)
+pub once-different : (before rows : List AcceptedRow) → AreDifferent before → AreDifferent (each_once_after before rows)
 once-different before [] all = all
 once-different before (row ∷ rest) all = once-different (with_row before row) rest (elim (one-row before row) [
   | inl (_, same) ↦ subst AreDifferent (sym same) all

@@ -17,7 +17,6 @@ ghost use Rattle.sig_json.specs.Record.{record_in};
 ghost use Rattle.sig_json.specs.Tree.{tree};
 ghost use Rattle.sig_request.specs.Accepted.{AsksOnly};
 ghost use Rattle.sig_request.specs.ReadFrom.{IsReadFrom};
-ghost use Rattle.sig_request.specs.Row.{scheme_kind};
 ghost use Rattle.sig_witness_command.specs.Request.{few_updates, origin_key_of, update_text_of, witness_members, witness_request};
 
 use sig_base::{
@@ -27,7 +26,7 @@ use sig_json::{
     BorrowedDocument, ElementReader, HashReader, Json, JsonError, MemberError, Scratch,
     optional_list, read_text, required, required_bytes, required_text, required_u64,
 };
-use sig_request::{MOST_BYTES, RowReader};
+use sig_request::{MOST_BYTES, RowReader, SchemeReader};
 use std::alloc::Global;
 
 /// A request has at most so many updates.
@@ -167,29 +166,9 @@ impl ElementReader for OriginKeyReader {
     fn read(alloc: Global, json: Json<'_, '_>) -> Result<OriginKey, MemberError> {
         Ok(OriginKey {
             origin: required_text(alloc, json, "origin")?,
-            scheme: required::<SchemeNameReader>(alloc, json, "scheme")?,
+            scheme: required::<SchemeReader>(alloc, json, "scheme")?,
             key: required_bytes(alloc, json, "key")?,
         })
-    }
-}
-
-/// Reads the names of schemes.
-pub enum SchemeNameReader {}
-
-impl ElementReader for SchemeNameReader {
-    type Item = SigningScheme;
-
-    ghost meaning = { scheme_kind };
-
-    #[tactic(auto, unfolding(sig_request::specs::Row::scheme_kind, sig_json::specs::Kinds::text_of))]
-    fn read(_alloc: Global, json: Json<'_, '_>) -> Result<SigningScheme, MemberError> {
-        let Some(name) = json.text() else {
-            return Err(MemberError::Member);
-        };
-        match SigningScheme::try_from(name) {
-            Ok(scheme) => Ok(scheme),
-            Err(_) => Err(MemberError::Member),
-        }
     }
 }
 

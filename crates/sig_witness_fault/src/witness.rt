@@ -7,12 +7,12 @@ ghost use Rattle.sig_witness_fault.specs.WitnessTable.{origin_table, update_tabl
 
 use sig_base::OutOfMemory;
 use sig_json::Json;
+use sig_request::SchemeReader;
 use sig_request_fault::{AcceptedTable, RequestFault, request_fault};
 use sig_table::{
     BytesTable, HashTable, ListOf, MemberTable, ReadBy, TableError, TextTable, length_between,
     object, optional, required, required_u64,
 };
-use sig_witness_command::request::SchemeNameReader;
 use std::alloc::Global;
 
 /// The table of names of signature schemes.
@@ -23,7 +23,7 @@ impl MemberTable for SchemeTable {
 
     #[tactic(auto, unfolding(sig_request_fault::specs::RowTable::scheme_table))]
     fn check(alloc: Global, json: Json<'_, '_>) -> Result<(), TableError> {
-        ReadBy::<SchemeNameReader>::check(alloc, json)
+        ReadBy::<SchemeReader>::check(alloc, json)
     }
 }
 
