@@ -7,7 +7,7 @@ use Rattle.sig_base.specs.declared.checker.AcceptedRow.{AcceptedRow}
 use Rattle.sig_base.specs.declared.fault.PoolError.{PoolError}
 use Rattle.sig_base.specs.declared.fault.PoolError.TheVariants as pool
 use Rattle.sig_base.specs.declared.memory.OutOfMemory.{OutOfMemory}
-use Rattle.sig_bundle.specs.Written.{members, members_into, object_of}
+use Rattle.sig_bundle.specs.Written.{members, members_into}
 use Rattle.sig_bundle.specs.declared.bundle.Bundle.{Bundle}
 use Rattle.sig_bundle.specs.declared.object.Object.{Object}
 use Rattle.sig_certificate.specs.Certificate.{Cert}

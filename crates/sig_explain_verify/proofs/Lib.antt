@@ -1,3 +1,7 @@
 pub mod Issuers
 pub mod Rows
 pub mod ShownRoots
+pub mod OneReading
+pub mod OneResult
+pub mod OneShown
+pub mod OneTree

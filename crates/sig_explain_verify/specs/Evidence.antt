@@ -13,8 +13,8 @@ use Rattle.sig_document_fault.specs.BundleTable.{bundle_table}
 use Rattle.sig_dsse.specs.declared.artifact_digest.ArtifactDigest.{ArtifactDigest}
 use Rattle.sig_dsse.specs.declared.artifact_digest.ArtifactDigest.TheVariants.{Sha256, Sha512}
 use Rattle.sig_rekor.specs.NoteText.{note_text}
-use Rattle.sig_rekor.specs.declared.checkpoint.SignedCheckpoint.{SignedCheckpoint}
 use Rattle.sig_root.specs.declared.record.TrustedRoot.{TrustedRoot}
+use Rattle.sig_shown.specs.Shown.{time_row}
 use Rattle.sig_table.specs.DocumentFault.{fault_in}
 use Rattle.sig_timestamp.specs.Timestamps.{sct_of}
 use Rattle.sig_verify.specs.declared.link.Link.{Link}
@@ -48,15 +48,22 @@ bundle_json_rows i = if_there fault_rows (fault_in bundle_table i.bundle)
 
 -- ---- the trusted root
 
--- the certificate authorities
-abbrev pub fulcio_rows : Inputs → List TreeMember
-fulcio_rows i = if_there (λ root. authorities_rows i.now root.certificate_authorities) (root_in i.root)
+-- the time at which the ranges of its authorities and logs are looked at
+abbrev pub now_row : ℤ → TreeMember
+now_row now = time_row (codes "now") now
+
+abbrev pub fulcio_of : ℤ → TrustedRoot → List TreeMember
+fulcio_of now root = now_row now ∷ authorities_rows now root.certificate_authorities
 
 abbrev pub ctlogs_of : ℤ → TrustedRoot → List TreeMember
-ctlogs_of now root = (codes "ctlogs", Some (logs_tree now root.ctlogs)) ∷ []
+ctlogs_of now root = now_row now ∷ (codes "ctlogs", Some (logs_tree now root.ctlogs)) ∷ []
 
 abbrev pub tlogs_of : ℤ → TrustedRoot → List TreeMember
-tlogs_of now root = (codes "tlogs", Some (logs_tree now root.tlogs)) ∷ []
+tlogs_of now root = now_row now ∷ (codes "tlogs", Some (logs_tree now root.tlogs)) ∷ []
+
+-- the certificate authorities
+abbrev pub fulcio_rows : Inputs → List TreeMember
+fulcio_rows i = if_there (fulcio_of i.now) (root_in i.root)
 
 -- the Certificate Transparency logs
 abbrev pub ctlogs_rows : Inputs → List TreeMember

@@ -4,3 +4,4 @@ pub mod ShownRoot
 pub mod Evidence
 pub mod Refused
 pub mod Verified
+pub mod OneTree

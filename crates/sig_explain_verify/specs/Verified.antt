@@ -1,14 +1,14 @@
 -- *Verified tree*: what is shown of a bundle that is verified: of the bundle as it passed its own checks, of the issuer
 -- in the first certification path (RFC 5280 section 6.1) from its certificate to a trust anchor, and of the proof of its
 -- log entry. Nothing is shown if one of them is not there.
-use Rattle.std.specs.Prelude.{◌≡◌, ℕ, ℤ, List, [], Option, Some, None, Result, Ok, Err}
+use Rattle.std.specs.Prelude.{◌≡◌, List, [], Option, Some}
 use Rattle.std.specs.Result.{result_ok}
 use Rattle.sig_base.specs.Checker.{accepted}
 use Rattle.sig_base.specs.OptionSteps.{◌>>=◌}
 use Rattle.sig_base.specs.declared.checker.AcceptedRow.{AcceptedRow}
 use Rattle.sig_base.specs.declared.checker.Operation.TheVariants.{Certificate}
 use Rattle.sig_bundle.specs.BundleRecord.{bundle_in}
-use Rattle.sig_bundle.specs.Written.{TreeMember, object_of}
+use Rattle.sig_bundle.specs.Written.{object_of}
 use Rattle.sig_bundle.specs.declared.bundle.Bundle.{Bundle}
 use Rattle.sig_certificate.specs.Certificate.{Cert}
 use Rattle.sig_checked_bundle.specs.Checked.{Checked}

@@ -18,6 +18,7 @@ use sig_evidence::{
     with_accepted_under, with_authorities, with_body, with_issuer, with_logs, with_policy_rules,
     with_sct, with_subjects, with_times,
 };
+use sig_shown::with_time;
 use sig_verify::Link;
 use std::alloc::Global;
 
@@ -68,7 +69,7 @@ fn with_authorities_named(
     }
 }
 
-/// The object with the certificate authorities of the trusted root.
+/// The object with the certificate authorities of the trusted root, and the time at which their ranges are looked at.
 pub(crate) fn with_fulcio(
     object: Object,
     alloc: Global,
@@ -81,6 +82,7 @@ pub(crate) fn with_fulcio(
 {
     match &root.root {
         Some(root) => {
+            let object = with_time(object, alloc, "now", &inputs.now)?;
             let authorities = root.certificate_authorities.as_slice();
             with_authorities(object, alloc, authorities, &inputs.now)
         }
@@ -88,7 +90,8 @@ pub(crate) fn with_fulcio(
     }
 }
 
-/// The object with the Certificate Transparency logs of the trusted root.
+/// The object with the Certificate Transparency logs of the trusted root, and the time at which the ranges of their
+/// keys are looked at.
 pub(crate) fn with_ctlogs(
     object: Object,
     alloc: Global,
@@ -100,12 +103,15 @@ pub(crate) fn with_ctlogs(
         ≡ members_into (members object) (ctlogs_rows (inputs_of inputs.entry.now))) }
 {
     match &root.root {
-        Some(root) => with_logs(object, alloc, "ctlogs", root.ctlogs.as_slice(), &inputs.now),
+        Some(root) => {
+            let object = with_time(object, alloc, "now", &inputs.now)?;
+            with_logs(object, alloc, "ctlogs", root.ctlogs.as_slice(), &inputs.now)
+        }
         None => Ok(object),
     }
 }
 
-/// The object with the logs of signatures of the trusted root.
+/// The object with the logs of signatures of the trusted root, and likewise the time.
 pub(crate) fn with_tlogs(
     object: Object,
     alloc: Global,
@@ -117,7 +123,10 @@ pub(crate) fn with_tlogs(
         ≡ members_into (members object) (tlogs_rows (inputs_of inputs.entry.now))) }
 {
     match &root.root {
-        Some(root) => with_logs(object, alloc, "tlogs", root.tlogs.as_slice(), &inputs.now),
+        Some(root) => {
+            let object = with_time(object, alloc, "now", &inputs.now)?;
+            with_logs(object, alloc, "tlogs", root.tlogs.as_slice(), &inputs.now)
+        }
         None => Ok(object),
     }
 }

@@ -9,7 +9,8 @@
 //! and what its link compares, as sig_evidence shows it of the inputs, which are read a second time for it.
 //! [`verified_explanation`] makes the object of what was verified, as sig_verified says it. That the error, or the entry,
 //! is the result of these inputs is the caller's word: both are total, and show nothing of a part that cannot be read.
-//! A [`ShownRoot`] is what many bundles need of one trusted root; the calls `.._under` take it.
+//! A [`ShownRoot`] is what many bundles need of one trusted root; the calls `.._under` take it. By [`laws`] all that
+//! `verify_offline` can return for the same inputs is shown as one tree.
 #![tactic(auto)]
 
 mod bundle;
@@ -17,6 +18,8 @@ mod checked;
 mod entry;
 mod inputs;
 mod key;
+pub mod laws;
+mod picked;
 mod refused;
 mod root;
 mod trust;

@@ -3,7 +3,7 @@ ghost use Rattle.std.specs.Prelude.{◌≡◌, IfOk, option_map};
 ghost use Rattle.sig_explain_verify.specs.Parts.{root_in};
 ghost use Rattle.sig_explain_verify.specs.ShownRoot.{IsShownRoot, authorities_in, pool_in, root_fault_in};
 
-use crate::trust::{TrustParts, read_trust};
+use crate::trust::{TrustParts, trust_in};
 use sig_base::OutOfMemory;
 use sig_certificate::Certificate;
 use sig_document_fault::root_fault;
@@ -26,13 +26,13 @@ pub struct ShownRoot {
 }
 
 impl ShownRoot {
-    /// Returns what is shown of the trusted root that this text is, at a time in whole seconds since 1970. Fails only if
-    /// out of memory.
+    /// Returns what is shown of the trusted root that this text is, at a time in whole seconds since 1970. A text that is
+    /// one is read once; what is wrong with another is looked for in a second pass. Fails only if out of memory.
     pub fn read(alloc: Global, text: &[u8], now: i64) -> Result<ShownRoot, OutOfMemory>
         ensures { IfOk result (IsShownRoot text.now now) }
     {
-        let trust = read_trust(alloc, text, now)?;
         let root = read_root(alloc, text)?;
+        let trust = trust_in(alloc, &root, now)?;
         let fault = fault_of(alloc, text, &root)?;
         Ok(ShownRoot { fault, root, trust })
     }

@@ -1,14 +1,14 @@
 //! What a trusted root gives at a time: certificates of authorities, a pool of trust anchors, and keys of logs.
 ghost use Rattle.std.specs.Prelude.{◌≡◌, IfOk};
 ghost use Rattle.sig_certificate.specs.Certificate.{IsCertificate};
-ghost use Rattle.sig_explain_verify.specs.Parts.{AreReadAll, IsReadOne, root_in};
+ghost use Rattle.sig_explain_verify.specs.Parts.{AreReadAll, IsReadOne};
 ghost use Rattle.sig_explain_verify.specs.ShownRoot.{IsGivenAt, IsPoolOf, IsTrustIn};
 ghost use Rattle.sig_verify.specs.RootLinks.{authorities, rekor_keys};
 
-use sig_base::{Entries, KeyMap, OutOfMemory, OwnedList, PoolError, SigstoreError};
+use crate::picked::{pick_certificates, pick_keys};
+use sig_base::{Entries, KeyMap, OutOfMemory, OwnedList, PoolError};
 use sig_certificate::{Certificate, X509ReadError};
-use sig_json::JsonError;
-use sig_root::{SigstoreTrustRoot, TrustRoot, read_trusted_root};
+use sig_root::TrustedRoot;
 use sig_x509::CertificatePool;
 use std::alloc::Global;
 
@@ -23,27 +23,25 @@ pub(crate) struct TrustParts {
     pub(crate) pool: Option<CertificatePool>,
 }
 
-/// What the trusted root that a text is gives at a time; `None` if it is none. Fails only if out of memory.
-pub(crate) fn read_trust(
+/// What a trusted root gives at a time; `None` if there is none. Fails only if out of memory.
+pub(crate) fn trust_in(
     alloc: Global,
-    text: &[u8],
+    root: &Option<TrustedRoot>,
     now: i64,
 ) -> Result<Option<TrustParts>, OutOfMemory>
-    ensures { IfOk result (IsTrustIn (root_in text.now) now) }
+    ensures { IfOk result (IsTrustIn root.now now) }
 {
-    match read_trusted_root(alloc, text) {
-        Ok(root) => {
-            let root = SigstoreTrustRoot::of(root);
-            let parts = trust_of(alloc, &root, now)?;
+    match root {
+        Some(root) => {
+            let parts = trust_of(alloc, root, now)?;
             Ok(Some(parts))
         }
-        Err(JsonError::NotJson | JsonError::Float | JsonError::Member) => Ok(None),
-        Err(JsonError::OutOfMemory) => Err(OutOfMemory),
+        None => Ok(None),
     }
 }
 
 /// What a trusted root gives at a time.
-fn trust_of(alloc: Global, root: &SigstoreTrustRoot, now: i64) -> Result<TrustParts, OutOfMemory>
+fn trust_of(alloc: Global, root: &TrustedRoot, now: i64) -> Result<TrustParts, OutOfMemory>
     ensures { IfOk result (IsGivenAt root.now now) }
 {
     let ders = authorities_of(alloc, root, now)?;
@@ -58,26 +56,17 @@ fn trust_of(alloc: Global, root: &SigstoreTrustRoot, now: i64) -> Result<TrustPa
 }
 
 /// The certificates of the authorities that have begun (DER).
-fn authorities_of(alloc: Global, root: &SigstoreTrustRoot, now: i64) -> Result<Entries, OutOfMemory>
+fn authorities_of(alloc: Global, root: &TrustedRoot, now: i64) -> Result<Entries, OutOfMemory>
     ensures { IfOk result (λ ders. ders ≡ authorities root.now now) }
 {
-    match root.fulcio_certs(alloc, now) {
-        Ok(ders) => Ok(ders),
-        Err(SigstoreError::OutOfMemory) => Err(OutOfMemory),
-        // There are none.
-        Err(_) => Ok(Entries::new(alloc)),
-    }
+    pick_certificates(alloc, root.certificate_authorities.as_slice(), now)
 }
 
-/// The keys of the logs of signatures. A root has a map of them at each time, which may be empty.
-fn log_keys_of(alloc: Global, root: &SigstoreTrustRoot, now: i64) -> Result<KeyMap, OutOfMemory>
+/// The keys of the logs of signatures.
+fn log_keys_of(alloc: Global, root: &TrustedRoot, now: i64) -> Result<KeyMap, OutOfMemory>
     ensures { IfOk result (λ keys. keys ≡ rekor_keys root.now now) }
 {
-    match root.rekor_keys(alloc, now) {
-        Ok(keys) => Ok(keys),
-        Err(SigstoreError::OutOfMemory) => Err(OutOfMemory),
-        Err(_) => unreachable!(),
-    }
+    pick_keys(alloc, root.tlogs.as_slice(), now)
 }
 
 /// The certificate that these bytes are.

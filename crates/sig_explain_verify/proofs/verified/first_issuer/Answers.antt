@@ -1,4 +1,4 @@
-use Rattle.std.proofs.Common.{◌≡◌, sym, ap, w64, FitsSigned, arith, rules, ◌∙◌}
+use Rattle.std.proofs.Common.{sym, ap, w64, FitsSigned, arith, rules, ◌∙◌}
 use Rattle.std.proofs.lemmas.Int.{ints, to_z-of_z}
 use Rattle.std.specs.Result.{result_ok}
 use Rattle.sig_verify.proofs.Issuers.{issuer_found, issuer_refused}
