@@ -8,12 +8,13 @@
 //!
 //! The layer above uses one fact: [`gate_explanation`] returns the document whose tree is defined. It holds the verdicts
 //! that `gate` has, of the same bundles under the same trusted roots, policies and accepted signatures; each bundle is
-//! verified once, and each trusted root is read once.
+//! verified once, and each trusted root is read once. By [`laws`] a text has one such tree.
 #![tactic(auto)]
 
 mod artifact;
 mod bundle;
 mod explanation;
+pub mod laws;
 mod roots;
 
 pub use explanation::gate_explanation;
