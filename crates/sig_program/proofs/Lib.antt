@@ -20,6 +20,7 @@ pub mod LongTexts
 pub mod Naming
 pub mod NoteRows
 pub mod OneExplanation
+pub mod OneOutcome
 pub mod Replies
 pub mod RowSizes
 pub mod Runs

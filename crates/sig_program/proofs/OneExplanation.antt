@@ -1,4 +1,4 @@
--- A text has one explanation: what is wrong with it is a function of it, and of a request one link is the first that fails.
+-- A text has one explanation: what is wrong with it is a function of it, and a request has one first link that fails.
 use Rattle.std.proofs.Common.{◌≡◌, ◌⊎◌, ◌∙◌, ℕ, inl, inr, List, Option, Some, None, Result, Ok, ap, refl, subst, sym}
 use Rattle.sig_base.proofs.OptionSteps.{some_is}
 use Rattle.sig_base.proofs.RuleLaws.{none_fails, one_fails}
@@ -42,32 +42,58 @@ one_fault table text one other (fault, is, made) (last, last_is, last_made) =
 no_fault : (fault : RequestFault) → ◌≡◌ {A = Option RequestFault} None (Some fault) → ⊥
 no_fault fault e = cc
 
+module _ {R : Type 0} (meaning : Data → Option R) (table : Table) (is_table : IsTableOf meaning table) (text : List ℕ)
+  where
+    -- nothing is wrong with a request
+    no_fault_of : IsRequest meaning text → (shown : Data) → IsFaultTree table text shown → ⊥
+    no_fault_of request shown (fault, found, wrong) =
+        let answer : Result (Option RequestFault) OutOfMemory = Ok (request_fault_in table text) in
+        let none = (none_if_request meaning table is_table text answer refl).1 request in
+        no_fault fault (sym none ∙ found)
+
+    module _ (Shows : R → Data → Type 0) (only : (request : R) (one other : Data) → Shows request one
+        → Shows request other → one ≡ other) where
+      -- the text is a request, and the tree is of the request
+      abbrev pub IsOfRequest : Data → Type 0
+      IsOfRequest tree = (request : R) × IsRequestOf meaning text request × Shows request tree
+
+      one_of_request : (one other : Data) → IsOfRequest one → IsOfRequest other → one ≡ other
+      one_of_request one other (request, is, shown) (last, last_is, told) =
+          let same : last ≡ request = one_request meaning text last request last_is is in
+          only request one other shown (subst (λ (r : R). Shows r other) same told)
+
+      -- where a request has one tree, so has a text
+      pub one_of_text : (one other : Data) → IsFaultTree table text one ⊎ IsOfRequest one
+          → IsFaultTree table text other ⊎ IsOfRequest other → one ≡ other
+      one_of_text one other (inl fault) (inl last) = one_fault table text one other fault last
+      one_of_text one other (inl fault) (inr last) = absurd (no_fault_of (last.0, last.1) one fault)
+      one_of_text one other (inr shown) (inl last) = absurd (no_fault_of (shown.0, shown.1) other last)
+      one_of_text one other (inr shown) (inr last) = one_of_request one other shown last
+
 module _ {R : Type 0} (meaning : Data → Option R) (table : Table) (is_table : IsTableOf meaning table)
     (Of : R → Link → Type 0) (ls : List Link) (tree_of : R → Option Link → Data) (text : List ℕ) where
   abbrev pub ShowsVerdict : Data → Type 0
   ShowsVerdict =
       IsVerdictTree (IsRequestOf meaning text) (λ request verdict. IsLinkVerdict (Of request) ls verdict) tree_of
 
-  -- nothing is wrong with a request
-  no_fault_of : (tree shown : Data) → ShowsVerdict tree → IsFaultTree table text shown → ⊥
-  no_fault_of tree shown (request, verdict, is, judged, made) (fault, found, wrong) =
-      let answer : Result (Option RequestFault) OutOfMemory = Ok (request_fault_in table text) in
-      let none = (none_if_request meaning table is_table text answer refl).1 (request, is) in
-      no_fault fault (sym none ∙ found)
+  -- the tree of a verdict on a request
+  abbrev OfVerdict : R → Data → Type 0
+  OfVerdict request tree =
+      (verdict : Option Link) × IsLinkVerdict (Of request) ls verdict × (tree ≡ tree_of request verdict)
 
-  one_shown : (one other : Data) → ShowsVerdict one → ShowsVerdict other → one ≡ other
-  one_shown one other (request, verdict, is, judged, made) (last, found, last_is, last_judged, last_made) =
-      let same : last ≡ request = one_request meaning text last request last_is is in
-      let P : R → Type 0 = λ r. IsLinkVerdict (Of r) ls found in
-      let verdicts = one_verdict (Of request) ls verdict found judged (subst P same last_judged) in
-      made ∙ ap (tree_of request) verdicts ∙ ap (λ r. tree_of r found) (sym same) ∙ sym last_made
+  one_of_verdict : (request : R) (one other : Data) → OfVerdict request one → OfVerdict request other → one ≡ other
+  one_of_verdict request one other (verdict, judged, made) (found, last_judged, last_made) =
+      made ∙ ap (tree_of request) (one_verdict (Of request) ls verdict found judged last_judged) ∙ sym last_made
+
+  by_request : (tree : Data) → IsFaultTree table text tree ⊎ ShowsVerdict tree
+      → IsFaultTree table text tree ⊎ IsOfRequest meaning table is_table text OfVerdict one_of_verdict tree
+  by_request tree (inl fault) = inl fault
+  by_request tree (inr (request, verdict, is, judged, made)) = inr (request, is, (verdict, judged, made))
 
   pub one_tree : (one other : Data) → IsFaultTree table text one ⊎ ShowsVerdict one
       → IsFaultTree table text other ⊎ ShowsVerdict other → one ≡ other
-  one_tree one other (inl fault) (inl last) = one_fault table text one other fault last
-  one_tree one other (inl fault) (inr last) = absurd (no_fault_of other one last fault)
-  one_tree one other (inr shown) (inl last) = absurd (no_fault_of one other shown last)
-  one_tree one other (inr shown) (inr last) = one_shown one other shown last
+  one_tree one other p q =
+      one_of_text meaning table is_table text OfVerdict one_of_verdict one other (by_request one p) (by_request other q)
 
 pub one_of_log : HasOneExplanation Log
 one_of_log text = one_tree log_request log_table log_is HoldsOfLog log_links log_tree text

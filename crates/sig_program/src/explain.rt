@@ -10,7 +10,8 @@
 ghost use Rattle.std.specs.Prelude.{◌≡◌, IfOk};
 ghost use Rattle.sig_program.specs.ExplainedReply.{IsExplained, long_explained};
 ghost use Rattle.sig_program.specs.Explanation.{HasOneExplanation};
-ghost use Rattle.sig_program.specs.declared.explained.Explained.TheVariants.{Audit, Consistency, Gate, Log, Witness};
+ghost use Rattle.sig_program.specs.declared.explained.Explained.TheVariants.{Audit, Consistency, Gate, Log};
+ghost use Rattle.sig_program.specs.declared.explained.Explained.TheVariants.{Verify, Witness};
 
 use crate::explain_consistency::explain_consistency;
 use crate::explain_log::explain_log;
@@ -21,6 +22,8 @@ use sig_audit_command::audit_reply;
 use sig_base::OutOfMemory;
 use sig_explain_audit::audit_explanation;
 use sig_explain_gate::gate_explanation;
+use sig_explain_gate::laws::texts;
+use sig_explain_verify::laws::results;
 use sig_explain_witness::witness_explanation;
 use sig_gate_command::gate_reply;
 use sig_reply::Reply;
@@ -34,8 +37,15 @@ pub fn explained_reply(alloc: Global, what: Explained, request: &[u8]) -> Result
     ensures reply { IfOk result (IsExplained what request.now) }
     // A text has no other explanation.
     ensures log { HasOneExplanation Log }
+    ensures verify { HasOneExplanation Verify }
     ensures consistency { HasOneExplanation Consistency }
+    ensures audit { HasOneExplanation Audit }
+    ensures witness { HasOneExplanation Witness }
+    ensures gate { HasOneExplanation Gate }
 {
+    // The laws of the trees of `verify` and of `gate`.
+    results();
+    texts();
     explain(alloc, what, request)
 }
 

@@ -8,11 +8,12 @@
 //! refused note-match
 //! ```
 //!
-//! What the layer above uses: [`run::run`] over any source and sink; or, over a request in memory, the call that makes
-//! the reply of each command. [`demo::demo`] shows `log` at work, without a request.
+//! What the layer above uses: [`run::run`] over any source and sink; or, over a request in memory, the reply of a
+//! [`command::Command`], and [`explain::explained_reply`]. [`demo::demo`] shows `log` at work, without a request.
 #![tactic(auto)]
 
-mod command;
+pub mod command;
+mod command_reply;
 pub mod consistency;
 pub mod consistency_questions;
 pub mod demo;
