@@ -5,9 +5,9 @@ use Rattle.sig_program.specs.Reply.{IsReply}
 use Rattle.sig_program.specs.declared.command.Command.{Command}
 use Rattle.sig_program.specs.declared.explained.Explained.{Explained}
 use Rattle.sig_reply.specs.declared.reply.Reply.{Reply}
-use Rattle.sigverify_c.specs.Number.{command_of, explanation_number, number_of}
+use Rattle.sigverify_c.specs.Number.{explanation_number, number_of}
 use Rattle.sigverify_c.specs.declared.numbered.Numbered.{Numbered}
-use Rattle.sigverify_c.specs.declared.numbered.Numbered.TheVariants.{Explanation}
+use Rattle.sigverify_c.specs.declared.numbered.Numbered.TheVariants.{Command as Replying, Explanation}
 
 -- EX_TEMPFAIL of sysexits.h: the reply has more bytes than there is room for
 abbrev pub room_status : ℕ
@@ -21,8 +21,8 @@ IsReplyTo number request reply =
 
 -- for private clauses: its reply
 abbrev pub IsReplyOf : Numbered → List ℕ → Reply → Type 0
+IsReplyOf (Replying command) request reply = IsReply command request reply
 IsReplyOf (Explanation what) request reply = IsExplained what request reply
-IsReplyOf other request reply = IsReply (command_of other) request reply
 
 -- the whole reply is at the beginning of the room, whose other bytes are as they were
 pub record IsAnswered (number : ℕ) (request room_old room_new : List ℕ) (written status : ℕ) : Type 0 where

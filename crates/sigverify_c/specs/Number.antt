@@ -5,10 +5,7 @@ use Rattle.sig_program.specs.declared.command.Command.{Command}
 use Rattle.sig_program.specs.declared.command.Command.TheVariants as command
 use Rattle.sig_program.specs.declared.explained.Explained.{Explained}
 use Rattle.sigverify_c.specs.declared.numbered.Numbered.{Numbered}
-use Rattle.sigverify_c.specs.declared.numbered.Numbered.TheVariants.{Log, Verify, Consistency, Audit, Witness, Gate}
-use Rattle.sigverify_c.specs.declared.numbered.Numbered.TheVariants.{LogQuestions, VerifyQuestions}
-use Rattle.sigverify_c.specs.declared.numbered.Numbered.TheVariants.{ConsistencyQuestions, AuditQuestions, WitnessQuestions}
-use Rattle.sigverify_c.specs.declared.numbered.Numbered.TheVariants.{GateQuestions, Explanation}
+use Rattle.sigverify_c.specs.declared.numbered.Numbered.TheVariants.{Command as Replying, Explanation}
 
 -- the number that C has for a command: that of its questions is 256 more
 abbrev pub number_of : Command → ℕ
@@ -35,23 +32,7 @@ IsNumber number =
     ((command : Command) × (number ≡ number_of command))
     ⊎ ((what : Explained) × (number ≡ explanation_number what))
 
--- for private clauses: the command of sig_program
-abbrev pub command_of : Numbered → Command
-command_of Log = command.Log
-command_of Verify = command.Verify
-command_of Consistency = command.Consistency
-command_of Audit = command.Audit
-command_of Witness = command.Witness
-command_of Gate = command.Gate
-command_of LogQuestions = command.LogQuestions
-command_of VerifyQuestions = command.VerifyQuestions
-command_of ConsistencyQuestions = command.ConsistencyQuestions
-command_of AuditQuestions = command.AuditQuestions
-command_of WitnessQuestions = command.WitnessQuestions
-command_of GateQuestions = command.GateQuestions
-command_of (Explanation what) = explained_command what
-
 -- for private clauses: this has the number
 abbrev pub HasNumber : ℕ → Numbered → Type 0
+HasNumber number (Replying command) = number ≡ number_of command
 HasNumber number (Explanation what) = number ≡ explanation_number what
-HasNumber number other = number ≡ number_of (command_of other)

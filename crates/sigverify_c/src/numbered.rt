@@ -3,36 +3,17 @@ ghost use Rattle.std.specs.Prelude.{◌≡◌, IfOk, MatchOption};
 ghost use Rattle.sigverify_c.specs.Answer.{IsReplyOf};
 ghost use Rattle.sigverify_c.specs.Number.{HasNumber, IsNumber};
 
-use sig_audit_command::{audit_questions, audit_reply};
 use sig_base::OutOfMemory;
-use sig_gate_command::{gate_questions, gate_reply};
-use sig_program::consistency::consistency_reply;
-use sig_program::consistency_questions::consistency_questions;
+use sig_program::command::Command;
 use sig_program::explain::explained_reply;
 use sig_program::explained::Explained;
-use sig_program::log::log_reply;
-use sig_program::log_questions::log_questions;
-use sig_program::verify::verify_reply;
-use sig_program::verify_questions::verify_questions;
 use sig_reply::Reply;
-use sig_witness_command::{witness_questions, witness_reply};
 use std::alloc::Global;
 
 /// What has a number: a command, or the explanation of one.
 #[derive(Clone, Copy)]
 pub enum Numbered {
-    Log,
-    Verify,
-    Consistency,
-    Audit,
-    Witness,
-    Gate,
-    LogQuestions,
-    VerifyQuestions,
-    ConsistencyQuestions,
-    AuditQuestions,
-    WitnessQuestions,
-    GateQuestions,
+    Command(Command),
     Explanation(Explained),
 }
 
@@ -43,18 +24,18 @@ impl Numbered {
         ensures { MatchOption result (¬ IsNumber number) (HasNumber number) }
     {
         match number {
-            1 => Some(Numbered::Log),
-            2 => Some(Numbered::Verify),
-            3 => Some(Numbered::Consistency),
-            4 => Some(Numbered::Audit),
-            5 => Some(Numbered::Witness),
-            6 => Some(Numbered::Gate),
-            257 => Some(Numbered::LogQuestions),
-            258 => Some(Numbered::VerifyQuestions),
-            259 => Some(Numbered::ConsistencyQuestions),
-            260 => Some(Numbered::AuditQuestions),
-            261 => Some(Numbered::WitnessQuestions),
-            262 => Some(Numbered::GateQuestions),
+            1 => Some(Numbered::Command(Command::Log)),
+            2 => Some(Numbered::Command(Command::Verify)),
+            3 => Some(Numbered::Command(Command::Consistency)),
+            4 => Some(Numbered::Command(Command::Audit)),
+            5 => Some(Numbered::Command(Command::Witness)),
+            6 => Some(Numbered::Command(Command::Gate)),
+            257 => Some(Numbered::Command(Command::LogQuestions)),
+            258 => Some(Numbered::Command(Command::VerifyQuestions)),
+            259 => Some(Numbered::Command(Command::ConsistencyQuestions)),
+            260 => Some(Numbered::Command(Command::AuditQuestions)),
+            261 => Some(Numbered::Command(Command::WitnessQuestions)),
+            262 => Some(Numbered::Command(Command::GateQuestions)),
             513 => Some(Numbered::Explanation(Explained::Log)),
             514 => Some(Numbered::Explanation(Explained::Verify)),
             515 => Some(Numbered::Explanation(Explained::Consistency)),
@@ -70,18 +51,7 @@ impl Numbered {
         ensures { IfOk result (IsReplyOf self request.now) }
     {
         match self {
-            Numbered::Log => log_reply(alloc, request),
-            Numbered::Verify => verify_reply(alloc, request),
-            Numbered::Consistency => consistency_reply(alloc, request),
-            Numbered::Audit => audit_reply(alloc, request),
-            Numbered::Witness => witness_reply(alloc, request),
-            Numbered::Gate => gate_reply(alloc, request),
-            Numbered::LogQuestions => log_questions(alloc, request),
-            Numbered::VerifyQuestions => verify_questions(alloc, request),
-            Numbered::ConsistencyQuestions => consistency_questions(alloc, request),
-            Numbered::AuditQuestions => audit_questions(alloc, request),
-            Numbered::WitnessQuestions => witness_questions(alloc, request),
-            Numbered::GateQuestions => gate_questions(alloc, request),
+            Numbered::Command(command) => command.reply(alloc, request),
             Numbered::Explanation(what) => explained_reply(alloc, what, request),
         }
     }
