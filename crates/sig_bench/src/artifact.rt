@@ -44,7 +44,9 @@ pub fn hashed(count: u64) -> u64 {
 /// `None` if the text is not a bundle, or the artifact could not be read.
 pub fn verified(alloc: Global, text: &[u8], count: u64) -> Option<u64> {
     let bundle = read_bundle(alloc, text).ok()?;
-    untrusted(alloc, &bundle, count)
+    let answer = untrusted(alloc, &bundle, count);
+    drop(bundle);
+    answer
 }
 
 /// The same of a bundle.
@@ -53,10 +55,14 @@ fn untrusted(alloc: Global, bundle: &Bundle, count: u64) -> Option<u64> {
     let verifier = Verifier::new(alloc, &nothing(alloc), 0).ok()?;
     let checker = TableChecker::new(alloc);
     let mut zeros = Zeros { left: count };
-    match verifier.verify(alloc, &mut zeros, bundle, &policy, true, &checker) {
+    let ended = verifier.verify(alloc, &mut zeros, bundle, &policy, true, &checker);
+    drop(verifier);
+    let answer = match &ended {
         Ok(()) | Err(VerificationError::Input(_) | VerificationError::OutOfMemory) => None,
         Err(_) => Some(0),
-    }
+    };
+    drop(ended);
+    answer
 }
 
 /// A trust root that trusts nothing.

@@ -5,5 +5,7 @@ use std::alloc::Global;
 
 /// Returns 0 if the text is a bundle.
 pub fn read(alloc: Global, text: &[u8]) -> Option<u64> {
-    read_bundle(alloc, text).ok().map(|_| 0)
+    let bundle = read_bundle(alloc, text).ok()?;
+    drop(bundle);
+    Some(0)
 }

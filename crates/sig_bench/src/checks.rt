@@ -16,13 +16,40 @@ const ISSUER: &str = "https://issuer.example";
 /// space, and the bundle. Returns how many are verified; `None` if one is not, or out of memory.
 pub fn verified(alloc: Global, input: &[u8], now: u64) -> Option<u64> {
     let text = std::str::from_utf8(input).ok()?;
-    let mut lines = text.split('\n');
-    let checker = checker_of(alloc, lines.next()?)?;
-    let held = HeldRoot::read(alloc, lines.next()?.as_bytes(), i64::try_from(now).ok()?).ok()?;
+    let now = i64::try_from(now).ok()?;
+    let (accepted, rest) = text.split_once('\n')?;
+    let (root, bundles) = rest.split_once('\n')?;
+    let checker = checker_of(alloc, accepted)?;
+    let count = verified_under(alloc, root, now, bundles, &checker);
+    drop(checker);
+    count
+}
+
+/// The same under this checker.
+fn verified_under(
+    alloc: Global,
+    root: &str,
+    now: i64,
+    bundles: &str,
+    checker: &TableChecker,
+) -> Option<u64> {
+    let held = HeldRoot::read(alloc, root.as_bytes(), now).ok()?;
+    let count = verified_by(alloc, &held, bundles, checker);
+    drop(held);
+    count
+}
+
+/// The same under this trusted root.
+fn verified_by(
+    alloc: Global,
+    held: &HeldRoot,
+    bundles: &str,
+    checker: &TableChecker,
+) -> Option<u64> {
     let mut count: u64 = 0;
-    for line in lines {
+    for line in bundles.split('\n') {
         let (digest, bundle) = line.split_once(' ')?;
-        is_verified(alloc, &held, digest, bundle, &checker)?;
+        is_verified(alloc, held, digest, bundle, checker)?;
         count = count.saturating_add(1);
     }
     Some(count)
@@ -47,12 +74,12 @@ fn is_verified(
     bundle: &str,
     checker: &TableChecker,
 ) -> Option<()> {
-    let policy = OIDCIssuer::new(alloc, ISSUER).ok()?;
     let mut bytes = [0; 32];
     hex::decode_to_slice(digest, &mut bytes).ok()?;
     let digest = ArtifactDigest::from(bytes);
-    let _ = held
-        .verify(alloc, &digest, bundle.as_bytes(), &policy, checker)
-        .ok()?;
-    Some(())
+    let policy = OIDCIssuer::new(alloc, ISSUER).ok()?;
+    let outcome = held.verify(alloc, &digest, bundle.as_bytes(), &policy, checker);
+    let is_verified = outcome.is_ok();
+    drop(outcome);
+    is_verified.then_some(())
 }

@@ -29,25 +29,25 @@ pub fn of_payload(alloc: Global, payload: &[u8]) -> Option<u64> {
 /// Takes this text as the signature of a layer, and asks whether a key signed it. Returns 0 if it did, and 1 if not;
 /// `None` if out of memory or the bytes are not a text.
 pub fn of_signature(alloc: Global, signature: &[u8]) -> Option<u64> {
-    let unsigned = SignatureLayer::new_unsigned(alloc, "image", MANIFEST).ok()?;
-    made(
-        alloc,
-        unsigned.raw_data.as_slice(),
-        text_of(signature)?,
-        None,
-    )
+    let signature = text_of(signature)?;
+    let payload = unsigned_payload(alloc)?;
+    made(alloc, payload.as_slice(), signature, None)
 }
 
 /// Reads this text as what a log promised of a layer. Returns 0 if the log signed it, and 1 if it is refused; `None` if
 /// out of memory or the bytes are not a text.
 pub fn of_promise(alloc: Global, promise: &[u8]) -> Option<u64> {
+    let promise = text_of(promise)?;
+    let payload = unsigned_payload(alloc)?;
+    made(alloc, payload.as_slice(), "c2ln", Some(promise))
+}
+
+/// The payload of a layer that nobody signed.
+fn unsigned_payload(alloc: Global) -> Option<Bytes> {
     let unsigned = SignatureLayer::new_unsigned(alloc, "image", MANIFEST).ok()?;
-    made(
-        alloc,
-        unsigned.raw_data.as_slice(),
-        "c2ln",
-        Some(text_of(promise)?),
-    )
+    let payload = Bytes::copy_of(alloc, unsigned.raw_data.as_slice());
+    drop(unsigned);
+    payload.ok()
 }
 
 /// Reads this text as the Sigstore bundle of the image whose manifest has the digest `source`, under a key of this log
@@ -98,18 +98,32 @@ fn made(alloc: Global, payload: &[u8], signature: &str, promise: Option<&str>) -
 /// Whether there is a layer that the key signed, as a number.
 fn asked(alloc: Global, made: sig_base::Result<SignatureLayer>) -> Option<u64> {
     match made {
-        Ok(layer) => signed(alloc, &layer),
-        Err(SigstoreError::OutOfMemory) => None,
-        Err(_) => Some(REFUSED),
+        Ok(layer) => {
+            let answer = signed(alloc, &layer);
+            drop(layer);
+            answer
+        }
+        Err(error) => {
+            let answer = match &error {
+                SigstoreError::OutOfMemory => None,
+                _ => Some(REFUSED),
+            };
+            drop(error);
+            answer
+        }
     }
 }
 
 /// Whether the key signed the layer, as a number.
 fn signed(alloc: Global, layer: &SignatureLayer) -> Option<u64> {
-    match layer.is_signed_by_key(alloc, &key(alloc)?, &Accepting) {
+    let key = key(alloc)?;
+    match layer.is_signed_by_key(alloc, &key, &Accepting) {
         Ok(true) => Some(DONE),
         Ok(false) => Some(REFUSED),
-        Err(_) => None,
+        Err(error) => {
+            drop(error);
+            None
+        }
     }
 }
 

@@ -34,7 +34,8 @@ mod merkle;
 mod pool;
 mod statement;
 
-use anyhow::{Context, Result, anyhow};
+use anyhow::{Context, Result};
+use std::alloc::Global;
 use std::env;
 use std::io::Read;
 
@@ -43,45 +44,62 @@ fn main(rt: HostRuntime) -> Result<()> {
     let mut words = env::args(&rt)?;
     let _ = words.next();
     let what = words.next().context("what to read")?;
+    let (first, second) = (words.next(), words.next());
     let mut input = Vec::new(alloc);
     rt.stdin().read_to_end(&mut input)?;
-    let count = match what.as_str() {
-        "certificate" => {
-            certificate::extensions_of(alloc, input.as_slice(), number(words.next())?)
-        }
-        "read" => document::read(alloc, input.as_slice()),
-        "compact" => document::written_compact(alloc, input.as_slice()),
-        "canonical" => document::written_canonical(alloc, input.as_slice()),
-        "bundle" => bundle::read(alloc, input.as_slice()),
-        "statement" => statement::digests_of(alloc, input.as_slice()),
-        "digests" => statement::digests_alone(alloc, input.as_slice()),
-        "checks" => checks::verified(alloc, input.as_slice(), number(words.next())?),
-        "hash" => Some(artifact::hashed(number(words.next())?)),
-        "artifact" => artifact::verified(alloc, input.as_slice(), number(words.next())?),
-        "payload" => layer::of_payload(alloc, input.as_slice()),
-        "signature" => layer::of_signature(alloc, input.as_slice()),
-        "promise" => layer::of_promise(alloc, input.as_slice()),
-        "attested" => {
-            let source = words.next().context("which image")?;
-            let log = words.next().context("which log")?;
-            layer::of_bundle(alloc, input.as_slice(), source.as_str(), log.as_str())
-        }
-        "pool" => pool::questions(alloc, input.as_slice(), number(words.next())?),
-        "walk" => merkle::walked(number(words.next())?),
-        "recursion" => merkle::recursed(number(words.next())?),
-        "hashes" => Some(merkle::hashed(number(words.next())?)),
-        "inline" => Some(merkle::hashed_inline(number(words.next())?)),
-        _ => None,
-    };
-    let Some(count) = count else {
-        return Err(anyhow!("not read"));
-    };
+    let (first, second) = (text(&first), text(&second));
+    let count = count(alloc, what.as_str(), first, second, input.as_slice())?;
     println!(rt; "{count}")?;
     Ok(())
 }
 
+/// A word as it is borrowed.
+fn text(word: &Option<String>) -> Option<&str> {
+    match word {
+        Some(word) => Some(word.as_str()),
+        None => None,
+    }
+}
+
+/// Makes the call of this name, with the words after it, over the input, and returns what it counts.
+fn count(
+    alloc: Global,
+    what: &str,
+    first: Option<&str>,
+    second: Option<&str>,
+    input: &[u8],
+) -> Result<u64> {
+    let count = match what {
+        "certificate" => certificate::extensions_of(alloc, input, number(first)?),
+        "read" => document::read(alloc, input),
+        "compact" => document::written_compact(alloc, input),
+        "canonical" => document::written_canonical(alloc, input),
+        "bundle" => bundle::read(alloc, input),
+        "statement" => statement::digests_of(alloc, input),
+        "digests" => statement::digests_alone(alloc, input),
+        "checks" => checks::verified(alloc, input, number(first)?),
+        "hash" => Some(artifact::hashed(number(first)?)),
+        "artifact" => artifact::verified(alloc, input, number(first)?),
+        "payload" => layer::of_payload(alloc, input),
+        "signature" => layer::of_signature(alloc, input),
+        "promise" => layer::of_promise(alloc, input),
+        "attested" => {
+            let source = first.context("which image")?;
+            let log = second.context("which log")?;
+            layer::of_bundle(alloc, input, source, log)
+        }
+        "pool" => pool::questions(alloc, input, number(first)?),
+        "walk" => merkle::walked(number(first)?),
+        "recursion" => merkle::recursed(number(first)?),
+        "hashes" => Some(merkle::hashed(number(first)?)),
+        "inline" => Some(merkle::hashed_inline(number(first)?)),
+        _ => None,
+    };
+    count.context("not read")
+}
+
 /// The number that a word of the command line is.
-fn number(word: Option<String>) -> Result<u64> {
+fn number(word: Option<&str>) -> Result<u64> {
     let word = word.context("how many")?;
-    word.as_str().parse::<u64>().context("how many")
+    word.parse::<u64>().context("how many")
 }
