@@ -68,20 +68,21 @@ def log_id(instance):
 
 
 def logs(case, name):
-    """The logs of this member of the trusted root."""
+    """The logs of this member of the trusted root, and when their ranges were looked at."""
     now = case.request.now
-    return {name: [{**log_id(each), **(key(each["publicKey"], now) if "publicKey" in each else {})} for each in case.root[name][:MOST_LOGS]]}
+    found = [{**log_id(each), **(key(each["publicKey"], now) if "publicKey" in each else {})} for each in case.root[name][:MOST_LOGS]]
+    return {name: found, "now": time(now)}
 
 
 def authorities(case):
-    """The certificate authorities of the trusted root, and how many there are."""
+    """The certificate authorities of the trusted root, how many there are, and when their ranges were looked at."""
     listed, now = case.root["certificateAuthorities"], case.request.now
     found = []
     for each in listed[:MOST_AUTHORITIES]:
         valid_for = each.get("validFor") or {}
         chain = (each.get("certChain") or {}).get("certificates") or []
         found.append({"certificateCount": str(len(chain)), "state": state(valid_for, now), **{end: time(valid_for[end]) for end in ("start", "end") if end in valid_for}})
-    return {"certificateAuthorities": found, "certificateAuthorityCount": str(len(listed))}
+    return {"certificateAuthorities": found, "certificateAuthorityCount": str(len(listed)), "now": time(now)}
 
 
 # The policy.

@@ -41,7 +41,7 @@ def times():
                   held(list=extension(SCT_LIST, sct_list(sct(time=stamp)))))
 
 
-# Logs of a trusted root, at the request's time.
+# Logs and authorities of a trusted root, at the request's time.
 
 def instance(spki=None, identifier=None, **valid_for):
     made = {"publicKey": {"rawBytes": base64_of(spki), "validFor": valid_for}} if spki is not None else {}
@@ -53,16 +53,30 @@ LOGS = [instance(), instance(key(9)), instance(None, OTHER_LOG_ID), instance(key
         instance(b"", OTHER_LOG_ID, start=PAST, end="2023-12-01T00:00:00Z"), instance(key(9), OTHER_LOG_ID, start=LATER), {"publicKey": {}},
         instance(key(9), OTHER_LOG_ID, end=PAST), {"publicKey": {"validFor": {"start": LATER, "end": PAST}}, "logId": {}}]
 STATES = [None, "holds", None, "holds", "holds", "ended", "not begun", "holds", "holds", "not begun"]
+NOW = {"seconds": "1702500000", "utc": "2023-12-13T20:40:00Z"}
 
 
 def logs():
     for name, link in (("ctlogs", "sct"), ("tlogs", "log-key")):
         wanted = {"%s.%d.state" % (name, place): state for place, state in enumerate(STATES)}
-        yield row("each kind of %s" % name, {"link": link, name + ".0": {}, name + ".4.logId": "", name + ".3.end": None, **wanted}, root(name, LOGS))
+        yield row("each kind of %s" % name, {"link": link, "now": NOW, name + ".0": {}, name + ".4.logId": "", name + ".3.end": None, **wanted}, root(name, LOGS))
         yield row("more %s than are shown" % name, {name + ".255.logId": OTHER_LOG_ID.hex(), name + ".256": None},
                   root(name, [instance(key(9), OTHER_LOG_ID)] * 257))
-    yield row("Certificate Transparency logs without a key", {"link": "ctfe", "ctlogs": [{"logId": OTHER_LOG_ID.hex()}, {"state": "holds"}]},
+    yield row("Certificate Transparency logs without a key", {"link": "ctfe", "now": NOW, "ctlogs": [{"logId": OTHER_LOG_ID.hex()}, {"state": "holds"}]},
               root("ctlogs", [LOGS[2], {"publicKey": {}}]))
+
+
+def authorities():
+    one = {"certChain": {"certificates": [{"rawBytes": ""}]}}
+    listed = [{}, {**one, "validFor": {"start": LATER}}, {"certChain": {}, "validFor": {"start": PAST}}, {"validFor": {"start": PAST, "end": "2023-12-01T00:00:00Z"}},
+              {"validFor": {"end": PAST}}, {**one, "validFor": {"start": "2023-12-13T20:40:01Z", "end": LATER}}]
+    states = ["holds", "not begun", "holds", "ended", "holds", "not begun"]
+    wanted = {"certificateAuthorities.%d.state" % place: state for place, state in enumerate(states)}
+    yield row("each kind of authority", {"link": "fulcio", "now": NOW, "certificateAuthorityCount": "6", "certificateAuthorities.1.certificateCount": "1",
+                                         "certificateAuthorities.2.certificateCount": "0", "certificateAuthorities.3.end.seconds": "1701388800", **wanted},
+              root("certificateAuthorities", listed))
+    yield row("more authorities than are shown", {"link": "fulcio", "now": NOW, "certificateAuthorities.255.state": "holds", "certificateAuthorities.256": None,
+                                                  "certificateAuthorityCount": "257"}, root("certificateAuthorities", [{}] * 257))
 
 
 # Digests of a statement's subjects, and rules of a policy.
@@ -130,4 +144,4 @@ def signatures():
               bundle(CHECKPOINT, lambda old: old.split("\n\n")[0] + "\n\n"))
 
 
-GROUPS = [certificates, times, logs, subjects, policies, signatures]
+GROUPS = [certificates, times, logs, authorities, subjects, policies, signatures]

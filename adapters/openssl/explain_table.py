@@ -187,7 +187,7 @@ ASKED = ["{accepted}", "the scheme is {scheme}", "of the key, SHA-256 is {keySha
          "of the message, SHA-256 is {messageSha256}"]
 TREES = ["the proof says index and tree: {proof}", "the checkpoint says: {note}"]
 DETAILS = {
-    "ctfe": ["{logs}"],
+    "fulcio": ["{authorities}"], "ctfe": ["{logs}"],
     "issuer": [("the certificate names the issuer {issuerText}", "the certificate names the issuer {issuerName}, in DER"),
                "{anchors}"],
     "sct": [("its SCT is of the log {logId}, at {time}", "its SCT is of the log {logId}"), "{logs}"],

@@ -106,6 +106,17 @@ def rule_text(rule):
     return filled(said, {**rule, "actual": rule["actual"] or "nothing"} if rule["extension"] == "SubjectAltName" else rule)
 
 
+def first_of(texts, count):
+    """The first texts of so many."""
+    left = count - len(texts)
+    return ("; ".join(texts) or "none") + (f" and {left} more" if left else "")
+
+
+def with_now(said, members):
+    """What is said of ranges of the trusted root, and the time at which they were looked at."""
+    return f"{said}; now is {object_text(members['now'])}" if "now" in members else said
+
+
 def logs(members):
     """What the trusted root has of the log that was asked for, and else which logs it has. A Certificate Transparency log is
     known by the SHA-256 of its key (RFC 6962 section 3.2), and the log of an entry by the id that the trusted root gives."""
@@ -115,18 +126,33 @@ def logs(members):
         return None
     found = [log for log in held if "logId" in members and log.get(name) == members["logId"]]
     if found:
-        return "the trusted root has this log: " + "; ".join(map(range_text, found[:MOST_LISTED]))
-    others = [f"{quoted(log[name]) if name in log else 'one'} ({range_text(log)})" for log in held[:MOST_LISTED]]
-    left = len(held) - len(others)
-    return f"logs of the trusted root: {'; '.join(others) or 'none'}" + (f" and {left} more" if left else "")
+        return with_now("the trusted root has this log: " + "; ".join(map(key_text, found[:MOST_LISTED])), members)
+    others = [f"{quoted(log[name]) if name in log else 'one'} ({key_text(log)})" for log in held[:MOST_LISTED]]
+    return with_now(f"logs of the trusted root: {first_of(others, len(held))}", members)
 
 
-def range_text(log):
-    """Whether the range of a log's key holds, and which it is. A log without an id is not used."""
-    times = [f" {word} {object_text(log[name])}" for word, name in (("from", "start"), ("to", "end")) if name in log]
-    state = {"holds": "its key's range holds", "ended": "its key's range has ended", "not begun": "its key's range has not begun"}
-    said = ["without an id"] * ("logId" not in log) + [state.get(log.get("state"), "without a key") + ("," if times else "")]
-    return ", ".join(said) + "".join(times)
+def key_text(log):
+    """The range of a log's key. A log without an id is not used."""
+    said = range_text(log, "its key's range") if "state" in log else "without a key"
+    return ", ".join(["without an id"] * ("logId" not in log) + [said])
+
+
+def range_text(each, whose):
+    """Whether a range holds, and which it is."""
+    times = [f" {word} {object_text(each[name])}" for word, name in (("from", "start"), ("to", "end")) if name in each]
+    state = {"holds": "holds", "ended": "has ended", "not begun": "has not begun"}.get(each["state"], quoted(each["state"]))
+    return f"{whose} {state}" + ("," if times else "") + "".join(times)
+
+
+def authorities(members):
+    """Which certificate authorities the trusted root has, by their ranges."""
+    held = members.get("certificateAuthorities")
+    if held is None:
+        return None
+    counts = {"0": "no certificates", "1": "1 certificate"}
+    said = [f"one with {counts.get(count, f'{count} certificates')} ({range_text(each, 'its range')})"
+            for each in held[:MOST_LISTED] for count in [each["certificateCount"]]]
+    return with_now(f"authorities of the trusted root: {first_of(said, int(members['certificateAuthorityCount']))}", members)
 
 
 def accepted(members):
@@ -178,7 +204,7 @@ def rules_held(members):
 
 MADE = {
     "document": lambda members: DOCUMENTS.get(members.get("link"), "the document"), "fault": fault, "logs": logs,
-    "part": lambda members: PARTS.get(members.get("part")), "anchors": anchors, "accepted": accepted,
+    "part": lambda members: PARTS.get(members.get("part")), "anchors": anchors, "accepted": accepted, "authorities": authorities,
     "workflow": workflow, "rulesHeld": rules_held, "total": total, "several": several,
     "rules": lambda members: (rules_refused(members) or ["a rule does not hold that is not among the first 64"])[0],
     "set": lambda members: " and ".join(members["set"]) or "neither" if "set" in members else None,
@@ -273,6 +299,11 @@ def gated(members):
                 yield from artifact_lines(artifact, "admitted: " if is_admitted else "not admitted: ")
 
 
+def refused_in_short(bundle):
+    """The refusal, and the ranges of the trusted root that it is about, in one line."""
+    return "; ".join([refusal(bundle)] + [each for each in (authorities(bundle), logs(bundle)) if each])
+
+
 def artifact_lines(artifact, title):
     name, bundles = quoted(artifact["name"]), artifact["bundles"]
     if not bundles:
@@ -280,7 +311,7 @@ def artifact_lines(artifact, title):
     elif artifact["admitted"] != "yes" and not all("link" in bundle for bundle in bundles):
         yield f"{title}{name}, since its rule does not hold of the bundles that are verified"
     for place, bundle in enumerate(bundles):
-        said = refusal(bundle) if "link" in bundle else first_filled(VERIFIED["verify"][0], bundle) or "verified"
+        said = refused_in_short(bundle) if "link" in bundle else first_filled(VERIFIED["verify"][0], bundle) or "verified"
         yield f"{title}{name}, bundle {place}: {said}"
 
 
