@@ -23,7 +23,7 @@ import consistency_cases as trees
 import log_requests as log
 import request_table
 from base_cases import audit_path, inclusion
-from consistency_requests import deeper
+from consistency_requests import nested
 
 MOST_HEADS, MOST_WATCHES, MOST = 256, 4096, 2**64
 ORIGIN, NAME, SIGNATURE = "log.example", "log.example", b"sig"
@@ -279,13 +279,7 @@ def members():
 
 def nesting():
     """Lists and objects nest to 127, in a member of the request and in one of a head and of a watched entry."""
-    whole = request(HEADS, WATCHED, ENTRIES)
-    text = json.dumps(whole, separators=(",", ":"))
-    for depth in (126, 127, 128):
-        yield deeper(text, depth)
-        for name in ("heads", "watched"):
-            first = json.dumps(whole[name][0], separators=(",", ":"))
-            yield text.replace(first, deeper(first, depth - 2))
+    yield from nested(request(HEADS, WATCHED, ENTRIES), "heads", "watched")
 
 
 def largest():
@@ -389,5 +383,5 @@ def examples():
 
 if __name__ == "__main__":
     if sys.argv[1:2] == ["check"]:
-        sys.exit(min(request_table.count_differing(sys.argv[2], "audit", sweep(), reply), 1))
+        sys.exit(min(request_table.count_differing(sys.argv[2], "audit", sweep(), lines), 1))
     request_table.write("audit", GROUPS, reply, examples(), lines)

@@ -14,6 +14,7 @@
 #include <fcntl.h>
 #include <stdio.h>
 #include <stdlib.h>
+#include <string.h>
 #include <sys/syscall.h>
 #include <unistd.h>
 
@@ -102,9 +103,26 @@ static size_t moved(struct calls *calls, size_t size) {
   return piece && piece < size ? piece : size;
 }
 
+/* In pieces standard input is taken ahead, so that a run of n pieces makes few calls of the kernel. */
+static ssize_t read_piece(void *bytes, size_t most) {
+  static char held[1 << 16];
+  static size_t at, end;
+  if (at == end) {
+    ssize_t taken = syscall(SYS_read, STDIN_FILENO, held, sizeof held);
+    if (taken <= 0) return taken;
+    at = 0;
+    end = (size_t)taken;
+  }
+  if (most > end - at) most = end - at;
+  memcpy(bytes, held + at, most);
+  at += most;
+  return (ssize_t)most;
+}
+
 ssize_t read(int file, void *bytes, size_t size) {
   size_t most = moved(&reads, size);
-  return most || !size ? syscall(SYS_read, file, bytes, most) : -1;
+  if (!most && size) return -1;
+  return piece && file == STDIN_FILENO ? read_piece(bytes, most) : syscall(SYS_read, file, bytes, most);
 }
 
 ssize_t write(int file, const void *bytes, size_t size) {

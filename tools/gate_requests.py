@@ -9,7 +9,6 @@ The replies are this program's own: a manifest is read as tools/gate_manifests.p
 import json
 import pathlib
 import random
-import subprocess
 import sys
 from types import SimpleNamespace
 
@@ -18,6 +17,7 @@ sys.dont_write_bytecode = True
 sys.path.insert(0, str(TOP / "tools"))
 import fixture
 import gate_manifests as manifests
+import request_table
 from gate_verdicts import report_lines, verdict
 
 MOST_BYTES = 1 << 24
@@ -205,37 +205,7 @@ def some_rule(chance, left):
     return {form: chance.choice({"least": (1, 1, 2, 3, 4), "origin": (ORIGIN, ORIGIN, "other"), "size": (0, 5, 9, 10)}[form])}
 
 
-def check(program):
-    """How many replies of the program differ."""
-    failed = count = 0
-    for found in by_chance():
-        text = json.dumps(found, separators=(",", ":"))
-        done = subprocess.run([program, "gate"], input=text, text=True, capture_output=True)
-        said, wanted = (done.stdout.removesuffix("\n"), done.returncode), lines(text)
-        count += 1
-        if said != wanted:
-            failed += 1
-            print(f"gate of {text[:200]}\n  gave {said} and not {wanted}", file=sys.stderr)
-    print(f"gate: {count} manifests", file=sys.stderr)
-    return failed
-
-
-def main():
-    with open(TOP / "examples/gate.requests", "w", encoding="utf-8") as made:
-        for words, requests in GROUPS.items():
-            made.write(f"# {words}\n")
-            for found in requests():
-                text = found if isinstance(found, str) else json.dumps(found, separators=(",", ":"))
-                line, status = reply(text)
-                made.write(f"{text}\n{line} status {status}\n")
-    for name, found in examples():
-        text = json.dumps(found, indent=2)
-        (TOP / f"examples/{name}.json").write_text(text + "\n")
-        line, status = lines(text)
-        (TOP / f"examples/{name}.expected").write_text(f"{line}\nstatus {status}\n")
-
-
 if __name__ == "__main__":
     if sys.argv[1:2] == ["check"]:
-        sys.exit(min(check(sys.argv[2]), 1))
-    main()
+        sys.exit(min(request_table.count_differing(sys.argv[2], "gate", by_chance(), lines), 1))
+    request_table.write("gate", GROUPS, reply, examples(), lines)

@@ -25,13 +25,13 @@ def write(command, groups, reply, examples, lines):
         (EXAMPLES / f"{name}.expected").write_text(f"{line}\nstatus {status}\n")
 
 
-def count_differing(program, command, requests, reply):
-    """How many replies of the program to these requests differ."""
+def count_differing(program, command, requests, lines):
+    """How many replies of the program to these requests differ from those as the program writes them."""
     failed = count = 0
     for found in requests:
         text = json.dumps(found, separators=(",", ":"))
         done = subprocess.run([program, command], input=text, text=True, capture_output=True)
-        said, wanted = (done.stdout.removesuffix("\n").replace("\n", " "), done.returncode), reply(text)
+        said, wanted = (done.stdout.removesuffix("\n"), done.returncode), lines(text)
         count += 1
         if said != wanted:
             failed += 1

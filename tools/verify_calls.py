@@ -99,16 +99,8 @@ def text_of(rows):
 
 def asked(members):
     """The rows that the links of a request ask for, or the name of the first that fails whatever is accepted."""
-    case = links.SimpleNamespace(request=links.read_request(compact(members).encode()))
-    for name, link in links.LINKS.items():
-        if name == "issuer":
-            break
-        try:
-            link(case)
-        except links.Fails:
-            return name
-    certificates, others = questions_cases.verify_questions(case)
-    return certificates + others if certificates else "issuer"
+    rows, failing = questions_cases.rows_or_link(links.SimpleNamespace(request=links.read_request(compact(members).encode())))
+    return failing or rows
 
 
 def size_of(rows):

@@ -12,7 +12,6 @@ import collections
 import json
 import pathlib
 import random
-import subprocess
 import sys
 
 TOP = pathlib.Path(__file__).resolve().parent.parent
@@ -20,8 +19,9 @@ sys.dont_write_bytecode = True
 sys.path.insert(0, str(TOP / "tools"))
 import audit_requests as audits
 import log_requests as log
+import request_table
 import witness_cases as kept
-from consistency_requests import deeper
+from consistency_requests import nested
 
 MOST_UPDATES, MOST = 4096, 2**64
 SCHEME, KEY, ORIGIN = log.SCHEMES[0], "a2V5", "log.example"
@@ -263,13 +263,7 @@ def members():
 
 def nesting():
     """Lists and objects nest to 127, in a member of the request and in one of an origin and of an update."""
-    whole = request(GROWN, OTHERS)
-    text = json.dumps(whole, separators=(",", ":"))
-    for depth in (126, 127, 128):
-        yield deeper(text, depth)
-        for name in ("origins", "updates"):
-            first = json.dumps(whole[name][0], separators=(",", ":"))
-            yield text.replace(first, deeper(first, depth - 2))
+    yield from nested(request(GROWN, OTHERS), "origins", "updates")
 
 
 def largest():
@@ -336,55 +330,25 @@ def rows_of(updates, everyone):
         yield audits.row(text, scheme=found["scheme"], key=found["key"], signature=audits.in_base64(kept.SIGNATURE))
 
 
-def runs(program):
+def runs():
     """Each sequence in one run, and in several, each of which is handed the state that the one before it wrote."""
     for everyone, updates in sequences():
         rows = list(rows_of(updates, everyone))
-        yield program, {"origins": everyone, "updates": updates, "accepted": rows}
+        yield {"origins": everyone, "updates": updates, "accepted": rows}
         state = None
         for place in range(0, len(updates), 7):
             part = {"updates": updates[place : place + 7], "accepted": rows}
             found = part | ({"origins": everyone} if state is None else {"state": state})
-            yield program, found
+            yield found
             state = state_of(found)
     again = [AGAIN] * (kept.MOST_HEADS - 3)
     for count in (0, 1, 2):
-        yield program, request([X, *again, *[AGAIN] * count])
+        yield request([X, *again, *[AGAIN] * count])
     for count in (MOST_UPDATES, MOST_UPDATES + 1):
-        yield program, request([]) | {"updates": [{"checkpoint": "", "oldSize": 0}] * count}
-
-
-def check(program):
-    """How many replies of the program differ."""
-    failed = count = 0
-    for _, found in runs(program):
-        text = json.dumps(found, separators=(",", ":"))
-        done = subprocess.run([program, "witness"], input=text, text=True, capture_output=True)
-        said, wanted = (done.stdout.removesuffix("\n"), done.returncode), lines(text)
-        count += 1
-        if said != wanted:
-            failed += 1
-            print(f"witness of {text[:200]}\n  gave {said} and not {wanted}", file=sys.stderr)
-    print(f"witness: {count} requests", file=sys.stderr)
-    return failed
-
-
-def main():
-    with open(TOP / "examples/witness.requests", "w", encoding="utf-8") as made:
-        for words, requests in GROUPS.items():
-            made.write(f"# {words}\n")
-            for found in requests():
-                text = found if isinstance(found, str) else json.dumps(found, separators=(",", ":"))
-                line, status = reply(text)
-                made.write(f"{text}\n{line} status {status}\n")
-    for name, found in examples():
-        text = json.dumps(found, indent=2)
-        (TOP / f"examples/{name}.json").write_text(text + "\n")
-        line, status = lines(text)
-        (TOP / f"examples/{name}.expected").write_text(f"{line}\nstatus {status}\n")
+        yield request([]) | {"updates": [{"checkpoint": "", "oldSize": 0}] * count}
 
 
 if __name__ == "__main__":
     if sys.argv[1:2] == ["check"]:
-        sys.exit(min(check(sys.argv[2]), 1))
-    main()
+        sys.exit(min(request_table.count_differing(sys.argv[2], "witness", runs(), lines), 1))
+    request_table.write("witness", GROUPS, reply, examples(), lines)
