@@ -140,12 +140,20 @@ def deeper(text, depth):
     return f'{text[:-1]},"other":{"[" * (depth - 1)}{"]" * (depth - 1)}}}'
 
 
+def nested(whole, *lists):
+    """The texts of a request that nests to 127 and about it: in a member of the request, and in one of the first element of each of these lists."""
+    text = json.dumps(whole, separators=(",", ":"))
+    for depth in (126, 127, 128):
+        yield deeper(text, depth)
+        for name in lists:
+            first = json.dumps(whole[name][0], separators=(",", ":"))
+            yield text.replace(first, deeper(first, depth - 2))
+
+
 def nesting():
     """Lists and objects nest to 127, with and without the log's entries."""
     for handed in (None, ENTRIES):
-        text = json.dumps(request(3, ENTRIES, handed), separators=(",", ":"))
-        for depth in (126, 127, 128):
-            yield deeper(text, depth)
+        yield from nested(request(3, ENTRIES, handed))
 
 
 def largest():
@@ -240,5 +248,5 @@ def examples():
 
 if __name__ == "__main__":
     if sys.argv[1:2] == ["check"]:
-        sys.exit(min(request_table.count_differing(sys.argv[2], "consistency", sweep(), reply), 1))
+        sys.exit(min(request_table.count_differing(sys.argv[2], "consistency", sweep(), lines), 1))
     request_table.write("consistency", GROUPS, reply, examples(), lines)

@@ -72,7 +72,7 @@ def prove(home, on):
     libraries = below(on, CRATE)[1:]
     if not all(is_current(rlib(name).parent, below(on, name)) for name in libraries):
         print("adapters/c/build.py: proving what changed; a first build takes about half an hour", file=sys.stderr)
-        ran(["rt", "lib"], TOP / "crates" / CRATE)
+        ran([TOP / "tools/libraries", CRATE, TOP / "tools/rt_once", "lib"])
         return
     of_kit = [name for name in dict.fromkeys(["std", *on[CRATE]]) if name not in on]
     words = [home / "bin/rattle", "build", "--crate-name", CRATE, "src/lib.rt", "--crate-type", "staticlib"]
