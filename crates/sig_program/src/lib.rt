@@ -13,7 +13,6 @@
 #![tactic(auto)]
 
 pub mod command;
-mod command_reply;
 pub mod consistency;
 pub mod consistency_questions;
 pub mod demo;

@@ -8,6 +8,7 @@ ghost use Rattle.sig_program.specs.Demo.{demo_text};
 ghost use Rattle.sig_program.specs.Invocation.{HasCount, IsDemo, IsInvocation};
 ghost use Rattle.sig_request.specs.Limit.{most_bytes};
 ghost use Rattle.sig_program.specs.GivenBack.{ListsAreGivenBack};
+ghost use Rattle.sig_program.specs.Reply.{IsReply};
 ghost use Rattle.sig_program.specs.Run.{IsReplyOf, Answered, ReadFaulted, WriteFaulted, HandsRests, WritesRests};
 ghost use Rattle.sig_program.specs.Run.{AppendsFront, usage_line};
 ghost use Rattle.sig_program.specs.Status.{usage_status, memory_status, fault_status};
@@ -17,17 +18,27 @@ ghost use Rattle.sig_program.specs.declared.command.Command.TheVariants.{AuditQu
 ghost use Rattle.sig_program.specs.declared.invocation.Invocation.TheVariants.{Demo};
 ghost use Rattle.sig_witness_command.specs.Suffice.{WitnessQuestionsSuffice};
 
+use crate::command::Command;
+use crate::consistency::consistency_reply;
+use crate::consistency_questions::consistency_questions;
 use crate::demo::demo;
 use crate::explain::{explained_reply, long_reply};
 use crate::explained::Explained;
 use crate::invocation::Invocation;
 use crate::laws::lists;
+use crate::log::log_reply;
+use crate::log_questions::log_questions;
 use crate::reply::{USAGE_LINE, refused};
+use crate::verify::verify_reply;
+use crate::verify_questions::verify_questions;
 use crate::write::write_reply;
+use sig_audit_command::{audit_questions, audit_reply};
 use sig_base::{OutOfMemory, Sink, Source, Text};
+use sig_gate_command::{gate_questions, gate_reply};
 use sig_reply::Reply;
 use sig_request::{ReadFault, read_request};
 use sig_verify::Link;
+use sig_witness_command::{witness_questions, witness_reply};
 use std::alloc::Global;
 
 /// The status for words that ask for nothing (EX_USAGE of sysexits.h).
@@ -182,6 +193,28 @@ fn reply_for<S: Source>(
             Err(ReadFault::OutOfMemory) => Err(NoReply::OutOfMemory),
         },
         Invocation::Demo(count) => Ok(demo(alloc, count)?),
+    }
+}
+
+impl Command {
+    /// Returns the reply to a request's text. Fails only if out of memory.
+    pub fn reply(self, alloc: Global, request: &[u8]) -> Result<Reply, OutOfMemory>
+        ensures { IfOk result (IsReply self request.now) }
+    {
+        match self {
+            Command::Log => log_reply(alloc, request),
+            Command::Verify => verify_reply(alloc, request),
+            Command::Consistency => consistency_reply(alloc, request),
+            Command::Audit => audit_reply(alloc, request),
+            Command::Witness => witness_reply(alloc, request),
+            Command::Gate => gate_reply(alloc, request),
+            Command::LogQuestions => log_questions(alloc, request),
+            Command::VerifyQuestions => verify_questions(alloc, request),
+            Command::ConsistencyQuestions => consistency_questions(alloc, request),
+            Command::AuditQuestions => audit_questions(alloc, request),
+            Command::WitnessQuestions => witness_questions(alloc, request),
+            Command::GateQuestions => gate_questions(alloc, request),
+        }
     }
 }
 
