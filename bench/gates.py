@@ -86,19 +86,33 @@ def origins(count):
     return manifest(made, [artifact(made, 0, rule=rule)], made.accepted()), lines(1)
 
 
-def anchors_over_intermediates(count):
-    """As many artifacts as there may be, each with a bundle of 16 intermediates, of which any of so many trust anchors of one name and
-    other keys may have signed each; accepted is the signature of the leaf alone, by the last of them."""
+def over_intermediates(anchor_keys, accepted_keys):
+    """As many artifacts as there may be, each with a bundle of 16 intermediates of the name of trust anchors with these keys; accepted is
+    the signature of the leaf, by the last of them, and of each intermediate in turn one under each of the other keys."""
     signers = [inter("a", "fixture root", under) for under in range(100, 116)]
     made = fixture.ChainRequest([signers[-1]], [certificate(each) for each in signers], leaf=leaf(issuer=fixture.name("a")))
-    root = with_anchors(made, (fixture.anchor(key=key) for key in keys(count)))
+    root = with_anchors(made, (fixture.anchor(key=key) for key in anchor_keys))
+    signed_by_last, above = made.accepted()[0], made.accepted()[-1]
+    rows = [{**above, "message": shapes.coded(fixture.tbs(signers[place % 16])), "key": shapes.coded(key)} for place, key in enumerate(accepted_keys)]
     artifacts = [artifact(made, place) for place in range(MOST_ARTIFACTS)]
     each = "".join(f"artifact artifact-{place} deny none\nbundle 0 refused issuer\n" for place in range(MOST_ARTIFACTS))
-    return manifest(made, artifacts, made.accepted()[:1], roots={"root": compact(root)}), each + f"admitted 0 of {MOST_ARTIFACTS}\n"
+    return manifest(made, artifacts, [signed_by_last, *rows], roots={"root": compact(root)}), each + f"admitted 0 of {MOST_ARTIFACTS}\n"
+
+
+def anchors_over_intermediates(count):
+    """Nobody signed the intermediates."""
+    return over_intermediates(keys(count), [])
+
+
+def anchors_beside_accepted_keys(count):
+    """Each intermediate is signed under thousands of keys that lie between those of the trust anchors."""
+    every = [*keys(2 * count)]
+    return over_intermediates(every[::2], every[1::2])
 
 
 # Each is made of as many as the largest size holds, and of half as many.
-LISTS = (("trust anchors of one name over 16 intermediates each", anchors_over_intermediates), ("policies", policies), ("trusted roots that no artifact names", roots), ("accepted signatures", accepted),
+LISTS = (("trust anchors of one name over 16 intermediates each", anchors_over_intermediates),
+         ("the same, accepted under other keys", anchors_beside_accepted_keys), ("policies", policies), ("trusted roots that no artifact names", roots), ("accepted signatures", accepted),
          ("a bundle of a long payload", bundle_of_a_long_payload), ("a rule of long origins", origins))
 
 

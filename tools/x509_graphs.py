@@ -1,7 +1,7 @@
 """Rows of x509_cases of pools whose certificates are spelled by letters. The second implementation tries every list of intermediates.
 
 A certificate is six letters: its name, its issuer's, its key, the key that signed it (`0` is nobody's), its path length (`-` is none), and
-`.` or what is amiss with it. A trust anchor is its name and its key; a leaf is `l`, its issuer's name and the key that signed it; `?` is no
+`.` or what is amiss with it. A trust anchor is its name and its key; a leaf is `l`, its issuer's name and the key that signed it; `?` is not a
 certificate.
 """
 import random
@@ -87,17 +87,26 @@ def leads(over, roots, given):
         leads([*over, more], roots, given) for more in given if stands(more, len(over)) and signed(over[-1], more))
 
 
+def asked_of_anchors(child, distinct):
+    """How many questions are asked until a trust anchor of the issuer's name signed it."""
+    count = 0
+    for root in distinct:
+        count += child.issuer == root.subject
+        if signed(child, root):
+            break
+    return count
+
+
 def issuer(leaf, roots, intermediates):
     """The first issuer, and how many questions are asked, as x509_paths.py says."""
-    count = 0
     distinct = list({(root.subject, root.key): root for root in roots}.values())
-    for root in distinct:
-        count += leaf.issuer == root.subject
+    count = asked_of_anchors(leaf, distinct)
+    for place, root in enumerate(roots):
         if signed(leaf, root):
-            place = next(place for place, other in enumerate(roots) if signed(leaf, other))
             return "ok anchor %d asked %d" % (place, count)
     usable = [one for one in intermediates if one and one.state in USABLE]
-    count += sum(child.issuer == parent.subject for child in usable for parent in distinct + usable)
+    count += sum(asked_of_anchors(child, distinct) for child in {tuple(vars(one).items()): one for one in usable}.values())
+    count += sum(child.issuer == parent.subject for child in usable for parent in usable)
     for place, first in enumerate(intermediates):
         if first and leaf.issuer == first.subject and stands(first, 0) and leads([first], roots, usable):
             count += 1

@@ -73,23 +73,36 @@ def issuer(genuine, roots, intermediates, leaf):
     return "VerificationFailed"
 
 
-def questions(genuine, roots, intermediates, leaf, may=lambda child: True):
-    """How many questions are asked: of the leaf the trust anchors of its issuer's name, up to one that signed it; or else each usable
-    intermediate of its issuer's name, trust anchors and usable intermediates; and then of the leaf each intermediate of its issuer's
-    name that leads to a trust anchor, up to one that signed it. Of trust anchors with one name and key the first alone. Of a certificate
-    that may not be signed none is asked, and of the others none if it is the leaf."""
+def asked_of_anchors(genuine, child, distinct):
+    """How many questions are asked until a trust anchor of the issuer's name signed it."""
+    count = 0
+    for root in distinct:
+        count += child.issuer == root.subject
+        if signed(genuine, child, root):
+            break
+    return count
+
+
+def questions(genuine, roots, intermediates, leaf, lists=False):
+    """How many questions are asked: of the leaf and of each usable intermediate, equal ones once, the trust anchors of its issuer's
+    name, up to one that signed it, and where that is not the leaf, of each usable intermediate the usable intermediates of its issuer's
+    name; and then of the leaf each intermediate of its issuer's name that leads to a trust anchor, up to one that signed it. Of trust
+    anchors with one name and key the first alone. A checker that lists the keys of a signature is asked about no trust anchor, nor
+    about a certificate for which it lists none, and about none at all if that is the leaf."""
+    def may(child):
+        return not lists or any(der == child.der for der, _ in genuine)
+
     if not may(leaf):
         return 0
     distinct = list({(root.subject, root.key): root for root in reversed(roots)}.values())
     distinct.sort(key=lambda root: min(place for place, other in enumerate(roots) if (other.subject, other.key) == (root.subject, root.key)))
-    count = 0
-    for root in distinct:
-        if leaf.issuer == root.subject:
-            count += 1
-            if signed(genuine, leaf, root):
-                return count
+    count = 0 if lists else asked_of_anchors(genuine, leaf, distinct)
+    if any(signed(genuine, leaf, root) for root in distinct):
+        return count
     usable = [node for node in intermediates if node and node.usable]
-    count += sum(child.issuer == parent.subject for child in usable if may(child) for parent in distinct + usable)
+    if not lists:
+        count += sum(asked_of_anchors(genuine, child, distinct) for child in {node.der: node for node in usable}.values())
+    count += sum(child.issuer == parent.subject for child in usable if may(child) for parent in usable)
     for first in usable:
         if leaf.issuer == first.subject and any(
                 has_path({*genuine, (leaf.der, first.key)}, roots, intermediates, (first, *rest), leaf)
@@ -113,9 +126,8 @@ def add(case, listed, spelled, cause, roots, intermediates, leaf, genuine, expec
     arguments = [str(TIME), spelled(leaf.der), listed([root.der for root in roots]), listed(given), *rows]
     case(cause, " ".join(["verify_der_cert", *arguments]), found)
     case(cause + ", questions", " ".join(["questions", *arguments]), "%s asked %d" % (found, count))
-    endings = {child.bits[-4:] for child, under in genuine}
-    told = questions(pairs, roots, intermediates, leaf, lambda child: child.bits[-4:] in endings)
-    case(cause + ", of a checker that tells", " ".join(["told", *arguments]), "%s asked %d" % (found, told))
+    case(cause + ", of a checker that lists keys", " ".join(["listed", *arguments]),
+         "%s asked %d" % (found, questions(pairs, roots, intermediates, leaf, lists=True)))
 
 
 def under_issuers(nodes, others):
@@ -134,7 +146,7 @@ def rows(group, case, listed, spelled):
         genuine = [pair for pair in under_issuers([leaf, *[node for node in intermediates if node]], everyone) if pair[0] not in but]
         add(case, listed, spelled, cause, roots, intermediates, leaf, [*genuine, *more], expected)
 
-    group("pools with intermediates: the issuer, and how many questions are asked, also of a checker that tells without a key")
+    group("pools with intermediates: the issuer, and how many questions are asked, also of a checker that lists keys")
     a = made("a", "fixture root", 5)
     one("one intermediate", "a", [a], "ok intermediate 0")
     one("its signature is not genuine", "a", [a], "VerificationFailed", but=[a])

@@ -2,9 +2,9 @@ pub mod Schemes
 pub mod AcceptedRows
 pub mod Orderings
 pub mod RowOrders
-pub mod Endings
+pub mod CertKeys
 pub mod Texts
-pub mod Ascending
+pub mod AscendingKeys
 pub mod OptionSteps
 pub mod ResultSteps
 pub mod TextEntries
@@ -13,7 +13,7 @@ pub mod SeenTexts
 pub mod ComesLaws
 pub mod RuleLaws
 pub mod ByteLists
-pub mod Zipped
+pub mod PairedLists
 pub mod PartEquality
 pub mod IntOrders
 pub mod EachFrom

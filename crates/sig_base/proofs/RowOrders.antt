@@ -16,8 +16,8 @@ use Rattle.std.proofs.lemmas.Map.Lookups.{CmpEqualImpliesEq, exact_unsigned, exa
 use Rattle.std.proofs.lemmas.Bool.{cases_lt}
 use Rattle.std.proofs.lemmas.Option.{slice_get_within, get_or_from_slice_get, slice_get-get_or}
 use Rattle.sig_base.specs.Checker.{operation_code}
-use Rattle.sig_base.specs.RowOrder.{ending, leading_of, leading, following, ending_order, part_order, row_order}
-use Rattle.sig_base.specs.RowOrder.{IsOrderOf}
+use Rattle.sig_base.specs.RowOrder.{ending, key_ending, leading_of, leading, following, ending_order, group_order}
+use Rattle.sig_base.specs.RowOrder.{row_order, IsOrderOf}
 use Rattle.sig_base.specs.declared.checker.AcceptedRow.{AcceptedRow}
 use Rattle.sig_base.specs.declared.checker.Operation.{Operation}
 use Rattle.sig_base.specs.declared.checker.Operation.TheVariants.{Message, Prehash, Point, Certificate}
@@ -29,22 +29,22 @@ unfolding ending_order
 ending_order_total =
     then_total (then_total
     (on_total (λ row. ending row.signature) nat_cmp_total)
-    (on_total (λ row. ending row.key) nat_cmp_total))
-    (on_total (λ row. ending row.message) nat_cmp_total)
+    (on_total (λ row. ending row.message) nat_cmp_total))
+    (on_total (λ row. key_ending row.operation row.key) nat_cmp_total)
 
-part_order_total : IsTotalOrder part_order
-unfolding part_order
-part_order_total =
+pub group_order_total : IsTotalOrder group_order
+unfolding group_order
+group_order_total =
     then_total (then_total (then_total (then_total
-    (on_total (λ row. operation_code row.operation) nat_cmp_total)
-    (on_total leading nat_list_cmp_total))
-    (on_total following nat_list_cmp_total))
+    ending_order_total
+    (on_total (λ row. operation_code row.operation) nat_cmp_total))
+    (on_total (λ row. row.signature) nat_list_cmp_total))
     (on_total (λ row. row.scheme) nat_list_cmp_total))
-    (on_total (λ row. row.message) nat_list_cmp_total)
+    (on_total leading nat_list_cmp_total)
 
 pub row_order_total : IsTotalOrder row_order
 unfolding row_order
-row_order_total = then_total ending_order_total part_order_total
+row_order_total = then_total group_order_total (on_total following nat_list_cmp_total)
 
 last_held : (n : ℕ) → Contains (n ∷ []) n
 last_held n = (0, omega arith, refl)
@@ -59,38 +59,54 @@ covers_more n xs ys e before k below =
     (Contains-append_right xs (n ∷ []) n (last_held n)) k below)
 
 -- both parts are the same, whichever leads
-same_both : (operation : Operation) (signature key other_signature other_key : List ℕ)
-    → leading_of operation signature key ≡ leading_of operation other_signature other_key
-    → leading_of operation key signature ≡ leading_of operation other_key other_signature
-    → (signature ≡ other_signature) × (key ≡ other_key)
-same_both Message signature key other_signature other_key one two = (one, two)
-same_both Prehash signature key other_signature other_key one two = (one, two)
-same_both Point signature key other_signature other_key one two = (one, two)
-same_both Certificate signature key other_signature other_key one two = (two, one)
+same_both : (operation : Operation) (message key other_message other_key : List ℕ)
+    → leading_of operation message key ≡ leading_of operation other_message other_key
+    → leading_of operation key message ≡ leading_of operation other_key other_message
+    → (message ≡ other_message) × (key ≡ other_key)
+same_both Message message key other_message other_key one two = (two, one)
+same_both Prehash message key other_message other_key one two = (two, one)
+same_both Point message key other_message other_key one two = (two, one)
+same_both Certificate message key other_message other_key one two = (one, two)
 
-same_parts : CmpEqualImpliesEq part_order
-unfolding part_order leading following
-same_parts a b e =
-    let m = both_tie _ _ e in
-    let s = both_tie _ _ m.0 in
-    let f = both_tie _ _ s.0 in
-    let o = both_tie _ _ f.0 in
-    let same : a.operation ≡ b.operation = same_operation a.operation b.operation (exact_unsigned _ _ o.0) in
-    let both = same_both b.operation a.signature a.key b.signature b.key
-    (subst (λ operation. leading_of operation a.signature a.key ≡ leading b) same
-    (exact_bytes (leading a) (leading b) o.1))
-    (subst (λ operation. leading_of operation a.key a.signature ≡ following b) same
-    (exact_bytes (following a) (following b) f.1)) in
-    ap (λ operation. as_row operation a.scheme a.key a.message a.signature) same
-    ∙ ap (λ scheme. as_row b.operation scheme a.key a.message a.signature) (exact_bytes a.scheme b.scheme s.1)
+-- rows that tie in the order of groups are equal in all but the following part
+pub record IsOneGroup (a b : AcceptedRow) : Type 0 where
+  pub same_question : a.operation ≡ b.operation
+  pub same_signature : a.signature ≡ b.signature
+  pub same_scheme : a.scheme ≡ b.scheme
+  pub same_leading : leading a ≡ leading b
+
+pub one_group : (a b : AcceptedRow) → group_order a b ≡ Equal → IsOneGroup a b
+unfolding group_order
+one_group a b e =
+    let l = both_tie _ _ e in
+    let s = both_tie _ _ l.0 in
+    let g = both_tie _ _ s.0 in
+    let o = both_tie _ _ g.0 in
+    record {
+      same_question = same_operation a.operation b.operation (exact_unsigned _ _ o.1);
+      same_signature = exact_bytes a.signature b.signature g.1;
+      same_scheme = exact_bytes a.scheme b.scheme s.1;
+      same_leading = exact_bytes (leading a) (leading b) l.1;
+    }
+
+same_parts : (a b : AcceptedRow) → IsOneGroup a b → following a ≡ following b → a ≡ b
+unfolding leading following
+same_parts a b group follows =
+    let both = same_both b.operation a.message a.key b.message b.key
+    (subst (λ operation. leading_of operation a.message a.key ≡ leading b) group.same_question group.same_leading)
+    (subst (λ operation. leading_of operation a.key a.message ≡ following b) group.same_question follows) in
+    ap (λ operation. as_row operation a.scheme a.key a.message a.signature) group.same_question
+    ∙ ap (λ scheme. as_row b.operation scheme a.key a.message a.signature) group.same_scheme
     ∙ ap (λ key. as_row b.operation b.scheme key a.message a.signature) both.1
-    ∙ ap (λ message. as_row b.operation b.scheme b.key message a.signature) (exact_bytes a.message b.message m.1)
-    ∙ ap (λ signature. as_row b.operation b.scheme b.key b.message signature) both.0
+    ∙ ap (λ message. as_row b.operation b.scheme b.key message a.signature) both.0
+    ∙ ap (λ signature. as_row b.operation b.scheme b.key b.message signature) group.same_signature
 
 -- rows that tie are equal
 pub same_row : CmpEqualImpliesEq row_order
 unfolding row_order
-same_row a b e = same_parts a b (both_tie (ending_order a b) (part_order a b) e).1
+same_row a b e =
+    let both = both_tie (group_order a b) _ e in
+    same_parts a b (one_group a b both.0) (exact_bytes (following a) (following b) both.1)
 
 module _ (rows : List AcceptedRow) (row : AcceptedRow) where
   -- what the search asks of each index

@@ -13,7 +13,7 @@ use Rattle.std.proofs.lemmas.Map.Keys.{IsDistinct-from_sorted}
 use Rattle.std.proofs.lemmas.Map.Views.{Contains-from_lookup, lookup-from_Contains}
 use Rattle.std.proofs.lemmas.Map.Text.{is_eq-slice_cmp}
 use Rattle.sig_base.specs.ByText.{text_lookup, text_put, KeysAscend}
-use Rattle.sig_base.proofs.Ascending.{ascend-insert_entry}
+use Rattle.sig_base.proofs.AscendingKeys.{ascend-insert_entry}
 
 same : (text : List ℕ) → bytes_eq text text ≡ true
 same text = (bytes_decides text text).1 refl

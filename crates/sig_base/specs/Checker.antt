@@ -1,5 +1,5 @@
 -- What a table of accepted rows accepts.
-use Rattle.std.specs.Prelude.{ℕ, Bool, ◌&&◌, List, nat_eq}
+use Rattle.std.specs.Prelude.{◌≡◌, ◌↔◌, ℕ, Bool, true, ◌&&◌, List, [], nat_eq, slice_get, Contains, Option, Some, None}
 use Rattle.std.specs.Str.{bytes_eq}
 use Rattle.std.specs.List.{list_any}
 use Rattle.sig_base.specs.declared.checker.Operation.{Operation}
@@ -22,3 +22,15 @@ matches operation scheme key message signature row =
 -- some row equals all five parts
 abbrev pub accepted : List AcceptedRow → Operation → List ℕ → List ℕ → List ℕ → List ℕ → Bool
 accepted rows operation scheme key message signature = list_any (matches operation scheme key message signature) rows
+
+-- the key of the row at an index, none of no row
+abbrev pub key_of : Option AcceptedRow → List ℕ
+key_of None = []
+key_of (Some row) = row.key
+
+abbrev pub key_at : List AcceptedRow → ℕ → List ℕ
+key_at rows place = key_of (slice_get rows place)
+
+-- the keys are those under which this accepts, and no others
+abbrev pub AreKeysOf : (List ℕ → Bool) → List (List ℕ) → Type 0
+AreKeysOf accepts keys = (key : List ℕ) → (accepts key ≡ true) ↔ Contains keys key

@@ -11,8 +11,8 @@ use base64::engine::general_purpose::STANDARD;
 use std::alloc::Global;
 
 impl Bytes {
-    /// Returns the bytes of a base64 text, or `None` if it is none: other letters, line ends, padding that is missing
-    /// or too much, stray bits. The empty text is that of no bytes. Fails only if out of memory.
+    /// Returns the bytes of a base64 text, or `None` if it is not one: other letters, line ends, padding that is
+    /// missing or too much, stray bits. The empty text is that of no bytes. Fails only if out of memory.
     #[tactic(auto, unfolding(crate::specs::Base64::base64_bytes))]
     pub fn of_base64(alloc: Global, text: &[u8]) -> Result<Option<Bytes>, OutOfMemory>
         ensures { IfOk result (λ found. found ≡ base64_bytes text.now) }

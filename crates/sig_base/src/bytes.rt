@@ -40,7 +40,7 @@ impl Bytes {
         Ok(Bytes { held })
     }
 
-    /// The bytes.
+    /// Returns the bytes where they are. It takes no memory.
     pub fn as_slice(&self) -> &[u8]
         ensures { result.now ≡ self.now }
     {

@@ -1,13 +1,15 @@
 //! Who says whether a signature is genuine: a [`SignatureChecker`]; the one of this program is a table of accepted
 //! rows.
-ghost use Rattle.std.specs.Prelude.{◌≡◌, ◌↔◌, Bool, false, List, ℕ, [], ◌∷◌, ◌++◌, IfOk, OnOk, OnErr};
-ghost use Rattle.std.specs.Prelude.{IsTrue, IsFalse, Contains};
+ghost use Rattle.std.specs.Prelude.{◌≡◌, ◌↔◌, Bool, List, ℕ, [], ◌∷◌, ◌++◌, IfOk, IfSome, OnOk, OnErr};
+ghost use Rattle.std.specs.Prelude.{IsTrue, Contains};
+ghost use Rattle.sig_base.specs.Checker.{AreKeysOf};
 ghost use Rattle.sig_base.specs.declared.scheme.VerifyScheme.{VerifyScheme as scheme_type};
 
 use crate::bytes::Bytes;
+use crate::key_list::KeyList;
 use crate::memory::OutOfMemory;
 use crate::owned_list::OwnedList;
-use crate::row_order::{RowParts, ending, ending_to, order_of, order_to, put_in_order};
+use crate::row_order::{RowParts, group_of, order_of, order_to, put_in_order};
 use crate::scheme::VerifyScheme;
 use std::alloc::Global;
 use std::marker::Model;
@@ -21,9 +23,8 @@ use std::marker::Model;
 /// one, with the whole TBSCertificate. One that hashes the message in each call hashes signatures, or keys, times text:
 /// keep the digest of the last message, or check the lengths of signatures first.
 ///
-/// Before the keys of a certificate comes the question whether there may be one at all,
-/// [`may_accept_cert`](SignatureChecker::may_accept_cert): a checker that can tell without a key is spared thousands of
-/// questions.
+/// A checker that can list the keys under which the signature of a certificate is genuine, as a table can, is spared
+/// these questions: [`cert_keys`](SignatureChecker::cert_keys).
 pub trait SignatureChecker {
     /// The signatures over messages that are genuine under a scheme and an SPKI (DER).
     ghost spki_accepts: { Self → scheme_type → List ℕ → List ℕ → List ℕ → Bool };
@@ -72,14 +73,13 @@ pub trait SignatureChecker {
     ) -> bool
         ensures { result ≡ cert_accepts self.now issuer_spki.now algorithm.now tbs.now signature.now };
 
-    /// Whether `signature` over the TBSCertificate `tbs` may be genuine under the `algorithm` (all DER) and some SPKI:
-    /// `false` only if it is genuine under none. A checker that cannot tell without a key says `true`, as this body
-    /// does. It only spares questions: no decision depends on it.
-    fn may_accept_cert(&self, algorithm: &[u8], tbs: &[u8], signature: &[u8]) -> bool
-        ensures { IsFalse result → (spki : List ℕ) → cert_accepts self.now spki algorithm.now tbs.now signature.now
-            ≡ false }
+    /// Returns the keys (SPKI, DER) under which `signature` over the TBSCertificate `tbs` is genuine under the
+    /// `algorithm` (all DER), each of them and no other; `None` if the checker cannot list them, as this body says. The
+    /// list only spares questions: no decision depends on whether there is one.
+    fn cert_keys(&self, algorithm: &[u8], tbs: &[u8], signature: &[u8]) -> Option<KeyList<'_>>
+        ensures { IfSome result (AreKeysOf (λ spki. cert_accepts self.now spki algorithm.now tbs.now signature.now)) }
     {
-        true
+        None
     }
 }
 
@@ -107,7 +107,7 @@ pub struct AcceptedRow {
     pub key: Bytes,
     /// The message that is signed; its digest for a prehash; the TBSCertificate's DER for a certificate.
     pub message: Bytes,
-    /// The signature's bytes.
+    /// The signature, byte for byte as the checker is asked for it.
     pub signature: Bytes,
 }
 
@@ -133,7 +133,6 @@ impl Model for TableChecker {
 
 impl TableChecker {
     ghost use Rattle.sig_base.specs.Checker.{accepted};
-    ghost use Rattle.sig_base.specs.RowOrder.{some_ends_alike};
 
     /// Returns the empty table, which accepts nothing.
     pub fn new(alloc: Global) -> TableChecker
@@ -178,7 +177,8 @@ impl TableChecker {
     }
 
     /// Whether a row of the table equals all five parts. A binary search: it compares with about as many rows as the
-    /// number of rows has binary digits, and compares whole messages only with a row that equals all other parts.
+    /// number of rows has binary digits, and compares whole messages only with a row that equals all other parts, of a
+    /// certificate all but the key.
     pub fn accepts(
         &self,
         operation: Operation,
@@ -208,20 +208,6 @@ impl TableChecker {
             .order
             .as_slice()
             .binary_search_by(|index| order_to(rows, *index, &sought));
-        found.is_ok()
-    }
-
-    /// Whether the signature of some row has the same ending. A binary search too, since the order begins with the
-    /// endings of signatures.
-    fn has_ending(&self, signature: &[u8]) -> bool
-        ensures { result ≡ some_ends_alike self.now signature.now }
-    {
-        let sought = ending(signature);
-        let rows = self.rows.as_slice();
-        let found = self
-            .order
-            .as_slice()
-            .binary_search_by(|index| ending_to(rows, *index, sought));
         found.is_ok()
     }
 }
@@ -294,7 +280,16 @@ impl SignatureChecker for TableChecker {
         )
     }
 
-    fn may_accept_cert(&self, _algorithm: &[u8], _tbs: &[u8], signature: &[u8]) -> bool {
-        self.has_ending(signature)
+    /// Returns the keys of the rows of this signature: two binary searches. A table can always list them.
+    fn cert_keys(&self, algorithm: &[u8], tbs: &[u8], signature: &[u8]) -> Option<KeyList<'_>> {
+        let sought = RowParts {
+            operation: Operation::Certificate,
+            scheme: algorithm,
+            key: &[],
+            message: tbs,
+            signature,
+        };
+        let rows = self.rows.as_slice();
+        Some(KeyList::new(rows, group_of(rows, self.order.as_slice(), &sought)))
     }
 }

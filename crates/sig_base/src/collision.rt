@@ -6,8 +6,8 @@ use crate::bytes::Bytes;
 /// 6.2), which nobody has found for any two.
 #[derive(Debug, PartialEq, Eq, Drop)]
 pub struct Collision {
-    /// The one.
+    /// One byte string.
     pub left: Bytes,
-    /// The other.
+    /// Another, which has the same SHA-256.
     pub right: Bytes,
 }

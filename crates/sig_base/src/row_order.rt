@@ -1,12 +1,12 @@
-//! The order in which a table of accepted rows is searched: the last bytes of signature, key and message first, which
-//! tell most rows apart at once; then the operation, the part in which its questions differ, and the message last, so
-//! that a message is compared only where all else is equal.
+//! The order in which a table of accepted rows is searched. The last bytes of signature, message and key come first:
+//! they tell most rows apart at once. Then come the parts, from the operation on. The message comes last, since it may
+//! be long: it is compared only where all else is equal. Of a certificate the key comes last, and its ending not at
+//! all, so that all keys of one signature stand side by side.
 ghost use Rattle.std.specs.Prelude.{◌≡◌, Some, IfOk, slice_get, IsPermutation};
 ghost use Rattle.std.specs.Option.{option_cmp};
-ghost use Rattle.std.specs.Ordering.{nat_cmp};
 ghost use Rattle.sig_base.specs.Checker.{operation_code};
-ghost use Rattle.sig_base.specs.RowOrder.{ending, leading, following, ending_order, part_order, row_order};
-ghost use Rattle.sig_base.specs.RowOrder.{ending_at, order_at, Ascends, IsOrderOf};
+ghost use Rattle.sig_base.specs.RowOrder.{ending, key_ending, leading, following, ending_order, group_order, row_order};
+ghost use Rattle.sig_base.specs.RowOrder.{order_at, Ascends, IsOrderOf, IsGroupOf};
 
 use crate::checker::{AcceptedRow, Operation};
 use crate::memory::OutOfMemory;
@@ -68,19 +68,44 @@ impl<'a> RowParts<'a> {
         }
     }
 
-    /// Compares two rows: by the endings of their parts, then the parts.
+    /// Compares two rows: by all but the following part, then that part.
     #[tactic(auto, using(crate::proofs::Orderings::steps), unfolding(crate::specs::RowOrder::row_order))]
     #[inline(always)]
     fn order(&self, other: &RowParts<'_>) -> Ordering
         ensures { result ≡ row_order self.now other.now }
     {
-        match self.ending_order(other) {
-            Ordering::Equal => self.part_order(other),
+        match self.group_order(other) {
+            Ordering::Equal => self.following().cmp(other.following()),
             unequal => unequal,
         }
     }
 
-    /// Compares two rows by the endings of signature, key, message.
+    /// Compares two rows by all but the following part: the endings, operation, signature, scheme, the leading part.
+    #[tactic(auto, using(crate::proofs::Orderings::steps), unfolding(crate::specs::RowOrder::group_order))]
+    #[inline(always)]
+    fn group_order(&self, other: &RowParts<'_>) -> Ordering
+        ensures { result ≡ group_order self.now other.now }
+    {
+        match self.ending_order(other) {
+            Ordering::Equal => {}
+            unequal => return unequal,
+        }
+        match self.operation.code().cmp(&other.operation.code()) {
+            Ordering::Equal => {}
+            unequal => return unequal,
+        }
+        match self.signature.cmp(other.signature) {
+            Ordering::Equal => {}
+            unequal => return unequal,
+        }
+        match self.scheme.cmp(other.scheme) {
+            Ordering::Equal => {}
+            unequal => return unequal,
+        }
+        self.leading().cmp(other.leading())
+    }
+
+    /// Compares two rows by the endings of signature, message, key.
     #[tactic(auto, using(crate::proofs::Orderings::steps), unfolding(crate::specs::RowOrder::ending_order))]
     #[inline(always)]
     fn ending_order(&self, other: &RowParts<'_>) -> Ordering
@@ -90,60 +115,46 @@ impl<'a> RowParts<'a> {
             Ordering::Equal => {}
             unequal => return unequal,
         }
-        match ending(self.key).cmp(&ending(other.key)) {
+        match ending(self.message).cmp(&ending(other.message)) {
             Ordering::Equal => {}
             unequal => return unequal,
         }
-        ending(self.message).cmp(&ending(other.message))
+        self.key_ending().cmp(&other.key_ending())
     }
 
-    /// Compares two rows: by operation, then the leading part, the other one, scheme, message.
-    #[tactic(auto, using(crate::proofs::Orderings::steps), unfolding(crate::specs::RowOrder::part_order))]
+    /// Returns the ending of the key, 0 of a certificate's, so that it does not part the keys of one signature.
+    #[tactic(auto, unfolding(crate::specs::RowOrder::key_ending))]
     #[inline(always)]
-    fn part_order(&self, other: &RowParts<'_>) -> Ordering
-        ensures { result ≡ part_order self.now other.now }
+    fn key_ending(&self) -> u64
+        ensures { result ≡ key_ending self.now.operation self.now.key }
     {
-        match self.operation.code().cmp(&other.operation.code()) {
-            Ordering::Equal => {}
-            unequal => return unequal,
+        match self.operation {
+            Operation::Certificate => 0,
+            Operation::Message | Operation::Prehash | Operation::Point => ending(self.key),
         }
-        match self.leading().cmp(other.leading()) {
-            Ordering::Equal => {}
-            unequal => return unequal,
-        }
-        match self.following().cmp(other.following()) {
-            Ordering::Equal => {}
-            unequal => return unequal,
-        }
-        match self.scheme.cmp(other.scheme) {
-            Ordering::Equal => {}
-            unequal => return unequal,
-        }
-        self.message.cmp(other.message)
     }
 
-    /// Returns the part in which questions of the operation differ: a certificate is asked of many keys with one
-    /// signature, and else one key of many signatures. So no long part is compared by more than one of them.
+    /// Returns the one of message and key that is compared first: the message of a certificate, else the key.
     #[tactic(auto, unfolding(crate::specs::RowOrder::leading))]
     #[inline(always)]
     fn leading(&self) -> &[u8]
         ensures { result.now ≡ leading self.now }
     {
         match self.operation {
-            Operation::Certificate => self.key,
-            Operation::Message | Operation::Prehash | Operation::Point => self.signature,
+            Operation::Certificate => self.message,
+            Operation::Message | Operation::Prehash | Operation::Point => self.key,
         }
     }
 
-    /// Returns the other one of signature and key.
+    /// Returns the other one of message and key.
     #[tactic(auto, unfolding(crate::specs::RowOrder::following))]
     #[inline(always)]
     fn following(&self) -> &[u8]
         ensures { result.now ≡ following self.now }
     {
         match self.operation {
-            Operation::Certificate => self.signature,
-            Operation::Message | Operation::Prehash | Operation::Point => self.key,
+            Operation::Certificate => self.key,
+            Operation::Message | Operation::Prehash | Operation::Point => self.message,
         }
     }
 }
@@ -151,7 +162,7 @@ impl<'a> RowParts<'a> {
 /// The last four bytes as a number, 0 of fewer.
 #[tactic(auto, unfolding(crate::specs::RowOrder::ending))]
 #[inline(always)]
-pub fn ending(bytes: &[u8]) -> u64
+fn ending(bytes: &[u8]) -> u64
     ensures { result ≡ ending bytes.now }
 {
     let length = bytes.len();
@@ -173,16 +184,34 @@ pub fn order_to(rows: &[AcceptedRow], index: usize, other: &RowParts<'_>) -> Ord
     }
 }
 
-/// Compares the ending of the signature of the row at an index with another ending. An index that no row has comes
-/// first.
+/// Returns the indices whose rows tie with another row in all but the following part: for a certificate's row, the rows
+/// that differ from it at most in the key. Two binary searches in the order of the rows.
+pub fn group_of<'a>(rows: &[AcceptedRow], order: &'a [usize], other: &RowParts<'_>) -> &'a [usize]
+    requires { IsOrderOf rows.now order.now }
+    ensures { IsGroupOf rows.now order.now other.now result.now }
+{
+    let first = order.partition_point(|index| group_to(rows, *index, other).is_lt());
+    let end = order.partition_point(|index| group_to(rows, *index, other).is_le());
+    &order[first..end]
+}
+
+/// Compares the row at an index with another row by all but the following part. An index that no row has comes first.
 #[inline(always)]
-pub fn ending_to(rows: &[AcceptedRow], index: usize, other: u64) -> Ordering
-    ensures { result ≡ option_cmp nat_cmp (ending_at rows.now index) (Some other) }
+fn group_to(rows: &[AcceptedRow], index: usize, other: &RowParts<'_>) -> Ordering
+    ensures { result ≡ option_cmp group_order (slice_get rows.now index) (Some other.now) }
 {
     match rows.get(index) {
-        Some(row) => ending(row.signature.as_slice()).cmp(&other),
+        Some(row) => RowParts::of(row).group_order(other),
         None => Ordering::Less,
     }
+}
+
+/// Sorts indices by their rows.
+pub fn put_in_order(rows: &[AcceptedRow], order: &mut Vec<usize>)
+    ensures moved { IsPermutation order.old.items order.new.items }
+    ensures ascends { Ascends rows.now order.new.items }
+{
+    order.sort_unstable_by(|one, other| order_between(rows, *one, *other));
 }
 
 /// Compares the rows at two indices. An index that no row has comes first.
@@ -197,14 +226,6 @@ fn order_between(rows: &[AcceptedRow], one: usize, other: usize) -> Ordering
             None => Ordering::Equal,
         },
     }
-}
-
-/// Sorts indices by their rows.
-pub fn put_in_order(rows: &[AcceptedRow], order: &mut Vec<usize>)
-    ensures moved { IsPermutation order.old.items order.new.items }
-    ensures ascends { Ascends rows.now order.new.items }
-{
-    order.sort_unstable_by(|one, other| order_between(rows, *one, *other));
 }
 
 /// Returns the indices of all rows in the order of the rows. Fails only if out of memory.

@@ -29,7 +29,7 @@ impl Text {
         Ok(Text { held })
     }
 
-    /// The text.
+    /// Returns the text where it is. It takes no memory.
     pub fn as_str(&self) -> &str
         ensures { result.now ≡ self.now }
     {

@@ -25,6 +25,17 @@ pub fn verified(alloc: Global, input: &[u8], now: u64) -> Option<u64> {
     count
 }
 
+/// The table of the member `accepted` of an object.
+fn checker_of(alloc: Global, text: &str) -> Option<TableChecker> {
+    let (_, rows) = Document::read_members_and_list::<RowReader>(
+        alloc,
+        text.as_bytes(),
+        &[],
+        "accepted",
+    ).ok()?;
+    TableChecker::from_rows(alloc, rows).ok()
+}
+
 /// The same under this checker.
 fn verified_under(
     alloc: Global,
@@ -53,17 +64,6 @@ fn verified_by(
         count = count.saturating_add(1);
     }
     Some(count)
-}
-
-/// The table of the member `accepted` of an object.
-fn checker_of(alloc: Global, text: &str) -> Option<TableChecker> {
-    let (_, rows) = Document::read_members_and_list::<RowReader>(
-        alloc,
-        text.as_bytes(),
-        &[],
-        "accepted",
-    ).ok()?;
-    TableChecker::from_rows(alloc, rows).ok()
 }
 
 /// Verifies a bundle of the artifact of this digest.

@@ -62,6 +62,27 @@ impl SignatureChecker for Refusing {
     }
 }
 
+/// Returns how many questions are asked about the leaf, the first certificate of the input, by a pool of the next
+/// `count` as trust anchors and of the rest, as many, as intermediates. `None` if there is no such pool, or an issuer.
+pub fn questions(alloc: Global, input: &[u8], count: u64) -> Option<u64> {
+    let (leaf, rest) = cut(input)?;
+    let (anchors, rest) = cut_list(alloc, rest, count)?;
+    let (intermediates, _) = cut_list(alloc, rest, count)?;
+    let Ok(pool) = CertificatePool::from_certificates(alloc, &anchors, &intermediates) else {
+        return None;
+    };
+    let Ok(leaf) = Certificate::try_from_der(alloc, leaf) else {
+        return None;
+    };
+    let checker = Refusing {
+        asked: Cell::new(0),
+    };
+    match uncounted::verify_cert_with_time(&pool, alloc, &leaf, TIME, &checker) {
+        Err(PoolError::VerificationFailed) => Some(checker.asked.get()),
+        _ => None,
+    }
+}
+
 /// Cuts off the first certificate, whose length is in the two bytes before it.
 fn cut(input: &[u8]) -> Option<(&[u8], &[u8])> {
     if input.len() < 2 {
@@ -87,25 +108,4 @@ fn cut_list(alloc: Global, input: &[u8], count: u64) -> Option<(Entries, &[u8])>
         rest = after;
     }
     Some((listed, rest))
-}
-
-/// Returns how many questions are asked about the leaf, the first certificate of the input, by a pool of the next
-/// `count` as trust anchors and of the rest, as many, as intermediates. `None` if there is no such pool, or an issuer.
-pub fn questions(alloc: Global, input: &[u8], count: u64) -> Option<u64> {
-    let (leaf, rest) = cut(input)?;
-    let (anchors, rest) = cut_list(alloc, rest, count)?;
-    let (intermediates, _) = cut_list(alloc, rest, count)?;
-    let Ok(pool) = CertificatePool::from_certificates(alloc, &anchors, &intermediates) else {
-        return None;
-    };
-    let Ok(leaf) = Certificate::try_from_der(alloc, leaf) else {
-        return None;
-    };
-    let checker = Refusing {
-        asked: Cell::new(0),
-    };
-    match uncounted::verify_cert_with_time(&pool, alloc, &leaf, TIME, &checker) {
-        Err(PoolError::VerificationFailed) => Some(checker.asked.get()),
-        _ => None,
-    }
 }

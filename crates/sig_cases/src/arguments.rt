@@ -56,20 +56,6 @@ impl<'a> Arguments<'a> {
         }
     }
 
-    /// The value, or an empty one, which makes the line a bad one.
-    fn or_fail<T>(&mut self, read: Result<T, CaseError>, empty: T) -> T
-    where
-        T: Drop,
-    {
-        match read {
-            Ok(value) => value,
-            Err(fault) => {
-                self.fail(fault);
-                empty
-            }
-        }
-    }
-
     /// The rest of the line, which may have spaces, as a JSON text.
     pub fn rest(&mut self) -> &'a str {
         match self.rest.take() {
@@ -93,11 +79,25 @@ impl<'a> Arguments<'a> {
         }
     }
 
-    /// The next argument as bytes in hexadecimal, in either case; `-` is no bytes, and `3082+00*65535+ff` joins parts,
-    /// of which one is so many times the same bytes.
+    /// The next argument as bytes in hexadecimal, in either case; `-` is the empty byte string, and `3082+00*65535+ff`
+    /// joins parts, of which one is so many times the same bytes.
     pub fn hex(&mut self) -> Vec<u8> {
         let read = hex_bytes(self.alloc, shown(self.word()));
         self.or_fail(read, Vec::new(self.alloc))
+    }
+
+    /// The value, or an empty one, which makes the line a bad one.
+    fn or_fail<T>(&mut self, read: Result<T, CaseError>, empty: T) -> T
+    where
+        T: Drop,
+    {
+        match read {
+            Ok(value) => value,
+            Err(fault) => {
+                self.fail(fault);
+                empty
+            }
+        }
     }
 
     /// The next argument as a list of bytes in hexadecimal, divided by commas, each as [`Arguments::hex`] reads it; `-`
@@ -107,7 +107,7 @@ impl<'a> Arguments<'a> {
         self.or_fail(read, Vec::new(self.alloc))
     }
 
-    /// The next argument as bytes in base64, padded; `-` is no bytes.
+    /// The next argument as bytes in base64, padded; `-` is the empty byte string.
     pub fn base64(&mut self) -> Vec<u8> {
         let read = base64_bytes(self.alloc, shown(self.word()));
         self.or_fail(read, Vec::new(self.alloc))

@@ -6,6 +6,17 @@ use hex::FromHexError;
 use percent_encoding::percent_decode;
 use std::alloc::Global;
 
+/// A list of bytes in hexadecimal, divided by commas; `-` is the empty list.
+pub(crate) fn hex_lists(alloc: Global, word: &str) -> Result<Vec<Vec<u8>>, CaseError> {
+    let mut list = Vec::new(alloc);
+    if word != "-" {
+        for item in word.split(',') {
+            list.push(hex_bytes(alloc, item)?)?;
+        }
+    }
+    Ok(list)
+}
+
 /// The bytes of parts in hexadecimal that are joined by `+`.
 pub(crate) fn hex_bytes(alloc: Global, word: &str) -> Result<Vec<u8>, CaseError> {
     let mut bytes = Vec::new(alloc);
@@ -32,13 +43,6 @@ fn times_of(part: &str) -> Result<(&str, u32), CaseError> {
     }
 }
 
-fn push_times(bytes: &mut Vec<u8>, piece: &[u8], times: u32) -> Result<(), CaseError> {
-    for _ in 0..times {
-        bytes.extend_from_slice(piece)?;
-    }
-    Ok(())
-}
-
 /// The bytes of a text of hexadecimal digits.
 fn digits_of(alloc: Global, digits: &str) -> Result<Vec<u8>, CaseError> {
     match hex::decode(alloc, digits) {
@@ -48,15 +52,11 @@ fn digits_of(alloc: Global, digits: &str) -> Result<Vec<u8>, CaseError> {
     }
 }
 
-/// A list of bytes in hexadecimal, divided by commas; `-` is the empty list.
-pub(crate) fn hex_lists(alloc: Global, word: &str) -> Result<Vec<Vec<u8>>, CaseError> {
-    let mut list = Vec::new(alloc);
-    if word != "-" {
-        for item in word.split(',') {
-            list.push(hex_bytes(alloc, item)?)?;
-        }
+fn push_times(bytes: &mut Vec<u8>, piece: &[u8], times: u32) -> Result<(), CaseError> {
+    for _ in 0..times {
+        bytes.extend_from_slice(piece)?;
     }
-    Ok(list)
+    Ok(())
 }
 
 pub(crate) fn base64_bytes(alloc: Global, word: &str) -> Result<Vec<u8>, CaseError> {

@@ -25,16 +25,6 @@ pub fn run<C: Cases>(rt: &HostRuntime) -> Result<()> {
     Ok(())
 }
 
-/// The line. Fails if out of memory.
-fn text_of(answer: &Answer) -> Result<&str, CaseError> {
-    answer.line().ok_or(CaseError::OutOfMemory)
-}
-
-/// Whether a line is not a case: an empty one, or one that begins with `#`.
-fn is_comment(line: &str) -> bool {
-    line.is_empty() || line.starts_with('#')
-}
-
 /// The line that is written for a line.
 fn answer_to<C: Cases>(alloc: Global, line: &str) -> Answer {
     let mut answer = Answer::new(alloc);
@@ -50,4 +40,14 @@ fn answer_to<C: Cases>(alloc: Global, line: &str) -> Answer {
         None => {}
     }
     answer
+}
+
+/// Whether a line is not a case: an empty one, or one that begins with `#`.
+fn is_comment(line: &str) -> bool {
+    line.is_empty() || line.starts_with('#')
+}
+
+/// The line. Fails if out of memory.
+fn text_of(answer: &Answer) -> Result<&str, CaseError> {
+    answer.line().ok_or(CaseError::OutOfMemory)
 }

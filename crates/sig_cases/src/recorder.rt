@@ -21,13 +21,6 @@ pub struct Recorder {
     is_full: Cell<bool>,
 }
 
-fn question_of(alloc: Global, key: &[u8], signature: &[u8]) -> Result<Question, AllocError> {
-    Ok(Question {
-        key: Vec::from_slice(alloc, key)?,
-        signature: Vec::from_slice(alloc, signature)?,
-    })
-}
-
 impl Recorder {
     /// The table, which was asked nothing yet.
     pub fn new(alloc: Global, table: TableChecker) -> Recorder {
@@ -53,19 +46,19 @@ impl Recorder {
         }
     }
 
-    /// Adds the word `asked`, and ends the program if a question was not kept.
-    fn begin(&self, answer: &mut Answer) {
-        answer.value(&"asked");
-        if self.is_full.get() {
-            answer.out_of_memory();
-        }
-    }
-
     /// Adds the word `asked`, and how many questions there were.
     pub fn count_in(&self, answer: &mut Answer) {
         self.begin(answer);
         if let Ok(asked) = self.asked.try_borrow() {
             answer.value(&asked.len());
+        }
+    }
+
+    /// Adds the word `asked`, and ends the program if a question was not kept.
+    fn begin(&self, answer: &mut Answer) {
+        answer.value(&"asked");
+        if self.is_full.get() {
+            answer.out_of_memory();
         }
     }
 
@@ -88,6 +81,13 @@ impl Recorder {
             }
         }
     }
+}
+
+fn question_of(alloc: Global, key: &[u8], signature: &[u8]) -> Result<Question, AllocError> {
+    Ok(Question {
+        key: Vec::from_slice(alloc, key)?,
+        signature: Vec::from_slice(alloc, signature)?,
+    })
 }
 
 impl SignatureChecker for Recorder {

@@ -4,15 +4,16 @@ use Rattle.std.proofs.Common.{length, get_or, Option, Some, None, slice_get, ref
 use Rattle.std.proofs.Common.{arith}
 use Rattle.std.specs.Prelude.{bytes_eq, position}
 use Rattle.std.specs.List.{find, position_or_len}
-use Rattle.std.proofs.lemmas.Bool.{cases_order, not-true, ltb-true, ltb-false, lt-ltb, le-ltb}
+use Rattle.std.proofs.lemmas.Bool.{cases_order, not-true, ltb-true, ltb-false}
 use Rattle.std.proofs.lemmas.List.Elements.{All-get_or}
 use Rattle.std.proofs.lemmas.List.Folds.{find_at}
 use Rattle.std.proofs.lemmas.List.Quantifiers.{position-Some}
-use Rattle.std.proofs.lemmas.List.Sums.{prefix_len_passes, position_or_len_is}
+use Rattle.std.proofs.lemmas.List.Sums.{prefix_len_passes}
 use Rattle.std.proofs.lemmas.Option.{slice_get_within, slice_get_past, slice_get-get_or, get_or_from_slice_get}
 use Rattle.sig_certificate.specs.Certificate.{Cert}
 use Rattle.sig_x509.specs.AskedAnchors.{IsSameSigner, IsFirstOfItsKey, AreAsked, has_signed, is_signed_at}
 use Rattle.sig_x509.specs.Issuance.{Accepts, is_signed_by}
+use Rattle.sig_x509.proofs.Elements.{position_at, position_nowhere}
 
 module _ (accepts : Accepts) (c : Cert) (anchors : List Cert) (asked : List ℕ) (are : AreAsked anchors asked) where
   abbrev signed : Cert → Bool
@@ -30,29 +31,15 @@ module _ (accepts : Accepts) (c : Cert) (anchors : List Cert) (asked : List ℕ)
   -- where no anchor that is asked and is before the bound signed c, none before the bound did
   none_before : (bound : ℕ)
       → ((k d : ℕ) → k < length asked → get_or asked k d < bound → signed_at (get_or asked k d) ≡ false)
-      → (index : ℕ) → index < bound → index < length anchors → signed (get_or anchors index c) ≡ false
-  none_before bound none index lt within =
-      let x : Cert = get_or anchors index c in
-      let is = are.covers index x (slice_get-get_or anchors index c within) in
+      → (index : ℕ) (x : Cert) → index < bound → slice_get anchors index ≡ Some x → signed x ≡ false
+  none_before bound none index x lt there =
+      let is = are.covers index x there in
       let place = is.is_asked in
       let fails = none place.0 is.first place.1 (rw place.2 (omega (arith, is.before, lt))) in
       sym (same_word is.anchor x is.same)
       ∙ sym (ap (λ (o : Option Cert). has_signed accepts c o) is.there)
       ∙ ap signed_at (sym place.2)
       ∙ fails
-
-  position_is : (index : ℕ) → index < length anchors → signed (get_or anchors index c) ≡ true
-      → ((k : ℕ) → k < index → signed (get_or anchors k c) ≡ false)
-      → position signed anchors ≡ Some index
-  position_is index lt here before =
-      rw (position_or_len_is signed anchors index c (omega arith) before (λ _. here))
-      (ap (λ (b : Bool). cond b (Some index) None) (lt-ltb index (length anchors) lt))
-
-  position_none : ((k : ℕ) → k < length anchors → signed (get_or anchors k c) ≡ false)
-      → position signed anchors ≡ None
-  position_none none =
-      rw (position_or_len_is signed anchors (length anchors) c (omega arith) none (λ lt. absurd (omega (arith, lt))))
-      (ap (λ (b : Bool). cond b (Some (length anchors)) None) (le-ltb (length anchors) (length anchors) (omega arith)))
 
   abbrev found : ℕ
   found = position_or_len signed_at asked
@@ -69,20 +56,19 @@ module _ (accepts : Accepts) (c : Cert) (anchors : List Cert) (asked : List ℕ)
       by_cases false e =
           let past = ltb-false found (length asked) e in
           slice_get_past asked found past
-          ∙ sym (position_none (λ k lt. none_before (length anchors)
-          (λ place d within before. earlier_fail place d (omega (arith, within, past))) k lt lt))
+          ∙ sym (position_nowhere signed anchors (λ k x there. none_before (length anchors)
+          (λ place d within before. earlier_fail place d (omega (arith, within, past))) k x
+          (slice_get_within anchors k x there) there))
       by_cases true e =
           let within = ltb-true found (length asked) e in
           let first : ℕ = get_or asked found 0 in
           let is = position-Some signed_at asked found 0 (ap (λ (b : Bool). cond b (Some found) None) e) in
           let anchor = All-get_or (IsFirstOfItsKey anchors) asked found 0 within are.firsts in
-          let there = slice_get_within anchors first anchor.anchor anchor.there in
           slice_get-get_or asked found 0 within
-          ∙ sym (position_is first there
-          (rw (get_or_from_slice_get anchors first anchor.anchor c anchor.there)
-          (sym (ap (λ (o : Option Cert). has_signed accepts c o) anchor.there) ∙ is.1))
-          (λ k lt. none_before first (λ place d at before. earlier_fail place d (earlier place d at before)) k lt
-          (omega (arith, lt, there))))
+          ∙ sym (position_at signed anchors first anchor.anchor anchor.there
+          (sym (ap (λ (o : Option Cert). has_signed accepts c o) anchor.there) ∙ is.1)
+          (λ k x lt there. none_before first (λ place d at before. earlier_fail place d (earlier place d at before)) k x lt
+          there))
         where
           earlier : (place d : ℕ) → place < length asked → get_or asked place d < get_or asked found 0 → place < found
           earlier place d at before = by_order (cases_order place found)

@@ -1,14 +1,11 @@
 -- What is computed of a certificate that may be issued, and of its issuer, is what the relations say.
-use Rattle.std.proofs.Common.{◌≡◌, ◌⊎◌, ltb, ℕ, ◌<◌, ◌≤◌, Bool, true, false, ◌||◌, not, cond, List, [], ◌∷◌, length}
-use Rattle.std.proofs.Common.{get_or, ℤ, Option, Some, None, Result, Ok, Err, inl, inr, refl, sym, ap, subst}
+use Rattle.std.proofs.Common.{◌≡◌, ◌⊎◌, ℕ, Bool, true, false, ◌||◌, not, cond, List, [], ◌∷◌, length}
+use Rattle.std.proofs.Common.{ℤ, Option, Some, None, Result, Ok, Err, inl, inr, refl, sym, ap}
 use Rattle.std.proofs.Common.{◌∙◌, arith}
 use Rattle.std.specs.Prelude.{◌↔◌, bytes_eq, position, ◌==◌}
-use Rattle.std.specs.List.{AllByRecursion, position_or_len}
-use Rattle.std.proofs.lemmas.Bool.{and_parts, and_from, or_cases, or_right, eqb-true, eq-eqb, ltb-false, cases_order}
+use Rattle.std.specs.List.{AllByRecursion}
+use Rattle.std.proofs.lemmas.Bool.{and_parts, and_from, or_cases, or_right, eqb-true, eq-eqb}
 use Rattle.std.proofs.lemmas.Bool.{both_ways, not-true}
-use Rattle.std.proofs.lemmas.List.Quantifiers.{position-Some}
-use Rattle.std.proofs.lemmas.List.Sums.{prefix_len_passes}
-use Rattle.std.proofs.lemmas.Option.{slice_get_within, slice_get-get_or, get_or_from_slice_get}
 use Rattle.std.proofs.lemmas.Slice.Eq.{bytes_eq-Decides}
 use Rattle.sig_base.proofs.IntOrders.{le_from, le_is}
 use Rattle.sig_base.specs.declared.fault.PoolError.{PoolError}
@@ -24,6 +21,7 @@ use Rattle.sig_x509.specs.Issuance.{Accepts, may_be_critical, is_understood, are
 use Rattle.sig_x509.specs.Issuance.{is_profiled, is_issued, placed, issuer_of}
 use Rattle.sig_x509.specs.Issued.{MayBeCritical, IsFit, HasProfile, IsIssuedBy, IsIssuedByNone, IsFirstIssuer}
 use Rattle.sig_certificate.proofs.DistinctLaws.{distinct_from, distinct_is}
+use Rattle.sig_x509.proofs.Elements.{at_position, before_position, no_position, position_at, position_nowhere}
 
 -- ---- extensions
 
@@ -167,59 +165,34 @@ module _ (accepts : Accepts) (c : Cert) (t : ℤ) (anchors : List Cert) where
 
   first_from : (index : ℕ) → position Passes anchors ≡ Some index → IsFirstIssuer accepts c t anchors index
   first_from index is =
-      let found = position-Some Passes anchors index c is in
+      let found = at_position Passes anchors index is in
       record {
-        anchor = get_or anchors index c;
-        there = slice_get-get_or anchors index c found.0;
-        issued = issued_from accepts c t (get_or anchors index c) found.1;
+        anchor = found.0;
+        there = found.1;
+        issued = issued_from accepts c t found.0 found.2;
         first = λ earlier x lt got is_its.
-            let fails = found.2 earlier lt in
-            let here = subst (λ (w : Cert). Passes w ≡ true) (sym (get_or_from_slice_get anchors earlier x c got))
-            (issued_is accepts c t x is_its) in
-            both_ways (Passes (get_or anchors earlier c)) fails here;
+            both_ways (Passes x) (before_position Passes anchors index is earlier x lt got) (issued_is accepts c t x is_its);
       }
 
   none_from_position : position Passes anchors ≡ None → IsIssuedByNone accepts c t anchors
   none_from_position is index x got is_its =
-      let within = slice_get_within anchors index x got in
-      let all : length anchors ≤ position_or_len Passes anchors =
-      ltb-false (position_or_len Passes anchors) (length anchors)
-      (missed (position_or_len Passes anchors) (length anchors) is) in
-      let fails =
-      not-true (Passes (get_or anchors index c))
-      (prefix_len_passes (λ (x : Cert). not (Passes x)) anchors index c (omega (arith, within, all))) in
-      let here = subst (λ (w : Cert). Passes w ≡ true) (sym (get_or_from_slice_get anchors index x c got))
-      (issued_is accepts c t x is_its) in
-      both_ways (Passes (get_or anchors index c)) fails here
+      both_ways (Passes x) (no_position Passes anchors is index x got) (issued_is accepts c t x is_its)
+
+  issues_none : (x : Cert) → ¬ IsIssuedBy accepts c t x → Passes x ≡ false
+  issues_none x refuted = by (Passes x) refl
     where
-      missed : (a n : ℕ) → cond (ltb a n) (Some a) None ≡ None → ltb a n ≡ false
-      missed a n e = by_cases (ltb a n) e
-        where
-          by_cases : (b : Bool) → cond b (Some a) None ≡ None → b ≡ false
-          by_cases true e = absurd cc
-          by_cases false e = refl
+      by : (b : Bool) → Passes x ≡ b → Passes x ≡ false
+      by true e = absurd (refuted (issued_from accepts c t x e))
+      by false e = e
 
   first_is : (index : ℕ) → IsFirstIssuer accepts c t anchors index → position Passes anchors ≡ Some index
-  first_is index is = by_found (position Passes anchors) refl
-    where
-      by_order : (found : ℕ) → position Passes anchors ≡ Some found → IsFirstIssuer accepts c t anchors found
-          → (found ≡ index) ⊎ ((found < index) ⊎ (index < found))
-          → position Passes anchors ≡ Some index
-      by_order found e other (inl same) = e ∙ ap (λ (n : ℕ). Some n) same
-      by_order found e other (inr (inl lt)) = absurd (is.first found other.anchor lt other.there other.issued)
-      by_order found e other (inr (inr lt)) = absurd (other.first index is.anchor lt is.there is.issued)
-
-      by_found : (o : Option ℕ) → position Passes anchors ≡ o → position Passes anchors ≡ Some index
-      by_found None e = absurd (none_from_position e index is.anchor is.there is.issued)
-      by_found (Some found) e = by_order found e (first_from found e) (cases_order found index)
+  first_is index is =
+      position_at Passes anchors index is.anchor is.there (issued_is accepts c t is.anchor is.issued)
+      (λ earlier x lt got. issues_none x (λ is_its. is.first earlier x lt got is_its))
 
   none_is : IsIssuedByNone accepts c t anchors → position Passes anchors ≡ None
-  none_is none = by_found (position Passes anchors) refl
-    where
-      by_found : (o : Option ℕ) → position Passes anchors ≡ o → position Passes anchors ≡ None
-      by_found None e = e
-      by_found (Some found) e =
-          let other = first_from found e in absurd (none found other.anchor other.there other.issued)
+  none_is none =
+      position_nowhere Passes anchors (λ index x got. issues_none x (λ is_its. none index x got is_its))
 
 -- ---- the answers
 

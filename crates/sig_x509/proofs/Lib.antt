@@ -14,12 +14,15 @@ mod CycleLaws
 pub mod Elements
 mod FirstAsked
 mod IndexLaws
-mod Leading
+mod KeyAnswers
+mod KeyOrders
+mod FirstIntermediates
 mod PathClauses
 pub mod PathConditions
 pub mod PathTable
 mod PlaceLaws
+mod RootedLaws
 mod RowLaws
 mod RowSteps
-mod Seen
+mod SeenCandidates
 mod Walks

@@ -1,5 +1,5 @@
--- Those who may have signed a certificate of a path, and how they are found by their names.
-use Rattle.std.specs.Prelude.{◌≡◌, ℕ, zero, suc, ◌<◌, ◌≤◌, ℤ, List, ◌++◌, length, map, slice_get, Contains, get_or, Bool, true}
+-- The intermediates that may have signed a certificate of a path, and how they are found by their names.
+use Rattle.std.specs.Prelude.{◌≡◌, ℕ, zero, suc, ◌<◌, ℤ, List, length, map, slice_get, Contains, get_or, Bool, true}
 use Rattle.std.specs.Prelude.{false, ◌&&◌}
 use Rattle.std.specs.Prelude.{Option, Some, None, if◌then◌else◌}
 use Rattle.std.specs.Borrow.{Bor}
@@ -8,7 +8,6 @@ use Rattle.std.specs.Cmp.Lexicographic.{slice_cmp}
 use Rattle.std.specs.Ordering.{nat_cmp}
 use Rattle.std.specs.Str.{bytes_eq}
 use Rattle.sig_certificate.specs.Certificate.{Cert}
-use Rattle.sig_x509.specs.AskedAnchors.{AreAsked}
 use Rattle.sig_x509.specs.Issuance.{Accepts, is_signed_by}
 use Rattle.sig_x509.specs.PathSearch.{may_issue, of_read}
 use Rattle.sig_x509.specs.Pool.{Pool, intermediate_in}
@@ -28,13 +27,9 @@ seen (Some x) = Some x.now
 abbrev pub all_seen : List (Option (Bor Cert)) → List (Option Cert)
 all_seen listed = map seen listed
 
--- the trust anchors at these indices
-abbrev pub roots_of : List Cert → List ℕ → List (Option Cert)
-roots_of anchors asked = map (slice_get anchors) asked
-
--- them, and then each intermediate at its index, absent if it may not issue
-abbrev pub candidates_of : Pool → List ℕ → ℤ → List (Option Cert)
-candidates_of pool asked t = roots_of pool.anchors asked ++ map (if_may_issue t) pool.intermediates
+-- each intermediate at its index, absent if it may not issue
+abbrev pub candidates_of : Pool → ℤ → List (Option Cert)
+candidates_of pool t = map (if_may_issue t) pool.intermediates
 
 -- ---- an index over their subjects
 
@@ -69,15 +64,7 @@ pub record AreSigners (accepts : Accepts) (c : Cert) (listed : List (Option Cert
   pub each : (k : ℕ) → Contains signers k → is_signer accepts c listed k ≡ true
   pub all : (k : ℕ) → is_signer accepts c listed k ≡ true → Contains signers k
 
--- ---- what the table is made over
-
--- the trust anchors that are asked about are the first `roots` of the candidates
-pub record AreCandidates (pool : Pool) (t : ℤ) (roots : ℕ) (listed : List (Option Cert)) : Type 0 where
-  pub asked : List ℕ
-  pub are_asked : AreAsked pool.anchors asked
-  pub few : length asked ≤ length pool.anchors
-  pub count : roots ≡ length asked
-  pub listing : listed ≡ candidates_of pool asked t
+-- ---- the first that leads
 
 -- the first index below the count that passes
 abbrev pub IsFirstPlace : (ℕ → Bool) → ℕ → Option ℕ → Type 0

@@ -58,6 +58,10 @@ is_profiled c = is_fit c && is_no_authority (constraints c)
 abbrev pub Accepts : Type 0
 Accepts = List ℕ → List ℕ → List ℕ → List ℕ → Bool
 
+-- the signature of c is genuine under the key
+abbrev pub is_genuine_under : Accepts → Cert → List ℕ → Bool
+is_genuine_under accepts c key = accepts key c.algorithm c.tbs c.signature
+
 -- *Signed*: the issuer is the subject of x byte for byte, and the signature is genuine under the key of x (section
 -- 6.1.3)
 abbrev pub is_signed_by : Accepts → Cert → Cert → Bool

@@ -2,6 +2,7 @@ pub mod AskedAnchors
 pub mod Candidates
 pub mod Issuance
 pub mod Issued
+pub mod KeyOrder
 pub mod Path
 pub mod PathPlaces
 pub mod PathSearch

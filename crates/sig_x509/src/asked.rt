@@ -26,23 +26,6 @@ pub(crate) fn asked_of(alloc: Global, anchors: &[Certificate]) -> Result<Vec<usi
     Ok(asked)
 }
 
-/// Whether the trust anchor at the index signed the leaf.
-fn is_signed_at<C: SignatureChecker, L: Ledger>(
-    leaf: &Certificate,
-    anchors: &[Certificate],
-    index: usize,
-    checker: &C,
-    steps: &mut Steps<L>,
-) -> bool
-    ensures signed { result ≡ is_signed_at (C.cert_accepts checker.now) leaf.now anchors.now index }
-    ensures steps { steps.new ≤ steps.old + 1 }
-{
-    match anchors.get(index) {
-        Some(anchor) => is_signed_by(leaf, anchor, checker, steps),
-        None => false,
-    }
-}
-
 /// Returns the first of these indices whose trust anchor signed the leaf.
 pub(crate) fn first_signer_of<C: SignatureChecker, L: Ledger>(
     leaf: &Certificate,
@@ -60,4 +43,21 @@ pub(crate) fn first_signer_of<C: SignatureChecker, L: Ledger>(
         }
     }
     None
+}
+
+/// Whether the trust anchor at the index signed the leaf.
+fn is_signed_at<C: SignatureChecker, L: Ledger>(
+    leaf: &Certificate,
+    anchors: &[Certificate],
+    index: usize,
+    checker: &C,
+    steps: &mut Steps<L>,
+) -> bool
+    ensures signed { result ≡ is_signed_at (C.cert_accepts checker.now) leaf.now anchors.now index }
+    ensures steps { steps.new ≤ steps.old + 1 }
+{
+    match anchors.get(index) {
+        Some(anchor) => is_signed_by(leaf, anchor, checker, steps),
+        None => false,
+    }
 }

@@ -1,69 +1,15 @@
-//! The candidates: those who may have signed a certificate of a path.
+//! The candidates: the intermediates that may have signed a certificate of a path.
 
-ghost use Rattle.std.specs.Prelude.{◌≡◌, ◌++◌, map, slice_get, Some, OnOk};
-ghost use Rattle.sig_x509.specs.Candidates.{all_seen, if_may_issue, roots_of, seen};
+ghost use Rattle.std.specs.Prelude.{◌≡◌, ◌++◌, map, Some, OnOk};
+ghost use Rattle.sig_x509.specs.Candidates.{all_seen, if_may_issue, seen};
 
 use crate::issuance::may_issue;
 use sig_base::OutOfMemory;
 use sig_certificate::Certificate;
 
-/// The trust anchors that the checker is asked about, the first `roots`, and then each intermediate at its index, absent
-/// if it may not issue.
-#[derive(Drop)]
-pub(crate) struct Candidates<'a> {
-    pub(crate) roots: usize,
-    pub(crate) listed: Vec<Option<&'a Certificate>>,
-}
-
-/// The certificate, if it may issue others at the time.
-fn if_may_issue<'a>(certificate: &'a Certificate, time: i64) -> Option<&'a Certificate>
-    ensures { seen result ≡ if_may_issue time (Some certificate.now) }
-{
-    if may_issue(certificate, time) {
-        Some(certificate)
-    } else {
-        None
-    }
-}
-
-/// The intermediate, if it is a certificate and may issue others at the time.
-fn usable<'a>(intermediate: &'a Option<Certificate>, time: i64) -> Option<&'a Certificate>
-    ensures { seen result ≡ if_may_issue time intermediate.now }
-{
-    match intermediate {
-        Some(certificate) => if_may_issue(certificate, time),
-        None => None,
-    }
-}
-
-/// The trust anchor at an index.
-fn anchor_at<'a>(anchors: &'a [Certificate], index: usize) -> Option<&'a Certificate>
-    ensures { seen result ≡ slice_get anchors.now index }
-{
-    match anchors.get(index) {
-        Some(anchor) => Some(anchor),
-        None => None,
-    }
-}
-
-/// Adds the trust anchors at these indices. Fails only if out of memory.
-#[tactic(auto, using(crate::proofs::Seen::pushed_laws))]
-pub(crate) fn push_roots<'a>(
-    listed: &mut Vec<Option<&'a Certificate>>,
-    anchors: &'a [Certificate],
-    asked: &[usize],
-) -> Result<(), OutOfMemory>
-    ensures { OnOk result (all_seen listed.new.items ≡ all_seen listed.old.items ++ roots_of anchors.now asked.now) }
-{
-    'asked: for index in asked {
-        listed.push(anchor_at(anchors, *index))?;
-    }
-    Ok(())
-}
-
 /// Adds the intermediates of a pool that may issue at the time, and in place of each other one that it is absent. Fails
 /// only if out of memory.
-#[tactic(auto, using(crate::proofs::Seen::pushed_laws))]
+#[tactic(auto, using(crate::proofs::SeenCandidates::pushed_laws))]
 pub(crate) fn push_intermediates<'a>(
     listed: &mut Vec<Option<&'a Certificate>>,
     intermediates: &'a [Option<Certificate>],
@@ -78,8 +24,29 @@ pub(crate) fn push_intermediates<'a>(
     Ok(())
 }
 
+/// The intermediate, if it is a certificate and may issue others at the time.
+fn usable<'a>(intermediate: &'a Option<Certificate>, time: i64) -> Option<&'a Certificate>
+    ensures { seen result ≡ if_may_issue time intermediate.now }
+{
+    match intermediate {
+        Some(certificate) => if_may_issue(certificate, time),
+        None => None,
+    }
+}
+
+/// The certificate, if it may issue others at the time.
+fn if_may_issue<'a>(certificate: &'a Certificate, time: i64) -> Option<&'a Certificate>
+    ensures { seen result ≡ if_may_issue time (Some certificate.now) }
+{
+    if may_issue(certificate, time) {
+        Some(certificate)
+    } else {
+        None
+    }
+}
+
 /// Adds the intermediates that come with a leaf, as `push_intermediates` adds those of a pool.
-#[tactic(auto, using(crate::proofs::Seen::pushed_laws))]
+#[tactic(auto, using(crate::proofs::SeenCandidates::pushed_laws))]
 pub(crate) fn push_further<'a>(
     listed: &mut Vec<Option<&'a Certificate>>,
     further: &'a [Certificate],

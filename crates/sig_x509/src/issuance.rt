@@ -1,48 +1,37 @@
 //! Which certificates may be issued, and which may issue them: RFC 5280 sections 4.2 and 6.1, in the profile of
 //! Sigstore.
 
-ghost use Rattle.std.specs.Prelude.{◌≡◌, ◌+◌, ◌≤◌, is_none, IsFalse};
+ghost use Rattle.std.specs.Prelude.{◌≡◌, ◌+◌, ◌≤◌, is_none, IsFalse, IfSome};
+ghost use Rattle.sig_base.specs.Checker.{AreKeysOf};
 ghost use Rattle.sig_certificate.specs.Lookups.{borrowed_extension, with_oid};
 ghost use Rattle.sig_certificate.specs.Profile.{ca_refusal, code_signing, constraints};
 ghost use Rattle.sig_x509.specs.Issuance.{may_be_critical, is_understood, are_understood, is_unconstrained, is_fit};
 ghost use Rattle.sig_x509.specs.Issuance.{is_no_authority, is_profiled, is_signed_by, is_within, signs_code_at};
-ghost use Rattle.sig_x509.specs.Issuance.{IsSignedByNone};
+ghost use Rattle.sig_x509.specs.Issuance.{IsSignedByNone, is_genuine_under};
 ghost use Rattle.sig_x509.specs.PathSearch.{may_issue, may_issue_code};
 
-use sig_base::{SignatureChecker, Steps};
+use sig_base::{KeyList, SignatureChecker, Steps};
 use sig_certificate::{Certificate, ExtensionRef, Lookup, basic_constraints, is_ca, may_sign_code};
 use sig_der::oid::{
     BASIC_CONSTRAINTS, EXTENDED_KEY_USAGE, KEY_USAGE, NAME_CONSTRAINTS, SUBJECT_ALTERNATIVE_NAME,
 };
 use std::sync::ledger::Ledger;
 
-fn may_be_critical(oid: &[u8]) -> bool
-    ensures { result ≡ may_be_critical oid.now }
+/// Whether the certificate has the profile of what a trust anchor may issue.
+pub(crate) fn is_profiled(certificate: &Certificate) -> bool
+    ensures { result ≡ is_profiled certificate.now }
 {
-    oid == KEY_USAGE
-        || oid == SUBJECT_ALTERNATIVE_NAME
-        || oid == BASIC_CONSTRAINTS
-        || oid == EXTENDED_KEY_USAGE
+    is_fit(certificate) && is_no_authority(certificate)
 }
 
-/// Whether a certificate with the extension may be accepted: whether it is not critical, or is one that may be
-/// critical.
-fn is_understood(extension: &ExtensionRef<'_>) -> bool
-    ensures { result ≡ is_understood (borrowed_extension extension.now) }
+fn is_fit(certificate: &Certificate) -> bool
+    ensures { result ≡ is_fit certificate.now }
 {
-    !extension.critical || may_be_critical(extension.oid)
-}
-
-/// Whether each critical extension is one that may be critical.
-fn are_understood(certificate: &Certificate) -> bool
-    ensures { result ≡ are_understood certificate.now.extensions }
-{
-    for extension in certificate.extensions() {
-        if !is_understood(&extension) {
-            return false;
-        }
-    }
-    true
+    certificate.version() == 3
+        && certificate.inner_algorithm() == certificate.algorithm()
+        && is_unconstrained(certificate)
+        && are_understood(certificate)
+        && certificate.are_single()
 }
 
 /// Whether the certificate has no name constraints.
@@ -57,14 +46,33 @@ pub(crate) fn is_unconstrained(certificate: &Certificate) -> bool
     }
 }
 
-fn is_fit(certificate: &Certificate) -> bool
-    ensures { result ≡ is_fit certificate.now }
+/// Whether each critical extension is one that may be critical.
+fn are_understood(certificate: &Certificate) -> bool
+    ensures { result ≡ are_understood certificate.now.extensions }
 {
-    certificate.version() == 3
-        && certificate.inner_algorithm() == certificate.algorithm()
-        && is_unconstrained(certificate)
-        && are_understood(certificate)
-        && certificate.are_single()
+    for extension in certificate.extensions() {
+        if !is_understood(&extension) {
+            return false;
+        }
+    }
+    true
+}
+
+/// Whether a certificate with the extension may be accepted: whether it is not critical, or is one that may be
+/// critical.
+fn is_understood(extension: &ExtensionRef<'_>) -> bool
+    ensures { result ≡ is_understood (borrowed_extension extension.now) }
+{
+    !extension.critical || may_be_critical(extension.oid)
+}
+
+fn may_be_critical(oid: &[u8]) -> bool
+    ensures { result ≡ may_be_critical oid.now }
+{
+    oid == KEY_USAGE
+        || oid == SUBJECT_ALTERNATIVE_NAME
+        || oid == BASIC_CONSTRAINTS
+        || oid == EXTENDED_KEY_USAGE
 }
 
 fn is_no_authority(certificate: &Certificate) -> bool
@@ -75,13 +83,6 @@ fn is_no_authority(certificate: &Certificate) -> bool
         Ok(None) => true,
         Err(_) => false,
     }
-}
-
-/// Whether the certificate has the profile of what a trust anchor may issue.
-pub(crate) fn is_profiled(certificate: &Certificate) -> bool
-    ensures { result ≡ is_profiled certificate.now }
-{
-    is_fit(certificate) && is_no_authority(certificate)
 }
 
 /// Whether the certificate may sign code at the time, in seconds since 1970.
@@ -116,15 +117,38 @@ pub(crate) fn is_signed_by<C: SignatureChecker, L: Ledger>(
     )
 }
 
-/// Whether anyone at all may have signed the certificate, as far as the checker can tell without a key.
+/// Whether anyone at all may have signed the certificate: whether the checker lists a key, or cannot list them.
 pub(crate) fn may_be_signed<C: SignatureChecker>(certificate: &Certificate, checker: &C) -> bool
     ensures { IsFalse result → IsSignedByNone (C.cert_accepts checker.now) certificate.now }
 {
-    checker.may_accept_cert(
+    match listed_keys(certificate, checker) {
+        Some(keys) => !keys.is_empty(),
+        None => true,
+    }
+}
+
+/// Returns the keys under which the certificate's signature is genuine, if the checker can list them.
+pub(crate) fn listed_keys<'a, C: SignatureChecker>(
+    certificate: &Certificate,
+    checker: &'a C,
+) -> Option<KeyList<'a>>
+    ensures { IfSome result (AreKeysOf (is_genuine_under (C.cert_accepts checker.now) certificate.now)) }
+{
+    checker.cert_keys(
         certificate.algorithm(),
         certificate.tbs(),
         certificate.signature(),
     )
+}
+
+/// Whether the certificate may issue others of code signing at the time, in seconds since 1970.
+pub(crate) fn may_issue(certificate: &Certificate, time: i64) -> bool
+    ensures { result ≡ may_issue time certificate.now }
+{
+    is_fit(certificate)
+        && is_authority(certificate)
+        && is_within(certificate, time)
+        && may_issue_code(certificate)
 }
 
 /// Whether the certificate has the profile of an authority.
@@ -142,16 +166,6 @@ fn is_within(certificate: &Certificate, time: i64) -> bool
     ensures { result ≡ is_within certificate.now time }
 {
     certificate.not_before() <= time && time <= certificate.not_after()
-}
-
-/// Whether the certificate may issue others of code signing at the time, in seconds since 1970.
-pub(crate) fn may_issue(certificate: &Certificate, time: i64) -> bool
-    ensures { result ≡ may_issue time certificate.now }
-{
-    is_fit(certificate)
-        && is_authority(certificate)
-        && is_within(certificate, time)
-        && may_issue_code(certificate)
 }
 
 /// Whether the extended key usage is absent or has code signing (RFC 5280 section 4.2.1.12).

@@ -8,6 +8,7 @@
 #![tactic(auto)]
 
 mod asked;
+mod by_key;
 mod candidates;
 mod issuance;
 mod issuer;

@@ -13,6 +13,7 @@ ghost use Rattle.sig_x509.specs.Pool.{with_further};
 ghost use Rattle.sig_x509.specs.declared.issuer.Issuer.{Issuer};
 
 use crate::asked::asked_of;
+use crate::by_key::key_order_of;
 use crate::issuance::is_unconstrained;
 use crate::issuer::Issuer;
 use sig_base::{Entries, OutOfMemory, OwnedList, PoolError, SignatureChecker, Steps};
@@ -27,11 +28,12 @@ const MOST_INTERMEDIATES: usize = 1024;
 /// Trust anchors, in order: certificates that are trusted by themselves, and have no name constraints; and the
 /// intermediates that may lead to them, in order, which are not trusted. Contracts see both lists; an intermediate whose
 /// bytes are not a certificate has its index, and is absent. Beside them are the indices of the trust anchors that a
-/// checker is asked about.
+/// checker is asked about, in order and in that of their subjects and keys.
 #[derive(Drop)]
 pub struct CertificatePool {
     pub(crate) anchors: OwnedList<Certificate>,
     pub(crate) asked: Vec<usize>,
+    pub(crate) by_key: Vec<usize>,
     pub(crate) intermediates: OwnedList<Option<Certificate>>,
 }
 
@@ -43,66 +45,9 @@ impl Model for CertificatePool {
     ghost view = { λ p. record { anchors = p.anchors; intermediates = p.intermediates } };
 
     ghost use Rattle.sig_x509.specs.AskedAnchors.{AreFewAsked};
+    ghost use Rattle.sig_x509.specs.KeyOrder.{IsKeyOrder};
 
-    ghost invariant = { λ p. AreFewAsked p.anchors p.asked.items };
-}
-
-/// Returns the trust anchor that the bytes at this index are. Fails with `Anchor` and the index if and only if they
-/// are none, unless out of memory.
-fn read_anchor(alloc: Global, index: usize, der: &[u8]) -> Result<Certificate, PoolError>
-    ensures found { IfOk result (IsAnchor der.now) }
-    ensures refused { IfErr result (IsRefusedAt der.now index) }
-{
-    match Certificate::try_from_der(alloc, der) {
-        Ok(anchor) => {
-            if is_unconstrained(&anchor) {
-                Ok(anchor)
-            } else {
-                Err(PoolError::Anchor(index))
-            }
-        }
-        Err(X509ReadError::Der) => Err(PoolError::Anchor(index)),
-        Err(X509ReadError::OutOfMemory) => Err(PoolError::OutOfMemory),
-    }
-}
-
-/// Returns the trust anchors, one by one. Fails with `Anchor` and the index of the first that is none.
-fn read_anchors(alloc: Global, ders: &Entries) -> Result<OwnedList<Certificate>, PoolError>
-    ensures anchors { IfOk result (AreAnchors ders.now) }
-    ensures refused { IfErr result (AreRefused ders.now) }
-{
-    let mut anchors = OwnedList::new(alloc);
-    'ders: for (index, der) in ders.as_slice().iter().enumerate() {
-        let anchor = read_anchor(alloc, index, der.as_slice())?;
-        anchors.push(anchor)?;
-    }
-    Ok(anchors)
-}
-
-/// Returns the certificate that the bytes are, `None` if they are none. Fails only if out of memory.
-fn read_intermediate(alloc: Global, der: &[u8]) -> Result<Option<Certificate>, OutOfMemory>
-    ensures { IfOk result (IsReadAs der.now) }
-{
-    match Certificate::try_from_der(alloc, der) {
-        Ok(certificate) => Ok(Some(certificate)),
-        Err(X509ReadError::Der) => Ok(None),
-        Err(X509ReadError::OutOfMemory) => Err(OutOfMemory),
-    }
-}
-
-/// Returns the intermediates, one by one. Fails only if out of memory.
-fn read_intermediates(
-    alloc: Global,
-    ders: &Entries,
-) -> Result<OwnedList<Option<Certificate>>, OutOfMemory>
-    ensures { IfOk result (AreReadAs ders.now) }
-{
-    let mut intermediates = OwnedList::new(alloc);
-    'ders: for der in ders.as_slice() {
-        let intermediate = read_intermediate(alloc, der.as_slice())?;
-        intermediates.push(intermediate)?;
-    }
-    Ok(intermediates)
+    ghost invariant = { λ p. AreFewAsked p.anchors p.asked.items × IsKeyOrder p.anchors p.by_key.items };
 }
 
 impl CertificatePool {
@@ -151,15 +96,17 @@ impl CertificatePool {
         if count > MOST_INTERMEDIATES {
             return Err(PoolError::TooMany(count));
         }
-        // No `?`: what the error says of the bytes is a fact of this arm.
+        // A `match`, not `?`: the proof needs what the error says of the bytes.
         match read_anchors(alloc, trusted_roots) {
             Err(error) => Err(error),
             Ok(anchors) => {
                 let asked = asked_of(alloc, anchors.as_slice())?;
+                let by_key = key_order_of(alloc, anchors.as_slice(), &asked)?;
                 let intermediates = read_intermediates(alloc, untrusted_intermediates)?;
                 Ok(CertificatePool {
                     anchors,
                     asked,
+                    by_key,
                     intermediates,
                 })
             }
@@ -323,5 +270,63 @@ impl CertificatePool {
                 None => None,
             },
         }
+    }
+}
+
+/// Returns the trust anchors, one by one. Fails with `Anchor` and the index of the first that is not one.
+fn read_anchors(alloc: Global, ders: &Entries) -> Result<OwnedList<Certificate>, PoolError>
+    ensures anchors { IfOk result (AreAnchors ders.now) }
+    ensures refused { IfErr result (AreRefused ders.now) }
+{
+    let mut anchors = OwnedList::new(alloc);
+    'ders: for (index, der) in ders.as_slice().iter().enumerate() {
+        let anchor = read_anchor(alloc, index, der.as_slice())?;
+        anchors.push(anchor)?;
+    }
+    Ok(anchors)
+}
+
+/// Returns the trust anchor that the bytes at this index are. Fails with `Anchor` and the index if and only if they
+/// are none, unless out of memory.
+fn read_anchor(alloc: Global, index: usize, der: &[u8]) -> Result<Certificate, PoolError>
+    ensures found { IfOk result (IsAnchor der.now) }
+    ensures refused { IfErr result (IsRefusedAt der.now index) }
+{
+    match Certificate::try_from_der(alloc, der) {
+        Ok(anchor) => {
+            if is_unconstrained(&anchor) {
+                Ok(anchor)
+            } else {
+                Err(PoolError::Anchor(index))
+            }
+        }
+        Err(X509ReadError::Der) => Err(PoolError::Anchor(index)),
+        Err(X509ReadError::OutOfMemory) => Err(PoolError::OutOfMemory),
+    }
+}
+
+/// Returns the intermediates, one by one. Fails only if out of memory.
+fn read_intermediates(
+    alloc: Global,
+    ders: &Entries,
+) -> Result<OwnedList<Option<Certificate>>, OutOfMemory>
+    ensures { IfOk result (AreReadAs ders.now) }
+{
+    let mut intermediates = OwnedList::new(alloc);
+    'ders: for der in ders.as_slice() {
+        let intermediate = read_intermediate(alloc, der.as_slice())?;
+        intermediates.push(intermediate)?;
+    }
+    Ok(intermediates)
+}
+
+/// Returns the certificate that the bytes are, `None` if they are not one. Fails only if out of memory.
+fn read_intermediate(alloc: Global, der: &[u8]) -> Result<Option<Certificate>, OutOfMemory>
+    ensures { IfOk result (IsReadAs der.now) }
+{
+    match Certificate::try_from_der(alloc, der) {
+        Ok(certificate) => Ok(Some(certificate)),
+        Err(X509ReadError::Der) => Ok(None),
+        Err(X509ReadError::OutOfMemory) => Err(OutOfMemory),
     }
 }

@@ -34,12 +34,13 @@ pub struct PossiblePaths<'a> {
     pub signers: Vec<Signer<'a>>,
 }
 
-/// Whether the signer of a certificate, and a certificate, can both be at the place with so many others before it.
-fn meets_at(next: &[bool], trusted: bool, up: &[bool], others: usize) -> bool
-    requires { others < 7 }
-    ensures { result ≡ meets_at next.now trusted up.now others }
+/// Whether the signature of the one under the key of the other lies on a path that would hold if every signature were
+/// genuine.
+pub fn may_sign(signed: &Signed<'_>, signer: &Signer<'_>) -> bool
+    ensures { result ≡ may_sign (seen_signed signed.now) (seen_signer signer.now) }
 {
-    bit(next, others) && (trusted || bit(up, 6 - others))
+    is_named(signed.certificate, signer.certificate)
+        && meets(signed.next.as_slice(), signer.trusted, signer.up.as_slice())
 }
 
 /// Whether both can be at one place.
@@ -55,13 +56,38 @@ fn meets(next: &[bool], trusted: bool, up: &[bool]) -> bool
     false
 }
 
-/// Whether the signature of the one under the key of the other lies on a path that would hold if every signature were
-/// genuine.
-pub fn may_sign(signed: &Signed<'_>, signer: &Signer<'_>) -> bool
-    ensures { result ≡ may_sign (seen_signed signed.now) (seen_signer signer.now) }
+/// Whether the signer of a certificate, and a certificate, can both be at the place with so many others before it.
+fn meets_at(next: &[bool], trusted: bool, up: &[bool], others: usize) -> bool
+    requires { others < 7 }
+    ensures { result ≡ meets_at next.now trusted up.now others }
 {
-    is_named(signed.certificate, signer.certificate)
-        && meets(signed.next.as_slice(), signer.trusted, signer.up.as_slice())
+    bit(next, others) && (trusted || bit(up, 6 - others))
+}
+
+/// Returns whose signatures may be asked about in a search for a path from the leaf over these intermediates to a trust
+/// anchor, at the time in seconds since 1970: the leaf's, and those of the intermediates in order; and under whose keys:
+/// those of the trust anchors, and then those of the intermediates. `may_sign` says which of them meet in a path. Fails
+/// only if out of memory.
+pub fn possible_paths<'a>(
+    alloc: Global,
+    leaf: &'a Certificate,
+    anchors: &'a [Certificate],
+    further: &'a [Certificate],
+    time: i64,
+) -> Result<PossiblePaths<'a>, OutOfMemory>
+    ensures leaf { IfOk result (λ p. seen_signed p.leaf ≡ the_leaf leaf.now time) }
+    ensures further { IfOk result (λ p. map seen_signed p.further.items
+        ≡ map (further_signed further.now leaf.now time) further.now) }
+    ensures signers { IfOk result (λ p. map seen_signer p.signers.items ≡ all_signers anchors.now further.now time) }
+{
+    let nodes = nodes_of(alloc, leaf, anchors, further, time)?;
+    let downs = down_rows(alloc, nodes.as_slice())?;
+    let ups = up_rows(alloc, nodes.as_slice())?;
+    Ok(PossiblePaths {
+        leaf: the_leaf(alloc, leaf, time)?,
+        further: further_signed(alloc, leaf, anchors, further, time, downs.as_slice())?,
+        signers: all_signers(alloc, leaf, anchors, further, time, ups.as_slice())?,
+    })
 }
 
 /// The leaf. Fails only if out of memory.
@@ -125,30 +151,4 @@ fn all_signers<'a>(
         })?;
     }
     Ok(signers)
-}
-
-/// Returns whose signatures may be asked about in a search for a path from the leaf over these intermediates to a trust
-/// anchor, at the time in seconds since 1970: the leaf's, and those of the intermediates in order; and under whose keys:
-/// those of the trust anchors, and then those of the intermediates. `may_sign` says which of them meet in a path. Fails
-/// only if out of memory.
-pub fn possible_paths<'a>(
-    alloc: Global,
-    leaf: &'a Certificate,
-    anchors: &'a [Certificate],
-    further: &'a [Certificate],
-    time: i64,
-) -> Result<PossiblePaths<'a>, OutOfMemory>
-    ensures leaf { IfOk result (λ p. seen_signed p.leaf ≡ the_leaf leaf.now time) }
-    ensures further { IfOk result (λ p. map seen_signed p.further.items
-        ≡ map (further_signed further.now leaf.now time) further.now) }
-    ensures signers { IfOk result (λ p. map seen_signer p.signers.items ≡ all_signers anchors.now further.now time) }
-{
-    let nodes = nodes_of(alloc, leaf, anchors, further, time)?;
-    let downs = down_rows(alloc, nodes.as_slice())?;
-    let ups = up_rows(alloc, nodes.as_slice())?;
-    Ok(PossiblePaths {
-        leaf: the_leaf(alloc, leaf, time)?,
-        further: further_signed(alloc, leaf, anchors, further, time, downs.as_slice())?,
-        signers: all_signers(alloc, leaf, anchors, further, time, ups.as_slice())?,
-    })
 }

@@ -28,53 +28,22 @@ pub(crate) struct Node {
     pub(crate) signed: OwnedList<bool>,
 }
 
-/// Whether the second certificate has the name of the issuer of the first.
-pub(crate) fn is_named(certificate: &Certificate, signer: &Certificate) -> bool
-    ensures { result ≡ is_named certificate.now signer.now }
-{
-    certificate.issuer() == signer.subject()
-}
-
-/// Whether a trust anchor has the name of the issuer.
-fn is_rooted(certificate: &Certificate, anchors: &[Certificate]) -> bool
-    ensures { result ≡ list_any (is_named certificate.now) anchors.now }
-{
-    'anchors: for anchor in anchors {
-        if is_named(certificate, anchor) {
-            return true;
-        }
-    }
-    false
-}
-
-/// Which of the intermediates have the name of the issuer. Fails only if out of memory.
-fn signers_of(
+/// Returns what the tables need of each intermediate. Fails only if out of memory.
+pub(crate) fn nodes_of(
     alloc: Global,
-    certificate: &Certificate,
+    leaf: &Certificate,
+    anchors: &[Certificate],
     further: &[Certificate],
-) -> Result<OwnedList<bool>, OutOfMemory>
-    ensures { IfOk result (λ row. row ≡ map (is_named certificate.now) further.now) }
+    time: i64,
+) -> Result<OwnedList<Node>, OutOfMemory>
+    ensures { IfOk result (λ nodes. nodes ≡ map (node_of anchors.now further.now leaf.now time) further.now) }
 {
-    let mut row = OwnedList::new(alloc);
-    'further: for other in further {
-        row.push(is_named(certificate, other))?;
+    let mut nodes = OwnedList::new(alloc);
+    'further: for certificate in further {
+        let node = node_of(alloc, leaf, anchors, further, time, certificate)?;
+        nodes.push(node)?;
     }
-    Ok(row)
-}
-
-/// Of which intermediates the certificate has the name of the issuer. Fails only if out of memory.
-fn signed_by(
-    alloc: Global,
-    certificate: &Certificate,
-    further: &[Certificate],
-) -> Result<OwnedList<bool>, OutOfMemory>
-    ensures { IfOk result (λ row. row ≡ map (λ y. is_named y certificate.now) further.now) }
-{
-    let mut row = OwnedList::new(alloc);
-    'further: for other in further {
-        row.push(is_named(other, certificate))?;
-    }
-    Ok(row)
+    Ok(nodes)
 }
 
 /// Returns what the tables need of one intermediate. Fails only if out of memory.
@@ -100,69 +69,73 @@ fn node_of(
     })
 }
 
-/// Returns what the tables need of each intermediate. Fails only if out of memory.
-pub(crate) fn nodes_of(
+/// Which of the intermediates have the name of the issuer. Fails only if out of memory.
+fn signers_of(
     alloc: Global,
-    leaf: &Certificate,
-    anchors: &[Certificate],
+    certificate: &Certificate,
     further: &[Certificate],
-    time: i64,
-) -> Result<OwnedList<Node>, OutOfMemory>
-    ensures { IfOk result (λ nodes. nodes ≡ map (node_of anchors.now further.now leaf.now time) further.now) }
+) -> Result<OwnedList<bool>, OutOfMemory>
+    ensures { IfOk result (λ row. row ≡ map (is_named certificate.now) further.now) }
 {
-    let mut nodes = OwnedList::new(alloc);
-    'further: for certificate in further {
-        let node = node_of(alloc, leaf, anchors, further, time, certificate)?;
-        nodes.push(node)?;
+    let mut row = OwnedList::new(alloc);
+    'further: for other in further {
+        row.push(is_named(certificate, other))?;
     }
-    Ok(nodes)
+    Ok(row)
 }
 
-/// The bit at a place.
-pub(crate) fn bit(row: &[bool], place: usize) -> bool
-    ensures { result ≡ bit row.now place }
+/// Whether the second certificate has the name of the issuer of the first.
+pub(crate) fn is_named(certificate: &Certificate, signer: &Certificate) -> bool
+    ensures { result ≡ is_named certificate.now signer.now }
 {
-    match row.get(place) {
-        Some(set) => *set,
-        None => false,
-    }
+    certificate.issuer() == signer.subject()
 }
 
-/// Whether both rows have a bit at one place.
-#[tactic(auto, using(crate::proofs::Bits::bit_steps))]
-fn any_both(one: &[bool], other: &[bool]) -> bool
-    ensures { result ≡ any_both one.now other.now }
+/// Of which intermediates the certificate has the name of the issuer. Fails only if out of memory.
+fn signed_by(
+    alloc: Global,
+    certificate: &Certificate,
+    further: &[Certificate],
+) -> Result<OwnedList<bool>, OutOfMemory>
+    ensures { IfOk result (λ row. row ≡ map (λ y. is_named y certificate.now) further.now) }
 {
-    'places: for place in 0..one.len() {
-        if bit(one, place) && bit(other, place) {
+    let mut row = OwnedList::new(alloc);
+    'further: for other in further {
+        row.push(is_named(other, certificate))?;
+    }
+    Ok(row)
+}
+
+/// Whether a trust anchor has the name of the issuer.
+fn is_rooted(certificate: &Certificate, anchors: &[Certificate]) -> bool
+    ensures { result ≡ list_any (is_named certificate.now) anchors.now }
+{
+    'anchors: for anchor in anchors {
+        if is_named(certificate, anchor) {
             return true;
         }
     }
     false
 }
 
-/// Whether the intermediate can be in a path, at the place with so many others before it.
-fn node_stands(node: &Node, others: u32) -> bool
-    ensures { result ≡ node_stands others node.now }
+/// For each number of places left which intermediates lead to a trust anchor. Fails only if out of memory.
+pub(crate) fn up_rows(
+    alloc: Global,
+    nodes: &[Node],
+) -> Result<OwnedList<OwnedList<bool>>, OutOfMemory>
+    ensures { IfOk result (λ rows. rows ≡ map (up_at nodes.now) (below 7)) }
 {
-    node.passes && allows(node.most, others)
-}
-
-/// Whether it leads to a trust anchor from the place with so many others before it; the row is that of the next place.
-fn node_leads(node: &Node, others: u32, next: &[bool]) -> bool
-    ensures { result ≡ node_leads others next.now node.now }
-{
-    node_stands(node, others) && (node.rooted || any_both(node.signers.as_slice(), next))
-}
-
-/// Whether it is reached from the leaf at the place with so many others before it; the row is that of the place before.
-fn node_reached(node: &Node, others: u32, previous: &[bool]) -> bool
-    ensures { result ≡ node_reached others previous.now node.now }
-{
-    if others == 0 {
-        return node_stands(node, 0) && node.issues;
+    let mut rows = OwnedList::new(alloc);
+    let mut row = no_row(alloc, nodes)?;
+    let mut left: u32 = 0;
+    'levels: while left < 6 {
+        let next = up_row(alloc, nodes, 5 - left, row.as_slice())?;
+        rows.push(row)?;
+        row = next;
+        left += 1;
     }
-    node_stands(node, others) && any_both(node.signed.as_slice(), previous)
+    rows.push(row)?;
+    Ok(rows)
 }
 
 /// The row of nothing.
@@ -192,40 +165,41 @@ fn up_row(
     Ok(row)
 }
 
-/// The row of `node_reached`.
-fn down_row(
-    alloc: Global,
-    nodes: &[Node],
-    others: u32,
-    previous: &[bool],
-) -> Result<OwnedList<bool>, OutOfMemory>
-    ensures { IfOk result (λ row. row ≡ map (node_reached others previous.now) nodes.now) }
+/// Whether it leads to a trust anchor from the place with so many others before it; the row is that of the next place.
+fn node_leads(node: &Node, others: u32, next: &[bool]) -> bool
+    ensures { result ≡ node_leads others next.now node.now }
 {
-    let mut row = OwnedList::new(alloc);
-    'nodes: for node in nodes {
-        row.push(node_reached(node, others, previous))?;
-    }
-    Ok(row)
+    node_stands(node, others) && (node.rooted || any_both(node.signers.as_slice(), next))
 }
 
-/// For each number of places left which intermediates lead to a trust anchor. Fails only if out of memory.
-pub(crate) fn up_rows(
-    alloc: Global,
-    nodes: &[Node],
-) -> Result<OwnedList<OwnedList<bool>>, OutOfMemory>
-    ensures { IfOk result (λ rows. rows ≡ map (up_at nodes.now) (below 7)) }
+/// Whether the intermediate can be in a path, at the place with so many others before it.
+fn node_stands(node: &Node, others: u32) -> bool
+    ensures { result ≡ node_stands others node.now }
 {
-    let mut rows = OwnedList::new(alloc);
-    let mut row = no_row(alloc, nodes)?;
-    let mut left: u32 = 0;
-    'levels: while left < 6 {
-        let next = up_row(alloc, nodes, 5 - left, row.as_slice())?;
-        rows.push(row)?;
-        row = next;
-        left += 1;
+    node.passes && allows(node.most, others)
+}
+
+/// Whether both rows have a bit at one place.
+#[tactic(auto, using(crate::proofs::Bits::bit_steps))]
+fn any_both(one: &[bool], other: &[bool]) -> bool
+    ensures { result ≡ any_both one.now other.now }
+{
+    'places: for place in 0..one.len() {
+        if bit(one, place) && bit(other, place) {
+            return true;
+        }
     }
-    rows.push(row)?;
-    Ok(rows)
+    false
+}
+
+/// The bit at a place.
+pub(crate) fn bit(row: &[bool], place: usize) -> bool
+    ensures { result ≡ bit row.now place }
+{
+    match row.get(place) {
+        Some(set) => *set,
+        None => false,
+    }
 }
 
 /// For each number of others before a signer which intermediates can be below it. Fails only if out of memory.
@@ -246,6 +220,32 @@ pub(crate) fn down_rows(
     }
     rows.push(row)?;
     Ok(rows)
+}
+
+/// The row of `node_reached`.
+fn down_row(
+    alloc: Global,
+    nodes: &[Node],
+    others: u32,
+    previous: &[bool],
+) -> Result<OwnedList<bool>, OutOfMemory>
+    ensures { IfOk result (λ row. row ≡ map (node_reached others previous.now) nodes.now) }
+{
+    let mut row = OwnedList::new(alloc);
+    'nodes: for node in nodes {
+        row.push(node_reached(node, others, previous))?;
+    }
+    Ok(row)
+}
+
+/// Whether it is reached from the leaf at the place with so many others before it; the row is that of the place before.
+fn node_reached(node: &Node, others: u32, previous: &[bool]) -> bool
+    ensures { result ≡ node_reached others previous.now node.now }
+{
+    if others == 0 {
+        return node_stands(node, 0) && node.issues;
+    }
+    node_stands(node, others) && any_both(node.signed.as_slice(), previous)
 }
 
 /// The bits of the rows at one place. Fails only if out of memory.

@@ -1,136 +1,47 @@
 //! The search for the issuer of a leaf.
 
-ghost use Rattle.std.specs.Prelude.{◌≡◌, ◌+◌, ◌≤◌, length, get_or, IfOk, position, true, false};
+ghost use Rattle.std.specs.Prelude.{◌≡◌, ◌+◌, ◌≤◌, length, IfOk, position, true};
 ghost use Rattle.sig_base.specs.Answers.{Answers};
-ghost use Rattle.sig_x509.specs.Candidates.{AreCandidates, IsFirstPlace, all_seen, is_leading, is_signer};
+ghost use Rattle.sig_x509.specs.Candidates.{IsFirstPlace, all_seen, candidates_of, is_leading};
 ghost use Rattle.sig_x509.specs.Issuance.{is_signed_by, signs_code_at};
 ghost use Rattle.sig_x509.specs.PathSearch.{leads_from, most_questions, path_issuer};
 ghost use Rattle.sig_x509.specs.Pool.{with_further};
 
 use crate::asked::first_signer_of;
-use crate::candidates::{Candidates, push_further, push_intermediates, push_roots};
-use crate::issuance::{is_profiled, may_be_signed, signs_code_at};
+use crate::by_key::first_of_keys;
+use crate::candidates::{push_further, push_intermediates};
+use crate::issuance::{is_profiled, listed_keys, may_be_signed, signs_code_at};
 use crate::issuer::Issuer;
 use crate::links::{has_signed, links_of};
 use crate::pool::CertificatePool;
 use crate::subjects::index_subjects;
-use crate::table::first_row;
+use crate::table::{first_row, leads_next};
 use sig_base::{OutOfMemory, PoolError, SignatureChecker, Steps};
 use sig_certificate::Certificate;
 use std::alloc::Global;
 use std::sync::ledger::Ledger;
 
-/// Whether the row holds of the intermediate at the index.
-fn leads(row: &[bool], index: usize) -> bool
-    ensures { result ≡ get_or row.now index false }
-{
-    match row.get(index) {
-        Some(leads) => *leads,
-        None => false,
-    }
-}
-
-/// Whether the row holds of the intermediate at the index and it signed the leaf, of which the checker is asked then
-/// alone.
-fn is_leading<C: SignatureChecker, L: Ledger>(
-    leaf: &Certificate,
-    intermediates: &[Option<&Certificate>],
-    row: &[bool],
-    index: usize,
-    checker: &C,
-    steps: &mut Steps<L>,
-) -> bool
-    ensures leading { result ≡ is_leading (C.cert_accepts checker.now) leaf.now (all_seen intermediates.now) row.now
-        index }
-    ensures steps { steps.new ≤ steps.old + 1 }
-{
-    leads(row, index) && has_signed(leaf, intermediates, index, checker, steps)
-}
-
-/// Returns the index of the first intermediate of which the row holds and that signed the leaf.
-fn first_leading<C: SignatureChecker, L: Ledger>(
-    leaf: &Certificate,
-    intermediates: &[Option<&Certificate>],
-    row: &[bool],
-    checker: &C,
-    steps: &mut Steps<L>,
-) -> Option<usize>
-    ensures first { IsFirstPlace (is_leading (C.cert_accepts checker.now) leaf.now (all_seen intermediates.now) row.now)
-        (length intermediates.now) result }
-    ensures steps { steps.new ≤ steps.old + length intermediates.now }
-{
-    'intermediates: for index in 0..intermediates.len() {
-        if is_leading(leaf, intermediates, row, index, checker, steps) {
-            return Some(index);
-        }
-    }
-    None
-}
-
 impl CertificatePool {
-    /// Returns those who may have signed a certificate of a path. Fails only if out of memory.
-    fn candidates<'a>(
-        &'a self,
-        alloc: Global,
-        further: &'a [Certificate],
-        time: i64,
-    ) -> Result<Candidates<'a>, OutOfMemory>
-        ensures { IfOk result (λ c. AreCandidates (with_further self.now further.now) time c.roots
-            (all_seen c.listed.items)) }
-    {
-        let mut listed = Vec::new(alloc);
-        push_roots(&mut listed, self.anchors.as_slice(), &self.asked)?;
-        push_intermediates(&mut listed, self.intermediates.as_slice(), time)?;
-        push_further(&mut listed, further, time)?;
-        Ok(Candidates {
-            roots: self.asked.len(),
-            listed,
-        })
-    }
-
-    /// Returns the index of the first trust anchor that signed the leaf. The checker is asked at most once for each
-    /// different subject and SPKI.
-    fn first_anchor<C: SignatureChecker, L: Ledger>(
+    /// Returns the index of the first trust anchor that signed the certificate. A checker that lists the keys of a
+    /// signature is asked for them, and another at most once for each different subject and SPKI.
+    pub(crate) fn first_anchor<C: SignatureChecker, L: Ledger>(
         &self,
-        leaf: &Certificate,
+        certificate: &Certificate,
         checker: &C,
         steps: &mut Steps<L>,
     ) -> Option<usize>
-        ensures found { result ≡ position (is_signed_by (C.cert_accepts checker.now) leaf.now) self.now.anchors }
+        ensures found { result ≡ position (is_signed_by (C.cert_accepts checker.now) certificate.now) self.now.anchors }
         ensures steps { steps.new ≤ steps.old + length self.now.anchors }
     {
-        first_signer_of(leaf, self.anchors.as_slice(), &self.asked, checker, steps)
-    }
-
-    /// Returns the index of the first intermediate that issued the leaf, which signs code at the time, and leads to a
-    /// trust anchor. Fails only if out of memory.
-    fn first_intermediate<C: SignatureChecker, L: Ledger>(
-        &self,
-        alloc: Global,
-        leaf: &Certificate,
-        further: &[Certificate],
-        time: i64,
-        checker: &C,
-        steps: &mut Steps<L>,
-    ) -> Result<Option<usize>, OutOfMemory>
-        requires signs { signs_code_at leaf.now time ≡ true }
-        ensures found { IfOk result (λ o. o ≡ position
-            (leads_from (C.cert_accepts checker.now) (with_further self.now further.now) leaf.now time)
-            (with_further self.now further.now).intermediates) }
-        ensures steps { steps.new + length self.now.anchors
-            ≤ steps.old + most_questions (with_further self.now further.now) }
-    {
-        let candidates = self.candidates(alloc, further, time)?;
-        let listed = &candidates.listed;
-        let index = index_subjects(alloc, listed)?;
-        let links = links_of(alloc, candidates.roots, listed, &index, checker, steps)?;
-        let row = first_row(alloc, candidates.roots, &links)?;
-        let (_, intermediates) = listed.split_at(candidates.roots);
-        Ok(first_leading(leaf, intermediates, &row, checker, steps))
+        let anchors = self.anchors.as_slice();
+        match listed_keys(certificate, checker) {
+            Some(keys) => first_of_keys(anchors, &self.by_key, certificate.issuer(), &keys),
+            None => first_signer_of(certificate, anchors, &self.asked, checker, steps),
+        }
     }
 
     /// Returns the issuer of the leaf in the first path, or why there is none. The checker is asked about no key if it
-    /// tells without one that nobody signed the leaf.
+    /// lists none for the leaf's signature.
     pub(crate) fn find_issuer<C: SignatureChecker, L: Ledger>(
         &self,
         alloc: Global,
@@ -161,4 +72,81 @@ impl CertificatePool {
             None => Err(PoolError::VerificationFailed),
         }
     }
+
+    /// Returns the index of the first intermediate that issued the leaf, which signs code at the time, and leads to a
+    /// trust anchor. Fails only if out of memory.
+    fn first_intermediate<C: SignatureChecker, L: Ledger>(
+        &self,
+        alloc: Global,
+        leaf: &Certificate,
+        further: &[Certificate],
+        time: i64,
+        checker: &C,
+        steps: &mut Steps<L>,
+    ) -> Result<Option<usize>, OutOfMemory>
+        requires signs { signs_code_at leaf.now time ≡ true }
+        ensures found { IfOk result (λ o. o ≡ position
+            (leads_from (C.cert_accepts checker.now) (with_further self.now further.now) leaf.now time)
+            (with_further self.now further.now).intermediates) }
+        ensures steps { steps.new + length self.now.anchors
+            ≤ steps.old + most_questions (with_further self.now further.now) }
+    {
+        let listed = self.candidates(alloc, further, time)?;
+        let index = index_subjects(alloc, &listed)?;
+        let links = links_of(alloc, self, &listed, &index, checker, steps)?;
+        let row = first_row(alloc, &links)?;
+        Ok(first_leading(leaf, &listed, &row, checker, steps))
+    }
+
+    /// Returns the intermediates that may have signed a certificate of a path. Fails only if out of memory.
+    fn candidates<'a>(
+        &'a self,
+        alloc: Global,
+        further: &'a [Certificate],
+        time: i64,
+    ) -> Result<Vec<Option<&'a Certificate>>, OutOfMemory>
+        ensures { IfOk result (λ v. all_seen v.items ≡ candidates_of (with_further self.now further.now) time) }
+    {
+        let mut listed = Vec::new(alloc);
+        push_intermediates(&mut listed, self.intermediates.as_slice(), time)?;
+        push_further(&mut listed, further, time)?;
+        Ok(listed)
+    }
+}
+
+/// Returns the index of the first intermediate of which the row holds and that signed the leaf.
+fn first_leading<C: SignatureChecker, L: Ledger>(
+    leaf: &Certificate,
+    intermediates: &[Option<&Certificate>],
+    row: &[bool],
+    checker: &C,
+    steps: &mut Steps<L>,
+) -> Option<usize>
+    ensures first { IsFirstPlace (is_leading (C.cert_accepts checker.now) leaf.now (all_seen intermediates.now) row.now)
+        (length intermediates.now) result }
+    ensures steps { steps.new ≤ steps.old + length intermediates.now }
+{
+    'intermediates: for index in 0..intermediates.len() {
+        if is_leading(leaf, intermediates, row, index, checker, steps) {
+            return Some(index);
+        }
+    }
+    None
+}
+
+/// Whether the row holds of the intermediate at the index and it signed the leaf, of which the checker is asked then
+/// alone.
+fn is_leading<C: SignatureChecker, L: Ledger>(
+    leaf: &Certificate,
+    intermediates: &[Option<&Certificate>],
+    row: &[bool],
+    index: usize,
+    checker: &C,
+    steps: &mut Steps<L>,
+) -> bool
+    ensures leading { result ≡ is_leading (C.cert_accepts checker.now) leaf.now (all_seen intermediates.now) row.now
+        index }
+    ensures steps { steps.new ≤ steps.old + 1 }
+{
+    leads_next(row, index) && has_signed(leaf, intermediates, index, checker, steps)
 }

@@ -5,34 +5,6 @@ use sig_cases::{Answer, Arguments};
 use sig_x509::{Certificate, ExtensionRef, Lookup, X509ReadError, der_to_pem};
 use std::alloc::Global;
 
-/// The next argument as a certificate. Refuses the line if it is none.
-pub(crate) fn certificate(
-    arguments: &mut Arguments<'_>,
-    answer: &mut Answer,
-) -> Option<Certificate> {
-    let read = certificate_of(arguments.alloc(), answer, &arguments.hex());
-    if read.is_none() {
-        arguments.refuse();
-    }
-    read
-}
-
-/// The certificate that the bytes are, if they are one.
-pub(crate) fn certificate_of(
-    alloc: Global,
-    answer: &mut Answer,
-    der: &[u8],
-) -> Option<Certificate> {
-    match Certificate::try_from_der(alloc, der) {
-        Ok(read) => Some(read),
-        Err(X509ReadError::Der) => None,
-        Err(X509ReadError::OutOfMemory) => {
-            answer.out_of_memory();
-            None
-        }
-    }
-}
-
 /// `certificate DER`: the parts of the certificate.
 pub(crate) fn read(arguments: &mut Arguments<'_>, answer: &mut Answer) {
     match Certificate::try_from_der(arguments.alloc(), &arguments.hex()) {
@@ -84,6 +56,34 @@ pub(crate) fn found(arguments: &mut Arguments<'_>, answer: &mut Answer) {
         Lookup::Absent => answer.value(&"absent"),
         Lookup::One(found) => add_extension(answer, found),
         Lookup::Several => answer.value(&"several"),
+    }
+}
+
+/// The next argument as a certificate. Refuses the line if it is none.
+pub(crate) fn certificate(
+    arguments: &mut Arguments<'_>,
+    answer: &mut Answer,
+) -> Option<Certificate> {
+    let read = certificate_of(arguments.alloc(), answer, &arguments.hex());
+    if read.is_none() {
+        arguments.refuse();
+    }
+    read
+}
+
+/// The certificate that the bytes are, if they are one.
+pub(crate) fn certificate_of(
+    alloc: Global,
+    answer: &mut Answer,
+    der: &[u8],
+) -> Option<Certificate> {
+    match Certificate::try_from_der(alloc, der) {
+        Ok(read) => Some(read),
+        Err(X509ReadError::Der) => None,
+        Err(X509ReadError::OutOfMemory) => {
+            answer.out_of_memory();
+            None
+        }
     }
 }
 

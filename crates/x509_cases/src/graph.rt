@@ -86,60 +86,13 @@ struct Graph {
     further: Vec<Certificate>,
 }
 
-/// The DER of a word: of the certificate that its letters spell; of `?` bytes that are none.
-fn der_of(alloc: Global, word: &str) -> Result<Vec<u8>, NoGraph> {
-    match Node::spelled(word.as_bytes()) {
-        Some(node) => Ok(node.certificate(alloc)?),
-        None if word == "?" => Ok(Vec::new(alloc)),
-        None => Err(NoGraph::BadLine),
-    }
-}
-
-/// The DERs of a list of words, divided by commas; `-` is the empty list.
-fn ders_of(alloc: Global, list: &str) -> Result<Entries, NoGraph> {
-    let mut entries = Entries::new(alloc);
-    if list != "-" {
-        for word in list.split(',') {
-            let der = der_of(alloc, word)?;
-            entries.push(&der)?;
-        }
-    }
-    Ok(entries)
-}
-
-fn certificate_of(alloc: Global, der: &[u8]) -> Result<Certificate, NoGraph> {
-    match Certificate::try_from_der(alloc, der) {
-        Ok(certificate) => Ok(certificate),
-        Err(X509ReadError::Der) => Err(NoGraph::BadLine),
-        Err(X509ReadError::OutOfMemory) => Err(NoGraph::OutOfMemory),
-    }
-}
-
-/// The certificate of a word.
-fn read(alloc: Global, word: &str) -> Result<Certificate, NoGraph> {
-    let der = der_of(alloc, word)?;
-    certificate_of(alloc, &der)
-}
-
-fn further_of(alloc: Global, list: &str) -> Result<Vec<Certificate>, NoGraph> {
-    let ders = ders_of(alloc, list)?;
-    let mut further = Vec::new(alloc);
-    for der in ders.as_slice() {
-        let certificate = certificate_of(alloc, der.as_slice())?;
-        if further.push(certificate).is_err() {
-            return Err(NoGraph::OutOfMemory);
-        }
-    }
-    Ok(further)
-}
-
-fn pool_of(alloc: Global, anchors: &str, intermediates: &str) -> Result<CertificatePool, NoGraph> {
-    let roots = ders_of(alloc, anchors)?;
-    let others = ders_of(alloc, intermediates)?;
-    match CertificatePool::from_certificates(alloc, &roots, &others) {
-        Ok(pool) => Ok(pool),
-        Err(PoolError::OutOfMemory) => Err(NoGraph::OutOfMemory),
-        Err(_) => Err(NoGraph::BadLine),
+/// `graph LEAF ANCHOR,.. INTERMEDIATE,.. FURTHER,..`: what `verify_cert_with_chain` returns of certificates that are
+/// spelled, and how many questions the checker is asked.
+pub(crate) fn issuer(arguments: &mut Arguments<'_>, answer: &mut Answer) {
+    match graph_of(arguments) {
+        Ok(graph) => search(&graph, arguments.alloc(), answer),
+        Err(NoGraph::BadLine) => arguments.refuse(),
+        Err(NoGraph::OutOfMemory) => answer.out_of_memory(),
     }
 }
 
@@ -155,6 +108,63 @@ fn graph_of(arguments: &mut Arguments<'_>) -> Result<Graph, NoGraph> {
         pool,
         further,
     })
+}
+
+/// The certificate of a word.
+fn read(alloc: Global, word: &str) -> Result<Certificate, NoGraph> {
+    let der = der_of(alloc, word)?;
+    certificate_of(alloc, &der)
+}
+
+/// The DER of a word: of the certificate that its letters spell; of `?` bytes that are none.
+fn der_of(alloc: Global, word: &str) -> Result<Vec<u8>, NoGraph> {
+    match Node::spelled(word.as_bytes()) {
+        Some(node) => Ok(node.certificate(alloc)?),
+        None if word == "?" => Ok(Vec::new(alloc)),
+        None => Err(NoGraph::BadLine),
+    }
+}
+
+fn certificate_of(alloc: Global, der: &[u8]) -> Result<Certificate, NoGraph> {
+    match Certificate::try_from_der(alloc, der) {
+        Ok(certificate) => Ok(certificate),
+        Err(X509ReadError::Der) => Err(NoGraph::BadLine),
+        Err(X509ReadError::OutOfMemory) => Err(NoGraph::OutOfMemory),
+    }
+}
+
+fn pool_of(alloc: Global, anchors: &str, intermediates: &str) -> Result<CertificatePool, NoGraph> {
+    let roots = ders_of(alloc, anchors)?;
+    let others = ders_of(alloc, intermediates)?;
+    match CertificatePool::from_certificates(alloc, &roots, &others) {
+        Ok(pool) => Ok(pool),
+        Err(PoolError::OutOfMemory) => Err(NoGraph::OutOfMemory),
+        Err(_) => Err(NoGraph::BadLine),
+    }
+}
+
+/// The DERs of a list of words, divided by commas; `-` is the empty list.
+fn ders_of(alloc: Global, list: &str) -> Result<Entries, NoGraph> {
+    let mut entries = Entries::new(alloc);
+    if list != "-" {
+        for word in list.split(',') {
+            let der = der_of(alloc, word)?;
+            entries.push(&der)?;
+        }
+    }
+    Ok(entries)
+}
+
+fn further_of(alloc: Global, list: &str) -> Result<Vec<Certificate>, NoGraph> {
+    let ders = ders_of(alloc, list)?;
+    let mut further = Vec::new(alloc);
+    for der in ders.as_slice() {
+        let certificate = certificate_of(alloc, der.as_slice())?;
+        if further.push(certificate).is_err() {
+            return Err(NoGraph::OutOfMemory);
+        }
+    }
+    Ok(further)
 }
 
 /// Adds what `verify_cert_with_chain` returns, and how many questions the checker was asked.
@@ -177,16 +187,6 @@ fn search(graph: &Graph, alloc: Global, answer: &mut Answer) {
         );
         answer.value(&"asked");
         answer.value(&checker.asked.get());
-    }
-}
-
-/// `graph LEAF ANCHOR,.. INTERMEDIATE,.. FURTHER,..`: what `verify_cert_with_chain` returns of certificates that are
-/// spelled, and how many questions the checker is asked.
-pub(crate) fn issuer(arguments: &mut Arguments<'_>, answer: &mut Answer) {
-    match graph_of(arguments) {
-        Ok(graph) => search(&graph, arguments.alloc(), answer),
-        Err(NoGraph::BadLine) => arguments.refuse(),
-        Err(NoGraph::OutOfMemory) => answer.out_of_memory(),
     }
 }
 

@@ -10,13 +10,13 @@ mod asked;
 mod boxed;
 mod certificate;
 mod graph;
+mod listed;
 mod node;
 mod policy;
 mod pool;
 mod profile;
 mod sct;
 mod shown;
-mod told;
 
 use sig_cases::{Answer, Arguments, Cases, run};
 
@@ -37,7 +37,7 @@ impl Cases for X509Cases {
             "asked" => asked::asked(arguments, answer),
             "der_asked" => asked::der_asked(arguments, answer),
             "questions" => asked::questions(arguments, answer),
-            "told" => told::told(arguments, answer),
+            "listed" => listed::listed(arguments, answer),
             "graph" => graph::issuer(arguments, answer),
             "spelled" => graph::spelled(arguments, answer),
             _ => of_scts(call, arguments, answer),

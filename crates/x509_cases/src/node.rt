@@ -61,28 +61,6 @@ const UNKNOWN: &[u8] = b"\x30\x08\x06\x01\x2a\x01\x01\xff\x04\x00";
 
 const NAME_CONSTRAINTS: &[u8] = b"\x30\x09\x06\x03\x55\x1d\x1e\x04\x02\x30\x00";
 
-/// Adds an element: its identifier octet, its length, its contents (X.690 section 8.1).
-fn push_element(into: &mut Vec<u8>, tag: u8, content: &[u8]) -> Result<(), OutOfMemory> {
-    let size = content.len();
-    into.push(tag)?;
-    if size >= 256 {
-        into.push(0x82)?;
-        into.push((size / 256 % 256) as u8)?;
-    } else if size >= 128 {
-        into.push(0x81)?;
-    }
-    into.push((size % 256) as u8)?;
-    into.extend_from_slice(content)?;
-    Ok(())
-}
-
-/// Adds bytes and the letter that follows them.
-fn push_lettered(into: &mut Vec<u8>, before: &[u8], letter: u8) -> Result<(), OutOfMemory> {
-    into.extend_from_slice(before)?;
-    into.push(letter)?;
-    Ok(())
-}
-
 impl Node {
     /// The certificate of these letters: six in the order of the fields; two of a trust anchor; `l`, and two of a leaf.
     pub(crate) fn spelled(letters: &[u8]) -> Option<Node> {
@@ -128,6 +106,49 @@ impl Node {
         }
     }
 
+    /// Its DER.
+    pub(crate) fn certificate(&self, alloc: Global) -> Result<Vec<u8>, OutOfMemory> {
+        let signed = self.signed_part(alloc)?;
+        let mut content = Vec::new(alloc);
+        push_element(&mut content, 0x30, &signed)?;
+        drop(signed);
+        content.extend_from_slice(ALGORITHM)?;
+        content.extend_from_slice(b"\x03\x0c\x00")?;
+        push_lettered(&mut content, KEY, self.signer)?;
+        let mut whole = Vec::new(alloc);
+        push_element(&mut whole, 0x30, &content)?;
+        Ok(whole)
+    }
+
+    /// The contents of its TBSCertificate.
+    fn signed_part(&self, alloc: Global) -> Result<Vec<u8>, OutOfMemory> {
+        let listed = self.extensions(alloc)?;
+        let mut sequence = Vec::new(alloc);
+        push_element(&mut sequence, 0x30, &listed)?;
+        drop(listed);
+        let mut content = Vec::new(alloc);
+        self.push_front(&mut content)?;
+        push_element(&mut content, 0xa3, &sequence)?;
+        Ok(content)
+    }
+
+    /// Its extensions, one after the other.
+    fn extensions(&self, alloc: Global) -> Result<Vec<u8>, OutOfMemory> {
+        let mut listed = Vec::new(alloc);
+        if self.state == b'l' {
+            listed.extend_from_slice(SIGNS_CODE)?;
+            return Ok(listed);
+        }
+        self.push_constraints(&mut listed)?;
+        listed.extend_from_slice(if self.state == b'k' {
+            SIGNS_TEXTS
+        } else {
+            SIGNS_CERTIFICATES
+        })?;
+        listed.extend_from_slice(self.further_extension())?;
+        Ok(listed)
+    }
+
     /// Adds its basic constraints.
     fn push_constraints(&self, into: &mut Vec<u8>) -> Result<(), OutOfMemory> {
         if self.state == b'c' {
@@ -152,21 +173,15 @@ impl Node {
         }
     }
 
-    /// Its extensions, one after the other.
-    fn extensions(&self, alloc: Global) -> Result<Vec<u8>, OutOfMemory> {
-        let mut listed = Vec::new(alloc);
-        if self.state == b'l' {
-            listed.extend_from_slice(SIGNS_CODE)?;
-            return Ok(listed);
-        }
-        self.push_constraints(&mut listed)?;
-        listed.extend_from_slice(if self.state == b'k' {
-            SIGNS_TEXTS
-        } else {
-            SIGNS_CERTIFICATES
-        })?;
-        listed.extend_from_slice(self.further_extension())?;
-        Ok(listed)
+    /// Adds the elements of the TBSCertificate (RFC 5280 section 4.1) up to its extensions.
+    fn push_front(&self, into: &mut Vec<u8>) -> Result<(), OutOfMemory> {
+        into.extend_from_slice(self.version())?;
+        into.extend_from_slice(SERIAL)?;
+        into.extend_from_slice(self.inner_algorithm())?;
+        push_lettered(into, NAME, self.issuer)?;
+        into.extend_from_slice(self.validity())?;
+        push_lettered(into, NAME, self.subject)?;
+        push_lettered(into, KEY, self.key)
     }
 
     fn version(&self) -> &'static [u8] {
@@ -192,41 +207,26 @@ impl Node {
             _ => VALID,
         }
     }
+}
 
-    /// Adds the elements of the TBSCertificate (RFC 5280 section 4.1) up to its extensions.
-    fn push_front(&self, into: &mut Vec<u8>) -> Result<(), OutOfMemory> {
-        into.extend_from_slice(self.version())?;
-        into.extend_from_slice(SERIAL)?;
-        into.extend_from_slice(self.inner_algorithm())?;
-        push_lettered(into, NAME, self.issuer)?;
-        into.extend_from_slice(self.validity())?;
-        push_lettered(into, NAME, self.subject)?;
-        push_lettered(into, KEY, self.key)
+/// Adds an element: its identifier octet, its length, its contents (X.690 section 8.1).
+fn push_element(into: &mut Vec<u8>, tag: u8, content: &[u8]) -> Result<(), OutOfMemory> {
+    let size = content.len();
+    into.push(tag)?;
+    if size >= 256 {
+        into.push(0x82)?;
+        into.push((size / 256 % 256) as u8)?;
+    } else if size >= 128 {
+        into.push(0x81)?;
     }
+    into.push((size % 256) as u8)?;
+    into.extend_from_slice(content)?;
+    Ok(())
+}
 
-    /// The contents of its TBSCertificate.
-    fn signed_part(&self, alloc: Global) -> Result<Vec<u8>, OutOfMemory> {
-        let listed = self.extensions(alloc)?;
-        let mut sequence = Vec::new(alloc);
-        push_element(&mut sequence, 0x30, &listed)?;
-        drop(listed);
-        let mut content = Vec::new(alloc);
-        self.push_front(&mut content)?;
-        push_element(&mut content, 0xa3, &sequence)?;
-        Ok(content)
-    }
-
-    /// Its DER.
-    pub(crate) fn certificate(&self, alloc: Global) -> Result<Vec<u8>, OutOfMemory> {
-        let signed = self.signed_part(alloc)?;
-        let mut content = Vec::new(alloc);
-        push_element(&mut content, 0x30, &signed)?;
-        drop(signed);
-        content.extend_from_slice(ALGORITHM)?;
-        content.extend_from_slice(b"\x03\x0c\x00")?;
-        push_lettered(&mut content, KEY, self.signer)?;
-        let mut whole = Vec::new(alloc);
-        push_element(&mut whole, 0x30, &content)?;
-        Ok(whole)
-    }
+/// Adds bytes and the letter that follows them.
+fn push_lettered(into: &mut Vec<u8>, before: &[u8], letter: u8) -> Result<(), OutOfMemory> {
+    into.extend_from_slice(before)?;
+    into.push(letter)?;
+    Ok(())
 }

@@ -13,6 +13,73 @@ use sig_x509::{
 };
 use std::alloc::Global;
 
+/// `policy NAME TEXT DER`: what the policy of this name that asks for this text says.
+pub(crate) fn single(arguments: &mut Arguments<'_>, answer: &mut Answer) {
+    let alloc = arguments.alloc();
+    let name = arguments.word();
+    let text = arguments.text();
+    if let Some(leaf) = certificate(arguments, answer) {
+        let requested = policy(name, text.as_str(), arguments, answer);
+        single_of(alloc, answer, name, text.as_str(), &requested, &leaf);
+        drop(requested);
+    }
+}
+
+/// The policy of this name as one of a request's. Refuses the line if there is none.
+fn policy(
+    name: &str,
+    text: &str,
+    arguments: &mut Arguments<'_>,
+    answer: &mut Answer,
+) -> LeafPolicy {
+    let text = copy_of(arguments.alloc(), answer, text);
+    rule_named(arguments, name, text)
+}
+
+fn copy_of(alloc: Global, answer: &mut Answer, text: &str) -> Text {
+    match Text::copy_of(alloc, text) {
+        Ok(copied) => copied,
+        Err(_) => {
+            answer.out_of_memory();
+            Text::from(String::new(alloc))
+        }
+    }
+}
+
+/// What the policy says.
+fn single_of(
+    alloc: Global,
+    answer: &mut Answer,
+    name: &str,
+    text: &str,
+    requested: &LeafPolicy,
+    leaf: &Certificate,
+) {
+    let alone = alone(alloc, name, text, leaf);
+    said(alloc, answer, alone, requested, leaf);
+}
+
+/// What the policy of this name says by itself.
+fn alone(alloc: Global, name: &str, text: &str, leaf: &Certificate) -> PolicyResult {
+    match name {
+        "OIDCIssuer" => by_itself::<OIDCIssuer>(alloc, text, leaf),
+        "GitHubWorkflowTrigger" => by_itself::<GitHubWorkflowTrigger>(alloc, text, leaf),
+        "GitHubWorkflowSHA" => by_itself::<GitHubWorkflowSHA>(alloc, text, leaf),
+        "GitHubWorkflowName" => by_itself::<GitHubWorkflowName>(alloc, text, leaf),
+        "GitHubWorkflowRepository" => by_itself::<GitHubWorkflowRepository>(alloc, text, leaf),
+        "GitHubWorkflowRef" => by_itself::<GitHubWorkflowRef>(alloc, text, leaf),
+        _ => Ok(()),
+    }
+}
+
+/// What a policy of this type says.
+fn by_itself<P>(alloc: Global, text: &str, leaf: &Certificate) -> PolicyResult
+where
+    P: SingleX509ExtPolicy + Drop,
+{
+    P::new(alloc, text)?.verify(alloc, leaf)
+}
+
 /// Adds what a policy says alone, and what it says in a request, if that is something else.
 fn said<P: VerificationPolicy>(
     alloc: Global,
@@ -41,73 +108,6 @@ fn text_of(alloc: Global, answer: &mut Answer, found: &PolicyResult) -> String {
             String::new(alloc)
         }
     }
-}
-
-/// `policy NAME TEXT DER`: what the policy of this name that asks for this text says.
-pub(crate) fn single(arguments: &mut Arguments<'_>, answer: &mut Answer) {
-    let alloc = arguments.alloc();
-    let name = arguments.word();
-    let text = arguments.text();
-    if let Some(leaf) = certificate(arguments, answer) {
-        let requested = policy(name, text.as_str(), arguments, answer);
-        single_of(alloc, answer, name, text.as_str(), &requested, &leaf);
-        drop(requested);
-    }
-}
-
-/// What the policy says.
-fn single_of(
-    alloc: Global,
-    answer: &mut Answer,
-    name: &str,
-    text: &str,
-    requested: &LeafPolicy,
-    leaf: &Certificate,
-) {
-    let alone = alone(alloc, name, text, leaf);
-    said(alloc, answer, alone, requested, leaf);
-}
-
-/// The policy of this name as one of a request's. Refuses the line if there is none.
-fn policy(
-    name: &str,
-    text: &str,
-    arguments: &mut Arguments<'_>,
-    answer: &mut Answer,
-) -> LeafPolicy {
-    let text = copy_of(arguments.alloc(), answer, text);
-    rule_named(arguments, name, text)
-}
-
-fn copy_of(alloc: Global, answer: &mut Answer, text: &str) -> Text {
-    match Text::copy_of(alloc, text) {
-        Ok(copied) => copied,
-        Err(_) => {
-            answer.out_of_memory();
-            Text::from(String::new(alloc))
-        }
-    }
-}
-
-/// What the policy of this name says by itself.
-fn alone(alloc: Global, name: &str, text: &str, leaf: &Certificate) -> PolicyResult {
-    match name {
-        "OIDCIssuer" => by_itself::<OIDCIssuer>(alloc, text, leaf),
-        "GitHubWorkflowTrigger" => by_itself::<GitHubWorkflowTrigger>(alloc, text, leaf),
-        "GitHubWorkflowSHA" => by_itself::<GitHubWorkflowSHA>(alloc, text, leaf),
-        "GitHubWorkflowName" => by_itself::<GitHubWorkflowName>(alloc, text, leaf),
-        "GitHubWorkflowRepository" => by_itself::<GitHubWorkflowRepository>(alloc, text, leaf),
-        "GitHubWorkflowRef" => by_itself::<GitHubWorkflowRef>(alloc, text, leaf),
-        _ => Ok(()),
-    }
-}
-
-/// What a policy of this type says.
-fn by_itself<P>(alloc: Global, text: &str, leaf: &Certificate) -> PolicyResult
-where
-    P: SingleX509ExtPolicy + Drop,
-{
-    P::new(alloc, text)?.verify(alloc, leaf)
 }
 
 /// `identity IDENTITY ISSUER DER`: what the policy of this identity and this issuer says.

@@ -8,17 +8,6 @@ use sig_x509::{
 };
 use std::fmt::{Debug, Display};
 
-/// Adds the result of a check.
-pub(crate) fn checked<E>(answer: &mut Answer, found: Result<(), E>)
-where
-    E: Debug + Display + Drop,
-{
-    match found {
-        Ok(()) => answer.ok(),
-        Err(refusal) => answer.error(refusal),
-    }
-}
-
 /// `CALL DER`: whether the certificate passes the check of this name.
 pub(crate) fn judged(call: &str, arguments: &mut Arguments<'_>, answer: &mut Answer) {
     if let Some(read) = certificate(arguments, answer) {
@@ -34,6 +23,17 @@ fn judge(call: &str, read: &Certificate, arguments: &mut Arguments<'_>, answer: 
         "verify_key_usages" => checked(answer, verify_key_usages(read)),
         "verify_has_san" => checked(answer, verify_has_san(read)),
         _ => arguments.refuse(),
+    }
+}
+
+/// Adds the result of a check.
+pub(crate) fn checked<E>(answer: &mut Answer, found: Result<(), E>)
+where
+    E: Debug + Display + Drop,
+{
+    match found {
+        Ok(()) => answer.ok(),
+        Err(refusal) => answer.error(refusal),
     }
 }
 

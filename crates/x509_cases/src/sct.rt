@@ -18,17 +18,6 @@ pub(crate) fn key(arguments: &mut Arguments<'_>, answer: &mut Answer) {
     }
 }
 
-/// The keyring of the keys of the next argument. `None` if out of memory.
-fn keyring(arguments: &mut Arguments<'_>, answer: &mut Answer) -> Option<Keyring> {
-    match Keyring::new(arguments.alloc(), &arguments.entries()) {
-        Ok(keyring) => Some(keyring),
-        Err(_) => {
-            answer.out_of_memory();
-            None
-        }
-    }
-}
-
 /// `keyring KEY,.. ID SIGNATURE MESSAGE ROW ..`: whether the keyring vouches for the signature.
 pub(crate) fn vouched(arguments: &mut Arguments<'_>, answer: &mut Answer) {
     let Some(keyring) = keyring(arguments, answer) else {
@@ -41,6 +30,17 @@ pub(crate) fn vouched(arguments: &mut Arguments<'_>, answer: &mut Answer) {
     checked(answer, keyring.verify(&id, &signature, &message, &checker));
     drop(checker);
     drop(keyring);
+}
+
+/// The keyring of the keys of the next argument. `None` if out of memory.
+fn keyring(arguments: &mut Arguments<'_>, answer: &mut Answer) -> Option<Keyring> {
+    match Keyring::new(arguments.alloc(), &arguments.entries()) {
+        Ok(keyring) => Some(keyring),
+        Err(_) => {
+            answer.out_of_memory();
+            None
+        }
+    }
 }
 
 /// `embedded_sct DER ISSUER_SPKI`: what the certificate's SCT signs.

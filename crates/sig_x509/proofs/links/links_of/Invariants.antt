@@ -5,8 +5,8 @@ use Rattle.sig_x509.specs.Rows.{IsLinkOf}
 use Rattle.sig_x509.proofs.links.links_of.Given as goal
 
 -- those so far
-abbrev pub invariant-intermediates : goal.invariant-intermediates
-invariant-intermediates g l =
-    AllZip (λ o link. IsLinkOf (g.C.SignatureChecker.cert_accepts l.checker) (all_seen l.listed) (seen o) link)
-    (take l.intermediate-index l.intermediates) l.links.items
-    × (l.steps ≤ l.initial.steps + l.intermediate-index * length l.listed)
+abbrev pub invariant-candidates : goal.invariant-candidates
+invariant-candidates g l =
+    AllZip (λ o link. IsLinkOf (g.C.SignatureChecker.cert_accepts l.checker) l.pool (all_seen l.listed) (seen o) link)
+    (take l.place l.listed) l.links.items
+    × (l.steps ≤ l.initial.steps + l.place * (length l.listed + length l.pool.anchors))

@@ -1,7 +1,7 @@
 -- The walk begins at the last candidate of the name, and goes on to the one before it.
 use Rattle.std.proofs.Common.{◌≡◌, ℕ, ◌<◌, length, Option, refl, sym, ap, subst, ◌∙◌, arith}
 use Rattle.sig_x509.specs.Candidates.{all_seen, last_named, named_in}
-use Rattle.sig_x509.proofs.Seen.{seen_count}
+use Rattle.sig_x509.proofs.SeenCandidates.{seen_count}
 use Rattle.sig_x509.proofs.Walks.{IsWalking, none_walked, there, walk_ends, walk_left, walk_passes, walk_starts}
 use Rattle.sig_x509.proofs.Walks.{walk_takes, walk_within}
 use Rattle.sig_x509.proofs.links.signers_of.Goals as goal

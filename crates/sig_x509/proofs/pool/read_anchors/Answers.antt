@@ -1,4 +1,4 @@
-use Rattle.sig_base.proofs.Zipped.{zip_more}
+use Rattle.sig_base.proofs.PairedLists.{zip_more}
 use Rattle.sig_x509.specs.Issuance.{IsAnchor}
 use Rattle.sig_x509.proofs.pool.read_anchors.Goals as goal
 

@@ -3,7 +3,7 @@ use Rattle.std.proofs.Common.{◌≡◌, Some, None, slice_get, refl, ap, ◌∙
 use Rattle.std.proofs.lemmas.Option.{slice_get_read}
 use Rattle.sig_x509.specs.Candidates.{all_seen}
 use Rattle.sig_x509.proofs.IndexLaws.{index_named, index_absent}
-use Rattle.sig_x509.proofs.Seen.{seen_at}
+use Rattle.sig_x509.proofs.SeenCandidates.{seen_at}
 use Rattle.sig_x509.proofs.subjects.index_subjects.Goals as goal
 use Rattle.sig_x509.proofs.subjects.index_subjects.Goals.{in-Some+in_ok-before-in-Some, in-None}
 

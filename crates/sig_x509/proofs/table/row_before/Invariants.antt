@@ -4,4 +4,4 @@ use Rattle.sig_x509.proofs.table.row_before.Given as goal
 
 -- the row so far
 abbrev pub invariant-links : goal.invariant-links
-invariant-links l = l.before.items ≡ row_of l.roots l.others l.row (take l.link-index l.links)
+invariant-links l = l.before.items ≡ row_of l.others l.row (take l.link-index l.links)

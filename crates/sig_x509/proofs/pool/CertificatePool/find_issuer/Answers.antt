@@ -5,7 +5,7 @@ use Rattle.std.specs.Prelude.{position}
 use Rattle.sig_x509.specs.Issuance.{signs_code_at}
 use Rattle.sig_x509.specs.PathSearch.{leads_from}
 use Rattle.sig_x509.specs.Pool.{with_further}
-use Rattle.sig_x509.proofs.Leading.{found, unsigned, unsigned_by_all}
+use Rattle.sig_x509.proofs.FirstIntermediates.{found, unsigned, unsigned_by_all}
 use Rattle.sig_x509.proofs.pool.CertificatePool.find_issuer.Goals as goal
 
 pub returns-then-not-signs_code_at-clause-exact : goal.returns-then-not-signs_code_at-clause-exact

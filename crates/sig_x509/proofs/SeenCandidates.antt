@@ -18,24 +18,41 @@ seen_at listed k o is = slice_get-map seen listed k ∙ ap (λ (p : Option (Opti
 pub seen_count : (listed : List (Option (Bor Cert))) → length (all_seen listed) ≡ length listed
 seen_count listed = length-map listed seen
 
-module _ (accepts : Accepts) (c : Cert) (listed : List (Option (Bor Cert))) (k : ℕ) where
-  by_seen : (o : Option (Option (Bor Cert))) → slice_get listed k ≡ o
-      → is_signer accepts c (all_seen listed) k
-      ≡ of_read (is_signed_by accepts c) (intermediate_in (option_map seen o))
-  by_seen o is =
-      ap (λ (p : Option (Option Cert)). of_read (is_signed_by accepts c) (intermediate_in p)) (seen_at listed k o is)
+-- ---- the candidate at an index
 
-  pub signs_there : (x : Bor Cert) (b : Bool) → slice_get listed k ≡ Some (Some x) → b ≡ is_signed_by accepts c x.now
-      → b ≡ is_signer accepts c (all_seen listed) k
-  signs_there x b there is = is ∙ sym (by_seen (Some (Some x)) there)
+module _ (listed : List (Option (Bor Cert))) (k : ℕ) where
+  there : (o : Option (Option (Bor Cert))) → slice_get listed k ≡ o
+      → intermediate_in (slice_get (all_seen listed) k) ≡ intermediate_in (option_map seen o)
+  there o is = ap (λ (p : Option (Option Cert)). intermediate_in p) (seen_at listed k o is)
 
-  pub absent_there : slice_get listed k ≡ Some None → false ≡ is_signer accepts c (all_seen listed) k
-  absent_there there = sym (by_seen (Some None) there)
+  pub candidate_there : (x : Bor Cert) → slice_get listed k ≡ Some (Some x)
+      → Some x.now ≡ intermediate_in (slice_get (all_seen listed) k)
+  candidate_there x is = sym (there (Some (Some x)) is)
 
-  pub none_there : slice_get listed k ≡ None → false ≡ is_signer accepts c (all_seen listed) k
-  none_there there = sym (by_seen None there)
+  pub absent_there : slice_get listed k ≡ Some None → None ≡ intermediate_in (slice_get (all_seen listed) k)
+  absent_there is = sym (there (Some None) is)
 
-pub ruleset signer_laws = (signs_there, absent_there, none_there)
+  pub none_there : slice_get listed k ≡ None → None ≡ intermediate_in (slice_get (all_seen listed) k)
+  none_there is = sym (there None is)
+
+pub ruleset candidate_laws = (candidate_there, absent_there, none_there)
+
+module _ (accepts : Accepts) (c : Cert) (listed : List (Option Cert)) (k : ℕ) where
+  by_candidate : (o : Option Cert) → o ≡ intermediate_in (slice_get listed k)
+      → of_read (is_signed_by accepts c) o ≡ is_signer accepts c listed k
+  by_candidate o is = ap (λ (p : Option Cert). of_read (is_signed_by accepts c) p) is
+
+  pub signs_there : (o : Option (Bor Cert)) (x : Bor Cert) (b : Bool)
+      → seen o ≡ intermediate_in (slice_get listed k) → o ≡ Some x → b ≡ is_signed_by accepts c x.now
+      → b ≡ is_signer accepts c listed k
+  signs_there o x b is one genuine =
+      genuine ∙ by_candidate (Some x.now) (sym (ap (λ (p : Option (Bor Cert)). seen p) one) ∙ is)
+
+  pub signed_by_none_there : (o : Option (Bor Cert)) → seen o ≡ intermediate_in (slice_get listed k) → o ≡ None
+      → false ≡ is_signer accepts c listed k
+  signed_by_none_there o is none = by_candidate None (sym (ap (λ (p : Option (Bor Cert)). seen p) none) ∙ is)
+
+pub ruleset signer_laws = (signs_there, signed_by_none_there)
 
 -- ---- one more
 

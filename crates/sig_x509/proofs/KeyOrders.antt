@@ -1,0 +1,217 @@
+-- The trust anchors by subject and key: the order is total, and what is found by it is the first that has them.
+use Rattle.std.proofs.Common.{◌≡◌, ℕ, ◌+◌, ◌<◌, Bool, true, false, ◌&&◌, ◌||◌, cond, List, [], ◌∷◌, ◌++◌}
+use Rattle.std.proofs.Common.{length, get_or, Option, Some, None, Err, slice_get, refl, sym, ap, subst}
+use Rattle.std.proofs.Common.{◌∙◌, arith, leb, take, ⊎_elim}
+use Rattle.std.specs.Prelude.{Contains, bytes_eq, position}
+use Rattle.std.specs.List.{list_any}
+use Rattle.std.specs.List.Sorted.{IsBinarySearchResult}
+use Rattle.std.specs.Option.{option_cmp, option_map}
+use Rattle.std.specs.Cmp.{IsTotalOrder}
+use Rattle.std.specs.Cmp.Lexicographic.{options_total}
+use Rattle.std.specs.declared.cmp.Ordering.{Ordering}
+use Rattle.std.specs.declared.cmp.Ordering.TheVariants.{Equal}
+use Rattle.std.proofs.lemmas.Bool.{and_from, and_parts, cases_lt, leb-true, leb-false}
+use Rattle.std.proofs.lemmas.Cmp.{then_total, on_total, nat_list_cmp_total, tied_itself}
+use Rattle.std.proofs.lemmas.List.Elements.{All-contains}
+use Rattle.std.proofs.lemmas.List.Sorted.{Contains-permutation, IsPermutation-sym, searchable_from_sorted}
+use Rattle.std.proofs.lemmas.Map.Lookups.{CmpEqualImpliesEq, exact_bytes}
+use Rattle.std.proofs.lemmas.List.{take_more}
+use Rattle.std.proofs.lemmas.Option.{get_or_from_slice_get, slice_get-get_or, slice_get_within}
+use Rattle.std.proofs.lemmas.Slice.Eq.{bytes_eq-Decides}
+use Rattle.sig_base.proofs.Orderings.{both_tie, unequal_decides, equal_passes}
+use Rattle.sig_certificate.specs.Certificate.{Cert}
+use Rattle.sig_x509.specs.AskedAnchors.{IsFirstOfItsKey}
+use Rattle.sig_x509.specs.KeyOrder.{IsKeyOrder, Signer, has_key, has_some_key, lesser, signer_at, signer_of, signer_order}
+use Rattle.sig_x509.proofs.Elements.{at_position, before_position, contains_at, no_position, position_at, position_nowhere}
+
+pub ruleset steps = (unequal_decides, equal_passes)
+
+pub signer_order_total : IsTotalOrder signer_order
+unfolding signer_order
+signer_order_total = then_total (on_total (λ s. s.1) nat_list_cmp_total) (on_total (λ s. s.0) nat_list_cmp_total)
+
+same_signer : CmpEqualImpliesEq signer_order
+unfolding signer_order
+same_signer a b e =
+    let both = both_tie _ _ e in
+    ap (λ (s : List ℕ). (s, a.1)) (exact_bytes a.0 b.0 both.1) ∙ ap (λ (k : List ℕ). (b.0, k)) (exact_bytes a.1 b.1 both.0)
+
+-- ---- the first of a subject and an SPKI
+
+has_from : (subject spki : List ℕ) (x : Cert) → signer_of x ≡ (subject, spki) → has_key subject spki x ≡ true
+has_from subject spki x is =
+    and_from _ _ ((bytes_eq-Decides subject x.subject).1 (sym (ap (λ (s : Signer). s.0) is)))
+    ((bytes_eq-Decides spki x.spki).1 (sym (ap (λ (s : Signer). s.1) is)))
+
+has_to : (subject spki : List ℕ) (x : Cert) → has_key subject spki x ≡ true → signer_of x ≡ (subject, spki)
+has_to subject spki x has =
+    let both = and_parts _ _ has in
+    ap (λ (s : List ℕ). (s, x.spki)) (sym ((bytes_eq-Decides subject x.subject).0 both.0))
+    ∙ ap (λ (k : List ℕ). (subject, k)) (sym ((bytes_eq-Decides spki x.spki).0 both.1))
+
+module _ (anchors : List Cert) (order : List ℕ) (is : IsKeyOrder anchors order) (subject spki : List ℕ) where
+  -- what the search asks of each index
+  abbrev pub sought : ℕ → Ordering
+  sought index = option_cmp signer_order (signer_at anchors index) (Some (subject, spki))
+
+  tied : (o : Option Cert) → option_cmp signer_order (option_map signer_of o) (Some (subject, spki)) ≡ Equal
+      → (x : Cert) × (o ≡ Some x) × (signer_of x ≡ (subject, spki))
+  tied None e = absurd cc
+  tied (Some x) e = (x, refl, same_signer (signer_of x) (subject, spki) e)
+
+  ties : (index : ℕ) (x : Cert) → slice_get anchors index ≡ Some x → has_key subject spki x ≡ true
+      → sought index ≡ Equal
+  ties index x there has =
+      ap (λ (o : Option Cert). option_cmp signer_order (option_map signer_of o) (Some (subject, spki))) there
+      ∙ ap (λ (s : Signer). signer_order s (subject, spki)) (has_to subject spki x has)
+      ∙ tied_itself signer_order_total (subject, spki)
+
+  first_of : (index : ℕ) → Contains order index → IsFirstOfItsKey anchors index
+  first_of index has =
+      All-contains (IsFirstOfItsKey anchors) is.asked index is.are_asked.firsts
+      (Contains-permutation order is.asked index (IsPermutation-sym is.asked order is.moved) has)
+
+  -- an index that the search finds
+  pub found_first : (place : ℕ) → place < length order → sought (get_or order place 0) ≡ Equal
+      → Some (get_or order place 0) ≡ position (has_key subject spki) anchors
+  found_first place within tie =
+      let index : ℕ = get_or order place 0 in
+      let found = tied (slice_get anchors index) tie in
+      let first = first_of index (contains_at order place index (slice_get-get_or order place 0 within)) in
+      sym (position_at (has_key subject spki) anchors index found.0 found.1 (has_from subject spki found.0 found.2)
+      (λ k y lt there. by k y lt there found first (has_key subject spki y) refl))
+    where
+      by : (k : ℕ) (y : Cert) → k < get_or order place 0 → slice_get anchors k ≡ Some y
+          → (x : Cert) × (slice_get anchors (get_or order place 0) ≡ Some x) × (signer_of x ≡ (subject, spki))
+          → IsFirstOfItsKey anchors (get_or order place 0) → (b : Bool) → has_key subject spki y ≡ b → b ≡ false
+      by k y lt there found first false e = refl
+      by k y lt there found first true e =
+          let same : first.anchor ≡ found.0 = cc (first.there, found.1) in
+          let one = has_to subject spki y e in
+          absurd (first.first k y lt there (record {
+            subject = ap (λ (s : Signer). s.0) (one ∙ sym found.2) ∙ ap (λ (x : Cert). x.subject) (sym same);
+            spki = ap (λ (s : Signer). s.1) (one ∙ sym found.2) ∙ ap (λ (x : Cert). x.spki) (sym same);
+          }))
+
+  -- where the search finds none
+  pub found_none : (place : ℕ) → IsBinarySearchResult sought order (Err place)
+      → None ≡ position (has_key subject spki) anchors
+  found_none place result = sym (position_nowhere (has_key subject spki) anchors (λ k x there. by k x there (has_key subject spki x) refl))
+    where
+      by : (k : ℕ) (x : Cert) → slice_get anchors k ≡ Some x → (b : Bool) → has_key subject spki x ≡ b → b ≡ false
+      by k x there false e = refl
+      by k x there true e =
+          let cover = is.are_asked.covers k x there in
+          let place_of = Contains-permutation is.asked order cover.first is.moved cover.is_asked in
+          let same : has_key subject spki cover.anchor ≡ true =
+          ap (λ (s : List ℕ). bytes_eq subject s && bytes_eq spki cover.anchor.spki) cover.same.subject
+          ∙ ap (λ (s : List ℕ). bytes_eq subject x.subject && bytes_eq spki s) cover.same.spki ∙ e in
+          let tie : sought (get_or order place_of.0 cover.first) ≡ Equal =
+          subst (λ (i : ℕ). sought i ≡ Equal) (sym place_of.2) (ties cover.first cover.anchor cover.there same) in
+          let rises = searchable_from_sorted (options_total signer_order_total) (λ index. signer_at anchors index) order
+          (Some (subject, spki)) is.ascends in
+          let parts = result rises in
+          ⊎_elim
+          (λ before. let less = parts.0 place_of.0 cover.first (omega arith) before in absurd (cc (less, tie)))
+          (λ behind. let greater = parts.1 place_of.0 cover.first behind place_of.1 in absurd (cc (greater, tie)))
+          (cases_lt place_of.0 place)
+
+-- ---- the first of some SPKIs
+
+pub no_keys : (subject : List ℕ) (anchors : List Cert) → None ≡ position (has_some_key subject []) anchors
+no_keys subject anchors =
+    sym (position_nowhere (has_some_key subject []) anchors (λ k x there. never (bytes_eq subject x.subject)))
+  where
+    never : (b : Bool) → (b && false) ≡ false
+    never true = refl
+    never false = refl
+
+more_keys : (subject : List ℕ) (keys : List (List ℕ)) (key : List ℕ) (x : Cert)
+    → has_some_key subject (keys ++ key ∷ []) x ≡ (has_some_key subject keys x || has_key subject key x)
+more_keys subject keys key x = by (bytes_eq subject x.subject)
+  where
+    last : (ks : List (List ℕ)) → list_any (λ k. bytes_eq k x.spki) (ks ++ key ∷ [])
+        ≡ (list_any (λ k. bytes_eq k x.spki) ks || bytes_eq key x.spki)
+    last [] = or_none (bytes_eq key x.spki)
+      where
+        or_none : (b : Bool) → (b || false) ≡ b
+        or_none true = refl
+        or_none false = refl
+    last (k ∷ ks) = ap (λ (b : Bool). bytes_eq k x.spki || b) (last ks) ∙ regroup (bytes_eq k x.spki) _ _
+      where
+        regroup : (a b c : Bool) → (a || (b || c)) ≡ ((a || b) || c)
+        regroup true b c = refl
+        regroup false b c = refl
+
+    by : (b : Bool) → (b && list_any (λ k. bytes_eq k x.spki) (keys ++ key ∷ []))
+        ≡ ((b && list_any (λ k. bytes_eq k x.spki) keys) || (b && bytes_eq key x.spki))
+    by true = last keys
+    by false = refl
+
+-- the first that passes one of two tests is the lesser of the two firsts
+either_position : {X : Type 0} (p q r : X → Bool) (xs : List X) → ((x : X) → r x ≡ (p x || q x))
+    → position r xs ≡ lesser (position p xs) (position q xs)
+either_position {X = X} p q r xs is = by (position p xs) refl (position q xs) refl
+  where
+    neither : (x : X) → p x ≡ false → q x ≡ false → r x ≡ false
+    neither x a b = is x ∙ ap (λ (c : Bool). c || q x) a ∙ b
+
+    by_left : (x : X) → p x ≡ true → r x ≡ true
+    by_left x a = is x ∙ ap (λ (c : Bool). c || q x) a
+
+    by_right : (x : X) → q x ≡ true → r x ≡ true
+    by_right x b = is x ∙ ap (λ (c : Bool). p x || c) b ∙ true_last (p x)
+      where
+        true_last : (c : Bool) → (c || true) ≡ true
+        true_last true = refl
+        true_last false = refl
+
+    by : (o : Option ℕ) → position p xs ≡ o → (u : Option ℕ) → position q xs ≡ u
+        → position r xs ≡ lesser (position p xs) (position q xs)
+    by None e None f =
+        position_nowhere r xs (λ k x there. neither x (no_position p xs e k x there) (no_position q xs f k x there))
+        ∙ sym (ap (λ (o : Option ℕ). lesser o (position q xs)) e ∙ f)
+    by None e (Some j) f =
+        let found = at_position q xs j f in
+        position_at r xs j found.0 found.1 (by_right found.0 found.2)
+        (λ k x lt there. neither x (no_position p xs e k x there) (before_position q xs j f k x lt there))
+        ∙ sym (ap (λ (o : Option ℕ). lesser o (position q xs)) e ∙ f)
+    by (Some i) e None f =
+        let found = at_position p xs i e in
+        position_at r xs i found.0 found.1 (by_left found.0 found.2)
+        (λ k x lt there. neither x (before_position p xs i e k x lt there) (no_position q xs f k x there))
+        ∙ sym (ap (λ (o : Option ℕ). lesser o (position q xs)) e ∙ ap (λ (u : Option ℕ). lesser (Some i) u) f)
+    by (Some i) e (Some j) f = by_order (leb i j) refl
+      where
+        to_lesser : lesser (position p xs) (position q xs) ≡ lesser (Some i) (Some j)
+        to_lesser = ap (λ (o : Option ℕ). lesser o (position q xs)) e ∙ ap (λ (u : Option ℕ). lesser (Some i) u) f
+
+        by_order : (b : Bool) → leb i j ≡ b → position r xs ≡ lesser (position p xs) (position q xs)
+        by_order true le =
+            let found = at_position p xs i e in
+            position_at r xs i found.0 found.1 (by_left found.0 found.2)
+            (λ k x lt there. neither x (before_position p xs i e k x lt there)
+            (before_position q xs j f k x (omega (arith, lt, leb-true i j le)) there))
+            ∙ sym (to_lesser ∙ ap (λ (b : Bool). cond b (Some i) (Some j)) le)
+        by_order false gt =
+            let found = at_position q xs j f in
+            position_at r xs j found.0 found.1 (by_right found.0 found.2)
+            (λ k x lt there. neither x (before_position p xs i e k x (omega (arith, lt, leb-false i j gt)) there)
+            (before_position q xs j f k x lt there))
+            ∙ sym (to_lesser ∙ ap (λ (b : Bool). cond b (Some i) (Some j)) gt)
+
+pub one_more_key : (subject : List ℕ) (keys : List (List ℕ)) (key : List ℕ) (anchors : List Cert)
+    → lesser (position (has_some_key subject keys) anchors) (position (has_key subject key) anchors)
+    ≡ position (has_some_key subject (keys ++ key ∷ [])) anchors
+one_more_key subject keys key anchors =
+    sym (either_position (has_some_key subject keys) (has_key subject key) (has_some_key subject (keys ++ key ∷ []))
+    anchors (more_keys subject keys key))
+
+pub taken_more : (keys : List (List ℕ)) (index : ℕ) (key : List ℕ) → slice_get keys index ≡ Some key
+    → take (index + 1) keys ≡ take index keys ++ key ∷ []
+taken_more keys index key there =
+    take_more keys index key (slice_get_within keys index key there)
+    ∙ ap (λ (k : List ℕ). take index keys ++ k ∷ []) (get_or_from_slice_get keys index key key there)
+
+pub some_there : (keys : List (List ℕ)) (index : ℕ) → index < length keys → slice_get keys index ≡ None → ⊥
+some_there keys index lt none = let some = slice_get-get_or keys index [] lt in absurd (cc (some, none))

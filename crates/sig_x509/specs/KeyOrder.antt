@@ -1,0 +1,57 @@
+-- *Key order*: the trust anchors that a checker is asked about, in the order of SPKI and subject, and the first that has a
+-- subject and one of some keys.
+use Rattle.std.specs.Prelude.{ℕ, List, Bool, ◌&&◌, Option, Some, None, slice_get, nat_le, IsPermutation, if◌then◌else◌}
+use Rattle.std.specs.List.{list_any}
+use Rattle.std.specs.Option.{option_cmp, option_map}
+use Rattle.std.specs.Ordering.{nat_cmp, is_lt, on, then_cmp}
+use Rattle.std.specs.Cmp.Lexicographic.{slice_cmp}
+use Rattle.std.specs.List.Sorted.{IsSortedBy}
+use Rattle.std.specs.Str.{bytes_eq}
+use Rattle.std.specs.declared.cmp.Ordering.{Ordering}
+use Rattle.sig_certificate.specs.Certificate.{Cert}
+use Rattle.sig_x509.specs.AskedAnchors.{AreAsked}
+
+-- ---- the order
+
+abbrev pub Signer : Type 0
+Signer = List ℕ × List ℕ
+
+-- the subject and the SPKI
+abbrev pub signer_of : Cert → Signer
+signer_of x = (x.subject, x.spki)
+
+-- by SPKI, then subject
+unfoldable pub signer_order : Signer → Signer → Ordering
+signer_order = then_cmp (on (λ s. s.1) (slice_cmp nat_cmp)) (on (λ s. s.0) (slice_cmp nat_cmp))
+
+-- those of the trust anchor at an index
+abbrev pub signer_at : List Cert → ℕ → Option Signer
+signer_at anchors index = option_map signer_of (slice_get anchors index)
+
+-- indices in the order of their trust anchors
+abbrev pub Ascends : List Cert → List ℕ → Type 0
+Ascends anchors order =
+    IsSortedBy (λ one other. is_lt (option_cmp signer_order (signer_at anchors one) (signer_at anchors other))) order
+
+-- the indices that are asked, in that order
+pub record IsKeyOrder (anchors : List Cert) (order : List ℕ) : Type 0 where
+  pub asked : List ℕ
+  pub are_asked : AreAsked anchors asked
+  pub moved : IsPermutation asked order
+  pub ascends : Ascends anchors order
+
+-- ---- who has a key
+
+-- the trust anchor has the subject and the SPKI
+abbrev pub has_key : List ℕ → List ℕ → Cert → Bool
+has_key subject spki x = bytes_eq subject x.subject && bytes_eq spki x.spki
+
+-- the subject, and one of the SPKIs
+abbrev pub has_some_key : List ℕ → List (List ℕ) → Cert → Bool
+has_some_key subject keys x = bytes_eq subject x.subject && list_any (λ key. bytes_eq key x.spki) keys
+
+-- the lesser of two indices, if there is one
+abbrev pub lesser : Option ℕ → Option ℕ → Option ℕ
+lesser None other = other
+lesser (Some one) None = Some one
+lesser (Some one) (Some other) = if nat_le one other then Some one else Some other
