@@ -11,7 +11,7 @@
 A row of tools/verify_rows.py says what changes of the fixture's request and, by hand, what comes of it. tools/verify_links.py, a second
 implementation of the links, has to say the same; else nothing is written. A line of the requests is a row's name, a tab, and the request; a line
 of what is expected is the name, a tab, the reply, a tab, and the error of the library call `verify_offline` (`-` where there is none, and where
-the request itself is refused, which no library call reads). Such rows are no calls; each other row is one, under a `#` line of its name. The
+the request itself is refused, which no library call reads). Such rows are not calls; each other row is one, under a `#` line of its name. The
 calls of tools/verify_calls.py follow.
 """
 import base64
@@ -280,7 +280,7 @@ def returned(reply, error):
     return "ok " + rest if kind == "verified" else "%s %s" % (rest, error)
 
 
-# The rows that are no calls too, since the table would be too long: rows like them are in the tables of the readers that they are about, or
+# The rows that are not calls too, since the table would be too long: rows like them are in the tables of the readers that they are about, or
 # stay beside them.
 NO_CALLS = ("index: the entry's own", "message intermediates: ", "range of a log's key: null", "range of a log's key: without", "range of a log's key: begun",
             "range of a log's key: no start", "policy: ", "subject: a", "subject: in upper", "subject: of", "subject: with", "subject: the second",

@@ -99,7 +99,7 @@ def is_authority(value):
 
 
 def alternative_names(value):
-    """Emails, URIs and Fulcio's other names, in order (section 4.2.1.6); an other name is no text where it is no UTF-8."""
+    """Emails, URIs and Fulcio's other names, in order (section 4.2.1.6); an other name is not a text where it is not UTF-8."""
     names = []
     for tag, content, _ in x509.cut(sole(value, 0x30)):
         x509.ask(tag & 0xC0 == 0x80 and tag & 0x1F <= 8)
@@ -152,7 +152,7 @@ def is_root(certificate):
 
 
 def leaf_refusal(certificate):
-    """Why the certificate is no leaf that signs code; None where it is."""
+    """Why the certificate is not a leaf that signs code; None where it is."""
     if certificate.version != 3:
         return "VersionUnsupported"
     if authority_refusal(certificate) is None:
@@ -182,7 +182,7 @@ def is_fit(certificate):
 
 
 def is_issuable(leaf):
-    """Whether an issuer may be looked for: it can be judged, and is no authority."""
+    """Whether an issuer may be looked for: it can be judged, and is not an authority."""
     return is_fit(leaf) and not leaf.value(BASIC_CONSTRAINTS, is_authority)
 
 

@@ -14,6 +14,16 @@ def identifier(number):
     return b"\x10" + number.to_bytes(31, "big")
 
 
+def numbered_key(byte, number):
+    """One of many keys, in their order."""
+    return key(byte)[:-4] + number.to_bytes(4, "big")
+
+
+def accepted_under(spki):
+    """With the certificate's signature accepted under this key too."""
+    return "accepted", {**fixture.Request().accepted()[0], "key": base64_of(spki)}
+
+
 def instance(spki, log):
     return {"publicKey": {"rawBytes": base64_of(spki)}, "logId": {"keyId": base64_of(log)}}
 
@@ -47,6 +57,15 @@ def anchors():
         root("certificateAuthorities", [chain(*[namesake] * COUNT)]))
     row("hundreds: trust anchors, the last of which is no certificate", "anchor Anchor(%d)" % LAST,
         root("certificateAuthorities", [chain(*[own] * LAST, b"\x30\x00")]))
+    others = [certificate(anchor(key=numbered_key(9, place))) for place in range(LAST)]
+    keys = [accepted_under(numbered_key(8, place)) for place in range(COUNT)]
+    row("hundreds: trust anchors of one name and other keys, the last of which issued it", "verified 2 5",
+        root("certificateAuthorities", [chain(*others, own)]))
+    row("hundreds: keys under which the certificate is accepted, one of which is a trust anchor's", "verified 2 5", *keys)
+    row("hundreds: trust anchors of one name, and keys under which the certificate is accepted, with one in common", "verified 2 5",
+        root("certificateAuthorities", [chain(*others, own)]), *keys)
+    row("hundreds: trust anchors of one name, and keys under which the certificate is accepted, with none in common",
+        "issuer Certificate(VerificationFailed)", root("certificateAuthorities", [chain(*others, own)]), unaccepted(0), *keys)
 
 
 # The bundle's certificates, and what they hold.

@@ -67,7 +67,7 @@ def message_bodies():
     row("body: that of a signature over the artifact", NOT_LOGGED, parts(body=hashedrekord(bytes.fromhex(DIGEST), b"sig-dsse", certificate(leaf()))))
 
 
-# Chains: the first certificate signs, and none behind it is a root.
+# Chains: the first certificate signs, and none after it is a root.
 
 def in_chain(*later):
     """The bundle's certificate as the first of a chain, which these follow."""

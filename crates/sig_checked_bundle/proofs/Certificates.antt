@@ -5,7 +5,7 @@ use Rattle.std.proofs.lemmas.Bool.{or_from, or_parts}
 use Rattle.std.proofs.lemmas.List.Folds.{Any-from_list_any, list_any-from_Any}
 use Rattle.std.specs.Prelude.{Any, is_none}
 use Rattle.std.specs.List.{AllByRecursion, list_any}
-use Rattle.sig_base.proofs.Zipped.{zip_one}
+use Rattle.sig_base.proofs.PairedLists.{zip_one}
 use Rattle.sig_certificate.specs.Certificate.{Cert, IsCertificate}
 use Rattle.sig_certificate.specs.Certificates.{AreCertificates}
 use Rattle.sig_certificate.specs.Profile.{root_refusal}

@@ -1,11 +1,9 @@
--- The checks after the certificates', where the certificates are known.
+-- The checks of a bundle in order: what each that fails makes of it, and what comes after those that do not.
 use Rattle.std.proofs.Common.{◌≡◌, ◌⊎◌, inl, inr, Option, Some, Result, Ok, Err, refl, sym, ap, subst, ◌∙◌}
-use Rattle.sig_base.specs.Answers.{Answers, UnlessMemory}
-use Rattle.sig_base.proofs.ResultSteps.{err_is, ok_is}
+use Rattle.sig_base.specs.Answers.{Answers, OrMemory, UnlessMemory}
 use Rattle.sig_base.specs.ResultSteps.{◌>>=◌}
 use Rattle.sig_bundle.specs.AnswersOnly.{AnswersOnly}
-use Rattle.sig_checked_bundle.specs.Borrowed.{entry_under_profile}
-use Rattle.sig_checked_bundle.specs.Checked.{Checked, checked, IsCheckedWith}
+use Rattle.sig_checked_bundle.specs.Checked.{Checked, checked, IsChecked, IsCheckedWith}
 use Rattle.sig_checked_bundle.specs.Content.{ContentWithSignature, content_with_signature}
 use Rattle.sig_checked_bundle.specs.Profile.{entry_among, meets_profile}
 use Rattle.sig_checked_bundle.specs.SigningCertificate.{IsSigningCertificate}
@@ -16,28 +14,6 @@ use Rattle.sig_checked_bundle.specs.declared.signing_certificate.SigningChain.{S
 use Rattle.sig_bundle.specs.declared.material.TransparencyLogEntry.{TransparencyLogEntry}
 use Rattle.sig_bundle.specs.declared.material.VerificationMaterial.{VerificationMaterial}
 
--- ---- a step and a test of what it gives, and then more made of it
-
-tested-ok : {A B E : Type 0} (x y : A) (test : Result (Unit {0}) E) (make : A → B)
-    → (test >>= λ _. Ok x) ≡ Ok y → (test >>= λ _. Ok (make x)) ≡ Ok (make y)
-tested-ok x y (Ok t) make is = ap (λ z. Ok (make z)) (ok_is x y is)
-tested-ok x y (Err e) make is = absurd cc
-
-tested-err : {A B E : Type 0} (x : A) (test : Result (Unit {0}) E) (make : A → B) (e : E)
-    → (test >>= λ _. Ok x) ≡ Err e → (test >>= λ _. Ok (make x)) ≡ Err e
-tested-err x (Ok t) make e is = absurd cc
-tested-err x (Err d) make e is = ap Err (err_is d e is)
-
-made-ok : {A B E : Type 0} (found : Result A E) (test : A → Result (Unit {0}) E) (make : A → B) (y : A)
-    → (found >>= λ x. test x >>= λ _. Ok x) ≡ Ok y → (found >>= λ x. test x >>= λ _. Ok (make x)) ≡ Ok (make y)
-made-ok (Ok x) test make y is = tested-ok x y (test x) make is
-made-ok (Err e) test make y is = absurd cc
-
-made-err : {A B E : Type 0} (found : Result A E) (test : A → Result (Unit {0}) E) (make : A → B) (e : E)
-    → (found >>= λ x. test x >>= λ _. Ok x) ≡ Err e → (found >>= λ x. test x >>= λ _. Ok (make x)) ≡ Err e
-made-err (Ok x) test make e is = tested-err x (test x) make e is
-made-err (Err d) test make e is = ap Err (err_is d e is)
-
 abbrev made : SigningChain → ContentWithSignature → TransparencyLogEntry → Checked
 made c content entry = record {
   certificate = c.certificate;
@@ -46,23 +22,6 @@ made c content entry = record {
   content = content.content;
   entry = entry;
 }
-
-pub checked-found : (b : Bundle) (m : VerificationMaterial) (c : SigningChain) (content : ContentWithSignature)
-    (entry : TransparencyLogEntry)
-    → content_with_signature b.content ≡ Ok content
-    → entry_under_profile b.media_type m.tlog_entries ≡ Ok entry
-    → checked b m (Ok c) ≡ Ok (made c content entry)
-checked-found b m c content entry is of =
-    rw is (made-ok (entry_among m.tlog_entries) (meets_profile b.media_type) (made c content) entry of)
-
-pub checked-refused : (b : Bundle) (m : VerificationMaterial) (c : SigningChain) (content : ContentWithSignature)
-    (e : BundleErrorKind)
-    → content_with_signature b.content ≡ Ok content
-    → (e ≡ OutOfMemory) ⊎ (entry_under_profile b.media_type m.tlog_entries ≡ Err e)
-    → (e ≡ OutOfMemory) ⊎ (checked b m (Ok c) ≡ Err e)
-checked-refused b m c content e is (inl memory) = inl memory
-checked-refused b m c content e is (inr of) =
-    inr (rw is (made-err (entry_among m.tlog_entries) (meets_profile b.media_type) (made c content) e of))
 
 -- the answer is the one that is meant, unless memory ran out
 answered : (r m : Result Checked BundleErrorKind) → Answers OutOfMemory (λ x. x) r m → (r ≡ Err OutOfMemory) ⊎ (r ≡ m)
@@ -108,34 +67,67 @@ goes b m c r signer answers = (
   λ other of. goes_on b m c of.0 r other (signer.1 of.0 of.1) (answered r (checked b m (Ok c)) answers) of.2,
 )
 
-ended : (b : Bundle) → (m : VerificationMaterial) → (e : BundleErrorKind) → (signer : Result SigningChain BundleErrorKind)
-    → signer ≡ Err e
-    → (signer ≡ Err OutOfMemory) ⊎ IsSigningCertificate m.content (Err e)
-    → UnlessMemory {X = Checked} OutOfMemory (Err e) (IsCheckedWith b (Some m) (Err e))
-ended b m e signer is (inl memory) = inl (let same : e ≡ OutOfMemory = cc in ap Err same)
-ended b m e signer is (inr signs) = inr (Err e, signs, refl)
+-- ---- the checks in order
 
-ends_as : (b : Bundle) → (m : VerificationMaterial) → (e : BundleErrorKind)
-    → (signer one : Result SigningChain BundleErrorKind) → (other : Result Checked BundleErrorKind) → signer ≡ Err e
-    → (signer ≡ Err OutOfMemory) ⊎ (signer ≡ one) → other ≡ checked b m one
-    → UnlessMemory {X = Checked} OutOfMemory (Err e) (Err e ≡ other)
-ends_as b m e signer one other is (inl memory) of = inl (let same : e ≡ OutOfMemory = cc in ap Err same)
-ends_as b m e signer one other is (inr same) of =
-    let read : one ≡ Err e = sym same ∙ is in inr (sym (of ∙ ap (checked b m) read))
+module _ (b : Bundle) (m : VerificationMaterial) (there : b.verification_material ≡ Some m) where
+  abbrev Told : Result Checked BundleErrorKind → Type 0
+  Told r = AnswersOnly OutOfMemory (IsChecked b) r
 
--- the certificates' refusal is that of the checks
-pub ends : (b : Bundle) → (m : VerificationMaterial) → (e : BundleErrorKind)
-    → AnswersOnly {X = SigningChain} OutOfMemory (IsSigningCertificate m.content) (Err e)
-    → AnswersOnly {X = Checked} OutOfMemory (IsCheckedWith b (Some m)) (Err e)
-ends b m e signer = (
-  ended b m e (Err e) refl signer.0,
-  λ other of. ends_as b m e (Err e) of.0 other refl (signer.1 of.0 of.1) of.2,
-)
+  with_material : (r : Result Checked BundleErrorKind) → AnswersOnly OutOfMemory (IsCheckedWith b (Some m)) r → Told r
+  with_material r checks =
+      subst (λ (o : Option VerificationMaterial). AnswersOnly OutOfMemory (IsCheckedWith b o) r) (sym there) checks
 
--- the material that is there
-pub with_material : (b : Bundle) → (o : Option VerificationMaterial) → (m : VerificationMaterial)
-    → (r : Result Checked BundleErrorKind)
-    → o ≡ Some m → AnswersOnly OutOfMemory (IsCheckedWith b (Some m)) r → AnswersOnly OutOfMemory (IsCheckedWith b o) r
-with_material b o m r is checks =
-    let P : Option VerificationMaterial → Type 0 = λ x. AnswersOnly OutOfMemory (IsCheckedWith b x) r in
-    subst P (sym is) checks
+  module _ (c : SigningChain) (signer : AnswersOnly OutOfMemory (IsSigningCertificate m.content) (Ok c)) where
+    told : (r : Result Checked BundleErrorKind) → Answers OutOfMemory (λ x. x) r (checked b m (Ok c)) → Told r
+    told r answers = with_material r (goes b m c r signer answers)
+
+    -- what comes after the content, and after the entry
+    abbrev behind_entry : ContentWithSignature → TransparencyLogEntry → Result Checked BundleErrorKind
+    behind_entry content entry = meets_profile b.media_type entry >>= λ _. Ok (made c content entry)
+
+    abbrev behind_content : ContentWithSignature → Result Checked BundleErrorKind
+    behind_content content = entry_among m.tlog_entries >>= behind_entry content
+
+    pub content_failed : (e : BundleErrorKind) → OrMemory OutOfMemory e (content_with_signature b.content ≡ Err e)
+        → Told (Err e)
+    content_failed e (inl memory) = told (Err e) (inl memory)
+    content_failed e (inr is) =
+        told (Err e) (inr (ap (λ (r : Result ContentWithSignature BundleErrorKind). r >>= behind_content) is))
+
+    module _ (content : ContentWithSignature) (is_content : content_with_signature b.content ≡ Ok content) where
+      by_content : (r : Result Checked BundleErrorKind) → behind_content content ≡ r → checked b m (Ok c) ≡ r
+      by_content r is =
+          ap (λ (x : Result ContentWithSignature BundleErrorKind). x >>= behind_content) is_content ∙ is
+
+      pub entry_failed : (e : BundleErrorKind) → entry_among m.tlog_entries ≡ Err e → Told (Err e)
+      entry_failed e is =
+          told (Err e) (inr (by_content (Err e)
+          (ap (λ (x : Result TransparencyLogEntry BundleErrorKind). x >>= behind_entry content) is)))
+
+      module _ (entry : TransparencyLogEntry) (is_entry : entry_among m.tlog_entries ≡ Ok entry) where
+        by_entry : (r : Result Checked BundleErrorKind) → behind_entry content entry ≡ r → checked b m (Ok c) ≡ r
+        by_entry r is =
+            by_content r
+            (ap (λ (x : Result TransparencyLogEntry BundleErrorKind). x >>= behind_entry content) is_entry ∙ is)
+
+        after_profile : (test : Result (Unit {0}) BundleErrorKind) (r : Result (Unit {0}) BundleErrorKind) → test ≡ r
+            → (test >>= λ _. Ok (made c content entry)) ≡ (r >>= λ _. Ok (made c content entry))
+        after_profile test r is =
+            ap (λ (x : Result (Unit {0}) BundleErrorKind). x >>= λ _. Ok (made c content entry)) is
+
+        pub profile_failed : (e : BundleErrorKind)
+            → OrMemory OutOfMemory e (meets_profile b.media_type entry ≡ Err e) → Told (Err e)
+        profile_failed e (inl memory) = told (Err e) (inl memory)
+        profile_failed e (inr is) =
+            told (Err e) (inr (by_entry (Err e) (after_profile (meets_profile b.media_type entry) (Err e) is)))
+
+        -- there is no memory for the entry
+        pub no_memory : Told (Err OutOfMemory)
+        no_memory = told (Err OutOfMemory) (inl refl)
+
+        pub all_checked : meets_profile b.media_type entry ≡ Ok tt → (copied : TransparencyLogEntry) → copied ≡ entry
+            → Told (Ok (made c content copied))
+        all_checked met copied same =
+            subst (λ (x : TransparencyLogEntry). Told (Ok (made c content x))) (sym same)
+            (told (Ok (made c content entry))
+            (by_entry (Ok (made c content entry)) (after_profile (meets_profile b.media_type entry) (Ok tt) met)))

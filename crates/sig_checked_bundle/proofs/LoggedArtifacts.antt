@@ -5,7 +5,7 @@ use Rattle.std.specs.Prelude.{◌↔◌}
 use Rattle.hex.specs.Hex.{encode_lower}
 use Rattle.sig_base.proofs.OptionSteps.{some_is}
 use Rattle.sig_base.specs.Base64.{base64_text}
-use Rattle.sig_bundle.specs.Written.{bytes_tree}
+use Rattle.sig_json.specs.Writing.{bytes_tree}
 use Rattle.sig_dsse.specs.SaidMembers.{HasText}
 use Rattle.sig_json.specs.Data.{Data, Members, null, boolean, number, string, array, object, no_members, member}
 use Rattle.sig_json.specs.Document.{document_of}

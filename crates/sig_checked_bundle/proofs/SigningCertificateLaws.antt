@@ -14,18 +14,21 @@ use Rattle.sig_certificate.specs.Certificates.{AreCertificates}
 use Rattle.sig_certificate.specs.Profile.{leaf_refusal}
 use Rattle.sig_certificate.specs.declared.error.X509ReadError.{X509ReadError}
 use Rattle.sig_certificate.specs.declared.error.X509ReadError.TheVariants.{Der, OutOfMemory as NoMemory}
-use Rattle.sig_checked_bundle.specs.Borrowed.{AreUnreadBehind, IsUnreadAt}
+use Rattle.sig_checked_bundle.specs.SeenValues.{AreUnreadBehind, IsUnreadAt}
 use Rattle.sig_checked_bundle.specs.SigningCertificate.{AreRead, IsFirstMalformed, IsLeafAmong, IsLeafOf}
-use Rattle.sig_checked_bundle.specs.SigningCertificate.{IsNoCertificate, is_root, leaf_among}
+use Rattle.sig_checked_bundle.specs.SigningCertificate.{IsNoCertificate, IsSigningCertificate, encodings_in, is_root}
+use Rattle.sig_checked_bundle.specs.SigningCertificate.{leaf_among}
 use Rattle.sig_checked_bundle.specs.declared.bundle_error.BundleErrorKind.{BundleErrorKind}
 use Rattle.sig_checked_bundle.specs.declared.bundle_error.BundleErrorKind.TheVariants.{OutOfMemory}
 use Rattle.sig_checked_bundle.specs.declared.bundle_error.BundleErrorKind.TheVariants.{CertificateMalformed}
-use Rattle.sig_checked_bundle.specs.declared.bundle_error.BundleErrorKind.TheVariants.{CertificatesMissing, RootInChain}
+use Rattle.sig_checked_bundle.specs.declared.bundle_error.BundleErrorKind.TheVariants.{CertificatesMissing, NoLeaf, RootInChain}
 use Rattle.sig_checked_bundle.specs.declared.bundle_error.BundleErrorKind.TheVariants.{
   VerificationMaterialContentUnsupported,
 }
 use Rattle.sig_checked_bundle.specs.declared.bundle_error.BundleErrorKind.TheVariants.{TooManyCertificates}
 use Rattle.sig_checked_bundle.specs.declared.signing_certificate.SigningChain.{SigningChain}
+use Rattle.sig_bundle.specs.declared.material.MaterialContent.{MaterialContent}
+use Rattle.sig_certificate.specs.declared.profile_error.CertificateValidationError.{CertificateValidationError}
 use Rattle.sig_checked_bundle.proofs.Certificates.{OneCertificate, read_one}
 
 -- ---- the first that is none
@@ -125,6 +128,10 @@ module _ (one : OneCertificate) (ders : List (List ℕ)) (item : List ℕ) (late
 
 -- ---- the judgement of the certificates
 
+pub unfit : (c : Cert) (later : List Cert) (e : CertificateValidationError) → Some e ≡ leaf_refusal c
+    → Err (NoLeaf e) ≡ leaf_among (c ∷ later)
+unfit c later e refused = rw (sym refused) refl
+
 pub rooted : (c : Cert) (later : List Cert) → None ≡ leaf_refusal c → list_any is_root later ≡ true
     → Err RootInChain ≡ leaf_among (c ∷ later)
 rooted c later may_sign found = rw (sym may_sign, found) refl
@@ -133,34 +140,42 @@ pub rootless : (c : Cert) (later : List Cert) → None ≡ leaf_refusal c → li
     → Ok (record { certificate = c; further = later }) ≡ leaf_among (c ∷ later)
 rootless c later may_sign none = rw (sym may_sign, none) refl
 
-pub ruleset judgements = (rooted, rootless)
-
 -- ---- how many there are
 
-pub many_answers : (ders : List (List ℕ)) (n : ℕ) → 17 < n → n ≡ length ders
+many_answers : (ders : List (List ℕ)) (n : ℕ) → 17 < n → n ≡ length ders
     → AnswersOnly {X = SigningChain} OutOfMemory (IsLeafAmong (Some ders)) (Err (TooManyCertificates n))
 many_answers ders n many count =
     let told : ◌≡◌ {A = Result SigningChain BundleErrorKind} (Err (TooManyCertificates n))
     (Err (TooManyCertificates (length ders))) = ap (λ k. Err (TooManyCertificates k)) count in
     rw (lt-ltb 17 (length ders) (subst (λ k. 17 < k) count many)) (inr told, λ other of. inr (told ∙ sym of))
 
-pub few_answers : (ders : List (List ℕ)) (n : ℕ) (answer : Result SigningChain BundleErrorKind) → n ≤ 17
+few_answers : (ders : List (List ℕ)) (n : ℕ) (answer : Result SigningChain BundleErrorKind) → n ≤ 17
     → n ≡ length ders
     → AnswersOnly OutOfMemory (IsLeafOf ders) answer → AnswersOnly OutOfMemory (IsLeafAmong (Some ders)) answer
 few_answers ders n answer few count is = rw (le-ltb 17 (length ders) (subst (λ k. k ≤ 17) count few)) is
 
-pub ruleset counts = (many_answers, few_answers)
-
 -- ---- the encodings are those of the material's content
 
-pub encodings_answer : (ders : List (List ℕ)) (held : Option (List (List ℕ))) (answer : Result SigningChain BundleErrorKind)
+encodings_answer : (ders : List (List ℕ)) (held : Option (List (List ℕ))) (answer : Result SigningChain BundleErrorKind)
     → Some ders ≡ held
     → AnswersOnly OutOfMemory (IsLeafAmong (Some ders)) answer → AnswersOnly OutOfMemory (IsLeafAmong held) answer
 encodings_answer ders held answer is answers =
     subst (λ (o : Option (List (List ℕ))). AnswersOnly OutOfMemory (IsLeafAmong o) answer) is answers
 
-pub nothing_answers : (held : Option (List (List ℕ))) → None ≡ held
-    → AnswersOnly {X = SigningChain} OutOfMemory (IsLeafAmong held) (Err VerificationMaterialContentUnsupported)
-nothing_answers held is =
+pub nothing_answers : (content : Option MaterialContent) → None ≡ encodings_in content
+    → AnswersOnly {X = SigningChain} OutOfMemory (IsSigningCertificate content) (Err VerificationMaterialContentUnsupported)
+nothing_answers content is =
     subst (λ (o : Option (List (List ℕ))). AnswersOnly {X = SigningChain} OutOfMemory (IsLeafAmong o)
     (Err VerificationMaterialContentUnsupported)) is (inr refl, λ other of. inr (sym of))
+
+module _ (content : Option MaterialContent) (ders : List (List ℕ)) (held : Some ders ≡ encodings_in content) where
+  pub many_told : (n : ℕ) → 17 < n → n ≡ length ders
+      → AnswersOnly {X = SigningChain} OutOfMemory (IsSigningCertificate content) (Err (TooManyCertificates n))
+  many_told n many count =
+      encodings_answer ders (encodings_in content) (Err (TooManyCertificates n)) held (many_answers ders n many count)
+
+  pub few_told : (answer : Result SigningChain BundleErrorKind) → length ders ≤ 17
+      → AnswersOnly OutOfMemory (IsLeafOf ders) answer
+      → AnswersOnly OutOfMemory (IsSigningCertificate content) answer
+  few_told answer few is =
+      encodings_answer ders (encodings_in content) answer held (few_answers ders (length ders) answer few refl is)

@@ -3,7 +3,7 @@
 use Rattle.std.specs.Prelude.{ℕ, List, [], ◌∷◌, codes, Some}
 use Rattle.hex.specs.Hex.{encode_lower}
 use Rattle.sig_json.specs.Data.{Data, string}
-use Rattle.sig_bundle.specs.Written.{bytes_tree, object_of}
+use Rattle.sig_json.specs.Writing.{bytes_tree, object_of}
 
 -- the SHA-256 digest of the artifact, in lower-case hexadecimal
 unfoldable pub hash_tree : List ℕ → Data

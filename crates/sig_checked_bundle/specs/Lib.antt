@@ -2,7 +2,7 @@ pub mod Checked
 pub mod Content
 pub mod DsseBody
 pub mod Hashedrekord
-pub mod Borrowed
+pub mod SeenValues
 pub mod LogBody
 pub mod LoggedArtifact
 pub mod LoggedEnvelope

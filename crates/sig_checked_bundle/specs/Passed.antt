@@ -3,7 +3,7 @@
 use Rattle.std.specs.Prelude.{◌≡◌, ◌⊎◌, ◌≤◌, ℕ, List, [], ◌∷◌, length, Option, Some, None}
 use Rattle.std.specs.List.{AllByRecursion}
 use Rattle.sig_dsse.specs.EnvelopeText.{envelope_text}
-use Rattle.sig_dsse.specs.Named.{AreTaken}
+use Rattle.sig_dsse.specs.NamedDigest.{AreTaken}
 use Rattle.sig_dsse.specs.Pae.{pae}
 use Rattle.sig_dsse.specs.Statement.{Statement, statement_of}
 use Rattle.sig_dsse.specs.declared.artifact_digest.ArtifactDigest.{ArtifactDigest}

@@ -93,7 +93,7 @@ pub enum Bundle01ProfileErrorKind {
 /// What the versions 0.2 and 0.3 demand of a log entry and is not there.
 #[derive(Clone, Copy, Debug, PartialEq, Eq, Error)]
 pub enum Bundle02ProfileErrorKind {
-    /// The inclusion proof.
+    /// The proof that the log's tree has the entry.
     #[error("InclusionProofMissing")]
     InclusionProofMissing,
     /// The checkpoint of the inclusion proof.

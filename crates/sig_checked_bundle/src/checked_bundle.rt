@@ -1,10 +1,9 @@
 //! `CheckedBundle`: a bundle that passed its own checks.
 
-ghost use Rattle.std.specs.Prelude.{◌≡◌, ◌≢◌, ◌↔◌, Some, Ok, IfOk, IfSome, IsSome};
-ghost use Rattle.sig_base.specs.Answers.{Answers, ComesWhere};
+ghost use Rattle.std.specs.Prelude.{◌≡◌, ◌≢◌, ◌↔◌, Ok, IfOk, IfSome, IsSome};
+ghost use Rattle.sig_base.specs.Answers.{ComesWhere};
 ghost use Rattle.sig_bundle.specs.AnswersOnly.{AnswersOnly};
-ghost use Rattle.sig_checked_bundle.specs.Borrowed.{entry_under_profile};
-ghost use Rattle.sig_checked_bundle.specs.Checked.{Checked, checked, IsChecked, IsCheckedWith};
+ghost use Rattle.sig_checked_bundle.specs.Checked.{Checked, IsChecked};
 ghost use Rattle.sig_checked_bundle.specs.LogBody.{IsLogBody, NeedsNoFetch};
 ghost use Rattle.sig_checked_bundle.specs.Passed.{IsPassed};
 ghost use Rattle.sig_checked_bundle.specs.Refusals.{IsCause};
@@ -14,9 +13,9 @@ use crate::bundle_error::BundleErrorKind;
 use crate::content_check::{CheckedContent, checked_content};
 use crate::log_body::is_body_about;
 use crate::profile_check::{entry_among, meets_profile};
-use crate::signing_certificate::{SigningChain, signing_chain};
+use crate::signing_certificate::signing_chain;
 use sig_base::{Bytes, OutOfMemory, OwnedList};
-use sig_bundle::{Bundle, TransparencyLogEntry, VerificationMaterial};
+use sig_bundle::{Bundle, TransparencyLogEntry};
 use sig_certificate::Certificate;
 use std::alloc::Global;
 use std::marker::Model;
@@ -44,68 +43,6 @@ impl Model for CheckedBundle {
       content = b.content;
       entry = b.entry;
     } };
-}
-
-/// The checks after the one for material.
-fn check(
-    alloc: Global,
-    input: &Bundle,
-    material: &VerificationMaterial,
-) -> Result<CheckedBundle, BundleErrorKind>
-    ensures { AnswersOnly BundleErrorKind.OutOfMemory (IsCheckedWith input.now (Some material.now)) result }
-{
-    let chain = signing_chain(alloc, &material.content)?;
-    check_behind_certificates(alloc, input, material, chain)
-}
-
-/// The log entry, in memory of its own, if it has what the media type demands.
-fn checked_entry(
-    alloc: Global,
-    input: &Bundle,
-    material: &VerificationMaterial,
-) -> Result<TransparencyLogEntry, BundleErrorKind>
-    ensures { Answers BundleErrorKind.OutOfMemory (λ entry. entry) result
-        (entry_under_profile input.now.media_type material.now.tlog_entries) }
-{
-    let entry = entry_among(&material.tlog_entries)?;
-    meets_profile(alloc, &input.media_type, entry)?;
-    Ok(entry.copy(alloc)?)
-}
-
-/// The checks after that of the certificates.
-fn check_behind_certificates(
-    alloc: Global,
-    input: &Bundle,
-    material: &VerificationMaterial,
-    chain: SigningChain,
-) -> Result<CheckedBundle, BundleErrorKind>
-    ensures { Answers BundleErrorKind.OutOfMemory (λ checked. checked) result
-        (checked input.now material.now (Ok chain)) }
-{
-    let content = checked_content(alloc, &input.content)?;
-    match checked_entry(alloc, input, material) {
-        Ok(entry) => Ok(CheckedBundle {
-            certificate: chain.certificate,
-            further: chain.further,
-            signature: content.signature,
-            content: content.content,
-            entry,
-        }),
-        Err(error) => {
-            drop(content);
-            Err(error)
-        }
-    }
-}
-
-/// All checks.
-fn check_bundle(alloc: Global, input: &Bundle) -> Result<CheckedBundle, BundleErrorKind>
-    ensures { AnswersOnly BundleErrorKind.OutOfMemory (IsChecked input.now) result }
-{
-    match &input.verification_material {
-        Some(material) => check(alloc, input, material),
-        None => Err(BundleErrorKind::VerificationMaterialMissing),
-    }
 }
 
 impl CheckedBundle {
@@ -139,7 +76,7 @@ impl CheckedBundle {
         check_bundle(alloc, input)
     }
 
-    /// The signing certificate.
+    /// The signing certificate, the first of the bundle's.
     pub fn certificate(&self) -> &Certificate
         ensures { result.now ≡ self.now.certificate }
     {
@@ -153,7 +90,7 @@ impl CheckedBundle {
         self.further.as_slice()
     }
 
-    /// The signature.
+    /// The signature over [`CheckedBundle::content`]. It is not checked.
     pub fn signature(&self) -> &[u8]
         ensures { result.now ≡ self.now.signature }
     {
@@ -167,7 +104,7 @@ impl CheckedBundle {
         &self.content
     }
 
-    /// The log entry.
+    /// The bundle's one log entry. Its promise and its proof are not checked.
     pub fn entry(&self) -> &TransparencyLogEntry
         ensures { result.now ≡ self.now.entry }
     {
@@ -206,4 +143,28 @@ impl CheckedBundle {
         )?;
         Ok(if is_about { Some(&self.entry) } else { None })
     }
+}
+
+/// The links `material` to `profile`, in order.
+fn check_bundle(alloc: Global, input: &Bundle) -> Result<CheckedBundle, BundleErrorKind>
+    ensures { AnswersOnly BundleErrorKind.OutOfMemory (IsChecked input.now) result }
+{
+    let Some(material) = &input.verification_material else {
+        return Err(BundleErrorKind::VerificationMaterialMissing);
+    };
+    // The links `material`, of what it holds, `certificate`, `leaf` and `root-in-chain`.
+    let chain = signing_chain(alloc, &material.content)?;
+    // The links `content` and `envelope`.
+    let content = checked_content(alloc, &input.content)?;
+    // The link `entry`, and the link `profile`.
+    let entry = entry_among(&material.tlog_entries)?;
+    meets_profile(alloc, &input.media_type, entry)?;
+    let entry = entry.copy(alloc)?;
+    Ok(CheckedBundle {
+        certificate: chain.certificate,
+        further: chain.further,
+        signature: content.signature,
+        content: content.content,
+        entry,
+    })
 }

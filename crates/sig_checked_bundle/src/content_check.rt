@@ -4,7 +4,7 @@ ghost use Rattle.std.specs.Prelude.{◌≡◌, IfOk};
 ghost use Rattle.sig_base.specs.Answers.{Answers};
 ghost use Rattle.sig_checked_bundle.specs.Content.{signature_among, digests_in, envelope_content, message_content};
 ghost use Rattle.sig_checked_bundle.specs.Content.{content_with_signature};
-ghost use Rattle.sig_checked_bundle.specs.Borrowed.{borrowed_now, seen_content};
+ghost use Rattle.sig_checked_bundle.specs.SeenValues.{borrowed_now, seen_content};
 
 use crate::bundle_error::BundleErrorKind;
 use sig_base::{Bytes, OutOfMemory, Text};
@@ -36,34 +36,36 @@ pub enum CheckedContent {
 /// A signature, and what it has to be over.
 #[derive(Drop)]
 pub(crate) struct ContentWithSignature {
-    /// The signature itself.
     pub(crate) signature: Bytes,
-    /// What it has to be over.
+    /// What the signature has to be over.
     pub(crate) content: CheckedContent,
 }
 
-/// The one signature. Fails with `DsseInvalidSignatureCount` and their number if and only if there is not one.
-fn only_signature(signatures: &DsseSignatures) -> Result<&DsseSignature, BundleErrorKind>
-    ensures { borrowed_now result ≡ signature_among signatures.now }
+/// The content. Fails with `SignatureMissing` if and only if there is none; then with the error of the envelope.
+pub(crate) fn checked_content(
+    alloc: Global,
+    content: &Option<Content>,
+) -> Result<ContentWithSignature, BundleErrorKind>
+    ensures { Answers BundleErrorKind.OutOfMemory seen_content result (content_with_signature content.now) }
 {
-    match signatures.only() {
-        Some(signature) => Ok(signature),
-        None => Err(BundleErrorKind::DsseInvalidSignatureCount(signatures.len())),
+    match content {
+        Some(Content::MessageSignature(message)) => Ok(checked_message(alloc, message)?),
+        Some(Content::DsseEnvelope(envelope)) => checked_envelope(alloc, envelope),
+        None => Err(BundleErrorKind::SignatureMissing),
     }
 }
 
-/// The digests of the statement's subjects. Fails with `DssePayloadDecode` if the payload is not a statement, then as
-/// [`recognized_digests`](sig_dsse::recognized_digests), under the names of a bundle.
-#[tactic(auto, using(crate::proofs::PayloadDigests::payload_digests))]
-fn subject_digests(alloc: Global, payload: &[u8]) -> Result<Digests, BundleErrorKind>
-    ensures { Answers BundleErrorKind.OutOfMemory (λ digests. digests) result (digests_in payload.now) }
+/// The content of a signature over an artifact. Fails only if out of memory.
+fn checked_message(
+    alloc: Global,
+    message: &MessageSignature,
+) -> Result<ContentWithSignature, OutOfMemory>
+    ensures { IfOk result (λ made. seen_content made ≡ message_content message.now) }
 {
-    match payload_digests(alloc, payload) {
-        Ok(digests) => Ok(digests),
-        Err(PayloadFault::NoStatement) => Err(BundleErrorKind::DssePayloadDecode),
-        Err(PayloadFault::Subjects(fault)) => Err(BundleErrorKind::from(fault)),
-        Err(PayloadFault::OutOfMemory) => Err(BundleErrorKind::OutOfMemory),
-    }
+    Ok(ContentWithSignature {
+        signature: message.signature.copy(alloc)?,
+        content: CheckedContent::MessageSignature,
+    })
 }
 
 /// The content of an envelope. Fails with `DsseInvalidSignatureCount` if it has not one signature, then with the error
@@ -92,29 +94,26 @@ fn checked_envelope(
     })
 }
 
-/// The content of a signature over an artifact. Fails only if out of memory.
-fn checked_message(
-    alloc: Global,
-    message: &MessageSignature,
-) -> Result<ContentWithSignature, OutOfMemory>
-    ensures { IfOk result (λ made. seen_content made ≡ message_content message.now) }
+/// The one signature. Fails with `DsseInvalidSignatureCount` and their number if and only if there is not one.
+fn only_signature(signatures: &DsseSignatures) -> Result<&DsseSignature, BundleErrorKind>
+    ensures { borrowed_now result ≡ signature_among signatures.now }
 {
-    Ok(ContentWithSignature {
-        signature: message.signature.copy(alloc)?,
-        content: CheckedContent::MessageSignature,
-    })
+    match signatures.only() {
+        Some(signature) => Ok(signature),
+        None => Err(BundleErrorKind::DsseInvalidSignatureCount(signatures.len())),
+    }
 }
 
-/// The content. Fails with `SignatureMissing` if and only if there is none; then with the error of the envelope.
-pub(crate) fn checked_content(
-    alloc: Global,
-    content: &Option<Content>,
-) -> Result<ContentWithSignature, BundleErrorKind>
-    ensures { Answers BundleErrorKind.OutOfMemory seen_content result (content_with_signature content.now) }
+/// The digests of the statement's subjects. Fails with `DssePayloadDecode` if the payload is not a statement, then as
+/// [`recognized_digests`](sig_dsse::recognized_digests), under the names of a bundle.
+#[tactic(auto, using(crate::proofs::PayloadDigests::payload_digests))]
+fn subject_digests(alloc: Global, payload: &[u8]) -> Result<Digests, BundleErrorKind>
+    ensures { Answers BundleErrorKind.OutOfMemory (λ digests. digests) result (digests_in payload.now) }
 {
-    match content {
-        Some(Content::MessageSignature(message)) => Ok(checked_message(alloc, message)?),
-        Some(Content::DsseEnvelope(envelope)) => checked_envelope(alloc, envelope),
-        None => Err(BundleErrorKind::SignatureMissing),
+    match payload_digests(alloc, payload) {
+        Ok(digests) => Ok(digests),
+        Err(PayloadFault::NoStatement) => Err(BundleErrorKind::DssePayloadDecode),
+        Err(PayloadFault::Subjects(fault)) => Err(BundleErrorKind::from(fault)),
+        Err(PayloadFault::OutOfMemory) => Err(BundleErrorKind::OutOfMemory),
     }
 }

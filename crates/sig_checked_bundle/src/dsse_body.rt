@@ -40,7 +40,7 @@ struct DsseSpec {
     signature: BodySignature,
 }
 
-/// The hash of a part.
+/// The hash of the envelope or of its payload, and the name of its algorithm.
 #[derive(Drop)]
 struct HashedPart {
     algorithm: Text,
@@ -161,18 +161,6 @@ impl BodySignature {
 }
 
 impl DsseBody {
-    /// Whether the entry is about an envelope of this text and payload, with this signature, which the certificate of
-    /// this PEM verifies.
-    fn is_about(&self, envelope: &[u8], payload: &[u8], signature: &[u8], pem: &[u8]) -> bool
-        ensures { IsTrue result ↔ (self.now ≡ body_about envelope.now payload.now signature.now pem.now) }
-    {
-        self.kind.as_str() == "dsse"
-            && self.api_version.as_str() == "0.0.1"
-            && self.spec.envelope_hash.is_of(envelope)
-            && self.spec.payload_hash.is_of(payload)
-            && self.spec.signature.is_of(signature, pem)
-    }
-
     /// The same for the certificate of this DER. Fails only if out of memory.
     fn is_about_signed(
         &self,
@@ -188,16 +176,17 @@ impl DsseBody {
         let pem = der_to_pem(alloc, certificate)?;
         Ok(self.is_about(envelope, payload, signature, pem.as_str().as_bytes()))
     }
-}
 
-/// What the body of an entry says. `None` if it is not a document of these members.
-fn read_body(alloc: Global, body: &[u8]) -> Result<Option<DsseBody>, OutOfMemory>
-    ensures { IfOk result (λ found. found ≡ result_ok (record_in dsse_body_of body.now)) }
-{
-    match read_record::<DsseBodyReader>(alloc, body) {
-        Ok(found) => Ok(Some(found)),
-        Err(JsonError::NotJson | JsonError::Float | JsonError::Member) => Ok(None),
-        Err(JsonError::OutOfMemory) => Err(OutOfMemory),
+    /// Whether the entry is about an envelope of this text and payload, with this signature, which the certificate of
+    /// this PEM verifies.
+    fn is_about(&self, envelope: &[u8], payload: &[u8], signature: &[u8], pem: &[u8]) -> bool
+        ensures { IsTrue result ↔ (self.now ≡ body_about envelope.now payload.now signature.now pem.now) }
+    {
+        self.kind.as_str() == "dsse"
+            && self.api_version.as_str() == "0.0.1"
+            && self.spec.envelope_hash.is_of(envelope)
+            && self.spec.payload_hash.is_of(payload)
+            && self.spec.signature.is_of(signature, pem)
     }
 }
 
@@ -224,5 +213,16 @@ pub fn is_about_envelope(
             drop(found);
             is_about
         }
+    }
+}
+
+/// What the body of an entry says. `None` if it is not a document of these members.
+fn read_body(alloc: Global, body: &[u8]) -> Result<Option<DsseBody>, OutOfMemory>
+    ensures { IfOk result (λ found. found ≡ result_ok (record_in dsse_body_of body.now)) }
+{
+    match read_record::<DsseBodyReader>(alloc, body) {
+        Ok(found) => Ok(Some(found)),
+        Err(JsonError::NotJson | JsonError::Float | JsonError::Member) => Ok(None),
+        Err(JsonError::OutOfMemory) => Err(OutOfMemory),
     }
 }

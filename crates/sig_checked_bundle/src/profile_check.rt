@@ -2,7 +2,7 @@
 
 ghost use Rattle.std.specs.Prelude.{◌≡◌, ◌⊎◌};
 ghost use Rattle.sig_base.specs.Answers.{Answers};
-ghost use Rattle.sig_checked_bundle.specs.Borrowed.{borrowed_now};
+ghost use Rattle.sig_checked_bundle.specs.SeenValues.{borrowed_now};
 ghost use Rattle.sig_checked_bundle.specs.Profile.{entry_among, lacks_proof, lacks_promise, lacks, meets_profile};
 
 use crate::bundle_error::{
@@ -24,50 +24,6 @@ pub(crate) fn entry_among(entries: &LogEntries) -> Result<&TransparencyLogEntry,
     }
 }
 
-/// What a log entry with this inclusion proof lacks of a proof with a checkpoint.
-fn lacks_proof(proof: &Option<ProofFields>) -> Option<BundleProfileErrorKind>
-    ensures { result ≡ lacks_proof proof.now }
-{
-    match proof {
-        None => Some(Bundle02ProfileErrorKind::InclusionProofMissing.into()),
-        Some(proof) if proof.checkpoint.is_none() => Some(
-            Bundle02ProfileErrorKind::CheckpointMissing.into(),
-        ),
-        Some(_) => None,
-    }
-}
-
-/// What a log entry with this promise lacks of the log's promise to include it.
-fn lacks_promise(promise: &Option<Bytes>) -> Option<BundleProfileErrorKind>
-    ensures { result ≡ lacks_promise promise.now }
-{
-    match promise {
-        None => Some(Bundle01ProfileErrorKind::InclusionPromiseMissing.into()),
-        Some(_) => None,
-    }
-}
-
-/// The first that a log entry lacks of what the version demands.
-fn lacks(version: Version, entry: &TransparencyLogEntry) -> Option<BundleProfileErrorKind>
-    ensures { result ≡ lacks version entry.now }
-{
-    match version {
-        Version::Bundle0_1 => lacks_promise(&entry.inclusion_promise),
-        Version::Bundle0_2 | Version::Bundle0_3 => lacks_proof(&entry.inclusion_proof),
-    }
-}
-
-/// The error for a media type that names no version: `Unknown` with its text, unless memory runs out.
-fn unknown(alloc: Global, media_type: &Text) -> BundleErrorKind
-    ensures { (result ≡ BundleErrorKind.OutOfMemory)
-        ⊎ (result ≡ BundleErrorKind.BundleProfile (BundleProfileErrorKind.Unknown media_type.now)) }
-{
-    match media_type.copy(alloc) {
-        Ok(copied) => BundleErrorKind::from(BundleProfileErrorKind::Unknown(copied)),
-        Err(error) => BundleErrorKind::from(error),
-    }
-}
-
 /// Whether the entry has what the media type demands: under version 0.1 the log's promise to include it, under 0.2 and
 /// 0.3 an inclusion proof with a checkpoint.
 ///
@@ -86,5 +42,49 @@ pub(crate) fn meets_profile(
             Some(lacking) => Err(BundleErrorKind::from(lacking)),
         },
         Err(()) => Err(unknown(alloc, media_type)),
+    }
+}
+
+/// The first that a log entry lacks of what the version demands.
+fn lacks(version: Version, entry: &TransparencyLogEntry) -> Option<BundleProfileErrorKind>
+    ensures { result ≡ lacks version entry.now }
+{
+    match version {
+        Version::Bundle0_1 => lacks_promise(&entry.inclusion_promise),
+        Version::Bundle0_2 | Version::Bundle0_3 => lacks_proof(&entry.inclusion_proof),
+    }
+}
+
+/// What a log entry with this promise lacks of the log's promise to include it.
+fn lacks_promise(promise: &Option<Bytes>) -> Option<BundleProfileErrorKind>
+    ensures { result ≡ lacks_promise promise.now }
+{
+    match promise {
+        None => Some(Bundle01ProfileErrorKind::InclusionPromiseMissing.into()),
+        Some(_) => None,
+    }
+}
+
+/// What a log entry with this inclusion proof lacks of a proof with a checkpoint.
+fn lacks_proof(proof: &Option<ProofFields>) -> Option<BundleProfileErrorKind>
+    ensures { result ≡ lacks_proof proof.now }
+{
+    match proof {
+        None => Some(Bundle02ProfileErrorKind::InclusionProofMissing.into()),
+        Some(proof) if proof.checkpoint.is_none() => Some(
+            Bundle02ProfileErrorKind::CheckpointMissing.into(),
+        ),
+        Some(_) => None,
+    }
+}
+
+/// The error for a media type that names no version: `Unknown` with its text, unless memory runs out.
+fn unknown(alloc: Global, media_type: &Text) -> BundleErrorKind
+    ensures { (result ≡ BundleErrorKind.OutOfMemory)
+        ⊎ (result ≡ BundleErrorKind.BundleProfile (BundleProfileErrorKind.Unknown media_type.now)) }
+{
+    match media_type.copy(alloc) {
+        Ok(copied) => BundleErrorKind::from(BundleProfileErrorKind::Unknown(copied)),
+        Err(error) => BundleErrorKind::from(error),
     }
 }

@@ -1,12 +1,11 @@
 //! The signing certificate of a bundle: the first of its certificates, which has to be a leaf, and after which there
 //! is not a root. The further ones are at most 16. No signature by any of their keys is checked here.
 
-ghost use Rattle.std.specs.Prelude.{◌≡◌, ◌∷◌, IfOk, IfErr, Some, option_map};
+ghost use Rattle.std.specs.Prelude.{◌≡◌, IfOk, IfErr, option_map};
 ghost use Rattle.std.specs.List.{list_any};
 ghost use Rattle.sig_bundle.specs.AnswersOnly.{AnswersOnly};
-ghost use Rattle.sig_checked_bundle.specs.Borrowed.{AreUnreadBehind, IsUnreadAt};
-ghost use Rattle.sig_checked_bundle.specs.SigningCertificate.{IsLeafAmong, IsLeafOf, IsSigningCertificate};
-ghost use Rattle.sig_checked_bundle.specs.SigningCertificate.{encodings_in, is_root, leaf_among};
+ghost use Rattle.sig_checked_bundle.specs.SeenValues.{AreUnreadBehind, IsUnreadAt};
+ghost use Rattle.sig_checked_bundle.specs.SigningCertificate.{IsSigningCertificate, encodings_in, is_root};
 ghost use Rattle.sig_certificate.specs.Certificate.{IsCertificate};
 ghost use Rattle.sig_certificate.specs.Certificates.{AreCertificates};
 
@@ -30,6 +29,47 @@ pub(crate) struct SigningChain {
     pub(crate) further: OwnedList<Certificate>,
 }
 
+/// Returns the signing certificate with the further ones: the links `material` to `root-in-chain`, in order.
+///
+/// Fails with `VerificationMaterialContentUnsupported` if and only if the material holds no certificates: no content,
+/// or a hint at a key; then with `TooManyCertificates` and their number if there are more than 17, of which none is
+/// read; with `CertificateMalformed` and the index of the first that cannot be read, `CertificatesMissing` if a chain
+/// is empty, `NoLeaf` if the first is not a leaf, and `RootInChain` if a further one is a root.
+pub(crate) fn signing_chain(
+    alloc: Global,
+    content: &Option<MaterialContent>,
+) -> Result<SigningChain, BundleErrorKind>
+    ensures { AnswersOnly BundleErrorKind.OutOfMemory (IsSigningCertificate content.now) result }
+{
+    // Bytes are at most one certificate.
+    certificates();
+    // The link `material`.
+    let Some(ders) = encodings(content) else {
+        return Err(BundleErrorKind::VerificationMaterialContentUnsupported);
+    };
+    // The link `certificate`.
+    if ders.len() > MOST_CERTIFICATES {
+        return Err(BundleErrorKind::TooManyCertificates(ders.len()));
+    }
+    let Some((first, others)) = ders.split_first() else {
+        return Err(BundleErrorKind::CertificatesMissing);
+    };
+    let certificate = read_certificate(alloc, 0, first.as_slice())?;
+    let further = read_further(alloc, others)?;
+    // The link `leaf`.
+    if let Err(refusal) = is_leaf(&certificate) {
+        return Err(BundleErrorKind::NoLeaf(refusal));
+    }
+    // The link `root-in-chain`.
+    if has_root(further.as_slice()) {
+        return Err(BundleErrorKind::RootInChain);
+    }
+    Ok(SigningChain {
+        certificate,
+        further,
+    })
+}
+
 /// The encodings (DER) of the certificates, the signing one first. `None` if and only if there are none to read: no
 /// content, or a hint at a key.
 fn encodings(content: &Option<MaterialContent>) -> Option<&[Bytes]>
@@ -42,7 +82,7 @@ fn encodings(content: &Option<MaterialContent>) -> Option<&[Bytes]>
     }
 }
 
-/// The certificate at this index. Fails with `CertificateMalformed` and the index if the bytes are none.
+/// The certificate at this index. Fails with `CertificateMalformed` and the index if it cannot be read.
 fn read_certificate(alloc: Global, index: usize, der: &[u8]) -> Result<Certificate, BundleErrorKind>
     ensures found { IfOk result (IsCertificate der.now) }
     ensures refused { IfErr result (IsUnreadAt index der.now) }
@@ -55,7 +95,7 @@ fn read_certificate(alloc: Global, index: usize, der: &[u8]) -> Result<Certifica
 }
 
 /// The further certificates, of these encodings after the first. Fails with `CertificateMalformed` and the index of the
-/// first that is none.
+/// first that cannot be read.
 fn read_further(alloc: Global, ders: &[Bytes]) -> Result<OwnedList<Certificate>, BundleErrorKind>
     ensures found { IfOk result (AreCertificates ders.now) }
     ensures refused { IfErr result (AreUnreadBehind ders.now) }
@@ -68,12 +108,6 @@ fn read_further(alloc: Global, ders: &[Bytes]) -> Result<OwnedList<Certificate>,
     Ok(further)
 }
 
-fn is_root(certificate: &Certificate) -> bool
-    ensures { result ≡ is_root certificate.now }
-{
-    is_root_ca(certificate).is_ok()
-}
-
 /// Whether any is a root.
 fn has_root(certificates: &[Certificate]) -> bool
     ensures { result ≡ list_any is_root certificates.now }
@@ -81,68 +115,8 @@ fn has_root(certificates: &[Certificate]) -> bool
     certificates.iter().any(|certificate| is_root(certificate))
 }
 
-/// The certificates. Fails with `NoLeaf` if the first is not a leaf, then with `RootInChain` if a further one is a
-/// root.
-#[tactic(auto, using(crate::proofs::SigningCertificateLaws::judgements))]
-fn judged(
-    certificate: Certificate,
-    further: OwnedList<Certificate>,
-) -> Result<SigningChain, BundleErrorKind>
-    ensures { result ≡ leaf_among (certificate ∷ further) }
+fn is_root(certificate: &Certificate) -> bool
+    ensures { result ≡ is_root certificate.now }
 {
-    if let Err(refusal) = is_leaf(&certificate) {
-        return Err(BundleErrorKind::NoLeaf(refusal));
-    }
-    if has_root(further.as_slice()) {
-        return Err(BundleErrorKind::RootInChain);
-    }
-    Ok(SigningChain {
-        certificate,
-        further,
-    })
-}
-
-/// The certificates of these encodings. Fails with `CertificateMalformed` and the index of the first that is none, then
-/// with `CertificatesMissing` if there is none, `NoLeaf` and `RootInChain`.
-fn chain_of(alloc: Global, ders: &[Bytes]) -> Result<SigningChain, BundleErrorKind>
-    ensures { AnswersOnly BundleErrorKind.OutOfMemory (IsLeafOf ders.now) result }
-{
-    // Bytes are at most one certificate.
-    certificates();
-    let Some((first, others)) = ders.split_first() else {
-        return Err(BundleErrorKind::CertificatesMissing);
-    };
-    let certificate = read_certificate(alloc, 0, first.as_slice())?;
-    let further = read_further(alloc, others)?;
-    judged(certificate, further)
-}
-
-/// The certificates of these encodings. Fails with `TooManyCertificates` and their number if there are more than 17,
-/// and then as [`chain_of`].
-#[tactic(auto, using(crate::proofs::SigningCertificateLaws::counts))]
-fn counted(alloc: Global, ders: &[Bytes]) -> Result<SigningChain, BundleErrorKind>
-    ensures { AnswersOnly BundleErrorKind.OutOfMemory (IsLeafAmong (Some ders.now)) result }
-{
-    if ders.len() > MOST_CERTIFICATES {
-        return Err(BundleErrorKind::TooManyCertificates(ders.len()));
-    }
-    chain_of(alloc, ders)
-}
-
-/// Returns the signing certificate with the further ones.
-///
-/// Fails with `VerificationMaterialContentUnsupported` if and only if the material holds no certificates: no content,
-/// or a hint at a key; then with `TooManyCertificates` and their number if there are more than 17, of which none is
-/// read; with `CertificateMalformed` and the index of the first that is none, `CertificatesMissing` if a chain is empty,
-/// `NoLeaf` if the first is not a leaf, and `RootInChain` if a further one is a root.
-pub(crate) fn signing_chain(
-    alloc: Global,
-    content: &Option<MaterialContent>,
-) -> Result<SigningChain, BundleErrorKind>
-    ensures { AnswersOnly BundleErrorKind.OutOfMemory (IsSigningCertificate content.now) result }
-{
-    match encodings(content) {
-        Some(ders) => counted(alloc, ders),
-        None => Err(BundleErrorKind::VerificationMaterialContentUnsupported),
-    }
+    is_root_ca(certificate).is_ok()
 }

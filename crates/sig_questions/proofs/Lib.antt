@@ -14,9 +14,9 @@ pub mod Shortcuts
 pub mod Shorter
 pub mod EachMatters
 pub mod ListedQuestions
-pub mod Writing
+pub mod RowSteps
 pub mod Fronts
-pub mod Named
+pub mod LogKeyRows
 pub mod Trusts
 pub mod Calls
 pub mod Orderings

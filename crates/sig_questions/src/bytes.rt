@@ -10,7 +10,8 @@ pub(crate) fn is_read_certificate(bundle: &CheckedBundle)
     ensures { IsReadCertificate bundle.now }
 {
     let certificate = bundle.certificate();
-    // What was read of a certificate is of its DER, which is bytes.
+    // What was read of a certificate is of its DER.
     certificate.is_certificate();
+    // The DER is bytes.
     are_bytes(certificate.der());
 }

@@ -16,7 +16,7 @@ use sig_key::{KeyKind, key_kind};
 use sig_rekor::{CheckpointSignature, ParseCheckpointError, SignedNote};
 use std::alloc::Global;
 
-/// A key of a log.
+/// The key of an entry's log: its scheme, and its SubjectPublicKeyInfo (DER).
 #[derive(Clone, Copy)]
 struct LogKey<'a> {
     scheme: VerifyScheme,

@@ -231,17 +231,6 @@ fn list_checked(
     }
 }
 
-/// Out of memory, which is the only error of a bundle that passes its own checks.
-fn memory_of(error: BundleErrorKind) -> NoQuestions
-    requires { error ≡ BundleErrorKind.OutOfMemory }
-    ensures { result ≡ NoQuestions.OutOfMemory }
-{
-    match error {
-        BundleErrorKind::OutOfMemory => NoQuestions::OutOfMemory,
-        _ => unreachable!(),
-    }
-}
-
 /// The rows.
 fn list(
     alloc: Global,
@@ -317,4 +306,15 @@ fn push_last(
 {
     push_content(rows, alloc, bundle, digest)?;
     push_entry(rows, alloc, bundle.entry(), log_keys)
+}
+
+/// Out of memory, which is the only error of a bundle that passes its own checks.
+fn memory_of(error: BundleErrorKind) -> NoQuestions
+    requires { error ≡ BundleErrorKind.OutOfMemory }
+    ensures { result ≡ NoQuestions.OutOfMemory }
+{
+    match error {
+        BundleErrorKind::OutOfMemory => NoQuestions::OutOfMemory,
+        _ => unreachable!(),
+    }
 }

@@ -22,21 +22,6 @@ pub(crate) fn push_certificates(
     push_further(rows, alloc, &paths.further, &paths.signers)
 }
 
-/// The rows of the signatures of intermediates, in order.
-fn push_further(
-    rows: &mut Rows,
-    alloc: Global,
-    further: &[Signed<'_>],
-    signers: &[Signer<'_>],
-) -> Result<(), NoQuestions>
-    ensures { AddsRows rows.old (flat_map (rows_of_signed signers.now) further.now) result rows.new }
-{
-    'further: for signed in further {
-        push_signed(rows, alloc, signed, signers)?;
-    }
-    Ok(())
-}
-
 /// The rows of a signature under the keys of all who may have signed, in order.
 fn push_signed(
     rows: &mut Rows,
@@ -74,4 +59,19 @@ fn push_signature(
             signature: signed.certificate.signature(),
         },
     )
+}
+
+/// The rows of the signatures of intermediates, in order.
+fn push_further(
+    rows: &mut Rows,
+    alloc: Global,
+    further: &[Signed<'_>],
+    signers: &[Signer<'_>],
+) -> Result<(), NoQuestions>
+    ensures { AddsRows rows.old (flat_map (rows_of_signed signers.now) further.now) result rows.new }
+{
+    'further: for signed in further {
+        push_signed(rows, alloc, signed, signers)?;
+    }
+    Ok(())
 }

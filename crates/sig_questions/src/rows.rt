@@ -14,7 +14,7 @@ pub(crate) struct Rows {
     pub(crate) room: usize,
 }
 
-/// The parts of a row.
+/// A row before it is copied.
 #[derive(Clone, Copy)]
 pub(crate) struct RowParts<'a> {
     pub(crate) operation: Operation,

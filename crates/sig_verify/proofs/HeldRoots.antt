@@ -130,10 +130,10 @@ module _ (k : Checker) (policy : PolicyOf) (held : HeldRoot) (d : ArtifactDigest
   no_trust root now (Err fault) e given is =
       inl (fault_error fault, given, ap Err (sym (err_is {A = Trust} (of_root (fault_error fault)) e is)))
 
-  pub root_failed : (e : OfflineError) → trust_answer held ≡ Err e → Steps (Err e)
-  root_failed e is = inr (λ root now given. no_trust root now held.trust e given is)
+  pub root_failed : (e : OfflineError) → ◌≡◌ {A = Result Trust OfflineError} (Err e) (trust_answer held) → Steps (Err e)
+  root_failed e is = inr (λ root now given. no_trust root now held.trust e given (sym is))
 
-  module _ (trust : Trust) (there : trust_answer held ≡ Ok trust) where
+  module _ (trust : Trust) (there : ◌≡◌ {A = Result Trust OfflineError} (Ok trust) (trust_answer held)) where
     by_trust : (root : TrustedRoot) (now : ℤ) (found : Result Trust RootFault) (result : Outcome)
         → IsTrustOf root now found → from_fault found ≡ Ok trust
         → IsOfflineFrom k policy trust.verifier trust.log_keys d b result → IsOfflineOf k policy root now d b result
@@ -148,7 +148,7 @@ module _ (k : Checker) (policy : PolicyOf) (held : HeldRoot) (d : ArtifactDigest
         )
 
     under : (result : Outcome) → IsOfflineFrom k policy trust.verifier trust.log_keys d b result → Steps result
-    under result from = inr (λ root now given. by_trust root now held.trust result given there from)
+    under result from = inr (λ root now given. by_trust root now held.trust result given (sym there) from)
 
     failed : (answer : Answer) (e : OfflineError) → (let r : Result (Unit {0}) OfflineError = Err e in r ≡ renamed answer)
         → AfterAnswer answer (IsVouchedIn k.spki trust.log_keys b) (Err e)

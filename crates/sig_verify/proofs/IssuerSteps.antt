@@ -1,4 +1,4 @@
--- What is judged is the SCT that the certificate carries.
+-- What is judged is the SCT that the certificate carries; and what contracts see of verifiers and bundles.
 use Rattle.std.proofs.Common.{◌≡◌, ℕ, List, Result, Ok, Err, inl, inr, sym, subst, ap, ◌∙◌}
 use Rattle.sig_base.specs.Answers.{Answers, OrMemory}
 use Rattle.sig_base.specs.ResultSteps.{◌>>=◌}
@@ -12,12 +12,9 @@ use Rattle.sig_timestamp.specs.declared.sct_error.SCTError.{SCTError}
 use Rattle.sig_timestamp.specs.declared.sct_error.SCTError.TheVariants.{OutOfMemory}
 use Rattle.sig_timestamp.specs.declared.signed.DigitallySigned.{DigitallySigned}
 use Rattle.sig_timestamp.specs.Vouched.{AcceptsPoint}
-use Rattle.sig_x509.specs.Issuance.{Accepts}
-use Rattle.sig_x509.specs.Pool.{pool_over}
 use Rattle.sig_verify.specs.Errors.{of_sct}
-use Rattle.sig_verify.specs.IssuerCheck.{from_sct, issued_with, issuer_spki, sct_answer}
+use Rattle.sig_verify.specs.IssuerCheck.{from_sct, sct_answer}
 use Rattle.sig_verify.specs.Verifier.{Trusted}
-use Rattle.sig_verify.specs.declared.error.VerificationError.{VerificationError}
 use Rattle.sig_verify.specs.declared.error.VerificationError.TheVariants as verification
 
 pub sct_judged : (accepts : AcceptsPoint) (ring : List (List ℕ × RingKey)) (c : Cert) (spki : List ℕ)
@@ -31,45 +28,31 @@ sct_judged accepts ring c spki embedded signed r read same answer =
     (λ (d : DigitallySigned). judged accepts d ring) (sym same)) in
     subst (λ (meant : Result (Unit {0}) SCTError). Answers OutOfMemory (λ (done : Unit {0}). done) r meant) is answer
 
--- ---- the issuer, and then the SCT
+-- the result as a verifier's
+pub sct_renamed : (accepts : AcceptsPoint) (ring : List (List ℕ × RingKey)) (c : Cert) (spki : List ℕ) (e : SCTError)
+    → OrMemory OutOfMemory e (sct_answer accepts ring c spki ≡ Err e)
+    → OrMemory verification.OutOfMemory (of_sct e) (from_sct (sct_answer accepts ring c spki) ≡ Err (of_sct e))
+sct_renamed accepts ring c spki e (inl memory) = inl (ap of_sct memory)
+sct_renamed accepts ring c spki e (inr is) = inr (ap from_sct is)
 
-module _ (accepts : Accepts) (accepts_point : AcceptsPoint) (anchors : List Cert) (ring : List (List ℕ × RingKey))
-    (trusted : Trusted) (same : ◌≡◌ {A = Trusted} (record { anchors = anchors; ring = ring }) trusted)
-    (further : List Cert) (c : Cert) (checked : Checked) (of_leaf : c ≡ checked.certificate)
-    (of_further : further ≡ checked.further) where
-  abbrev found : Result (List ℕ) VerificationError
-  found = issuer_spki accepts (pool_over anchors further) c
+-- ---- what contracts see
 
-  abbrev MeantOf : Trusted → List Cert → Cert → Result (Unit {0}) VerificationError → Type 0
-  MeantOf t cs x r = Answers verification.OutOfMemory (λ (done : Unit {0}). done) r (issued_with accepts accepts_point
-      t cs x)
+-- what holds of the verifier's own trust anchors and keys, and of the certificates that are borrowed of a bundle, holds
+-- of what contracts see of both
+pub seen : (anchors : List Cert) (ring : List (List ℕ × RingKey)) (trusted : Trusted)
+    → ◌≡◌ {A = Trusted} (record { anchors = anchors; ring = ring }) trusted → (further : List Cert) (c : Cert)
+    (checked : Checked) → c ≡ checked.certificate → further ≡ checked.further
+    → (P : List Cert → List (List ℕ × RingKey) → List Cert → Cert → Type 0) → P anchors ring further c
+    → P trusted.anchors trusted.ring checked.further checked.certificate
+seen anchors ring trusted same further c checked of_leaf of_further P is =
+    subst (λ (x : Cert). P trusted.anchors trusted.ring checked.further x) of_leaf
+    (subst (λ (cs : List Cert). P trusted.anchors trusted.ring cs c) of_further
+    (subst (λ (t : Trusted). P t.anchors t.ring further c) same is))
 
-  abbrev Meant : Result (Unit {0}) VerificationError → Type 0
-  Meant r = MeantOf trusted checked.further checked.certificate r
-
-  moved : (r : Result (Unit {0}) VerificationError) → MeantOf (record { anchors = anchors; ring = ring }) further c r
-      → Meant r
-  moved r meant =
-      subst (λ (x : Cert). MeantOf trusted checked.further x r) of_leaf
-      (subst (λ (cs : List Cert). MeantOf trusted cs c r) of_further
-      (subst (λ (t : Trusted). MeantOf t further c r) same meant))
-
-  pub no_issuer : (e : VerificationError) → OrMemory verification.OutOfMemory e (found ≡ Err e) → Meant (Err e)
-  no_issuer e (inl memory) = inl memory
-  no_issuer e (inr is) =
-      moved (Err e) (inr (ap (λ (r : Result (List ℕ) VerificationError).
-      r >>= λ spki. from_sct (sct_answer accepts_point ring c spki)) is))
-
-  module _ (spki : List ℕ) (is : found ≡ Ok spki) where
-    after : (found >>= λ key. from_sct (sct_answer accepts_point ring c key))
-        ≡ from_sct (sct_answer accepts_point ring c spki)
-    after =
-        ap (λ (r : Result (List ℕ) VerificationError). r >>= λ key. from_sct (sct_answer accepts_point ring c key)) is
-
-    pub no_sct : (e : SCTError) → OrMemory OutOfMemory e (sct_answer accepts_point ring c spki ≡ Err e)
-        → Meant (Err (of_sct e))
-    no_sct e (inl memory) = inl (ap of_sct memory)
-    no_sct e (inr failed) = moved (Err (of_sct e)) (inr (after ∙ ap from_sct failed))
-
-    pub both_held : sct_answer accepts_point ring c spki ≡ Ok tt → Meant (Ok tt)
-    both_held held = moved (Ok tt) (after ∙ ap from_sct held)
+-- the same of the certificate alone
+pub seen_leaf : (anchors : List Cert) (ring : List (List ℕ × RingKey)) (trusted : Trusted)
+    → ◌≡◌ {A = Trusted} (record { anchors = anchors; ring = ring }) trusted → (c : Cert) (checked : Checked)
+    → c ≡ checked.certificate → (P : List (List ℕ × RingKey) → Cert → Type 0) → P ring c
+    → P trusted.ring checked.certificate
+seen_leaf anchors ring trusted same c checked of_leaf P is =
+    subst (λ (x : Cert). P trusted.ring x) of_leaf (subst (λ (t : Trusted). P t.ring c) same is)

@@ -1,6 +1,6 @@
 -- What was read is bytes, where the law of the outcomes asks for it.
 use Rattle.std.proofs.Common.{◌≡◌, ℕ, zero, suc, ℤ, List, [], ◌∷◌, Some, Result, Ok}
-use Rattle.std.proofs.Common.{Err, IfOk, inl, inr, refl, sym, ap, subst, ◌∙◌}
+use Rattle.std.proofs.Common.{Err, inl, inr, refl, sym, ap, subst, ◌∙◌}
 use Rattle.std.specs.Prelude.{slice_get}
 use Rattle.std.specs.List.{AllByRecursion}
 use Rattle.hex.specs.Hex.{encode_lower}
@@ -26,13 +26,12 @@ use Rattle.sig_root.specs.declared.record.TrustedRoot.{TrustedRoot}
 use Rattle.sig_verify.proofs.CertificateBytes.{read_of_bundle}
 use Rattle.sig_verify.specs.EntryLinks.{HasKeyOfBytes}
 use Rattle.sig_verify.specs.HeldRoot.{IsGivenBy, IsHeldIn, IsHeldOf, IsOfflineUnder}
-use Rattle.sig_verify.specs.Judged.{Judged}
-use Rattle.sig_verify.specs.Links.{HoldsOf, Inputs, OfPassed, Outside, chain_links}
-use Rattle.sig_verify.specs.LinkLaws.{IsKept}
+use Rattle.sig_verify.specs.Links.{Inputs, Outside}
 use Rattle.sig_verify.specs.OfflineLaws.{AreReadInputs, HasEntryOfBytes, IsOfBundleOfBytes, IsOutcomeOf}
 use Rattle.sig_verify.specs.OfflineLaws.{OutcomesAreJudged}
 use Rattle.sig_verify.specs.OfflineErrors.{link_of}
-use Rattle.sig_verify.specs.OfflineVerdict.{AfterRead, IsOffline, IsOfflineIn, IsOfflineOf, Outcome, only_entry_among}
+use Rattle.sig_verify.specs.OfflineVerdict.{AfterRead, IsOfflineIn, IsOfflineOf, Outcome, only_entry_among}
+use Rattle.sig_verify.specs.Outcome.{GoesBySteps, KeepsEntry, ShowsFirstLink, inputs_of}
 use Rattle.sig_verify.specs.RootLinks.{rekor_keys}
 use Rattle.sig_verify.specs.Verdict.{Checker, PolicyOf}
 use Rattle.sig_verify.specs.declared.held_root.HeldRoot.{HeldRoot}
@@ -103,7 +102,7 @@ are_read i root root_is all bytes = record {
 -- ---- the outcome of each text of which a root is held
 
 abbrev pub inputs : List ℕ → ℤ → ArtifactDigest → List ℕ → Inputs
-inputs root now d bundle = record { root = root; now = now; digest = d; bundle = bundle }
+inputs root now d bundle = inputs_of root now d bundle
 
 -- the bundle was read
 pub bundle_read : (text : List ℕ) (b : BundleType) (Next : BundleType → Outcome → Type 0) (result : Outcome)
@@ -124,7 +123,7 @@ module _ (o : Outside) (held : HeldRoot) (d : ArtifactDigest) (bundle : List ℕ
     (steps : UnlessMemory OutOfMemory result
     (AfterRead Bundle (bundle_in bundle) (IsOfflineUnder o.checker o.policy held d) result))
     (root : List ℕ) (now : ℤ) (is : IsHeldOf root now held) where
-  pub steps_told : UnlessMemory OutOfMemory result (IsOffline o.checker o.policy root now d bundle result)
+  pub steps_told : GoesBySteps o (inputs root now d bundle) result
   steps_told =
       elim steps [
         | inl memory ↦ inl memory
@@ -147,15 +146,14 @@ module _ (o : Outside) (held : HeldRoot) (d : ArtifactDigest) (bundle : List ℕ
           ]
         ]
 
-    pub links_told : UnlessMemory OutOfMemory result
-        (Judged (HoldsOf o (inputs root now d bundle)) chain_links result)
+    pub links_told : ShowsFirstLink o (inputs root now d bundle) result
     links_told = elim told [ inl memory ↦ inl memory | inr all ↦ inr all.judged ]
 
-    pub kept_told : IfOk result (λ offline. OfPassed (inputs root now d bundle) (λ c. IsKept c.entry offline))
+    pub kept_told : KeepsEntry (inputs root now d bundle) result
     kept_told = kept result told
       where
         kept : (r : Outcome) → UnlessMemory OutOfMemory r (IsOutcomeOf o (inputs root now d bundle) r)
-            → IfOk r (λ offline. OfPassed (inputs root now d bundle) (λ c. IsKept c.entry offline))
+            → KeepsEntry (inputs root now d bundle) r
         kept (Err error) outcome = tt
         kept (Ok offline) (inl memory) = absurd cc
         kept (Ok offline) (inr all) = all.kept offline refl
@@ -164,8 +162,7 @@ module _ (o : Outside) (held : HeldRoot) (d : ArtifactDigest) (bundle : List ℕ
 
 module _ (o : Outside) (root : List ℕ) (now : ℤ) (d : ArtifactDigest) (bundle : List ℕ) (e : OfflineError)
     (unread : (let r : Result HeldRoot OfflineError = Err e in UnlessMemory OutOfMemory r (IsHeldIn root now r))) where
-  pub unread_steps : (let r : Outcome = Err e in
-      UnlessMemory OutOfMemory r (IsOffline o.checker o.policy root now d bundle r))
+  pub unread_steps : GoesBySteps o (inputs root now d bundle) (Err e)
   unread_steps =
       elim unread [
         | inl memory ↦ inl (ap Err (err_is e OutOfMemory memory))
@@ -175,8 +172,7 @@ module _ (o : Outside) (root : List ℕ) (now : ℤ) (d : ArtifactDigest) (bundl
             (ap Err is.2))
       ]
 
-  pub unread_links : (let r : Outcome = Err e in
-      UnlessMemory OutOfMemory r (Judged (HoldsOf o (inputs root now d bundle)) chain_links r))
+  pub unread_links : ShowsFirstLink o (inputs root now d bundle) (Err e)
   unread_links =
       elim unread [
         | inl memory ↦ inl (ap Err (err_is e OutOfMemory memory))

@@ -1,7 +1,7 @@
 -- The parts of inputs that links speak of, apart from what they say of them.
 use Rattle.std.proofs.Common.{◌≡◌, ℕ, List, [], ◌∷◌, Ok, sym, subst, ◌∙◌}
 use Rattle.sig_base.proofs.ResultSteps.{ok_is}
-use Rattle.sig_base.proofs.Zipped.{zip_one}
+use Rattle.sig_base.proofs.PairedLists.{zip_one}
 use Rattle.sig_checked_bundle.proofs.Certificates.{OneCertificate}
 use Rattle.sig_bundle.specs.BundleRecord.{bundle_in}
 use Rattle.sig_checked_bundle.specs.Checked.{Checked}

@@ -14,7 +14,7 @@ use Rattle.sig_checked_bundle.specs.declared.version.Version.{Version}
 use Rattle.sig_certificate.specs.Certificate.{Cert}
 use Rattle.sig_certificate.specs.Certificates.{AreCertificates}
 use Rattle.sig_certificate.specs.Profile.{leaf_refusal}
-use Rattle.sig_dsse.specs.Named.{AreTaken}
+use Rattle.sig_dsse.specs.NamedDigest.{AreTaken}
 use Rattle.sig_dsse.specs.Statement.{Statement, statement_of}
 use Rattle.sig_dsse.specs.declared.artifact_digest.ArtifactDigest.{ArtifactDigest}
 use Rattle.sig_dsse.specs.declared.envelope.DsseEnvelope.{DsseEnvelope}

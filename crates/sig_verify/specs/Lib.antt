@@ -18,6 +18,7 @@ pub mod TrustChain
 pub mod LongerChains
 pub mod LinkLaws
 pub mod OfflineLaws
+pub mod Outcome
 pub mod HeldRoot
 pub mod EntryCauses
 pub mod SctCauses

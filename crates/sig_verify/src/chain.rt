@@ -1,19 +1,18 @@
 //! Whether a signed bundle is trusted, without a network.
-ghost use Rattle.std.specs.Prelude.{◌≡◌, ℕ, ℤ, IfOk, IsSome, List, OnOk};
+ghost use Rattle.std.specs.Prelude.{◌≡◌, ℕ, ℤ, IsSome, List, OnOk};
 ghost use Rattle.sig_base.specs.Answers.{UnlessMemory};
 ghost use Rattle.sig_bundle.specs.BundleRecord.{bundle_in};
 ghost use Rattle.sig_verify.specs.HeldRoot.{IsHeldOf, IsOfflineUnder, IsVerdictUnder};
-ghost use Rattle.sig_verify.specs.Judged.{Judged};
-ghost use Rattle.sig_verify.specs.LinkLaws.{IsKept};
-ghost use Rattle.sig_verify.specs.Links.{HoldsOf, OfPassed, chain_links};
 ghost use Rattle.sig_verify.specs.OfflineLaws.{IsOfBundleOfBytes};
-ghost use Rattle.sig_verify.specs.OfflineVerdict.{AfterRead, IsOffline, IsOfflineOf, IsVouchedIn};
+ghost use Rattle.sig_verify.specs.OfflineVerdict.{AfterRead, IsOfflineOf, IsVouchedIn};
 ghost use Rattle.sig_verify.specs.OfflineVerdict.{borrowed_entry, only_entry_of};
+ghost use Rattle.sig_verify.specs.Outcome.{GoesBySteps, KeepsEntry, ShowsFirstLink, inputs_of, outside_of};
 ghost use Rattle.sig_verify.specs.Verdict.{checker_of, policy_of};
 ghost use Rattle.sig_verify.specs.declared.offline_error.Part.TheVariants.{Bundle as BundlePart};
 
 use crate::held_root::{HeldRoot, Trust};
 use crate::laws::{is_entry_bytes, outcomes};
+use crate::link_inputs::LinkInputs;
 use crate::log_entry::verify_log_entry;
 use crate::logged_entry::LoggedEntry;
 use crate::offline_error::{OfflineError, Part, json_error, verification_error};
@@ -40,22 +39,15 @@ pub fn verify_offline<P: VerificationPolicy, C: SignatureChecker>(
     checker: &C,
 ) -> Result<LoggedEntry, OfflineError>
     // There is a value if and only if every link holds, and an error is that of the first that does not.
-    ensures links { UnlessMemory OfflineError.OutOfMemory result (Judged (HoldsOf
-        (record {
-          checker = checker_of C.SignatureChecker checker.now;
-          policy = policy_of P.VerificationPolicy policy.now;
-        })
-        (record { root = trusted_root.now; now = now; digest = digest.now; bundle = bundle.now })) chain_links
-        result) }
+    ensures links { ShowsFirstLink
+        (outside_of C.SignatureChecker checker.now P.VerificationPolicy policy.now)
+        (inputs_of trusted_root.now now digest.now bundle.now) result }
     // The value is the body of the bundle's log entry, with the proof that its members are.
-    ensures kept { IfOk result (λ offline. OfPassed
-        (record { root = trusted_root.now; now = now; digest = digest.now; bundle = bundle.now })
-        (λ c. IsKept c.entry offline)) }
+    ensures kept { KeepsEntry (inputs_of trusted_root.now now digest.now bundle.now) result }
     // The same by the steps.
-    ensures steps { UnlessMemory OfflineError.OutOfMemory result (IsOffline
-        (checker_of C.SignatureChecker checker.now)
-        (policy_of P.VerificationPolicy policy.now)
-        trusted_root.now now digest.now bundle.now result) }
+    ensures steps { GoesBySteps
+        (outside_of C.SignatureChecker checker.now P.VerificationPolicy policy.now)
+        (inputs_of trusted_root.now now digest.now bundle.now) result }
 {
     let held = HeldRoot::read(alloc, trusted_root, now)?;
     held.verify(alloc, digest, bundle, policy, checker)
@@ -79,7 +71,13 @@ pub fn verify_parts<P: VerificationPolicy, C: SignatureChecker>(
         root.now now digest.now bundle.now result) }
 {
     let held = HeldRoot::new(alloc, root, now)?;
-    held.check_bundle(alloc, digest, bundle, policy, checker)
+    let inputs = LinkInputs {
+        alloc,
+        digest,
+        policy,
+        checker,
+    };
+    held.check_bundle(bundle, &inputs)
 }
 
 impl HeldRoot {
@@ -94,52 +92,48 @@ impl HeldRoot {
         checker: &C,
     ) -> Result<LoggedEntry, OfflineError>
         // There is a value if and only if every link holds, and an error is that of the first that does not.
-        ensures links { (root : List ℕ) (now : ℤ) → IsHeldOf root now self.now
-            → UnlessMemory OfflineError.OutOfMemory result (Judged (HoldsOf
-            (record {
-              checker = checker_of C.SignatureChecker checker.now;
-              policy = policy_of P.VerificationPolicy policy.now;
-            })
-            (record { root = root; now = now; digest = digest.now; bundle = bundle.now })) chain_links result) }
+        ensures links { (root : List ℕ) (now : ℤ) → IsHeldOf root now self.now → ShowsFirstLink
+            (outside_of C.SignatureChecker checker.now P.VerificationPolicy policy.now)
+            (inputs_of root now digest.now bundle.now) result }
         // The value is the body of the bundle's log entry, with the proof that its members are.
-        ensures kept { (root : List ℕ) (now : ℤ) → IsHeldOf root now self.now → IfOk result (λ offline. OfPassed
-            (record { root = root; now = now; digest = digest.now; bundle = bundle.now })
-            (λ c. IsKept c.entry offline)) }
+        ensures kept { (root : List ℕ) (now : ℤ) → IsHeldOf root now self.now
+            → KeepsEntry (inputs_of root now digest.now bundle.now) result }
         // The same by the steps.
-        ensures steps { (root : List ℕ) (now : ℤ) → IsHeldOf root now self.now
-            → UnlessMemory OfflineError.OutOfMemory result (IsOffline
-            (checker_of C.SignatureChecker checker.now)
-            (policy_of P.VerificationPolicy policy.now)
-            root now digest.now bundle.now result) }
+        ensures steps { (root : List ℕ) (now : ℤ) → IsHeldOf root now self.now → GoesBySteps
+            (outside_of C.SignatureChecker checker.now P.VerificationPolicy policy.now)
+            (inputs_of root now digest.now bundle.now) result }
     {
         // What the steps mean, and the bytes that this needs.
         outcomes();
-        self.judge(alloc, digest, bundle, policy, checker)
+        let inputs = LinkInputs {
+            alloc,
+            digest,
+            policy,
+            checker,
+        };
+        self.judge(bundle, &inputs)
     }
 
     /// The links from `bundle-json` on, in order.
     fn judge<P: VerificationPolicy, C: SignatureChecker>(
         &self,
-        alloc: Global,
-        digest: &ArtifactDigest,
         bundle: &[u8],
-        policy: &P,
-        checker: &C,
+        inputs: &LinkInputs<'_, P, C>,
     ) -> Result<LoggedEntry, OfflineError>
         ensures bytes { UnlessMemory OfflineError.OutOfMemory result (IsOfBundleOfBytes bundle.now) }
         ensures steps { UnlessMemory OfflineError.OutOfMemory result (AfterRead BundlePart (bundle_in bundle.now)
             (IsOfflineUnder
-            (checker_of C.SignatureChecker checker.now)
-            (policy_of P.VerificationPolicy policy.now)
-            self.now digest.now) result) }
+            (checker_of C.SignatureChecker inputs.now.checker.now)
+            (policy_of P.VerificationPolicy inputs.now.policy.now)
+            self.now inputs.now.digest.now) result) }
     {
-        // No `?`: what the result says is a fact of each arm.
-        match read_bundle(alloc, bundle) {
+        // A `match`, not `?`: the proof needs what each arm says.
+        match read_bundle(inputs.alloc, bundle) {
             Ok(bundle) => {
                 // Certificate and log entry are bytes.
                 is_certificate_bytes(&bundle);
                 is_entry_bytes(&bundle);
-                self.check_bundle(alloc, digest, &bundle, policy, checker)
+                self.check_bundle(&bundle, inputs)
             }
             Err(error) => Err(json_error(Part::Bundle, error)),
         }
@@ -148,20 +142,17 @@ impl HeldRoot {
     /// The links from `fulcio` on, in order, of a bundle that was read.
     fn check_bundle<P: VerificationPolicy, C: SignatureChecker>(
         &self,
-        alloc: Global,
-        digest: &ArtifactDigest,
         bundle: &Bundle,
-        policy: &P,
-        checker: &C,
+        inputs: &LinkInputs<'_, P, C>,
     ) -> Result<LoggedEntry, OfflineError>
         ensures { UnlessMemory OfflineError.OutOfMemory result (IsOfflineUnder
-            (checker_of C.SignatureChecker checker.now)
-            (policy_of P.VerificationPolicy policy.now)
-            self.now digest.now bundle.now result) }
+            (checker_of C.SignatureChecker inputs.now.checker.now)
+            (policy_of P.VerificationPolicy inputs.now.policy.now)
+            self.now inputs.now.digest.now bundle.now result) }
     {
         let trust = self.check_root()?;
-        trust.check_signed(alloc, digest, bundle, policy, checker)?;
-        trust.check_logged(alloc, bundle, checker)
+        trust.check_signed(bundle, inputs)?;
+        trust.check_logged(bundle, inputs)
     }
 }
 
@@ -169,46 +160,46 @@ impl Trust {
     /// The links `material` to `time`. A bundle of which they hold has one entry.
     fn check_signed<P: VerificationPolicy, C: SignatureChecker>(
         &self,
-        alloc: Global,
-        digest: &ArtifactDigest,
         bundle: &Bundle,
-        policy: &P,
-        checker: &C,
+        inputs: &LinkInputs<'_, P, C>,
     ) -> Result<(), OfflineError>
         ensures verdict { UnlessMemory OfflineError.OutOfMemory result (IsVerdictUnder
-            (checker_of C.SignatureChecker checker.now)
-            (policy_of P.VerificationPolicy policy.now)
-            self.now.verifier digest.now bundle.now result) }
+            (checker_of C.SignatureChecker inputs.now.checker.now)
+            (policy_of P.VerificationPolicy inputs.now.policy.now)
+            self.now.verifier inputs.now.digest.now bundle.now result) }
         ensures logged { OnOk result (IsSome (only_entry_of bundle.now)) }
     {
-        match self
-            .verifier
-            .verify_digest_with(alloc, digest, bundle, policy, true, checker)
-        {
+        match self.verifier.verify_digest_with(
+            inputs.alloc,
+            inputs.digest,
+            bundle,
+            inputs.policy,
+            true,
+            inputs.checker,
+        ) {
             Ok(()) => Ok(()),
             Err(error) => Err(verification_error(error)),
         }
     }
 
     /// The links `log-key` to `inclusion`, of the only entry of a bundle.
-    fn check_logged<C: SignatureChecker>(
+    fn check_logged<P, C: SignatureChecker>(
         &self,
-        alloc: Global,
         bundle: &Bundle,
-        checker: &C,
+        inputs: &LinkInputs<'_, P, C>,
     ) -> Result<LoggedEntry, OfflineError>
         requires { IsSome (only_entry_of bundle.now) }
         ensures { UnlessMemory OfflineError.OutOfMemory result (IsVouchedIn
-            (C.spki_accepts checker.now) self.now.log_keys bundle.now result) }
+            (C.spki_accepts inputs.now.checker.now) self.now.log_keys bundle.now result) }
     {
         let Some(entry) = only_entry_of(bundle) else {
             unreachable!()
         };
-        verify_log_entry(alloc, entry, &self.log_keys, checker)
+        verify_log_entry(inputs.alloc, entry, &self.log_keys, inputs.checker)
     }
 }
 
-/// The only log entry of a bundle.
+/// The log entry, if the bundle has exactly one.
 pub(crate) fn only_entry_of(bundle: &Bundle) -> Option<&TransparencyLogEntry>
     ensures { borrowed_entry result ≡ only_entry_of bundle.now }
 {

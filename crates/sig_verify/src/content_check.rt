@@ -4,62 +4,48 @@ ghost use Rattle.std.specs.List.{list_any};
 ghost use Rattle.sig_base.specs.Answers.{Answers};
 ghost use Rattle.sig_key.specs.Key.{key_accepts};
 ghost use Rattle.sig_key.specs.Kind.{key_parts};
-ghost use Rattle.sig_verify.specs.ContentCheck.{content_answer, is_about, is_same, certificate_key_answer};
-ghost use Rattle.sig_verify.specs.ContentCheck.{signature_answer};
-ghost use Rattle.sig_verify.specs.ContentCheck.{time_answer};
+ghost use Rattle.sig_verify.specs.ContentCheck.{certificate_key_answer, if_about, is_about, is_same};
+ghost use Rattle.sig_verify.specs.ContentCheck.{signature_answer, time_answer};
 
-use crate::error::{CertificateErrorKind, SignatureErrorKind, VerificationError};
+use crate::error::{
+    CertificateErrorKind, SignatureErrorKind, VerificationError, VerificationResult,
+};
+use crate::link_inputs::LinkInputs;
 use sig_base::{SignatureChecker, SigstoreError};
 use sig_bundle::ArtifactDigest;
 use sig_checked_bundle::{CheckedBundle, CheckedContent};
 use sig_key::CosignVerificationKey;
-use sig_x509::Certificate;
 use std::alloc::Global;
 
-/// The links `key`, `signature` and `subject`: whether the certificate's key is of a kind that is checked, its
-/// signature is over the content, and the content is about the artifact of this digest.
-pub(crate) fn check_content<C: SignatureChecker>(
+/// The link `key`: the certificate's key. Fails with `AlgoUnsupported` if and only if it is of a kind that is not
+/// checked.
+pub(crate) fn check_key(
     alloc: Global,
     bundle: &CheckedBundle,
-    digest: &ArtifactDigest,
-    checker: &C,
-) -> Result<(), VerificationError>
-    ensures { Answers VerificationError.OutOfMemory (λ done. done) result
-        (content_answer (C.spki_accepts checker.now) (C.prehash_accepts checker.now) digest.now bundle.now) }
-{
-    let key = certificate_key(alloc, bundle.certificate())?;
-    check_signature(bundle, &key, digest, checker)?;
-    if !is_about(bundle.content(), digest) {
-        return Err(VerificationError::Signature(SignatureErrorKind::SubjectDigestMismatch));
-    }
-    Ok(())
-}
-
-/// The certificate's key. Fails with `AlgoUnsupported` if and only if it is of a kind that is not checked.
-fn certificate_key(
-    alloc: Global,
-    certificate: &Certificate,
 ) -> Result<CosignVerificationKey, VerificationError>
-    ensures { Answers VerificationError.OutOfMemory key_parts result (certificate_key_answer certificate.now.spki) }
+    ensures { Answers VerificationError.OutOfMemory key_parts result
+        (certificate_key_answer bundle.now.certificate.spki) }
 {
-    match CosignVerificationKey::try_from_spki(alloc, certificate.spki()) {
+    match CosignVerificationKey::try_from_spki(alloc, bundle.certificate().spki()) {
         Ok(key) => Ok(key),
         Err(SigstoreError::OutOfMemory) => Err(VerificationError::OutOfMemory),
         Err(_) => Err(VerificationError::Signature(SignatureErrorKind::AlgoUnsupported)),
     }
 }
 
-/// Whether the signature is the key's: over the encoding of an envelope, or over the artifact's SHA-256 digest.
-fn check_signature<C: SignatureChecker>(
+/// The link `signature`: whether the signature is the key's, over the encoding of an envelope, or over the artifact's
+/// SHA-256 digest.
+pub(crate) fn check_signature<P, C: SignatureChecker>(
     bundle: &CheckedBundle,
     key: &CosignVerificationKey,
-    digest: &ArtifactDigest,
-    checker: &C,
-) -> Result<(), VerificationError>
-    ensures { result ≡ signature_answer (key_accepts (C.spki_accepts checker.now) key.now)
-        (key_accepts (C.prehash_accepts checker.now) key.now) digest.now bundle.now.content bundle.now.signature }
+    inputs: &LinkInputs<'_, P, C>,
+) -> VerificationResult
+    ensures { result ≡ signature_answer (key_accepts (C.spki_accepts inputs.now.checker.now) key.now)
+        (key_accepts (C.prehash_accepts inputs.now.checker.now) key.now) inputs.now.digest.now bundle.now.content
+        bundle.now.signature }
 {
-    let accepted = match (bundle.content(), digest) {
+    let checker = inputs.checker;
+    let accepted = match (bundle.content(), inputs.digest) {
         (CheckedContent::Dsse { pae, .. }, _) => {
             key.accepts(bundle.signature(), pae.as_slice(), checker)
         }
@@ -76,6 +62,17 @@ fn check_signature<C: SignatureChecker>(
         Ok(())
     } else {
         Err(VerificationError::Signature(SignatureErrorKind::VerificationFailed))
+    }
+}
+
+/// The link `subject`: whether the content is about the artifact of this digest.
+pub(crate) fn check_subject(bundle: &CheckedBundle, digest: &ArtifactDigest) -> VerificationResult
+    ensures { result ≡ if_about (is_about bundle.now.content digest.now) }
+{
+    if is_about(bundle.content(), digest) {
+        Ok(())
+    } else {
+        Err(VerificationError::Signature(SignatureErrorKind::SubjectDigestMismatch))
     }
 }
 
@@ -112,7 +109,7 @@ fn is_same(one: &ArtifactDigest, other: &ArtifactDigest) -> bool
 }
 
 /// The link `time`: whether the entry was logged within the certificate's validity, both ends included.
-pub(crate) fn check_time(bundle: &CheckedBundle) -> Result<(), VerificationError>
+pub(crate) fn check_time(bundle: &CheckedBundle) -> VerificationResult
     ensures { result ≡ time_answer bundle.now }
 {
     let certificate = bundle.certificate();

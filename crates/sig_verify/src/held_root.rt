@@ -47,6 +47,7 @@ impl HeldRoot {
     {
         match read_trusted_root(alloc, text) {
             Ok(root) => {
+                // The keys of logs are bytes.
                 are_log_key_bytes(root.tlogs.as_slice());
                 let root = SigstoreTrustRoot::of(root);
                 let held = HeldRoot::new(alloc, &root, now)?;
@@ -97,7 +98,7 @@ fn log_keys_of(alloc: Global, root: &SigstoreTrustRoot, now: i64) -> Result<KeyM
     }
 }
 
-/// The link that fails of a trusted root that gives no verifier. Such a root has only these errors.
+/// Which of `fulcio`, `anchor`, `ctfe` fails, by the error of `Verifier::new`. Fails only if out of memory.
 fn fault_of(error: SigstoreError) -> Result<RootFault, OutOfMemory>
     requires { IsRootRefusal error }
     ensures { IfOk result (λ fault. error ≡ fault_error fault) }
@@ -108,6 +109,7 @@ fn fault_of(error: SigstoreError) -> Result<RootFault, OutOfMemory>
             index,
         )),
         SigstoreError::OutOfMemory => Err(OutOfMemory),
+        // `Verifier::new` has no other errors.
         _ => unreachable!(),
     }
 }

@@ -2,10 +2,11 @@
 //! Transparency log vouches for the certificate.
 ghost use Rattle.std.specs.Prelude.{◌≡◌, ◌≤◌, [], length, option_map};
 ghost use Rattle.sig_base.specs.Answers.{Answers};
-ghost use Rattle.sig_verify.specs.IssuerCheck.{issued_answer, issuer_spki, path_start, sct_answer, spki_of};
+ghost use Rattle.sig_verify.specs.IssuerCheck.{from_sct, issuer_spki, path_start, sct_answer, spki_of};
 ghost use Rattle.sig_x509.specs.Pool.{pool_over};
 
-use crate::error::VerificationError;
+use crate::error::{VerificationError, VerificationResult};
+use crate::link_inputs::LinkInputs;
 use crate::verifier::Verifier;
 use sig_base::SignatureChecker;
 use sig_checked_bundle::CheckedBundle;
@@ -17,24 +18,47 @@ use sig_x509::{
 use std::alloc::Global;
 
 impl Verifier {
-    /// The links `issuance`, `issuer` and `sct`: whether the certificate has the profile of one that is issued, a
-    /// certification path leads from it over the further ones to a trust anchor, and a Certificate Transparency log
-    /// vouches for it under the key of the first issuer in such a path.
-    pub(crate) fn check_issuer<C: SignatureChecker>(
-        &self,
-        alloc: Global,
-        bundle: &CheckedBundle,
-        checker: &C,
-    ) -> Result<(), VerificationError>
+    /// The links `issuance` and `issuer`: whether the certificate has the profile of one that is issued, and a
+    /// certification path leads from it over the further ones to a trust anchor. Returns the SubjectPublicKeyInfo of
+    /// the first issuer in such a path. One call, since the search for a path looks at the certificate's profile first.
+    pub(crate) fn check_issuance_and_issuer<'a, P, C: SignatureChecker>(
+        &'a self,
+        bundle: &'a CheckedBundle,
+        inputs: &LinkInputs<'_, P, C>,
+    ) -> Result<&'a [u8], VerificationError>
         requires few { length bundle.now.further ≤ 16 }
-        ensures { Answers VerificationError.OutOfMemory (λ done. done) result (issued_answer
-            (C.cert_accepts checker.now) (C.point_accepts checker.now) self.now bundle.now) }
+        ensures { Answers VerificationError.OutOfMemory (λ spki. spki.now) result (issuer_spki
+            (C.cert_accepts inputs.now.checker.now) (pool_over self.now.anchors bundle.now.further)
+            bundle.now.certificate) }
     {
         let leaf = bundle.certificate();
         let further = bundle.further();
-        let spki = issuer_spki(alloc, &self.pool, leaf, further, checker)?;
-        check_sct(alloc, leaf, spki, &self.keyring, checker)?;
-        Ok(())
+        issuer_spki(inputs.alloc, &self.pool, leaf, further, inputs.checker)
+    }
+
+    /// The link `sct`: whether a Certificate Transparency log vouches for the certificate, whose issuer has this
+    /// SubjectPublicKeyInfo.
+    pub(crate) fn check_sct<P, C: SignatureChecker>(
+        &self,
+        bundle: &CheckedBundle,
+        issuer_spki: &[u8],
+        inputs: &LinkInputs<'_, P, C>,
+    ) -> VerificationResult
+        ensures { Answers VerificationError.OutOfMemory (λ done. done) result (from_sct (sct_answer
+            (C.point_accepts inputs.now.checker.now) self.now.ring bundle.now.certificate issuer_spki.now)) }
+    {
+        let leaf = bundle.certificate();
+        // A `match`, not `?`: the proof needs what each arm says.
+        match judge_sct(
+            inputs.alloc,
+            leaf,
+            issuer_spki,
+            &self.keyring,
+            inputs.checker,
+        ) {
+            Ok(()) => Ok(()),
+            Err(error) => Err(VerificationError::from(error)),
+        }
     }
 }
 
@@ -73,7 +97,7 @@ fn path_start<C: SignatureChecker>(
         (path_start (C.cert_accepts checker.now) (pool_over pool.now.anchors further.now) leaf.now) }
 {
     let time = leaf.not_before();
-    // No `?`: what the result says is a fact of each arm.
+    // A `match`, not `?`: the proof needs what each arm says.
     match verify_cert_with_chain(pool, alloc, leaf, further, time, checker) {
         Ok(issuer) => Ok(issuer),
         Err(error) => Err(VerificationError::from(error)),
@@ -98,7 +122,7 @@ fn spki_of<'a>(
 }
 
 /// Whether the log of the certificate's SCT vouches for it, where its issuer has this SubjectPublicKeyInfo.
-fn check_sct<C: SignatureChecker>(
+fn judge_sct<C: SignatureChecker>(
     alloc: Global,
     leaf: &Certificate,
     issuer_spki: &[u8],

@@ -16,6 +16,7 @@ mod held_root;
 mod issuer_check;
 pub mod laws;
 mod link;
+mod link_inputs;
 mod log_entry;
 mod logged_entry;
 mod offline_error;

@@ -21,6 +21,14 @@ use sig_key::CosignVerificationKey;
 use sig_rekor::InclusionProof;
 use std::alloc::Global;
 
+/// What the links of a log's entry need beside a key of the log: memory, the entry and the checker of signatures.
+#[derive(Drop)]
+struct EntryInputs<'a, C> {
+    alloc: Global,
+    entry: &'a TransparencyLogEntry,
+    checker: &'a C,
+}
+
 /// Checks that a log vouches for an entry, by a promise and by a proof, under the key of its log id among these.
 /// Returns the entry's body and its proof with the decoded checkpoint. Errors, the first that applies:
 ///
@@ -56,11 +64,17 @@ pub fn verify_log_entry<C: SignatureChecker>(
     ensures answer { Answers OfflineError.OutOfMemory (λ offline. offline) result
         (log_entry_answer (C.spki_accepts checker.now) log_keys.now entry.now) }
 {
+    // Which members an inclusion proof has, and what is refused of others; body and log id are bytes.
     proofs();
     proof_faults();
     are_owned_bytes(&entry.canonicalized_body);
     are_optional_bytes(&entry.log_id);
-    judge_entry(alloc, entry, log_keys, checker)
+    let inputs = EntryInputs {
+        alloc,
+        entry,
+        checker,
+    };
+    judge_entry(&inputs, log_keys)
 }
 
 /// Checks that a log vouches for an entry, under this key of the log: the links after `log-key`, for a caller that has
@@ -75,30 +89,34 @@ pub fn vouched<C: SignatureChecker>(
     ensures { Answers OfflineError.OutOfMemory (λ offline. offline) result
         (vouched (key_accepts (C.spki_accepts checker.now) key.now) entry.now) }
 {
-    check_promise(alloc, entry, key, checker)?;
-    let proof = entry_proof(alloc, &entry.inclusion_proof)?;
-    check_proof(alloc, entry, &proof, key, checker)?;
+    let inputs = EntryInputs {
+        alloc,
+        entry,
+        checker,
+    };
+    check_promise(&inputs, key)?;
+    let proof = check_proof_and_checkpoint(alloc, &entry.inclusion_proof)?;
+    check_inclusion(&inputs, &proof, key)?;
     let body = entry.canonicalized_body.copy(alloc)?;
     Ok(LoggedEntry { body, proof })
 }
 
 /// The links `log-key` to `inclusion`, in order.
 fn judge_entry<C: SignatureChecker>(
-    alloc: Global,
-    entry: &TransparencyLogEntry,
+    inputs: &EntryInputs<'_, C>,
     log_keys: &KeyMap,
-    checker: &C,
 ) -> Result<LoggedEntry, OfflineError>
     ensures answer { Answers OfflineError.OutOfMemory (λ offline. offline) result
-        (log_entry_answer (C.spki_accepts checker.now) log_keys.now entry.now) }
-    ensures bytes { UnlessMemory OfflineError.OutOfMemory result (HasKeyOfBytes log_keys.now entry.now) }
+        (log_entry_answer (C.spki_accepts inputs.now.checker.now) log_keys.now inputs.now.entry.now) }
+    ensures bytes { UnlessMemory OfflineError.OutOfMemory result (HasKeyOfBytes log_keys.now inputs.now.entry.now) }
 {
-    let key = log_key(alloc, entry, log_keys)?;
-    vouched(alloc, entry, &key, checker)
+    let key = check_log_key(inputs.alloc, inputs.entry, log_keys)?;
+    // The links after it.
+    vouched(inputs.alloc, inputs.entry, &key, inputs.checker)
 }
 
 /// The link `log-key`: the key of the entry's log.
-fn log_key(
+fn check_log_key(
     alloc: Global,
     entry: &TransparencyLogEntry,
     log_keys: &KeyMap,
@@ -111,6 +129,7 @@ fn log_key(
     let name = Text::from(hex::encode(alloc, id.as_slice())?);
     match log_keys.get(name.as_str()) {
         Some(der) => {
+            // The key is bytes.
             are_bytes(der);
             key_of(alloc, der)
         }
@@ -142,28 +161,29 @@ fn key_of(alloc: Global, der: &[u8]) -> Result<CosignVerificationKey, OfflineErr
 
 /// The link `promise`: whether the key signed a promise to include the entry.
 fn check_promise<C: SignatureChecker>(
-    alloc: Global,
-    entry: &TransparencyLogEntry,
+    inputs: &EntryInputs<'_, C>,
     key: &CosignVerificationKey,
-    checker: &C,
 ) -> Result<(), OfflineError>
-    requires { IsSome entry.now.log_id }
+    requires { IsSome inputs.now.entry.now.log_id }
     ensures { Answers OfflineError.OutOfMemory (λ done. done) result
-        (promise_answer (key_accepts (C.spki_accepts checker.now) key.now) entry.now) }
+        (promise_answer (key_accepts (C.spki_accepts inputs.now.checker.now) key.now) inputs.now.entry.now) }
 {
-    let Some(promise) = &entry.inclusion_promise else {
+    let Some(promise) = &inputs.entry.inclusion_promise else {
         return Err(OfflineError::PromiseMissing);
     };
-    let text = promise_text(alloc, entry)?;
-    if key.accepts(promise.as_slice(), text.as_str().as_bytes(), checker) {
+    let text = promise_text(inputs.alloc, inputs.entry)?;
+    if key.accepts(promise.as_slice(), text.as_str().as_bytes(), inputs.checker) {
         Ok(())
     } else {
         Err(OfflineError::Promise)
     }
 }
 
-/// The links `proof` and `checkpoint`: the entry's proof.
-fn entry_proof(alloc: Global, fields: &Option<ProofFields>) -> Result<InclusionProof, OfflineError>
+/// The links `proof` and `checkpoint`: the entry's proof. One call, since reading a proof reads its checkpoint.
+fn check_proof_and_checkpoint(
+    alloc: Global,
+    fields: &Option<ProofFields>,
+) -> Result<InclusionProof, OfflineError>
     ensures answer { Answers OfflineError.OutOfMemory (λ proof. proof) result (fields_answer fields.now) }
     ensures carried { IfOk result (λ proof. IsSome proof.checkpoint) }
 {
@@ -174,20 +194,20 @@ fn entry_proof(alloc: Global, fields: &Option<ProofFields>) -> Result<InclusionP
 }
 
 /// The links `note-key`, `note-match` and `inclusion`: whether the key signed the proof's checkpoint, which is of the
-/// proof's tree, and the audit path leads from the entry's body to its root. The index is the proof's own.
-fn check_proof<C: SignatureChecker>(
-    alloc: Global,
-    entry: &TransparencyLogEntry,
+/// proof's tree, and the audit path leads from the entry's body to its root. The index is the proof's own. One call,
+/// since sig_rekor has none for the audit path alone.
+fn check_inclusion<C: SignatureChecker>(
+    inputs: &EntryInputs<'_, C>,
     proof: &InclusionProof,
     key: &CosignVerificationKey,
-    checker: &C,
 ) -> Result<(), OfflineError>
     requires { IsSome proof.now.checkpoint }
     ensures { Answers OfflineError.OutOfMemory (λ done. done) result
-        (entry_inclusion_answer (key_accepts (C.spki_accepts checker.now) key.now) entry.now.canonicalized_body
-        proof.now) }
+        (entry_inclusion_answer (key_accepts (C.spki_accepts inputs.now.checker.now) key.now)
+        inputs.now.entry.now.canonicalized_body proof.now) }
 {
-    match proof.verify(alloc, entry.canonicalized_body.as_slice(), key, checker) {
+    let body = inputs.entry.canonicalized_body.as_slice();
+    match proof.verify(inputs.alloc, body, key, inputs.checker) {
         Ok(()) => Ok(()),
         Err(error) => Err(proof_error(error)),
     }

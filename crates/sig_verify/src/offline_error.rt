@@ -22,9 +22,9 @@ use std::fmt;
 /// Which of two texts cannot be read.
 #[derive(Clone, Copy, Debug, PartialEq, Eq)]
 pub enum Part {
-    /// The trusted root.
+    /// The text of the trusted root, of the link `root-json`.
     Root,
-    /// The bundle.
+    /// The text of the bundle, of the link `bundle-json`.
     Bundle,
 }
 

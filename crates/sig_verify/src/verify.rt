@@ -1,15 +1,14 @@
 //! Whether a bundle verifies against a verifier.
-ghost use Rattle.std.specs.Prelude.{◌++◌};
+ghost use Rattle.std.specs.Prelude.{◌≤◌, length};
 ghost use Rattle.sig_base.specs.Answers.{UnlessMemory};
-ghost use Rattle.sig_verify.specs.BundleLinks.{bundle_links};
-ghost use Rattle.sig_verify.specs.CertificateLinks.{certificate_links};
-ghost use Rattle.sig_verify.specs.Judged.{Judged};
-ghost use Rattle.sig_verify.specs.LinkLaws.{HoldsOfVerified, renamed, trust_of};
-ghost use Rattle.sig_verify.specs.Verdict.{AfterBody, AfterPolicy, IsDone, IsVerdict, checker_of, policy_of};
+ghost use Rattle.sig_verify.specs.Outcome.{ShowsFirstOfBundle, outside_of};
+ghost use Rattle.sig_verify.specs.Verdict.{AfterBody, AfterPolicy, IsDone, IsVerdict, IsVerdictFromIssuance};
+ghost use Rattle.sig_verify.specs.Verdict.{checker_of, policy_of};
 
-use crate::content_check::{check_content, check_time};
+use crate::content_check::{check_key, check_signature, check_subject, check_time};
 use crate::error::{SignatureErrorKind, VerificationError, VerificationResult};
 use crate::laws::bundles;
+use crate::link_inputs::LinkInputs;
 use crate::verifier::Verifier;
 use sig_base::SignatureChecker;
 use sig_bundle::{ArtifactDigest, Bundle};
@@ -49,75 +48,96 @@ impl Verifier {
         checker: &C,
     ) -> VerificationResult
         // It is `Ok` only if the links `material` to `time` hold, and an error is that of the first that does not.
-        ensures links { UnlessMemory VerificationError.OutOfMemory result (Judged (HoldsOfVerified
-            (checker_of C.SignatureChecker checker.now)
-            (policy_of P.VerificationPolicy policy.now)
-            (trust_of self.now) input_digest.now offline bundle.now) (bundle_links ++ certificate_links)
-            (renamed result)) }
+        ensures links { UnlessMemory VerificationError.OutOfMemory result (ShowsFirstOfBundle
+            (outside_of C.SignatureChecker checker.now P.VerificationPolicy policy.now)
+            self.now input_digest.now offline bundle.now result) }
         // The same by the steps.
         ensures steps { UnlessMemory VerificationError.OutOfMemory result (IsVerdict
             (checker_of C.SignatureChecker checker.now)
             self.now (policy_of P.VerificationPolicy policy.now)
             input_digest.now offline bundle.now result) }
     {
+        // Bytes are at most one certificate, and the bundle's are bytes; what its own checks ask, and say of the links.
         certificates();
         passed_bundles();
         bundles();
         is_certificate_bytes(bundle);
-        self.judge_bundle(alloc, input_digest, bundle, policy, offline, checker)
+        let inputs = LinkInputs {
+            alloc,
+            digest: input_digest,
+            policy,
+            checker,
+        };
+        self.judge_bundle(bundle, offline, &inputs)
     }
 
     /// The links `material` to `time`, in order.
     fn judge_bundle<P: VerificationPolicy, C: SignatureChecker>(
         &self,
-        alloc: Global,
-        digest: &ArtifactDigest,
         bundle: &Bundle,
-        policy: &P,
         offline: bool,
-        checker: &C,
+        inputs: &LinkInputs<'_, P, C>,
     ) -> VerificationResult
         ensures { UnlessMemory VerificationError.OutOfMemory result (IsVerdict
-            (checker_of C.SignatureChecker checker.now)
-            self.now (policy_of P.VerificationPolicy policy.now)
-            digest.now offline bundle.now result) }
+            (checker_of C.SignatureChecker inputs.now.checker.now)
+            self.now (policy_of P.VerificationPolicy inputs.now.policy.now)
+            inputs.now.digest.now offline bundle.now result) }
     {
-        let checked = CheckedBundle::try_from_bundle(alloc, bundle)?;
-        self.check_issuer(alloc, &checked, checker)?;
-        check_policy(alloc, &checked, policy)?;
-        check_content(alloc, &checked, digest, checker)?;
-        check_body(alloc, &checked, digest, offline)?;
-        check_time(&checked)
+        // The links `material` to `profile`: the bundle's own checks.
+        let checked = CheckedBundle::try_from_bundle(inputs.alloc, bundle)?;
+        self.judge_checked(&checked, offline, inputs)
+    }
+
+    /// The links `issuance` to `time`, in order, of a bundle that passed its own checks.
+    fn judge_checked<P: VerificationPolicy, C: SignatureChecker>(
+        &self,
+        bundle: &CheckedBundle,
+        offline: bool,
+        inputs: &LinkInputs<'_, P, C>,
+    ) -> VerificationResult
+        requires few { length bundle.now.further ≤ 16 }
+        ensures { UnlessMemory VerificationError.OutOfMemory result (IsVerdictFromIssuance
+            (checker_of C.SignatureChecker inputs.now.checker.now)
+            self.now (policy_of P.VerificationPolicy inputs.now.policy.now)
+            inputs.now.digest.now offline bundle.now result) }
+    {
+        let issuer_spki = self.check_issuance_and_issuer(bundle, inputs)?;
+        self.check_sct(bundle, issuer_spki, inputs)?;
+        check_policy(bundle, inputs)?;
+        let key = check_key(inputs.alloc, bundle)?;
+        check_signature(bundle, &key, inputs)?;
+        check_subject(bundle, inputs.digest)?;
+        check_body(bundle, offline, inputs)?;
+        check_time(bundle)
     }
 }
 
 /// The link `policy`: whether the policy holds of the certificate.
-fn check_policy<P: VerificationPolicy>(
-    alloc: Global,
+fn check_policy<P: VerificationPolicy, C>(
     bundle: &CheckedBundle,
-    policy: &P,
+    inputs: &LinkInputs<'_, P, C>,
 ) -> VerificationResult
     ensures { UnlessMemory VerificationError.OutOfMemory result (AfterPolicy
-        (P.holds policy.now bundle.now.certificate) (P.refusal policy.now bundle.now.certificate) IsDone result) }
+        (P.holds inputs.now.policy.now bundle.now.certificate)
+        (P.refusal inputs.now.policy.now bundle.now.certificate) IsDone result) }
 {
-    // No `?`: what the result says is a fact of each arm.
-    match policy.verify(alloc, bundle.certificate()) {
+    // A `match`, not `?`: the proof needs what each arm says.
+    match inputs.policy.verify(inputs.alloc, bundle.certificate()) {
         Ok(()) => Ok(()),
         Err(refusal) => Err(VerificationError::from(refusal)),
     }
 }
 
 /// The link `body`: whether the log entry is about what the bundle holds and about the artifact of this digest.
-fn check_body(
-    alloc: Global,
+fn check_body<P, C>(
     bundle: &CheckedBundle,
-    digest: &ArtifactDigest,
     offline: bool,
+    inputs: &LinkInputs<'_, P, C>,
 ) -> VerificationResult
     ensures { UnlessMemory VerificationError.OutOfMemory result
-        (AfterBody bundle.now digest.now offline IsDone result) }
+        (AfterBody bundle.now inputs.now.digest.now offline IsDone result) }
 {
-    match bundle.tlog_entry(alloc, offline, digest.as_bytes()) {
+    match bundle.tlog_entry(inputs.alloc, offline, inputs.digest.as_bytes()) {
         Ok(Some(_)) => Ok(()),
         Ok(None) => Err(VerificationError::Signature(SignatureErrorKind::Transparency)),
         Err(_) => Err(VerificationError::OutOfMemory),

@@ -1,15 +1,11 @@
 //! Whether a bundle verifies of an artifact, which is handed in by its SHA-256 digest or by its bytes.
-ghost use Rattle.std.specs.Prelude.{◌≡◌, ◌⊎◌, ◌+◌, ◌≤◌, ◌++◌, Err, IsErrOf};
+ghost use Rattle.std.specs.Prelude.{◌≡◌, ◌⊎◌, ◌+◌, ◌≤◌, Err, IsErrOf};
 ghost use Rattle.sig_base.specs.Answers.{UnlessMemory};
 ghost use Rattle.sig_base.specs.Sha256.{sha256};
 ghost use Rattle.sig_base.specs.Stream.{Rose, TookAtMost, TookCount};
 ghost use Rattle.sig_dsse.specs.declared.artifact_digest.ArtifactDigest.TheVariants.{Sha256 as Sha256Digest};
 ghost use Rattle.sig_verify.specs.Artifact.{IsUnread, OfRest, most_artifact_bytes};
-ghost use Rattle.sig_verify.specs.BundleLinks.{bundle_links};
-ghost use Rattle.sig_verify.specs.CertificateLinks.{certificate_links};
-ghost use Rattle.sig_verify.specs.Judged.{Judged};
-ghost use Rattle.sig_verify.specs.LinkLaws.{HoldsOfVerified, renamed, trust_of};
-ghost use Rattle.sig_verify.specs.Verdict.{checker_of, policy_of};
+ghost use Rattle.sig_verify.specs.Outcome.{ShowsFirstOfBundle, outside_of};
 
 use crate::artifact::{InputFault, sha256_of_rest};
 use crate::error::{VerificationError, VerificationResult};
@@ -31,10 +27,9 @@ impl Verifier {
         checker: &C,
     ) -> VerificationResult
         // It is `Ok` only if the links `material` to `time` hold, and an error is that of the first that does not.
-        ensures links { UnlessMemory VerificationError.OutOfMemory result (Judged (HoldsOfVerified
-            (checker_of C.SignatureChecker checker.now) (policy_of P.VerificationPolicy policy.now)
-            (trust_of self.now) (Sha256Digest input_digest) offline bundle.now) (bundle_links ++ certificate_links)
-            (renamed result)) }
+        ensures links { UnlessMemory VerificationError.OutOfMemory result (ShowsFirstOfBundle
+            (outside_of C.SignatureChecker checker.now P.VerificationPolicy policy.now)
+            self.now (Sha256Digest input_digest) offline bundle.now result) }
     {
         let digest = ArtifactDigest::Sha256(input_digest);
         self.verify_digest_with(alloc, &digest, bundle, policy, offline, checker)
@@ -57,10 +52,9 @@ impl Verifier {
         // It is `Ok` only if the links `material` to `time` hold of the SHA-256 of the bytes, and an error is that of
         // the first that does not, unless the bytes could not be read.
         ensures links { IsUnread result ⊎ UnlessMemory VerificationError.OutOfMemory result
-            (OfRest (S.left input.old) (S.left input.new) (λ bytes. Judged (HoldsOfVerified
-            (checker_of C.SignatureChecker checker.now) (policy_of P.VerificationPolicy policy.now)
-            (trust_of self.now) (Sha256Digest (sha256 bytes)) offline bundle.now) (bundle_links ++ certificate_links)
-            (renamed result))) }
+            (OfRest (S.left input.old) (S.left input.new) (λ bytes. ShowsFirstOfBundle
+            (outside_of C.SignatureChecker checker.now P.VerificationPolicy policy.now)
+            self.now (Sha256Digest (sha256 bytes)) offline bundle.now result)) }
         ensures long { IsErrOf result (VerificationError.Input InputFault.TooLong)
             → TookCount (S.left input.old) (S.left input.new) (most_artifact_bytes + 1) }
         // With any other result fewer were taken.

@@ -16,6 +16,17 @@ pub(crate) fn by_source(arguments: &mut Arguments<'_>, answer: &mut Answer) {
     drop(parts);
 }
 
+/// The source of the next arguments, `BYTES PIECE FAILING`. A piece has at least one byte.
+fn source(arguments: &mut Arguments<'_>) -> MemorySource {
+    let bytes = Bytes::from(arguments.hex());
+    let piece = arguments.natural() as usize;
+    let mut failing = Numbers::new(arguments.alloc());
+    if failing.push(arguments.natural() as usize).is_err() || piece == 0 {
+        arguments.refuse();
+    }
+    MemorySource::new(bytes, piece.max(1), failing)
+}
+
 fn of_source(
     alloc: Global,
     now: i64,
@@ -34,17 +45,6 @@ fn of_source(
         }
         Err(error) => answer.error(error),
     }
-}
-
-/// The source of the next arguments, `BYTES PIECE FAILING`. A piece has at least one byte.
-fn source(arguments: &mut Arguments<'_>) -> MemorySource {
-    let bytes = Bytes::from(arguments.hex());
-    let piece = arguments.natural() as usize;
-    let mut failing = Numbers::new(arguments.alloc());
-    if failing.push(arguments.natural() as usize).is_err() || piece == 0 {
-        arguments.refuse();
-    }
-    MemorySource::new(bytes, piece.max(1), failing)
 }
 
 /// `verify_digest NOW DIGEST POLICY ROOT BUNDLE ROW ..`, of an artifact of this SHA-256: `ok`, or the error.

@@ -28,22 +28,6 @@ impl Parts {
     }
 }
 
-/// The bundle of the next argument.
-pub(crate) fn bundle(arguments: &mut Arguments<'_>) -> Bundle {
-    let text = arguments.text();
-    match read_bundle(arguments.alloc(), text.as_bytes()) {
-        Ok(bundle) => bundle,
-        Err(_) => {
-            arguments.refuse();
-            Bundle {
-                media_type: Text::from(String::new(arguments.alloc())),
-                verification_material: None,
-                content: None,
-            }
-        }
-    }
-}
-
 /// The trust root of the next arguments, `CERTIFICATES KEYS KEYS`: those of the authorities, a list, and the keys of
 /// logs and of Certificate Transparency logs.
 fn root(arguments: &mut Arguments<'_>, answer: &mut Answer) -> ManualTrustRoot {
@@ -65,4 +49,20 @@ pub(crate) fn keys(arguments: &mut Arguments<'_>, answer: &mut Answer) -> KeyMap
         }
     }
     keys
+}
+
+/// The bundle of the next argument.
+pub(crate) fn bundle(arguments: &mut Arguments<'_>) -> Bundle {
+    let text = arguments.text();
+    match read_bundle(arguments.alloc(), text.as_bytes()) {
+        Ok(bundle) => bundle,
+        Err(_) => {
+            arguments.refuse();
+            Bundle {
+                media_type: Text::from(String::new(arguments.alloc())),
+                verification_material: None,
+                content: None,
+            }
+        }
+    }
 }

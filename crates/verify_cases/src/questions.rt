@@ -46,15 +46,6 @@ fn rows_of(alloc: Global, rows: &[AcceptedRow], answer: &mut Answer) {
     }
 }
 
-/// Adds a row as its operation and the bytes of its scheme, key, message and signature.
-fn add_row(text: &mut Answer, row: &AcceptedRow) {
-    text.value(&operation(row));
-    text.hex(row.scheme.as_slice());
-    text.hex(row.key.as_slice());
-    text.hex(row.message.as_slice());
-    text.hex(row.signature.as_slice());
-}
-
 fn operation(row: &AcceptedRow) -> &'static str {
     match row.operation {
         Operation::Certificate => "certificate",
@@ -62,4 +53,13 @@ fn operation(row: &AcceptedRow) -> &'static str {
         Operation::Message => "message",
         Operation::Prehash => "prehash",
     }
+}
+
+/// Adds a row as its operation and the bytes of its scheme, key, message and signature.
+fn add_row(text: &mut Answer, row: &AcceptedRow) {
+    text.value(&operation(row));
+    text.hex(row.scheme.as_slice());
+    text.hex(row.key.as_slice());
+    text.hex(row.message.as_slice());
+    text.hex(row.signature.as_slice());
 }

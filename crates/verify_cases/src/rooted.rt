@@ -65,6 +65,11 @@ pub(crate) fn entry(arguments: &mut Arguments<'_>, answer: &mut Answer) {
     drop(checker);
 }
 
+/// The bundle's first log entry.
+fn first_entry(bundle: &Bundle) -> Option<&TransparencyLogEntry> {
+    bundle.verification_material.as_ref()?.tlog_entries.get(0)
+}
+
 fn of_entry(
     alloc: Global,
     entry: &TransparencyLogEntry,
@@ -73,9 +78,4 @@ fn of_entry(
     answer: &mut Answer,
 ) {
     known(verify_log_entry(alloc, entry, keys, checker), answer);
-}
-
-/// The bundle's first log entry.
-fn first_entry(bundle: &Bundle) -> Option<&TransparencyLogEntry> {
-    bundle.verification_material.as_ref()?.tlog_entries.get(0)
 }

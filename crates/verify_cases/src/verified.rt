@@ -31,6 +31,32 @@ pub(crate) fn offline(arguments: &mut Arguments<'_>, answer: &mut Answer) {
     drop(checker);
 }
 
+/// The digest of the next argument, `sha256:DIGITS` or `sha512:DIGITS`.
+pub(crate) fn digest(arguments: &mut Arguments<'_>) -> ArtifactDigest {
+    match digest_of(arguments) {
+        Some(digest) => digest,
+        None => {
+            arguments.refuse();
+            ArtifactDigest::Sha256([0; 32])
+        }
+    }
+}
+
+fn digest_of(arguments: &mut Arguments<'_>) -> Option<ArtifactDigest> {
+    let (algorithm, digits) = arguments.word().split_once(':')?;
+    let bytes = hex::decode(arguments.alloc(), digits).ok()?;
+    match algorithm {
+        "sha256" => Some(ArtifactDigest::Sha256(sized(&bytes)?)),
+        "sha512" => Some(ArtifactDigest::Sha512(sized(&bytes)?)),
+        _ => None,
+    }
+}
+
+/// The bytes, if there are as many.
+fn sized<const N: usize>(bytes: &[u8]) -> Option<[u8; N]> {
+    bytes.try_into().ok()
+}
+
 /// `ok`, and index and tree size of the proof; or the name of the first link that fails, and the error.
 pub(crate) fn known(verified: Result<LoggedEntry, OfflineError>, answer: &mut Answer) {
     match verified {
@@ -56,30 +82,4 @@ fn failed(error: &OfflineError, answer: &mut Answer) {
         }
         None => answer.out_of_memory(),
     }
-}
-
-/// The digest of the next argument, `sha256:DIGITS` or `sha512:DIGITS`.
-pub(crate) fn digest(arguments: &mut Arguments<'_>) -> ArtifactDigest {
-    match digest_of(arguments) {
-        Some(digest) => digest,
-        None => {
-            arguments.refuse();
-            ArtifactDigest::Sha256([0; 32])
-        }
-    }
-}
-
-fn digest_of(arguments: &mut Arguments<'_>) -> Option<ArtifactDigest> {
-    let (algorithm, digits) = arguments.word().split_once(':')?;
-    let bytes = hex::decode(arguments.alloc(), digits).ok()?;
-    match algorithm {
-        "sha256" => Some(ArtifactDigest::Sha256(sized(&bytes)?)),
-        "sha512" => Some(ArtifactDigest::Sha512(sized(&bytes)?)),
-        _ => None,
-    }
-}
-
-/// The bytes, if there are as many.
-fn sized<const N: usize>(bytes: &[u8]) -> Option<[u8; N]> {
-    bytes.try_into().ok()
 }

@@ -1,5 +1,5 @@
 use Rattle.std.proofs.Common.{◌≡◌, Err, refl, rules}
-use Rattle.sig_base.proofs.Zipped.{zip_more}
+use Rattle.sig_base.proofs.PairedLists.{zip_more}
 use Rattle.sig_checked_bundle.proofs.SigningCertificateLaws.{behind_refused}
 use Rattle.sig_certificate.specs.Certificate.{IsCertificate}
 use Rattle.sig_checked_bundle.proofs.signing_certificate.read_further.Goals as goal

@@ -1,4 +1,4 @@
-use Rattle.sig_base.proofs.Zipped.{zip_more}
+use Rattle.sig_base.proofs.PairedLists.{zip_more}
 use Rattle.sig_certificate.specs.Certificate.{IsCertificate}
 use Rattle.sig_questions.proofs.anchors.read_anchors.Goals as goal
 

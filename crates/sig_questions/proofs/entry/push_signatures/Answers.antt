@@ -1,6 +1,6 @@
 use Rattle.std.proofs.Common.{◌≡◌, Err, rules}
 use Rattle.sig_questions.specs.Lists.{note_question}
-use Rattle.sig_questions.proofs.Writing.{one_failed}
+use Rattle.sig_questions.proofs.RowSteps.{one_failed}
 use Rattle.sig_questions.proofs.entry.push_signatures.Goals as goal
 
 pub returns-in_err-push_signature : goal.returns-in_err-push_signature

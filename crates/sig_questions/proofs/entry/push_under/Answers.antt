@@ -2,8 +2,8 @@ use Rattle.std.proofs.Common.{◌≡◌, List, Err, rules, subst}
 use Rattle.sig_base.specs.declared.checker.AcceptedRow.{AcceptedRow}
 use Rattle.sig_key.specs.Kind.{key_kind}
 use Rattle.sig_key.specs.declared.kind.KeyKind.TheVariants.{Scheme}
-use Rattle.sig_questions.proofs.Named.{entry_under}
-use Rattle.sig_questions.proofs.Writing.{both_written, not_written}
+use Rattle.sig_questions.proofs.LogKeyRows.{entry_under}
+use Rattle.sig_questions.proofs.RowSteps.{both_written, not_written}
 use Rattle.sig_questions.specs.Lists.{note_questions, promise_questions}
 use Rattle.sig_questions.specs.Written.{AddsRows}
 use Rattle.sig_questions.proofs.entry.push_under.Goals as goal

@@ -1,6 +1,6 @@
 use Rattle.std.proofs.Common.{◌≡◌, Err, rules}
 use Rattle.sig_questions.specs.Written.{rows_of_signed}
-use Rattle.sig_questions.proofs.Writing.{one_failed}
+use Rattle.sig_questions.proofs.RowSteps.{one_failed}
 use Rattle.sig_questions.proofs.paths.push_further.Goals as goal
 
 pub returns-in_err-push_signed : goal.returns-in_err-push_signed

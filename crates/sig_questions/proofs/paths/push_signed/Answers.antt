@@ -1,6 +1,6 @@
 use Rattle.std.proofs.Common.{◌≡◌, Err, rules}
 use Rattle.sig_questions.specs.Written.{rows_of_signature}
-use Rattle.sig_questions.proofs.Writing.{one_failed}
+use Rattle.sig_questions.proofs.RowSteps.{one_failed}
 use Rattle.sig_questions.proofs.paths.push_signed.Goals as goal
 
 pub returns-in_err-push_signature : goal.returns-in_err-push_signature

@@ -1,7 +1,7 @@
 use Rattle.std.proofs.Common.{◌≡◌, Err, rules}
 use Rattle.sig_timestamp.specs.RingKey.{point_at}
 use Rattle.sig_questions.specs.Written.{rows_of_point}
-use Rattle.sig_questions.proofs.Writing.{one_failed}
+use Rattle.sig_questions.proofs.RowSteps.{one_failed}
 use Rattle.sig_questions.proofs.points.push_points.Goals as goal
 
 pub returns-in_err-push_point : goal.returns-in_err-push_point

@@ -1,4 +1,4 @@
-use Rattle.std.proofs.Common.{◌≡◌, Err, rules, sym}
+use Rattle.std.proofs.Common.{◌≡◌, Err, rules}
 use Rattle.sig_verify.proofs.HeldRoots.{all_logged, root_failed, signed_failed}
 use Rattle.sig_verify.specs.Verdict.{checker_of, policy_of}
 use Rattle.sig_verify.proofs.held_root.HeldRoot.check_bundle.Goals as goal
@@ -7,23 +7,23 @@ pub returns-in_err-trust : goal.returns-in_err-trust
 returns-in_err-trust g c =
     let is : c.from_residual.result ≡ Err c.in_err-trust.field-0.0 = search rules in
     rw is (root_failed
-    (checker_of g.C.SignatureChecker c.args.checker.now)
-    (policy_of g.P.VerificationPolicy c.args.policy.now)
-    c.args.self.now c.args.digest.now c.args.bundle.now c.in_err-trust.field-0.0 (sym c.in_err-trust.ensures))
+    (checker_of g.C.SignatureChecker c.args.inputs.now.checker.now)
+    (policy_of g.P.VerificationPolicy c.args.inputs.now.policy.now)
+    c.args.self.now c.args.inputs.now.digest.now c.args.bundle.now c.in_err-trust.field-0.0 c.in_err-trust.ensures)
 
 pub returns-in_err-check_signed : goal.returns-in_err-check_signed
 returns-in_err-check_signed g c =
     let is : c.from_residual-in_err-check_signed.result ≡ Err c.in_err-check_signed.field-0.0 = search rules in
     rw is (signed_failed
-    (checker_of g.C.SignatureChecker c.args.checker.now)
-    (policy_of g.P.VerificationPolicy c.args.policy.now)
-    c.args.self.now c.args.digest.now c.args.bundle.now c.in_ok-trust.trust.now (sym c.in_ok-trust.ensures)
+    (checker_of g.C.SignatureChecker c.args.inputs.now.checker.now)
+    (policy_of g.P.VerificationPolicy c.args.inputs.now.policy.now)
+    c.args.self.now c.args.inputs.now.digest.now c.args.bundle.now c.in_ok-trust.trust.now c.in_ok-trust.ensures
     c.in_err-check_signed.field-0.0 c.in_err-check_signed.ensures.verdict)
 
 pub returns : goal.returns
 returns g c =
     all_logged
-    (checker_of g.C.SignatureChecker c.args.checker.now)
-    (policy_of g.P.VerificationPolicy c.args.policy.now)
-    c.args.self.now c.args.digest.now c.args.bundle.now c.in_ok-trust.trust.now (sym c.in_ok-trust.ensures)
+    (checker_of g.C.SignatureChecker c.args.inputs.now.checker.now)
+    (policy_of g.P.VerificationPolicy c.args.inputs.now.policy.now)
+    c.args.self.now c.args.inputs.now.digest.now c.args.bundle.now c.in_ok-trust.trust.now c.in_ok-trust.ensures
     c.in_ok-check_signed.ensures.verdict c.check_logged.result c.check_logged.ensures

@@ -12,6 +12,6 @@ returns-in-Ok-clause-bytes g c =
 pub returns-in-Ok-clause-steps : goal.returns-in-Ok-clause-steps
 returns-in-Ok-clause-steps g c =
     bundle_read c.args.bundle.now c.in-Ok.bundle
-    (IsOfflineUnder (checker_of g.C.SignatureChecker c.args.checker.now)
-    (policy_of g.P.VerificationPolicy c.args.policy.now) c.args.self.now c.args.digest.now)
+    (IsOfflineUnder (checker_of g.C.SignatureChecker c.args.inputs.now.checker.now)
+    (policy_of g.P.VerificationPolicy c.args.inputs.now.policy.now) c.args.self.now c.args.inputs.now.digest.now)
     c.check_bundle.result c.in-Ok.ensures c.check_bundle.ensures

@@ -2,10 +2,7 @@
 use Rattle.std.specs.Prelude.{◌≡◌, ℕ, ◌+◌, List, Result, Ok, Err}
 use Rattle.std.specs.Borrow.{Bor}
 use Rattle.sig_base.specs.Answers.{OrMemory}
-use Rattle.sig_base.specs.ResultSteps.{◌>>=◌}
-use Rattle.sig_bundle.specs.declared.material.TransparencyLogEntry.{TransparencyLogEntry}
 use Rattle.sig_checked_bundle.specs.Content.{ContentWithSignature}
-use Rattle.sig_checked_bundle.specs.Profile.{entry_among, meets_profile}
 use Rattle.sig_checked_bundle.specs.SigningCertificate.{IsFirstMalformed, IsNoCertificate}
 use Rattle.sig_checked_bundle.specs.declared.bundle_error.BundleErrorKind.{BundleErrorKind}
 use Rattle.sig_checked_bundle.specs.declared.bundle_error.BundleErrorKind.TheVariants.{CertificateMalformed}
@@ -29,10 +26,3 @@ IsUnreadAt index der e = OrMemory OutOfMemory e ((e ≡ CertificateMalformed ind
 abbrev pub AreUnreadBehind : List (List ℕ) → BundleErrorKind → Type 0
 AreUnreadBehind ders e =
     OrMemory OutOfMemory e ((index : ℕ) × (e ≡ CertificateMalformed (index + 1)) × IsFirstMalformed ders index)
-
--- the one log entry, if it has what the media type demands
-abbrev pub entry_under_profile : List ℕ → List TransparencyLogEntry → Result TransparencyLogEntry BundleErrorKind
-entry_under_profile media_type entries = do
-  entry ← entry_among entries
-  _ ← meets_profile media_type entry
-  Ok entry

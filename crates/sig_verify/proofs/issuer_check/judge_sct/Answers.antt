@@ -1,5 +1,5 @@
 use Rattle.sig_verify.proofs.IssuerSteps.{sct_judged}
-use Rattle.sig_verify.proofs.issuer_check.check_sct.Goals as goal
+use Rattle.sig_verify.proofs.issuer_check.judge_sct.Goals as goal
 
 pub returns : goal.returns
 returns g c =
